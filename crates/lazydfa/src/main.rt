@@ -1,0 +1,5 @@
+#![tactic(auto)]
+
+mod catalogue;
+
+fn main() {}
