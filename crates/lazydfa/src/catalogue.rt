@@ -115,7 +115,9 @@ impl Entry {
             Entry::Wordend => Outline::new(&WORDEND, 4, &[0]).reversed(&WORDEND_REVERSED),
             Entry::Empty => Outline::new(&EMPTY, 1, &[0]).utf8(),
             Entry::Snow => Outline::new(&SNOW, 8, &[0]).reversed(&SNOW_REVERSED).utf8(),
-            Entry::Snowx => Outline::new(&SNOWX, 11, &[1, 8]).reversed(&SNOWX_REVERSED).utf8(),
+            Entry::Snowx => Outline::new(&SNOWX, 11, &[1, 8])
+                .reversed(&SNOWX_REVERSED)
+                .utf8(),
             Entry::Bound => Outline::new(&BOUND, 2, &[0]),
             Entry::Crlf => Outline::new(&CRLF, 2, &[0]).reversed(&CRLF_REVERSED),
             Entry::Any => Outline::new(&ANY, 0, &[0]).utf8(),
@@ -415,14 +417,7 @@ impl Outline {
         };
         let states = states_of(alloc, lines).map_err(out_of_memory)?;
         let patterns = ids_of(alloc, self.patterns).map_err(out_of_memory)?;
-        NFA::from_states(
-            alloc,
-            states,
-            id(0),
-            id(self.unanchored),
-            patterns,
-            flags,
-        )
+        NFA::from_states(alloc, states, id(0), id(self.unanchored), patterns, flags)
     }
 }
 

@@ -1,5 +1,23 @@
+//! Answers a script of searches: it is read from standard input, and the answers are written to
+//! standard output.
 #![tactic(auto)]
 
-mod catalogue;
+use run::run;
+use std::io;
+use std::process::ExitCode;
 
-fn main() {}
+mod catalogue;
+mod error;
+mod reply;
+mod run;
+mod script;
+
+fn main(rt: HostRuntime) -> ExitCode {
+    match run(rt.alloc(), &mut rt.reader(), &mut io::writer(&rt)) {
+        Ok(()) => ExitCode::SUCCESS,
+        Err(fault) => {
+            let _ = eprintln!(rt; "lazydfa: {fault}");
+            fault.status()
+        }
+    }
+}

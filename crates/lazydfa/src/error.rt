@@ -1,0 +1,39 @@
+use std::alloc::AllocError;
+use std::io;
+use std::process::ExitCode;
+use thiserror::Error;
+
+/// Why a script was not answered.
+#[derive(Clone, Copy, Debug, PartialEq, Eq, Error)]
+pub enum RunError {
+    /// The first line that is no line of a script, counted from 1.
+    #[error("line {0}: bad line")]
+    BadLine(usize),
+    #[error("input or output failed")]
+    Failed,
+    #[error("out of memory")]
+    OutOfMemory,
+}
+
+impl RunError {
+    pub fn of_io(error: io::Error) -> RunError {
+        match error.kind() {
+            io::ErrorKind::OutOfMemory => RunError::OutOfMemory,
+            _ => RunError::Failed,
+        }
+    }
+
+    /// What the process ends with.
+    pub fn status(self) -> ExitCode {
+        match self {
+            RunError::BadLine(_) => ExitCode::from(2),
+            RunError::Failed | RunError::OutOfMemory => ExitCode::FAILURE,
+        }
+    }
+}
+
+impl From<AllocError> for RunError {
+    fn from(_error: AllocError) -> RunError {
+        RunError::OutOfMemory
+    }
+}

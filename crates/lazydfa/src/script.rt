@@ -1,0 +1,255 @@
+//! The lines of a script, read and checked.
+
+ghost use Rattle.std.specs.Prelude.{◌+◌, ◌<◌, ◌≤◌, IfSome, length};
+
+use crate::catalogue::Entry;
+use crate::error::RunError;
+use regex_automata::hybrid::dfa::Config;
+use regex_automata::util::primitives::PatternID;
+use regex_automata::util::search::{Anchored, Input, MatchKind, Span};
+use std::alloc::{AllocError, Global};
+
+/// What a script asks for, in the order of its lines.
+#[derive(Drop)]
+pub struct Script {
+    pub definitions: Vec<Definition>,
+    pub requests: Vec<Request>,
+}
+
+/// A line that builds a regex.
+#[derive(Drop)]
+pub struct Definition {
+    pub entry: Entry,
+    pub config: Config,
+}
+
+/// A line that asks something of a regex.
+#[derive(Drop)]
+pub enum Request {
+    Forward(Query),
+}
+
+/// A haystack, and how it is to be searched.
+#[derive(Drop)]
+pub struct Query {
+    haystack: Vec<u8>,
+    span: Span,
+    anchored: Anchored,
+    earliest: bool,
+    ghost ordered: { span.start ≤ span.end + 1 },
+    ghost within: { span.end ≤ length haystack.items },
+}
+
+/// Why a line is refused.
+#[derive(Clone, Copy, Debug, PartialEq, Eq)]
+enum LineError {
+    Bad,
+    OutOfMemory,
+}
+
+impl LineError {
+    fn at(self, number: usize) -> RunError {
+        match self {
+            LineError::Bad => RunError::BadLine(number),
+            LineError::OutOfMemory => RunError::OutOfMemory,
+        }
+    }
+}
+
+impl From<AllocError> for LineError {
+    fn from(_error: AllocError) -> LineError {
+        LineError::OutOfMemory
+    }
+}
+
+impl Script {
+    /// Reads all lines, and refuses the first bad one by its number, counted from 1.
+    pub fn parse(alloc: Global, text: &[u8]) -> Result<Script, RunError> {
+        let mut script = Script {
+            definitions: Vec::new(alloc),
+            requests: Vec::new(alloc),
+        };
+        let mut number = 0usize;
+        for line in text.split(|byte| *byte == b'\n') {
+            number = number.saturating_add(1);
+            if line.is_empty() || line[0] == b'#' {
+                continue;
+            }
+            if let Err(fault) = script.add_line(alloc, line) {
+                return Err(fault.at(number));
+            }
+        }
+        Ok(script)
+    }
+
+    fn add_line(&mut self, alloc: Global, line: &[u8]) -> Result<(), LineError> {
+        let words: Vec<&[u8]> = line.split(|byte| *byte == b' ').collect(alloc)?;
+        if words.iter().any(|word| word.is_empty()) {
+            return Err(LineError::Bad);
+        }
+        match words.as_slice() {
+            [b"regex", name, options @ ..] if self.requests.is_empty() => {
+                let definition = Definition::parse(*name, options).ok_or(LineError::Bad)?;
+                self.definitions.push(definition).map_err(AllocError::from)?;
+            }
+            [b"fwd", haystack, options @ ..] => {
+                let query = Query::parse(alloc, *haystack, options)?;
+                self.requests
+                    .push(Request::Forward(query))
+                    .map_err(AllocError::from)?;
+            }
+            _ => return Err(LineError::Bad),
+        }
+        Ok(())
+    }
+}
+
+impl Definition {
+    fn parse(name: &[u8], options: &[&[u8]]) -> Option<Definition> {
+        let entry = Entry::named(name)?;
+        let mut config = Config::new();
+        for option in options {
+            config = configured(config, *option)?;
+        }
+        Some(Definition { entry, config })
+    }
+}
+
+/// The settings with one more option.
+fn configured(config: Config, option: &[u8]) -> Option<Config> {
+    match option {
+        b"all" => Some(config.match_kind(MatchKind::All)),
+        b"starts" => Some(config.starts_for_each_pattern(true)),
+        b"noclasses" => Some(config.byte_classes(false)),
+        b"unicode" => Some(config.unicode_word_boundary(true)),
+        b"tags" => Some(config.specialize_start_states(true)),
+        b"skip" => Some(config.skip_cache_capacity_check(true)),
+        _ => configured_by_value(config, option),
+    }
+}
+
+fn configured_by_value(config: Config, option: &[u8]) -> Option<Config> {
+    let (name, value) = split_once(option, b'=')?;
+    match name {
+        b"quit" => Some(config.quit(hexadecimal_byte(value)?, true)),
+        b"capacity" => Some(config.cache_capacity(number(value)?)),
+        b"limit" => Some(config.minimum_cache_clear_count(Some(number(value)?))),
+        b"perstate" => Some(config.minimum_bytes_per_state(Some(number(value)?))),
+        _ => None,
+    }
+}
+
+impl Query {
+    /// What is to be searched.
+    pub fn input(&self) -> Input<'_> {
+        Input::new(self.haystack.as_slice())
+            .span(self.span)
+            .anchored(self.anchored)
+            .earliest(self.earliest)
+    }
+
+    fn parse(alloc: Global, word: &[u8], options: &[&[u8]]) -> Result<Query, LineError> {
+        let haystack = haystack_of(alloc, word)?;
+        let span = Span {
+            start: 0,
+            end: haystack.len(),
+        };
+        let mut query = Query {
+            haystack,
+            span,
+            anchored: Anchored::No,
+            earliest: false,
+        };
+        for option in options {
+            query.set(*option).ok_or(LineError::Bad)?;
+        }
+        Ok(query)
+    }
+
+    fn set(&mut self, option: &[u8]) -> Option<()> {
+        match option {
+            b"anchored" => self.anchored = Anchored::Yes,
+            b"earliest" => self.earliest = true,
+            _ => {
+                let (name, value) = split_once(option, b'=')?;
+                match name {
+                    b"span" => self.set_span(value)?,
+                    b"pattern" => {
+                        let pattern = PatternID::new(number(value)?)?;
+                        self.anchored = Anchored::Pattern(pattern);
+                    }
+                    _ => return None,
+                }
+            }
+        }
+        Some(())
+    }
+
+    fn set_span(&mut self, value: &[u8]) -> Option<()> {
+        let (start, rest) = split_once(value, b'.')?;
+        let (before, end) = split_once(rest, b'.')?;
+        let span = Span {
+            start: number(start)?,
+            end: number(end)?,
+        };
+        let input = Input::new(self.haystack.as_slice());
+        if !before.is_empty() || !input.allows(span.start, span.end) {
+            return None;
+        }
+        self.span = span;
+        Some(())
+    }
+}
+
+/// The bytes that pairs of hexadecimal digits spell; `-` is no byte at all.
+fn haystack_of(alloc: Global, word: &[u8]) -> Result<Vec<u8>, LineError> {
+    let mut haystack = Vec::new(alloc);
+    if word == b"-".as_slice() {
+        return Ok(haystack);
+    }
+    haystack.reserve(word.len() / 2)?;
+    for pair in word.chunks(2) {
+        let byte = hexadecimal_byte(pair).ok_or(LineError::Bad)?;
+        haystack.push(byte).map_err(AllocError::from)?;
+    }
+    Ok(haystack)
+}
+
+/// What stands before and behind the first such byte.
+fn split_once(word: &[u8], separator: u8) -> Option<(&[u8], &[u8])> {
+    let at = word.iter().position(|byte| *byte == separator)?;
+    Some((&word[..at], &word[at + 1..]))
+}
+
+/// The number that 1 to 20 decimal digits write, if it fits.
+fn number(word: &[u8]) -> Option<usize> {
+    if word.is_empty() || word.len() > 20 {
+        return None;
+    }
+    let mut value = 0usize;
+    for byte in word {
+        let digit = digit_of(*byte).filter(|digit| *digit < 10)?;
+        value = value.checked_mul(10)?.checked_add(usize::from(digit))?;
+    }
+    Some(value)
+}
+
+/// The byte that two hexadecimal digits write.
+fn hexadecimal_byte(word: &[u8]) -> Option<u8> {
+    match word {
+        [high, low] => Some(digit_of(*high)? * 16 + digit_of(*low)?),
+        _ => None,
+    }
+}
+
+/// The value of a hexadecimal digit in either case.
+fn digit_of(byte: u8) -> Option<u8>
+    ensures { IfSome result (λ digit. digit < 16) }
+{
+    match byte {
+        b'0'..=b'9' => Some(byte - b'0'),
+        b'a'..=b'f' => Some(byte - b'a' + 10),
+        b'A'..=b'F' => Some(byte - b'A' + 10),
+        _ => None,
+    }
+}
