@@ -11,6 +11,8 @@ mod error;
 mod reply;
 mod run;
 mod script;
+#[cfg(test)]
+mod tests;
 
 fn main(rt: HostRuntime) -> ExitCode {
     match run(rt.alloc(), &mut rt.reader(), &mut io::writer(&rt)) {

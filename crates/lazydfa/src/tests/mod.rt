@@ -1,0 +1,100 @@
+//! What no contract says: the answers of worked examples, the texts, and how a script runs.
+
+use crate::error::RunError;
+use crate::run::run;
+use std::alloc::Global;
+use std::io;
+use std::io::{Read, Write};
+use std::test::Fail;
+
+mod automata;
+mod dfa;
+mod forward;
+mod memory;
+mod paths;
+mod scripts;
+mod texts;
+
+/// A reader over memory that takes few bytes a call and fails at a chosen call, counted from 1.
+#[derive(Drop)]
+struct Source<'a> {
+    rest: &'a [u8],
+    most: usize,
+    calls: usize,
+    fails_at: usize,
+}
+
+impl<'a> Source<'a> {
+    fn new(text: &'a [u8]) -> Source<'a> {
+        Source {
+            rest: text,
+            most: 3,
+            calls: 0,
+            fails_at: 0,
+        }
+    }
+}
+
+impl<'a> Read for Source<'a> {
+    fn read(&mut self, buf: &mut [u8]) -> io::Result<usize> {
+        self.calls = self.calls.saturating_add(1);
+        if self.calls == self.fails_at {
+            return Err(io::Error::other("refused"));
+        }
+        let count = self.rest.len().min(buf.len()).min(self.most);
+        buf[..count].copy_from_slice(&self.rest[..count]);
+        self.rest = &self.rest[count..];
+        Ok(count)
+    }
+}
+
+/// A writer to memory that takes few bytes a call and fails at a chosen call, counted from 1.
+#[derive(Drop)]
+struct Sink {
+    bytes: Vec<u8>,
+    most: usize,
+    calls: usize,
+    fails_at: usize,
+}
+
+impl Sink {
+    fn new(alloc: Global) -> Sink {
+        Sink {
+            bytes: Vec::new(alloc),
+            most: 5,
+            calls: 0,
+            fails_at: 0,
+        }
+    }
+}
+
+impl Write for Sink {
+    fn write(&mut self, buf: &[u8]) -> io::Result<usize> {
+        self.calls = self.calls.saturating_add(1);
+        if self.calls == self.fails_at {
+            return Err(io::Error::other("refused"));
+        }
+        let count = buf.len().min(self.most);
+        self.bytes.extend_from_slice(&buf[..count])?;
+        Ok(count)
+    }
+
+    fn flush(&mut self) -> io::Result<()> {
+        self.calls = self.calls.saturating_add(1);
+        if self.calls == self.fails_at {
+            return Err(io::Error::other("refused"));
+        }
+        Ok(())
+    }
+}
+
+/// What a script prints, and its fault.
+fn printed(alloc: Global, script: &str) -> Result<(String, Option<RunError>), Fail> {
+    let mut output = Sink::new(alloc);
+    output.most = 1 << 16;
+    let mut input = Source::new(script.as_bytes());
+    input.most = 1 << 16;
+    let result = run(alloc, &mut input, &mut output);
+    let text = String::from_utf8(output.bytes)?;
+    Ok((text, result.err()))
+}

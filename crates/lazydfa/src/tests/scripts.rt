@@ -1,0 +1,221 @@
+//! Scripts, from bytes to bytes.
+
+use super::{Sink, Source, printed};
+use crate::error::RunError;
+use crate::run::run;
+use std::test::Fail;
+
+const ANSWERED: [(&str, &str); 14] = [
+    ("regex ab\nfwd 6162\n", "regex 0\nhalf 0 2\n"),
+    ("regex ab\nfwd 6162", "regex 0\nhalf 0 2\n"),
+    ("", ""),
+    ("\n\n", ""),
+    ("# regex nothing\n\n#\n", ""),
+    (
+        "# one\nregex ab\n\n# two\nfwd 6162\n# three\n",
+        "regex 0\nhalf 0 2\n",
+    ),
+    ("regex ab\n#\n\nregex aa\n", "regex 0\nregex 1\n"),
+    ("fwd 61", "bad regex\n"),
+    ("fwd 61\nfwd -\n", "bad regex\nbad regex\n"),
+    (
+        "regex ab\nfwd -\nfwd 61\nfwd 6162\n",
+        "regex 0\nnone\nnone\nhalf 0 2\n",
+    ),
+    (
+        "regex words\nregex ab\nfwd 40666F6f20626172\n",
+        "regex 0\nregex 1\nhalf 1 4\n",
+    ),
+    (
+        "regex ab capacity=1734\nregex aa\nfwd 6261\n",
+        "refused given cache capacity (1734) is smaller than minimum required (1735)\nregex 0\nhalf 0 2\n",
+    ),
+    ("regex bound\nfwd 61\n", BOUND_REFUSED),
+    (
+        "regex ab capacity=1735 limit=1\nfwd 6162\nfwd 6162\n",
+        "regex 0\nhalf 0 2\nhalf 0 2\n",
+    ),
+];
+
+const BOUND_REFUSED: &str =
+    "refused unsupported regex feature for DFAs: cannot build lazy DFAs for regexes with Unicode word boundaries; switch to ASCII word boundaries, or heuristically enable Unicode word boundaries or use a different regex engine\nbad regex\n";
+
+#[test]
+fn answers_scripts(rt: HostRuntime) -> Result<(), Fail> {
+    for (script, want) in ANSWERED {
+        let (text, fault) = printed(rt.alloc(), script)?;
+        assert_eq!(rt; fault, None, "{script}");
+        assert_eq!(rt; text.as_str(), want, "{script}");
+    }
+    Ok(())
+}
+
+/// A script, and its first bad line.
+const BAD: [(&str, usize); 54] = [
+    ("regex ab\nfwd 616", 2),
+    ("regex ab\n\n# comment\nfwd 6\n", 4),
+    ("triple", 1),
+    ("regex ab\nfwd 6162\nregex aa\n", 3),
+    ("regex ab\nfwd 6g\nfwd 6g\n", 2),
+    (" regex ab", 1),
+    ("regex ab ", 1),
+    ("regex  ab", 1),
+    ("regex ab\r\nfwd 6162\r\n", 1),
+    ("regex", 1),
+    ("regex abx", 1),
+    ("regex AB", 1),
+    ("regex ab ab", 1),
+    ("regex ab quit", 1),
+    ("regex ab quit=", 1),
+    ("regex ab quit=7", 1),
+    ("regex ab quit=788", 1),
+    ("regex ab quit=7x", 1),
+    ("regex ab capacity=", 1),
+    ("regex ab capacity=-1", 1),
+    ("regex ab capacity=+1", 1),
+    ("regex ab capacity=1x", 1),
+    ("regex ab capacity=18446744073709551616", 1),
+    ("regex ab capacity=000000000000000000001", 1),
+    ("regex ab limit", 1),
+    ("regex ab perstate=", 1),
+    ("regex ab all=", 1),
+    ("regex ab skip=1", 1),
+    ("regex ab All", 1),
+    ("fwd", 1),
+    ("fwd -6", 1),
+    ("fwd --", 1),
+    ("fwd 6162 span", 1),
+    ("fwd 6162 span=", 1),
+    ("fwd 6162 span=0", 1),
+    ("fwd 6162 span=0..", 1),
+    ("fwd 6162 span=..2", 1),
+    ("fwd 6162 span=0.2", 1),
+    ("fwd 6162 span=0...2", 1),
+    ("fwd 6162 span=0..1..2", 1),
+    ("fwd 6162 span=0..3", 1),
+    ("fwd 6162 span=2..0", 1),
+    ("fwd 6162 span=4..2", 1),
+    ("fwd 6162 span=18446744073709551615..2", 1),
+    ("fwd 6162 span=0..3 span=0..2", 1),
+    ("fwd 6162 anchored=yes", 1),
+    ("fwd 6162 pattern", 1),
+    ("fwd 6162 pattern=", 1),
+    ("fwd 6162 pattern=2147483647", 1),
+    ("fwd 6162 pattern=x", 1),
+    ("fwd 6162 Earliest", 1),
+    ("fwd 6162 6162", 1),
+    ("forward 6162", 1),
+    ("fwd \u{e9}", 1),
+];
+
+#[test]
+fn tells_the_first_bad_line(rt: HostRuntime) -> Result<(), Fail> {
+    for (script, line) in BAD {
+        let (text, fault) = printed(rt.alloc(), script)?;
+        assert_eq!(rt; fault, Some(RunError::BadLine(line)), "{script}");
+        assert!(rt; text.is_empty(), "{script}");
+    }
+    Ok(())
+}
+
+/// Lines at the edge of what is allowed.
+const ALLOWED: [&str; 10] = [
+    "regex ab capacity=18446744073709551615",
+    "regex ab capacity=00000000000000001735",
+    "regex ab quit=78 quit=7A quit=7a",
+    "regex ab limit=0 perstate=0 limit=1",
+    "regex a16 all starts noclasses unicode tags skip",
+    "fwd 6162 span=3..2",
+    "fwd 6162 span=0..0 span=2..2",
+    "fwd - span=1..0",
+    "fwd 6162 pattern=2147483646",
+    "fwd 6162 anchored pattern=0 earliest anchored",
+];
+
+#[test]
+fn takes_lines_at_the_edge(rt: HostRuntime) -> Result<(), Fail> {
+    for script in ALLOWED {
+        let (_, fault) = printed(rt.alloc(), script)?;
+        assert_eq!(rt; fault, None, "{script}");
+    }
+    Ok(())
+}
+
+#[test]
+fn tells_failed_reads(rt: HostRuntime) {
+    for call in 1..6usize {
+        let mut input = Source::new(b"regex ab\n");
+        input.fails_at = call;
+        let mut output = Sink::new(rt.alloc());
+        let fault = run(rt.alloc(), &mut input, &mut output).err();
+        let want = if call < 5 {
+            Some(RunError::Failed)
+        } else {
+            None
+        };
+        assert_eq!(rt; fault, want, "call {call}");
+        assert_eq!(rt; output.bytes.is_empty(), call < 5, "call {call}");
+    }
+}
+
+#[test]
+fn tells_failed_writes(rt: HostRuntime) {
+    for call in 1..7usize {
+        let mut input = Source::new(
+            b"regex ab
+fwd 6162",
+        );
+        let mut output = Sink::new(rt.alloc());
+        output.fails_at = call;
+        let fault = run(rt.alloc(), &mut input, &mut output).err();
+        let want = if call < 6 {
+            Some(RunError::Failed)
+        } else {
+            None
+        };
+        assert_eq!(rt; fault, want, "call {call}");
+    }
+}
+
+/// A bad line is told before a failed write, and a failed read before a bad line.
+#[test]
+fn tells_faults_in_order(rt: HostRuntime) {
+    let mut output = Sink::new(rt.alloc());
+    output.fails_at = 1;
+    let mut input = Source::new(
+        b"bad
+",
+    );
+    let fault = run(rt.alloc(), &mut input, &mut output).err();
+    assert_eq!(rt; fault, Some(RunError::BadLine(1)));
+    let mut input = Source::new(
+        b"bad
+",
+    );
+    input.fails_at = 2;
+    let fault = run(rt.alloc(), &mut input, &mut output).err();
+    assert_eq!(rt; fault, Some(RunError::Failed));
+    assert!(rt; output.bytes.is_empty());
+}
+
+/// One line of a mebibyte of haystack.
+#[test]
+fn answers_a_long_script(rt: HostRuntime) -> Result<(), Fail> {
+    let mut script = String::from_str(
+        rt.alloc(),
+        "regex runs all
+fwd ",
+    )?;
+    for _ in 0..1 << 20 {
+        script.push_str("61")?;
+    }
+    let (text, fault) = printed(rt.alloc(), script.as_str())?;
+    assert_eq!(rt; fault, None);
+    assert_eq!(rt;
+        text.as_str(),
+        "regex 0
+half 0 1048576
+"
+    );
+    Ok(())
+}
