@@ -1,0 +1,4 @@
+pub mod Coding
+pub mod Determinizing
+pub mod Paths
+pub mod Spans
