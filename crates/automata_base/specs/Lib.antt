@@ -22,8 +22,10 @@ pub mod Passes
 pub mod Paths
 pub mod Powerset
 pub mod Refusals
+pub mod Scratches
 pub mod Selections
 pub mod Spans
+pub mod Sparse
 pub mod StartIsRight
 pub mod Starts
 pub mod Tapes

@@ -1,8 +1,8 @@
 -- Bits of look sets.
-use Rattle.std.proofs.Common.{ℕ, zero, suc, ltb, ◌+◌, ◌&&◌, not, true≢false, ◌≡◌, ◌<◌, ◌⊎◌, ◌||◌, ◌*◌, ◌%◌, ◌^◌, ◌≤◌, Bool, true, false, eqb, refl, sym, ap, ◌∙◌, inl, inr, subst, arith, w32}
+use Rattle.std.proofs.Common.{min, ℕ, zero, suc, ltb, ◌+◌, ◌&&◌, not, true≢false, ◌≡◌, ◌<◌, ◌⊎◌, ◌||◌, ◌*◌, ◌%◌, ◌^◌, ◌≤◌, Bool, true, false, eqb, refl, sym, ap, ◌∙◌, inl, inr, subst, arith, w32}
 use Rattle.std.specs.Int.{bit_at}
 use Rattle.std.specs.Int.RustNames.{bit_or, bit_and}
-use Rattle.std.proofs.lemmas.Nat.Bits.{bit_at_set_same, bit_at_set_other}
+use Rattle.std.proofs.lemmas.Nat.Bits.{bit_at_set_same, bit_at_set_other, bit_at_and, bit_at_ones, bit_at-lt}
 use Rattle.std.proofs.lemmas.Bool.Decides.{eqb_tells}
 use Rattle.std.proofs.lemmas.Bool.{lt-ltb, le-ltb}
 use Rattle.std.proofs.lemmas.Grind.{common_steps}
@@ -12,6 +12,7 @@ use Rattle.automata_base.specs.Looks as l
 use Rattle.automata_base.specs.Nfa.{Truth}
 use Rattle.automata_base.specs.Looks.{look_index}
 use Rattle.automata_base.proofs.Paths.Machines.{code_one}
+use Rattle.std.proofs.Math.Nat.{pow-le-pow_right}
 
 pub insert_bit :
     (n k j : ℕ) → k < 18 → eqb (bit_at (bit_or n (1 * 2 ^ k % 4294967296)) j) 1 ≡ (eqb j k || eqb (bit_at n j) 1)
@@ -26,6 +27,16 @@ insert_bit n k j l = go (eqb_tells j k)
     go (inr h) =
         ap (λ z. eqb z 1) (bit_at_set_other w32 n k (omega (arith, l)) j h.1)
         ∙ sym (ap (λ b. b || eqb (bit_at n j) 1) h.0)
+
+-- the low eighteen bits are those of the number
+pub low_bits : (n k : ℕ) → k < 18 → bit_at (bit_and n 262143) k ≡ bit_at n k
+low_bits n k l =
+    bit_at_and n 262143 k ∙ (ap (min (bit_at n k)) (bit_at_ones 18 k l) ∙ (let two : bit_at n k < 2 = bit_at-lt n k in omega arith))
+
+pub bit_small : (k : ℕ) → k < 18 → 1 * 2 ^ k % 4294967296 < 2 ^ 18
+bit_small k l =
+    let below : k ≤ 17 = omega arith in
+    let small : 2 ^ k ≤ 2 ^ 17 = pow-le-pow_right (omega arith) below in omega (arith, small)
 
 pub code_nth : (k : ℕ) → k < 18 → look_index (nth_look k) ≡ k
 code_nth zero h = refl

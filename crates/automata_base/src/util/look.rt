@@ -1,5 +1,5 @@
 ghost use Rattle.std.specs.Prelude.{◌≡◌, ◌<◌, ◌||◌, IsTrue, IsFalse, eqb, false, true};
-ghost use Rattle.automata_base.specs.Truths.{truth_of, nth_look};
+ghost use Rattle.automata_base.specs.Truths.{truth_of, nth_look, IsLookSet};
 ghost use Rattle.automata_base.specs.Looks.{Look};
 ghost use Rattle.automata_base.specs.Looks.{look_index};
 
@@ -36,10 +36,13 @@ pub struct LookSet {
 
 impl Model for LookSet {
     ghost use Rattle.std.specs.Prelude.{ℕ};
+    ghost use Rattle.automata_base.specs.Truths.{IsLookSet};
 
     ghost Value = { ℕ };
 
     ghost view = { λ a. a.bits };
+
+    ghost invariant = { λ a. IsLookSet a.bits };
 
     ghost inverse = { λ n. record { bits = n } };
 }
@@ -119,6 +122,23 @@ impl LookSet {
         ensures { result ≡ 48 }
     {
         LookSet { bits: 48 }
+    }
+
+    /// The set of these bits: those above bit 17 are left out.
+    pub fn from_bits(bits: u32) -> LookSet
+        ensures { (look : Look) → truth_of result look ≡ truth_of bits look }
+    {
+        LookSet {
+            bits: bits & 0x3FFFF,
+        }
+    }
+
+    /// The bits, bit k being look k.
+    pub fn bits(self) -> u32
+        ensures value { result ≡ self }
+        ensures small { IsLookSet result }
+    {
+        self.bits
     }
 
     pub fn contains(self, look: Look) -> bool

@@ -18,7 +18,7 @@ use crate::util::primitives::{PatternID, StateID};
 use crate::util::search::MatchKind;
 
 // Whether a powerset state keeps the state.
-fn stays(state: &State) -> bool
+pub fn stays(state: &State) -> bool
     ensures { result ≡ stays_at (node_of state.now) }
 {
     match state {

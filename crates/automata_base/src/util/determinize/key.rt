@@ -1,8 +1,9 @@
 // Keys of a map from states: a state is looked up by its bytes before it is shared.
-ghost use Rattle.std.specs.Prelude.{◌≡◌};
+ghost use Rattle.std.specs.Prelude.{◌≡◌, IfOk};
 ghost use Rattle.automata_base.specs.Code.{decoded, IsCode};
 
-use std::alloc::Global;
+use crate::util::determinize::state::State;
+use std::alloc::{AllocError, Global};
 use std::hash::{Hash, Hasher};
 use std::marker::Model;
 use std::rc::RcSlice;
@@ -99,6 +100,13 @@ impl Key {
         Key {
             bytes: Bytes::Own(bytes),
         }
+    }
+
+    /// The state of the key, its bytes shared anew.
+    pub fn to_state(&self, alloc: Global) -> Result<State, AllocError>
+        ensures { IfOk result (λ state. state ≡ self.now) }
+    {
+        State::from_bytes(alloc, self.bytes.as_slice())
     }
 
     /// The vector of a key that holds one, to be used again, and else an empty one.
