@@ -10,3 +10,4 @@ pub mod Tests_of_lists
 pub mod Walking
 pub mod Deciding
 pub mod Repeats
+pub mod Stepping

@@ -9,7 +9,7 @@ use Rattle.automata_base.specs.Passes.{is_word_look, is_crlf_look, true_looks}
 use Rattle.automata_base.specs.Powerset.{Powerset}
 use Rattle.automata_base.specs.Selections.{Pair, at_place}
 use Rattle.automata_base.specs.Visits.{children}
-use Rattle.automata_base.specs.Truths.{truth_of, set_of}
+use Rattle.automata_base.specs.Truths.{truth_of, set_of, all_looks}
 
 abbrev pub is_in : ℕ → List ℕ → Bool
 is_in x [] = false
@@ -93,9 +93,13 @@ arrive n patterns roots prev = make n patterns (closure_of n (known_looks n prev
 abbrev pub start_of : Nfa → ℕ → Option ℕ → Powerset
 start_of n start prev = arrive n [] (start ∷ []) prev
 
+abbrev pub any_look : (Look → Bool) → List Look → Bool
+any_look f [] = false
+any_look f (look ∷ looks) = f look || any_look f looks
+
 -- Whether a needed look is true and was not known.
 abbrev pub has_news : Nfa → Powerset → Option ℕ → Bool
-has_news n Q u = any_state (λ look. true_looks n Q u look && not (truth_of Q.known look)) n Q.nfa
+has_news n Q u = any_look (λ look. truth_of Q.needed look && (true_looks n Q u look && not (truth_of Q.known look))) all_looks
 
 abbrev pub decide : Nfa → Powerset → Option ℕ → List ℕ
 decide n Q u = elim (has_news n Q u) [ true ↦ closure_of n (true_looks n Q u) Q.nfa | false ↦ Q.nfa ]

@@ -32,3 +32,4 @@ pub mod Tapes
 pub mod TruePairs
 pub mod Truths
 pub mod Visits
+pub mod Steps

@@ -17,7 +17,7 @@ abbrev pub all_looks : List Look
 all_looks = Start ∷ End ∷ StartLF ∷ EndLF ∷ StartCRLF ∷ EndCRLF ∷ WordAscii ∷ WordAsciiNegate ∷ WordUnicode ∷ WordUnicodeNegate ∷ WordStartAscii ∷ WordEndAscii ∷ WordStartUnicode ∷ WordEndUnicode ∷ WordStartHalfAscii ∷ WordEndHalfAscii ∷ WordStartHalfUnicode ∷ WordEndHalfUnicode ∷ []
 
 -- The number whose bits say which looks of the list are so, the first of them being bit 0.
-unfoldable pub bits_from : Truth → List Look → ℕ
+abbrev pub bits_from : Truth → List Look → ℕ
 bits_from A [] = 0
 bits_from A (look ∷ looks) = (if A look then 1 else 0) + 2 * bits_from A looks
 

@@ -17,14 +17,13 @@ low_of false m = omega arith
 
 -- the bit of a look of the list
 bit_from : (A : Truth) (looks : List Look) (k : ℕ) (look : Look) → nth looks k ≡ Some look → bit_at (bits_from A looks) k ≡ cond (A look) 1 0
-unfolding bits_from
 bit_from A [] k look e = cc
 bit_from A (x ∷ xs) zero look e =
     bit_at_lowest (cond (A x) 1 0 + 2 * bits_from A xs) ∙ (low_of (A x) (bits_from A xs) ∙ ap (λ y. cond (A y) 1 0) (let same : x ≡ look = cc in same))
 bit_from A (x ∷ xs) (suc k) look e =
     bit_at-suc (cond (A x) 1 0 + 2 * bits_from A xs) k ∙ (ap (λ m. bit_at m k) (half_of (A x) (bits_from A xs)) ∙ bit_from A xs k look e)
 
-nth_index : (look : Look) → nth all_looks (look_index look) ≡ Some look
+pub nth_index : (look : Look) → nth all_looks (look_index look) ≡ Some look
 nth_index Start = refl
 nth_index End = refl
 nth_index StartLF = refl
@@ -54,7 +53,6 @@ truth_of-set_of A look =
     ap (λ v. eqb v 1) (bit_from A all_looks (look_index look) look (nth_index look)) ∙ is_one (A look)
 
 bits_small : (A : Truth) (looks : List Look) → bits_from A looks < 2 ^ length looks
-unfolding bits_from
 bits_small A [] = omega arith
 bits_small A (x ∷ xs) = go (A x) (bits_small A xs)
   where
@@ -73,7 +71,6 @@ low_bit m true e = omega (arith, e)
 low_bit m false e = omega (arith, e)
 
 bits_back : (A : Truth) (looks : List Look) (m : ℕ) → m < 2 ^ length looks → ((k : ℕ) (look : Look) → nth looks k ≡ Some look → bit_at m k ≡ cond (A look) 1 0) → m ≡ bits_from A looks
-unfolding bits_from
 bits_back A [] m l h = omega (arith, l)
 bits_back A (x ∷ xs) m l h =
     low_bit m (A x) (sym (bit_at_lowest m) ∙ h 0 x refl)

@@ -10,7 +10,7 @@ use Rattle.automata_base.specs.Passes.{IsUnit, Occurs, IsKnownLook, IsNeeded, Is
 use Rattle.automata_base.specs.Powerset.{Powerset}
 use Rattle.automata_base.specs.Selections.{Tells}
 use Rattle.automata_base.specs.Visits.{children, Visits, done, skip, visit}
-use Rattle.automata_base.specs.Computed.{is_in, closure_of, once_past, looks_at, any_node, any_state, always, known_looks, is_full, make, arrive, has_news, decide, successor_of, pass_of, told_of, IsInRange}
+use Rattle.automata_base.specs.Computed.{is_in, closure_of, once_past, looks_at, any_node, any_state, always, known_looks, is_full, make, arrive, has_news, any_look, decide, successor_of, pass_of, told_of, IsInRange}
 use Rattle.automata_base.specs.Looks.{look_index}
 use Rattle.automata_base.proofs.Paths.Orders.{some_inj, none_some, nil_cons}
 use Rattle.automata_base.proofs.Paths.Sift.{same, in_picked}
@@ -18,8 +18,8 @@ use Rattle.automata_base.proofs.Paths.Late.{keep_sieve}
 use Rattle.automata_base.proofs.Paths.Readings.{sorted_has}
 use Rattle.automata_base.proofs.Paths.FirstVisits.{visits_closure, hop_children}
 use Rattle.automata_base.proofs.Paths.Fuels.{is_in_true, is_in_false, AllBelow, closure_right}
-use Rattle.automata_base.specs.Truths.{truth_of}
-use Rattle.automata_base.proofs.Paths.LookSets.{truth_of-set_of, set_of-small}
+use Rattle.automata_base.specs.Truths.{truth_of, all_looks}
+use Rattle.automata_base.proofs.Paths.LookSets.{truth_of-set_of, set_of-small, nth_index}
 
 -- Each once.
 abbrev pub no_nodes : Nfa
@@ -379,14 +379,33 @@ arrive_right n patterns roots prev r b =
         subst (λ v. v < length n.nodes) (keep_sieve n w.0 y w.2) (closure_below n (known_looks n prev) roots C r b c w.0 w.1)
 
 -- What is decided.
+any_look_true : (f : Look → Bool) (looks : List Look) → any_look f looks ≡ true → (look : Look) × (f look ≡ true)
+any_look_true f [] e = absurd (true≢false (sym e))
+any_look_true f (x ∷ xs) e = go (f x) refl e (any_look_true f xs)
+  where
+    go :
+        (b : Bool) → f x ≡ b → b || any_look f xs ≡ true → (any_look f xs ≡ true → (look : Look) × (f look ≡ true))
+        → (look : Look) × (f look ≡ true)
+    go true h k again = (x, h)
+    go false h k again = again k
+
+any_look_from : (f : Look → Bool) (looks : List Look) (k : ℕ) (look : Look) → nth looks k ≡ Some look → f look ≡ true → any_look f looks ≡ true
+any_look_from f [] k look e h = cc
+any_look_from f (x ∷ xs) zero look e h =
+    let same : x ≡ look = cc in ap (λ b. b || any_look f xs) (ap f same ∙ h)
+any_look_from f (x ∷ xs) (suc k) look e h = or_right (f x) (any_look f xs) (any_look_from f xs k look e h)
+  where
+    or_right : (a b : Bool) → b ≡ true → a || b ≡ true
+    or_right true b g = refl
+    or_right false b g = g
+
 pub decide_right :
-    (n : Nfa) (patterns C : List ℕ) (prev u : Option ℕ) (Q : Powerset)
-    → IsInRange n → IsIn n Q → IsMake n patterns C prev Q
-    → IsDecided n Q u (decide n Q u) × AllBelow (length n.nodes) (decide n Q u)
-decide_right n patterns C prev u Q r b make = go (has_news n Q u) refl
+    (n : Nfa) (u : Option ℕ) (Q : Powerset)
+    → IsInRange n → IsIn n Q → IsDecided n Q u (decide n Q u) × AllBelow (length n.nodes) (decide n Q u)
+decide_right n u Q r b = go (has_news n Q u) refl
   where
     f : Look → Bool
-    f look = true_looks n Q u look && not (truth_of Q.known look)
+    f look = truth_of Q.needed look && (true_looks n Q u look && not (truth_of Q.known look))
 
     L : List ℕ
     L = closure_of n (true_looks n Q u) Q.nfa
@@ -406,36 +425,37 @@ decide_right n patterns C prev u Q r b make = go (has_news n Q u) refl
         (t : Bool) → has_news n Q u ≡ t
         → IsDecided n Q u (elim t [ true ↦ L | false ↦ Q.nfa ]) × AllBelow (length n.nodes) (elim t [ true ↦ L | false ↦ Q.nfa ])
     go true e =
-        let w = any_state_true f n Q.nfa e in
-        let v = and_both (true_looks n Q u w.1) (not (truth_of Q.known w.1)) w.5 in (
-          inl ((w.1, (make.2 w.1).1 (w.0, w.2, w.3, w.4), v.0, not_true (truth_of Q.known w.1) v.1), c),
+        let w = any_look_true f all_looks e in
+        let a = and_both (truth_of Q.needed w.0) (true_looks n Q u w.0 && not (truth_of Q.known w.0)) w.1 in
+        let v = and_both (true_looks n Q u w.0) (not (truth_of Q.known w.0)) a.1 in (
+          inl ((w.0, a.0, v.0, not_true (truth_of Q.known w.0) v.1), c),
           closure_below n (true_looks n Q u) Q.nfa L r b c,
         )
     go false e = (inr (quiet, refl), b)
       where
         quiet : IsNews n Q u → ⊥
         quiet h =
-            let k = (make.2 h.0).0 h.1 in
             true≢false
-            (sym (any_state_from f n Q.nfa k.0 h.0 k.1 k.2 k.3
-            (and_true (true_looks n Q u h.0) (not (truth_of Q.known h.0)) h.2 (not_false (truth_of Q.known h.0) h.3))) ∙ e)
+            (sym (any_look_from f all_looks (look_index h.0) h.0 (nth_index h.0)
+            (and_true (truth_of Q.needed h.0) (true_looks n Q u h.0 && not (truth_of Q.known h.0)) h.1
+            (and_true (true_looks n Q u h.0) (not (truth_of Q.known h.0)) h.2 (not_false (truth_of Q.known h.0) h.3)))) ∙ e)
 
 pub targets_below : (n : Nfa) (u : Option ℕ) (xs : List ℕ) → IsInRange n → AllBelow (length n.nodes) (targets n u xs)
 targets_below n None xs r = λ y i. absurd i
 targets_below n (Some u) xs r = λ y i. let w = in_picked (λ b. takes n b u) xs y i in r.1 w.0 u y w.2
 
 pub succ_right :
-    (n : Nfa) (kind : MatchKind) (patterns C : List ℕ) (prev u : Option ℕ) (Q : Powerset)
-    → IsInRange n → IsIn n Q → IsMake n patterns C prev Q
+    (n : Nfa) (kind : MatchKind) (u : Option ℕ) (Q : Powerset)
+    → IsInRange n → IsIn n Q
     → IsSuccessor n kind Q u (successor_of n kind Q u) × IsIn n (successor_of n kind Q u)
-succ_right n kind patterns C prev u Q r b make =
+succ_right n kind u Q r b =
     ((decide n Q u, once_past [] told, d.0, once_right told, a.0), a.1)
   where
     told : List ℕ
     told = pick (accepts n) (cut_for kind n (decide n Q u))
 
     d : IsDecided n Q u (decide n Q u) × AllBelow (length n.nodes) (decide n Q u)
-    d = decide_right n patterns C prev u Q r b make
+    d = decide_right n u Q r b
 
     a :
         IsArrival n (once_past [] told) (targets n u (cut_for kind n (decide n Q u))) u (successor_of n kind Q u)
@@ -447,22 +467,21 @@ succ_right n kind patterns C prev u Q r b make =
 abbrev pub Computed : Nfa → MatchKind → ℕ → Tape → ℕ → Powerset → Type 0
 Computed n kind start t k Q =
     IsPass n kind start t k Q × IsIn n Q
-    × ((patterns C : List ℕ) × (prev : Option ℕ) × IsMake n patterns C prev Q)
 
 pub pass_right :
     (n : Nfa) (kind : MatchKind) (start : ℕ) (t : Tape) (k : ℕ)
     → IsInRange n → start < length n.nodes → Computed n kind start t k (pass_of n kind start t k)
 pass_right n kind start t zero r l =
     let a = arrive_right n [] (start ∷ []) t.before r one in
-    (a.0, a.1, ([], a.0.1, t.before, a.0.4))
+    (a.0, a.1)
   where
     one : AllBelow (length n.nodes) (start ∷ [])
     one y (inl e) = subst (λ v. v < length n.nodes) (sym e) l
     one y (inr i) = absurd i
 pass_right n kind start t (suc k) r l =
     let w = pass_right n kind start t k r l in
-    let s = succ_right n kind w.2.0 w.2.1 w.2.2 (next t k) (pass_of n kind start t k) r w.1 w.2.3 in
-    ((pass_of n kind start t k, w.0, s.0), s.1, (s.0.1, s.0.4.1, next t k, s.0.4.4))
+    let s = succ_right n kind (next t k) (pass_of n kind start t k) r w.1 in
+    ((pass_of n kind start t k, w.0, s.0), s.1)
 
 pub told_right :
     (n : Nfa) (kind : MatchKind) (start : ℕ) (t : Tape) (i : ℕ)

@@ -10,7 +10,6 @@ use Rattle.automata_base.specs.Checks.{is_in_range, is_look_cycle_free, tape_fit
 use Rattle.automata_base.proofs.Paths.Samples.{ab, aa, abc, bound, crlf, date, whole, answer}
 use Rattle.automata_base.proofs.Paths.Checked.{in_range, look_cycle_free, is_tape}
 use Rattle.automata_base.proofs.Paths.Finals.{search_right, walked_right}
-use Rattle.automata_base.specs.Truths.{bits_from}
 
 -- A row, from tests that compute.
 row :
@@ -49,13 +48,11 @@ abc_all = row All false abc (whole (99 ∷ 97 ∷ 98 ∷ 97 ∷ 99 ∷ [])) 7 (a
 
 -- " a"
 pub bound_found : Selects LeftmostFirst false bound (whole (32 ∷ 97 ∷ [])) 2 (answer 0 1)
-unfolding bits_from
 bound_found = row LeftmostFirst false bound (whole (32 ∷ 97 ∷ [])) 2 (answer 0 1) refl refl refl refl refl
 
 -- "a\r\n"
 pub crlf_walk :
     IsOverlappingOn All crlf (whole (97 ∷ 13 ∷ 10 ∷ [])) 2 (record { pattern = 0; place = 1 } ∷ record { pattern = 0; place = 3 } ∷ [])
-unfolding bits_from
 crlf_walk =
     walk_row All crlf (whole (97 ∷ 13 ∷ 10 ∷ [])) 2 (record { pattern = 0; place = 1 } ∷ record { pattern = 0; place = 3 } ∷ [])
     refl refl refl refl refl

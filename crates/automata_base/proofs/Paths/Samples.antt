@@ -6,7 +6,6 @@ use Rattle.automata_base.specs.Paths.{Tape}
 use Rattle.automata_base.specs.Cuts.{All, LeftmostFirst}
 use Rattle.automata_base.specs.Selections.{Pair}
 use Rattle.automata_base.specs.Computed.{search_of, told_of}
-use Rattle.automata_base.specs.Truths.{bits_from}
 
 abbrev pub read : ℕ → ℕ → ℕ → Node
 read lo hi next = Read (record { lo = lo; hi = hi; next = next } ∷ [])
@@ -88,29 +87,23 @@ row_abc = refl
 
 -- " a"
 pub row_bound : search_of LeftmostFirst false bound (whole (32 ∷ 97 ∷ [])) 2 ≡ answer 0 1
-unfolding bits_from
 row_bound = refl
 
 -- "a\r\n"
 pub row_crlf_first : search_of LeftmostFirst false crlf (whole (97 ∷ 13 ∷ 10 ∷ [])) 2 ≡ answer 0 1
-unfolding bits_from
 row_crlf_first = refl
 
 pub row_crlf_all : search_of All false crlf (whole (97 ∷ 13 ∷ 10 ∷ [])) 2 ≡ answer 0 3
-unfolding bits_from
 row_crlf_all = refl
 
 pub row_crlf_2 : told_of crlf All 2 (whole (97 ∷ 13 ∷ 10 ∷ [])) 2 ≡ []
-unfolding bits_from
 row_crlf_2 = refl
 
 -- The same line read backwards: place 0 of the walk is place 3 of the haystack.
 pub row_crlf_reverse_0 : told_of crlf_reverse All 2 (whole (10 ∷ 13 ∷ 97 ∷ [])) 0 ≡ 0 ∷ []
-unfolding bits_from
 row_crlf_reverse_0 = refl
 
 pub row_crlf_reverse_2 : told_of crlf_reverse All 2 (whole (10 ∷ 13 ∷ 97 ∷ [])) 2 ≡ 0 ∷ []
-unfolding bits_from
 row_crlf_reverse_2 = refl
 
 pub row_twice : told_of twice All 0 (whole []) 0 ≡ 0 ∷ []
@@ -127,5 +120,4 @@ abbrev pub look_cycle : Nfa
 look_cycle = forward (Split (2 ∷ 1 ∷ []) ∷ Accept 2 ∷ Assert EndLF 3 ∷ Split (0 ∷ 4 ∷ []) ∷ Accept 1 ∷ [])
 
 pub row_look_cycle : told_of look_cycle All 0 (record { before = Some 97; bytes = []; after = None }) 0 ≡ 2 ∷ 1 ∷ []
-unfolding bits_from
 row_look_cycle = refl

@@ -10,7 +10,6 @@ use Rattle.automata_base.specs.Answers.{Input}
 use Rattle.automata_base.specs.Spans.{Match, Found, NotAPair}
 use Rattle.automata_base.proofs.Spans.Computed.{answer_of, try_of, spans_of, overlapping_of}
 use Rattle.automata_base.specs.Selections.{Pair}
-use Rattle.automata_base.specs.Truths.{bits_from}
 
 abbrev pub dfa : List Node → (anchored unanchored : ℕ) → List ℕ → (utf8 reverse : Bool) → MatchKind → Dfa
 dfa nodes a u starts utf8 reverse kind =
@@ -104,26 +103,21 @@ row_empty = refl
 
 -- "a☃x"
 row_snow : try_of snow snow_back (over snowman 5 false) ≡ Found (Some (at 0 0 5))
-unfolding bits_from
 row_snow = refl
 
 row_snow_earliest : answer_of true Forward snow (over snowman 5 true) ≡ None
-unfolding bits_from
 row_snow_earliest = refl
 
 row_snowx : try_of snowx snowx_back (over snowman 5 true) ≡ Found (Some (at 1 4 5))
-unfolding bits_from
 row_snowx = refl
 
 row_snowx_base : answer_of true Forward snowx (over snowman 5 true) ≡ Some (record { pattern = 1; offset = 5; base = 4 })
-unfolding bits_from
 row_snowx_base = refl
 
 -- From the whole span's start the reverse search would find another start.
 row_snowx_whole :
     answer_of true Backward snowx_back (record { haystack = snowman; start = 0; end = 5; mode = Yes; earliest = false })
     ≡ Some (record { pattern = 0; offset = 0; base = 0 })
-unfolding bits_from
 row_snowx_whole = refl
 
 row_not_a_pair : try_of words fails (over (97 ∷ []) 1 false) ≡ NotAPair

@@ -6,6 +6,7 @@ ghost use Rattle.automata_base.specs.Parts.{powerset_of};
 ghost use Rattle.automata_base.specs.Passes.{IsSuccessor};
 ghost use Rattle.automata_base.specs.Powerset.{cost};
 ghost use Rattle.automata_base.specs.Starts.{IsOf, IsStartOf, max_cost};
+ghost use Rattle.automata_base.specs.Steps.{start_state_of, successor, NeedsOwnLooks};
 
 use crate::nfa::thompson::NFA;
 use crate::util::determinize::construct::{next_into, start_into};
@@ -106,12 +107,15 @@ pub fn start_key(
 ) -> Result<Key, AllocError>
     requires of { scratch.old.of ≡ nfa.now }
     ensures start { IfOk result (λ key. IsStartOf nfa.now mode prev key) }
+    ensures key { IfOk result (λ key. key ≡ start_state_of nfa.now mode prev) }
+    ensures looks { IfOk result (λ key. NeedsOwnLooks nfa.now key) }
     ensures is_of { IfOk result (λ key. IsOf nfa.now key) }
     ensures cost { IfOk result (λ key. cost key ≤ max_cost nfa.now) }
     ensures of { scratch.new.of ≡ scratch.old.of }
     ensures count { scratch.new.count ≡ scratch.old.count + 1 }
 {
     scratch.count.tick();
+    let _ = nfa.states();
     let start = nfa.start(mode);
     start_into(
         nfa,
@@ -136,12 +140,15 @@ pub fn next_key(
     requires of { scratch.old.of ≡ nfa.now }
     requires is_of { IsOf nfa.now from.now }
     ensures successor { IfOk result (λ key. IsSuccessor (nfa_of nfa.now) kind from.now unit key) }
+    ensures key { IfOk result (λ key. key ≡ successor nfa.now kind from.now unit) }
+    ensures looks { IfOk result (λ key. NeedsOwnLooks nfa.now key) }
     ensures is_of { IfOk result (λ key. IsOf nfa.now key) }
     ensures cost { IfOk result (λ key. cost key ≤ max_cost nfa.now) }
     ensures of { scratch.new.of ≡ scratch.old.of }
     ensures count { scratch.new.count ≡ scratch.old.count + 1 }
 {
     scratch.count.tick();
+    let _ = nfa.states();
     read_ids(from.nfa(), &mut scratch.list)?;
     next_into(
         nfa,
