@@ -39,7 +39,7 @@ fn accepting(nfa: &NFA, input: &Input<'_>) -> Result<Vec<HalfMatch>, AllocError>
     let alloc = nfa.alloc();
     let mut found = Vec::new(alloc);
     let mut open: Vec<Vec<Stand>> = Vec::new(alloc);
-    if let Some(start) = start_of(nfa, input.get_anchored()) {
+    if let Some(start) = nfa.start(input.get_anchored()) {
         if !input.is_done() {
             open.push(vec![in alloc; (start, input.start())]?)?;
         }
@@ -63,14 +63,6 @@ fn accepting(nfa: &NFA, input: &Input<'_>) -> Result<Vec<HalfMatch>, AllocError>
         }
     }
     Ok(found)
-}
-
-fn start_of(nfa: &NFA, mode: Anchored) -> Option<StateID> {
-    match mode {
-        Anchored::No => Some(nfa.start_unanchored()),
-        Anchored::Yes => Some(nfa.start_anchored()),
-        Anchored::Pattern(pattern) => nfa.start_pattern(pattern),
-    }
 }
 
 /// Where a path may go on from a state at a place, the preferred way first.
