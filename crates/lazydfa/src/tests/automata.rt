@@ -1,0 +1,226 @@
+//! Automata that are in no catalogue: malformed ones, and odd ones that are searched all the same.
+
+use regex_automata::hybrid::dfa::{Config, DFA};
+use regex_automata::nfa::thompson::{Flags, NFA, NfaError, State, Transition};
+use regex_automata::util::look::Look;
+use regex_automata::util::primitives::{PatternID, StateID};
+use regex_automata::util::search::{HalfMatch, Input, MatchKind};
+use std::alloc::{AllocError, Global};
+use std::process::Abort;
+use std::test::Fail;
+
+fn id(number: u8) -> StateID {
+    StateID::new(usize::from(number)).unwrap()
+}
+
+fn pattern(number: u8) -> PatternID {
+    PatternID::new(usize::from(number)).unwrap()
+}
+
+fn byte(byte: u8, next: u8) -> State {
+    range(byte, byte, next)
+}
+
+fn range(lo: u8, hi: u8, next: u8) -> State {
+    State::ByteRange {
+        lo,
+        hi,
+        next: id(next),
+    }
+}
+
+fn either(first: u8, second: u8) -> State {
+    State::BinaryUnion {
+        alt1: id(first),
+        alt2: id(second),
+    }
+}
+
+fn accept(number: u8) -> State {
+    State::Match {
+        pattern: pattern(number),
+    }
+}
+
+/// The automaton of these states, all starts at one of them.
+fn door(states: Vec<State>, start: u8, patterns: u8) -> Result<NFA, NfaError> {
+    let alloc = *states.allocator();
+    let starts = vec![in alloc; id(start); usize::from(patterns)];
+    let starts = starts.map_err(|_| NfaError::OutOfMemory)?;
+    let flags = Flags {
+        utf8: false,
+        reverse: false,
+        line_terminator: b'\n',
+    };
+    NFA::from_states(alloc, states, id(start), id(start), starts, flags)
+}
+
+/// Each test of the door, the ones before it being passed, and those behind it not.
+#[test]
+fn refuses_malformed_automata(rt: HostRuntime) -> Result<(), Fail> {
+    let alloc = rt.alloc();
+    let none = door(Vec::new(alloc), 0, 1);
+    assert_eq!(rt; none.err(), Some(NfaError::StartRange));
+    for (lo, hi, next, start, want) in [
+        (b'b', b'a', 9, 5, Some(NfaError::StartRange)),
+        (b'b', b'a', 9, 0, Some(NfaError::StateRange)),
+        (b'b', b'a', 0, 0, Some(NfaError::Ranges)),
+        (b'a', b'b', 0, 0, None),
+        (b'a', b'a', 1, 0, Some(NfaError::StateRange)),
+    ] {
+        let states = vec![in alloc; range(lo, hi, next)]?;
+        assert_eq!(rt;
+            door(states, start, 1).err(),
+            want,
+            "{lo} {hi} {next} {start}"
+        );
+    }
+    let states = vec![in alloc; accept(3)]?;
+    assert_eq!(rt; door(states, 0, 1).err(), Some(NfaError::PatternRange));
+    let states = vec![in alloc; accept(3), range(b'b', b'a', 0)]?;
+    assert_eq!(rt; door(states, 0, 1).err(), Some(NfaError::Ranges));
+    Ok(())
+}
+
+#[test]
+fn refuses_sparse_ranges_out_of_order(rt: HostRuntime) -> Result<(), Fail> {
+    let alloc = rt.alloc();
+    for (first, second, want) in [
+        ((b'a', b'c'), (b'd', b'd'), None),
+        ((b'a', b'c'), (b'c', b'd'), Some(NfaError::Ranges)),
+        ((b'd', b'd'), (b'a', b'c'), Some(NfaError::Ranges)),
+        ((b'a', b'c'), (b'f', b'e'), Some(NfaError::Ranges)),
+    ] {
+        let mut transitions = Vec::new(alloc);
+        for (lo, hi) in [first, second] {
+            let next = id(0);
+            transitions.push(Transition { lo, hi, next })?;
+        }
+        let states = vec![in alloc; State::Sparse(transitions)]?;
+        assert_eq!(rt; door(states, 0, 1).err(), want, "{first:?} {second:?}");
+    }
+    Ok(())
+}
+
+/// Searches each haystack over one cache.
+fn finds<R: Abort + AllocGlobal>(
+    rt: &R,
+    nfa: NFA,
+    kind: MatchKind,
+    rows: &[(&str, Option<(u8, usize)>)],
+) -> Result<(), Fail> {
+    let config = Config::new().match_kind(kind);
+    let dfa = DFA::builder().configure(config).build_from_nfa(nfa)?;
+    let mut cache = dfa.create_cache()?;
+    for (haystack, want) in rows.iter().copied() {
+        let input = Input::new(haystack.as_bytes());
+        let found = dfa.try_search_fwd(&mut cache, &input)?;
+        let want = want.map(|(number, end)| HalfMatch::new(pattern(number), end));
+        assert_eq!(rt; found, want, "{haystack}");
+    }
+    Ok(())
+}
+
+#[test]
+fn searches_odd_unions(rt: HostRuntime) -> Result<(), Fail> {
+    let alloc = rt.alloc();
+    let alternates = Vec::new(alloc);
+    let empty = door(vec![in alloc; State::Union { alternates }]?, 0, 0)?;
+    assert_eq!(rt; Config::new().get_minimum_cache_capacity(&empty), Ok(1085));
+    finds(&rt, empty, MatchKind::All, &[("ab", None)])?;
+    let twice = door(vec![in alloc; either(1, 1), accept(0)]?, 0, 1)?;
+    finds(&rt, twice, MatchKind::LeftmostFirst, &[("", Some((0, 0)))])?;
+    let both = door(vec![in alloc; either(1, 2), accept(0), accept(0)]?, 0, 1)?;
+    finds(&rt, both, MatchKind::All, &[("", Some((0, 0)))])
+}
+
+#[test]
+fn searches_dense_states_and_captures(rt: HostRuntime) -> Result<(), Fail> {
+    let alloc = rt.alloc();
+    let mut targets = [id(0); 256];
+    targets[usize::from(b'a')] = id(1);
+    let dense = door(vec![in alloc; State::Dense(targets), accept(0)]?, 0, 1)?;
+    finds(
+        &rt,
+        dense,
+        MatchKind::LeftmostFirst,
+        &[("a", Some((0, 1))), ("b", None)],
+    )?;
+    let capture = State::Capture {
+        next: id(1),
+        pattern_id: pattern(0),
+        group_index: 0,
+        slot: 0,
+    };
+    let captured = door(vec![in alloc; capture, byte(b'a', 2), accept(0)]?, 0, 1)?;
+    finds(
+        &rt,
+        captured,
+        MatchKind::LeftmostFirst,
+        &[("a", Some((0, 1))), ("b", None)],
+    )
+}
+
+/// A cycle of epsilon edges that passes a look.
+fn look_cycle(alloc: Global) -> Result<NFA, Fail> {
+    let look = State::Look {
+        look: Look::WordAscii,
+        next: id(3),
+    };
+    let states = vec![in alloc;
+        either(1, 4),
+        either(2, 5),
+        look,
+        either(0, 6),
+        byte(b'b', 7),
+        byte(b'a', 8),
+        byte(b'c', 9),
+        accept(0),
+        accept(1),
+        accept(2),
+    ]?;
+    Ok(door(states, 0, 3)?)
+}
+
+#[test]
+fn searches_a_look_cycle(rt: HostRuntime) -> Result<(), Fail> {
+    let nfa = look_cycle(rt.alloc())?;
+    let config = Config::new().match_kind(MatchKind::All);
+    let dfa = DFA::builder().configure(config).build_from_nfa(nfa)?;
+    let mut cache = dfa.create_cache()?;
+    for (haystack, start, want) in [
+        ("a", 0, Some((1, 1))),
+        ("b", 0, Some((0, 1))),
+        ("c", 0, Some((2, 1))),
+        ("xc", 1, None),
+    ] {
+        let end = haystack.len();
+        let input = Input::new(haystack.as_bytes()).range(start..end);
+        let found = dfa.try_search_fwd(&mut cache, &input)?;
+        let want = want.map(|(number, end)| HalfMatch::new(pattern(number), end));
+        assert_eq!(rt; found, want, "{haystack}");
+    }
+    assert_eq!(rt; cache.memory_usage(), 1559);
+    Ok(())
+}
+
+/// Three thousand bytes, each with a state of its own.
+#[test]
+fn searches_a_long_chain(rt: HostRuntime) -> Result<(), Fail> {
+    let alloc = rt.alloc();
+    let mut states = Vec::new(alloc);
+    let mut haystack = Vec::new(alloc);
+    for number in 1..3001usize {
+        let next = StateID::new(number).ok_or("a state")?;
+        let (lo, hi) = (b'a', b'a');
+        states.push(State::ByteRange { lo, hi, next })?;
+        haystack.push(b'a')?;
+    }
+    states.push(accept(0))?;
+    let dfa = DFA::builder().build_from_nfa(door(states, 0, 1)?)?;
+    let mut cache = dfa.create_cache()?;
+    let found = dfa.try_search_fwd(&mut cache, &Input::new(haystack.as_slice()))?;
+    assert_eq!(rt; found, Some(HalfMatch::new(pattern(0), 3000)));
+    assert_eq!(rt; (cache.clear_count(), cache.memory_usage()), (0, 273384));
+    Ok(())
+}

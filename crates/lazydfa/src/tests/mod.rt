@@ -8,7 +8,6 @@ use std::io::{Read, Write};
 use std::test::Fail;
 
 mod automata;
-mod dfa;
 mod forward;
 mod memory;
 mod paths;

@@ -1,0 +1,126 @@
+//! The texts of errors.
+
+use crate::error::RunError;
+use regex_automata::hybrid::{BuildError, CacheError, SearchError, StartError, StepError};
+use regex_automata::util::primitives::PatternID;
+use regex_automata::util::search::Anchored;
+use std::fmt::Display;
+use std::process::Abort;
+use std::test::Fail;
+
+const UNSUPPORTED: &str =
+    "unsupported regex feature for DFAs: cannot build lazy DFAs for regexes with Unicode word boundaries; switch to ASCII word boundaries, or heuristically enable Unicode word boundaries or use a different regex engine";
+
+#[test]
+fn prints_refused_builds(rt: HostRuntime) -> Result<(), Fail> {
+    let capacity = BuildError::InsufficientCacheCapacity {
+        minimum: 1735,
+        given: 1734,
+    };
+    let ids = BuildError::InsufficientStateIDCapacity {
+        attempted: 134217728,
+    };
+    let patterns = BuildError::PatternCounts {
+        forward: 2,
+        reverse: 1,
+    };
+    for (error, text) in [
+        (BuildError::Unsupported, UNSUPPORTED),
+        (
+            capacity,
+            "given cache capacity (1734) is smaller than minimum required (1735)",
+        ),
+        (
+            ids,
+            "failed to create LazyStateID from 134217728, which exceeds 134217727",
+        ),
+        (BuildError::OutOfMemory, "out of memory"),
+        (patterns, "forward DFA has 2 patterns and reverse DFA has 1"),
+    ] {
+        prints(&rt, &error, text)?;
+    }
+    Ok(())
+}
+
+/// The byte of a quit start, as its text shows it.
+const SHOWN: [(u8, &str); 18] = [
+    (0x20, "' '"),
+    (0x09, "\\t"),
+    (0x0A, "\\n"),
+    (0x0D, "\\r"),
+    (0x27, "\\'"),
+    (0x22, "\\\""),
+    (0x5C, "\\\\"),
+    (0x41, "A"),
+    (0x21, "!"),
+    (0x7E, "~"),
+    (0x7F, "\\x7F"),
+    (0x00, "\\x00"),
+    (0x0B, "\\x0B"),
+    (0x1B, "\\x1B"),
+    (0x80, "\\x80"),
+    (0xB2, "\\xB2"),
+    (0xCE, "\\xCE"),
+    (0xFF, "\\xFF"),
+];
+
+#[test]
+fn prints_quit_starts(rt: HostRuntime) -> Result<(), Fail> {
+    for (byte, shown) in SHOWN {
+        let text = format!(in rt.alloc();
+            "error computing start state because the look-behind byte {shown} triggered a quit state"
+        )?;
+        prints(&rt, &StartError::Quit { byte }, text.as_str())?;
+    }
+    Ok(())
+}
+
+#[test]
+fn prints_refused_starts(rt: HostRuntime) -> Result<(), Fail> {
+    let pattern = PatternID::new(5).ok_or("a pattern")?;
+    for (mode, shown) in [
+        (Anchored::No, "unanchored searches"),
+        (Anchored::Yes, "anchored searches"),
+        (
+            Anchored::Pattern(pattern),
+            "anchored searches for a specific pattern (5)",
+        ),
+    ] {
+        let text = format!(in rt.alloc();
+            "error computing start state because {shown} are not supported or enabled"
+        )?;
+        prints(
+            &rt,
+            &StartError::UnsupportedAnchored { mode },
+            text.as_str(),
+        )?;
+    }
+    let inefficient = "error computing start state because of cache inefficiency";
+    let err = CacheError;
+    prints(&rt, &StartError::Cache { err }, inefficient)?;
+    prints(&rt, &StartError::OutOfMemory, "out of memory")
+}
+
+#[test]
+fn prints_refused_steps_and_searches(rt: HostRuntime) -> Result<(), Fail> {
+    let cleared = "lazy DFA cache has been cleared too many times";
+    prints(&rt, &CacheError, cleared)?;
+    prints(&rt, &StepError::Cache(CacheError), cleared)?;
+    prints(&rt, &StepError::OutOfMemory, "out of memory")?;
+    prints(&rt, &SearchError::OutOfMemory, "out of memory")?;
+    let no_start = "reverse DFA finds no start for the match of the forward DFA";
+    prints(&rt, &SearchError::NotAPair, no_start)
+}
+
+#[test]
+fn prints_faults_of_a_run(rt: HostRuntime) -> Result<(), Fail> {
+    prints(&rt, &RunError::BadLine(17), "line 17: bad line")?;
+    prints(&rt, &RunError::Failed, "input or output failed")?;
+    prints(&rt, &RunError::OutOfMemory, "out of memory")
+}
+
+fn prints<R: Abort + AllocGlobal, E: Display>(rt: &R, error: &E, text: &str) -> Result<(), Fail> {
+    let printed = error.to_string(rt.alloc())?;
+    assert_eq!(rt; printed.as_str(), text);
+    Ok(())
+}

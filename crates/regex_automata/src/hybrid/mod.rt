@@ -1,0 +1,6 @@
+//! Automata that are made while they search.
+
+pub mod dfa;
+
+pub use automata_config::error::{BuildError, CacheError, SearchError, StartError, StepError};
+pub use automata_hybrid::id::LazyStateID;

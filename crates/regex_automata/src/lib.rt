@@ -1,0 +1,13 @@
+//! Regular expressions as automata: the names of the crate `regex-automata` for the lazy DFA and
+//! what it stands on.
+#![tactic(auto)]
+
+pub mod hybrid;
+pub mod nfa;
+pub mod util;
+
+pub use automata_base::util::pattern_set::{PatternSet, PatternSetInsertError, PatternSetIter};
+pub use automata_base::util::primitives::PatternID;
+pub use automata_base::util::search::{
+    Anchored, HalfMatch, Input, Match, MatchError, MatchErrorKind, MatchKind, Span,
+};

@@ -1,0 +1,3 @@
+//! Nondeterministic automata.
+
+pub use automata_base::nfa::thompson;
