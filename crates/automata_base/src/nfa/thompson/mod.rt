@@ -1,0 +1,5 @@
+pub mod nfa;
+pub mod state;
+
+pub use nfa::NFA;
+pub use state::{Flags, State, Transition};

@@ -1,0 +1,3 @@
+pub mod look;
+pub mod primitives;
+pub mod search;
