@@ -5,3 +5,6 @@ pub mod Truths
 pub mod Nodes
 pub mod Door
 pub mod Automata
+pub mod Tapes
+pub mod Matches
+pub mod Input
