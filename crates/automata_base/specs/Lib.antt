@@ -8,3 +8,4 @@ pub mod Automata
 pub mod Tapes
 pub mod Matches
 pub mod Input
+pub mod StartConfig

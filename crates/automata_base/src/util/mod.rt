@@ -1,3 +1,4 @@
 pub mod look;
 pub mod primitives;
 pub mod search;
+pub mod start;
