@@ -1,6 +1,6 @@
 -- The data of an NFA as what contracts see.
 use Rattle.std.specs.Prelude.{ℕ, ◌≡◌, ◌≤◌, ◌+◌, ◌^◌}
-use Rattle.automata_base.specs.declared.nfa.thompson.nfa.Data.{Data}
+use Rattle.automata_base.specs.declared.nfa.thompson.Data.{Data}
 use Rattle.automata_base.specs.Nodes.{Automaton, stack_room}
 use Rattle.automata_base.specs.Door.{IsDoor, IsLooks}
 

@@ -1,8 +1,7 @@
 -- The eighteen looks, and where they hold, by the byte before and the byte behind a place.
 use Rattle.std.specs.Prelude.{ℕ, Bool, true, false, not, ◌&&◌, ◌||◌, leb, eqb, Option, Some, None}
-
-use Rattle.automata_base.specs.declared.util.look.Look.{Look}
-use Rattle.automata_base.specs.declared.util.look.Look.TheVariants.{Start, End, StartLF, EndLF, StartCRLF, EndCRLF, WordAscii, WordAsciiNegate, WordUnicode, WordUnicodeNegate, WordStartAscii, WordEndAscii, WordStartUnicode, WordEndUnicode, WordStartHalfAscii, WordEndHalfAscii, WordStartHalfUnicode, WordEndHalfUnicode}
+pub use Rattle.automata_base.specs.declared.util.look.Look.{Look}
+pub use Rattle.automata_base.specs.declared.util.look.Look.TheVariants.{Start, End, StartLF, EndLF, StartCRLF, EndCRLF, WordAscii, WordAsciiNegate, WordUnicode, WordUnicodeNegate, WordStartAscii, WordEndAscii, WordStartUnicode, WordEndUnicode, WordStartHalfAscii, WordEndHalfAscii, WordStartHalfUnicode, WordEndHalfUnicode}
 
 abbrev pub within : ℕ → ℕ → ℕ → Bool
 within lo hi u = leb lo u && leb u hi
@@ -59,3 +58,24 @@ holds t r WordStartHalfAscii prev next = not (is_word prev)
 holds t r WordEndHalfAscii prev next = not (is_word next)
 holds t r WordStartHalfUnicode prev next = not (is_word prev)
 holds t r WordEndHalfUnicode prev next = not (is_word next)
+
+-- The number of a look, which is its bit in a set of looks.
+abbrev pub look_index : Look → ℕ
+look_index Start = 0
+look_index End = 1
+look_index StartLF = 2
+look_index EndLF = 3
+look_index StartCRLF = 4
+look_index EndCRLF = 5
+look_index WordAscii = 6
+look_index WordAsciiNegate = 7
+look_index WordUnicode = 8
+look_index WordUnicodeNegate = 9
+look_index WordStartAscii = 10
+look_index WordEndAscii = 11
+look_index WordStartUnicode = 12
+look_index WordEndUnicode = 13
+look_index WordStartHalfAscii = 14
+look_index WordEndHalfAscii = 15
+look_index WordStartHalfUnicode = 16
+look_index WordEndHalfUnicode = 17

@@ -1,7 +1,6 @@
 -- An NFA as paths see it: its states, the line terminator and the reverse flag.
 use Rattle.std.specs.Prelude.{ℕ, zero, suc, ◌≡◌, Bool, true, false, cond, List, [], ◌∷◌, Option, Some, None}
-use Rattle.automata_base.specs.declared.util.look.Look.{Look}
-use Rattle.automata_base.specs.Looks.{within}
+use Rattle.automata_base.specs.Looks.{Look, within}
 use Rattle.automata_base.specs.Lists.{nth}
 
 -- Bytes from `lo` to `hi` lead to `next`.

@@ -42,11 +42,11 @@ impl Model for LookSet {
 
 impl Look {
     ghost use Rattle.std.specs.Prelude.{◌≡◌, ◌<◌};
-    ghost use Rattle.automata_base.specs.Truths.{code};
+    ghost use Rattle.automata_base.specs.Looks.{look_index};
 
     /// The number of the look, from 0 to 17.
     pub fn index(self) -> u32
-        ensures number { result ≡ code self }
+        ensures number { result ≡ look_index self }
         ensures below { result < 18 }
     {
         match self {

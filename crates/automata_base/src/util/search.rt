@@ -223,7 +223,8 @@ impl<'h> Model for Input<'h> {
 
 impl<'h> Input<'h> {
     ghost use Rattle.std.specs.Prelude.{◌≡◌, ◌<◌, ◌≤◌, ◌^◌, ◌↔◌, IsTrue, length, true, false};
-    ghost use Rattle.automata_base.specs.Input.{Allows, IsAllowed, is_split};
+    ghost use Rattle.automata_base.specs.Input.{Allows, IsAllowed};
+    ghost use Rattle.automata_base.specs.Tapes.{is_split};
 
     /// The whole haystack, not anchored, and not earliest.
     pub fn new(haystack: &'h [u8]) -> Input<'h>
