@@ -12,3 +12,5 @@ pub mod Powerset
 pub mod StartConfig
 pub mod Tapes
 pub mod Truths
+pub mod Classes
+pub mod Marks

@@ -1,4 +1,3 @@
-
 use std::marker::Model;
 
 /// What a place may be asked for.

@@ -1,5 +1,6 @@
+pub mod alphabet;
 pub mod look;
+pub mod pattern_set;
 pub mod primitives;
 pub mod search;
 pub mod start;
-pub mod pattern_set;

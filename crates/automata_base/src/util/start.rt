@@ -1,8 +1,8 @@
-use crate::util::search::{Anchored, Input};
-use std::marker::Model;
-
 ghost use Rattle.std.specs.Prelude.{◌≡◌};
 ghost use Rattle.automata_base.specs.Lists.{nth};
+
+use crate::util::search::{Anchored, Input};
+use std::marker::Model;
 
 /// What a start state depends on: the byte behind the search's start, in its direction, and the mode.
 #[derive(Clone, Copy, Debug)]

@@ -17,15 +17,34 @@ pub struct Transition {
 /// A state of an NFA.
 #[derive(Debug, Drop)]
 pub enum State {
-    ByteRange { lo: u8, hi: u8, next: StateID },
+    ByteRange {
+        lo: u8,
+        hi: u8,
+        next: StateID,
+    },
     Sparse(Vec<Transition>),
     Dense([StateID; 256]),
-    Look { look: Look, next: StateID },
-    Union { alternates: Vec<StateID> },
-    BinaryUnion { alt1: StateID, alt2: StateID },
-    Capture { next: StateID, pattern_id: PatternID, group_index: u32, slot: u32 },
+    Look {
+        look: Look,
+        next: StateID,
+    },
+    Union {
+        alternates: Vec<StateID>,
+    },
+    BinaryUnion {
+        alt1: StateID,
+        alt2: StateID,
+    },
+    Capture {
+        next: StateID,
+        pattern_id: PatternID,
+        group_index: u32,
+        slot: u32,
+    },
     Fail,
-    Match { pattern: PatternID },
+    Match {
+        pattern: PatternID,
+    },
 }
 
 /// What an NFA says of itself.

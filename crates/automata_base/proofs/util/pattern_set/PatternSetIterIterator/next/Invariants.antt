@@ -5,7 +5,7 @@ use Rattle.automata_base.proofs.util.pattern_set.PatternSetIterIterator.next.Giv
 abbrev pub invariant-loop-self : goal.invariant-loop-self
 invariant-loop-self l = record {
   rest : members_from l.self-inside.at (drop l.self-inside.at l.self-inside.which.now)
-    ≡ members_from l.initial.self-inside.at (drop l.initial.self-inside.at l.initial.self-inside.which.now);
+      ≡ members_from l.initial.self-inside.at (drop l.initial.self-inside.at l.initial.self-inside.which.now);
   small : AreSmall l.self-inside.which.now;
 }
 
