@@ -1,3 +1,4 @@
+pub mod Alike
 pub mod Boundaries
 pub mod Marking
 pub mod PatternsInSets
