@@ -1,3 +1,4 @@
+pub mod Accounting
 pub mod Automata
 pub mod Classes
 pub mod Computed

@@ -1,0 +1,5 @@
+//! The settings of the lazy DFA, and its errors.
+#![tactic(auto)]
+
+pub mod config;
+pub mod error;
