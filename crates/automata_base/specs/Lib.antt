@@ -36,6 +36,7 @@ pub mod StartIsRight
 pub mod Starts
 pub mod Steps
 pub mod Tapes
+pub mod Telling
 pub mod TruePairs
 pub mod Truths
 pub mod Visits
