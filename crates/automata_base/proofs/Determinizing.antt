@@ -1,3 +1,5 @@
+pub mod Alike
+pub mod AlikeUnits
 pub mod Bits_of_looks
 pub mod Dense
 pub mod Distinct
