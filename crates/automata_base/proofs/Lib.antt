@@ -2,3 +2,4 @@ pub mod Coding
 pub mod Determinizing
 pub mod Paths
 pub mod Spans
+pub mod Values
