@@ -1,4 +1,5 @@
 pub mod Alike
+pub mod AlikeClasses
 pub mod AlikeUnits
 pub mod Bits_of_looks
 pub mod Dense
