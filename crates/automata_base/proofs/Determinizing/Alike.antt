@@ -3,11 +3,11 @@ use Rattle.std.proofs.Common.{ℕ, zero, suc, ◌≡◌, Bool, true, false, not,
 use Rattle.std.proofs.lemmas.Bool.{eqb-true}
 use Rattle.automata_base.specs.declared.util.search.Anchored.{Anchored}
 use Rattle.automata_base.specs.Alike.{IsAlike, behind_of}
-use Rattle.automata_base.specs.Computed.{first_visits, closure_of, once_past, known_looks, make, arrive, any_look, has_news, decide, successor_of, start_of}
+use Rattle.automata_base.specs.Computed.{first_visits, closure_of, once_past, known_looks, make, arrive, any_look, decide}
 use Rattle.automata_base.specs.Cuts.{MatchKind, All, LeftmostFirst, cut_for, targets}
 use Rattle.automata_base.specs.Lists.{pick}
-use Rattle.automata_base.specs.Looks.{Look, is_absent, is_byte, is_word, is_word_byte}
-use Rattle.automata_base.specs.Nfa.{Nfa, Truth, takes, accepts}
+use Rattle.automata_base.specs.Looks.{Look, is_word_byte}
+use Rattle.automata_base.specs.Nfa.{Nfa, Truth, accepts}
 use Rattle.automata_base.specs.Nodes.{Automaton, nfa_of}
 use Rattle.automata_base.specs.Passes.{true_looks}
 use Rattle.automata_base.specs.Powerset.{Powerset, dead}

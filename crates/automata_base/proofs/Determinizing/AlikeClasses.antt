@@ -1,6 +1,6 @@
 -- The automaton tells no byte from another of its class.
-use Rattle.std.proofs.Common.{ℕ, zero, suc, ◌≡◌, ◌+◌, ◌-◌, ◌<◌, ◌≤◌, ◌⊎◌, ◌&&◌, ◌||◌, Bool, true, false, not, cond, eqb, leb, List, [], ◌∷◌, length, get_or, Option, Some, None, refl, sym, ap, ◌∙◌, inl, inr, subst, true≢false, arith}
-use Rattle.std.proofs.lemmas.Bool.{or_parts, or_from, eqb-true, cases_lt}
+use Rattle.std.proofs.Common.{ℕ, zero, suc, ◌≡◌, ◌+◌, ◌-◌, ◌<◌, ◌≤◌, ◌⊎◌, ◌||◌, Bool, true, false, not, cond, eqb, List, [], ◌∷◌, get_or, Option, Some, None, refl, sym, ap, ◌∙◌, inl, inr, true≢false, arith}
+use Rattle.std.proofs.lemmas.Bool.{or_parts, eqb-true, cases_lt}
 use Rattle.std.proofs.lemmas.Grind.{common_steps}
 use Rattle.automata_base.specs.declared.nfa.thompson.State.{State}
 use Rattle.automata_base.specs.declared.nfa.thompson.State.TheVariants as is
@@ -9,8 +9,8 @@ use Rattle.automata_base.specs.Alike.{is_line_look, IsAlike}
 use Rattle.automata_base.specs.Classes.{is_quit, differ, bounds, transitions_bound, targets_bound, quits_bound, look_bounds, state_bounds, states_bound, is_boundary, boundary_count, class_of}
 use Rattle.automata_base.specs.Computed.{any_node, looks_at}
 use Rattle.automata_base.specs.Lists.{nth}
-use Rattle.automata_base.specs.Looks.{Look, Start, End, StartLF, EndLF, StartCRLF, EndCRLF, WordAscii, WordAsciiNegate, WordUnicode, WordUnicodeNegate, WordStartAscii, WordEndAscii, WordStartUnicode, WordEndUnicode, WordStartHalfAscii, WordEndHalfAscii, WordStartHalfUnicode, WordEndHalfUnicode, within, is_word_byte}
-use Rattle.automata_base.specs.Nfa.{Node, Range, takes, takes_at, takes_in, node_or_fail}
+use Rattle.automata_base.specs.Looks.{Look, Start, End, StartLF, EndLF, StartCRLF, EndCRLF, within, is_word_byte}
+use Rattle.automata_base.specs.Nfa.{takes, takes_at, takes_in, node_or_fail}
 use Rattle.automata_base.specs.Nodes.{Automaton, nfa_of, node_of, nodes_of, ranges_of, dense_from}
 use Rattle.automata_base.specs.Passes.{is_word_look, is_crlf_look}
 use Rattle.automata_base.proofs.Values.Boundaries.{count_none, count_grows}

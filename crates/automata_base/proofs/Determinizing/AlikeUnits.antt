@@ -1,7 +1,7 @@
 -- Units in which an NFA's looks see the same make the same of a list of states.
 use Rattle.std.proofs.Common.{ℕ, zero, suc, ◌≡◌, Bool, true, false, not, ◌&&◌, ◌||◌, cond, eqb, List, [], ◌∷◌, ◌++◌, length, Option, refl, ap, ap₂, ◌∙◌}
 use Rattle.automata_base.specs.Alike.{is_line_look}
-use Rattle.automata_base.specs.Computed.{is_in, visits_with, first_visits, closure_of, any_node, any_state, always, known_looks, is_full, make, arrive, any_look, has_news, decide}
+use Rattle.automata_base.specs.Computed.{is_in, visits_with, first_visits, closure_of, any_node, any_state, always, known_looks, is_full, arrive, any_look, decide}
 use Rattle.automata_base.specs.Lists.{pick}
 use Rattle.automata_base.specs.Looks.{Look, Start, End, StartLF, EndLF, StartCRLF, EndCRLF, WordAscii, WordAsciiNegate, WordUnicode, WordUnicodeNegate, WordStartAscii, WordEndAscii, WordStartUnicode, WordEndUnicode, WordStartHalfAscii, WordEndHalfAscii, WordStartHalfUnicode, WordEndHalfUnicode, is_absent, is_byte, is_word, differ, first_half, second_half, look_index}
 use Rattle.automata_base.specs.Nfa.{Nfa, Node, Split, Assert, Read, Accept, Truth, node, keep}
@@ -36,7 +36,7 @@ same_inner f g n A B h e (x ∷ stack) seen =
         (b : Bool) → visits_with f n A stack seen ≡ visits_with g n B stack seen
         → f (children n A x ++ stack) (x ∷ seen) ≡ g (children n B x ++ stack) (x ∷ seen)
         → ◌≡◌ {A = List ℕ} (elim b [ true ↦ visits_with f n A stack seen | false ↦ x ∷ f (children n A x ++ stack) (x ∷ seen) ])
-            (elim b [ true ↦ visits_with g n B stack seen | false ↦ x ∷ g (children n B x ++ stack) (x ∷ seen) ])
+        (elim b [ true ↦ visits_with g n B stack seen | false ↦ x ∷ g (children n B x ++ stack) (x ∷ seen) ])
     go true again deeper = again
     go false again deeper = ap (λ out. x ∷ out) deeper
 
