@@ -14,3 +14,4 @@ pub mod Walking
 pub mod Deciding
 pub mod Repeats
 pub mod Stepping
+pub mod Belows
