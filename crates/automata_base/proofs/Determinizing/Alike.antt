@@ -32,7 +32,8 @@ pub alike_step :
     → IsAlike a u v → NeedsOwnLooks a q → successor a kind q (Some u) ≡ successor a kind q (Some v)
 unfolding successor
 alike_step a kind q u v s own =
-    ap (λ L. arrive n (once_past [] (pick (accepts n) (cut_for kind n L))) (targets n (Some u) (cut_for kind n L)) (Some u)) (decide_alike n q (Some u) (Some v) sees own)
+    ap (λ L. arrive n (once_past [] (pick (accepts n) (cut_for kind n L))) (targets n (Some u) (cut_for kind n L)) (Some u))
+    (decide_alike n q (Some u) (Some v) sees own)
     ∙ (ap (λ (g : ℕ → Option ℕ). arrive n told (pick g L') (Some u)) (λ i b. s.takes b i)
     ∙ arrive_alike n told (targets n (Some v) L') (Some u) (Some v) sees)
   where
@@ -163,3 +164,22 @@ dead_stays a kind u =
   where
     n : Nfa
     n = nfa_of a
+
+-- Rows.
+row_none : behind_of 10 None ≡ 2
+row_none = refl
+
+row_line_feed : behind_of 10 (Some 10) ≡ 3
+row_line_feed = refl
+
+row_carriage_return : behind_of 13 (Some 13) ≡ 4
+row_carriage_return = refl
+
+row_terminator : behind_of 97 (Some 97) ≡ 5
+row_terminator = refl
+
+row_word : behind_of 0 (Some 97) ≡ 1
+row_word = refl
+
+row_other : behind_of 10 (Some 0) ≡ 0
+row_other = refl

@@ -9,17 +9,23 @@ use Rattle.automata_base.specs.Alike.{is_line_look, IsAlike}
 use Rattle.automata_base.specs.Classes.{is_quit, differ, bounds, transitions_bound, targets_bound, quits_bound, look_bounds, state_bounds, states_bound, is_boundary, boundary_count, class_of}
 use Rattle.automata_base.specs.Computed.{any_node, looks_at}
 use Rattle.automata_base.specs.Lists.{nth}
+use Rattle.automata_base.specs.Cuts.{MatchKind}
 use Rattle.automata_base.specs.Looks.{Look, Start, End, StartLF, EndLF, StartCRLF, EndCRLF, within, is_word_byte}
 use Rattle.automata_base.specs.Nfa.{takes, takes_at, takes_in, node_or_fail}
 use Rattle.automata_base.specs.Nodes.{Automaton, nfa_of, node_of, nodes_of, ranges_of, dense_from}
 use Rattle.automata_base.specs.Passes.{is_word_look, is_crlf_look}
+use Rattle.automata_base.specs.Powerset.{Powerset}
+use Rattle.automata_base.specs.Steps.{successor, NeedsOwnLooks}
+use Rattle.automata_base.proofs.Determinizing.Alike.{alike_step}
 use Rattle.automata_base.proofs.Values.Boundaries.{count_none, count_grows}
 
 count_more : (f : ℕ → Bool) (n : ℕ) → boundary_count f (suc n) ≡ boundary_count f n + cond (f (suc n)) 1 0
 unfolding boundary_count
 count_more f n = refl
 
-no_more : (f : ℕ → Bool) (m n : ℕ) → boundary_count f m ≡ boundary_count f (suc n) → boundary_count f m ≤ boundary_count f n → (f (suc n) ≡ false) × (boundary_count f m ≡ boundary_count f n)
+no_more :
+    (f : ℕ → Bool) (m n : ℕ) → boundary_count f m ≡ boundary_count f (suc n) → boundary_count f m ≤ boundary_count f n
+    → (f (suc n) ≡ false) × (boundary_count f m ≡ boundary_count f n)
 no_more f m n e l = (go (f (suc n)) (omega (arith, count_more f n, e, l)), omega (arith, count_more f n, e, l))
   where
     go : (b : Bool) → cond b 1 0 ≤ 0 → b ≡ false
@@ -68,7 +74,9 @@ eqb_next k b h =
     let p = or_parts (eqb (suc b) k) (eqb (suc b) (k + 1)) h in
     grind (arith, common_steps, p.0, p.1)
 
-ranges_next : (ts : List Transition) (b : ℕ) → transitions_bound ts (suc b) ≡ false → takes_in (ranges_of ts) b ≡ takes_in (ranges_of ts) (suc b)
+ranges_next :
+    (ts : List Transition) (b : ℕ) → transitions_bound ts (suc b) ≡ false
+    → takes_in (ranges_of ts) b ≡ takes_in (ranges_of ts) (suc b)
 ranges_next [] b h = refl
 ranges_next (t ∷ ts) b h =
     let p = or_parts (bounds t.lo t.hi (suc b)) (transitions_bound ts (suc b)) h in
@@ -260,7 +268,14 @@ class_alike a quits on u v e = record {
     crlf has b h =
         or_parts (bounds 13 13 (suc b)) (bounds 10 10 (suc b)) (states_look is_crlf_look _ crlf_next t a.states (suc b) has (states b h))
 
--- A class has quit bytes or others.
+-- So they lead a powerset state alike.
+pub class_step :
+    (a : Automaton) (quits : List Bool) (on : Bool) (kind : MatchKind) (q : Powerset) (u v : ℕ)
+    → class_of a quits on u ≡ class_of a quits on v → NeedsOwnLooks a q
+    → successor a kind q (Some u) ≡ successor a kind q (Some v)
+class_step a quits on kind q u v e own = alike_step a kind q u v (class_alike a quits on u v e) own
+
+-- Where a class has a quit byte all its bytes are quit bytes.
 pub class_quits :
     (a : Automaton) (quits : List Bool) (on : Bool) (u v : ℕ)
     → class_of a quits on u ≡ class_of a quits on v → is_quit quits u ≡ is_quit quits v

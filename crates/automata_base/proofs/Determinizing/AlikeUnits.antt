@@ -64,24 +64,36 @@ has_look :
     (f : Look → Bool) (n : Nfa) (look : Look) → Occurs n look → f look ≡ true → any_node f n.nodes ≡ true
 has_look f n look o e = any_node_from f n.nodes o.0 look o.1 o.2 e
 
-same_line : (n : Nfa) (x y : Option ℕ) (look : Look) → SeesAlike n x y → Occurs n look → is_line_look look ≡ true → is_byte n.terminator x ≡ is_byte n.terminator y
+same_line :
+    (n : Nfa) (x y : Option ℕ) (look : Look) → SeesAlike n x y → Occurs n look → is_line_look look ≡ true
+    → is_byte n.terminator x ≡ is_byte n.terminator y
 same_line n x y look s o e = s.line (has_look is_line_look n look o e)
 
-same_word : (n : Nfa) (x y : Option ℕ) (look : Look) → SeesAlike n x y → Occurs n look → is_word_look look ≡ true → is_word x ≡ is_word y
+same_word :
+    (n : Nfa) (x y : Option ℕ) (look : Look) → SeesAlike n x y → Occurs n look → is_word_look look ≡ true
+    → is_word x ≡ is_word y
 same_word n x y look s o e = s.word (has_look is_word_look n look o e)
 
-same_first : (r : Bool) (x y : Option ℕ) → is_byte 13 x ≡ is_byte 13 y → is_byte 10 x ≡ is_byte 10 y → is_byte (first_half r) x ≡ is_byte (first_half r) y
+same_first :
+    (r : Bool) (x y : Option ℕ) → is_byte 13 x ≡ is_byte 13 y → is_byte 10 x ≡ is_byte 10 y
+    → is_byte (first_half r) x ≡ is_byte (first_half r) y
 same_first true x y c l = l
 same_first false x y c l = c
 
-same_second : (r : Bool) (x y : Option ℕ) → is_byte 13 x ≡ is_byte 13 y → is_byte 10 x ≡ is_byte 10 y → is_byte (second_half r) x ≡ is_byte (second_half r) y
+same_second :
+    (r : Bool) (x y : Option ℕ) → is_byte 13 x ≡ is_byte 13 y → is_byte 10 x ≡ is_byte 10 y
+    → is_byte (second_half r) x ≡ is_byte (second_half r) y
 same_second true x y c l = c
 same_second false x y c l = l
 
-first_alike : (n : Nfa) (x y : Option ℕ) → SeesAlike n x y → any_node is_crlf_look n.nodes ≡ true → is_byte (first_half n.reverse) x ≡ is_byte (first_half n.reverse) y
+first_alike :
+    (n : Nfa) (x y : Option ℕ) → SeesAlike n x y → any_node is_crlf_look n.nodes ≡ true
+    → is_byte (first_half n.reverse) x ≡ is_byte (first_half n.reverse) y
 first_alike n x y s h = same_first n.reverse x y (s.carriage_return h) (s.line_feed h)
 
-second_alike : (n : Nfa) (x y : Option ℕ) → SeesAlike n x y → any_node is_crlf_look n.nodes ≡ true → is_byte (second_half n.reverse) x ≡ is_byte (second_half n.reverse) y
+second_alike :
+    (n : Nfa) (x y : Option ℕ) → SeesAlike n x y → any_node is_crlf_look n.nodes ≡ true
+    → is_byte (second_half n.reverse) x ≡ is_byte (second_half n.reverse) y
 second_alike n x y s h = same_second n.reverse x y (s.carriage_return h) (s.line_feed h)
 
 -- What is known behind the one is known behind the other.
@@ -137,11 +149,15 @@ arrive_alike n patterns roots x y s =
     powerset_path (arrive n patterns roots x) (arrive n patterns roots y) (ap list k) refl
     (ap (λ K. set_of (λ look. any_state (λ other. true) n (list K) && K look)) k)
     (ap (λ K. set_of (λ look. any_state (λ other. eqb (look_index other) (look_index look)) n (list K))) k)
-    (flag_alike (is_full (list (known_looks n x))) (is_full (list (known_looks n y))) (any_node is_word_look n.nodes) (is_word x) (is_word y) (ap (λ K. is_full (list K)) k) s.word)
-    (flag_alike (is_full (list (known_looks n x))) (is_full (list (known_looks n y))) (any_node is_crlf_look n.nodes) (is_byte (first_half n.reverse) x) (is_byte (first_half n.reverse) y) (ap (λ K. is_full (list K)) k) (first_alike n x y s))
+    (flag_alike (full x) (full y) (any_node is_word_look n.nodes) (is_word x) (is_word y) (ap (λ K. is_full (list K)) k) s.word)
+    (flag_alike (full x) (full y) (any_node is_crlf_look n.nodes) (is_byte (first_half n.reverse) x)
+    (is_byte (first_half n.reverse) y) (ap (λ K. is_full (list K)) k) (first_alike n x y s))
   where
     list : Truth → List ℕ
     list K = pick (keep n) (closure_of n K roots)
+
+    full : Option ℕ → Bool
+    full prev = is_full (list (known_looks n prev))
 
     k : ◌≡◌ {A = Truth} (known_looks n x) (known_looks n y)
     k = λ i look. same_known n x y s look i
@@ -194,5 +210,6 @@ decide_alike n Q x y s own =
 
     told : (look : Look) → news x look ≡ news y look
     told look =
-        and_alike (truth_of Q.needed look) (true_looks n Q x look && not (truth_of Q.known look)) (true_looks n Q y look && not (truth_of Q.known look))
+        and_alike (truth_of Q.needed look) (true_looks n Q x look && not (truth_of Q.known look))
+        (true_looks n Q y look && not (truth_of Q.known look))
         (λ e. ap (λ b. b && not (truth_of Q.known look)) (same_truth n Q x y s look (own look e)))
