@@ -35,6 +35,7 @@ pub mod Sparse
 pub mod StartConfig
 pub mod StartIsRight
 pub mod Starts
+pub mod StepLaws
 pub mod Steps
 pub mod Tapes
 pub mod Telling
