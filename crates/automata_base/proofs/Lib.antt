@@ -1,4 +1,5 @@
-pub mod Alike
-pub mod Boundaries
-pub mod Marking
-pub mod PatternsInSets
+pub mod Coding
+pub mod Determinizing
+pub mod Paths
+pub mod Spans
+pub mod Values

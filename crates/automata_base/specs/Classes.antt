@@ -3,11 +3,8 @@ use Rattle.std.specs.Prelude.{ℕ, zero, suc, ◌≡◌, ◌+◌, ◌-◌, ◌<�
 use Rattle.automata_base.specs.declared.nfa.thompson.State.{State}
 use Rattle.automata_base.specs.declared.nfa.thompson.State.TheVariants as is
 use Rattle.automata_base.specs.declared.nfa.thompson.Transition.{Transition}
-use Rattle.automata_base.specs.Computed.{any_node}
-use Rattle.automata_base.specs.Looks.{Look, differ, Start, End, StartLF, EndLF, StartCRLF, EndCRLF, is_word_byte}
-use Rattle.automata_base.specs.Nfa.{takes}
-use Rattle.automata_base.specs.Nodes.{Automaton, nfa_of}
-use Rattle.automata_base.specs.Passes.{is_word_look, is_crlf_look}
+use Rattle.automata_base.specs.Looks.{Look, Start, End, StartLF, EndLF, StartCRLF, EndCRLF}
+use Rattle.automata_base.specs.Nodes.{Automaton}
 
 -- Whether a byte is in the quit set.
 abbrev pub is_quit : List Bool → ℕ → Bool
@@ -24,6 +21,10 @@ transitions_bound (t ∷ ts) byte = bounds t.lo t.hi byte || transitions_bound t
 -- A run of bytes with one target begins or ends before the byte.
 abbrev pub targets_bound : List ℕ → ℕ → Bool
 targets_bound targets byte = not (eqb (slice_index targets byte) (slice_index targets (byte - 1)))
+
+abbrev pub differ : Bool → Bool → Bool
+differ true b = not b
+differ false b = b
 
 -- A run of quit bytes begins or ends before the byte.
 abbrev pub quits_bound : List Bool → ℕ → Bool
@@ -67,24 +68,6 @@ boundary_count boundary (suc byte) = boundary_count boundary byte + (if boundary
 -- The class of a byte of an automaton, for this quit set and with classes on or off.
 abbrev pub class_of : Automaton → (quits : List Bool) → (on : Bool) → ℕ → ℕ
 class_of a quits on byte = boundary_count (is_boundary a quits on) byte
-
-abbrev pub is_line_look : Look → Bool
-is_line_look StartLF = true
-is_line_look EndLF = true
-is_line_look look = false
-
--- A look that passes the test is among the states.
-abbrev pub HasLook : (Look → Bool) → Automaton → Type 0
-HasLook test a = any_node test (nfa_of a).nodes ≡ true
-
--- Neither the quit set nor a state nor a look of the automaton tells the two bytes apart.
-pub record AreAlike (a : Automaton) (quits : List Bool) (u v : ℕ) : Type 0 where
-  pub quit : is_quit quits u ≡ is_quit quits v
-  pub takes : (q : ℕ) → takes (nfa_of a) q u ≡ takes (nfa_of a) q v
-  pub line : HasLook is_line_look a → eqb u a.flags.line_terminator ≡ eqb v a.flags.line_terminator
-  pub carriage_return : HasLook is_crlf_look a → eqb u 13 ≡ eqb v 13
-  pub line_feed : HasLook is_crlf_look a → eqb u 10 ≡ eqb v 10
-  pub word : HasLook is_word_look a → is_word_byte u ≡ is_word_byte v
 
 -- What contracts see of byte classes: the class of each of the 256 bytes. Behind the last one comes the end of input's.
 abbrev pub class_in : List ℕ → ℕ → ℕ

@@ -1,14 +1,15 @@
-ghost use Rattle.std.specs.Prelude.{◌≡◌, ◌≤◌, ◌+◌, ◌*◌, ◌^◌};
+ghost use Rattle.std.specs.Prelude.{◌≡◌, ◌≤◌, ◌+◌, ◌*◌, ◌^◌, length};
 ghost use Rattle.automata_base.specs.Accounting as bytes;
+ghost use Rattle.automata_base.specs.Starts as starts;
 
 use automata_base::nfa::thompson::NFA;
 
 /// The greatest cost of a powerset state of the NFA, in accounted bytes.
 pub fn max_cost(nfa: &NFA) -> usize
-    ensures cost { result ≡ bytes.max_cost nfa.now }
+    ensures cost { result ≡ starts.max_cost nfa.now }
     ensures few { result ≤ 2 ^ 31 }
 {
-    13 + 4 * nfa.pattern_len() + 5 * nfa.states().len()
+    13 + 4 * pattern_count(nfa) + 5 * nfa.states().len()
 }
 
 /// What every cache takes for determinisation, in accounted bytes.
@@ -25,10 +26,18 @@ pub fn start_slots(nfa: &NFA, each_pattern: bool) -> usize
     ensures few { result ≤ 2 ^ 30 }
 {
     if each_pattern {
-        12 + 6 * nfa.pattern_len()
+        12 + 6 * pattern_count(nfa)
     } else {
         12
     }
+}
+
+fn pattern_count(nfa: &NFA) -> usize
+    ensures number { result ≡ length nfa.now.start_pattern }
+    ensures few { result ≤ 2 ^ 27 }
+{
+    let _ = nfa.states();
+    nfa.pattern_starts().len()
 }
 
 /// The least capacity with room for a state in each start slot, and for two more.

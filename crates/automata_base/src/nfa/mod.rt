@@ -1,1 +1,3 @@
+//! Nondeterministic automata.
+
 pub mod thompson;

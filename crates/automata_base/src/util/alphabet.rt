@@ -30,12 +30,13 @@ impl Model for ByteClasses {
 
 impl ByteClasses {
     ghost use Rattle.std.specs.Prelude.{◌≡◌, ◌+◌, ◌<◌, ◌≤◌, ◌^◌, ℕ, false, true, length};
-    ghost use Rattle.automata_base.specs.Classes.{class_of, class_in, eoi_class, alphabet_length, stride_of, AreAlike};
+    ghost use Rattle.automata_base.specs.Classes.{class_of, class_in, eoi_class, alphabet_length, stride_of, is_quit};
 
     /// The classes of an automaton's bytes, for these quit bytes. Where `on` is false each byte is its own class.
     pub fn of(nfa: &NFA, quits: &[bool; 256], on: bool) -> ByteClasses
-        ensures alike { (u v : ℕ)
-            → u < 256 → v < 256 → class_in result u ≡ class_in result v → AreAlike nfa.now quits.now u v }
+        ensures quits { (u v : ℕ)
+            → u < 256 → v < 256 → class_in result u ≡ class_in result v
+            → is_quit quits.now u ≡ is_quit quits.now v }
         ensures off { on ≡ false → (byte : ℕ) → byte < 256 → class_in result byte ≡ byte }
         ensures same { (byte : ℕ) → byte < 256 → class_in result byte ≡ class_of nfa.now quits.now on byte }
     {

@@ -1,5 +1,5 @@
 use Rattle.automata_base.specs.Classes.{quits_bound}
-use Rattle.automata_base.proofs.Marking.{runs_next}
+use Rattle.automata_base.proofs.Values.Marking.{runs_next}
 use Rattle.automata_base.proofs.util.alphabet.mark_quits.Goals as goal
 
 pub loop-byte-preserved : goal.loop-byte-preserved

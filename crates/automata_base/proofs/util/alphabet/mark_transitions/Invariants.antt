@@ -1,5 +1,5 @@
 use Rattle.automata_base.specs.Classes.{transitions_bound}
-use Rattle.automata_base.proofs.Marking.{Left}
+use Rattle.automata_base.proofs.Values.Marking.{Left}
 use Rattle.automata_base.proofs.util.alphabet.mark_transitions.Given as goal
 
 abbrev pub invariant-loop-t : goal.invariant-loop-t

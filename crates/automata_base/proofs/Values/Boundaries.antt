@@ -28,14 +28,6 @@ count-same f g (suc n) h =
     ∙ (ap (λ c. c + cond (f (suc n)) 1 0) (count-same f g n (λ b l. h b (omega (arith, l))))
     ∙ (ap (λ t. boundary_count g n + cond t 1 0) (h (suc n) (omega arith)) ∙ sym (count_more g n)))
 
--- Where each byte has a boundary, a byte counts itself.
-pub count_all : (f : ℕ → Bool) (n : ℕ) → ((b : ℕ) → f b ≡ true) → boundary_count f n ≡ n
-count_all f zero h = count_none f
-count_all f (suc n) h = let all = count_all f n h in let one = ap chosen (h (suc n)) in omega (arith, count_more f n, all, one)
-  where
-    chosen : Bool → ℕ
-    chosen b = cond b 1 0
-
 pub count_rises : (f : ℕ → Bool) (n : ℕ) → (boundary_count f n ≤ boundary_count f (n + 1)) × (boundary_count f (n + 1) ≤ boundary_count f n + 1)
 count_rises f n =
     let more : boundary_count f (n + 1) ≡ boundary_count f n + cond (f (suc n)) 1 0 = ap (boundary_count f) (add_one n) ∙ count_more f n in
@@ -60,44 +52,6 @@ count_grows f m (suc n) =
   where
     move : (n m : ℕ) → suc n + m ≡ n + m + 1
     move n m = omega arith
-
-no_more : (f : ℕ → Bool) (m n : ℕ) → boundary_count f m ≡ boundary_count f (suc n) → boundary_count f m ≤ boundary_count f n → (f (suc n) ≡ false) × (boundary_count f m ≡ boundary_count f n)
-no_more f m n e l = (go (f (suc n)) (omega (arith, count_more f n, e, l)), omega (arith, count_more f n, e, l))
-  where
-    go : (b : Bool) → cond b 1 0 ≤ 0 → b ≡ false
-    go true h = absurd (omega (arith, h))
-    go false h = refl
-
-walk_up :
-    {X : Type 0} (f : ℕ → Bool) (g : ℕ → X) → ((b : ℕ) → f (suc b) ≡ false → g b ≡ g (suc b))
-    → (u d : ℕ) → boundary_count f u ≡ boundary_count f (d + u) → g u ≡ g (d + u)
-walk_up f g step u zero e = ap g (none u)
-  where
-    none : (u : ℕ) → u ≡ 0 + u
-    none u = omega arith
-walk_up f g step u (suc d) e =
-    let more = no_more f u (d + u) (e ∙ ap (boundary_count f) (over d u)) (count_grows f u d) in
-    walk_up f g step u d more.1 ∙ (step (d + u) more.0 ∙ ap g (sym (over d u)))
-  where
-    over : (d u : ℕ) → suc d + u ≡ suc (d + u)
-    over d u = omega arith
-
--- What changes at boundaries alone is one over each class.
-pub same_in_class :
-    {X : Type 0} (f : ℕ → Bool) (g : ℕ → X) → ((b : ℕ) → f (suc b) ≡ false → g b ≡ g (suc b))
-    → (u v : ℕ) → boundary_count f u ≡ boundary_count f v → g u ≡ g v
-same_in_class f g step u v e = go (cases_lt u v)
-  where
-    gap : (m n : ℕ) → m ≤ n → n ≡ (n - m) + m
-    gap m n h = omega (arith, h)
-
-    go : (u < v) ⊎ (v ≤ u) → g u ≡ g v
-    go (inl h) =
-        let d = gap u v (omega (arith, h)) in
-        walk_up f g step u (v - u) (e ∙ ap (boundary_count f) d) ∙ ap g (sym d)
-    go (inr h) =
-        let d = gap v u h in
-        sym (walk_up f g step v (u - v) (sym e ∙ ap (boundary_count f) d) ∙ ap g (sym d))
 
 -- What is counted up to a byte, from what is counted up to the byte before it.
 pub count_next : (f : ℕ → Bool) (k c : ℕ) → 1 ≤ k → c ≡ boundary_count f (k - 1) → c + cond (f k) 1 0 ≡ boundary_count f k

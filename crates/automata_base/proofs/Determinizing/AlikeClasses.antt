@@ -1,18 +1,67 @@
--- Bytes of one class are alike.
-use Rattle.std.proofs.Common.{ℕ, zero, suc, ◌≡◌, ◌+◌, ◌-◌, ◌<◌, ◌≤◌, ◌⊎◌, ◌&&◌, ◌||◌, Bool, true, false, not, cond, eqb, leb, List, [], ◌∷◌, length, get_or, Option, Some, None, refl, sym, ap, ◌∙◌, inl, inr, subst, true≢false, arith}
-use Rattle.std.proofs.lemmas.Bool.{or_parts, or_from, eqb-true}
+-- The automaton tells no byte from another of its class.
+use Rattle.std.proofs.Common.{ℕ, zero, suc, ◌≡◌, ◌+◌, ◌-◌, ◌<◌, ◌≤◌, ◌⊎◌, ◌||◌, Bool, true, false, not, cond, eqb, List, [], ◌∷◌, get_or, Option, Some, None, refl, sym, ap, ◌∙◌, inl, inr, true≢false, arith}
+use Rattle.std.proofs.lemmas.Bool.{or_parts, eqb-true, cases_lt}
 use Rattle.std.proofs.lemmas.Grind.{common_steps}
 use Rattle.automata_base.specs.declared.nfa.thompson.State.{State}
 use Rattle.automata_base.specs.declared.nfa.thompson.State.TheVariants as is
 use Rattle.automata_base.specs.declared.nfa.thompson.Transition.{Transition}
-use Rattle.automata_base.specs.Classes.{is_quit, bounds, transitions_bound, targets_bound, quits_bound, look_bounds, state_bounds, states_bound, is_boundary, is_line_look, HasLook, AreAlike, class_of}
+use Rattle.automata_base.specs.Alike.{is_line_look, IsAlike}
+use Rattle.automata_base.specs.Classes.{is_quit, differ, bounds, transitions_bound, targets_bound, quits_bound, look_bounds, state_bounds, states_bound, is_boundary, boundary_count, class_of}
 use Rattle.automata_base.specs.Computed.{any_node, looks_at}
 use Rattle.automata_base.specs.Lists.{nth}
-use Rattle.automata_base.specs.Looks.{Look, Start, End, StartLF, EndLF, StartCRLF, EndCRLF, WordAscii, WordAsciiNegate, WordUnicode, WordUnicodeNegate, WordStartAscii, WordEndAscii, WordStartUnicode, WordEndUnicode, WordStartHalfAscii, WordEndHalfAscii, WordStartHalfUnicode, WordEndHalfUnicode, within, is_word_byte, differ}
-use Rattle.automata_base.specs.Nfa.{Node, Range, takes, takes_at, takes_in, node_or_fail}
+use Rattle.automata_base.specs.Cuts.{MatchKind}
+use Rattle.automata_base.specs.Looks.{Look, Start, End, StartLF, EndLF, StartCRLF, EndCRLF, within, is_word_byte}
+use Rattle.automata_base.specs.Nfa.{takes, takes_at, takes_in, node_or_fail}
 use Rattle.automata_base.specs.Nodes.{Automaton, nfa_of, node_of, nodes_of, ranges_of, dense_from}
 use Rattle.automata_base.specs.Passes.{is_word_look, is_crlf_look}
-use Rattle.automata_base.proofs.Boundaries.{same_in_class}
+use Rattle.automata_base.specs.Powerset.{Powerset}
+use Rattle.automata_base.specs.Steps.{successor, NeedsOwnLooks}
+use Rattle.automata_base.proofs.Determinizing.Alike.{alike_step}
+use Rattle.automata_base.proofs.Values.Boundaries.{count_none, count_grows}
+
+count_more : (f : ℕ → Bool) (n : ℕ) → boundary_count f (suc n) ≡ boundary_count f n + cond (f (suc n)) 1 0
+unfolding boundary_count
+count_more f n = refl
+
+no_more :
+    (f : ℕ → Bool) (m n : ℕ) → boundary_count f m ≡ boundary_count f (suc n) → boundary_count f m ≤ boundary_count f n
+    → (f (suc n) ≡ false) × (boundary_count f m ≡ boundary_count f n)
+no_more f m n e l = (go (f (suc n)) (omega (arith, count_more f n, e, l)), omega (arith, count_more f n, e, l))
+  where
+    go : (b : Bool) → cond b 1 0 ≤ 0 → b ≡ false
+    go true h = absurd (omega (arith, h))
+    go false h = refl
+
+walk_up :
+    {X : Type 0} (f : ℕ → Bool) (g : ℕ → X) → ((b : ℕ) → f (suc b) ≡ false → g b ≡ g (suc b))
+    → (u d : ℕ) → boundary_count f u ≡ boundary_count f (d + u) → g u ≡ g (d + u)
+walk_up f g step u zero e = ap g (none u)
+  where
+    none : (u : ℕ) → u ≡ 0 + u
+    none u = omega arith
+walk_up f g step u (suc d) e =
+    let more = no_more f u (d + u) (e ∙ ap (boundary_count f) (over d u)) (count_grows f u d) in
+    walk_up f g step u d more.1 ∙ (step (d + u) more.0 ∙ ap g (sym (over d u)))
+  where
+    over : (d u : ℕ) → suc d + u ≡ suc (d + u)
+    over d u = omega arith
+
+-- What changes at boundaries alone is one over each class.
+pub same_in_class :
+    {X : Type 0} (f : ℕ → Bool) (g : ℕ → X) → ((b : ℕ) → f (suc b) ≡ false → g b ≡ g (suc b))
+    → (u v : ℕ) → boundary_count f u ≡ boundary_count f v → g u ≡ g v
+same_in_class f g step u v e = go (cases_lt u v)
+  where
+    gap : (m n : ℕ) → m ≤ n → n ≡ (n - m) + m
+    gap m n h = omega (arith, h)
+
+    go : (u < v) ⊎ (v ≤ u) → g u ≡ g v
+    go (inl h) =
+        let d = gap u v (omega (arith, h)) in
+        walk_up f g step u (v - u) (e ∙ ap (boundary_count f) d) ∙ ap g (sym d)
+    go (inr h) =
+        let d = gap v u h in
+        sym (walk_up f g step v (u - v) (sym e ∙ ap (boundary_count f) d) ∙ ap g (sym d))
 
 -- The next byte has no boundary of a range before it: both are in the range, or both are not.
 within_next : (lo hi b : ℕ) → bounds lo hi (suc b) ≡ false → within lo hi b ≡ within lo hi (suc b)
@@ -25,7 +74,9 @@ eqb_next k b h =
     let p = or_parts (eqb (suc b) k) (eqb (suc b) (k + 1)) h in
     grind (arith, common_steps, p.0, p.1)
 
-ranges_next : (ts : List Transition) (b : ℕ) → transitions_bound ts (suc b) ≡ false → takes_in (ranges_of ts) b ≡ takes_in (ranges_of ts) (suc b)
+ranges_next :
+    (ts : List Transition) (b : ℕ) → transitions_bound ts (suc b) ≡ false
+    → takes_in (ranges_of ts) b ≡ takes_in (ranges_of ts) (suc b)
 ranges_next [] b h = refl
 ranges_next (t ∷ ts) b h =
     let p = or_parts (bounds t.lo t.hi (suc b)) (transitions_bound ts (suc b)) h in
@@ -165,11 +216,15 @@ word_byte_next b h =
 -- What a byte without a boundary says.
 parts_of :
     (a : Automaton) (quits : List Bool) (on : Bool) (b : ℕ) → is_boundary a quits on b ≡ false
-    → (states_bound a.flags.line_terminator a.states b ≡ false) × (quits_bound quits b ≡ false)
+    → (on ≡ true) × (states_bound a.flags.line_terminator a.states b ≡ false) × (quits_bound quits b ≡ false)
 unfolding is_boundary
 parts_of a quits on b h =
     let p = or_parts (not on) (states_bound a.flags.line_terminator a.states b || quits_bound quits b) h in
-    or_parts (states_bound a.flags.line_terminator a.states b) (quits_bound quits b) p.1
+    let q = or_parts (states_bound a.flags.line_terminator a.states b) (quits_bound quits b) p.1 in (is_on on p.0, q.0, q.1)
+  where
+    is_on : (x : Bool) → not x ≡ false → x ≡ true
+    is_on true e = refl
+    is_on false e = absurd (true≢false e)
 
 differ_false : (x y : Bool) → differ x y ≡ false → y ≡ x
 differ_false true true h = refl
@@ -184,20 +239,18 @@ quit_next quits b h =
     less : (b : ℕ) → b ≡ suc b - 1
     less b = omega arith
 
-pub alike :
+-- Bytes of one class are alike.
+pub class_alike :
     (a : Automaton) (quits : List Bool) (on : Bool) (u v : ℕ)
-    → u < 256 → v < 256 → class_of a quits on u ≡ class_of a quits on v → AreAlike a quits u v
-alike a quits on u v hu hv e = record {
-  quit = same_in_class f (is_quit quits) (λ b h. quit_next quits b (parts_of a quits on (suc b) h).1) u v e;
-  takes = λ q. same_in_class f (takes (nfa_of a) q) (λ b h. takes_next t a.states q b (parts_of a quits on (suc b) h).0) u v e;
+    → class_of a quits on u ≡ class_of a quits on v → IsAlike a u v
+class_alike a quits on u v e = record {
+  takes = λ q. same_in_class f (takes (nfa_of a) q) (λ b h. takes_next t a.states q b (states b h)) u v e;
   line = λ has. same_in_class f (λ b. eqb b t)
-      (λ b h. eqb_next t b (states_look is_line_look _ line_next t a.states (suc b) has (parts_of a quits on (suc b) h).0)) u v e;
-  carriage_return = λ has. same_in_class f (λ b. eqb b 13)
-      (λ b h. eqb_next 13 b (or_parts (bounds 13 13 (suc b)) (bounds 10 10 (suc b)) (states_look is_crlf_look _ crlf_next t a.states (suc b) has (parts_of a quits on (suc b) h).0)).0) u v e;
-  line_feed = λ has. same_in_class f (λ b. eqb b 10)
-      (λ b h. eqb_next 10 b (or_parts (bounds 13 13 (suc b)) (bounds 10 10 (suc b)) (states_look is_crlf_look _ crlf_next t a.states (suc b) has (parts_of a quits on (suc b) h).0)).1) u v e;
+      (λ b h. eqb_next t b (states_look is_line_look _ line_next t a.states (suc b) has (states b h))) u v e;
+  carriage_return = λ has. same_in_class f (λ b. eqb b 13) (λ b h. eqb_next 13 b (crlf has b h).0) u v e;
+  line_feed = λ has. same_in_class f (λ b. eqb b 10) (λ b h. eqb_next 10 b (crlf has b h).1) u v e;
   word = λ has. same_in_class f is_word_byte
-      (λ b h. word_byte_next b (states_look is_word_look _ word_next t a.states (suc b) has (parts_of a quits on (suc b) h).0)) u v e;
+      (λ b h. word_byte_next b (states_look is_word_look _ word_next t a.states (suc b) has (states b h))) u v e;
 }
   where
     f : ℕ → Bool
@@ -205,3 +258,38 @@ alike a quits on u v hu hv e = record {
 
     t : ℕ
     t = a.flags.line_terminator
+
+    states : (b : ℕ) → f (suc b) ≡ false → states_bound t a.states (suc b) ≡ false
+    states b h = (parts_of a quits on (suc b) h).1
+
+    crlf :
+        any_node is_crlf_look (nodes_of a.states) ≡ true → (b : ℕ) → f (suc b) ≡ false
+        → (bounds 13 13 (suc b) ≡ false) × (bounds 10 10 (suc b) ≡ false)
+    crlf has b h =
+        or_parts (bounds 13 13 (suc b)) (bounds 10 10 (suc b)) (states_look is_crlf_look _ crlf_next t a.states (suc b) has (states b h))
+
+-- So they lead a powerset state alike.
+pub class_step :
+    (a : Automaton) (quits : List Bool) (on : Bool) (kind : MatchKind) (q : Powerset) (u v : ℕ)
+    → class_of a quits on u ≡ class_of a quits on v → NeedsOwnLooks a q
+    → successor a kind q (Some u) ≡ successor a kind q (Some v)
+class_step a quits on kind q u v e own = alike_step a kind q u v (class_alike a quits on u v e) own
+
+-- Where a class has a quit byte all its bytes are quit bytes.
+pub class_quits :
+    (a : Automaton) (quits : List Bool) (on : Bool) (u v : ℕ)
+    → class_of a quits on u ≡ class_of a quits on v → is_quit quits u ≡ is_quit quits v
+class_quits a quits on u v e =
+    same_in_class (is_boundary a quits on) (is_quit quits) (λ b h. quit_next quits b (parts_of a quits on (suc b) h).2) u v e
+
+-- With classes off a byte is its own class.
+each_bounds : (a : Automaton) (quits : List Bool) (b : ℕ) → is_boundary a quits false b ≡ true
+unfolding is_boundary
+each_bounds a quits b = refl
+
+pub class_off : (a : Automaton) (quits : List Bool) (byte : ℕ) → class_of a quits false byte ≡ byte
+class_off a quits zero = count_none (is_boundary a quits false)
+class_off a quits (suc byte) =
+    let again = class_off a quits byte in
+    let more = count_more (is_boundary a quits false) byte in
+    let one = ap {B = ℕ} (λ x. cond x 1 0) (each_bounds a quits (suc byte)) in omega (arith, again, more, one)
