@@ -1,7 +1,10 @@
 -- The accounted bytes of a cache, and the capacity that it needs.
 use Rattle.std.specs.Prelude.{ℕ, ◌+◌, ◌-◌, ◌*◌, Bool, if◌then◌else◌, length, max}
 use Rattle.automata_base.specs.Nodes.{Automaton, stack_room}
-use Rattle.automata_base.specs.Starts.{max_cost}
+
+-- The greatest cost of a powerset state.
+abbrev pub max_cost : Automaton → ℕ
+max_cost a = 13 + 4 * length a.start_pattern + 5 * length a.states
 
 -- The room for determinisation: two sets of states, the stack of a closure, and one powerset state.
 abbrev pub fixed_cost : Automaton → ℕ

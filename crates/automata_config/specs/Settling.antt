@@ -1,12 +1,11 @@
 -- What a configuration makes of an automaton: a quit set, classes, a capacity; or a refusal.
 use Rattle.std.specs.Prelude.{ℕ, ◌≡◌, ◌+◌, ◌*◌, ◌<◌, ◌≤◌, Bool, true, false, not, ◌&&◌, ◌||◌, nat_le, nat_lt, eqb, if◌then◌else◌, List, [], ◌∷◌, map, Option, Some, None}
 use Rattle.std.specs.List.{list_all, list_any, range_with_len}
-use Rattle.automata_base.specs.Accounting.{start_slots, fixed_cost, minimum_capacity, effective_capacity}
+use Rattle.automata_base.specs.Accounting.{start_slots, max_cost, fixed_cost, minimum_capacity, effective_capacity}
 use Rattle.automata_base.specs.Classes.{is_quit, class_of, class_in, stride_for}
 use Rattle.automata_base.specs.Computed.{any_node}
 use Rattle.automata_base.specs.Looks.{look_index}
 use Rattle.automata_base.specs.Nodes.{Automaton, nfa_of}
-use Rattle.automata_base.specs.Starts.{max_cost}
 use Rattle.automata_base.specs.declared.util.look.Look.{Look}
 use Rattle.automata_base.specs.declared.util.look.Look.TheVariants.{WordUnicode, WordUnicodeNegate, WordStartUnicode, WordEndUnicode, WordStartHalfUnicode, WordEndHalfUnicode}
 use Rattle.automata_config.specs.Options.{Options, starts_for_each_pattern_of, byte_classes_of, unicode_word_boundary_of, quits_of, cache_capacity_of, skip_cache_capacity_check_of}

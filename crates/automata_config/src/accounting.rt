@@ -1,12 +1,11 @@
 ghost use Rattle.std.specs.Prelude.{◌≡◌, ◌≤◌, ◌+◌, ◌*◌, ◌^◌, length};
 ghost use Rattle.automata_base.specs.Accounting as bytes;
-ghost use Rattle.automata_base.specs.Starts as starts;
 
 use automata_base::nfa::thompson::NFA;
 
 /// The greatest cost of a powerset state of the NFA, in accounted bytes.
 pub fn max_cost(nfa: &NFA) -> usize
-    ensures cost { result ≡ starts.max_cost nfa.now }
+    ensures cost { result ≡ bytes.max_cost nfa.now }
     ensures few { result ≤ 2 ^ 31 }
 {
     13 + 4 * pattern_count(nfa) + 5 * nfa.states().len()
