@@ -2,6 +2,7 @@
 use Rattle.std.specs.Prelude.{ℕ, ◌+◌, ◌≤◌, Bool, List, length}
 use Rattle.automata_base.specs.declared.util.search.Anchored.{Anchored}
 
+-- What is searched: the span `start..end` of a haystack. It is done if `start` is past `end`.
 pub record Input : Type 0 where
   pub haystack : List ℕ
   pub start : ℕ

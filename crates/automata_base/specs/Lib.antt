@@ -1,3 +1,5 @@
+pub mod Accounting
+pub mod Alike
 pub mod Answers
 pub mod Automata
 pub mod Checks
@@ -34,8 +36,10 @@ pub mod Sparse
 pub mod StartConfig
 pub mod StartIsRight
 pub mod Starts
+pub mod StepLaws
 pub mod Steps
 pub mod Tapes
+pub mod Telling
 pub mod TruePairs
 pub mod Truths
 pub mod Visits

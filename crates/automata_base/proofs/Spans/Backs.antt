@@ -8,7 +8,7 @@ use Rattle.automata_base.specs.Selections.{Accepts}
 use Rattle.automata_base.proofs.Paths.Searches.{accepting_inside}
 use Rattle.automata_base.proofs.Paths.Orders.{none_some}
 use Rattle.automata_base.specs.Tapes.{IsHaystack, Forward, Backward, forward_tape, reverse_tape, between}
-use Rattle.automata_base.specs.Engines.{Dfa}
+use Rattle.automata_base.specs.Engines.{Engine}
 use Rattle.automata_base.specs.TruePairs.{Joins, IsTruePair}
 use Rattle.automata_base.proofs.Spans.Bytes.{tape_length, forward_length, nth_between}
 use Rattle.automata_base.proofs.Spans.Alike.{path_alike, forward_alike, reverse_alike}
@@ -21,7 +21,7 @@ nth_less (x ∷ xs) (suc i) v e = let g = nth_less xs i v e in omega (arith, g)
 
 -- The chosen end lies in the span.
 pub end_inside :
-    (d : Dfa) (h : List ℕ) (b e : ℕ) (q i pattern : ℕ) (path : List ℕ) → b ≤ e → e ≤ length h
+    (d : Engine) (h : List ℕ) (b e : ℕ) (q i pattern : ℕ) (path : List ℕ) → b ≤ e → e ≤ length h
     → Accepts d.nfa (forward_tape h b e) q i pattern path → b + i ≤ e
 end_inside d h b e q i pattern path l k a =
     let g = accepting_inside d.nfa (forward_tape h b e) q i pattern path a in
@@ -36,7 +36,7 @@ forward_bytes h s e bytes l k o v g = ⊎_elim
 
 -- An accepting path from the anchored start over a part of the span is one over the span.
 pub widen :
-    (d : Dfa) (h : List ℕ) (b e s m pattern : ℕ) → b ≤ s → s + m ≤ e → e ≤ length h
+    (d : Engine) (h : List ℕ) (b e s m pattern : ℕ) → b ≤ s → s + m ≤ e → e ≤ length h
     → Joins Forward d h s (s + m) pattern
     → (path : List ℕ) × (z : ℕ) × IsPathFrom d.nfa (forward_tape h b e) (s - b) [] d.anchored path ((s + m) - b) z
     × (accepts d.nfa z ≡ Some pattern)
@@ -52,7 +52,7 @@ widen d h b e s m pattern l k w j = (
 
 -- And the other way round.
 pub narrow :
-    (d : Dfa) (h : List ℕ) (b e i k pattern z : ℕ) (path : List ℕ) → k ≤ i → b + i ≤ e → e ≤ length h
+    (d : Engine) (h : List ℕ) (b e i k pattern z : ℕ) (path : List ℕ) → k ≤ i → b + i ≤ e → e ≤ length h
     → IsPathFrom d.nfa (forward_tape h b e) k [] d.anchored path i z → accepts d.nfa z ≡ Some pattern
     → Joins Forward d h (b + k) (b + i) pattern
 narrow d h b e i k pattern z path l u w p m = (
@@ -69,7 +69,7 @@ narrow d h b e i k pattern z path l u w p m = (
 
 -- Reverse paths from one end do not see where the span begins.
 pub reverse_same :
-    (d : Dfa) (h : List ℕ) (s s' e m m' pattern : ℕ) (path : List ℕ) → s + m ≤ e → s' + m ≤ e → e ≤ length h → m ≡ m'
+    (d : Engine) (h : List ℕ) (s s' e m m' pattern : ℕ) (path : List ℕ) → s + m ≤ e → s' + m ≤ e → e ≤ length h → m ≡ m'
     → Accepts d.nfa (reverse_tape h s e) d.anchored m pattern path
     → Accepts d.nfa (reverse_tape h s' e) d.anchored m' pattern path
 reverse_same d h s s' e m m' pattern path l k w c a = (
@@ -81,7 +81,7 @@ reverse_same d h s s' e m m' pattern path l k w c a = (
 
 -- Some reverse path goes back to the start.
 pub goes_back :
-    (f r : Dfa) (h : List ℕ) (b i k pattern z : ℕ) (rest : List ℕ) (e : ℕ)
+    (f r : Engine) (h : List ℕ) (b i k pattern z : ℕ) (rest : List ℕ) (e : ℕ)
     → IsTruePair f r → IsHaystack h → k ≤ i → b + i ≤ e → e ≤ length h
     → IsPathFrom f.nfa (forward_tape h b e) k [] f.anchored rest i z → accepts f.nfa z ≡ Some pattern
     → (path : List ℕ) × Accepts r.nfa (reverse_tape h b (b + i)) r.anchored (i - k) pattern path
@@ -98,7 +98,7 @@ goes_back f r h b i k pattern z rest e pair bytes l u w p m = (
 
 -- A reverse path is a forward path from where it ends.
 pub comes_forth :
-    (f r : Dfa) (h : List ℕ) (b i e m pattern : ℕ) (path : List ℕ)
+    (f r : Engine) (h : List ℕ) (b i e m pattern : ℕ) (path : List ℕ)
     → IsTruePair f r → IsHaystack h → b + i ≤ e → e ≤ length h
     → Accepts r.nfa (reverse_tape h b (b + i)) r.anchored m pattern path
     → (m ≤ i)

@@ -9,7 +9,7 @@ use Rattle.automata_base.proofs.Paths.Walks.{walk_run}
 use Rattle.automata_base.proofs.Paths.Sets.{HasWalk, walk_then, in_nth, nth_in}
 use Rattle.automata_base.proofs.Paths.Readings.{sorted_has}
 use Rattle.automata_base.proofs.Paths.Fuels.{AllBelow, closure_right}
-use Rattle.automata_base.specs.Engines.{Dfa, Pattern, HasEmpty, IsSkipping}
+use Rattle.automata_base.specs.Engines.{Engine, Pattern, HasEmpty, IsSkipping}
 use Rattle.automata_base.specs.Answers.{IsSound}
 
 abbrev pub is_match_state : Option ℕ → Bool
@@ -20,10 +20,10 @@ abbrev pub any_match : Nfa → List ℕ → Bool
 any_match n [] = false
 any_match n (q ∷ qs) = is_match_state (accepts n q) || any_match n qs
 
-abbrev pub has_empty : Dfa → Bool
+abbrev pub has_empty : Engine → Bool
 has_empty d = any_match d.nfa (closure_of d.nfa all_true d.starts)
 
-abbrev pub is_skipping : Dfa → Bool
+abbrev pub is_skipping : Engine → Bool
 is_skipping d = d.utf8 && has_empty d
 
 -- An edge and a walk, as a walk.
@@ -66,13 +66,13 @@ any_there n (x ∷ xs) e = go (accepts n x) refl e (any_there n xs)
     go None a e ih = let w = ih e in (w.0, w.1, inr w.2, w.3)
     go (Some p) a e ih = (x, p, inl refl, a)
 
-starts_closure : (d : Dfa) → IsSound d → IsClosure d.nfa all_true d.starts (closure_of d.nfa all_true d.starts)
+starts_closure : (d : Engine) → IsSound d → IsClosure d.nfa all_true d.starts (closure_of d.nfa all_true d.starts)
 starts_closure d s = closure_right d.nfa all_true d.starts s.0 below
   where
     below : AllBelow (length d.nfa.nodes) d.starts
     below y i = let k = in_nth d.starts y i in s.2 (Pattern k.0) y k.1
 
-pub empty_there : (d : Dfa) → IsSound d → HasEmpty d → has_empty d ≡ true
+pub empty_there : (d : Engine) → IsSound d → HasEmpty d → has_empty d ≡ true
 empty_there d s e = any_here d.nfa (closure_of d.nfa all_true d.starts) e.1 e.2 reached e.5
   where
     k : (k : ℕ) × (nth d.starts k ≡ Some e.0)
@@ -84,7 +84,7 @@ empty_there d s e = any_here d.nfa (closure_of d.nfa all_true d.starts) e.1 e.2 
     reached : In e.1 (closure_of d.nfa all_true d.starts)
     reached = (starts_closure d s).0 e.1 (k.0 ∷ w.0) (e.0, k.1, w.1)
 
-pub empty_here : (d : Dfa) → IsSound d → has_empty d ≡ true → HasEmpty d
+pub empty_here : (d : Engine) → IsSound d → has_empty d ≡ true → HasEmpty d
 empty_here d s e = go key.0 key.1
   where
     q : (q p : ℕ) × In q (closure_of d.nfa all_true d.starts) × (accepts d.nfa q ≡ Some p)
@@ -102,7 +102,7 @@ empty_here d s e = go key.0 key.1
 
 -- The computed flag says whether split places are skipped.
 pub skipping_tests :
-    (d : Dfa) → IsSound d → (is_skipping d ≡ true → IsSkipping d) × (is_skipping d ≡ false → IsSkipping d → ⊥)
+    (d : Engine) → IsSound d → (is_skipping d ≡ true → IsSkipping d) × (is_skipping d ≡ false → IsSkipping d → ⊥)
 skipping_tests d s = (there d.utf8 refl, back)
   where
     there : (b : Bool) → d.utf8 ≡ b → (b && has_empty d) ≡ true → IsSkipping d
@@ -115,7 +115,7 @@ skipping_tests d s = (there d.utf8 refl, back)
         both : d.utf8 ≡ true → has_empty d ≡ true → (d.utf8 && has_empty d) ≡ true
         both a b = ap (λ v. v && has_empty d) a ∙ b
 
-pub skips_or_not : (d : Dfa) → IsSound d → IsSkipping d ⊎ (IsSkipping d → ⊥)
+pub skips_or_not : (d : Engine) → IsSound d → IsSkipping d ⊎ (IsSkipping d → ⊥)
 skips_or_not d s = go (is_skipping d) refl
   where
     go : (b : Bool) → is_skipping d ≡ b → IsSkipping d ⊎ (IsSkipping d → ⊥)

@@ -7,11 +7,13 @@ use Rattle.automata_base.specs.Paths.{Tape, IsPath}
 use Rattle.automata_base.specs.Cuts.{MatchKind, All, LeftmostFirst}
 use Rattle.automata_base.specs.Selections.{Accepts, Pair, IsChosen, Selects}
 use Rattle.automata_base.proofs.Paths.Orders.{some_inj, before_irrefl, before_trans, cons_head, cons_tail}
-use Rattle.automata_base.specs.Spans.{IsPathStart, Chooses, Match, IsSpan, in_full, IsMatch, from, IsEmptyAt, IsNext, AreMatches, AreSpans}
+use Rattle.automata_base.specs.Spans.{IsPathStart, Chooses, IsSpan, in_full, IsMatch, from, IsEmptyAt, IsNext, AreMatches, AreSpans}
+use Rattle.automata_base.specs.Matches.{Match}
 use Rattle.automata_base.proofs.Paths.Places.{path_end}
 use Rattle.automata_base.specs.Tapes.{Direction, Forward, Backward, tape_of, forward_tape, is_split}
-use Rattle.automata_base.specs.Engines.{Dfa, Mode, No, Yes, Pattern, first_state, IsSkipping}
-use Rattle.automata_base.specs.Answers.{Input, Half, SelectsFrom, SelectsOver, later, offset_in, ComesTo, IsSplitAnswer, IsAnswer}
+use Rattle.automata_base.specs.Engines.{Engine, Anchored, No, Yes, Pattern, first_state, IsSkipping}
+use Rattle.automata_base.specs.Answers.{Half, SelectsFrom, SelectsOver, later, offset_in, ComesTo, IsSplitAnswer, IsAnswer}
+use Rattle.automata_base.specs.Input.{Input}
 use Rattle.automata_base.proofs.Spans.Starts.{no_pair}
 
 upto_once : (xs ys : List ℕ) → Upto xs ys → Upto ys xs → xs ≡ ys
@@ -62,33 +64,33 @@ sel_once kind earliest n t q (Some a) (Some b) s s' =
     pair_of p i = Some (record { pattern = p; place = i })
 
 pub sel_from_once :
-    (d : Dfa) (earliest : Bool) (t : Tape) (o : Option ℕ) (a b : Option Pair)
+    (d : Engine) (earliest : Bool) (t : Tape) (o : Option ℕ) (a b : Option Pair)
     → SelectsFrom d earliest t o a → SelectsFrom d earliest t o b → a ≡ b
 sel_from_once d earliest t None a b s s' = s ∙ sym s'
 sel_from_once d earliest t (Some q) a b s s' = sel_once d.kind earliest d.nfa t q a b s s'
 
 sel_over_once :
-    (way : Direction) (d : Dfa) (input : Input) (a b : Option Pair)
+    (way : Direction) (d : Engine) (input : Input) (a b : Option Pair)
     → SelectsOver way d input a → SelectsOver way d input b → a ≡ b
 sel_over_once way d input a b s s' =
-    sel_from_once d input.earliest (tape_of way input.haystack input.start input.end) (first_state d input.mode) a b s s'
+    sel_from_once d input.earliest (tape_of way input.haystack input.start input.end) (first_state d input.anchored) a b s s'
 
 same_pair : {x y : Pair} → ◌≡◌ {A = Option Pair} (Some x) (Some y) → x ≡ y
 same_pair e = cc
 
 -- The same span, and the answer there, which ends the search.
-abbrev pub Ends : Direction → Dfa → Input → Option Half → ℕ → Type 0
+abbrev pub Ends : Direction → Engine → Input → Option Half → ℕ → Type 0
 Ends way d input None k =
     (input.end < input.start + k)
     ⊎ (SelectsOver way d (later way k input) None
-    ⊎ (IsSkipping d × (input.mode ≡ No → ⊥) × IsSplitAnswer way d (later way k input)))
+    ⊎ (IsSkipping d × (input.anchored ≡ No → ⊥) × IsSplitAnswer way d (later way k input)))
 Ends way d input (Some half) k =
     (pair : Pair) × (input.start + k ≤ input.end) × SelectsOver way d (later way k input) (Some pair)
     × (IsSkipping d → is_split input.haystack (offset_in way (later way k input) pair.place) ≡ false)
     × (half.pattern ≡ pair.pattern) × (half.offset ≡ offset_in way (later way k input) pair.place)
     × (half.base ≡ (later way k input).start)
 
-ends : (way : Direction) (d : Dfa) (input : Input) (o : Option Half) → IsAnswer way d input o → (k : ℕ) × ComesTo way d input k × Ends way d input o k
+ends : (way : Direction) (d : Engine) (input : Input) (o : Option Half) → IsAnswer way d input o → (k : ℕ) × ComesTo way d input k × Ends way d input o k
 ends way d input None a = (a.0, a.1, a.2)
 ends way d input (Some half) a = (a.0, a.2, (a.1, a.3, a.4, a.5, a.6, a.7, a.8))
 
@@ -98,13 +100,13 @@ haystack_later Backward k input = refl
 
 -- The search goes past no span that ends it.
 no_further :
-    (way : Direction) (d : Dfa) (input : Input) (o : Option Half) (k k' : ℕ)
+    (way : Direction) (d : Engine) (input : Input) (o : Option Half) (k k' : ℕ)
     → Ends way d input o k → ComesTo way d input k' → k < k' → ⊥
-no_further way d input o k k' e c l = go o e (c.1 k l) (⊎_elim (λ (z : k' ≡ 0). absurd (omega (arith, z, l))) (λ (z : IsSkipping d × (input.mode ≡ No)). z) c.0)
+no_further way d input o k k' e c l = go o e (c.1 k l) (⊎_elim (λ (z : k' ≡ 0). absurd (omega (arith, z, l))) (λ (z : IsSkipping d × (input.anchored ≡ No)). z) c.0)
   where
     go :
         (o : Option Half) → Ends way d input o k → (input.start + k ≤ input.end) × IsSplitAnswer way d (later way k input)
-        → IsSkipping d × (input.mode ≡ No) → ⊥
+        → IsSkipping d × (input.anchored ≡ No) → ⊥
     go None (inl m) s z = omega (arith, m, s.0)
     go None (inr (inl m)) s z = no_pair (sel_over_once way d (later way k input) (Some s.1.0) None s.1.1 m)
     go None (inr (inr m)) s z = m.1 z.1
@@ -115,7 +117,7 @@ no_further way d input o k k' e c l = go o e (c.1 k l) (⊎_elim (λ (z : k' ≡
         ∙ (ap₂ (λ v w. is_split v (offset_in way (later way k input) w.place)) (haystack_later way k input) p ∙ m.3 z.0))
 
 same_ends :
-    (way : Direction) (d : Dfa) (input : Input) (o o' : Option Half) (k : ℕ)
+    (way : Direction) (d : Engine) (input : Input) (o o' : Option Half) (k : ℕ)
     → Ends way d input o k → Ends way d input o' k → o ≡ o'
 same_ends way d input None None k e e' = refl
 same_ends way d input (Some a) None k e e' = sym (same_ends' e' e)
@@ -151,7 +153,7 @@ same_ends way d input (Some a) (Some b) k e e' =
 
 -- A search has one answer.
 pub answer_once :
-    (way : Direction) (d : Dfa) (input : Input) (o o' : Option Half) → IsAnswer way d input o → IsAnswer way d input o' → o ≡ o'
+    (way : Direction) (d : Engine) (input : Input) (o o' : Option Half) → IsAnswer way d input o → IsAnswer way d input o' → o ≡ o'
 answer_once way d input o o' a a' = ⊎_elim
     (λ (l : e.0 < e'.0). absurd (no_further way d input o e.0 e'.0 e.2 e'.1 l))
     (λ (l : e'.0 ≤ e.0). ⊎_elim
@@ -180,7 +182,7 @@ prefixes (x ∷ a) (y ∷ b) c d e = go (prefixes a b c d (cons_tail e))
 
 -- A path has one start.
 pub start_once :
-    (d : Dfa) (m : Mode) (t : Tape) (path : List ℕ) (k k' : ℕ) → IsPathStart d m t path k → IsPathStart d m t path k' → k ≡ k'
+    (d : Engine) (m : Anchored) (t : Tape) (path : List ℕ) (k k' : ℕ) → IsPathStart d m t path k → IsPathStart d m t path k' → k ≡ k'
 start_once d No t path k k' s s' = go (prefixes s.0 s'.0 s.1 s'.1 (sym s.2 ∙ s'.2))
   where
     go : (s.0 ≡ s'.0) ⊎ (Begins s.0 s'.0 ⊎ Begins s'.0 s.0) → k ≡ k'
@@ -205,15 +207,15 @@ same_match : {x y : Match} → ◌≡◌ {A = Option Match} (Some x) (Some y) �
 same_match e = cc
 
 -- A span for a forward answer.
-abbrev pub SpanOf : Dfa → Input → Match → Half → Type 0
+abbrev pub SpanOf : Engine → Input → Match → Half → Type 0
 SpanOf d input m half =
     (q i place : ℕ) × (path : List ℕ)
-    × (first_state d input.mode ≡ Some q) × (half.offset ≡ half.base + i)
+    × (first_state d input.anchored ≡ Some q) × (half.offset ≡ half.base + i)
     × Chooses d input.earliest (forward_tape input.haystack half.base input.end) q i half.pattern path
-    × IsPathStart d input.mode (forward_tape input.haystack half.base input.end) path place
+    × IsPathStart d input.anchored (forward_tape input.haystack half.base input.end) path place
     × (m.pattern ≡ half.pattern) × (m.start ≡ half.base + place) × (m.end ≡ half.offset)
 
-span_of_once : (d : Dfa) (input : Input) (half : Half) (m m' : Match) → SpanOf d input m half → SpanOf d input m' half → m ≡ m'
+span_of_once : (d : Engine) (input : Input) (half : Half) (m m' : Match) → SpanOf d input m half → SpanOf d input m' half → m ≡ m'
 span_of_once d input half m m' s s' =
     match_is m m' (s.8 ∙ sym s'.8) (s.9 ∙ (ap (λ v. half.base + v) start ∙ sym s'.9)) (s.10 ∙ sym s'.10)
   where
@@ -232,7 +234,7 @@ span_of_once d input half m m' s s' =
         (there.1 s.1 half.pattern s.3 s.6.0)
 
     start : s.2 ≡ s'.2
-    start = start_once d input.mode t s.3 s.2 s'.2 s.7 (subst (λ v. IsPathStart d input.mode t v s'.2) (sym path_same) s'.7)
+    start = start_once d input.anchored t s.3 s.2 s'.2 s.7 (subst (λ v. IsPathStart d input.anchored t v s'.2) (sym path_same) s'.7)
 
     match_is : (a b : Match) → a.pattern ≡ b.pattern → a.start ≡ b.start → a.end ≡ b.end → a ≡ b
     match_is a b x y z = ap₂ (λ v w. v w) (ap₂ match_of x y) z
@@ -241,7 +243,7 @@ span_of_once d input half m m' s s' =
         match_of p s e = record { pattern = p; start = s; end = e }
 
 -- An input has one span.
-pub span_once : (d : Dfa) (input : Input) (a b : Option Match) → IsSpan d input a → IsSpan d input b → a ≡ b
+pub span_once : (d : Engine) (input : Input) (a b : Option Match) → IsSpan d input a → IsSpan d input b → a ≡ b
 span_once d input None None s s' = refl
 span_once d input None (Some b) s s' = absurd (no_half (answer_once Forward d input None (Some s'.0) s s'.5))
 span_once d input (Some a) None s s' = absurd (no_half (answer_once Forward d input None (Some s.0) s' s.5))
@@ -294,16 +296,16 @@ matches_once Finds input start last (m ∷ ms) (m' ∷ ms') once s s' =
     e = next_some Finds input start last m m' once s.0 s'.0
 
 -- An input has one list of spans.
-pub spans_once : (d : Dfa) (input : Input) (ms ms' : List Match) → AreSpans d input ms → AreSpans d input ms' → ms ≡ ms'
+pub spans_once : (d : Engine) (input : Input) (ms ms' : List Match) → AreSpans d input ms → AreSpans d input ms' → ms ≡ ms'
 spans_once d input ms ms' s s' =
     matches_once (IsSpan d) input input.start None ms ms' (λ input a b. span_once d input a b) s s'
 
 -- A search that does not skip is made once.
-plain : (way : Direction) (d : Dfa) (input : Input) (k : ℕ) → (IsSkipping d → ⊥) → ComesTo way d input k → k ≡ 0
-plain way d input k f c = ⊎_elim (λ (z : k ≡ 0). z) (λ (z : IsSkipping d × (input.mode ≡ No)). absurd (f z.0)) c.0
+plain : (way : Direction) (d : Engine) (input : Input) (k : ℕ) → (IsSkipping d → ⊥) → ComesTo way d input k → k ≡ 0
+plain way d input k f c = ⊎_elim (λ (z : k ≡ 0). z) (λ (z : IsSkipping d × (input.anchored ≡ No)). absurd (f z.0)) c.0
 
 clash_from :
-    (d : Dfa) (v w : Bool) (t : Tape) (o : Option ℕ) (pair : Pair) → SelectsFrom d v t o None → SelectsFrom d w t o (Some pair) → ⊥
+    (d : Engine) (v w : Bool) (t : Tape) (o : Option ℕ) (pair : Pair) → SelectsFrom d v t o None → SelectsFrom d w t o (Some pair) → ⊥
 clash_from d v w t None pair s s' = no_pair s'
 clash_from d v w t (Some q) pair s s' = s pair.place pair.pattern s'.0 s'.1
 
@@ -311,7 +313,7 @@ abbrev pub with_earliest : Bool → Input → Input
 with_earliest v input = record input { earliest = v }
 
 clash :
-    (d : Dfa) (v w : Bool) (input : Input) (half : Half) → (IsSkipping d → ⊥)
+    (d : Engine) (v w : Bool) (input : Input) (half : Half) → (IsSkipping d → ⊥)
     → IsAnswer Forward d (with_earliest v input) None → IsAnswer Forward d (with_earliest w input) (Some half) → ⊥
 clash d v w input half f a b = go a.2
   where
@@ -324,18 +326,18 @@ clash d v w input half f a b = go a.2
     go :
         (input.end < input.start + a.0)
         ⊎ (SelectsOver Forward d (later Forward a.0 (with_earliest v input)) None
-        ⊎ (IsSkipping d × (input.mode ≡ No → ⊥) × IsSplitAnswer Forward d (later Forward a.0 (with_earliest v input))))
+        ⊎ (IsSkipping d × (input.anchored ≡ No → ⊥) × IsSplitAnswer Forward d (later Forward a.0 (with_earliest v input))))
         → ⊥
     go (inl l) = omega (arith, l, zero_a, zero_b, b.3)
     go (inr (inl s)) =
-        clash_from d v w (forward_tape input.haystack (input.start + 0) input.end) (first_state d input.mode) b.1
+        clash_from d v w (forward_tape input.haystack (input.start + 0) input.end) (first_state d input.anchored) b.1
         (subst (λ x. SelectsOver Forward d (later Forward x (with_earliest v input)) None) zero_a s)
         (subst (λ x. SelectsOver Forward d (later Forward x (with_earliest w input)) (Some b.1)) zero_b b.4)
     go (inr (inr s)) = f s.0
 
 -- Where the input is not earliest or nothing is skipped, there is a match exactly if the search in full has one.
 pub match_iff_find :
-    (d : Dfa) (input : Input) (truth : Bool) (answer : Option Match)
+    (d : Engine) (input : Input) (truth : Bool) (answer : Option Match)
     → (input.earliest ≡ false) ⊎ (IsSkipping d → ⊥) → IsMatch d input truth → IsSpan d input answer → truth ≡ is_some answer
 match_iff_find d input truth answer premise m s = m.2 ∙ go answer s m.0 m.1 premise
   where

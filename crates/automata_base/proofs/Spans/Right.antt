@@ -5,8 +5,9 @@ use Rattle.automata_base.proofs.Paths.Searches.{accepting_inside}
 use Rattle.automata_base.proofs.Paths.Places.{path_grows}
 use Rattle.automata_base.specs.Tapes.{IsHaystack, Forward, Backward, forward_tape, reverse_tape, is_split}
 use Rattle.automata_base.specs.Selections.{Pair, IsFarthest}
-use Rattle.automata_base.specs.Engines.{Dfa, Mode, No, Yes, Pattern, IsAlwaysStartAnchored, IsLazyLoop, SkipsLazily}
-use Rattle.automata_base.specs.Answers.{Input, Half, IsAnswer}
+use Rattle.automata_base.specs.Engines.{Engine, Anchored, No, Yes, Pattern, IsAlwaysStartAnchored, IsLazyLoop, SkipsLazily}
+use Rattle.automata_base.specs.Answers.{Half, IsAnswer}
+use Rattle.automata_base.specs.Input.{Input}
 use Rattle.automata_base.specs.TruePairs.{IsTruePair, KeepsUtf8}
 use Rattle.automata_base.specs.Spans.{IsPathStart, Chooses, IsSpan, IsShort, back, FindsStart, Outcome, Found, NotAPair, IsTrySearch, FindsSpan}
 use Rattle.automata_base.proofs.Spans.Chosen.{StartsAt, starts_at, lazy_start, same_start}
@@ -17,20 +18,20 @@ no_half : {x : Half} → ◌≡◌ {A = Option Half} None (Some x) → ⊥
 no_half e = cc
 
 -- An anchored path starts at its first place.
-pub anchored_start : (d : Dfa) (m : Mode) (t : Tape) (path : List ℕ) → (m ≡ No → ⊥) → IsPathStart d m t path 0
+pub anchored_start : (d : Engine) (m : Anchored) (t : Tape) (path : List ℕ) → (m ≡ No → ⊥) → IsPathStart d m t path 0
 anchored_start d No t path f = absurd (f refl)
 anchored_start d Yes t path f = refl
 anchored_start d (Pattern k) t path f = refl
 
 -- A chosen path of mode No over a lazy loop.
-abbrev pub Looped : Dfa → Input → Half → (i : ℕ) → List ℕ → Type 0
+abbrev pub Looped : Engine → Input → Half → (i : ℕ) → List ℕ → Type 0
 Looped d input half i path =
     (k : ℕ) × (rest : List ℕ) × StartsAt d (forward_tape input.haystack half.base input.end) k i half.pattern path rest
-    × (k ≤ i) × IsPathStart d input.mode (forward_tape input.haystack half.base input.end) path k
+    × (k ≤ i) × IsPathStart d input.anchored (forward_tape input.haystack half.base input.end) path k
 
 looped :
-    (d : Dfa) (x : ℕ) (input : Input) (half : Half) (q i : ℕ) (path : List ℕ)
-    → IsLazyLoop d x → IsHaystack input.haystack → input.end ≤ length input.haystack → input.mode ≡ No
+    (d : Engine) (x : ℕ) (input : Input) (half : Half) (q i : ℕ) (path : List ℕ)
+    → IsLazyLoop d x → IsHaystack input.haystack → input.end ≤ length input.haystack → input.anchored ≡ No
     → Answered d input half q i path → Looped d input half i path
 looped d x input half q i path loop bytes w m a = (
   s.0,
@@ -54,46 +55,46 @@ looped d x input half q i path loop bytes w m a = (
 
 -- Where no reverse search is made, the chosen path starts at the base.
 pub short_start :
-    (d : Dfa) (input : Input) (half : Half) (q i : ℕ) (path : List ℕ)
+    (d : Engine) (input : Input) (half : Half) (q i : ℕ) (path : List ℕ)
     → SkipsLazily d → IsHaystack input.haystack → input.end ≤ length input.haystack
     → Answered d input half q i path → IsShort d input half
-    → IsPathStart d input.mode (forward_tape input.haystack half.base input.end) path 0
-short_start d input half q i path lazy bytes w a short = go (mode_cases input.mode) lazy short
+    → IsPathStart d input.anchored (forward_tape input.haystack half.base input.end) path 0
+short_start d input half q i path lazy bytes w a short = go (mode_cases input.anchored) lazy short
   where
     t : Tape
     t = forward_tape input.haystack half.base input.end
 
-    same : input.mode ≡ No → IsAlwaysStartAnchored d → IsPathStart d input.mode t path 0
+    same : input.anchored ≡ No → IsAlwaysStartAnchored d → IsPathStart d input.anchored t path 0
     same m e = subst (λ v. IsPathStart d v t path 0) (sym m) (same_start d t path e)
 
     go :
-        (input.mode ≡ No) ⊎ (input.mode ≡ No → ⊥) → SkipsLazily d → IsShort d input half → IsPathStart d input.mode t path 0
-    go (inr f) lazy short = anchored_start d input.mode t path f
+        (input.anchored ≡ No) ⊎ (input.anchored ≡ No → ⊥) → SkipsLazily d → IsShort d input half → IsPathStart d input.anchored t path 0
+    go (inr f) lazy short = anchored_start d input.anchored t path f
     go (inl m) (inl e) short = same m e
     go (inl m) (inr loop) (inr (inl f)) = absurd (f m)
     go (inl m) (inr loop) (inr (inr e)) = same m e
     go (inl m) (inr loop) (inl e) =
         let c = looped d loop.0 input half q i path loop.1 bytes w m a in
-        subst (λ v. IsPathStart d input.mode t path v) (omega (arith, c.3, e, a.1)) c.4
+        subst (λ v. IsPathStart d input.anchored t path v) (omega (arith, c.3, e, a.1)) c.4
 
 -- The chosen path's start, and that the reverse search finds it.
-abbrev pub StartFound : Dfa → Dfa → Input → Half → List ℕ → Type 0
+abbrev pub StartFound : Engine → Engine → Input → Half → List ℕ → Type 0
 StartFound f r input half path =
-    (place : ℕ) × IsPathStart f input.mode (forward_tape input.haystack half.base input.end) path place
+    (place : ℕ) × IsPathStart f input.anchored (forward_tape input.haystack half.base input.end) path place
     × (half.base + place ≤ half.offset)
     × ((answer : Option Half) → IsAnswer Backward r (back input half) answer
     → (found : Half) × (answer ≡ Some found) × (found.offset ≡ half.base + place))
 
 pub start_found :
-    (f r : Dfa) (input : Input) (half : Half) (q i : ℕ) (path : List ℕ)
+    (f r : Engine) (input : Input) (half : Half) (q i : ℕ) (path : List ℕ)
     → IsTruePair f r → KeepsUtf8 Forward f → IsHaystack input.haystack → input.end ≤ length input.haystack
     → Answered f input half q i path → (IsShort f input half → ⊥) → StartFound f r input half path
-start_found f r input half q i path pair keeps bytes w a long = go (mode_cases input.mode) pair.4
+start_found f r input half q i path pair keeps bytes w a long = go (mode_cases input.anchored) pair.4
   where
     h : List ℕ
     h = input.haystack
 
-    go : (input.mode ≡ No) ⊎ (input.mode ≡ No → ⊥) → SkipsLazily f → StartFound f r input half path
+    go : (input.anchored ≡ No) ⊎ (input.anchored ≡ No → ⊥) → SkipsLazily f → StartFound f r input half path
     go (inr g) lazy = absurd (long (inr (inl g)))
     go (inl m) (inl e) = absurd (long (inr (inr e)))
     go (inl m) (inr loop) = (c.0, c.4, omega (arith, c.3, a.1), finds)
@@ -126,7 +127,7 @@ start_found f r input half q i path pair keeps bytes w a long = go (mode_cases i
 -- Over a true pair under the UTF-8 promise a search tells the span of the chosen path, and never that the two are no
 -- pair.
 pub span_right :
-    (f r : Dfa) (input : Input) (outcome : Outcome)
+    (f r : Engine) (input : Input) (outcome : Outcome)
     → IsTruePair f r → KeepsUtf8 Forward f → IsHaystack input.haystack → input.end ≤ length input.haystack
     → IsTrySearch f r input outcome → FindsSpan f input outcome
 span_right f r input (Found None) pair keeps bytes w s = (None, refl, s)
@@ -186,14 +187,14 @@ span_right f r input (Found (Some m)) pair keeps bytes w s = (Some m, refl, go s
 -- The farthest place that a reverse search finds is that start, whatever the order of its paths, so also where a cycle
 -- of the reverse NFA passes a look; and with no promise on UTF-8.
 pub far_start :
-    (f r : Dfa) (input : Input) (half : Half) (q i : ℕ) (path : List ℕ) (answer : Option Pair)
+    (f r : Engine) (input : Input) (half : Half) (q i : ℕ) (path : List ℕ) (answer : Option Pair)
     → IsTruePair f r → IsHaystack input.haystack → input.end ≤ length input.haystack
     → Answered f input half q i path → (IsShort f input half → ⊥)
     → IsFarthest r.nfa (reverse_tape input.haystack half.base half.offset) r.anchored answer
     → (pair : Pair) × (answer ≡ Some pair)
-    × IsPathStart f input.mode (forward_tape input.haystack half.base input.end) path (half.offset - pair.place - half.base)
+    × IsPathStart f input.anchored (forward_tape input.haystack half.base input.end) path (half.offset - pair.place - half.base)
     × (half.base ≤ half.offset - pair.place)
-far_start f r input half q i path answer pair bytes w a long far = go (mode_cases input.mode) pair.4
+far_start f r input half q i path answer pair bytes w a long far = go (mode_cases input.anchored) pair.4
   where
     h : List ℕ
     h = input.haystack
@@ -201,16 +202,16 @@ far_start f r input half q i path answer pair bytes w a long far = go (mode_case
     goal : Type 0
     goal =
         (pair : Pair) × (answer ≡ Some pair)
-        × IsPathStart f input.mode (forward_tape h half.base input.end) path (half.offset - pair.place - half.base)
+        × IsPathStart f input.anchored (forward_tape h half.base input.end) path (half.offset - pair.place - half.base)
         × (half.base ≤ half.offset - pair.place)
 
-    go : (input.mode ≡ No) ⊎ (input.mode ≡ No → ⊥) → SkipsLazily f → goal
+    go : (input.anchored ≡ No) ⊎ (input.anchored ≡ No → ⊥) → SkipsLazily f → goal
     go (inr g) lazy = absurd (long (inr (inl g)))
     go (inl m) (inl e) = absurd (long (inr (inr e)))
     go (inl m) (inr loop) = (
       p.0,
       p.1,
-      subst (λ v. IsPathStart f input.mode (forward_tape h half.base input.end) path v) (omega (arith, p.2, c.3, a.1)) c.4,
+      subst (λ v. IsPathStart f input.anchored (forward_tape h half.base input.end) path v) (omega (arith, p.2, c.3, a.1)) c.4,
       omega (arith, p.2, c.3, a.1),
     )
       where

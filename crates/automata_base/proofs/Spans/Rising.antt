@@ -5,10 +5,12 @@ use Rattle.automata_base.proofs.Paths.Orders.{some_inj}
 use Rattle.automata_base.proofs.Paths.Places.{path_grows, resume}
 use Rattle.automata_base.proofs.Paths.Searches.{accepting_inside}
 use Rattle.automata_base.specs.Tapes.{IsHaystack, Forward, Backward, forward_tape, reverse_tape}
-use Rattle.automata_base.specs.Engines.{Dfa, Mode, No, Yes, Pattern, first_state}
-use Rattle.automata_base.specs.Answers.{Input, Half, IsAnswer}
+use Rattle.automata_base.specs.Engines.{Engine, Anchored, No, Yes, Pattern, first_state}
+use Rattle.automata_base.specs.Answers.{Half, IsAnswer}
+use Rattle.automata_base.specs.Input.{Input}
 use Rattle.automata_base.specs.TruePairs.{IsTruePair, KeepsUtf8}
-use Rattle.automata_base.specs.Spans.{IsPathStart, Chooses, Match, IsSpan, FindsStart, Outcome, Found, IsTrySearch, from, IsNext, AreMatches, AreSpans, TryFinds, AreFound, Rise}
+use Rattle.automata_base.specs.Spans.{IsPathStart, Chooses, IsSpan, FindsStart, Outcome, Found, IsTrySearch, from, IsNext, AreMatches, AreSpans, TryFinds, AreFound, Rise}
+use Rattle.automata_base.specs.Matches.{Match}
 use Rattle.automata_base.proofs.Spans.Backs.{end_inside}
 use Rattle.automata_base.proofs.Spans.Bytes.{tape_length}
 use Rattle.automata_base.proofs.Spans.Starts.{Answered, answered, anchored_back, only_once}
@@ -16,7 +18,7 @@ use Rattle.automata_base.proofs.Spans.Right.{span_right}
 
 -- A path starts at no later place than it ends.
 start_inside :
-    (d : Dfa) (m : Mode) (t : Tape) (q i pattern place : ℕ) (earliest : Bool) (path : List ℕ)
+    (d : Engine) (m : Anchored) (t : Tape) (q i pattern place : ℕ) (earliest : Bool) (path : List ℕ)
     → first_state d m ≡ Some q → Chooses d earliest t q i pattern path → IsPathStart d m t path place → place ≤ i
 start_inside d No t q i pattern place earliest path f c s =
     path_grows d.nfa t place on.0 d.anchored s.1 i c.0.0 on.1
@@ -32,12 +34,12 @@ start_inside d Yes t q i pattern place earliest path f c s = omega (arith, s)
 start_inside d (Pattern k) t q i pattern place earliest path f c s = omega (arith, s)
 
 pub span_inside :
-    (d : Dfa) (input : Input) (m : Match) → input.end ≤ length input.haystack → IsSpan d input (Some m)
+    (d : Engine) (input : Input) (m : Match) → input.end ≤ length input.haystack → IsSpan d input (Some m)
     → (input.start ≤ m.start) × (m.start ≤ m.end) × (m.end ≤ input.end)
 span_inside d input m w s =
     let a = answered d input s.0 s.5 in
     let l =
-    start_inside d input.mode (forward_tape input.haystack s.0.base input.end) s.1 s.2 s.0.pattern s.3 input.earliest s.4
+    start_inside d input.anchored (forward_tape input.haystack s.0.base input.end) s.1 s.2 s.0.pattern s.3 input.earliest s.4
     s.6 s.8 s.9 in
     let g =
     end_inside d input.haystack s.0.base input.end s.1 s.2 s.0.pattern s.4 a.3.4 w s.8.0 in
@@ -45,7 +47,7 @@ span_inside d input m w s =
 
 -- A reverse answer lies in its span.
 back_inside :
-    (r : Dfa) (h : List ℕ) (b e : ℕ) (found : Half) → e ≤ length h → IsAnswer Backward r (anchored_back h b e) (Some found)
+    (r : Engine) (h : List ℕ) (b e : ℕ) (found : Half) → e ≤ length h → IsAnswer Backward r (anchored_back h b e) (Some found)
     → (b ≤ found.offset) × (found.offset ≤ e)
 back_inside r h b e found w a =
     let z = only_once r h b e a.0 a.2 in
@@ -55,7 +57,7 @@ back_inside r h b e found w a =
 
 -- Any two DFAs find matches that lie in the span.
 pub try_inside :
-    (f r : Dfa) (input : Input) (m : Match) → input.end ≤ length input.haystack → IsTrySearch f r input (Found (Some m))
+    (f r : Engine) (input : Input) (m : Match) → input.end ≤ length input.haystack → IsTrySearch f r input (Found (Some m))
     → (input.start ≤ m.start) × (m.start ≤ m.end) × (m.end ≤ input.end)
 try_inside f r input m w s = go s.2
   where
@@ -89,10 +91,10 @@ StaysInside Finds =
     (input : Input) (m : Match) → input.end ≤ length input.haystack → Finds input (Some m)
     → (input.start ≤ m.start) × (m.start ≤ m.end) × (m.end ≤ input.end)
 
-pub spans_inside : (d : Dfa) → StaysInside (IsSpan d)
+pub spans_inside : (d : Engine) → StaysInside (IsSpan d)
 spans_inside d input m w s = span_inside d input m w s
 
-pub tries_inside : (f r : Dfa) → StaysInside (TryFinds f r)
+pub tries_inside : (f r : Engine) → StaysInside (TryFinds f r)
 tries_inside f r input m w s = try_inside f r input m w s
 
 -- The next match ends in the span, and past the last end if that is where the iteration stands.
@@ -151,7 +153,7 @@ matches_count Finds input (m ∷ ms) stays w s =
     omega (arith, g, f.0, f.1)
 
 pub spans_rise :
-    (d : Dfa) (input : Input) (ms : List Match)
+    (d : Engine) (input : Input) (ms : List Match)
     → input.end ≤ length input.haystack → AreSpans d input ms
     → Rise input.end None ms × (length ms ≤ suc (input.end - input.start))
 spans_rise d input ms w s =
@@ -159,7 +161,7 @@ spans_rise d input ms w s =
 
 -- So too for two DFAs that are no pair.
 pub found_rise :
-    (f r : Dfa) (input : Input) (ms : List Match)
+    (f r : Engine) (input : Input) (ms : List Match)
     → input.end ≤ length input.haystack → AreFound f r input ms
     → Rise input.end None ms × (length ms ≤ suc (input.end - input.start))
 found_rise f r input ms w s = (
@@ -169,7 +171,7 @@ found_rise f r input ms w s = (
 
 -- Over a true pair under the UTF-8 promise what is found is the spans.
 next_right :
-    (f r : Dfa) (input : Input) (start : ℕ) (last : Option ℕ) (o : Option Match)
+    (f r : Engine) (input : Input) (start : ℕ) (last : Option ℕ) (o : Option Match)
     → IsTruePair f r → KeepsUtf8 Forward f → IsHaystack input.haystack → input.end ≤ length input.haystack
     → IsNext (TryFinds f r) input start last o → IsNext (IsSpan f) input start last o
 next_right f r input start last o pair keeps bytes w s = go o s
@@ -189,7 +191,7 @@ next_right f r input start last o pair keeps bytes w s = go o s
     go (Some m) (inr s) = inr (s.0, span start (Some s.0) s.1, s.2, span (suc start) (Some m) s.3)
 
 matches_right :
-    (f r : Dfa) (input : Input) (start : ℕ) (last : Option ℕ) (ms : List Match)
+    (f r : Engine) (input : Input) (start : ℕ) (last : Option ℕ) (ms : List Match)
     → IsTruePair f r → KeepsUtf8 Forward f → IsHaystack input.haystack → input.end ≤ length input.haystack
     → AreMatches (TryFinds f r) input start last ms → AreMatches (IsSpan f) input start last ms
 matches_right f r input start last [] pair keeps bytes w s = next_right f r input start last None pair keeps bytes w s
@@ -199,7 +201,7 @@ matches_right f r input start last (m ∷ ms) pair keeps bytes w s = (
 )
 
 pub spans_right :
-    (f r : Dfa) (input : Input) (ms : List Match)
+    (f r : Engine) (input : Input) (ms : List Match)
     → IsTruePair f r → KeepsUtf8 Forward f → IsHaystack input.haystack → input.end ≤ length input.haystack
     → AreFound f r input ms → AreSpans f input ms
 spans_right f r input ms pair keeps bytes w s = matches_right f r input input.start None ms pair keeps bytes w s

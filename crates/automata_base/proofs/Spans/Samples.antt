@@ -5,13 +5,14 @@ use Rattle.automata_base.specs.Nfa.{Node, Split, Assert, Read, Accept}
 use Rattle.automata_base.specs.Cuts.{MatchKind, All, LeftmostFirst}
 use Rattle.automata_base.proofs.Paths.Samples.{read}
 use Rattle.automata_base.specs.Tapes.{Forward, Backward}
-use Rattle.automata_base.specs.Engines.{Dfa, No, Yes}
-use Rattle.automata_base.specs.Answers.{Input}
-use Rattle.automata_base.specs.Spans.{Match, Found, NotAPair}
+use Rattle.automata_base.specs.Engines.{Engine, No, Yes}
+use Rattle.automata_base.specs.Input.{Input}
+use Rattle.automata_base.specs.Spans.{Found, NotAPair}
+use Rattle.automata_base.specs.Matches.{Match}
 use Rattle.automata_base.proofs.Spans.Computed.{answer_of, try_of, spans_of, overlapping_of}
 use Rattle.automata_base.specs.Selections.{Pair}
 
-abbrev pub dfa : List Node → (anchored unanchored : ℕ) → List ℕ → (utf8 reverse : Bool) → MatchKind → Dfa
+abbrev pub dfa : List Node → (anchored unanchored : ℕ) → List ℕ → (utf8 reverse : Bool) → MatchKind → Engine
 dfa nodes a u starts utf8 reverse kind =
     record {
       nfa = record { nodes = nodes; terminator = 10; reverse = reverse };
@@ -23,7 +24,7 @@ dfa nodes a u starts utf8 reverse kind =
     }
 
 abbrev pub over : List ℕ → ℕ → Bool → Input
-over h e earliest = record { haystack = h; start = 0; end = e; mode = No; earliest = earliest }
+over h e earliest = record { haystack = h; start = 0; end = e; anchored = No; earliest = earliest }
 
 abbrev pub at : ℕ → ℕ → ℕ → Match
 at p s e = record { pattern = p; start = s; end = e }
@@ -37,10 +38,10 @@ word next =
 abbrev pub empty_nodes : List Node
 empty_nodes = Accept 0 ∷ Split (0 ∷ 2 ∷ []) ∷ read 0 255 1 ∷ []
 
-abbrev pub empty : Dfa
+abbrev pub empty : Engine
 empty = dfa empty_nodes 0 1 (0 ∷ []) true false LeftmostFirst
 
-abbrev pub empty_back : Dfa
+abbrev pub empty_back : Engine
 empty_back = dfa empty_nodes 0 1 (0 ∷ []) true true All
 
 abbrev pub words_nodes : List Node
@@ -48,10 +49,10 @@ words_nodes =
     Split (1 ∷ 3 ∷ []) ∷ word 2 ∷ Split (1 ∷ 5 ∷ []) ∷ read 33 126 4 ∷ Split (3 ∷ 6 ∷ []) ∷ Accept 0 ∷ Accept 1
     ∷ Split (0 ∷ 8 ∷ []) ∷ read 0 255 7 ∷ []
 
-abbrev pub words : Dfa
+abbrev pub words : Engine
 words = dfa words_nodes 0 7 (1 ∷ 3 ∷ []) false false LeftmostFirst
 
-abbrev pub words_back : Dfa
+abbrev pub words_back : Engine
 words_back = dfa words_nodes 0 7 (1 ∷ 3 ∷ []) false true All
 
 abbrev pub snow_nodes : List Node
@@ -64,13 +65,13 @@ snow_back_nodes =
     Split (1 ∷ 6 ∷ []) ∷ read 120 120 2 ∷ read 131 131 3 ∷ read 152 152 4 ∷ read 226 226 5 ∷ read 97 97 7
     ∷ Assert WordAsciiNegate 7 ∷ Accept 0 ∷ Split (0 ∷ 9 ∷ []) ∷ read 0 255 8 ∷ []
 
-abbrev pub snow : Dfa
+abbrev pub snow : Engine
 snow = dfa snow_nodes 0 8 (0 ∷ []) true false LeftmostFirst
 
-abbrev pub snow_back : Dfa
+abbrev pub snow_back : Engine
 snow_back = dfa snow_back_nodes 0 8 (0 ∷ []) true true All
 
-abbrev pub snowx : Dfa
+abbrev pub snowx : Engine
 snowx =
     dfa
     (Split (1 ∷ 8 ∷ []) ∷ Split (2 ∷ 7 ∷ []) ∷ read 97 97 3 ∷ read 226 226 4 ∷ read 152 152 5 ∷ read 131 131 6
@@ -78,7 +79,7 @@ snowx =
     ∷ read 0 255 11 ∷ [])
     0 11 (1 ∷ 8 ∷ []) true false LeftmostFirst
 
-abbrev pub snowx_back : Dfa
+abbrev pub snowx_back : Engine
 snowx_back =
     dfa
     (Split (1 ∷ 8 ∷ []) ∷ Split (2 ∷ 7 ∷ []) ∷ read 120 120 3 ∷ read 131 131 4 ∷ read 152 152 5 ∷ read 226 226 6
@@ -86,7 +87,7 @@ snowx_back =
     ∷ read 0 255 11 ∷ [])
     0 11 (1 ∷ 8 ∷ []) true true All
 
-abbrev pub fails : Dfa
+abbrev pub fails : Engine
 fails = dfa (Split [] ∷ []) 0 0 (0 ∷ []) false true All
 
 -- "@foo bar"
@@ -116,7 +117,7 @@ row_snowx_base = refl
 
 -- From the whole span's start the reverse search would find another start.
 row_snowx_whole :
-    answer_of true Backward snowx_back (record { haystack = snowman; start = 0; end = 5; mode = Yes; earliest = false })
+    answer_of true Backward snowx_back (record { haystack = snowman; start = 0; end = 5; anchored = Yes; earliest = false })
     ≡ Some (record { pattern = 0; offset = 0; base = 0 })
 row_snowx_whole = refl
 

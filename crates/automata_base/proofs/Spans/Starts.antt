@@ -7,8 +7,9 @@ use Rattle.automata_base.specs.Selections.{Accepts, Pair, Selects, IsFarthest}
 use Rattle.automata_base.proofs.Paths.Orders.{some_inj}
 use Rattle.automata_base.proofs.Paths.Places.{path_grows}
 use Rattle.automata_base.specs.Tapes.{IsHaystack, Forward, Backward, forward_tape, reverse_tape, is_split}
-use Rattle.automata_base.specs.Engines.{Dfa, Mode, No, Yes, Pattern, first_state, IsLazyLoop, IsSkipping}
-use Rattle.automata_base.specs.Answers.{Input, Half, SelectsFrom, later, ComesTo, IsSplitAnswer, IsAnswer}
+use Rattle.automata_base.specs.Engines.{Engine, Anchored, No, Yes, Pattern, first_state, IsLazyLoop, IsSkipping}
+use Rattle.automata_base.specs.Answers.{Half, SelectsFrom, later, ComesTo, IsSplitAnswer, IsAnswer}
+use Rattle.automata_base.specs.Input.{Input}
 use Rattle.automata_base.specs.TruePairs.{Joins, IsTruePair, KeepsUtf8}
 use Rattle.automata_base.specs.Spans.{Chooses}
 use Rattle.automata_base.proofs.Spans.Chosen.{StartsAt, least_start, all_farthest}
@@ -18,32 +19,32 @@ use Rattle.automata_base.proofs.Spans.Backs.{end_inside, forward_bytes, narrow, 
 pub no_pair : {x : Pair} → ◌≡◌ {A = Option Pair} (Some x) None → ⊥
 no_pair e = cc
 
-pub yes_no : ◌≡◌ {A = Mode} Yes No → ⊥
+pub yes_no : ◌≡◌ {A = Anchored} Yes No → ⊥
 yes_no e = cc
 
-pub pattern_no : (k : ℕ) → ◌≡◌ {A = Mode} (Pattern k) No → ⊥
+pub pattern_no : (k : ℕ) → ◌≡◌ {A = Anchored} (Pattern k) No → ⊥
 pattern_no k e = cc
 
-pub mode_cases : (m : Mode) → (m ≡ No) ⊎ (m ≡ No → ⊥)
+pub mode_cases : (m : Anchored) → (m ≡ No) ⊎ (m ≡ No → ⊥)
 mode_cases No = inl refl
 mode_cases Yes = inr yes_no
 mode_cases (Pattern k) = inr (pattern_no k)
 
 -- What a forward answer says of its path.
-abbrev pub Answered : Dfa → Input → Half → (q i : ℕ) → List ℕ → Type 0
+abbrev pub Answered : Engine → Input → Half → (q i : ℕ) → List ℕ → Type 0
 Answered d input half q i path =
-    (first_state d input.mode ≡ Some q) × (half.offset ≡ half.base + i)
+    (first_state d input.anchored ≡ Some q) × (half.offset ≡ half.base + i)
     × Chooses d input.earliest (forward_tape input.haystack half.base input.end) q i half.pattern path
     × (input.start ≤ half.base) × (half.base ≤ input.end)
     × (IsSkipping d → is_split input.haystack half.offset ≡ false)
 
 pub answered :
-    (d : Dfa) (input : Input) (half : Half) → IsAnswer Forward d input (Some half)
+    (d : Engine) (input : Input) (half : Half) → IsAnswer Forward d input (Some half)
     → (q i : ℕ) × (path : List ℕ) × Answered d input half q i path
-answered d input half a = go (first_state d input.mode) refl a.4
+answered d input half a = go (first_state d input.anchored) refl a.4
   where
     go :
-        (o : Option ℕ) → first_state d input.mode ≡ o
+        (o : Option ℕ) → first_state d input.anchored ≡ o
         → SelectsFrom d input.earliest (forward_tape input.haystack (input.start + a.0) input.end) o (Some a.1)
         → (q i : ℕ) × (path : List ℕ) × Answered d input half q i path
     go None e s = absurd (no_pair s)
@@ -64,7 +65,7 @@ answered d input half a = go (first_state d input.mode) refl a.4
 
 -- For mode No the path is one from the unanchored start.
 pub unanchored :
-    (d : Dfa) (input : Input) (half : Half) (q i : ℕ) (path : List ℕ) → input.mode ≡ No → Answered d input half q i path
+    (d : Engine) (input : Input) (half : Half) (q i : ℕ) (path : List ℕ) → input.anchored ≡ No → Answered d input half q i path
     → Chooses d input.earliest (forward_tape input.haystack half.base input.end) d.unanchored i half.pattern path
 unanchored d input half q i path m a =
     subst (λ v. Chooses d input.earliest (forward_tape input.haystack half.base input.end) v i half.pattern path)
@@ -72,13 +73,13 @@ unanchored d input half q i path m a =
 
 -- An anchored search of kind all is made once; its answer is the farthest end.
 abbrev pub anchored_back : List ℕ → ℕ → ℕ → Input
-anchored_back h b e = record { haystack = h; start = b; end = e; mode = Yes; earliest = false }
+anchored_back h b e = record { haystack = h; start = b; end = e; anchored = Yes; earliest = false }
 
-pub only_once : (d : Dfa) (h : List ℕ) (b e k : ℕ) → ComesTo Backward d (anchored_back h b e) k → k ≡ 0
+pub only_once : (d : Engine) (h : List ℕ) (b e k : ℕ) → ComesTo Backward d (anchored_back h b e) k → k ≡ 0
 only_once d h b e k c = ⊎_elim (λ (z : k ≡ 0). z) (λ (z : IsSkipping d × (Yes ≡ No)). absurd (yes_no z.1)) c.0
 
 farthest_end :
-    (r : Dfa) (h : List ℕ) (b e e' : ℕ) (answer : Option Pair) → r.kind ≡ All → e' ≡ e
+    (r : Engine) (h : List ℕ) (b e e' : ℕ) (answer : Option Pair) → r.kind ≡ All → e' ≡ e
     → Selects r.kind false r.nfa (reverse_tape h b e') r.anchored answer → IsFarthest r.nfa (reverse_tape h b e) r.anchored answer
 farthest_end r h b e e' answer all same s =
     all_farthest r.nfa (reverse_tape h b e) r.anchored answer
@@ -102,7 +103,7 @@ farthest_greatest n t start m (Some pair) g f = (pair, refl, place (eq-or-lt_of_
     place (inr l) = absurd (f.1 m g.0.0 g.0.1 l g.0.2)
 
 pub back_answer :
-    (r : Dfa) (h : List ℕ) (b e m : ℕ) (answer : Option Half) → r.kind ≡ All → b ≤ e
+    (r : Engine) (h : List ℕ) (b e m : ℕ) (answer : Option Half) → r.kind ≡ All → b ≤ e
     → IsGreatest r.nfa (reverse_tape h b e) r.anchored m
     → (IsSkipping r → is_split h (e - m) ≡ false)
     → IsAnswer Backward r (anchored_back h b e) answer
@@ -149,7 +150,7 @@ back_answer r h b e m (Some found) all l g u a = (found, refl, a.7 ∙ ap₂ (λ
 -- Over the span that the forward search left, the reverse paths from its end go back to the chosen path's start and no
 -- farther, and that place splits no character where split places are skipped.
 pub goes_to_start :
-    (f r : Dfa) (x : ℕ) (h : List ℕ) (b e : ℕ) (earliest : Bool) (i k pattern : ℕ) (path rest : List ℕ)
+    (f r : Engine) (x : ℕ) (h : List ℕ) (b e : ℕ) (earliest : Bool) (i k pattern : ℕ) (path rest : List ℕ)
     → IsTruePair f r → IsHaystack h → b ≤ e → e ≤ length h → IsLazyLoop f x
     → Chooses f earliest (forward_tape h b e) f.unanchored i pattern path
     → StartsAt f (forward_tape h b e) k i pattern path rest
@@ -176,7 +177,7 @@ goes_to_start f r x h b e earliest i k pattern path rest pair bytes l w loop c s
 
 -- With UTF-8 kept, the start splits no character where split places are skipped.
 pub start_unsplit :
-    (f r : Dfa) (h : List ℕ) (b e i k pattern z : ℕ) (rest : List ℕ)
+    (f r : Engine) (h : List ℕ) (b e i k pattern z : ℕ) (rest : List ℕ)
     → IsTruePair f r → KeepsUtf8 Forward f → IsHaystack h → b + i ≤ e → e ≤ length h → k ≤ i
     → IsPathFrom f.nfa (forward_tape h b e) k [] f.anchored rest i z → accepts f.nfa z ≡ Some pattern
     → (IsSkipping f → is_split h (b + i) ≡ false)

@@ -8,10 +8,12 @@ use Rattle.automata_base.specs.Selections.{Pair}
 use Rattle.automata_base.specs.Computed.{search_of, IsInRange}
 use Rattle.automata_base.proofs.Paths.Finals.{search_right}
 use Rattle.automata_base.specs.Tapes.{IsHaystack, Direction, Forward, Backward, tape_of, between, byte_before, is_split}
-use Rattle.automata_base.specs.Engines.{Dfa, No, first_state, IsSkipping}
-use Rattle.automata_base.specs.Answers.{Input, Half, SelectsFrom, SelectsOver, later, offset_in, ComesTo, IsSplitAnswer, IsAnswer, IsInput, IsSound}
+use Rattle.automata_base.specs.Engines.{Engine, No, first_state, IsSkipping}
+use Rattle.automata_base.specs.Answers.{Half, SelectsFrom, SelectsOver, later, offset_in, ComesTo, IsSplitAnswer, IsAnswer, IsInput, IsSound}
+use Rattle.automata_base.specs.Input.{Input}
 use Rattle.automata_base.specs.TruePairs.{IsTruePair, KeepsUtf8}
-use Rattle.automata_base.specs.Spans.{Match, IsSpan, IsShort, back, Outcome, Found, NotAPair, IsTrySearch}
+use Rattle.automata_base.specs.Spans.{IsSpan, IsShort, back, Outcome, Found, NotAPair, IsTrySearch}
+use Rattle.automata_base.specs.Matches.{Match}
 use Rattle.automata_base.proofs.Spans.Bytes.{nth_reverse, reverse_length}
 use Rattle.automata_base.proofs.Spans.Backs.{end_inside, forward_bytes, nth_less}
 use Rattle.automata_base.proofs.Spans.Starts.{mode_cases, Answered, answered}
@@ -47,7 +49,7 @@ tape_units Backward h s e b l w i =
     (reverse_bytes (between h s e) (λ o u g. forward_bytes h s e b l w o u g)) (before_unit h s b)
 
 sel_from :
-    (d : Dfa) (earliest : Bool) (t : Tape) (o : Option ℕ)
+    (d : Engine) (earliest : Bool) (t : Tape) (o : Option ℕ)
     → IsInRange d.nfa → IsLookAcyclic d.nfa → IsTape t → ((q : ℕ) → o ≡ Some q → q < length d.nfa.nodes)
     → (answer : Option Pair) × SelectsFrom d earliest t o answer
 sel_from d earliest t None r f u l = (None, refl)
@@ -55,11 +57,11 @@ sel_from d earliest t (Some q) r f u l =
     (search_of d.kind earliest d.nfa t q, search_right d.kind earliest d.nfa t q r (l q refl) f u)
 
 pub sel_exists :
-    (way : Direction) (d : Dfa) (input : Input) → IsSound d → IsInput input → input.start ≤ input.end
+    (way : Direction) (d : Engine) (input : Input) → IsSound d → IsInput input → input.start ≤ input.end
     → (answer : Option Pair) × SelectsOver way d input answer
 sel_exists way d input s b l =
-    sel_from d input.earliest (tape_of way input.haystack input.start input.end) (first_state d input.mode) s.0 s.1
-    (tape_units way input.haystack input.start input.end b.0 l b.1) (s.2 input.mode)
+    sel_from d input.earliest (tape_of way input.haystack input.start input.end) (first_state d input.anchored) s.0 s.1
+    (tape_units way input.haystack input.start input.end b.0 l b.1) (s.2 input.anchored)
 
 pub later_input :
     (way : Direction) (k : ℕ) (input : Input) → IsInput input → input.start + k ≤ input.end
@@ -68,7 +70,7 @@ later_input Forward k input b l = (b, l)
 later_input Backward k input b l = ((b.0, omega (arith, b.1)), omega (arith, l))
 
 search_from :
-    (way : Direction) (d : Dfa) (input : Input) → IsSound d → IsInput input → (IsSkipping d ⊎ (IsSkipping d → ⊥))
+    (way : Direction) (d : Engine) (input : Input) → IsSound d → IsInput input → (IsSkipping d ⊎ (IsSkipping d → ⊥))
     → (n k : ℕ) → ComesTo way d input k → input.end < input.start + k + n → (o : Option Half) × IsAnswer way d input o
 search_from way d input s b skips zero k c l = (None, (k, c, inl (omega (arith, l))))
 search_from way d input s b skips (suc n) k c l = ⊎_elim
@@ -95,15 +97,15 @@ search_from way d input s b skips (suc n) k c l = ⊎_elim
         split : IsSkipping d → (v : Bool) → is_split input.haystack o ≡ v → (o : Option Half) × IsAnswer way d input o
         split z false e = (Some half, (k, pair, c, m, a, λ z. e, refl, refl, refl))
         split z true e = ⊎_elim
-            (λ (free : input.mode ≡ No). on (inr (z, free), before free))
-            (λ (f : input.mode ≡ No → ⊥). (None, (k, c, inr (inr (z, f, here)))))
-            (mode_cases input.mode)
+            (λ (free : input.anchored ≡ No). on (inr (z, free), before free))
+            (λ (f : input.anchored ≡ No → ⊥). (None, (k, c, inr (inr (z, f, here)))))
+            (mode_cases input.anchored)
           where
             here : IsSplitAnswer way d (later way k input)
             here = (pair, a, ap (λ v. is_split v o) (haystack_later way k input) ∙ e)
 
             before :
-                input.mode ≡ No → (j : ℕ) → j < suc k → (input.start + j ≤ input.end) × IsSplitAnswer way d (later way j input)
+                input.anchored ≡ No → (j : ℕ) → j < suc k → (input.start + j ≤ input.end) × IsSplitAnswer way d (later way j input)
             before free j l = ⊎_elim
                 (λ (e : j ≡ k).
                 (omega (arith, m, e), subst (λ v. IsSplitAnswer way d (later way v input)) (sym e) here))
@@ -118,7 +120,7 @@ search_from way d input s b skips (suc n) k c l = ⊎_elim
         decide (inl z) = split z (is_split input.haystack o) refl
 
 pub answer_exists :
-    (way : Direction) (d : Dfa) (input : Input) → IsSound d → IsInput input → (IsSkipping d ⊎ (IsSkipping d → ⊥))
+    (way : Direction) (d : Engine) (input : Input) → IsSound d → IsInput input → (IsSkipping d ⊎ (IsSkipping d → ⊥))
     → (o : Option Half) × IsAnswer way d input o
 answer_exists way d input s b skips =
     search_from way d input s b skips (suc input.end) 0
@@ -132,12 +134,12 @@ same_or_not a b = go (cases_order a b)
     go (inr (inl l)) = inr (λ e. omega (arith, l, e))
     go (inr (inr l)) = inr (λ e. omega (arith, l, e))
 
-pub short_or_not : (f : Dfa) (input : Input) (half : Half) → IsShort f input half ⊎ (IsShort f input half → ⊥)
+pub short_or_not : (f : Engine) (input : Input) (half : Half) → IsShort f input half ⊎ (IsShort f input half → ⊥)
 short_or_not f input half =
-    go (same_or_not half.base half.offset) (mode_cases input.mode) (same_or_not f.unanchored f.anchored)
+    go (same_or_not half.base half.offset) (mode_cases input.anchored) (same_or_not f.unanchored f.anchored)
   where
     go :
-        (half.base ≡ half.offset) ⊎ (half.base ≡ half.offset → ⊥) → (input.mode ≡ No) ⊎ (input.mode ≡ No → ⊥)
+        (half.base ≡ half.offset) ⊎ (half.base ≡ half.offset → ⊥) → (input.anchored ≡ No) ⊎ (input.anchored ≡ No → ⊥)
         → (f.unanchored ≡ f.anchored) ⊎ (f.unanchored ≡ f.anchored → ⊥) → IsShort f input half ⊎ (IsShort f input half → ⊥)
     go (inl e) m a = inl (inl e)
     go (inr e) (inr m) a = inl (inr (inl m))
@@ -151,7 +153,7 @@ short_or_not f input half =
 
 -- A search over two sound DFAs has an outcome.
 pub try_exists :
-    (f r : Dfa) (input : Input) → IsSound f → IsSound r → IsInput input
+    (f r : Engine) (input : Input) → IsSound f → IsSound r → IsInput input
     → (IsSkipping f ⊎ (IsSkipping f → ⊥)) → (IsSkipping r ⊎ (IsSkipping r → ⊥))
     → (outcome : Outcome) × IsTrySearch f r input outcome
 try_exists f r input sf sr b kf kr = go (answer_exists Forward f input sf b kf)
@@ -195,7 +197,7 @@ try_exists f r input sf sr b kf kr = go (answer_exists Forward f input sf b kf)
 
 -- Over a true pair under the UTF-8 promise a search finds the span, so each input has one.
 pub span_found :
-    (f r : Dfa) (input : Input) → IsTruePair f r → KeepsUtf8 Forward f → IsSound f → IsSound r → IsInput input
+    (f r : Engine) (input : Input) → IsTruePair f r → KeepsUtf8 Forward f → IsSound f → IsSound r → IsInput input
     → (answer : Option Match) × IsTrySearch f r input (Found answer) × IsSpan f input answer
 span_found f r input pair keeps sf sr b = (s.0, subst (λ v. IsTrySearch f r input v) s.1 o.1, s.2)
   where

@@ -4,7 +4,7 @@ use Rattle.automata_base.specs.Nfa.{Nfa, hop, takes}
 use Rattle.automata_base.specs.Paths.{Tape, IsPathFrom, truth}
 use Rattle.automata_base.proofs.Paths.Orders.{none_some, some_inj}
 use Rattle.automata_base.specs.Tapes.{Forward, Backward, tape_of}
-use Rattle.automata_base.specs.Engines.{Mode, No, Yes, Pattern, first_state, Road, IsSkipping}
+use Rattle.automata_base.specs.Engines.{Anchored, No, Yes, Pattern, first_state, Road, IsSkipping}
 use Rattle.automata_base.specs.TruePairs.{Joins, IsTruePair, KeepsUtf8}
 use Rattle.automata_base.proofs.Spans.Samples.{empty, empty_back}
 
@@ -63,7 +63,7 @@ empty_keeps h i j pattern mode start path utf8 bytes l w anchored first a = absu
         (subst (λ v. IsPathFrom empty.nfa (tape_of Forward h i j) 0 [] v path (j - i) a.0) e a.1) in
         omega (arith, l, s.0)
 
-    go : (mode : Mode) → (mode ≡ No → ⊥) → first_state empty mode ≡ Some start → ⊥
+    go : (mode : Anchored) → (mode ≡ No → ⊥) → first_state empty mode ≡ Some start → ⊥
     go No f e = f refl
     go Yes f e = none (sym (some_inj e))
     go (Pattern zero) f e = none (sym (some_inj e))

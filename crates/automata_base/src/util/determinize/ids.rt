@@ -1,4 +1,5 @@
 // The NFA states of a state, read one by one from its bytes.
+ghost use Rattle.automata_base.specs.Checks.{all_below};
 ghost use Rattle.std.specs.Prelude.{◌≡◌, OnOk};
 ghost use Rattle.std.specs.Iterator.{YieldsFirst, item_count};
 
@@ -68,4 +69,17 @@ pub fn read_ids(ids: Ids<'_>, out: &mut Vec<StateID>) -> Result<(), AllocError>
         out.push(id)?;
     }
     Ok(())
+}
+
+/// Whether all of them are below a length.
+pub(crate) fn are_below(ids: Ids<'_>, len: usize) -> bool
+    ensures { result ≡ all_below len ids.entry }
+{
+    let mut rest = ids;
+    'rest: while let Some(id) = rest.next() {
+        if id.as_usize() >= len {
+            return false;
+        }
+    }
+    true
 }

@@ -5,8 +5,10 @@ ghost use Rattle.std.specs.List.{IsDistinct};
 ghost use Rattle.automata_base.specs.Code.{code, decoded, IsCode};
 ghost use Rattle.automata_base.specs.Powerset.{Powerset, IsPowerset, cost};
 ghost use Rattle.automata_base.specs.Parts.{powerset_of};
+ghost use Rattle.automata_base.specs.Starts.{IsOf};
 
-use crate::util::determinize::ids::{Ids, read_ids};
+use crate::nfa::thompson::NFA;
+use crate::util::determinize::ids::{Ids, are_below, read_ids};
 use crate::util::determinize::key::Key;
 use crate::util::determinize::read::{ids_in, pattern_at, pattern_count, read_patterns, u32_at};
 use crate::util::determinize::valid::are_distinct;
@@ -207,6 +209,14 @@ impl State {
         ensures { result ≡ self.now.half }
     {
         self.bytes.as_slice()[0] / 8 % 2 == 1
+    }
+
+    /// Whether every NFA state is one of the NFA's. It takes no memory.
+    pub fn is_of(&self, nfa: &NFA) -> bool
+        ensures { IsTrue result ↔ IsOf nfa.now self.now }
+    {
+        let len = nfa.states().len();
+        are_below(self.nfa(), len)
     }
 
     /// Sets the parts to those of the state. Where the lists have room it takes no memory.
