@@ -8,6 +8,7 @@ use std::io::{Read, Write};
 use std::test::Fail;
 
 mod automata;
+mod config;
 mod forward;
 mod memory;
 mod paths;
