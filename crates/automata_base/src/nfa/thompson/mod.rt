@@ -1,6 +1,7 @@
 //! Thompson NFAs.
 
 mod door;
+mod reach;
 pub(crate) mod reading;
 
 use crate::nfa::thompson::door::{
