@@ -1,2 +1,5 @@
 pub mod Adding
+pub mod Led
+pub mod Looped
+pub mod Matched
 pub mod Walked

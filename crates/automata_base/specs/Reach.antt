@@ -42,10 +42,13 @@ IsReachedBy targets roots z = (root : ℕ) × (way : List ℕ) × In root roots 
 abbrev pub IsReached : Edges → List State → List ℕ → ℕ → Type 0
 IsReached edges states roots z = IsReachedBy (targets_of edges states) roots z
 
+abbrev pub IsMatchAt : Node → Type 0
+IsMatchAt x = (p : ℕ) × (accepts_at x ≡ Some p)
+
 -- A match is reached.
 abbrev pub ReachesMatch : List State → List ℕ → Type 0
 ReachesMatch states roots =
-    (q p : ℕ) × IsReached Epsilon states roots q × (accepts_at (node_in states q) ≡ Some p)
+    (q : ℕ) × IsReached Epsilon states roots q × IsMatchAt (node_in states q)
 
 -- The second of two alternates, where the first is `first`.
 abbrev pub second_of : List ℕ → ℕ → Option ℕ
@@ -61,16 +64,16 @@ second_at (Read ranges) first = None
 second_at (Accept p) first = None
 
 -- Whether any byte leads to `target`, by one range.
-abbrev pub is_any_byte : State → ℕ → Bool
-is_any_byte (is.ByteRange lo hi next) target = eqb lo 0 && eqb hi 255 && eqb next target
-is_any_byte (is.Sparse ts) target = false
-is_any_byte (is.Dense targets) target = false
-is_any_byte (is.Look look next) target = false
-is_any_byte (is.Union alternates) target = false
-is_any_byte (is.BinaryUnion alt1 alt2) target = false
-is_any_byte (is.Capture next pattern index slot) target = false
-is_any_byte is.Fail target = false
-is_any_byte (is.Match pattern) target = false
+abbrev pub is_any_byte_of : State → ℕ → Bool
+is_any_byte_of (is.ByteRange lo hi next) target = eqb lo 0 && eqb hi 255 && eqb next target
+is_any_byte_of (is.Sparse ts) target = false
+is_any_byte_of (is.Dense targets) target = false
+is_any_byte_of (is.Look look next) target = false
+is_any_byte_of (is.Union alternates) target = false
+is_any_byte_of (is.BinaryUnion alt1 alt2) target = false
+is_any_byte_of (is.Capture next pattern index slot) target = false
+is_any_byte_of is.Fail target = false
+is_any_byte_of (is.Match pattern) target = false
 
 -- The starts are one, or the unanchored one is a lazy loop over any bytes before the anchored one.
 abbrev pub SkipsFrom : List State → (anchored unanchored : ℕ) → Type 0

@@ -1,11 +1,10 @@
 ghost use Rattle.std.specs.Prelude.{◌≡◌, ◌<◌, ◌≤◌, ◌^◌, ◌↔◌, ℕ, [], ◌∷◌, true, length, get_or, IfOk, IsTrue, Some, None};
 ghost use Rattle.automata_base.specs.Checks.{all_below};
 ghost use Rattle.automata_base.specs.Lists.{In};
-ghost use Rattle.automata_base.specs.Nfa.{accepts_at};
 ghost use Rattle.automata_base.specs.Nodes.{node_of, ranges_of, dense_from};
 ghost use Rattle.automata_base.specs.Once.{once_from};
 ghost use Rattle.automata_base.specs.Paths.{all_true};
-ghost use Rattle.automata_base.specs.Reach.{node_in, nexts, byte_targets, targets_at, IsReached, ReachesMatch, second_of, second_at, is_any_byte, SkipsFrom};
+ghost use Rattle.automata_base.specs.Reach.{node_in, nexts, byte_targets, targets_at, IsReached, ReachesMatch, second_of, second_at, is_any_byte_of, IsMatchAt, SkipsFrom};
 ghost use Rattle.automata_base.specs.Refusals.{transitions_below, state_below, states_below};
 ghost use Rattle.automata_base.specs.Visits.{children_at};
 
@@ -162,4 +161,124 @@ pub fn reach(
         at += 1;
     }
     Ok(set)
+}
+
+fn is_match(state: &State) -> bool
+    ensures { IsTrue result ↔ IsMatchAt (node_of state.now) }
+{
+    pattern_of(state).is_some()
+}
+
+fn is_some_match(states: &[State], ids: &[StateID]) -> bool
+    requires { (q : ℕ) → In q ids.now → q < length states.now }
+    ensures { IsTrue result ↔ ((q : ℕ) × In q ids.now × IsMatchAt (node_in states.now q)) }
+{
+    for id in ids {
+        if is_match(&states[id.as_usize()]) {
+            return true;
+        }
+    }
+    false
+}
+
+/// Whether edges that read nothing lead from some root to a match.
+pub fn reaches_match(
+    alloc: Global,
+    states: &[State],
+    roots: &[StateID],
+) -> Result<bool, AllocError>
+    requires few { length states.now ≤ 2 ^ 27 }
+    requires range { states_below (length states.now) states.now ≡ true }
+    requires roots { all_below (length states.now) roots.now ≡ true }
+    ensures { IfOk result (λ found. IsTrue found ↔ ReachesMatch states.now roots.now) }
+{
+    let reached = reach(alloc, states, roots, Edges::Epsilon)?;
+    Ok(is_some_match(states, reached.as_slice()))
+}
+
+fn leads_back(
+    alloc: Global,
+    states: &[State],
+    root: StateID,
+    target: StateID,
+) -> Result<bool, AllocError>
+    requires few { length states.now ≤ 2 ^ 27 }
+    requires range { states_below (length states.now) states.now ≡ true }
+    requires root { root < length states.now }
+    requires target { target < length states.now }
+    ensures { IfOk result (λ found. IsTrue found ↔ IsReached Edges.Every states.now (root ∷ []) target) }
+{
+    let reached = reach(alloc, states, &[root], Edges::Every)?;
+    Ok(reached.contains(target))
+}
+
+fn second(alternates: &[StateID], first: StateID) -> Option<StateID>
+    ensures { result ≡ second_of alternates.now first }
+{
+    if alternates.len() != 2 || alternates[0] != first {
+        return None;
+    }
+    Some(alternates[1])
+}
+
+// The second of two alternates, where the first is `first`.
+fn second_alternate(state: &State, first: StateID) -> Option<StateID>
+    ensures { result ≡ second_at (node_of state.now) first }
+{
+    match state {
+        State::Union { alternates } => second(alternates, first),
+        State::BinaryUnion { alt1, alt2 } => second(&[*alt1, *alt2], first),
+        State::Capture { .. } => None,
+        State::ByteRange { .. } => None,
+        State::Sparse(_) => None,
+        State::Dense(_) => None,
+        State::Look { .. } => None,
+        State::Fail => None,
+        State::Match { .. } => None,
+    }
+}
+
+// Whether any byte leads to the target, by one range.
+fn is_any_byte(state: &State, target: StateID) -> bool
+    ensures { result ≡ is_any_byte_of state.now target }
+{
+    match state {
+        State::ByteRange { lo, hi, next } => *lo == 0 && *hi == 255 && *next == target,
+        State::Sparse(_) => false,
+        State::Dense(_) => false,
+        State::Look { .. } => false,
+        State::Union { .. } => false,
+        State::BinaryUnion { .. } => false,
+        State::Capture { .. } => false,
+        State::Fail => false,
+        State::Match { .. } => false,
+    }
+}
+
+/// Whether the starts are one, or the unanchored one loops lazily over any bytes before the anchored one.
+pub fn skips_lazily(
+    alloc: Global,
+    states: &[State],
+    anchored: StateID,
+    unanchored: StateID,
+) -> Result<bool, AllocError>
+    requires few { length states.now ≤ 2 ^ 27 }
+    requires range { states_below (length states.now) states.now ≡ true }
+    requires anchored { anchored < length states.now }
+    requires unanchored { unanchored < length states.now }
+    ensures { IfOk result (λ skips. IsTrue skips ↔ SkipsFrom states.now anchored unanchored) }
+{
+    if unanchored == anchored {
+        return Ok(true);
+    }
+    match second_alternate(&states[unanchored.as_usize()], anchored) {
+        None => Ok(false),
+        Some(skip) => {
+            if !is_any_byte(&states[skip.as_usize()], unanchored) {
+                return Ok(false);
+            }
+            let leads = leads_back(alloc, states, anchored, unanchored)?;
+            Ok(!leads)
+        }
+    }
 }
