@@ -101,26 +101,26 @@ module _ (states : List State) (anchored unanchored at : ℕ) (s : State) (other
     range_is = ap (slice_get states) (sym here) ∙ read_is states spot r inside next
 
     pub skips_no_range : is_any_byte_of r unanchored ≡ false → IsTrue false ↔ SkipsFrom states anchored unanchored
-    skips_no_range no = (λ t. absurd (true≢false (sym t)), from)
+    skips_no_range fails = (λ t. absurd (true≢false (sym t)), from)
       where
         from : SkipsFrom states anchored unanchored → IsTrue false
         from (inl e) = absurd (other e)
         from (inr h) =
-            absurd (true≢false (sym (any_byte_has r unanchored (some_state (sym range_is ∙ (ap (slice_get states) (second_one h.0 h.1) ∙ h.2)))) ∙ no))
+            absurd (true≢false (sym (any_byte_has r unanchored (some_state (sym range_is ∙ (ap (slice_get states) (second_one h.0 h.1) ∙ h.2)))) ∙ fails))
 
     pub skips_unless :
         (leads : Bool) → is_any_byte_of r unanchored ≡ true → IsTrue leads ↔ IsReached Every states (anchored ∷ []) unanchored
         → IsTrue (not leads) ↔ SkipsFrom states anchored unanchored
-    skips_unless true yes found = (λ t. absurd (true≢false (sym t)), from)
+    skips_unless true passes found = (λ t. absurd (true≢false (sym t)), from)
       where
         from : SkipsFrom states anchored unanchored → IsTrue false
         from (inl e) = absurd (other e)
         from (inr h) = absurd (h.3 (found.0 refl))
-    skips_unless false yes found = (
+    skips_unless false passes found = (
       λ _. inr (
         skip,
         start_is ∙ second_is (node_of s) anchored skip second,
-        range_is ∙ ap (λ z. Some z) (any_byte_is r unanchored yes),
+        range_is ∙ ap (λ z. Some z) (any_byte_is r unanchored passes),
         λ h. true≢false (sym (found.1 h)),
       ),
       λ _. refl,
