@@ -2,4 +2,5 @@ pub mod Adding
 pub mod Led
 pub mod Looped
 pub mod Matched
+pub mod Refused
 pub mod Walked
