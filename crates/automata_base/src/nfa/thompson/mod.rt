@@ -119,6 +119,7 @@ pub enum NfaError {
 
 impl From<AllocError> for NfaError {
     ghost use Rattle.std.specs.Prelude.{◌≡◌};
+    ghost use Rattle.automata_base.specs.declared.nfa.thompson.NfaError.TheVariants.{OutOfMemory};
 
     ghost from_gives = { λ _ e. e ≡ OutOfMemory };
 
