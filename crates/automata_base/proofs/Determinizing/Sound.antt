@@ -3,7 +3,7 @@ use Rattle.std.proofs.Common.{◌≡◌, ◌↔◌, None, length}
 use Rattle.std.specs.Prelude.{IsTrue}
 use Rattle.automata_base.specs.declared.nfa.thompson.Data.{Data}
 use Rattle.automata_base.specs.Nodes.{stack_room}
-use Rattle.automata_base.specs.Door.{IsDoor, IsLooks}
+use Rattle.automata_base.specs.Door.{IsLooks}
 use Rattle.automata_base.specs.Automata.{automaton_of, IsSound}
 use Rattle.automata_base.specs.Reach.{ReachesMatch, SkipsFrom}
 use Rattle.automata_base.specs.Refusals.{refusal}

@@ -1,6 +1,6 @@
 -- What a set has once the states of a list were added.
 use Rattle.std.proofs.Common.{ℕ, zero, suc, ◌≡◌, ◌<◌, ◌≤◌, ◌+◌, ◌⊎◌, Bool, true, false, cond, List, [], ◌∷◌, ◌++◌, length, get_or, take, drop, inl, inr, refl, sym, ap, ◌∙◌, subst, arith, append_assoc, append-nil}
-use Rattle.std.specs.Prelude.{Contains, IsTrue, IsFalse, ltb, ◌&&◌}
+use Rattle.std.specs.Prelude.{Contains, IsTrue, IsFalse, ltb}
 use Rattle.std.proofs.lemmas.Bool.{ltb-true}
 use Rattle.std.proofs.lemmas.List.{at_drop_more, drop_all, take-append-le}
 use Rattle.automata_base.specs.declared.nfa.thompson.State.{State}

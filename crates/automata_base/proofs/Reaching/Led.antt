@@ -1,19 +1,16 @@
 -- Where targets lead is where edges lead.
-use Rattle.std.proofs.Common.{ℕ, zero, suc, ◌≡◌, ◌<◌, ◌≤◌, ◌+◌, ◌⊎◌, ◌↔◌, ◌&&◌, Bool, true, false, cond, leb, List, [], ◌∷◌, ◌++◌, Option, Some, None, inl, inr, refl, sym, ap, ◌∙◌, subst, arith, true≢false}
-use Rattle.std.specs.Prelude.{slice_get}
+use Rattle.std.proofs.Common.{ℕ, zero, suc, ◌≡◌, ◌≤◌, ◌+◌, ◌⊎◌, ◌↔◌, ◌&&◌, Bool, true, false, cond, leb, List, [], ◌∷◌, Some, None, inl, inr, refl, sym, ap, ◌∙◌, subst, arith}
 use Rattle.std.proofs.lemmas.Grind.{common_steps}
 use Rattle.std.proofs.lemmas.Bool.{leb-true, le-leb}
 use Rattle.automata_base.specs.declared.nfa.thompson.State.{State}
 use Rattle.automata_base.specs.declared.nfa.thompson.State.TheVariants as is
 use Rattle.automata_base.specs.declared.nfa.thompson.Transition.{Transition}
 use Rattle.automata_base.specs.declared.nfa.thompson.reach.Edges.TheVariants.{Epsilon, Every}
-use Rattle.automata_base.specs.Cuts.{MatchKind}
-use Rattle.automata_base.specs.Engines.{Dfa, HasEdge, Road, Reaches}
-use Rattle.automata_base.specs.Engines as engines
+use Rattle.automata_base.specs.Engines.{HasEdge, Road, Reaches}
 use Rattle.automata_base.specs.Getters.{HasEmpty, SkipsLazily}
 use Rattle.automata_base.specs.Lists.{In, nth}
 use Rattle.automata_base.specs.Looks.{within}
-use Rattle.automata_base.specs.Nfa.{Node, Range, Split, Assert, Read, Accept, hop, takes, takes_in, takes_at}
+use Rattle.automata_base.specs.Nfa.{Node, Range, Split, Assert, Read, Accept, hop, takes_in, takes_at}
 use Rattle.automata_base.specs.Nodes.{Automaton, nfa_of, node_of, ranges_of, dense_from}
 use Rattle.automata_base.specs.Paths.{all_true, Run, Leads}
 use Rattle.automata_base.specs.Reach.{node_in, nexts, byte_targets, targets_of, Way, IsReached, ReachesMatch, SkipsFrom}
@@ -87,18 +84,22 @@ next_takes :
 next_takes low [] r o i = absurd i
 next_takes low (t ∷ ts) r o (inl e) =
     let outer = both (leb low t.lo && leb t.lo t.hi) (ordered_from (t.hi + 1) ts) o in
-    let inner = both (leb low t.lo) (leb t.lo t.hi) outer.0 in
-    (t.lo, leb-true low t.lo inner.0,
-    ap (λ b. cond b (Some t.next) (takes_in (ranges_of ts) t.lo)) (within_low t.lo t.hi inner.1) ∙ ap (λ z. Some z) (sym e))
+    let inner = both (leb low t.lo) (leb t.lo t.hi) outer.0 in (
+      t.lo,
+      leb-true low t.lo inner.0,
+      ap (λ b. cond b (Some t.next) (takes_in (ranges_of ts) t.lo)) (within_low t.lo t.hi inner.1) ∙ ap (λ z. Some z) (sym e),
+    )
 next_takes low (t ∷ ts) r o (inr i) =
     let outer = both (leb low t.lo && leb t.lo t.hi) (ordered_from (t.hi + 1) ts) o in
     let inner = both (leb low t.lo) (leb t.lo t.hi) outer.0 in
     let w = next_takes (t.hi + 1) ts r outer.1 i in
     let a : low ≤ t.lo = leb-true low t.lo inner.0 in
     let b : t.lo ≤ t.hi = leb-true t.lo t.hi inner.1 in
-    let c : t.hi + 1 ≤ w.0 = w.1 in
-    (w.0, omega arith,
-    ap (λ b. cond b (Some t.next) (takes_in (ranges_of ts) w.0)) (within_past t.lo t.hi w.0 c) ∙ w.2)
+    let c : t.hi + 1 ≤ w.0 = w.1 in (
+      w.0,
+      omega arith,
+      ap (λ b. cond b (Some t.next) (takes_in (ranges_of ts) w.0)) (within_past t.lo t.hi w.0 c) ∙ w.2,
+    )
 
 within_other : (k u : ℕ) → k + 1 ≤ u → within k k u ≡ false
 within_other k u l = within_past k k u l
@@ -110,14 +111,18 @@ dense_takes_next k (zero ∷ xs) r i =
     let w = dense_takes_next (suc k) xs r i in
     let c : suc k ≤ w.0 = w.1 in
     (w.0, omega arith, w.2)
-dense_takes_next k (suc m ∷ xs) r (inl e) =
-    (k, omega arith,
-    ap (λ b. cond b (Some (suc m)) (takes_in (dense_from (suc k) xs) k)) (within_low k k (le-leb k k (omega arith))) ∙ ap (λ z. Some z) (sym e))
+dense_takes_next k (suc m ∷ xs) r (inl e) = (
+  k,
+  omega arith,
+  ap (λ b. cond b (Some (suc m)) (takes_in (dense_from (suc k) xs) k)) (within_low k k (le-leb k k (omega arith))) ∙ ap (λ z. Some z) (sym e),
+)
 dense_takes_next k (suc m ∷ xs) r (inr i) =
     let w = dense_takes_next (suc k) xs r i in
-    let c : suc k ≤ w.0 = w.1 in
-    (w.0, omega arith,
-    ap (λ b. cond b (Some (suc m)) (takes_in (dense_from (suc k) xs) w.0)) (within_other k w.0 (omega arith)) ∙ w.2)
+    let c : suc k ≤ w.0 = w.1 in (
+      w.0,
+      omega arith,
+      ap (λ b. cond b (Some (suc m)) (takes_in (dense_from (suc k) xs) w.0)) (within_other k w.0 (omega arith)) ∙ w.2,
+    )
 
 state_takes :
     (s : State) (r : ℕ) → state_ordered s ≡ true → In r (byte_targets (node_of s)) → (u : ℕ) × (takes_at (node_of s) u ≡ Some r)

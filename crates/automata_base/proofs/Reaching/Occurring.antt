@@ -1,10 +1,9 @@
 -- Which looks occur.
-use Rattle.std.proofs.Common.{ℕ, ◌≡◌, ◌↔◌, Bool, true, eqb, refl, sym, ap, ◌∙◌, subst}
+use Rattle.std.proofs.Common.{ℕ, ◌≡◌, ◌↔◌, Bool, true, eqb, refl, sym, ap, ◌∙◌}
 use Rattle.std.proofs.lemmas.Bool.{eq-eqb}
-use Rattle.automata_base.specs.Computed.{any_node}
 use Rattle.automata_base.specs.Door.{IsLooks}
 use Rattle.automata_base.specs.Looks.{Look, look_index}
-use Rattle.automata_base.specs.Nfa.{Assert, node}
+use Rattle.automata_base.specs.Nfa.{Assert}
 use Rattle.automata_base.specs.Nodes.{Automaton, nfa_of}
 use Rattle.automata_base.specs.Passes.{Occurs}
 use Rattle.automata_base.specs.Truths.{truth_of}

@@ -15,6 +15,7 @@ use crate::util::primitives::{PatternID, StateID};
 
 // 2^27 and 2^31.
 const MAX_STATES: usize = 134_217_728;
+
 const MAX_ALTERNATES: usize = 2_147_483_648;
 
 fn is_below(id: StateID, n: usize) -> bool

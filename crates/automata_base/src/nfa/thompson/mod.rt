@@ -51,7 +51,10 @@ pub enum State {
         alternates: Vec<StateID>,
     },
     /// A union of two alternates, `alt1` preferred.
-    BinaryUnion { alt1: StateID, alt2: StateID },
+    BinaryUnion {
+        alt1: StateID,
+        alt2: StateID,
+    },
     /// Goes on without reading. What it says of groups is kept and not looked at.
     Capture {
         /// The state that it leads to.
@@ -66,7 +69,9 @@ pub enum State {
     /// Leads nowhere.
     Fail,
     /// Matches the pattern.
-    Match { pattern: PatternID },
+    Match {
+        pattern: PatternID,
+    },
 }
 
 /// What an NFA says of itself. By default it is neither in UTF-8 mode nor reversed, and its lines end in `\n`.
@@ -234,8 +239,12 @@ impl NFA {
         ensures memory { IsOkUnless result NfaError.OutOfMemory }
     {
         let has_empty = reaches_match(alloc, states.as_slice(), start_pattern.as_slice())?;
-        let skips_lazily =
-            skips_lazily(alloc, states.as_slice(), start_anchored, start_unanchored)?;
+        let skips_lazily = skips_lazily(
+            alloc,
+            states.as_slice(),
+            start_anchored,
+            start_unanchored,
+        )?;
         let looks = looks_of(states.as_slice());
         let data = Data {
             states,

@@ -182,11 +182,7 @@ fn is_some_match(states: &[State], ids: &[StateID]) -> bool
 }
 
 /// Whether edges that read nothing lead from some root to a match.
-pub fn reaches_match(
-    alloc: Global,
-    states: &[State],
-    roots: &[StateID],
-) -> Result<bool, AllocError>
+pub fn reaches_match(alloc: Global, states: &[State], roots: &[StateID]) -> Result<bool, AllocError>
     requires few { length states.now ≤ 2 ^ 27 }
     requires range { states_below (length states.now) states.now ≡ true }
     requires roots { all_below (length states.now) roots.now ≡ true }

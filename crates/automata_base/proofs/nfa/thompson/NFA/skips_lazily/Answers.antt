@@ -1,4 +1,4 @@
-use Rattle.std.proofs.Common.{◌↔◌, subst, sym, ap, ◌∙◌}
+use Rattle.std.proofs.Common.{◌↔◌, subst, sym}
 use Rattle.std.specs.Prelude.{IsTrue}
 use Rattle.automata_base.specs.declared.nfa.thompson.Data.{Data}
 use Rattle.automata_base.specs.Getters.{SkipsLazily}

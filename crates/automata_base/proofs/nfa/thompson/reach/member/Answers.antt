@@ -1,5 +1,4 @@
-use Rattle.std.proofs.Common.{◌≡◌, ◌<◌, ◌≤◌, ℕ, length, get_or, Some, sym, ap, subst, arith, ◌∙◌}
-use Rattle.automata_base.specs.Lists.{In}
+use Rattle.std.proofs.Common.{◌≡◌, ◌<◌, ◌≤◌, length, get_or, subst, arith}
 use Rattle.automata_base.proofs.Determinizing.Keeping.{below_at}
 use Rattle.automata_base.proofs.Determinizing.Tests_of_lists.{some_same}
 use Rattle.automata_base.proofs.nfa.thompson.reach.member.Goals as goal

@@ -1,12 +1,11 @@
-use Rattle.std.proofs.Common.{◌≡◌, ◌<◌, ◌≤◌, ◌+◌, ◌-◌, ℕ, length, refl, get_or, sym, ap, ◌∙◌, subst, arith, true}
-use Rattle.automata_base.specs.Checks.{all_below}
+use Rattle.std.proofs.Common.{◌≡◌, ◌<◌, ◌≤◌, ◌+◌, ◌-◌, length, refl, get_or, sym, ap, ◌∙◌, arith}
 use Rattle.automata_base.specs.Nodes.{node_of}
 use Rattle.automata_base.specs.Once.{once_from}
 use Rattle.automata_base.specs.Reach.{node_in, targets_at, targets_of}
-use Rattle.automata_base.specs.Refusals.{state_below, states_below}
+use Rattle.automata_base.specs.Refusals.{states_below}
 use Rattle.automata_base.proofs.Determinizing.Walking.{node_at}
 use Rattle.automata_base.proofs.Reaching.Adding.{state_at_below}
-use Rattle.automata_base.proofs.Reaching.Walked.{IsWalked, walk_starts, walk_steps, walk_ends}
+use Rattle.automata_base.proofs.Reaching.Walked.{walk_starts, walk_steps, walk_ends}
 use Rattle.automata_base.proofs.nfa.thompson.reach.reach.Goals as goal
 
 pub loop-id-init : goal.loop-id-init

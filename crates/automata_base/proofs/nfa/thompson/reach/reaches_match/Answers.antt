@@ -1,4 +1,4 @@
-use Rattle.std.proofs.Common.{ℕ, ◌<◌, length, subst, sym, ap, ◌∙◌}
+use Rattle.std.proofs.Common.{◌<◌, subst}
 use Rattle.automata_base.specs.Lists.{In}
 use Rattle.automata_base.proofs.Reaching.Matched.{match_found}
 use Rattle.automata_base.proofs.nfa.thompson.reach.reaches_match.Goals as goal
