@@ -1,5 +1,6 @@
 pub mod Coding
 pub mod Determinizing
 pub mod Paths
+pub mod Reaching
 pub mod Spans
 pub mod Values

@@ -1,8 +1,9 @@
 -- The data of an NFA as what contracts see.
-use Rattle.std.specs.Prelude.{ℕ, ◌≡◌, ◌≤◌}
+use Rattle.std.specs.Prelude.{◌≡◌, ◌↔◌, IsTrue}
 use Rattle.automata_base.specs.declared.nfa.thompson.Data.{Data}
 use Rattle.automata_base.specs.Nodes.{Automaton, stack_room}
 use Rattle.automata_base.specs.Door.{IsDoor, IsLooks}
+use Rattle.automata_base.specs.Getters.{HasEmpty, SkipsLazily}
 
 abbrev pub automaton_of : Data → Automaton
 automaton_of d = record {
@@ -17,4 +18,5 @@ pub record IsSound (d : Data) : Type 0 where
   pub door : IsDoor (automaton_of d)
   pub looks : IsLooks (automaton_of d) d.looks
   pub room : d.room ≡ stack_room d.states.items
-  pub few : d.room ≤ 2147483649
+  pub empty : IsTrue d.has_empty ↔ HasEmpty (automaton_of d)
+  pub skips : IsTrue d.skips_lazily ↔ SkipsLazily (automaton_of d)

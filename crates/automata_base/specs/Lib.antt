@@ -11,6 +11,7 @@ pub mod Door
 pub mod Engines
 pub mod Equal
 pub mod Follow
+pub mod Getters
 pub mod Input
 pub mod Key
 pub mod LateIsRight
@@ -28,6 +29,7 @@ pub mod Passes
 pub mod Paths
 pub mod PatternSet
 pub mod Powerset
+pub mod Reach
 pub mod Refusals
 pub mod Scratches
 pub mod Selections

@@ -1,5 +1,7 @@
 -- The tests of the door.
-use Rattle.std.specs.Prelude.{ℕ, zero, suc, ◌+◌, ◌^◌, ◌<◌, ◌⊎◌, Option, Some, None, sum_by, length, nat_lt, cond, not, Bool, true, ◌&&◌, ltb, leb, List, [], ◌∷◌}
+use Rattle.std.specs.Prelude.{ℕ, ◌+◌, ◌^◌, Option, Some, None, sum_by, length, Bool, true, ◌&&◌, ltb, leb, if◌then◌else◌, List, [], ◌∷◌}
+use Rattle.automata_base.specs.declared.nfa.thompson.NfaError.{NfaError}
+use Rattle.automata_base.specs.declared.nfa.thompson.NfaError.TheVariants.{TooLarge, StartRange, StateRange, Ranges, PatternRange}
 use Rattle.automata_base.specs.declared.nfa.thompson.State.{State}
 use Rattle.automata_base.specs.declared.nfa.thompson.State.TheVariants as is
 use Rattle.automata_base.specs.declared.nfa.thompson.Transition.{Transition}
@@ -72,3 +74,29 @@ alternates_of (is.BinaryUnion alt1 alt2) = 2
 alternates_of (is.Capture next pattern index slot) = 0
 alternates_of is.Fail = 0
 alternates_of (is.Match pattern) = 0
+
+-- At most 2^27 states and patterns.
+abbrev pub is_small : List State → List ℕ → Bool
+is_small states starts = leb (length states) (2 ^ 27) && leb (length starts) (2 ^ 27)
+
+-- At most 2^31 alternates in all.
+abbrev pub is_narrow : List State → Bool
+is_narrow states = leb (sum_by alternates_of states) (2 ^ 31)
+
+-- Each start is in range.
+abbrev pub starts_below : ℕ → (anchored unanchored : ℕ) → (starts : List ℕ) → Bool
+starts_below n anchored unanchored starts = ltb anchored n && ltb unanchored n && all_below n starts
+
+-- The error where the test fails, and else what the later tests tell.
+abbrev pub unless : Bool → NfaError → Option NfaError → Option NfaError
+unless passes error later = if passes then later else Some error
+
+-- The error of the first test that fails: none where all pass.
+unfoldable pub refusal : List State → (anchored unanchored : ℕ) → (starts : List ℕ) → Option NfaError
+refusal states anchored unanchored starts =
+    unless (is_small states starts) TooLarge
+    (unless (is_narrow states) TooLarge
+    (unless (starts_below (length states) anchored unanchored starts) StartRange
+    (unless (states_below (length states) states) StateRange
+    (unless (states_ordered states) Ranges
+    (unless (matches_below (length starts) states) PatternRange None)))))

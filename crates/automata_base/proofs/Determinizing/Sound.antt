@@ -1,32 +1,38 @@
 -- What the door lets in is sound.
-use Rattle.std.proofs.Common.{ℕ, ◌≡◌, ◌<◌, ◌≤◌, ◌^◌, true, ltb, length}
-use Rattle.std.proofs.lemmas.Bool.{ltb-true}
-use Rattle.automata_base.specs.Checks.{all_below}
+use Rattle.std.proofs.Common.{◌≡◌, ◌↔◌, None, length}
+use Rattle.std.specs.Prelude.{IsTrue}
 use Rattle.automata_base.specs.declared.nfa.thompson.Data.{Data}
 use Rattle.automata_base.specs.Nodes.{stack_room}
-use Rattle.automata_base.specs.Door.{IsDoor, IsLooks}
+use Rattle.automata_base.specs.Door.{IsLooks}
 use Rattle.automata_base.specs.Automata.{automaton_of, IsSound}
-use Rattle.automata_base.specs.Refusals.{states_below, matches_below}
+use Rattle.automata_base.specs.Reach.{ReachesMatch, SkipsFrom}
+use Rattle.automata_base.specs.Refusals.{refusal}
 use Rattle.automata_base.proofs.Determinizing.Tests_of_lists.{door_range, door_starts, patterns_fit}
+use Rattle.automata_base.proofs.Reaching.Led.{empty_is, lazily_is}
+use Rattle.automata_base.proofs.Reaching.Refused.{passing, room_small}
 
 pub sound :
-    (d : Data) → length d.states.items ≤ 134217728 → length d.start_pattern.items ≤ 134217728
-    → ltb d.start_anchored (length d.states.items) ≡ true → ltb d.start_unanchored (length d.states.items) ≡ true
-    → all_below (length d.states.items) d.start_pattern.items ≡ true → states_below (length d.states.items) d.states.items ≡ true
-    → matches_below (length d.start_pattern.items) d.states.items ≡ true → IsLooks (automaton_of d) d.looks → d.room ≡ stack_room d.states.items → d.room ≤ 2147483649
+    (d : Data) → refusal d.states.items d.start_anchored d.start_unanchored d.start_pattern.items ≡ None
+    → IsLooks (automaton_of d) d.looks → d.room ≡ stack_room d.states.items
+    → IsTrue d.has_empty ↔ ReachesMatch d.states.items d.start_pattern.items
+    → IsTrue d.skips_lazily ↔ SkipsFrom d.states.items d.start_anchored d.start_unanchored
     → IsSound d
-sound d small few a u s r m l e b =
+sound d none looks room empty skips =
+    let tests = passing d.states.items d.start_anchored d.start_unanchored d.start_pattern.items none in
     record {
       door = record {
-        small = small;
-        few = few;
-        range = door_range (automaton_of d) r;
-        anchored = ltb-true d.start_anchored (length d.states.items) a;
-        unanchored = ltb-true d.start_unanchored (length d.states.items) u;
-        starts = door_starts (length d.states.items) d.start_pattern.items s;
-        patterns = λ q p. patterns_fit (length d.start_pattern.items) d.states.items q p m;
+        small = tests.small;
+        few = tests.few;
+        range = door_range (automaton_of d) tests.range;
+        anchored = tests.anchored;
+        unanchored = tests.unanchored;
+        starts = door_starts (length d.states.items) d.start_pattern.items tests.starts;
+        ordered = tests.ordered;
+        room = room_small d.states.items tests.narrow;
+        patterns = λ q p. patterns_fit (length d.start_pattern.items) d.states.items q p tests.patterns;
       };
-      looks = l;
-      room = e;
-      few = b;
+      looks = looks;
+      room = room;
+      empty = empty_is (automaton_of d) (IsTrue d.has_empty) empty;
+      skips = lazily_is (automaton_of d) tests.ordered (IsTrue d.skips_lazily) skips;
     }

@@ -78,7 +78,7 @@ dense_fit n k (suc m ∷ xs) h =
     let w = and_both (ltb (suc m) n) (all_below n xs) h in
     and_true (ltb (suc m) n) (ranges_below n (dense_from (suc k) xs)) w.0 (dense_fit n (suc k) xs w.1)
 
-node_fits : (n : ℕ) (s : State) → state_below n s ≡ true → node_below n (node_of s) ≡ true
+pub node_fits : (n : ℕ) (s : State) → state_below n s ≡ true → node_below n (node_of s) ≡ true
 node_fits n (ByteRange lo hi next) h = and_true (ltb next n) true h refl
 node_fits n (Sparse ts) h = ranges_fit n ts.items h
 node_fits n (Dense targets) h = dense_fit n 0 targets h

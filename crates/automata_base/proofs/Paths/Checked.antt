@@ -13,7 +13,7 @@ use Rattle.automata_base.proofs.Paths.Orders.{some_inj, none_some}
 use Rattle.automata_base.proofs.Paths.Sets.{HasWalk, walk_cons}
 use Rattle.automata_base.proofs.Paths.Fuels.{is_in_false, closure_right, AllBelow}
 
-both : (a b : Bool) → a && b ≡ true → (a ≡ true) × (b ≡ true)
+pub both : (a b : Bool) → a && b ≡ true → (a ≡ true) × (b ≡ true)
 both true b e = (refl, e)
 both false b e = absurd (true≢false (sym e))
 

@@ -3,15 +3,20 @@ ghost use Rattle.automata_base.specs.Checks.{all_below};
 ghost use Rattle.automata_base.specs.Computed.{any_node};
 ghost use Rattle.automata_base.specs.Looks.{look_index};
 ghost use Rattle.automata_base.specs.Nodes.{nodes_of, stack_room, extra_of};
-ghost use Rattle.automata_base.specs.Refusals.{transitions_below, state_below, states_below, match_below, matches_below, ordered_from, state_ordered, states_ordered, alternates_of};
+ghost use Rattle.automata_base.specs.Refusals.{transitions_below, state_below, states_below, match_below, matches_below, ordered_from, state_ordered, states_ordered, alternates_of, is_small, is_narrow, starts_below, refusal};
 ghost use Rattle.automata_base.specs.Truths.{truth_of};
 ghost use Rattle.automata_base.specs.Looks.{Look};
-ghost use Rattle.std.specs.Prelude.{eqb, sum_by, take};
+ghost use Rattle.std.specs.Prelude.{eqb, sum_by, take, false, true, None, Option};
 
 use crate::nfa::thompson::reading::add_look;
-use crate::nfa::thompson::{State, Transition};
+use crate::nfa::thompson::{NfaError, State, Transition};
 use crate::util::look::LookSet;
 use crate::util::primitives::{PatternID, StateID};
+
+// 2^27 and 2^31.
+const MAX_STATES: usize = 134_217_728;
+
+const MAX_ALTERNATES: usize = 2_147_483_648;
 
 fn is_below(id: StateID, n: usize) -> bool
     ensures { result ≡ ltb id n }
@@ -31,13 +36,7 @@ fn next_below(t: &Transition, n: usize) -> bool
     t.next.as_usize() < n
 }
 
-pub fn is_start(id: StateID, n: usize) -> bool
-    ensures { result ≡ ltb id n }
-{
-    is_below(id, n)
-}
-
-pub fn ids_below(xs: &[StateID], n: usize) -> bool
+fn ids_below(xs: &[StateID], n: usize) -> bool
     ensures { result ≡ all_below n xs.now }
 {
     for i in 0..xs.len() {
@@ -91,7 +90,7 @@ fn is_match_below(state: &State, n: usize) -> bool
     }
 }
 
-pub fn are_below(states: &[State], n: usize) -> bool
+fn are_below(states: &[State], n: usize) -> bool
     ensures { result ≡ states_below n states.now }
 {
     for i in 0..states.len() {
@@ -102,7 +101,7 @@ pub fn are_below(states: &[State], n: usize) -> bool
     true
 }
 
-pub fn are_matches_below(states: &[State], n: usize) -> bool
+fn are_matches_below(states: &[State], n: usize) -> bool
     ensures { result ≡ matches_below n states.now }
 {
     for i in 0..states.len() {
@@ -172,7 +171,7 @@ fn is_state_ordered(state: &State) -> bool
     }
 }
 
-pub fn are_ordered(states: &[State]) -> bool
+fn are_ordered(states: &[State]) -> bool
     ensures { result ≡ states_ordered states.now }
 {
     for i in 0..states.len() {
@@ -205,21 +204,64 @@ fn less_one(n: usize) -> usize
     if n == 0 { 0 } else { n - 1 }
 }
 
-/// The number E, where the unions have at most 2^31 alternates in all.
-pub fn room_of(states: &[State]) -> Option<usize>
+// The room that a stack needs, where the unions have at most 2^31 alternates in all.
+fn room_of(states: &[State]) -> Option<usize>
     ensures some { (room : ℕ) → result ≡ Some room → room ≡ stack_room states.now }
-    ensures bound { (room : ℕ) → result ≡ Some room → room ≤ 2147483649 }
-    ensures few { (room : ℕ) → result ≡ Some room → sum_by alternates_of states.now ≤ 2147483648 }
+    ensures few { (room : ℕ) → result ≡ Some room → is_narrow states.now ≡ true }
+    ensures none { result ≡ None → is_narrow states.now ≡ false }
 {
     let mut total: usize = 0;
     let mut room: usize = 1;
     for i in 0..states.len() {
         let more = count_alternates(&states[i]);
-        if more > 2147483648 - total {
+        if more > MAX_ALTERNATES - total {
             return None;
         }
         total = total + more;
         room = room + less_one(more);
     }
     Some(room)
+}
+
+fn has_few(states: &[State], starts: &[StateID]) -> bool
+    ensures { result ≡ is_small states.now starts.now }
+{
+    states.len() <= MAX_STATES && starts.len() <= MAX_STATES
+}
+
+fn are_starts(n: usize, anchored: StateID, unanchored: StateID, starts: &[StateID]) -> bool
+    ensures { result ≡ starts_below n anchored unanchored starts.now }
+{
+    is_below(anchored, n) && is_below(unanchored, n) && ids_below(starts, n)
+}
+
+/// The room that a stack needs, unless a test fails.
+pub fn test(
+    states: &[State],
+    anchored: StateID,
+    unanchored: StateID,
+    starts: &[StateID],
+) -> Result<usize, NfaError>
+    ensures refused { (e : NfaError) → refusal states.now anchored unanchored starts.now ≡ Some e → result ≡ Err e }
+    ensures passed { refusal states.now anchored unanchored starts.now ≡ None → result ≡ Ok (stack_room states.now) }
+{
+    if !has_few(states, starts) {
+        return Err(NfaError::TooLarge);
+    }
+    let Some(room) = room_of(states) else {
+        return Err(NfaError::TooLarge);
+    };
+    if !are_starts(states.len(), anchored, unanchored, starts) {
+        return Err(NfaError::StartRange);
+    }
+    if !are_below(states, states.len()) {
+        return Err(NfaError::StateRange);
+    }
+    if !are_ordered(states) {
+        return Err(NfaError::Ranges);
+    }
+    if !are_matches_below(states, starts.len()) {
+        return Err(NfaError::PatternRange);
+    }
+    Ok(room)
 }

@@ -1,19 +1,20 @@
 //! Thompson NFAs.
 
 mod door;
+mod reach;
 pub(crate) mod reading;
 
-use crate::nfa::thompson::door::{
-    are_below, are_matches_below, are_ordered, ids_below, is_start, looks_of, room_of,
-};
+use crate::nfa::thompson::door::{looks_of, test};
+use crate::nfa::thompson::reach::{reaches_match, skips_lazily};
 use crate::util::look::{Look, LookSet};
 use crate::util::primitives::{PatternID, StateID};
 use crate::util::search::Anchored;
 use std::alloc::{AllocError, Global};
 use std::marker::Model;
 use std::rc::Rc;
+use thiserror::Error;
 
-/// A range of bytes with its target.
+/// An edge that reads a byte: from `lo` to `hi`, both included, it leads to `next`.
 #[derive(Clone, Copy, Debug, PartialEq, Eq)]
 pub struct Transition {
     pub lo: u8,
@@ -24,56 +25,115 @@ pub struct Transition {
 /// A state of an NFA.
 #[derive(Debug, Drop)]
 pub enum State {
+    /// Reads one byte, from `lo` to `hi`.
     ByteRange {
+        /// The least byte.
         lo: u8,
+        /// The greatest byte.
         hi: u8,
+        /// The state that the byte leads to.
         next: StateID,
     },
+    /// Reads one byte, by the range that has it. The ranges are sorted, and no two overlap.
     Sparse(Vec<Transition>),
+    /// Reads one byte, by the target at its index. Target 0 stands for no edge.
     Dense([StateID; 256]),
+    /// Goes on without reading where the look holds.
     Look {
+        /// What has to hold.
         look: Look,
+        /// The state that it leads to.
         next: StateID,
     },
+    /// Goes on without reading to each alternate, the first of them preferred.
     Union {
+        /// The alternates, best first.
         alternates: Vec<StateID>,
     },
+    /// A union of two alternates, `alt1` preferred.
     BinaryUnion {
         alt1: StateID,
         alt2: StateID,
     },
+    /// Goes on without reading. What it says of groups is kept and not looked at.
     Capture {
+        /// The state that it leads to.
         next: StateID,
+        /// The pattern of the group.
         pattern_id: PatternID,
+        /// The group's index in its pattern.
         group_index: u32,
+        /// The slot of the group's offset.
         slot: u32,
     },
+    /// Leads nowhere.
     Fail,
+    /// Matches the pattern.
     Match {
         pattern: PatternID,
     },
 }
 
-/// What an NFA says of itself.
+/// What an NFA says of itself. By default it is neither in UTF-8 mode nor reversed, and its lines end in `\n`.
 #[derive(Clone, Copy, Debug, PartialEq, Eq)]
 pub struct Flags {
+    /// Whether empty matches that split a character are left out.
     pub utf8: bool,
+    /// Whether it matches the reversed texts.
     pub reverse: bool,
+    /// The byte that ends a line, for the looks at lines.
     pub line_terminator: u8,
 }
 
+impl Default for Flags {
+    ghost use Rattle.std.specs.Prelude.{◌≡◌, false};
+
+    ghost is_default = { λ flags. flags ≡ record { utf8 = false; reverse = false; line_terminator = 10 } };
+
+    fn default() -> Flags {
+        Flags {
+            utf8: false,
+            reverse: false,
+            line_terminator: b'\n',
+        }
+    }
+}
+
 /// Why an NFA is refused.
-#[derive(Clone, Copy, Debug, PartialEq, Eq)]
+#[derive(Clone, Copy, Debug, PartialEq, Eq, Error)]
 pub enum NfaError {
+    /// A state leads to a state that isn't there.
+    #[error("a state leads to a state that is out of range")]
     StateRange,
+    /// A start is a state that isn't there: an NFA has at least one state.
+    #[error("a start state is out of range")]
     StartRange,
+    /// A match state has a pattern without a start.
+    #[error("a match state has a pattern that is out of range")]
     PatternRange,
+    /// A range ends before it begins, or ranges of a sparse state are not sorted or overlap.
+    #[error("ranges of bytes are not in order")]
     Ranges,
+    /// There are more than 2^27 states or patterns, or more than 2^31 alternates in all, a binary union having two.
+    #[error("too many states, patterns or alternates")]
     TooLarge,
+    /// An allocation failed.
+    #[error("out of memory")]
     OutOfMemory,
 }
 
-/// What the clones of an NFA share.
+impl From<AllocError> for NfaError {
+    ghost use Rattle.std.specs.Prelude.{◌≡◌};
+    ghost use Rattle.automata_base.specs.declared.nfa.thompson.NfaError.TheVariants.{OutOfMemory};
+
+    ghost from_gives = { λ _ e. e ≡ OutOfMemory };
+
+    fn from(_e: AllocError) -> NfaError {
+        NfaError::OutOfMemory
+    }
+}
+
+// What the clones of an NFA share.
 #[derive(Drop)]
 struct Data {
     states: Vec<State>,
@@ -83,9 +143,11 @@ struct Data {
     flags: Flags,
     looks: LookSet,
     room: usize,
+    has_empty: bool,
+    skips_lazily: bool,
 }
 
-/// An NFA.
+/// A Thompson NFA: its states, its starts and its flags. Cloning shares them and takes no memory.
 #[derive(Drop)]
 pub struct NFA {
     data: Rc<Data>,
@@ -120,14 +182,19 @@ impl Clone for NFA {
 }
 
 impl NFA {
-    ghost use Rattle.std.specs.Prelude.{◌≡◌, ◌<◌, ◌≤◌, length, slice_index_or};
-    ghost use Rattle.std.specs.Prelude.{ℕ, Some, IfOk, true};
-    ghost use Rattle.automata_base.specs.Refusals.{states_ordered};
-    ghost use Rattle.automata_base.specs.Nodes.{stack_room};
-    ghost use Rattle.automata_base.specs.Starts.{mode_start};
+    ghost use Rattle.std.specs.Prelude.{◌≡◌, ◌<◌, ◌≤◌, ◌↔◌, ℕ, true, None, Some, IfOk, IsOkUnless, IsTrue, length, slice_get, slice_index_or};
     ghost use Rattle.automata_base.specs.Door.{IsDoor, IsLooks};
+    ghost use Rattle.automata_base.specs.Getters.{HasEmpty, IsAlwaysStartAnchored, SkipsLazily};
+    ghost use Rattle.automata_base.specs.Looks.{Look};
+    ghost use Rattle.automata_base.specs.Nodes.{nfa_of, stack_room};
+    ghost use Rattle.automata_base.specs.Passes.{Occurs};
+    ghost use Rattle.automata_base.specs.Refusals.{refusal};
+    ghost use Rattle.automata_base.specs.Starts.{mode_start};
+    ghost use Rattle.automata_base.specs.Truths.{truth_of};
 
-    /// The door.
+    /// An NFA of these states, which starts there, pattern k at state k of `start_pattern`. It is refused by the first of
+    /// these tests that fails, each of the whole list: its size, the starts, the states that edges lead to, the order of
+    /// ranges, the patterns; then for want of memory.
     pub fn from_states(
         alloc: Global,
         states: Vec<State>,
@@ -137,52 +204,66 @@ impl NFA {
         flags: Flags,
     ) -> Result<NFA, NfaError>
         ensures same { IfOk result (λ nfa. nfa ≡ record { states = states.items; start_anchored = start_anchored; start_unanchored = start_unanchored; start_pattern = start_pattern.items; flags = flags }) }
-        ensures ordered { IfOk result (λ nfa. states_ordered states.items ≡ true) }
+        ensures refused { (e : NfaError) → refusal states.items start_anchored start_unanchored start_pattern.items ≡ Some e → result ≡ Err e }
+        ensures passed { refusal states.items start_anchored start_unanchored start_pattern.items ≡ None → IsOkUnless result NfaError.OutOfMemory }
     {
-        let n = states.len();
-        let patterns = start_pattern.len();
-        if n > 134217728 || patterns > 134217728 {
-            return Err(NfaError::TooLarge);
-        }
-        match room_of(states.as_slice()) {
-            None => Err(NfaError::TooLarge),
-            Some(room) => {
-                if !is_start(start_anchored, n) {
-                    return Err(NfaError::StartRange);
-                }
-                if !is_start(start_unanchored, n) {
-                    return Err(NfaError::StartRange);
-                }
-                if !ids_below(start_pattern.as_slice(), n) {
-                    return Err(NfaError::StartRange);
-                }
-                if !are_below(states.as_slice(), n) {
-                    return Err(NfaError::StateRange);
-                }
-                if !are_ordered(states.as_slice()) {
-                    return Err(NfaError::Ranges);
-                }
-                if !are_matches_below(states.as_slice(), patterns) {
-                    return Err(NfaError::PatternRange);
-                }
-                let looks = looks_of(states.as_slice());
-                let data = Data {
-                    states,
-                    start_anchored,
-                    start_unanchored,
-                    start_pattern,
-                    flags,
-                    looks,
-                    room,
-                };
-                match Rc::new(alloc, data) {
-                    Ok(data) => Ok(NFA { data, alloc }),
-                    Err(_) => Err(NfaError::OutOfMemory),
-                }
-            }
+        let room = test(
+            states.as_slice(),
+            start_anchored,
+            start_unanchored,
+            start_pattern.as_slice(),
+        )?;
+        NFA::make(
+            alloc,
+            states,
+            start_anchored,
+            start_unanchored,
+            start_pattern,
+            flags,
+            room,
+        )
+    }
+
+    fn make(
+        alloc: Global,
+        states: Vec<State>,
+        start_anchored: StateID,
+        start_unanchored: StateID,
+        start_pattern: Vec<StateID>,
+        flags: Flags,
+        room: usize,
+    ) -> Result<NFA, NfaError>
+        requires passed { refusal states.items start_anchored start_unanchored start_pattern.items ≡ None }
+        requires room { room ≡ stack_room states.items }
+        ensures same { IfOk result (λ nfa. nfa ≡ record { states = states.items; start_anchored = start_anchored; start_unanchored = start_unanchored; start_pattern = start_pattern.items; flags = flags }) }
+        ensures memory { IsOkUnless result NfaError.OutOfMemory }
+    {
+        let has_empty = reaches_match(alloc, states.as_slice(), start_pattern.as_slice())?;
+        let skips_lazily = skips_lazily(
+            alloc,
+            states.as_slice(),
+            start_anchored,
+            start_unanchored,
+        )?;
+        let looks = looks_of(states.as_slice());
+        let data = Data {
+            states,
+            start_anchored,
+            start_unanchored,
+            start_pattern,
+            flags,
+            looks,
+            room,
+            has_empty,
+            skips_lazily,
+        };
+        match Rc::new(alloc, data) {
+            Ok(data) => Ok(NFA { data, alloc }),
+            Err(_) => Err(NfaError::OutOfMemory),
         }
     }
 
+    /// The states, state k at index k.
     pub fn states(&self) -> &[State]
         ensures same { result.now ≡ self.now.states }
         ensures door { IsDoor self.now }
@@ -190,6 +271,7 @@ impl NFA {
         self.data.states.as_slice()
     }
 
+    /// The state of this number.
     pub fn state(&self, id: StateID) -> &State
         requires { id < length self.now.states }
         ensures same { result.now ≡ slice_index_or self.now.states id result.now }
@@ -210,38 +292,94 @@ impl NFA {
         }
     }
 
+    /// Where an anchored search starts.
     pub fn start_anchored(&self) -> StateID
         ensures { result ≡ self.now.start_anchored }
     {
         self.data.start_anchored
     }
 
+    /// Where an unanchored search starts.
     pub fn start_unanchored(&self) -> StateID
         ensures { result ≡ self.now.start_unanchored }
     {
         self.data.start_unanchored
     }
 
+    /// How many patterns there are.
+    pub fn pattern_len(&self) -> usize
+        ensures { result ≡ length self.now.start_pattern }
+    {
+        self.data.start_pattern.len()
+    }
+
+    /// Where an anchored search for the pattern starts. Past the last pattern there is none.
+    pub fn start_pattern(&self, pattern: PatternID) -> Option<StateID>
+        ensures { result ≡ slice_get self.now.start_pattern pattern }
+    {
+        self.data.start_pattern.get(pattern.as_usize()).copied()
+    }
+
+    /// Where anchored searches for each pattern start, in the order of the patterns.
     pub fn pattern_starts(&self) -> &[StateID]
         ensures { result.now ≡ self.now.start_pattern }
     {
         self.data.start_pattern.as_slice()
     }
 
+    /// What the NFA says of itself.
     pub fn flags(&self) -> Flags
         ensures { result ≡ self.now.flags }
     {
         self.data.flags
     }
 
+    /// Whether empty matches that split a character are left out.
+    pub fn is_utf8(&self) -> bool
+        ensures { result ≡ self.now.flags.utf8 }
+    {
+        self.data.flags.utf8
+    }
+
+    /// Whether it matches the reversed texts.
+    pub fn is_reverse(&self) -> bool
+        ensures { result ≡ self.now.flags.reverse }
+    {
+        self.data.flags.reverse
+    }
+
     /// The looks that occur.
     pub fn look_set_any(&self) -> LookSet
-        ensures { IsLooks self.now result }
+        ensures same { IsLooks self.now result }
+        ensures occurs { (look : Look) → (truth_of result look ≡ true) ↔ Occurs (nfa_of self.now) look }
     {
         self.data.looks
     }
 
-    /// The number E of places that a stack needs.
+    /// Whether edges that read nothing lead from some pattern's start to a match, looks taken as true. So it is true
+    /// wherever the empty match is found, and may be where looks never hold.
+    pub fn has_empty(&self) -> bool
+        ensures { IsTrue result ↔ HasEmpty self.now }
+    {
+        self.data.has_empty
+    }
+
+    /// Whether unanchored searches start where anchored ones do.
+    pub fn is_always_start_anchored(&self) -> bool
+        ensures { IsTrue result ↔ IsAlwaysStartAnchored self.now }
+    {
+        self.data.start_unanchored == self.data.start_anchored
+    }
+
+    /// Whether unanchored searches start where anchored ones do, or at a union that tries the anchored start first and
+    /// then skips a byte.
+    pub fn skips_lazily(&self) -> bool
+        ensures { IsTrue result ↔ SkipsLazily self.now }
+    {
+        self.data.skips_lazily
+    }
+
+    /// How many states may wait on the stack of a closure: one, and each alternate of a union but its first.
     pub fn room(&self) -> usize
         ensures number { result ≡ stack_room self.now.states }
         ensures few { result ≤ 2147483649 }
@@ -249,6 +387,7 @@ impl NFA {
         self.data.room
     }
 
+    /// Where the NFA's memory is from.
     pub fn alloc(&self) -> Global {
         self.alloc
     }

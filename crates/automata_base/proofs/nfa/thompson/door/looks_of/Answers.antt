@@ -1,4 +1,4 @@
-use Rattle.std.proofs.Common.{◌≡◌, ◌||◌, ◌∙◌, ap, eqb}
+use Rattle.std.proofs.Common.{◌||◌, ◌∙◌, ap, eqb}
 use Rattle.automata_base.specs.Computed.{any_node}
 use Rattle.automata_base.specs.Looks.{look_index}
 use Rattle.automata_base.specs.Nodes.{nodes_of}

@@ -1,5 +1,7 @@
-use Rattle.std.proofs.Common.{◌≡◌, ◌≤◌, ◌+◌, ◌-◌, sym, ◌∙◌, ap, arith, take}
+use Rattle.std.proofs.Common.{◌≡◌, ◌≤◌, ◌<◌, ◌+◌, ◌-◌, sym, ◌∙◌, arith, take}
 use Rattle.std.specs.Prelude.{sum_by}
+use Rattle.std.proofs.lemmas.Bool.{le-leb, lt-leb}
+use Rattle.std.proofs.lemmas.List.Sums.{sum_by-take-le}
 use Rattle.automata_base.specs.Nodes.{extra_of}
 use Rattle.automata_base.specs.Refusals.{alternates_of}
 use Rattle.automata_base.proofs.Determinizing.Tests_of_lists.{extra_is, sum_next, sum_all, room_all, some_same}
@@ -30,11 +32,15 @@ returns-clause-few c = λ room e.
     let all : sum_by alternates_of (take c.loop-i.i c.args.states.now) ≡ sum_by alternates_of c.args.states.now = sum_all alternates_of c.args.states.now c.loop-i.i c.loop-i-test.false in
     let p : c.loop-i.total ≡ sum_by alternates_of (take c.loop-i.i c.args.states.now) = c.loop-i.invariant.0 in
     let r : c.loop-i.total ≤ 2147483648 = c.loop-i.invariant.2 in
-    omega arith
+    le-leb (sum_by alternates_of c.args.states.now) 2147483648 (omega arith)
 
-pub returns-clause-bound : goal.returns-clause-bound
-returns-clause-bound c = λ room e.
-    let same = some_same c.loop-i.room room e in
+pub returns-then-more-total-clause-none : goal.returns-then-more-total-clause-none
+returns-then-more-total-clause-none c = λ e.
+    let a : sum_by alternates_of (take (c.loop-i.i + 1) c.args.states.now) ≡ sum_by alternates_of (take c.loop-i.i c.args.states.now) + alternates_of c.index-states-i.result =
+    sum_next alternates_of c.args.states.now c.loop-i.i c.index-states-i.result c.loop-i-test.true c.index-states-i.is in
+    let part : sum_by alternates_of (take (c.loop-i.i + 1) c.args.states.now) ≤ sum_by alternates_of c.args.states.now = sum_by-take-le alternates_of c.args.states.now (c.loop-i.i + 1) in
+    let n : c.count_alternates-more.result ≡ alternates_of c.index-states-i.result = c.count_alternates-more.ensures.count in
+    let t : 2147483648 - c.loop-i.total < c.count_alternates-more.result = c.if-more-total.true in
+    let p : c.loop-i.total ≡ sum_by alternates_of (take c.loop-i.i c.args.states.now) = c.loop-i.invariant.0 in
     let r : c.loop-i.total ≤ 2147483648 = c.loop-i.invariant.2 in
-    let s : c.loop-i.room ≤ 1 + c.loop-i.total = c.loop-i.invariant.3 in
-    omega (arith, same)
+    lt-leb (sum_by alternates_of c.args.states.now) 2147483648 (omega arith)

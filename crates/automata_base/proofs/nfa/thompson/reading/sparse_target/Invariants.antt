@@ -1,4 +1,4 @@
-use Rattle.std.proofs.Common.{◌≡◌, drop, Option, ℕ}
+use Rattle.std.proofs.Common.{◌≡◌, drop}
 use Rattle.automata_base.specs.Nfa.{takes_in}
 use Rattle.automata_base.specs.Nodes.{ranges_of}
 use Rattle.automata_base.proofs.nfa.thompson.reading.sparse_target.Given as goal

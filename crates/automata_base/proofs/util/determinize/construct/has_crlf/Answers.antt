@@ -8,4 +8,4 @@ use Rattle.automata_base.proofs.util.determinize.construct.has_crlf.Goals as goa
 pub returns : goal.returns
 returns c =
     masked (nfa_of c.args.nfa.now) c.look_set_any.result c.crlf.result c.empty.result is_crlf_look c.has_news.result
-    c.look_set_any.ensures (λ look. ap (λ z. truth_of z look) c.crlf.ensures ∙ crlf_mask look) c.empty.ensures c.has_news.ensures.news c.has_news.ensures.none
+    c.look_set_any.ensures.same (λ look. ap (λ z. truth_of z look) c.crlf.ensures ∙ crlf_mask look) c.empty.ensures c.has_news.ensures.news c.has_news.ensures.none

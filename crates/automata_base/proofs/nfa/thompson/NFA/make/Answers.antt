@@ -1,0 +1,56 @@
+use Rattle.std.proofs.Common.{◌≡◌, ◌<◌, ◌≤◌, ◌↔◌, true, eqb, length, sym, ap, ◌∙◌, subst}
+use Rattle.std.specs.Prelude.{IsTrue}
+use Rattle.automata_base.specs.Automata.{IsSound}
+use Rattle.automata_base.specs.Checks.{all_below}
+use Rattle.automata_base.specs.Computed.{any_node}
+use Rattle.automata_base.specs.Looks.{look_index}
+use Rattle.automata_base.specs.Nodes.{nodes_of}
+use Rattle.automata_base.specs.Reach.{ReachesMatch, SkipsFrom}
+use Rattle.automata_base.specs.Refusals.{states_below}
+use Rattle.automata_base.specs.declared.nfa.thompson.Data.{Data}
+use Rattle.automata_base.proofs.Determinizing.Sound.{sound}
+use Rattle.automata_base.proofs.Reaching.Refused.{passing}
+use Rattle.automata_base.proofs.nfa.thompson.NFA.make.Goals as goal
+
+pub reaches_match-requires : goal.reaches_match-requires
+reaches_match-requires c =
+    let tests = passing c.args.states.items c.args.start_anchored c.args.start_unanchored c.args.start_pattern.items c.requires.passed in
+    record {
+      few = subst (λ s. length s ≤ 134217728) (sym c.as_slice.ensures.value) tests.small;
+      range = subst (λ s. states_below (length s) s ≡ true) (sym c.as_slice.ensures.value) tests.range;
+      roots =
+          subst (λ s. all_below (length s) c.as_slice-2.result.now ≡ true) (sym c.as_slice.ensures.value)
+          (subst (λ t. all_below (length c.args.states.items) t ≡ true) (sym c.as_slice-2.ensures.value) tests.starts);
+    }
+
+pub skips_lazily-requires : goal.skips_lazily-requires
+skips_lazily-requires c =
+    let tests = passing c.args.states.items c.args.start_anchored c.args.start_unanchored c.args.start_pattern.items c.requires.passed in
+    record {
+      few = subst (λ s. length s ≤ 134217728) (sym c.as_slice-3.ensures.value) tests.small;
+      range = subst (λ s. states_below (length s) s ≡ true) (sym c.as_slice-3.ensures.value) tests.range;
+      anchored = subst (λ s. c.args.start_anchored < length s) (sym c.as_slice-3.ensures.value) tests.anchored;
+      unanchored = subst (λ s. c.args.start_unanchored < length s) (sym c.as_slice-3.ensures.value) tests.unanchored;
+    }
+
+pub invariant_of-result : goal.invariant_of-result
+invariant_of-result c =
+    let d : Data = record {
+      states = c.args.states;
+      start_anchored = c.args.start_anchored;
+      start_unanchored = c.args.start_unanchored;
+      start_pattern = c.args.start_pattern;
+      flags = c.args.flags;
+      looks = c.looks_of-looks.result;
+      room = c.args.room;
+      has_empty = c.in_ok-has_empty.has_empty;
+      skips_lazily = c.in_ok-skips_lazily.skips_lazily;
+    } in
+    subst IsSound (sym c.in-Ok.ensures.ok)
+    (sound d c.requires.passed
+    (λ look. c.looks_of-looks.ensures look ∙ ap (λ z. any_node (λ other. eqb (look_index other) (look_index look)) (nodes_of z)) c.as_slice-4.ensures.value)
+    c.requires.room
+    (subst (λ s. IsTrue c.in_ok-has_empty.has_empty ↔ ReachesMatch s c.args.start_pattern.items) c.as_slice.ensures.value
+    (subst (λ t. IsTrue c.in_ok-has_empty.has_empty ↔ ReachesMatch c.as_slice.result.now t) c.as_slice-2.ensures.value c.in_ok-has_empty.ensures))
+    (subst (λ s. IsTrue c.in_ok-skips_lazily.skips_lazily ↔ SkipsFrom s c.args.start_anchored c.args.start_unanchored) c.as_slice-3.ensures.value
+    c.in_ok-skips_lazily.ensures))

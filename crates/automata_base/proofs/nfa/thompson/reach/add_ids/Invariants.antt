@@ -1,0 +1,9 @@
+use Rattle.std.proofs.Common.{◌≡◌, drop}
+use Rattle.automata_base.specs.Once.{once_from}
+use Rattle.automata_base.proofs.nfa.thompson.reach.add_ids.Given as goal
+
+abbrev pub invariant-loop-id : goal.invariant-loop-id
+invariant-loop-id l = record {
+  rest : once_from l.set.items (drop l.id-index l.ids) ≡ once_from l.fn.set.items l.ids;
+  capacity : l.set.capacity ≡ l.fn.set.capacity;
+}

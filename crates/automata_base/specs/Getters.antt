@@ -1,0 +1,27 @@
+-- What an NFA tells of itself.
+use Rattle.std.specs.Prelude.{ℕ, ◌≡◌, ◌⊎◌, [], ◌∷◌, Some, slice_get}
+use Rattle.automata_base.specs.declared.nfa.thompson.State.TheVariants.{ByteRange}
+use Rattle.automata_base.specs.Engines.{Reaches}
+use Rattle.automata_base.specs.Lists.{In}
+use Rattle.automata_base.specs.Nfa.{Split, node, accepts}
+use Rattle.automata_base.specs.Nodes.{Automaton, nfa_of}
+use Rattle.automata_base.specs.Paths.{Leads}
+
+-- A match is reached by edges that read nothing from some pattern's start, looks taken as true.
+abbrev pub HasEmpty : Automaton → Type 0
+HasEmpty a =
+    (start q p : ℕ) × In start a.start_pattern × Leads (nfa_of a) start q × (accepts (nfa_of a) q ≡ Some p)
+
+abbrev pub IsAlwaysStartAnchored : Automaton → Type 0
+IsAlwaysStartAnchored a = a.start_unanchored ≡ a.start_anchored
+
+-- The unanchored start is a union that first tries the anchored start and then, after any byte, itself, and no edge
+-- leads back to it from the anchored start.
+abbrev pub IsLazyLoop : Automaton → ℕ → Type 0
+IsLazyLoop a skip =
+    (node (nfa_of a) a.start_unanchored ≡ Split (a.start_anchored ∷ skip ∷ []))
+    × (slice_get a.states skip ≡ Some (ByteRange 0 255 a.start_unanchored))
+    × (Reaches (nfa_of a) a.start_anchored a.start_unanchored → ⊥)
+
+abbrev pub SkipsLazily : Automaton → Type 0
+SkipsLazily a = IsAlwaysStartAnchored a ⊎ ((skip : ℕ) × IsLazyLoop a skip)

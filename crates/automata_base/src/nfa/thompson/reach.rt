@@ -1,0 +1,280 @@
+ghost use Rattle.std.specs.Prelude.{◌≡◌, ◌<◌, ◌≤◌, ◌^◌, ◌↔◌, ℕ, [], ◌∷◌, true, length, get_or, IfOk, IsTrue, Some, None};
+ghost use Rattle.automata_base.specs.Checks.{all_below};
+ghost use Rattle.automata_base.specs.Lists.{In};
+ghost use Rattle.automata_base.specs.Nodes.{node_of, ranges_of, dense_from};
+ghost use Rattle.automata_base.specs.Once.{once_from};
+ghost use Rattle.automata_base.specs.Paths.{all_true};
+ghost use Rattle.automata_base.specs.Reach.{node_in, nexts, byte_targets, targets_at, IsReached, ReachesMatch, second_of, second_at, is_any_byte_of, IsMatchAt, SkipsFrom};
+ghost use Rattle.automata_base.specs.Refusals.{transitions_below, state_below, states_below};
+ghost use Rattle.automata_base.specs.Visits.{children_at};
+
+use crate::nfa::thompson::reading::pattern_of;
+use crate::nfa::thompson::{State, Transition};
+use crate::util::determinize::sparse_set::SparseSet;
+use crate::util::primitives::StateID;
+use std::alloc::{AllocError, Global};
+
+/// The edges that a walk follows: those that read nothing, or every one.
+#[derive(Clone, Copy)]
+pub enum Edges {
+    Epsilon,
+    Every,
+}
+
+fn add(set: &mut SparseSet, id: StateID)
+    requires { id < set.old.capacity }
+    ensures items { set.new.items ≡ once_from set.old.items (id ∷ []) }
+    ensures capacity { set.new.capacity ≡ set.old.capacity }
+{
+    set.insert(id);
+}
+
+fn add_ids(set: &mut SparseSet, ids: &[StateID])
+    requires { all_below set.old.capacity ids.now ≡ true }
+    ensures items { set.new.items ≡ once_from set.old.items ids.now }
+    ensures capacity { set.new.capacity ≡ set.old.capacity }
+{
+    for id in ids {
+        add(set, *id);
+    }
+}
+
+fn add_next(set: &mut SparseSet, transition: &Transition)
+    requires { transition.now.next < set.old.capacity }
+    ensures items { set.new.items ≡ once_from set.old.items (transition.now.next ∷ []) }
+    ensures capacity { set.new.capacity ≡ set.old.capacity }
+{
+    add(set, transition.next);
+}
+
+fn add_nexts(set: &mut SparseSet, transitions: &[Transition])
+    requires { transitions_below set.old.capacity transitions.now ≡ true }
+    ensures items { set.new.items ≡ once_from set.old.items (nexts (ranges_of transitions.now)) }
+    ensures capacity { set.new.capacity ≡ set.old.capacity }
+{
+    for transition in transitions {
+        add_next(set, transition);
+    }
+}
+
+// Adds a target of a dense state: state 0 stands for none.
+fn add_dense(set: &mut SparseSet, target: StateID)
+    requires { target < set.old.capacity }
+    ensures items { set.new.items ≡ once_from set.old.items (nexts (dense_from 0 (target ∷ []))) }
+    ensures capacity { set.new.capacity ≡ set.old.capacity }
+{
+    if target.as_usize() == 0 {
+        return;
+    }
+    add(set, target);
+}
+
+fn add_all_dense(set: &mut SparseSet, targets: &[StateID])
+    requires { all_below set.old.capacity targets.now ≡ true }
+    ensures items { set.new.items ≡ once_from set.old.items (nexts (dense_from 0 targets.now)) }
+    ensures capacity { set.new.capacity ≡ set.old.capacity }
+{
+    for target in targets {
+        add_dense(set, *target);
+    }
+}
+
+fn add_epsilon_targets(set: &mut SparseSet, state: &State)
+    requires { state_below set.old.capacity state.now ≡ true }
+    ensures items { set.new.items ≡ once_from set.old.items (children_at (node_of state.now) all_true) }
+    ensures capacity { set.new.capacity ≡ set.old.capacity }
+{
+    match state {
+        State::Look { next, .. } => add(set, *next),
+        State::Capture { next, .. } => add(set, *next),
+        State::Union { alternates } => add_ids(set, alternates),
+        State::BinaryUnion { alt1, alt2 } => add_ids(set, &[*alt1, *alt2]),
+        State::ByteRange { .. } => {}
+        State::Sparse(_) => {}
+        State::Dense(_) => {}
+        State::Fail => {}
+        State::Match { .. } => {}
+    }
+}
+
+fn add_byte_targets(set: &mut SparseSet, state: &State)
+    requires { state_below set.old.capacity state.now ≡ true }
+    ensures items { set.new.items ≡ once_from set.old.items (byte_targets (node_of state.now)) }
+    ensures capacity { set.new.capacity ≡ set.old.capacity }
+{
+    match state {
+        State::ByteRange { next, .. } => add(set, *next),
+        State::Sparse(transitions) => add_nexts(set, transitions),
+        State::Dense(targets) => add_all_dense(set, targets),
+        State::Look { .. } => {}
+        State::Capture { .. } => {}
+        State::Union { .. } => {}
+        State::BinaryUnion { .. } => {}
+        State::Fail => {}
+        State::Match { .. } => {}
+    }
+}
+
+fn add_targets(set: &mut SparseSet, state: &State, edges: Edges)
+    requires { state_below set.old.capacity state.now ≡ true }
+    ensures items { set.new.items ≡ once_from set.old.items (targets_at edges (node_of state.now)) }
+    ensures capacity { set.new.capacity ≡ set.old.capacity }
+{
+    add_epsilon_targets(set, state);
+    match edges {
+        Edges::Epsilon => {}
+        Edges::Every => add_byte_targets(set, state),
+    }
+}
+
+// The member that came at this place.
+fn member(set: &SparseSet, at: usize) -> Option<StateID>
+    ensures some { (id : ℕ) → result ≡ Some id
+        → (at < length set.now.items) × (id ≡ get_or set.now.items at id) × (id < set.now.capacity) × (at < set.now.capacity) }
+    ensures none { result ≡ None → length set.now.items ≤ at }
+{
+    let items = set.as_slice();
+    if at >= items.len() {
+        return None;
+    }
+    Some(items[at])
+}
+
+/// The states that the edges lead to from the roots, the roots among them.
+pub fn reach(
+    alloc: Global,
+    states: &[State],
+    roots: &[StateID],
+    edges: Edges,
+) -> Result<SparseSet, AllocError>
+    requires few { length states.now ≤ 2 ^ 27 }
+    requires range { states_below (length states.now) states.now ≡ true }
+    requires roots { all_below (length states.now) roots.now ≡ true }
+    ensures reached { IfOk result (λ set. (q : ℕ) → In q set.items ↔ IsReached edges states.now roots.now q) }
+    ensures capacity { IfOk result (λ set. set.capacity ≡ length states.now) }
+{
+    let mut set = SparseSet::new(alloc, states.len() as u32)?;
+    add_ids(&mut set, roots);
+    let mut at = 0;
+    while let Some(id) = member(&set, at) {
+        add_targets(&mut set, &states[id.as_usize()], edges);
+        at += 1;
+    }
+    Ok(set)
+}
+
+fn is_match(state: &State) -> bool
+    ensures { IsTrue result ↔ IsMatchAt (node_of state.now) }
+{
+    pattern_of(state).is_some()
+}
+
+fn is_some_match(states: &[State], ids: &[StateID]) -> bool
+    requires { (q : ℕ) → In q ids.now → q < length states.now }
+    ensures { IsTrue result ↔ ((q : ℕ) × In q ids.now × IsMatchAt (node_in states.now q)) }
+{
+    for id in ids {
+        if is_match(&states[id.as_usize()]) {
+            return true;
+        }
+    }
+    false
+}
+
+/// Whether edges that read nothing lead from some root to a match.
+pub fn reaches_match(alloc: Global, states: &[State], roots: &[StateID]) -> Result<bool, AllocError>
+    requires few { length states.now ≤ 2 ^ 27 }
+    requires range { states_below (length states.now) states.now ≡ true }
+    requires roots { all_below (length states.now) roots.now ≡ true }
+    ensures { IfOk result (λ found. IsTrue found ↔ ReachesMatch states.now roots.now) }
+{
+    let reached = reach(alloc, states, roots, Edges::Epsilon)?;
+    Ok(is_some_match(states, reached.as_slice()))
+}
+
+fn leads_back(
+    alloc: Global,
+    states: &[State],
+    root: StateID,
+    target: StateID,
+) -> Result<bool, AllocError>
+    requires few { length states.now ≤ 2 ^ 27 }
+    requires range { states_below (length states.now) states.now ≡ true }
+    requires root { root < length states.now }
+    requires target { target < length states.now }
+    ensures { IfOk result (λ found. IsTrue found ↔ IsReached Edges.Every states.now (root ∷ []) target) }
+{
+    let reached = reach(alloc, states, &[root], Edges::Every)?;
+    Ok(reached.contains(target))
+}
+
+fn second(alternates: &[StateID], first: StateID) -> Option<StateID>
+    ensures { result ≡ second_of alternates.now first }
+{
+    if alternates.len() != 2 || alternates[0] != first {
+        return None;
+    }
+    Some(alternates[1])
+}
+
+// The second of two alternates, where the first is `first`.
+fn second_alternate(state: &State, first: StateID) -> Option<StateID>
+    ensures { result ≡ second_at (node_of state.now) first }
+{
+    match state {
+        State::Union { alternates } => second(alternates, first),
+        State::BinaryUnion { alt1, alt2 } => second(&[*alt1, *alt2], first),
+        State::Capture { .. } => None,
+        State::ByteRange { .. } => None,
+        State::Sparse(_) => None,
+        State::Dense(_) => None,
+        State::Look { .. } => None,
+        State::Fail => None,
+        State::Match { .. } => None,
+    }
+}
+
+// Whether any byte leads to the target, by one range.
+fn is_any_byte(state: &State, target: StateID) -> bool
+    ensures { result ≡ is_any_byte_of state.now target }
+{
+    match state {
+        State::ByteRange { lo, hi, next } => *lo == 0 && *hi == 255 && *next == target,
+        State::Sparse(_) => false,
+        State::Dense(_) => false,
+        State::Look { .. } => false,
+        State::Union { .. } => false,
+        State::BinaryUnion { .. } => false,
+        State::Capture { .. } => false,
+        State::Fail => false,
+        State::Match { .. } => false,
+    }
+}
+
+/// Whether the starts are one, or the unanchored one loops lazily over any bytes before the anchored one.
+pub fn skips_lazily(
+    alloc: Global,
+    states: &[State],
+    anchored: StateID,
+    unanchored: StateID,
+) -> Result<bool, AllocError>
+    requires few { length states.now ≤ 2 ^ 27 }
+    requires range { states_below (length states.now) states.now ≡ true }
+    requires anchored { anchored < length states.now }
+    requires unanchored { unanchored < length states.now }
+    ensures { IfOk result (λ skips. IsTrue skips ↔ SkipsFrom states.now anchored unanchored) }
+{
+    if unanchored == anchored {
+        return Ok(true);
+    }
+    match second_alternate(&states[unanchored.as_usize()], anchored) {
+        None => Ok(false),
+        Some(skip) => {
+            if !is_any_byte(&states[skip.as_usize()], unanchored) {
+                return Ok(false);
+            }
+            let leads = leads_back(alloc, states, anchored, unanchored)?;
+            Ok(!leads)
+        }
+    }
+}
