@@ -11,6 +11,7 @@ mod automata;
 mod config;
 mod forward;
 mod memory;
+mod nfa;
 mod paths;
 mod scripts;
 mod texts;
