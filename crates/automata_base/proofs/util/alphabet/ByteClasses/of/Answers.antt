@@ -12,12 +12,12 @@ pub returns-clause-same : goal.returns-clause-same
 returns-clause-same c = λ byte h.
     c.counts.ensures.same byte h
     ∙ count-same (marked c.boundaries.result) (is_boundary c.args.nfa.now c.args.quits.now c.args.on) byte
-        (λ b l. c.boundaries.ensures b (omega (arith, l, h)))
+    (λ b l. c.boundaries.ensures b (omega (arith, l, h)))
 
 pub returns-clause-quits : goal.returns-clause-quits
 returns-clause-quits c = λ u v hu hv e.
     class_quits c.args.nfa.now c.args.quits.now c.args.on u v
-        (sym (returns-clause-same c u hu) ∙ (e ∙ returns-clause-same c v hv))
+    (sym (returns-clause-same c u hu) ∙ (e ∙ returns-clause-same c v hv))
 
 pub returns-clause-off : goal.returns-clause-off
 returns-clause-off c = λ off byte h.
