@@ -1,5 +1,7 @@
 //! A script is read, checked and answered.
 
+ghost use Rattle.regex_automata.specs.Caches.{IsCacheOf};
+
 use crate::error::RunError;
 use crate::reply::Reply;
 use crate::script::{Definition, Request, Script};
@@ -35,13 +37,16 @@ pub fn run<R: Read, W: io::Write>(
 fn replies_to(alloc: Global, script: &Script) -> Result<String, RunError> {
     let mut replies = String::new(alloc);
     let regexes = build_all(alloc, script.definitions.as_slice(), &mut replies)?;
-    match regexes.first() {
-        Some(regex) => answer_all(regex, script.requests.as_slice(), &mut replies)?,
-        None => {
-            for _ in script.requests.as_slice() {
-                writeln!(replies, "{}", Reply::NoRegex)?;
-            }
+    let Some(regex) = regexes.first() else {
+        for _ in script.requests.as_slice() {
+            writeln!(replies, "{}", Reply::NoRegex)?;
         }
+        return Ok(replies);
+    };
+    let mut session = Session::new(regex)?;
+    for request in script.requests.as_slice() {
+        let reply = session.answer(request);
+        writeln!(replies, "{reply}")?;
     }
     Ok(replies)
 }
@@ -77,18 +82,26 @@ fn build(alloc: Global, definition: &Definition) -> Result<DFA, BuildError> {
         .build_from_nfa(nfa)
 }
 
-/// Answers all requests over one cache.
-fn answer_all(regex: &DFA, requests: &[Request], replies: &mut String) -> Result<(), RunError> {
-    let mut cache = regex.create_cache()?;
-    for request in requests {
-        let reply = answer(regex, &mut cache, request);
-        writeln!(replies, "{reply}")?;
-    }
-    Ok(())
+/// A regex, and the one cache that serves all requests.
+#[derive(Drop)]
+struct Session<'r> {
+    regex: &'r DFA,
+    cache: Cache,
+    ghost of: { IsCacheOf cache regex.now },
 }
 
-fn answer(regex: &DFA, cache: &mut Cache, request: &Request) -> Reply {
-    match request {
-        Request::Forward(query) => Reply::Half(regex.try_search_fwd(cache, &query.input())),
+impl<'r> Session<'r> {
+    fn new(regex: &'r DFA) -> Result<Session<'r>, AllocError> {
+        let cache = regex.create_cache()?;
+        Ok(Session { regex, cache })
+    }
+
+    fn answer(&mut self, request: &Request) -> Reply {
+        match request {
+            Request::Forward(query) => {
+                let found = self.regex.try_search_fwd(&mut self.cache, &query.input());
+                Reply::Half(found)
+            }
+        }
     }
 }

@@ -1,6 +1,7 @@
 //! Automata that are in no catalogue: malformed ones, and odd ones that are searched all the same.
 
-use regex_automata::hybrid::dfa::{Config, DFA};
+use super::Searcher;
+use regex_automata::hybrid::dfa::Config;
 use regex_automata::nfa::thompson::{Flags, NFA, NfaError, State, Transition};
 use regex_automata::util::look::Look;
 use regex_automata::util::primitives::{PatternID, StateID};
@@ -110,11 +111,10 @@ fn finds<R: Abort + AllocGlobal>(
     rows: &[(&str, Option<(u8, usize)>)],
 ) -> Result<(), Fail> {
     let config = Config::new().match_kind(kind);
-    let dfa = DFA::builder().configure(config).build_from_nfa(nfa)?;
-    let mut cache = dfa.create_cache()?;
+    let mut searcher = Searcher::new(nfa, config)?;
     for (haystack, want) in rows.iter().copied() {
         let input = Input::new(haystack.as_bytes());
-        let found = dfa.try_search_fwd(&mut cache, &input)?;
+        let found = searcher.find(&input)?;
         let want = want.map(|(number, end)| HalfMatch::new(pattern(number), end));
         assert_eq!(rt; found, want, "{haystack}");
     }
@@ -186,8 +186,7 @@ fn look_cycle(alloc: Global) -> Result<NFA, Fail> {
 fn searches_a_look_cycle(rt: HostRuntime) -> Result<(), Fail> {
     let nfa = look_cycle(rt.alloc())?;
     let config = Config::new().match_kind(MatchKind::All);
-    let dfa = DFA::builder().configure(config).build_from_nfa(nfa)?;
-    let mut cache = dfa.create_cache()?;
+    let mut searcher = Searcher::new(nfa, config)?;
     for (haystack, start, want) in [
         ("a", 0, Some((1, 1))),
         ("b", 0, Some((0, 1))),
@@ -196,11 +195,11 @@ fn searches_a_look_cycle(rt: HostRuntime) -> Result<(), Fail> {
     ] {
         let end = haystack.len();
         let input = Input::new(haystack.as_bytes()).range(start..end);
-        let found = dfa.try_search_fwd(&mut cache, &input)?;
+        let found = searcher.find(&input)?;
         let want = want.map(|(number, end)| HalfMatch::new(pattern(number), end));
         assert_eq!(rt; found, want, "{haystack}");
     }
-    assert_eq!(rt; cache.memory_usage(), 1559);
+    assert_eq!(rt; searcher.cache.memory_usage(), 1559);
     Ok(())
 }
 
@@ -217,10 +216,10 @@ fn searches_a_long_chain(rt: HostRuntime) -> Result<(), Fail> {
         haystack.push(b'a')?;
     }
     states.push(accept(0))?;
-    let dfa = DFA::builder().build_from_nfa(door(states, 0, 1)?)?;
-    let mut cache = dfa.create_cache()?;
-    let found = dfa.try_search_fwd(&mut cache, &Input::new(haystack.as_slice()))?;
+    let mut searcher = Searcher::new(door(states, 0, 1)?, Config::new())?;
+    let found = searcher.find(&Input::new(haystack.as_slice()))?;
     assert_eq!(rt; found, Some(HalfMatch::new(pattern(0), 3000)));
-    assert_eq!(rt; (cache.clear_count(), cache.memory_usage()), (0, 273384));
+    assert_eq!(rt; searcher.cache.clear_count(), 0);
+    assert_eq!(rt; searcher.cache.memory_usage(), 273384);
     Ok(())
 }

@@ -1,10 +1,10 @@
 //! Refused growths. Each test is a process of its own, so it may use up all memory for good.
 
-use super::{Sink, Source};
+use super::{Searcher, Sink, Source};
 use crate::catalogue::Entry;
 use crate::error::RunError;
 use crate::run::run;
-use regex_automata::hybrid::dfa::{Config, DFA};
+use regex_automata::hybrid::dfa::Config;
 use regex_automata::util::primitives::PatternID;
 use regex_automata::util::search::{HalfMatch, Input};
 use std::alloc::Global;
@@ -30,17 +30,15 @@ fn exhaust(alloc: Global) {
 fn repeats_a_search_without_memory(rt: HostRuntime) -> Result<(), Fail> {
     let alloc = rt.alloc();
     let config = Config::new().minimum_cache_clear_count(Some(0));
-    let nfa = Entry::Ab.forward(alloc)?;
-    let dfa = DFA::builder().configure(config).build_from_nfa(nfa)?;
-    let mut cache = dfa.create_cache()?;
-    let first = dfa.try_search_fwd(&mut cache, &Input::new(b"ab"))?;
+    let mut searcher = Searcher::new(Entry::Ab.forward(alloc)?, config)?;
+    let first = searcher.find(&Input::new(b"ab"))?;
     exhaust(alloc);
-    let second = dfa.try_search_fwd(&mut cache, &Input::new(b"ab"))?;
+    let second = searcher.find(&Input::new(b"ab"))?;
     let grown = Vec::<u8>::with_capacity(alloc, 1);
     assert!(rt; grown.is_err());
     assert_eq!(rt; first, Some(HalfMatch::new(PatternID::ZERO, 2)));
     assert_eq!(rt; second, first);
-    assert_eq!(rt; cache.clear_count(), 0);
+    assert_eq!(rt; searcher.cache.clear_count(), 0);
     Ok(())
 }
 

@@ -1,8 +1,14 @@
 //! What no contract says: the answers of worked examples, the texts, and how a script runs.
 
+ghost use Rattle.regex_automata.specs.Caches.{IsCacheOf};
+
 use crate::error::RunError;
 use crate::run::run;
-use std::alloc::Global;
+use regex_automata::hybrid::SearchError;
+use regex_automata::hybrid::dfa::{Cache, Config, DFA};
+use regex_automata::nfa::thompson::NFA;
+use regex_automata::util::search::{HalfMatch, Input};
+use std::alloc::{AllocError, Global};
 use std::io;
 use std::io::{Read, Write};
 use std::test::Fail;
@@ -86,6 +92,30 @@ impl Write for Sink {
             return Err(io::Error::other("refused"));
         }
         Ok(())
+    }
+}
+
+/// A lazy automaton with a cache of its own.
+#[derive(Drop)]
+struct Searcher {
+    dfa: DFA,
+    cache: Cache,
+    ghost of: { IsCacheOf cache dfa },
+}
+
+impl Searcher {
+    fn new(nfa: NFA, config: Config) -> Result<Searcher, Fail> {
+        let dfa = DFA::builder().configure(config).build_from_nfa(nfa)?;
+        let cache = dfa.create_cache()?;
+        Ok(Searcher { dfa, cache })
+    }
+
+    fn find(&mut self, input: &Input<'_>) -> Result<Option<HalfMatch>, SearchError> {
+        self.dfa.try_search_fwd(&mut self.cache, input)
+    }
+
+    fn reset(&mut self) -> Result<(), AllocError> {
+        self.dfa.reset_cache(&mut self.cache)
     }
 }
 

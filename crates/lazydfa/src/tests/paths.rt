@@ -1,8 +1,9 @@
 //! A slow search that lists the paths of an automaton one by one, beside the search of the lazy
 //! automaton.
 
+use super::Searcher;
 use crate::catalogue::Entry;
-use regex_automata::hybrid::dfa::{Config, DFA};
+use regex_automata::hybrid::dfa::Config;
 use regex_automata::nfa::thompson::{NFA, State};
 use regex_automata::util::look::Look;
 use regex_automata::util::primitives::{PatternID, StateID};
@@ -159,17 +160,14 @@ fn compare_all<R: Abort + AllocGlobal>(
         .match_kind(kind)
         .starts_for_each_pattern(true)
         .unicode_word_boundary(true);
-    let dfa = DFA::builder()
-        .configure(config)
-        .build_from_nfa(entry.forward(rt.alloc())?)?;
-    let mut cache = dfa.create_cache()?;
+    let mut searcher = Searcher::new(entry.forward(rt.alloc())?, config)?;
     for (length, count) in [(0, 1), (1, 3), (2, 9), (3, 27), (4, 81), (5, 243)] {
         for number in 0..count {
             let spelled = spell(number, bytes);
             let haystack = &spelled[..length];
             for input in inputs(haystack) {
-                let want = select(dfa.get_nfa(), kind, &input)?;
-                let found = dfa.try_search_fwd(&mut cache, &input);
+                let want = select(searcher.dfa.get_nfa(), kind, &input)?;
+                let found = searcher.find(&input);
                 assert_eq!(rt; found, Ok(want), "{entry:?} {kind:?} {input:?}");
             }
         }
