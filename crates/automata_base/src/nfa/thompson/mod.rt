@@ -3,8 +3,6 @@
 mod door;
 mod reach;
 pub(crate) mod reading;
-#[cfg(test)]
-mod tests;
 
 use crate::nfa::thompson::door::{looks_of, test};
 use crate::nfa::thompson::reach::{reaches_match, skips_lazily};
