@@ -1,8 +1,7 @@
 -- What an NFA tells of itself.
 use Rattle.std.specs.Prelude.{ℕ, ◌≡◌, ◌⊎◌, [], ◌∷◌, Some, slice_get}
 use Rattle.automata_base.specs.declared.nfa.thompson.State.TheVariants.{ByteRange}
-use Rattle.automata_base.specs.Cuts.{MatchKind}
-use Rattle.automata_base.specs.Engines.{Dfa, Reaches}
+use Rattle.automata_base.specs.Engines.{Reaches}
 use Rattle.automata_base.specs.Lists.{In}
 use Rattle.automata_base.specs.Nfa.{Split, node, accepts}
 use Rattle.automata_base.specs.Nodes.{Automaton, nfa_of}
@@ -26,14 +25,3 @@ IsLazyLoop a skip =
 
 abbrev pub SkipsLazily : Automaton → Type 0
 SkipsLazily a = IsAlwaysStartAnchored a ⊎ ((skip : ℕ) × IsLazyLoop a skip)
-
--- What a search of a kind runs on.
-abbrev pub dfa_of : Automaton → MatchKind → Dfa
-dfa_of a kind = record {
-  nfa = nfa_of a;
-  anchored = a.start_anchored;
-  unanchored = a.start_unanchored;
-  starts = a.start_pattern;
-  utf8 = a.flags.utf8;
-  kind = kind;
-}

@@ -4,7 +4,7 @@ use Rattle.std.specs.Prelude.{slice_get}
 use Rattle.automata_base.specs.declared.nfa.thompson.State.{State}
 use Rattle.automata_base.specs.Cuts.{MatchKind}
 use Rattle.automata_base.specs.Engines as engines
-use Rattle.automata_base.specs.Getters.{HasEmpty, SkipsLazily, dfa_of}
+use Rattle.automata_base.specs.Getters.{HasEmpty, SkipsLazily}
 use Rattle.automata_base.specs.Nodes.{Automaton, node_of}
 use Rattle.automata_base.specs.Reach.{node_in}
 
@@ -19,9 +19,9 @@ node_got [] k s e = absurd (none_state e)
 node_got (x ∷ xs) zero s e = ap (λ z. node_of z) (some_state e)
 node_got (x ∷ xs) (suc k) s e = node_got xs k s e
 
-pub empty_searched : (a : Automaton) (kind : MatchKind) → HasEmpty a ↔ engines.HasEmpty (dfa_of a kind)
+pub empty_searched : (a : Automaton) (kind : MatchKind) → HasEmpty a ↔ engines.HasEmpty (engines.engine_of a kind)
 empty_searched a kind = (λ h. h, λ h. h)
 
-pub skips_searched : (a : Automaton) (kind : MatchKind) → SkipsLazily a → engines.SkipsLazily (dfa_of a kind)
+pub skips_searched : (a : Automaton) (kind : MatchKind) → SkipsLazily a → engines.SkipsLazily (engines.engine_of a kind)
 skips_searched a kind (inl e) = inl e
 skips_searched a kind (inr h) = inr (h.0, (h.1.0, node_got a.states h.0 _ h.1.1, h.1.2))
