@@ -5,14 +5,14 @@ use Rattle.std.proofs.lemmas.List.Sums.{sum_by_push}
 use Rattle.automata_base.specs.Powerset.{cost}
 use Rattle.automata_hybrid.specs.declared.dfa.row.Row.{Row}
 use Rattle.automata_hybrid.specs.Ids.{dead_id, quit_id}
-use Rattle.automata_hybrid.specs.Machine.{Machine, greatest, template_of}
+use Rattle.automata_hybrid.specs.Machine.{Machine, greatest, template_of, minimum}
 use Rattle.std.proofs.lemmas.List.{length-replicate, get_or-replicate}
 use Rattle.std.proofs.lemmas.Option.{slice_get_within, get_or_from_slice_get}
 use Rattle.automata_hybrid.specs.declared.dfa.settings.Settings.{Settings}
 use Rattle.automata_hybrid.specs.declared.dfa.progress.Searched.{Searched}
 use Rattle.automata_hybrid.specs.Table.{Rows, row_cost, with_row, fresh, fixed_rows}
 use Rattle.automata_hybrid.specs.Clears.{AllStarts}
-use Rattle.automata_hybrid.specs.Bounds.{Stored, usage_by, IsCache, usage, minimum, Fits, with_table, fresh_store, settings_of}
+use Rattle.automata_hybrid.specs.Bounds.{Stored, usage_by, IsCache, usage, Fits, with_table, fresh_store, settings_of}
 
 -- a cache with so few rows is within its capacity
 pub few_within : (n cells most stride slots sum fixed capacity : ℕ) → n ≤ slots + 1 → cells ≡ (n + 3) * stride → sum ≤ n * most → minimum most stride slots fixed ≤ capacity

@@ -11,8 +11,8 @@ use Rattle.automata_base.specs.Equal.{powerset_eq, powerset_eq-Decides}
 use Rattle.automata_hybrid.specs.declared.dfa.row.Row.{Row}
 use Rattle.automata_base.specs.Determinize.{dead, IsOf}
 use Rattle.automata_hybrid.specs.Ids.{quit_id}
-use Rattle.automata_hybrid.specs.Machine.{next_of, greatest, template_of}
-use Rattle.automata_hybrid.specs.Table.{Rows, find_id, id_of, Names, Leads, IsCell, row_id, row_cost, with_row, IsTemplate, IsTable, IsStepped, StateMap}
+use Rattle.automata_hybrid.specs.Machine.{next_of, greatest, template_of, IsTemplate}
+use Rattle.automata_hybrid.specs.Table.{Rows, find_id, id_of, Names, Leads, IsCell, row_id, row_cost, with_row, IsTable, IsStepped, StateMap}
 
 -- a state that rows have keeps its ID when more come
 find_id-more : (s at : ℕ) (q : Powerset) (rs ys : List Row) (id : ℕ) → find_id s at q rs ≡ Some id → find_id s at q (rs ++ ys) ≡ Some id

@@ -6,7 +6,7 @@ use Rattle.automata_hybrid.specs.declared.dfa.settings.Settings.{Settings}
 use Rattle.automata_hybrid.specs.declared.errors.StepError.{StepError}
 use Rattle.automata_hybrid.specs.declared.errors.StepError.TheVariants.{Cache, OutOfMemory}
 use Rattle.automata_hybrid.specs.Ids.{quit_id}
-use Rattle.automata_hybrid.specs.Machine.{Machine, next_of, greatest, template_of}
+use Rattle.automata_hybrid.specs.Machine.{Machine, next_of, greatest, template_of, minimum}
 use Rattle.automata_hybrid.specs.Table.{Rows, row_cost, Leads, with_row, with_cell, cell_at, fresh, id_of, Names}
 use Rattle.automata_hybrid.specs.Clears.{AllStarts, kept, put, row_of}
 use Rattle.automata_hybrid.specs.Progressing.{saturated, total_len, progress_cleared}
@@ -29,10 +29,6 @@ usage_by t slots fixed = 4 * length t.cells + 4 * slots + 16 * (length t.rows + 
 
 abbrev pub usage : Stored → ℕ
 usage c = usage_by c.table (length c.starts) c.settings.fixed
-
--- what a clear's start states, a saved state and a new one take
-abbrev pub minimum : ℕ → ℕ → ℕ → ℕ → ℕ
-minimum most stride slots fixed = 4 * ((5 + slots) * stride) + 4 * slots + 16 * (5 + slots) + 20 * (3 + slots) + 39 + (2 + slots) * most + fixed
 
 -- a new state of this cost fits
 abbrev pub Fits : Stored → ℕ → Type 0

@@ -1,7 +1,8 @@
-use Rattle.std.specs.Prelude.{ℕ, zero, suc, ◌+◌, ◌*◌, ◌^◌, ◌/◌, ◌%◌, ◌<◌, ◌≤◌, ◌==◌, List, [], ◌∷◌, Bool, true, false, cond, Option, None, Some, slice_set, slice_index, replicate}
+use Rattle.std.specs.Prelude.{ℕ, zero, suc, ◌+◌, ◌*◌, ◌^◌, ◌/◌, ◌%◌, ◌<◌, ◌≤◌, ◌==◌, List, [], ◌∷◌, Bool, true, false, cond, Option, None, Some, slice_set, slice_index, slice_get, length, replicate, ◌≡◌, ◌⊎◌}
 use Rattle.automata_base.specs.Powerset.{Powerset}
 use Rattle.automata_base.specs.Nodes.{Automaton}
-use Rattle.automata_base.specs.Determinize.{successor, start_state_of, max_cost}
+use Rattle.automata_base.specs.Classes.{class_in, eoi_class, is_quit}
+use Rattle.automata_base.specs.Determinize.{successor, start_state_of, max_cost, IsOf}
 use Rattle.automata_base.specs.declared.util.search.MatchKind.{MatchKind}
 use Rattle.automata_base.specs.declared.util.search.Anchored.{Anchored}
 use Rattle.automata_base.specs.declared.util.search.Anchored.TheVariants.{No, Yes, Pattern}
@@ -54,12 +55,33 @@ start_of m slot = start_state_of m.nfa (mode_of (slot / 6)) (sample_of 10 (slot 
 abbrev pub greatest : Machine → ℕ
 greatest m = max_cost m.nfa
 
--- the cells of each class that has a quit byte are quit
-abbrev pub marked : ℕ → List ℕ → List Bool → List ℕ → List ℕ
-marked quit [] quits cells = cells
-marked quit (c ∷ cs) [] cells = cells
-marked quit (c ∷ cs) (q ∷ qs) cells = marked quit cs qs (cond q (slice_set cells c quit) cells)
+-- the cells of a row in which the classes of the quit bytes below a number are quit, and the others unknown
+unfoldable pub marked : (classes : List ℕ) (quits : List Bool) (stride bytes : ℕ) → List ℕ
+marked classes quits stride zero = replicate stride (2 ^ 31)
+marked classes quits stride (suc byte) = cond (is_quit quits byte) (slice_set (marked classes quits stride byte) (class_in classes byte) (quit_id stride)) (marked classes quits stride byte)
 
 -- a new row: quit at quit classes, and else unknown
 unfoldable pub template_of : Machine → List ℕ
-template_of m = marked (quit_id m.stride) m.classes m.quits (replicate m.stride (2 ^ 31))
+template_of m = marked m.classes m.quits m.stride 256
+
+pub record IsTemplate (stride : ℕ) (template : List ℕ) : Type 0 where
+  pub positive : 0 < stride
+  pub small : stride ≤ 512
+  pub whole : length template ≡ stride
+  pub cells : (class : ℕ) → class < stride → (slice_index template class ≡ quit_id stride) ⊎ (slice_index template class ≡ 2 ^ 31)
+
+-- what a clear's start states, a saved state and a new one take
+abbrev pub minimum : ℕ → ℕ → ℕ → ℕ → ℕ
+minimum most stride slots fixed = 4 * ((5 + slots) * stride) + 4 * slots + 16 * (5 + slots) + 20 * (3 + slots) + 39 + (2 + slots) * most + fixed
+
+-- what each lazy DFA keeps: each byte and the end have a class, whose units step alike, and a fresh cache fits
+pub record IsMachine (m : Machine) : Type 0 where
+  pub template : IsTemplate m.stride (template_of m)
+  pub below : eoi_class m.classes < m.stride
+  pub quit : (byte : ℕ) → byte < 256 → is_quit m.quits byte ≡ true → slice_index (template_of m) (class_in m.classes byte) ≡ quit_id m.stride
+  pub free : (byte : ℕ) → byte < 256 → is_quit m.quits byte ≡ false → slice_index (template_of m) (class_in m.classes byte) ≡ 2 ^ 31
+  pub end_free : slice_index (template_of m) (eoi_class m.classes) ≡ 2 ^ 31
+  pub alike : (byte : ℕ) (q : Powerset) → byte < 256 → IsOf m.nfa q → successor m.nfa m.kind q (Some byte) ≡ next_of m q (class_in m.classes byte)
+  pub end_alike : (q : Powerset) → IsOf m.nfa q → successor m.nfa m.kind q None ≡ next_of m q (eoi_class m.classes)
+  pub enough : minimum (greatest m) m.stride m.slots m.fixed ≤ m.capacity
+  pub offsets : (m.slots + 4) * m.stride < 2 ^ 27

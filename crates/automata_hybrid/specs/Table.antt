@@ -7,7 +7,7 @@ use Rattle.automata_base.specs.Equal.{powerset_eq}
 use Rattle.automata_hybrid.specs.declared.dfa.row.Row.{Row}
 use Rattle.automata_base.specs.Determinize.{dead, IsOf}
 use Rattle.automata_hybrid.specs.Ids.{tags, dead_id, quit_id}
-use Rattle.automata_hybrid.specs.Machine.{Machine, next_of, greatest, template_of}
+use Rattle.automata_hybrid.specs.Machine.{Machine, next_of, greatest, template_of, IsTemplate}
 
 -- a state has patterns
 abbrev pub has_patterns : Powerset → Bool
@@ -56,13 +56,6 @@ IsCell t q class id =
 -- the three fixed rows
 abbrev pub fixed_rows : ℕ → List ℕ
 fixed_rows s = replicate s (2 ^ 31) ++ (replicate s (dead_id s) ++ replicate s (quit_id s))
-
--- a new row: quit at quit classes, and else unknown
-pub record IsTemplate (stride : ℕ) (template : List ℕ) : Type 0 where
-  pub positive : 0 < stride
-  pub small : stride ≤ 512
-  pub whole : length template ≡ stride
-  pub cells : (class : ℕ) → class < stride → (slice_index template class ≡ quit_id stride) ⊎ (slice_index template class ≡ 2 ^ 31)
 
 -- the fixed rows alone
 abbrev pub fresh : Machine → Rows

@@ -1,7 +1,7 @@
 ghost use Rattle.std.specs.Prelude.{ℕ, List, ◌≡◌, ◌+◌, ◌-◌, ◌*◌, ◌/◌, ◌%◌, ◌^◌, ◌<◌, ◌≤◌, None, Some, IfOk, OnOk, OnErr, length, slice_get, slice_index, sum_by};
 ghost use Rattle.automata_base.specs.Powerset.{Powerset};
-ghost use Rattle.automata_hybrid.specs.Machine.{greatest, start_of};
-ghost use Rattle.automata_hybrid.specs.Table.{id_of, Names, IsValid, row_cost, IsTemplate, MayLead};
+ghost use Rattle.automata_hybrid.specs.Machine.{greatest, start_of, IsTemplate};
+ghost use Rattle.automata_hybrid.specs.Table.{id_of, Names, IsValid, row_cost, MayLead};
 ghost use Rattle.automata_hybrid.specs.Clears.{AllStarts, kept, put, row_of, keep_slot, IsPut};
 ghost use Rattle.automata_hybrid.specs.Bounds.{KeepsStarts};
 ghost use Rattle.automata_hybrid.specs.declared.dfa.row.Row.{Row as ARow};

@@ -2,10 +2,10 @@ ghost use Rattle.std.specs.Prelude.{ℕ, ◌≡◌, ◌+◌, ◌-◌, ◌*◌, �
 ghost use Rattle.automata_base.specs.Powerset.{Powerset, cost};
 ghost use Rattle.automata_base.specs.Determinize.{dead, IsOf};
 ghost use Rattle.automata_hybrid.specs.Ids.{dead_id};
-ghost use Rattle.automata_hybrid.specs.Machine.{next_of, start_of, greatest, template_of};
-ghost use Rattle.automata_hybrid.specs.Table.{id_of, Names, IsValid, with_row, with_cell, Leads, MayLead, IsCell, IsTemplate};
+ghost use Rattle.automata_hybrid.specs.Machine.{next_of, start_of, greatest, template_of, IsTemplate, minimum};
+ghost use Rattle.automata_hybrid.specs.Table.{id_of, Names, IsValid, with_row, with_cell, Leads, MayLead, IsCell};
 ghost use Rattle.automata_hybrid.specs.Clears.{IsPut, row_of};
-ghost use Rattle.automata_hybrid.specs.Bounds.{usage, Fits, refuses_to_clear, cleared, with_table, grown, put_found, cleared_saving, IsCacheError, cell_of, with_next, fresh_store, settings_of, with_start, minimum, IsAdded, KeepsStarts};
+ghost use Rattle.automata_hybrid.specs.Bounds.{usage, Fits, refuses_to_clear, cleared, with_table, grown, put_found, cleared_saving, IsCacheError, cell_of, with_next, fresh_store, settings_of, with_start, IsAdded, KeepsStarts};
 ghost use Rattle.automata_hybrid.specs.Progressing.{started, updated, finished, total_len};
 
 use crate::dfa::clears::{keep_row, keep_starts};

@@ -1,18 +1,20 @@
-ghost use Rattle.std.specs.Prelude.{ℕ, List, ◌≡◌, ◌+◌, ◌-◌, ◌*◌, ◌/◌, ◌%◌, ◌^◌, ◌<◌, ◌≤◌, ◌⊎◌, None, Some, IfOk, OnOk, OnErr, length, slice_index, slice_set, slice_get, sum_by, [], ◌++◌, ◌∷◌, false};
+ghost use Rattle.std.specs.Prelude.{ℕ, List, ◌≡◌, ◌+◌, ◌-◌, ◌*◌, ◌/◌, ◌%◌, ◌^◌, ◌<◌, ◌≤◌, ◌⊎◌, None, Some, IfOk, OnOk, OnErr, length, slice_index, slice_set, slice_get, sum_by, [], ◌++◌, ◌∷◌, false, cond};
 ghost use Rattle.automata_base.specs.Powerset.{Powerset, cost};
+ghost use Rattle.automata_base.specs.Classes.{eoi_class};
 ghost use Rattle.automata_base.specs.Determinize.{dead, IsOf};
 ghost use Rattle.automata_hybrid.specs.Ids.{dead_id, quit_id};
-ghost use Rattle.automata_hybrid.specs.Machine.{next_of, greatest, template_of};
-ghost use Rattle.automata_hybrid.specs.Table.{id_of, with_row, fresh, IsTemplate, Names, Leads, row_id, row_cost, IsValid, HasState, IsCell, cell_at, with_cell};
+ghost use Rattle.automata_hybrid.specs.Machine.{next_of, greatest, template_of, IsTemplate, marked};
+ghost use Rattle.automata_hybrid.specs.Table.{id_of, with_row, fresh, Names, Leads, row_id, row_cost, IsValid, HasState, IsCell, cell_at, with_cell};
 ghost use Rattle.automata_hybrid.specs.Clears.{AllStarts};
 ghost use Rattle.automata_hybrid.specs.declared.dfa.row.Row.{Row as ARow};
 
 use crate::dfa::row::Row;
 use crate::dfa::{DFA, row};
 use crate::id::LazyStateID;
+use automata_base::util::alphabet::ByteClasses;
 use automata_base::util::determinize::key::Key;
 use automata_base::util::determinize::state::State;
-use std::alloc::{AllocError, AllocFailed};
+use std::alloc::{AllocError, AllocFailed, Global};
 use std::collections::HashMap;
 use std::marker::Model;
 use std::snapshot::Snapshot;
@@ -200,4 +202,35 @@ impl Table {
             started: row.started,
         })
     }
+}
+
+/// Sets the cell of a class, where the byte is a quit byte.
+fn mark(cells: &mut Vec<LazyStateID>, class: usize, quit: LazyStateID, quits: bool)
+    requires { class < length cells.old.items }
+    ensures { cells.new.items ≡ cond quits (slice_set cells.old.items class quit) cells.old.items }
+{
+    if quits {
+        cells[class] = quit;
+    }
+}
+
+/// The cells of a new row: quit at the classes of quit bytes, and else unknown.
+pub fn new_row(
+    alloc: Global,
+    classes: &ByteClasses,
+    quits: &[bool; 256],
+    stride: usize,
+) -> Result<Vec<LazyStateID>, AllocError>
+    requires classes { eoi_class classes.now < stride }
+    requires stride { stride ≤ 512 }
+    ensures { IfOk result (λ v. v.items ≡ marked classes.now quits.now stride 256) }
+{
+    let quit = LazyStateID::quit(stride as u32);
+    let mut cells = Vec::new(alloc);
+    cells.resize(stride, LazyStateID::UNKNOWN)?;
+    for byte in 0..256usize {
+        let class = classes.get(byte as u8);
+        mark(&mut cells, usize::from(class), quit, quits[byte]);
+    }
+    Ok(cells)
 }

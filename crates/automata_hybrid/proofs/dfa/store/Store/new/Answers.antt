@@ -1,7 +1,7 @@
 use Rattle.std.proofs.Common.{◌≡◌, ◌+◌, ◌*◌, replicate, ◌^◌, ◌<◌, ◌≤◌, arith}
 use Rattle.std.proofs.lemmas.Grind.{common_steps}
-use Rattle.automata_hybrid.specs.Machine.{Machine, greatest}
-use Rattle.automata_hybrid.specs.Bounds.{IsCache, minimum, fresh_store}
+use Rattle.automata_hybrid.specs.Machine.{Machine, greatest, minimum}
+use Rattle.automata_hybrid.specs.Bounds.{IsCache, fresh_store}
 use Rattle.automata_hybrid.proofs.Bounding.{IsCache-fresh}
 use Rattle.automata_hybrid.proofs.dfa.store.Store.new.Goals as goal
 
