@@ -83,8 +83,8 @@ abbrev pub cell_of : Stored → ℕ → ℕ → ℕ
 cell_of c id class = slice_index c.table.cells (cell_at id class)
 
 -- the transition is known
-abbrev pub IsKnown : Stored → ℕ → ℕ → Type 0
-IsKnown c id class = cell_of c id class < 2 ^ 31
+abbrev pub IsKnownTransition : Stored → ℕ → ℕ → Type 0
+IsKnownTransition c id class = cell_of c id class < 2 ^ 31
 
 -- what a step from a state answers: quit at quit classes, and else what names the next state
 abbrev pub IsNext : Rows → Powerset → ℕ → ℕ → Type 0

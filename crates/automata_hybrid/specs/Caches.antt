@@ -21,6 +21,10 @@ fresh_cache m = record { store = fresh_store m (settings_of m); count = 0 }
 abbrev pub counted : CacheView → CacheView
 counted c = record { store = c.store; count = c.count + 1 }
 
+-- with other states
+abbrev pub with_store : CacheView → Stored → CacheView
+with_store c s = record { store = s; count = c.count }
+
 -- an ID of a row but the unknown one
 abbrev pub HasRow : Rows → ℕ → Type 0
 HasRow t id = (id ≡ dead_id t.of.stride) ⊎ ((id ≡ quit_id t.of.stride) ⊎ IsValid t id)

@@ -1,10 +1,11 @@
-ghost use Rattle.std.specs.Prelude.{ℕ, ◌≡◌, ◌+◌, ◌*◌, ◌^◌, ◌<◌, ◌≤◌, None, Some, IfOk, OnOk, OnErr, length, slice_index, IsTrue, is_some, IsSome, true};
+ghost use Rattle.std.specs.Prelude.{ℕ, ◌≡◌, ◌+◌, ◌*◌, ◌^◌, ◌<◌, ◌≤◌, None, Some, IfOk, IfErr, OnOk, OnErr, slice_index, true, false};
 ghost use Rattle.automata_base.specs.Powerset.{Powerset, cost};
-ghost use Rattle.automata_base.specs.Determinize.{successor, IsOf};
+ghost use Rattle.automata_base.specs.Determinize.{successor, IsOf, dead};
 ghost use Rattle.automata_hybrid.specs.Machine.{Machine, next_of, start_of, greatest, template_of};
-ghost use Rattle.automata_hybrid.specs.Table.{id_of, Names, IsValid, Leads};
-ghost use Rattle.automata_hybrid.specs.Bounds.{usage, Fits, refuses_to_clear, IsCacheError, KeepsStarts, IsComputed};
-ghost use Rattle.automata_hybrid.specs.Caches.{IsCacheOf, fresh_cache, counted};
+ghost use Rattle.automata_hybrid.specs.Ids.{dead_id};
+ghost use Rattle.automata_hybrid.specs.Table.{id_of, Names, IsValid, Leads, IsCell};
+ghost use Rattle.automata_hybrid.specs.Bounds.{Fits, refuses_to_clear, IsCacheError, KeepsStarts, IsAdded, cell_of, with_next};
+ghost use Rattle.automata_hybrid.specs.Caches.{IsCacheOf, fresh_cache, counted, with_store};
 ghost use Rattle.automata_hybrid.specs.Progressing.{started, updated, finished, total_len};
 
 use crate::dfa::DFA;
@@ -57,7 +58,7 @@ impl Cache {
     }
 
     /// The state after a unit, as a key.
-    fn determinise(
+    pub(crate) fn determinise(
         &mut self,
         dfa: &DFA,
         id: LazyStateID,
@@ -78,12 +79,81 @@ impl Cache {
     }
 
     /// The state of a key, whose room is used again.
-    fn shared(&mut self, dfa: &DFA, key: Key) -> Result<State, AllocError>
+    pub(crate) fn shared(&mut self, dfa: &DFA, key: Key) -> Result<State, AllocError>
         ensures value { IfOk result (λ s. s ≡ key) }
         ensures same { self.new ≡ self.old }
     {
         let state = key.to_state(dfa.alloc());
         self.scratch.recycle(key);
         state
+    }
+
+    /// The cell of a row at a class, which may not be known yet.
+    #[inline(always)]
+    pub(crate) fn cell(&self, id: LazyStateID, class: usize) -> LazyStateID
+        requires row { IsValid self.now.store.table id }
+        requires class { class < self.now.store.table.of.stride }
+        ensures value { result ≡ cell_of self.now.store id class }
+        ensures named { (q : Powerset) → Names self.now.store.table id q → IsCell self.now.store.table q class result }
+        ensures stride { self.now.store.table.of.stride ≤ 512 }
+    {
+        self.store.cell(id, class)
+    }
+
+    /// The ID of a state, where the cache has it.
+    pub(crate) fn get(&self, key: &Key) -> Option<LazyStateID>
+        ensures { result ≡ id_of self.now.store.table key.now }
+    {
+        self.store.get(key)
+    }
+
+    pub(crate) fn dead(&self) -> LazyStateID
+        ensures { result ≡ dead_id self.now.store.table.of.stride }
+    {
+        self.store.dead()
+    }
+
+    /// Uses the room of a key again.
+    pub(crate) fn recycle(&mut self, key: Key)
+        ensures { self.new ≡ self.old }
+    {
+        self.scratch.recycle(key);
+    }
+
+    /// Writes a transition.
+    pub(crate) fn set_next(&mut self, id: LazyStateID, class: usize, next: LazyStateID)
+        requires row { IsValid self.old.store.table id }
+        requires class { class < self.old.store.table.of.stride }
+        requires free { slice_index (template_of self.old.store.table.of) class ≡ 2 ^ 31 }
+        requires next { (q : Powerset) × Names self.old.store.table id q × Leads self.old.store.table next (next_of self.old.store.table.of q class) }
+        ensures { self.new ≡ with_store self.old (with_next self.old.store id class next) }
+    {
+        self.store.set_next(id, class, next);
+    }
+
+    /// Adds a state that the cache lacks, stepped to from a row.
+    pub(crate) fn add_next(
+        &mut self,
+        dfa: &DFA,
+        from: LazyStateID,
+        state: State,
+    ) -> Result<(LazyStateID, LazyStateID), StepError>
+        requires dfa { IsCacheOf self.old dfa.now }
+        requires valid { IsValid self.old.store.table from }
+        requires absent { id_of self.old.store.table state ≡ None }
+        requires alive { state ≡ dead → ⊥ }
+        requires cost { cost state ≤ greatest dfa.now }
+        requires of { IsOf dfa.now.nfa state }
+        ensures effect { OnOk result (IsAdded self.old.store from (record { state = state; started = false }) self.new.store) }
+        ensures starts { OnOk result (KeepsStarts self.old.store.starts self.new.store.starts) }
+        ensures from { IfOk result (λ p. (q : Powerset) → Names self.old.store.table from q → Names self.new.store.table p.0 q) }
+        ensures to { IfOk result (λ p. Names self.new.store.table p.1 state) }
+        ensures of { IsCacheOf self.new dfa.now }
+        ensures count { self.new.count ≡ self.old.count }
+        ensures gives_up { IfErr result (λ e. IsCacheError e → (Fits self.old.store (cost state) → ⊥) × (refuses_to_clear self.old.store ≡ true)) }
+        ensures err { OnErr result (self.new ≡ self.old) }
+    {
+        let added = self.store.add_next(dfa, from, state)?;
+        Ok(added)
     }
 }

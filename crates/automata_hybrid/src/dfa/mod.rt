@@ -11,6 +11,7 @@ pub mod clears;
 pub mod progress;
 pub mod row;
 pub mod settings;
+pub mod step;
 pub mod store;
 pub mod table;
 
