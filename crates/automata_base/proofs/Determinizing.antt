@@ -1,0 +1,14 @@
+pub mod Bits_of_looks
+pub mod Dense
+pub mod Distinct
+pub mod Holding
+pub mod Keeping
+pub mod Making
+pub mod Sound
+pub mod Sparsely
+pub mod Tests_of_lists
+pub mod Walking
+pub mod Deciding
+pub mod Repeats
+pub mod Stepping
+pub mod Belows

@@ -1,0 +1,174 @@
+-- Bits of look sets.
+use Rattle.std.proofs.Common.{min, ℕ, zero, suc, ltb, ◌+◌, ◌&&◌, not, true≢false, ◌≡◌, ◌<◌, ◌⊎◌, ◌||◌, ◌*◌, ◌%◌, ◌^◌, ◌≤◌, Bool, true, false, eqb, refl, sym, ap, ◌∙◌, inl, inr, subst, arith, w32}
+use Rattle.std.specs.Int.{bit_at}
+use Rattle.std.specs.Int.RustNames.{bit_or, bit_and}
+use Rattle.std.proofs.lemmas.Nat.Bits.{bit_at_set_same, bit_at_set_other, bit_at_and, bit_at_ones, bit_at-lt}
+use Rattle.std.proofs.lemmas.Bool.Decides.{eqb_tells}
+use Rattle.std.proofs.lemmas.Bool.{lt-ltb, le-ltb}
+use Rattle.std.proofs.lemmas.Grind.{common_steps}
+use Rattle.automata_base.specs.Truths.{truth_of, nth_look}
+use Rattle.automata_base.specs.Looks.{Look}
+use Rattle.automata_base.specs.Looks as l
+use Rattle.automata_base.specs.Nfa.{Truth}
+use Rattle.automata_base.specs.Looks.{look_index}
+use Rattle.automata_base.proofs.Paths.Machines.{code_one}
+use Rattle.std.proofs.Math.Nat.{pow-le-pow_right}
+
+pub insert_bit :
+    (n k j : ℕ) → k < 18 → eqb (bit_at (bit_or n (1 * 2 ^ k % 4294967296)) j) 1 ≡ (eqb j k || eqb (bit_at n j) 1)
+insert_bit n k j l = go (eqb_tells j k)
+  where
+    go :
+        ((eqb j k ≡ true) × (j ≡ k)) ⊎ ((eqb j k ≡ false) × (j ≡ k → ⊥))
+        → eqb (bit_at (bit_or n (1 * 2 ^ k % 4294967296)) j) 1 ≡ (eqb j k || eqb (bit_at n j) 1)
+    go (inl h) =
+        ap (λ z. eqb (bit_at (bit_or n (1 * 2 ^ k % 4294967296)) z) 1) h.1
+        ∙ (ap (λ z. eqb z 1) (bit_at_set_same w32 n k (omega (arith, l))) ∙ sym (ap (λ b. b || eqb (bit_at n j) 1) h.0))
+    go (inr h) =
+        ap (λ z. eqb z 1) (bit_at_set_other w32 n k (omega (arith, l)) j h.1)
+        ∙ sym (ap (λ b. b || eqb (bit_at n j) 1) h.0)
+
+-- the low eighteen bits are those of the number
+pub low_bits : (n k : ℕ) → k < 18 → bit_at (bit_and n 262143) k ≡ bit_at n k
+low_bits n k l =
+    bit_at_and n 262143 k ∙ (ap (min (bit_at n k)) (bit_at_ones 18 k l) ∙ (let two : bit_at n k < 2 = bit_at-lt n k in omega arith))
+
+pub bit_small : (k : ℕ) → k < 18 → 1 * 2 ^ k % 4294967296 < 2 ^ 18
+bit_small k l =
+    let below : k ≤ 17 = omega arith in
+    let small : 2 ^ k ≤ 2 ^ 17 = pow-le-pow_right (omega arith) below in omega (arith, small)
+
+pub code_nth : (k : ℕ) → k < 18 → look_index (nth_look k) ≡ k
+code_nth zero h = refl
+code_nth (suc zero) h = refl
+code_nth (suc (suc zero)) h = refl
+code_nth (suc (suc (suc zero))) h = refl
+code_nth (suc (suc (suc (suc zero)))) h = refl
+code_nth (suc (suc (suc (suc (suc zero))))) h = refl
+code_nth (suc (suc (suc (suc (suc (suc zero)))))) h = refl
+code_nth (suc (suc (suc (suc (suc (suc (suc zero))))))) h = refl
+code_nth (suc (suc (suc (suc (suc (suc (suc (suc zero)))))))) h = refl
+code_nth (suc (suc (suc (suc (suc (suc (suc (suc (suc zero))))))))) h = refl
+code_nth (suc (suc (suc (suc (suc (suc (suc (suc (suc (suc zero)))))))))) h = refl
+code_nth (suc (suc (suc (suc (suc (suc (suc (suc (suc (suc (suc zero))))))))))) h = refl
+code_nth (suc (suc (suc (suc (suc (suc (suc (suc (suc (suc (suc (suc zero)))))))))))) h = refl
+code_nth (suc (suc (suc (suc (suc (suc (suc (suc (suc (suc (suc (suc (suc zero))))))))))))) h = refl
+code_nth (suc (suc (suc (suc (suc (suc (suc (suc (suc (suc (suc (suc (suc (suc zero)))))))))))))) h = refl
+code_nth (suc (suc (suc (suc (suc (suc (suc (suc (suc (suc (suc (suc (suc (suc (suc zero))))))))))))))) h = refl
+code_nth (suc (suc (suc (suc (suc (suc (suc (suc (suc (suc (suc (suc (suc (suc (suc (suc zero)))))))))))))))) h = refl
+code_nth (suc (suc (suc (suc (suc (suc (suc (suc (suc (suc (suc (suc (suc (suc (suc (suc (suc zero))))))))))))))))) h = refl
+code_nth (suc (suc (suc (suc (suc (suc (suc (suc (suc (suc (suc (suc (suc (suc (suc (suc (suc (suc k)))))))))))))))))) h = absurd (omega (arith, h))
+
+pub code_below : (look : Look) → look_index look < 18
+code_below l.Start = omega arith
+code_below l.End = omega arith
+code_below l.StartLF = omega arith
+code_below l.EndLF = omega arith
+code_below l.StartCRLF = omega arith
+code_below l.EndCRLF = omega arith
+code_below l.WordAscii = omega arith
+code_below l.WordAsciiNegate = omega arith
+code_below l.WordUnicode = omega arith
+code_below l.WordUnicodeNegate = omega arith
+code_below l.WordStartAscii = omega arith
+code_below l.WordEndAscii = omega arith
+code_below l.WordStartUnicode = omega arith
+code_below l.WordEndUnicode = omega arith
+code_below l.WordStartHalfAscii = omega arith
+code_below l.WordEndHalfAscii = omega arith
+code_below l.WordStartHalfUnicode = omega arith
+code_below l.WordEndHalfUnicode = omega arith
+
+or_false : (a : Bool) → a || false ≡ a
+or_false true = refl
+or_false false = refl
+
+or_true : (a b : Bool) → b ≡ true → a || b ≡ true
+or_true true b e = refl
+or_true false b e = e
+
+ltb_next : (a k : ℕ) → (a ≡ k → ⊥) → ltb a (k + 1) ≡ ltb a k
+ltb_next a k ne = grind (arith, common_steps)
+
+-- What a loop over the looks has collected: what was there, and the looks before `k` that pass.
+abbrev pub Sofar : Truth → Truth → ℕ → ℕ → Type 0
+Sofar base f set k = (other : Look) → truth_of set other ≡ (base other || (ltb (look_index other) k && f other))
+
+pub sofar_start : (base f : Truth) (set : ℕ) → ((other : Look) → truth_of set other ≡ base other) → Sofar base f set 0
+sofar_start base f set h other =
+    h other ∙ sym (ap (λ b. base other || (b && f other)) (le-ltb (look_index other) 0 (omega arith)) ∙ or_false (base other))
+
+pub sofar_next :
+    (base f : Truth) (set set' k : ℕ) (look : Look) (b : Bool)
+    → k < 18 → look ≡ nth_look k
+    → ((other : Look) → truth_of set' other ≡ (eqb (look_index other) (look_index look) && b || truth_of set other))
+    → b ≡ f look → Sofar base f set k → Sofar base f set' (k + 1)
+sofar_next base f set set' k look b h is grown t so other = go (eqb_tells (look_index other) (look_index look))
+  where
+    number : look_index look ≡ k
+    number = ap look_index is ∙ code_nth k h
+
+    go :
+        ((eqb (look_index other) (look_index look) ≡ true) × (look_index other ≡ look_index look))
+        ⊎ ((eqb (look_index other) (look_index look) ≡ false) × (look_index other ≡ look_index look → ⊥))
+        → truth_of set' other ≡ (base other || (ltb (look_index other) (k + 1) && f other))
+    go (inl w) =
+        let same : other ≡ look = code_one other look w.0 in
+        let more : ltb (look_index other) (k + 1) ≡ true = lt-ltb (look_index other) (k + 1) (omega (arith, number, w.1)) in
+        let less : ltb (look_index other) k ≡ false = le-ltb (look_index other) k (omega (arith, number, w.1)) in
+        let passes : b ≡ f other = t ∙ ap f (sym same) in
+        grown other ∙ (ap (λ z. z && b || truth_of set other) w.0
+        ∙ (ap (λ z. b || z) (so other ∙ ap (λ z. base other || (z && f other)) less)
+        ∙ (ap (λ z. z || (base other || false)) passes
+        ∙ (swap (f other) (base other) ∙ sym (ap (λ z. base other || (z && f other)) more)))))
+      where
+        swap : (x y : Bool) → x || (y || false) ≡ y || x
+        swap x y = first' x y
+          where
+            first' : (x y : Bool) → x || (y || false) ≡ y || x
+            first' true true = refl
+            first' true false = refl
+            first' false true = refl
+            first' false false = refl
+    go (inr w) =
+        grown other ∙ (ap (λ z. z && b || truth_of set other) w.0 ∙ (so other
+        ∙ sym (ap (λ z. base other || (z && f other)) (ltb_next (look_index other) k (λ e. w.1 (e ∙ sym number))))))
+
+pub sofar_done : (base f : Truth) (set k : ℕ) → 18 ≤ k → Sofar base f set k → (other : Look) → truth_of set other ≡ (base other || f other)
+sofar_done base f set k h so other =
+    so other ∙ ap (λ b. base other || (b && f other)) (lt-ltb (look_index other) k (let w = code_below other in omega (arith, h, w)))
+
+or_and : (a b c : Bool) → a && b && not c ≡ false → a ≡ true → b ≡ true → c ≡ false → ⊥
+or_and true true true e f g h = true≢false h
+or_and true true false e f g h = true≢false e
+or_and true false c e f g h = true≢false (sym g)
+or_and false b c e f g h = true≢false (sym f)
+
+-- No look before `k` is needed, true and new.
+abbrev pub Unnews : Truth → Truth → Truth → ℕ → Type 0
+Unnews N T K k = (look : Look) → look_index look < k → N look ≡ true → T look ≡ true → K look ≡ false → ⊥
+
+pub unnews_start : (N T K : Truth) → Unnews N T K 0
+unnews_start N T K look l = absurd (omega (arith, l))
+
+pub unnews_next : (N T K : Truth) (k : ℕ) (look : Look) → k < 18 → look ≡ nth_look k → N look && T look && not (K look) ≡ false → Unnews N T K k → Unnews N T K (k + 1)
+unnews_next N T K k look h is at so other less = go (eqb_tells (look_index other) (look_index look))
+  where
+    number : look_index look ≡ k
+    number = ap look_index is ∙ code_nth k h
+
+    go :
+        ((eqb (look_index other) (look_index look) ≡ true) × (look_index other ≡ look_index look))
+        ⊎ ((eqb (look_index other) (look_index look) ≡ false) × (look_index other ≡ look_index look → ⊥))
+        → N other ≡ true → T other ≡ true → K other ≡ false → ⊥
+    go (inl w) = subst (λ z. N z ≡ true → T z ≡ true → K z ≡ false → ⊥) (sym (code_one other look w.0)) (or_and (N look) (T look) (K look) at)
+    go (inr w) = so other (let ne : look_index other ≡ k → ⊥ = λ e. w.1 (e ∙ sym number) in omega (arith, less, ne))
+
+pub unnews_done : (N T K : Truth) (k : ℕ) → 18 ≤ k → Unnews N T K k → (look : Look) → N look ≡ true → T look ≡ true → K look ≡ false → ⊥
+unnews_done N T K k h so look = so look (let w = code_below look in omega (arith, h, w))
+
+pub news_there : (a b c : Bool) → a && b && not c ≡ true → (a ≡ true) × (b ≡ true) × (c ≡ false)
+news_there true true true e = absurd (true≢false (sym e))
+news_there true true false e = (refl, refl, refl)
+news_there true false c e = absurd (true≢false (sym e))
+news_there false b c e = absurd (true≢false (sym e))

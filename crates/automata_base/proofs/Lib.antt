@@ -1,0 +1,5 @@
+pub mod Coding
+pub mod Determinizing
+pub mod Paths
+pub mod Spans
+pub mod Values

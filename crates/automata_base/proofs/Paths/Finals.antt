@@ -1,0 +1,120 @@
+-- The computed search answers what the paths define.
+use Rattle.std.proofs.Common.{ℕ, zero, suc, ◌≡◌, ◌<◌, ◌≤◌, Bool, true, false, List, [], ◌∷◌, ◌⊎◌, length, Option, Some, None, refl, sym, subst, arith, ⊎_elim, eq-or-lt_of_le, le_of_suc-le-suc}
+use Rattle.automata_base.specs.Lists.{IsSet}
+use Rattle.automata_base.specs.Nfa.{Nfa}
+use Rattle.automata_base.specs.Paths.{Tape, IsLookAcyclic}
+use Rattle.automata_base.specs.Cuts.{MatchKind, All}
+use Rattle.automata_base.specs.Selections.{Accepts, Pair, IsNearest, IsFarthest, Pairs, Tells, PassSelects, Selects, IsOverlappingOn}
+use Rattle.automata_base.specs.Computed.{told_of, pair_at, last_of, earlier_or, first_of, search_of, walk_of, IsInRange}
+use Rattle.automata_base.specs.Passes.{IsTape}
+use Rattle.automata_base.proofs.Paths.Searches.{sel_right, walk_right}
+use Rattle.automata_base.proofs.Paths.Sets.{nearest_right, farthest_right, pairs_right}
+use Rattle.automata_base.proofs.Paths.Machines.{told_right}
+
+-- The last place below `k` where something is told.
+abbrev pub IsLast : (ℕ → List ℕ → Type 0) → ℕ → Option Pair → Type 0
+IsLast At k None = (i : ℕ) → i < k → At i []
+IsLast At k (Some pair) =
+    (rest : List ℕ) × (pair.place < k) × At pair.place (pair.pattern ∷ rest)
+    × ((j : ℕ) → pair.place < j → j < k → At j [])
+
+last_right :
+    (n : Nfa) (kind : MatchKind) (start : ℕ) (t : Tape) (At : ℕ → List ℕ → Type 0) (k : ℕ)
+    → ((i : ℕ) → At i (told_of n kind start t i)) → IsLast At k (last_of n kind start t k)
+last_right n kind start t At zero f = λ i l. absurd (omega (arith, l))
+last_right n kind start t At (suc k) f = go (told_of n kind start t k) (f k) (last_of n kind start t k) (last_right n kind start t At k f)
+  where
+    new : (i : ℕ) → i < suc k → (i ≡ k) ⊎ (i < k)
+    new i l = eq-or-lt_of_le (le_of_suc-le-suc l)
+
+    go : (xs : List ℕ) → At k xs → (o : Option Pair) → IsLast At k o → IsLast At (suc k) (pair_at xs k o)
+    go [] a None h = λ i l. ⊎_elim (λ (e : i ≡ k). subst (λ v. At v []) (sym e) a) (λ (b : i < k). h i b) (new i l)
+    go [] a (Some pair) h = (
+      h.0,
+      omega (arith, h.1),
+      h.2,
+      λ j b l. ⊎_elim (λ (e : j ≡ k). subst (λ v. At v []) (sym e) a) (λ (c : j < k). h.3 j b c) (new j l),
+    )
+    go (p ∷ rest) a o h = (rest, omega arith, a, λ j b l. absurd (omega (arith, b, l)))
+
+-- The first such place.
+abbrev pub IsFirst : (ℕ → List ℕ → Type 0) → ℕ → Option Pair → Type 0
+IsFirst At k None = (i : ℕ) → i < k → At i []
+IsFirst At k (Some pair) =
+    (rest : List ℕ) × (pair.place < k) × At pair.place (pair.pattern ∷ rest) × ((j : ℕ) → j < pair.place → At j [])
+
+first_right :
+    (n : Nfa) (kind : MatchKind) (start : ℕ) (t : Tape) (At : ℕ → List ℕ → Type 0) (k : ℕ)
+    → ((i : ℕ) → At i (told_of n kind start t i)) → IsFirst At k (first_of n kind start t k)
+first_right n kind start t At zero f = λ i l. absurd (omega (arith, l))
+first_right n kind start t At (suc k) f = go (first_of n kind start t k) (first_right n kind start t At k f) (told_of n kind start t k) (f k)
+  where
+    new : (i : ℕ) → i < suc k → (i ≡ k) ⊎ (i < k)
+    new i l = eq-or-lt_of_le (le_of_suc-le-suc l)
+
+    go : (o : Option Pair) → IsFirst At k o → (xs : List ℕ) → At k xs → IsFirst At (suc k) (earlier_or o (pair_at xs k None))
+    go (Some pair) h xs a = (h.0, omega (arith, h.1), h.2, h.3)
+    go None h [] a = λ i l. ⊎_elim (λ (e : i ≡ k). subst (λ v. At v []) (sym e) a) (λ (b : i < k). h i b) (new i l)
+    go None h (p ∷ rest) a = (rest, omega arith, a, h)
+
+pub pass_sel_right :
+    (kind : MatchKind) (earliest : Bool) (n : Nfa) (t : Tape) (start : ℕ)
+    → IsInRange n → start < length n.nodes → PassSelects kind earliest n t start (search_of kind earliest n t start)
+pass_sel_right kind true n t start r l =
+    go (first_of n kind start t (suc (length t.bytes)))
+    (first_right n kind start t (Tells kind n t start) (suc (length t.bytes)) (λ i. told_right n kind start t i r l))
+  where
+    go : (o : Option Pair) → IsFirst (Tells kind n t start) (suc (length t.bytes)) o → PassSelects kind true n t start o
+    go None h = λ i b. h i (omega (arith, b))
+    go (Some pair) h = (h.0, le_of_suc-le-suc h.1, h.2, h.3)
+pass_sel_right kind false n t start r l =
+    go (last_of n kind start t (suc (length t.bytes)))
+    (last_right n kind start t (Tells kind n t start) (suc (length t.bytes)) (λ i. told_right n kind start t i r l))
+  where
+    go : (o : Option Pair) → IsLast (Tells kind n t start) (suc (length t.bytes)) o → PassSelects kind false n t start o
+    go None h = λ i b. h i (omega (arith, b))
+    go (Some pair) h = (h.0, le_of_suc-le-suc h.1, h.2, λ j b c. h.3 j b (omega (arith, c)))
+
+-- Late is right, for searches.
+pub search_right :
+    (kind : MatchKind) (earliest : Bool) (n : Nfa) (t : Tape) (start : ℕ)
+    → IsInRange n → start < length n.nodes → IsLookAcyclic n → IsTape t
+    → Selects kind earliest n t start (search_of kind earliest n t start)
+search_right kind earliest n t start r l free tape_of =
+    sel_right kind earliest n t start (search_of kind earliest n t start) free tape_of (pass_sel_right kind earliest n t start r l)
+
+walk_pairs :
+    (kind : MatchKind) (n : Nfa) (t : Tape) (start k : ℕ)
+    → IsInRange n → start < length n.nodes → Pairs (Tells kind n t start) k (walk_of n kind start t k)
+walk_pairs kind n t start zero r l = refl
+walk_pairs kind n t start (suc k) r l =
+    (walk_of n kind start t k, told_of n kind start t k, walk_pairs kind n t start k r l, told_right n kind start t k r l, refl)
+
+-- Late is right, for walks.
+pub walked_right :
+    (kind : MatchKind) (n : Nfa) (t : Tape) (start : ℕ)
+    → IsInRange n → start < length n.nodes → IsLookAcyclic n → IsTape t
+    → IsOverlappingOn kind n t start (walk_of n kind start t (suc (length t.bytes)))
+walked_right kind n t start r l free tape_of =
+    walk_right kind n t start (walk_of n kind start t (suc (length t.bytes))) free tape_of (walk_pairs kind n t start (suc (length t.bytes)) r l)
+
+-- For every NFA: the nearest end, and under kind all the farthest.
+pub earliest_right :
+    (kind : MatchKind) (n : Nfa) (t : Tape) (start : ℕ)
+    → IsInRange n → start < length n.nodes → IsTape t → IsNearest n t start (search_of kind true n t start)
+earliest_right kind n t start r l tape_of =
+    nearest_right kind n t start (search_of kind true n t start) tape_of (pass_sel_right kind true n t start r l)
+
+pub end_right :
+    (n : Nfa) (t : Tape) (start : ℕ)
+    → IsInRange n → start < length n.nodes → IsTape t → IsFarthest n t start (search_of All false n t start)
+end_right n t start r l tape_of =
+    farthest_right n t start (search_of All false n t start) tape_of (pass_sel_right All false n t start r l)
+
+-- For every NFA, under kind all: the patterns told at a place are those of the accepting paths that end there.
+pub set_right :
+    (n : Nfa) (t : Tape) (start i : ℕ)
+    → IsInRange n → start < length n.nodes → IsTape t → i ≤ length t.bytes
+    → IsSet (λ p. (path : List ℕ) × Accepts n t start i p path) (told_of n All start t i)
+set_right n t start i r l tape_of inside =
+    pairs_right n t start i (told_of n All start t i) tape_of inside (told_right n All start t i r l)

@@ -1,0 +1,187 @@
+-- Searches and walks of the pass answer what the paths define.
+use Rattle.std.proofs.Common.{ℕ, zero, suc, ◌≡◌, ◌<◌, ◌≤◌, Bool, true, false, List, [], ◌∷◌, ◌⊎◌, length, Option, Some, None, inl, inr, sym, subst, arith, ⊎_elim, eq-or-lt_of_le, le_of_suc-le-suc}
+use Rattle.std.proofs.lemmas.Bool.{cases_lt}
+use Rattle.automata_base.specs.Order.{Before, Upto}
+use Rattle.automata_base.specs.Lists.{In, nth}
+use Rattle.automata_base.specs.Nfa.{Nfa}
+use Rattle.automata_base.specs.Paths.{Tape, IsPathFrom, IsLookAcyclic}
+use Rattle.automata_base.specs.Cuts.{MatchKind, All, LeftmostFirst}
+use Rattle.automata_base.specs.Selections.{Accepts, IsFirstAt, IsAt, Tells, Pair, Pairs, IsOverlappingOn, PassTells, Selects, PassSelects}
+use Rattle.automata_base.proofs.Paths.Orders.{cons_head, nil_cons, none_some, upto_before}
+use Rattle.automata_base.specs.Passes.{IsTape}
+use Rattle.automata_base.proofs.Paths.Invariants.{pass_tells}
+
+pub pairs_map :
+    (At At' : ℕ → List ℕ → Type 0) (k : ℕ) (pairs : List Pair)
+    → ((i : ℕ) (patterns : List ℕ) → i < k → At i patterns → At' i patterns) → Pairs At k pairs → Pairs At' k pairs
+pairs_map At At' zero pairs f p = p
+pairs_map At At' (suc k) pairs f p =
+    (p.0, p.1, pairs_map At At' k p.0 (λ i patterns l. f i patterns (omega (arith, l))) p.2, f k p.1 (omega arith) p.3, p.4)
+
+-- The whole list of a walk.
+pub walk_right :
+    (kind : MatchKind) (n : Nfa) (t : Tape) (start : ℕ) (pairs : List Pair)
+    → IsLookAcyclic n → IsTape t → PassTells kind n t start pairs → IsOverlappingOn kind n t start pairs
+walk_right kind n t start pairs free tape_of p =
+    pairs_map (Tells kind n t start) (IsAt kind n t start) (suc (length t.bytes)) pairs
+    (λ i patterns l. pass_tells kind n t start i patterns free tape_of (le_of_suc-le-suc l)) p
+
+nth_inside : (xs : List ℕ) (i u : ℕ) → nth xs i ≡ Some u → i < length xs
+nth_inside [] i u e = absurd (none_some e)
+nth_inside (x ∷ xs) zero u e = omega arith
+nth_inside (x ∷ xs) (suc i) u e = let k = nth_inside xs i u e in omega (arith, k)
+
+pub path_inside :
+    (n : Nfa) (t : Tape) (i : ℕ) (seen : List ℕ) (q : ℕ) (p : List ℕ) (j z : ℕ)
+    → i ≤ length t.bytes → IsPathFrom n t i seen q p j z → j ≤ length t.bytes
+path_inside n t i seen q [] j z l h = omega (arith, l, h.0)
+path_inside n t i seen q (e ∷ p) j z l (inl h) = path_inside n t i (q ∷ seen) h.0 p j z l h.3
+path_inside n t i seen q (e ∷ p) j z l (inr h) =
+    path_inside n t (suc i) [] h.0 p j z (nth_inside t.bytes i h.2.0 h.2.1) h.3
+
+pub accepting_inside :
+    (n : Nfa) (t : Tape) (start i pattern : ℕ) (path : List ℕ) → Accepts n t start i pattern path → i ≤ length t.bytes
+accepting_inside n t start i pattern path a = path_inside n t 0 [] start path i a.0 (omega arith) a.1
+
+-- No accepting path ends before the first place where something is told.
+pub none_before :
+    (kind : MatchKind) (n : Nfa) (t : Tape) (start k : ℕ)
+    → ((j : ℕ) → j < k → IsAt kind n t start j [])
+    → (j pattern : ℕ) (path : List ℕ) → j < k → Accepts n t start j pattern path → ⊥
+none_before All n t start k f j pattern path l a = (f j l).0 pattern path a
+none_before LeftmostFirst n t start zero f j pattern path l a = omega (arith, l)
+none_before LeftmostFirst n t start (suc k) f j pattern path l a =
+    go (f j l) (none_before LeftmostFirst n t start k (λ j l. f j (omega (arith, l))))
+  where
+    go : IsFirstAt n t start j [] → ((j pattern : ℕ) (path : List ℕ) → j < k → Accepts n t start j pattern path → ⊥) → ⊥
+    go (inl h) ih = let w = h.1 pattern path a in ih w.0 w.1 w.2 (omega (arith, l, w.3)) w.4
+    go (inr h) ih = nil_cons h.2
+
+-- The first pattern told at a place is that of the least path there.
+pub head_least :
+    (kind : MatchKind) (n : Nfa) (t : Tape) (start i p : ℕ) (rest : List ℕ)
+    → IsAt kind n t start i (p ∷ rest)
+    → (path : List ℕ) × Accepts n t start i p path
+    × ((other : ℕ) (more : List ℕ) → Accepts n t start i other more → Upto path more)
+head_least All n t start i p rest h = (h.1.0, h.1.1, least)
+  where
+    least : (other : ℕ) (more : List ℕ) → Accepts n t start i other more → Upto h.1.0 more
+    least other more a = ⊎_elim
+        (λ (e : other ≡ p). h.1.2 more (subst (λ v. Accepts n t start i v more) e a))
+        (λ (k : In other rest). inr (h.1.3 other more k a))
+        (h.0 other more a)
+head_least LeftmostFirst n t start i p rest (inl h) = absurd (nil_cons (sym h.0))
+head_least LeftmostFirst n t start i p rest (inr h) =
+    (h.1, subst (λ v. Accepts n t start i v h.1) (sym (cons_head h.2)) h.3, h.4)
+
+three : (i j : ℕ) → (i < j) ⊎ ((i ≡ j) ⊎ (j < i))
+three i j = ⊎_elim (λ (l : i < j). inl l)
+    (λ (l : j ≤ i). ⊎_elim (λ (e : j ≡ i). inr (inl (sym e))) (λ (k : j < i). inr (inr k)) (eq-or-lt_of_le l)) (cases_lt i j)
+
+pub sel_none :
+    (kind : MatchKind) (earliest : Bool) (n : Nfa) (t : Tape) (start : ℕ)
+    → ((i : ℕ) → i ≤ length t.bytes → IsAt kind n t start i []) → Selects kind earliest n t start None
+sel_none kind earliest n t start f i pattern path a =
+    none_before kind n t start (suc (length t.bytes)) (λ j l. f j (le_of_suc-le-suc l)) i pattern path
+    (let k = accepting_inside n t start i pattern path a in omega (arith, k)) a
+
+pub sel_earliest :
+    (kind : MatchKind) (n : Nfa) (t : Tape) (start : ℕ) (pair : Pair) (rest : List ℕ)
+    → IsAt kind n t start pair.place (pair.pattern ∷ rest) → ((j : ℕ) → j < pair.place → IsAt kind n t start j [])
+    → Selects kind true n t start (Some pair)
+sel_earliest kind n t start pair rest here f = (w.0, w.1, chosen)
+  where
+    w : (path : List ℕ) × Accepts n t start pair.place pair.pattern path
+        × ((other : ℕ) (more : List ℕ) → Accepts n t start pair.place other more → Upto path more)
+    w = head_least kind n t start pair.place pair.pattern rest here
+
+    chosen :
+        (j pattern : ℕ) (other : List ℕ) → Accepts n t start j pattern other
+        → (pair.place < j) ⊎ ((pair.place ≡ j) × Upto w.0 other)
+    chosen j pattern other a = go (three pair.place j)
+      where
+        go : (pair.place < j) ⊎ ((pair.place ≡ j) ⊎ (j < pair.place)) → (pair.place < j) ⊎ ((pair.place ≡ j) × Upto w.0 other)
+        go (inl l) = inl l
+        go (inr (inl e)) = inr (e, w.2 pattern other (subst (λ v. Accepts n t start v pattern other) (sym e) a))
+        go (inr (inr l)) = absurd (none_before kind n t start pair.place f j pattern other l a)
+
+pub sel_all :
+    (n : Nfa) (t : Tape) (start : ℕ) (pair : Pair) (rest : List ℕ)
+    → IsAt All n t start pair.place (pair.pattern ∷ rest)
+    → ((j : ℕ) → pair.place < j → j ≤ length t.bytes → IsAt All n t start j [])
+    → Selects All false n t start (Some pair)
+sel_all n t start pair rest here f = (w.0, w.1, chosen)
+  where
+    w : (path : List ℕ) × Accepts n t start pair.place pair.pattern path
+        × ((other : ℕ) (more : List ℕ) → Accepts n t start pair.place other more → Upto path more)
+    w = head_least All n t start pair.place pair.pattern rest here
+
+    chosen :
+        (j pattern : ℕ) (other : List ℕ) → Accepts n t start j pattern other
+        → (j < pair.place) ⊎ ((pair.place ≡ j) × Upto w.0 other)
+    chosen j pattern other a = go (three pair.place j)
+      where
+        go : (pair.place < j) ⊎ ((pair.place ≡ j) ⊎ (j < pair.place)) → (j < pair.place) ⊎ ((pair.place ≡ j) × Upto w.0 other)
+        go (inl l) = absurd ((f j l (accepting_inside n t start j pattern other a)).0 pattern other a)
+        go (inr (inl e)) = inr (e, w.2 pattern other (subst (λ v. Accepts n t start v pattern other) (sym e) a))
+        go (inr (inr l)) = inl l
+
+-- After the last place where something is told every accepting path has one before it.
+abbrev pub Told : Nfa → Tape → ℕ → Pair → List ℕ → Type 0
+Told n t start pair told =
+    (pattern : ℕ) × (path : List ℕ) × (told ≡ pattern ∷ []) × Accepts n t start pair.place pattern path
+    × ((other : ℕ) (more : List ℕ) → Accepts n t start pair.place other more → Upto path more)
+    × ((j other : ℕ) (more : List ℕ) → j < pair.place → Accepts n t start j other more → Before path more)
+
+upto :
+    (n : Nfa) (t : Tape) (start : ℕ) (pair : Pair) (rest : List ℕ)
+    → ((j : ℕ) → pair.place < j → j ≤ length t.bytes → IsAt LeftmostFirst n t start j [])
+    → (h : Told n t start pair (pair.pattern ∷ rest))
+    → (k j pattern : ℕ) (other : List ℕ) → j < k → Accepts n t start j pattern other → Upto h.1 other
+upto n t start pair rest f h zero j pattern other l a = absurd (omega (arith, l))
+upto n t start pair rest f h (suc k) j pattern other l a = go (three pair.place j) (upto n t start pair rest f h k)
+  where
+    go :
+        (pair.place < j) ⊎ ((pair.place ≡ j) ⊎ (j < pair.place))
+        → ((j pattern : ℕ) (other : List ℕ) → j < k → Accepts n t start j pattern other → Upto h.1 other)
+        → Upto h.1 other
+    go (inr (inl e)) ih = h.4 pattern other (subst (λ v. Accepts n t start v pattern other) (sym e) a)
+    go (inr (inr b)) ih = inr (h.5 j pattern other b a)
+    go (inl b) ih = beyond (f j b (accepting_inside n t start j pattern other a))
+      where
+        beyond : IsFirstAt n t start j [] → Upto h.1 other
+        beyond (inl g) =
+            let w = g.1 pattern other a in
+            inr (upto_before h.1 w.2 other (ih w.0 w.1 w.2 (omega (arith, w.3, l)) w.4) w.5)
+        beyond (inr g) = absurd (nil_cons g.2)
+
+pub sel_first :
+    (n : Nfa) (t : Tape) (start : ℕ) (pair : Pair) (rest : List ℕ)
+    → IsAt LeftmostFirst n t start pair.place (pair.pattern ∷ rest)
+    → ((j : ℕ) → pair.place < j → j ≤ length t.bytes → IsAt LeftmostFirst n t start j [])
+    → Selects LeftmostFirst false n t start (Some pair)
+sel_first n t start pair rest (inl h) f = absurd (nil_cons (sym h.0))
+sel_first n t start pair rest (inr h) f = (
+  h.1,
+  subst (λ v. Accepts n t start pair.place v h.1) (sym (cons_head h.2)) h.3,
+  λ j pattern other a. upto n t start pair rest f h (suc (length t.bytes)) j pattern other (let k = accepting_inside n t start j pattern other a in omega (arith, k)) a,
+)
+
+-- A plain search.
+pub sel_right :
+    (kind : MatchKind) (earliest : Bool) (n : Nfa) (t : Tape) (start : ℕ) (answer : Option Pair)
+    → IsLookAcyclic n → IsTape t → PassSelects kind earliest n t start answer → Selects kind earliest n t start answer
+sel_right kind earliest n t start None free tape_of p =
+    sel_none kind earliest n t start (λ i l. pass_tells kind n t start i [] free tape_of l (p i l))
+sel_right kind true n t start (Some pair) free tape_of p =
+    sel_earliest kind n t start pair p.0
+    (pass_tells kind n t start pair.place (pair.pattern ∷ p.0) free tape_of p.1 p.2)
+    (λ j l. pass_tells kind n t start j [] free tape_of (omega (arith, l, p.1)) (p.3 j l))
+sel_right All false n t start (Some pair) free tape_of p =
+    sel_all n t start pair p.0
+    (pass_tells All n t start pair.place (pair.pattern ∷ p.0) free tape_of p.1 p.2)
+    (λ j b l. pass_tells All n t start j [] free tape_of l (p.3 j b l))
+sel_right LeftmostFirst false n t start (Some pair) free tape_of p =
+    sel_first n t start pair p.0
+    (pass_tells LeftmostFirst n t start pair.place (pair.pattern ∷ p.0) free tape_of p.1 p.2)
+    (λ j b l. pass_tells LeftmostFirst n t start j [] free tape_of l (p.3 j b l))

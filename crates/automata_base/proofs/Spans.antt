@@ -1,0 +1,16 @@
+pub mod Alike
+pub mod Backs
+pub mod Bytes
+pub mod Chosen
+pub mod Computed
+pub mod Empties
+pub mod Loops
+pub mod Once
+pub mod Right
+pub mod Rising
+pub mod Samples
+pub mod Starts
+pub mod Text
+pub mod Total
+pub mod TruePairs
+pub mod Units

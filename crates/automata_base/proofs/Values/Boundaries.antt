@@ -1,0 +1,145 @@
+-- Boundaries between bytes, the classes that they make, and the stride that has room for the classes.
+use Rattle.std.proofs.Common.{ℕ, zero, suc, ◌≡◌, ◌+◌, ◌-◌, ◌*◌, ◌^◌, ◌<◌, ◌≤◌, Bool, true, false, eqb, get_or-set_other, cond, List, length, get_or, refl, sym, ap, ◌∙◌, subst, arith, ◌⊎◌, inl, inr}
+use Rattle.std.proofs.Math.Nat.{pow-le-pow_right}
+use Rattle.std.proofs.lemmas.Bool.{cases_lt}
+use Rattle.std.proofs.lemmas.Bool.Decides.{eqb_tells, nat_tests}
+use Rattle.std.proofs.lemmas.List.{get_or-set_same}
+use Rattle.std.proofs.Math.ListN.{set}
+use Rattle.std.specs.Int.{from_bool}
+use Rattle.automata_base.specs.Classes.{boundary_count, class_in, stride_for, AreClasses}
+
+count_more : (f : ℕ → Bool) (n : ℕ) → boundary_count f (suc n) ≡ boundary_count f n + cond (f (suc n)) 1 0
+unfolding boundary_count
+count_more f n = refl
+
+pub count_none : (f : ℕ → Bool) → boundary_count f 0 ≡ 0
+unfolding boundary_count
+count_none f = refl
+
+one_at_most : (b : Bool) → cond b 1 0 ≤ 1
+one_at_most true = omega arith
+one_at_most false = omega arith
+
+-- Functions that tell the same boundaries count the same.
+pub count-same : (f g : ℕ → Bool) (n : ℕ) → ((b : ℕ) → b ≤ n → f b ≡ g b) → boundary_count f n ≡ boundary_count g n
+count-same f g zero h = count_none f ∙ sym (count_none g)
+count-same f g (suc n) h =
+    count_more f n
+    ∙ (ap (λ c. c + cond (f (suc n)) 1 0) (count-same f g n (λ b l. h b (omega (arith, l))))
+    ∙ (ap (λ t. boundary_count g n + cond t 1 0) (h (suc n) (omega arith)) ∙ sym (count_more g n)))
+
+pub count_rises : (f : ℕ → Bool) (n : ℕ) → (boundary_count f n ≤ boundary_count f (n + 1)) × (boundary_count f (n + 1) ≤ boundary_count f n + 1)
+count_rises f n =
+    let more : boundary_count f (n + 1) ≡ boundary_count f n + cond (f (suc n)) 1 0 = ap (boundary_count f) (add_one n) ∙ count_more f n in
+    (omega (arith, more), omega (arith, more, one_at_most (f (suc n))))
+  where
+    add_one : (n : ℕ) → n + 1 ≡ suc n
+    add_one n = omega arith
+
+pub count_small : (f : ℕ → Bool) (n : ℕ) → boundary_count f n ≤ n
+count_small f zero = omega (arith, count_none f)
+count_small f (suc n) = omega (arith, count_more f n, one_at_most (f (suc n)), count_small f n)
+
+pub count_grows : (f : ℕ → Bool) (m n : ℕ) → boundary_count f m ≤ boundary_count f (n + m)
+count_grows f m zero = omega (arith, ap (boundary_count f) (zero_add m))
+  where
+    zero_add : (m : ℕ) → 0 + m ≡ m
+    zero_add m = omega arith
+count_grows f m (suc n) =
+    let up = count_rises f (n + m) in
+    let e = ap (boundary_count f) (move n m) in
+    omega (arith, up.0, count_grows f m n, e)
+  where
+    move : (n m : ℕ) → suc n + m ≡ n + m + 1
+    move n m = omega arith
+
+-- What is counted up to a byte, from what is counted up to the byte before it.
+pub count_next : (f : ℕ → Bool) (k c : ℕ) → 1 ≤ k → c ≡ boundary_count f (k - 1) → c + cond (f k) 1 0 ≡ boundary_count f k
+count_next f zero c h e = absurd (omega (arith, h))
+count_next f (suc n) c h e = ap (λ x. x + cond (f (suc n)) 1 0) (e ∙ ap (boundary_count f) (less n)) ∙ sym (count_more f n)
+  where
+    less : (n : ℕ) → suc n - 1 ≡ n
+    less n = omega arith
+
+pub from_bool-cond : (b : Bool) → from_bool b ≡ cond b 1 0
+from_bool-cond true = refl
+from_bool-cond false = refl
+
+pub from_bool-small : (b : Bool) → from_bool b ≤ 1
+from_bool-small true = omega arith
+from_bool-small false = omega arith
+
+-- A table of the counts, begun and gone on with.
+pub first_counted : (f : ℕ → Bool) (map : List ℕ) → get_or map 0 0 ≡ 0 → (k : ℕ) → k < 1 → get_or map k 0 ≡ boundary_count f k
+first_counted f map e zero h = e ∙ sym (count_none f)
+first_counted f map e (suc k) h = absurd (omega (arith, h))
+
+pub next_counted :
+    (f : ℕ → Bool) (map : List ℕ) (n c : ℕ) → n < length map → c ≡ boundary_count f n
+    → ((k : ℕ) → k < n → get_or map k 0 ≡ boundary_count f k)
+    → (k : ℕ) → k < n + 1 → get_or (set map n c) k 0 ≡ boundary_count f k
+next_counted f map n c within e h k l = go (eqb_tells k n)
+  where
+    go : ((eqb k n ≡ true) × (k ≡ n)) ⊎ ((eqb k n ≡ false) × (k ≡ n → ⊥)) → get_or (set map n c) k 0 ≡ boundary_count f k
+    go (inl w) =
+        ap (λ z. get_or (set map n c) z 0) w.1 ∙ (get_or-set_same map n c 0 within ∙ (e ∙ ap (boundary_count f) (sym w.1)))
+    go (inr w) = get_or-set_other map n k c 0 w.1 ∙ h k (omega (arith, l, w.1))
+
+pub are_classes :
+    (f : ℕ → Bool) (classes : List ℕ) → length classes ≡ 256
+    → ((byte : ℕ) → byte < 256 → class_in classes byte ≡ boundary_count f byte) → AreClasses classes
+are_classes f classes whole same = record {
+  whole = whole;
+  rising = λ byte h.
+      let up = count_rises f byte in
+      let here = same byte (omega (arith, h)) in
+      let there = same (byte + 1) (omega (arith, h)) in
+      (omega (arith, up.0, here, there), omega (arith, up.1, here, there));
+  below = λ byte h.
+      let up = count_grows f byte (255 - byte) in
+      let e = ap (boundary_count f) (gap byte h) in
+      let here = same byte h in
+      let last = same 255 (omega arith) in
+      omega (arith, up, e, here, last);
+  few = let last = same 255 (omega arith) in omega (arith, last, count_small f 255);
+}
+  where
+    gap : (byte : ℕ) → byte < 256 → 255 - byte + byte ≡ 255
+    gap byte h = omega (arith, h)
+
+-- Strides.
+pub stride_for-enough : (len : ℕ) → len ≤ 257 → len ≤ stride_for len
+unfolding stride_for
+stride_for-enough len h = grind (arith, nat_tests)
+
+pub stride_for-few : (len : ℕ) → stride_for len ≤ 512
+unfolding stride_for
+stride_for-few len = grind (arith, nat_tests)
+
+pub stride_for-many : (len : ℕ) → 2 ≤ stride_for len
+unfolding stride_for
+stride_for-many len = grind (arith, nat_tests)
+
+big_power : (r : ℕ) → 9 ≤ r → 512 ≤ 2 ^ r
+big_power r h = pow-le-pow_right {n = 2} (omega arith) {i = 9} {j = r} h
+
+pub stride_for-is : (len r : ℕ) → len ≤ 257 → 2 ^ r ≤ len - 1 → len - 1 < 2 * 2 ^ r → 2 ^ (r + 1) ≡ stride_for len
+unfolding stride_for
+stride_for-is len zero h l m = grind (arith, nat_tests)
+stride_for-is len (suc zero) h l m = grind (arith, nat_tests)
+stride_for-is len (suc (suc zero)) h l m = grind (arith, nat_tests)
+stride_for-is len (suc (suc (suc zero))) h l m = grind (arith, nat_tests)
+stride_for-is len (suc (suc (suc (suc zero)))) h l m = grind (arith, nat_tests)
+stride_for-is len (suc (suc (suc (suc (suc zero))))) h l m = grind (arith, nat_tests)
+stride_for-is len (suc (suc (suc (suc (suc (suc zero)))))) h l m = grind (arith, nat_tests)
+stride_for-is len (suc (suc (suc (suc (suc (suc (suc zero))))))) h l m = grind (arith, nat_tests)
+stride_for-is len (suc (suc (suc (suc (suc (suc (suc (suc zero)))))))) h l m = grind (arith, nat_tests)
+stride_for-is len (suc (suc (suc (suc (suc (suc (suc (suc (suc r))))))))) h l m =
+    absurd (omega (arith, h, l, big_power (suc (suc (suc (suc (suc (suc (suc (suc (suc r))))))))) (omega arith)))
+
+pub log_few : (len r : ℕ) → len ≤ 257 → 2 ^ r ≤ len - 1 → r + 1 ≤ 9
+log_few len r h l = go (cases_lt r 9)
+  where
+    go : (r < 9) ⊎ (9 ≤ r) → r + 1 ≤ 9
+    go (inl less) = omega (arith, less)
+    go (inr more) = absurd (omega (arith, h, l, big_power r more))

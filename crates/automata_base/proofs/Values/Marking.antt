@@ -1,0 +1,123 @@
+-- How marks before bytes add up.
+use Rattle.std.proofs.Common.{ℕ, zero, suc, ◌≡◌, ◌+◌, ◌<◌, ◌≤◌, ◌⊎◌, ◌&&◌, ◌||◌, Bool, true, false, eqb, ltb, List, [], ◌∷◌, length, get_or, drop, refl, sym, ap, ◌∙◌, inl, inr, subst, arith}
+use Rattle.std.proofs.lemmas.Bool.{lt-ltb, le-ltb}
+use Rattle.std.proofs.lemmas.Bool.Decides.{eqb_tells}
+use Rattle.std.proofs.lemmas.Grind.{common_steps}
+use Rattle.std.proofs.lemmas.List.{at_drop_more, drop_all}
+use Rattle.automata_base.specs.Classes.{bounds, look_bounds, states_bound, quits_bound, is_boundary}
+use Rattle.automata_base.specs.Looks.{Look, Start, End, StartLF, EndLF, StartCRLF, EndCRLF}
+use Rattle.automata_base.specs.Marks.{marked, Adds}
+use Rattle.automata_base.specs.Nodes.{Automaton}
+
+or-false : (b : Bool) → b || false ≡ b
+or-false true = refl
+or-false false = refl
+
+or-assoc : (a b c : Bool) → (a || b) || c ≡ a || (b || c)
+or-assoc true b c = refl
+or-assoc false b c = refl
+
+pub adds_none : (m : List Bool) (f : ℕ → Bool) → ((b : ℕ) → f b ≡ false) → Adds m m f
+adds_none m f none = record { marks = λ b h. sym (ap (λ z. marked m b || z) (none b) ∙ or-false (marked m b)) }
+
+pub adds_both :
+    (m n o : List Bool) (f g h : ℕ → Bool) → ((b : ℕ) → h b ≡ f b || g b) → Adds m n f → Adds n o g → Adds m o h
+adds_both m n o f g h joined x y = record {
+  marks = λ b l.
+      y.marks b l
+      ∙ (ap (λ z. z || g b) (x.marks b l)
+      ∙ (or-assoc (marked m b) (f b) (g b) ∙ ap (λ z. marked m b || z) (sym (joined b))));
+}
+
+pub adds_like : (m n : List Bool) (f g : ℕ → Bool) → ((b : ℕ) → g b ≡ f b) → Adds m n f → Adds m n g
+adds_like m n f g same x = record { marks = λ b l. x.marks b l ∙ ap (λ z. marked m b || z) (sym (same b)) }
+
+-- A loop over the bytes from 1 on.
+abbrev pub upto : ℕ → (ℕ → Bool) → ℕ → Bool
+upto k f b = ltb b k && f b
+
+pub runs_start : (m : List Bool) (f : ℕ → Bool) → f 0 ≡ false → Adds m m (upto 1 f)
+runs_start m f none = adds_none m (upto 1 f) go
+  where
+    go : (b : ℕ) → ltb b 1 && f b ≡ false
+    go zero = ap (λ z. ltb 0 1 && z) none
+    go (suc b) = ap (λ z. z && f (suc b)) (le-ltb (suc b) 1 (omega arith))
+
+pub runs_next :
+    (m n o : List Bool) (f : ℕ → Bool) (k : ℕ) (is : Bool)
+    → is ≡ f k → Adds m n (upto k f) → Adds n o (λ b. eqb b k && is) → Adds m o (upto (k + 1) f)
+runs_next m n o f k is e x y = adds_both m n o (upto k f) (λ b. eqb b k && is) (upto (k + 1) f) (λ b. go b (eqb_tells b k)) x y
+  where
+    go : (b : ℕ) → ((eqb b k ≡ true) × (b ≡ k)) ⊎ ((eqb b k ≡ false) × (b ≡ k → ⊥))
+        → ltb b (k + 1) && f b ≡ (ltb b k && f b) || (eqb b k && is)
+    go b (inl w) =
+        ap (λ z. z && f b) (lt-ltb b (k + 1) (omega (arith, w.1)))
+        ∙ (ap f w.1 ∙ (sym e ∙ (ap (λ z. z && is) (sym w.0)
+        ∙ ap (λ z. (z && f b) || (eqb b k && is)) (sym (le-ltb b k (omega (arith, w.1)))))))
+    go b (inr w) =
+        ap (λ z. z && f b) (next b w.1)
+        ∙ (sym (or-false (ltb b k && f b)) ∙ ap (λ z. (ltb b k && f b) || (z && is)) (sym w.0))
+      where
+        next : (b : ℕ) → (b ≡ k → ⊥) → ltb b (k + 1) ≡ ltb b k
+        next b ne = grind (arith, common_steps)
+
+pub runs_end : (m n : List Bool) (f : ℕ → Bool) (k : ℕ) → 256 ≤ k → Adds m n (upto k f) → Adds m n f
+runs_end m n f k h x = record {
+  marks = λ b l. x.marks b l ∙ ap (λ z. marked m b || (z && f b)) (lt-ltb b k (omega (arith, l, h)));
+}
+
+-- A loop over a list whose items each have their bytes.
+abbrev pub Left : {X : Type 0} → (List X → ℕ → Bool) → List Bool → List Bool → List X → ℕ → Type 0
+Left G m n xs i = (b : ℕ) → b < 256 → (marked n b || G (drop i xs) b) ≡ (marked m b || G xs b)
+
+pub left_start : {X : Type 0} (G : List X → ℕ → Bool) (m : List Bool) (xs : List X) → Left G m m xs 0
+left_start G m xs b l = refl
+
+pub left_next :
+    {X : Type 0} (G : List X → ℕ → Bool) (T : X → ℕ → Bool) (m n o : List Bool) (xs : List X) (i : ℕ) (x : X)
+    → ((y : X) (ys : List X) (b : ℕ) → G (y ∷ ys) b ≡ T y b || G ys b)
+    → i < length xs → x ≡ get_or xs i x → Adds n o (T x) → Left G m n xs i → Left G m o xs (i + 1)
+left_next G T m n o xs i x cons h e y left b l =
+    ap (λ z. z || G (drop (i + 1) xs) b) (y.marks b l)
+    ∙ (or-assoc (marked n b) (T x b) (G (drop (i + 1) xs) b)
+    ∙ (ap (λ z. marked n b || z) (ap (λ z. T z b || G (drop (i + 1) xs) b) e
+    ∙ (sym (cons (get_or xs i x) (drop (i + 1) xs) b) ∙ sym (at_drop_more (λ zs. G zs b) xs i x h)))
+    ∙ left b l))
+
+pub left_end :
+    {X : Type 0} (G : List X → ℕ → Bool) (m n : List Bool) (xs : List X) (i : ℕ)
+    → ((b : ℕ) → G [] b ≡ false) → length xs ≤ i → Left G m n xs i → Adds m n (G xs)
+left_end G m n xs i none h left = record {
+  marks = λ b l.
+      sym (or-false (marked n b))
+      ∙ (ap (λ z. marked n b || z) (sym (ap (λ zs. G zs b) (drop_all i xs h) ∙ none b)) ∙ left b l);
+}
+
+-- Looks and states.
+pub word_bounds :
+    (t : ℕ) (look : Look)
+    → (look ≡ Start → ⊥) → (look ≡ End → ⊥) → (look ≡ StartLF → ⊥) → (look ≡ EndLF → ⊥) → (look ≡ StartCRLF → ⊥) → (look ≡ EndCRLF → ⊥)
+    → (b : ℕ) → look_bounds t look b ≡ ((bounds 48 57 b || bounds 65 90 b) || (bounds 95 95 b || bounds 97 122 b))
+unfolding look_bounds
+word_bounds t Start n1 n2 n3 n4 n5 n6 b = absurd (n1 refl)
+word_bounds t End n1 n2 n3 n4 n5 n6 b = absurd (n2 refl)
+word_bounds t StartLF n1 n2 n3 n4 n5 n6 b = absurd (n3 refl)
+word_bounds t EndLF n1 n2 n3 n4 n5 n6 b = absurd (n4 refl)
+word_bounds t StartCRLF n1 n2 n3 n4 n5 n6 b = absurd (n5 refl)
+word_bounds t EndCRLF n1 n2 n3 n4 n5 n6 b = absurd (n6 refl)
+word_bounds t look n1 n2 n3 n4 n5 n6 b = refl
+
+-- All boundaries.
+pub bounded_off : (a : Automaton) (quits : List Bool) (on : Bool) → on ≡ false → (b : ℕ) → is_boundary a quits on b ≡ true
+unfolding is_boundary
+bounded_off a quits on e b = ap (λ z. is_boundary a quits z b) e
+
+pub bounded_on :
+    (a : Automaton) (quits : List Bool) (on : Bool) (m n o : List Bool) → on ≡ true → ((b : ℕ) → b < 256 → marked m b ≡ false)
+    → Adds m n (states_bound a.flags.line_terminator a.states) → Adds n o (quits_bound quits)
+    → (b : ℕ) → b < 256 → marked o b ≡ is_boundary a quits on b
+unfolding is_boundary
+bounded_on a quits on m n o e none x y b h =
+    y.marks b h
+    ∙ (ap (λ z. z || quits_bound quits b) (x.marks b h ∙ ap (λ z. z || states_bound a.flags.line_terminator a.states b) (none b h))
+    ∙ sym (ap (λ z. is_boundary a quits z b) e))

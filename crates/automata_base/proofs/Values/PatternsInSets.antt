@@ -1,0 +1,81 @@
+-- Sets of patterns as flags: how their members change, and how they are gone through.
+use Rattle.std.proofs.Common.{ℕ, zero, suc, ◌≡◌, ◌+◌, ◌<◌, ◌≤◌, ◌⊎◌, Bool, true, false, eqb, List, [], ◌∷◌, length, get_or, drop, refl, sym, ap, ◌∙◌, inl, inr, subst, true≢false, arith, replicate, get_or-set_other, length-set, drop-cons, add-one}
+use Rattle.std.proofs.Math.ListN.{set}
+use Rattle.std.proofs.lemmas.Bool.Decides.{eqb_tells}
+use Rattle.automata_base.specs.Powerset.{IsId}
+use Rattle.automata_base.specs.PatternSet.{has, members_from, members, AreSmall, IsCounted}
+
+pub members_from-replicate : (n k : ℕ) → members_from k (replicate n false) ≡ []
+members_from-replicate zero k = refl
+members_from-replicate (suc n) k = members_from-replicate n (suc k)
+
+has-replicate : (n pattern : ℕ) → has (replicate n false) pattern ≡ false
+has-replicate zero pattern = refl
+has-replicate (suc n) zero = refl
+has-replicate (suc n) (suc pattern) = has-replicate n pattern
+
+pub empty_counted : (n : ℕ) → IsCounted (replicate n false) 0
+empty_counted n = record {
+  counted = ap length (sym (members_from-replicate n 0));
+  small = λ pattern e. absurd (true≢false (sym e ∙ has-replicate n pattern));
+}
+
+pub members-few : (xs : List Bool) (k : ℕ) → length (members_from k xs) ≤ length xs
+members-few [] k = omega arith
+members-few (true ∷ xs) k = omega (arith, members-few xs (suc k))
+members-few (false ∷ xs) k = omega (arith, members-few xs (suc k))
+
+pub members-set :
+    (xs : List Bool) (i k : ℕ) → i < length xs → get_or xs i false ≡ false
+    → length (members_from k (set xs i true)) ≡ length (members_from k xs) + 1
+members-set [] i k h e = absurd (omega (arith, h))
+members-set (true ∷ xs) zero k h e = absurd (true≢false e)
+members-set (false ∷ xs) zero k h e = omega arith
+members-set (true ∷ xs) (suc i) k h e = omega (arith, members-set xs i (suc k) (omega (arith, h)) e)
+members-set (false ∷ xs) (suc i) k h e = members-set xs i (suc k) (omega (arith, h)) e
+
+small-set : (xs : List Bool) (i : ℕ) → IsId i → AreSmall xs → AreSmall (set xs i true)
+small-set xs i h small pattern e = go (eqb_tells pattern i)
+  where
+    go : ((eqb pattern i ≡ true) × (pattern ≡ i)) ⊎ ((eqb pattern i ≡ false) × (pattern ≡ i → ⊥)) → IsId pattern
+    go (inl w) = subst IsId (sym w.1) h
+    go (inr w) = small pattern (sym (get_or-set_other xs i pattern true false w.1) ∙ e)
+
+pub set_counted :
+    (xs : List Bool) (i n : ℕ) → IsId i → i < length xs → get_or xs i false ≡ false → IsCounted xs n
+    → IsCounted (set xs i true) (n + 1)
+set_counted xs i n h l e c = record {
+  counted = omega (arith, members-set xs i 0 l e, c.counted);
+  small = small-set xs i h c.small;
+}
+
+pub few_more : (xs : List Bool) (i : ℕ) → i < length xs → get_or xs i false ≡ false → length (members xs) + 1 ≤ length xs
+few_more xs i h e =
+    let more = members-set xs i 0 h e in
+    let few = members-few (set xs i true) 0 in
+    omega (arith, more, few, length-set xs i true)
+
+drop_flag :
+    (xs : List Bool) (at : ℕ) (b : Bool) → at < length xs → get_or xs at false ≡ b → drop at xs ≡ b ∷ drop (at + 1) xs
+drop_flag xs at b h e = drop-cons xs at false h ∙ (ap (λ x. x ∷ drop (suc at) xs) e ∙ ap (λ n. b ∷ drop n xs) (sym (add-one at)))
+
+pub member_next :
+    (xs : List Bool) (at : ℕ) → at < length xs → get_or xs at false ≡ true
+    → members_from at (drop at xs) ≡ at ∷ members_from (at + 1) (drop (at + 1) xs)
+member_next xs at h e =
+    ap (members_from at) (drop_flag xs at true h e) ∙ ap (λ n. at ∷ members_from n (drop (at + 1) xs)) (sym (add-one at))
+
+pub member_skipped :
+    (xs : List Bool) (at : ℕ) → at < length xs → get_or xs at false ≡ false
+    → members_from at (drop at xs) ≡ members_from (at + 1) (drop (at + 1) xs)
+member_skipped xs at h e =
+    ap (members_from at) (drop_flag xs at false h e) ∙ ap (λ n. members_from n (drop (at + 1) xs)) (sym (add-one at))
+
+pub members_end : (xs : List Bool) (at : ℕ) → length xs ≤ at → members_from at (drop at xs) ≡ []
+members_end xs at h = grind (arith, drop_all)
+  where
+    drop_all : (ys : List Bool) (n : ℕ) → length ys ≤ n → drop n ys ≡ []
+    drop_all [] zero l = refl
+    drop_all [] (suc n) l = refl
+    drop_all (y ∷ ys) zero l = absurd (omega (arith, l))
+    drop_all (y ∷ ys) (suc n) l = drop_all ys n (omega (arith, l))

@@ -1,0 +1,37 @@
+-- The theorems are lemmas.
+use Rattle.automata_base.proofs.Spans.Right.{span_right}
+use Rattle.automata_base.proofs.Spans.Total.{span_found}
+use Rattle.automata_base.proofs.Spans.Once.{span_once, answer_once, spans_once, match_iff_find}
+use Rattle.automata_base.proofs.Spans.Rising.{spans_right, spans_rise, found_rise}
+use Rattle.automata_base.proofs.Spans.Units.{back_meets_none}
+use Rattle.automata_base.proofs.laws.start_is_right.Goals as goal
+
+pub returns-clause-starts : goal.returns-clause-starts
+returns-clause-starts c = λ f r input outcome pair keeps b s. span_right f r input outcome pair keeps b.0 b.1 s
+
+pub returns-clause-found : goal.returns-clause-found
+returns-clause-found c = span_found
+
+pub returns-clause-one_span : goal.returns-clause-one_span
+returns-clause-one_span c = span_once
+
+pub returns-clause-one_answer : goal.returns-clause-one_answer
+returns-clause-one_answer c = answer_once
+
+pub returns-clause-iterations : goal.returns-clause-iterations
+returns-clause-iterations c = λ f r input ms pair keeps b s. spans_right f r input ms pair keeps b.0 b.1 s
+
+pub returns-clause-one_list : goal.returns-clause-one_list
+returns-clause-one_list c = spans_once
+
+pub returns-clause-rise : goal.returns-clause-rise
+returns-clause-rise c = spans_rise
+
+pub returns-clause-found_rise : goal.returns-clause-found_rise
+returns-clause-found_rise c = found_rise
+
+pub returns-clause-matches : goal.returns-clause-matches
+returns-clause-matches c = match_iff_find
+
+pub returns-clause-quits : goal.returns-clause-quits
+returns-clause-quits c = back_meets_none

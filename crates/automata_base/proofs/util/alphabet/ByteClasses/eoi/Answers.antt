@@ -1,0 +1,10 @@
+use Rattle.std.proofs.Common.{arith}
+use Rattle.automata_base.specs.Classes.{alphabet_length}
+use Rattle.automata_base.proofs.Values.Boundaries.{stride_for-enough}
+use Rattle.automata_base.proofs.util.alphabet.ByteClasses.eoi.Goals as goal
+
+pub returns-clause-below : goal.returns-clause-below
+returns-clause-below c =
+    let a = c.alphabet_len.ensures in
+    let enough = stride_for-enough (alphabet_length c.args.self.now) (omega (arith, a.few, a.number)) in
+    omega (arith, enough, a.number, a.many)

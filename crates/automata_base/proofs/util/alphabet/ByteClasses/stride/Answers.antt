@@ -1,0 +1,10 @@
+use Rattle.std.proofs.Common.{◌≡◌, ◌≤◌, ◌*◌, ◌%◌, ◌^◌, arith}
+use Rattle.std.proofs.lemmas.Grind.{common_steps}
+use Rattle.automata_base.specs.Classes.{alphabet_length, stride_of}
+use Rattle.automata_base.proofs.Values.Boundaries.{stride_for-enough, stride_for-few}
+use Rattle.automata_base.proofs.util.alphabet.ByteClasses.stride.Goals as goal
+
+pub returns-clause-few : goal.returns-clause-few
+returns-clause-few c =
+    let few = stride_for-few (alphabet_length c.args.self.now) in
+    omega (arith, few, c.stride2.ensures.power)

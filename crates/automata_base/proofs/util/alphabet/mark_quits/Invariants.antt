@@ -1,0 +1,7 @@
+use Rattle.automata_base.specs.Classes.{quits_bound}
+use Rattle.automata_base.specs.Marks.{Adds}
+use Rattle.automata_base.proofs.Values.Marking.{upto}
+use Rattle.automata_base.proofs.util.alphabet.mark_quits.Given as goal
+
+abbrev pub invariant-loop-byte : goal.invariant-loop-byte
+invariant-loop-byte l = Adds l.initial.marks l.marks (upto l.byte (quits_bound l.quits))

@@ -1,0 +1,7 @@
+use Rattle.automata_base.specs.Classes.{targets_bound}
+use Rattle.automata_base.specs.Marks.{Adds}
+use Rattle.automata_base.proofs.Values.Marking.{upto}
+use Rattle.automata_base.proofs.util.alphabet.mark_targets.Given as goal
+
+abbrev pub invariant-loop-byte : goal.invariant-loop-byte
+invariant-loop-byte l = Adds l.initial.marks l.marks (upto l.byte (targets_bound l.targets))

@@ -1,0 +1,54 @@
+use Rattle.std.proofs.Common.{◌≡◌, ◌<◌, ◌≤◌, length, Option, Some, ℕ, sym, ap, ◌∙◌, subst, ◌+◌, arith, drop, vec_capacity, refl}
+use Rattle.std.proofs.lemmas.List.{drop_all}
+use Rattle.automata_base.specs.Nodes.{nfa_of}
+use Rattle.automata_base.specs.Truths.{truth_of}
+use Rattle.automata_base.specs.Lists.{put}
+use Rattle.automata_base.specs.Nfa.{takes, takes_at}
+use Rattle.automata_base.specs.Cuts.{targets}
+use Rattle.automata_base.specs.Visits.{IsUnderWay}
+use Rattle.automata_base.proofs.Paths.Loops.{under_way_done, under_way_start}
+use Rattle.automata_base.proofs.Determinizing.Walking.{node_at, nodes_length}
+use Rattle.automata_base.proofs.Determinizing.Keeping.{below_at, pick_next}
+use Rattle.automata_base.proofs.util.determinize.construct.close_targets.Goals as goal
+
+pub state-requires : goal.state-requires
+state-requires c = below_at c.args.list.now (length c.args.nfa.now.states) c.loop-i.i c.index-list-i.result c.requires.below c.loop-i-test.true c.index-list-i.is
+
+pub loop-i-init : goal.loop-i-init
+loop-i-init c = (
+  subst (IsUnderWay (nfa_of c.args.nfa.now) (truth_of c.args.known) (targets (nfa_of c.args.nfa.now) (Some c.args.u) c.args.list.now) (targets (nfa_of c.args.nfa.now) (Some c.args.u) c.args.list.now))
+      (sym c.requires.fresh) (under_way_start (nfa_of c.args.nfa.now) (truth_of c.args.known) (targets (nfa_of c.args.nfa.now) (Some c.args.u) c.args.list.now)),
+  c.requires.whole,
+  c.requires.empty,
+  omega arith,
+)
+
+pub close_maybe-requires-clause-start : goal.close_maybe-requires-clause-start
+close_maybe-requires-clause-start c = λ q s.
+    let below = below_at c.args.list.now (length c.args.nfa.now.states) c.loop-i.i c.index-list-i.result c.requires.below c.loop-i-test.true c.index-list-i.is in
+    let here : takes (nfa_of c.args.nfa.now) c.index-list-i.result c.args.u ≡ c.target.result =
+    ap (λ m. takes_at m c.args.u) (node_at c.args.nfa.now.states c.index-list-i.result c.state.result.now c.state.result.now below c.state.ensures.same) ∙ sym c.target.ensures in
+    subst (λ z. q < z) (nodes_length c.args.nfa.now.states) (c.state.ensures.door.range.1 c.index-list-i.result c.args.u q (here ∙ s))
+
+pub loop-i-preserved : goal.loop-i-preserved
+loop-i-preserved c =
+    let below = below_at c.args.list.now (length c.args.nfa.now.states) c.loop-i.i c.index-list-i.result c.requires.below c.loop-i-test.true c.index-list-i.is in
+    let here : takes (nfa_of c.args.nfa.now) c.index-list-i.result c.args.u ≡ c.target.result =
+    ap (λ m. takes_at m c.args.u) (node_at c.args.nfa.now.states c.index-list-i.result c.state.result.now c.state.result.now below c.state.ensures.same) ∙ sym c.target.ensures in
+    let kept : vec_capacity c.args.stack.now ≤ vec_capacity c.loop-i.stack = c.loop-i.invariant.3 in
+    let more : vec_capacity c.loop-i.stack ≤ vec_capacity c.close_maybe.new.stack = c.close_maybe.ensures.room in (
+      c.close_maybe.ensures.way (targets (nfa_of c.args.nfa.now) (Some c.args.u) c.args.list.now) (targets (nfa_of c.args.nfa.now) (Some c.args.u) (drop (c.loop-i.i + 1) c.args.list.now))
+          (subst (λ z. IsUnderWay (nfa_of c.args.nfa.now) (truth_of c.args.known) (targets (nfa_of c.args.nfa.now) (Some c.args.u) c.args.list.now) z c.loop-i.set.items)
+          (pick_next (λ b. takes (nfa_of c.args.nfa.now) b c.args.u) c.args.list.now c.loop-i.i c.index-list-i.result c.loop-i-test.true c.index-list-i.is
+          ∙ ap (λ z. put z (targets (nfa_of c.args.nfa.now) (Some c.args.u) (drop (c.loop-i.i + 1) c.args.list.now))) here)
+          c.loop-i.invariant.0),
+      c.close_maybe.ensures.whole ∙ c.loop-i.invariant.1,
+      c.close_maybe.ensures.emptied,
+      omega arith,
+    )
+
+pub returns-clause-closure : goal.returns-clause-closure
+returns-clause-closure c =
+    under_way_done (nfa_of c.args.nfa.now) (truth_of c.args.known) (targets (nfa_of c.args.nfa.now) (Some c.args.u) c.args.list.now) c.loop-i.set.items
+    (subst (λ s. IsUnderWay (nfa_of c.args.nfa.now) (truth_of c.args.known) (targets (nfa_of c.args.nfa.now) (Some c.args.u) c.args.list.now) (targets (nfa_of c.args.nfa.now) (Some c.args.u) s) c.loop-i.set.items)
+    (drop_all c.loop-i.i c.args.list.now c.loop-i-test.false) c.loop-i.invariant.0)

@@ -1,0 +1,11 @@
+use Rattle.automata_base.specs.Nodes.{nfa_of}
+use Rattle.std.proofs.Common.{◌≡◌, sym, ap, ◌∙◌}
+use Rattle.automata_base.specs.Passes.{is_word_look}
+use Rattle.automata_base.specs.Truths.{truth_of}
+use Rattle.automata_base.proofs.Determinizing.Making.{masked, word_mask}
+use Rattle.automata_base.proofs.util.determinize.construct.has_word.Goals as goal
+
+pub returns : goal.returns
+returns c =
+    masked (nfa_of c.args.nfa.now) c.look_set_any.result c.word.result c.empty.result is_word_look c.has_news.result
+    c.look_set_any.ensures (λ look. ap (λ z. truth_of z look) c.word.ensures ∙ word_mask look) c.empty.ensures c.has_news.ensures.news c.has_news.ensures.none

@@ -1,0 +1,5 @@
+use Rattle.automata_base.proofs.Coding.Inverse.{decoded-code}
+use Rattle.automata_base.proofs.util.determinize.laws.code_is_read.Goals as goal
+
+pub returns : goal.returns
+returns c = decoded-code

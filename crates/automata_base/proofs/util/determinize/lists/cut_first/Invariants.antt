@@ -1,0 +1,7 @@
+use Rattle.std.proofs.Common.{◌≡◌, ◌++◌, drop, take}
+use Rattle.automata_base.specs.Cuts.{cut}
+use Rattle.automata_base.specs.Nodes.{nfa_of}
+use Rattle.automata_base.proofs.util.determinize.lists.cut_first.Given as goal
+
+abbrev pub invariant-loop-i : goal.invariant-loop-i
+invariant-loop-i l = cut (nfa_of l.nfa) l.states ≡ take l.i l.states ++ cut (nfa_of l.nfa) (drop l.i l.states)

@@ -1,0 +1,54 @@
+use Rattle.std.proofs.Common.{◌≡◌, ◌++◌, ◌≤◌, ◌||◌, eqb, sym, ◌∙◌, ap, length, arith, refl, vec_len, vec_capacity}
+use Rattle.automata_base.specs.Lists.{pick}
+use Rattle.automata_base.specs.Nodes.{nfa_of, node_of}
+use Rattle.automata_base.specs.Truths.{truth_of}
+use Rattle.automata_base.specs.Looks.{Look}
+use Rattle.automata_base.specs.Nfa.{stays_at, node, keep}
+use Rattle.automata_base.specs.Computed.{looks_at, any_state}
+use Rattle.automata_base.specs.Looks.{look_index}
+use Rattle.automata_base.proofs.Determinizing.Walking.{node_at}
+use Rattle.automata_base.proofs.Determinizing.Keeping.{below_at, keep_next, room_next, looks_next, truth_none, looks_done, kept_done}
+use Rattle.automata_base.proofs.util.determinize.lists.keep_states.Goals as goal
+
+pub state-state-requires : goal.state-state-requires
+state-state-requires c = below_at c.args.states.now (length c.args.nfa.now.states) c.loop-i.i c.index-states-i.result c.requires.below c.loop-i-test.true c.index-states-i.is
+
+pub loop-i-init : goal.loop-i-init
+loop-i-init c = (
+  ap (λ z. z ++ pick (keep (nfa_of c.args.nfa.now)) c.args.states.now) c.clear.ensures.items,
+  (let z : length c.clear.new.self.items ≡ 0 = ap length c.clear.ensures.items in omega arith),
+  (λ other. ap (λ z. z || any_state (λ look. eqb (look_index look) (look_index other)) (nfa_of c.args.nfa.now) c.args.states.now)
+      (ap (λ z. truth_of z other) c.empty-looks.ensures ∙ truth_none other)),
+  (let z : vec_capacity c.clear.new.self ≡ vec_capacity c.args.kept.now = c.clear.ensures.capacity in omega arith),
+)
+
+pub push_if-requires : goal.push_if-requires
+push_if-requires c =
+    let a : vec_len c.loop-i.kept ≡ length c.loop-i.kept.items = c.loop-i.kept.ok.0 in
+    let b : length c.loop-i.kept.items ≤ c.loop-i.i = c.loop-i.invariant.1 in
+    let d : vec_capacity c.args.kept.now ≤ vec_capacity c.loop-i.kept = c.loop-i.invariant.3 in
+    omega (arith, a, b, d, c.requires.room, c.loop-i-test.true)
+
+pub loop-i-preserved : goal.loop-i-preserved
+loop-i-preserved c =
+    let below = below_at c.args.states.now (length c.args.nfa.now.states) c.loop-i.i c.index-states-i.result c.requires.below c.loop-i-test.true c.index-states-i.is in
+    let here : node (nfa_of c.args.nfa.now) c.index-states-i.result ≡ node_of c.state-state.result.now =
+    node_at c.args.nfa.now.states c.index-states-i.result c.state-state.result.now c.state-state.result.now below c.state-state.ensures.same in (
+      keep_next (nfa_of c.args.nfa.now) c.args.states.now c.loop-i.kept.items c.push_if.new.kept.items c.loop-i.i c.index-states-i.result c.stays.result
+          c.loop-i-test.true c.index-states-i.is (c.stays.ensures ∙ ap stays_at (sym here)) c.push_if.ensures.items c.loop-i.invariant.0,
+      room_next c.loop-i.kept.items c.push_if.new.kept.items c.loop-i.i c.index-states-i.result c.stays.result c.push_if.ensures.items c.loop-i.invariant.1,
+      (λ other. looks_next (nfa_of c.args.nfa.now) (λ look. eqb (look_index look) (look_index other)) c.args.states.now c.loop-i.i c.index-states-i.result
+          (truth_of c.loop-i.looks other) (truth_of c.add_look-looks.result other) (any_state (λ look. eqb (look_index look) (look_index other)) (nfa_of c.args.nfa.now) c.args.states.now)
+          c.loop-i-test.true c.index-states-i.is
+          (c.add_look-looks.ensures other ∙ ap (λ z. looks_at (λ look. eqb (look_index look) (look_index other)) z || truth_of c.loop-i.looks other) (sym here)) (c.loop-i.invariant.2 other)),
+      (let a : vec_capacity c.args.kept.now ≤ vec_capacity c.loop-i.kept = c.loop-i.invariant.3 in
+          let b : vec_capacity c.loop-i.kept ≤ vec_capacity c.push_if.new.kept = c.push_if.ensures.capacity in omega arith),
+    )
+
+pub returns-clause-kept : goal.returns-clause-kept
+returns-clause-kept c = kept_done (nfa_of c.args.nfa.now) c.args.states.now c.loop-i.kept.items c.loop-i.i c.loop-i-test.false c.loop-i.invariant.0
+
+pub returns-clause-looks : goal.returns-clause-looks
+returns-clause-looks c = λ other.
+    looks_done (nfa_of c.args.nfa.now) (λ look. eqb (look_index look) (look_index other)) c.args.states.now c.loop-i.kept.items c.loop-i.i (truth_of c.loop-i.looks other)
+    c.loop-i-test.false (kept_done (nfa_of c.args.nfa.now) c.args.states.now c.loop-i.kept.items c.loop-i.i c.loop-i-test.false c.loop-i.invariant.0) (c.loop-i.invariant.2 other)

@@ -1,0 +1,7 @@
+use Rattle.std.proofs.Common.{sym, ◌∙◌, ap, subst}
+use Rattle.automata_base.specs.Code.{AreIds, ids_bytes}
+use Rattle.automata_base.proofs.Coding.Reading.{ids_are}
+use Rattle.automata_base.proofs.util.determinize.state.State.nfa.Goals as goal
+
+pub new-requires : goal.new-requires
+new-requires c = subst (AreIds 0) (sym (c.ids_in.ensures ∙ ap ids_bytes c.as_slice.ensures.value)) (ids_are _ c.self.invariant)

@@ -1,0 +1,6 @@
+use Rattle.std.proofs.Common.{◌≡◌, ◌++◌, drop}
+use Rattle.automata_base.specs.Code.{ids_code}
+use Rattle.automata_base.proofs.util.determinize.write.push_ids.Given as goal
+
+abbrev pub invariant-loop-id : goal.invariant-loop-id
+invariant-loop-id l = l.out.items ++ ids_code l.before (drop l.id-index l.ids) ≡ l.fn.out.items ++ ids_code 0 l.ids

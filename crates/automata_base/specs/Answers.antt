@@ -1,0 +1,109 @@
+-- What searches and walks over a span of a haystack answer, split places skipped.
+use Rattle.std.specs.Prelude.{ℕ, ◌≡◌, ◌<◌, ◌≤◌, ◌+◌, ◌-◌, Bool, true, false, cond, List, [], ◌∷◌, ◌⊎◌, ◌↔◌, length, Option, Some, None}
+use Rattle.automata_base.specs.Lists.{In}
+use Rattle.automata_base.specs.Paths.{Tape, IsLookAcyclic}
+use Rattle.automata_base.specs.Computed.{IsInRange}
+use Rattle.automata_base.specs.Selections.{Pair, Selects, IsOverlappingOn}
+use Rattle.automata_base.specs.Tapes.{IsHaystack, Direction, Forward, Backward, tape_of, offset, is_split}
+use Rattle.automata_base.specs.Engines.{Engine, Anchored, No, first_state, IsSkipping}
+use Rattle.automata_base.specs.Input.{Input}
+
+abbrev pub SelectsFrom : Engine → Bool → Tape → Option ℕ → Option Pair → Type 0
+SelectsFrom d earliest t None answer = answer ≡ None
+SelectsFrom d earliest t (Some q) answer = Selects d.kind earliest d.nfa t q answer
+
+-- What the paths over the span of an input answer, which is not done; the place is the walk's.
+abbrev pub SelectsOver : Direction → Engine → Input → Option Pair → Type 0
+SelectsOver way d input answer =
+    SelectsFrom d input.earliest (tape_of way input.haystack input.start input.end) (first_state d input.anchored) answer
+
+-- The input whose walk begins `k` places later: forward its start is raised, backward its end is lowered.
+abbrev pub later : Direction → ℕ → Input → Input
+later Forward k input = record input { start = input.start + k }
+later Backward k input = record input { end = input.end - k }
+
+-- The offset of a place of the walk over an input.
+abbrev pub offset_in : Direction → Input → ℕ → ℕ
+offset_in way input i = offset way input.start input.end i
+
+-- The answer over the span of an input, which is not done, splits a character.
+abbrev pub IsSplitAnswer : Direction → Engine → Input → Type 0
+IsSplitAnswer way d input =
+    (pair : Pair) × SelectsOver way d input (Some pair) × (is_split input.haystack (offset_in way input pair.place) ≡ true)
+
+-- The search comes to the span that begins `k` places later: all the spans before it answered a split place, and
+-- only an unanchored search that skips goes on after such an answer.
+abbrev pub ComesTo : Direction → Engine → Input → ℕ → Type 0
+ComesTo way d input k =
+    ((k ≡ 0) ⊎ (IsSkipping d × (input.anchored ≡ No)))
+    × ((j : ℕ) → j < k → (input.start + j ≤ input.end) × IsSplitAnswer way d (later way j input))
+
+-- A pattern, the offset where its path ends, and the start of the span that gave it.
+pub record Half : Type 0 where
+  pub pattern : ℕ
+  pub offset : ℕ
+  pub base : ℕ
+
+-- What a search answers: the answer of the first span that has none or an unsplit one. An anchored search that skips
+-- has no answer where it is split.
+abbrev pub IsAnswer : Direction → Engine → Input → Option Half → Type 0
+IsAnswer way d input None =
+    (k : ℕ) × ComesTo way d input k
+    × ((input.end < input.start + k)
+    ⊎ (SelectsOver way d (later way k input) None
+    ⊎ (IsSkipping d × (input.anchored ≡ No → ⊥) × IsSplitAnswer way d (later way k input))))
+IsAnswer way d input (Some half) =
+    (k : ℕ) × (pair : Pair) × ComesTo way d input k × (input.start + k ≤ input.end)
+    × SelectsOver way d (later way k input) (Some pair)
+    × (IsSkipping d → is_split input.haystack (offset_in way (later way k input) pair.place) ≡ false)
+    × (half.pattern ≡ pair.pattern) × (half.offset ≡ offset_in way (later way k input) pair.place)
+    × (half.base ≡ (later way k input).start)
+
+-- The pairs of a walk with their offsets; and without the split ones.
+abbrev pub with_offsets : Direction → Input → List Pair → List Pair
+with_offsets way input [] = []
+with_offsets way input (pair ∷ pairs) =
+    record pair { place = offset_in way input pair.place } ∷ with_offsets way input pairs
+
+abbrev pub without_split : List ℕ → List Pair → List Pair
+without_split h [] = []
+without_split h (pair ∷ pairs) = cond (is_split h pair.place) (without_split h pairs) (pair ∷ without_split h pairs)
+
+abbrev pub IsOverlappingFrom : Engine → Tape → Option ℕ → List Pair → Type 0
+IsOverlappingFrom d t None pairs = pairs ≡ []
+IsOverlappingFrom d t (Some q) pairs = IsOverlappingOn d.kind d.nfa t q pairs
+
+-- The whole list of a walk by its offsets, without the split ones where they are skipped.
+abbrev pub IsOverlapping : Direction → Engine → Input → List Pair → Type 0
+IsOverlapping way d input found =
+    ((input.end < input.start) × (found ≡ []))
+    ⊎ ((input.start ≤ input.end)
+    × ((pairs : List Pair)
+    × IsOverlappingFrom d (tape_of way input.haystack input.start input.end) (first_state d input.anchored) pairs
+    × ((IsSkipping d × (found ≡ without_split input.haystack (with_offsets way input pairs)))
+    ⊎ ((IsSkipping d → ⊥) × (found ≡ with_offsets way input pairs)))))
+
+abbrev pub first_alone : Bool → List Pair → List Pair
+first_alone earliest [] = []
+first_alone earliest (pair ∷ pairs) = pair ∷ cond earliest [] pairs
+
+abbrev pub HasPattern : ℕ → List Pair → Type 0
+HasPattern p [] = ⊥
+HasPattern p (pair ∷ pairs) = (p ≡ pair.pattern) ⊎ HasPattern p pairs
+
+-- The patterns of a set after a forward walk: the given ones and those that the walk tells below the capacity, an
+-- earliest one its first pair alone.
+abbrev pub ArePatternsFound : Engine → Input → ℕ → (given found : List ℕ) → Type 0
+ArePatternsFound d input capacity given found =
+    (pairs : List Pair) × IsOverlapping Forward d input pairs
+    × ((p : ℕ) → In p found ↔ (In p given ⊎ ((p < capacity) × HasPattern p (first_alone input.earliest pairs))))
+
+-- The condition on an input: its haystack is of bytes, and its span ends in it.
+abbrev pub IsInput : Input → Type 0
+IsInput input = IsHaystack input.haystack × (input.end ≤ length input.haystack)
+
+-- An NFA whose edges and starts lead to its states, and no cycle of which passes a look.
+abbrev pub IsSound : Engine → Type 0
+IsSound d =
+    IsInRange d.nfa × IsLookAcyclic d.nfa
+    × ((mode : Anchored) (q : ℕ) → first_state d mode ≡ Some q → q < length d.nfa.nodes)

@@ -1,0 +1,48 @@
+-- Tests of an NFA.
+use Rattle.std.specs.Prelude.{ℕ, suc, Bool, true, not, ◌&&◌, ltb, List, [], ◌∷◌, length, Option, Some, None}
+use Rattle.automata_base.specs.Nfa.{Nfa, Node, Split, Assert, Read, Accept, Range}
+use Rattle.automata_base.specs.Paths.{all_true, Tape}
+use Rattle.automata_base.specs.Computed.{is_in, closure_of}
+
+abbrev pub all_below : ℕ → List ℕ → Bool
+all_below N [] = true
+all_below N (x ∷ xs) = ltb x N && all_below N xs
+
+abbrev pub ranges_below : ℕ → List Range → Bool
+ranges_below N [] = true
+ranges_below N (r ∷ rs) = ltb r.next N && ranges_below N rs
+
+abbrev pub node_below : ℕ → Node → Bool
+node_below N (Split alternates) = all_below N alternates
+node_below N (Assert look next) = ltb next N
+node_below N (Read ranges) = ranges_below N ranges
+node_below N (Accept p) = true
+
+abbrev pub nodes_below : ℕ → List Node → Bool
+nodes_below N [] = true
+nodes_below N (x ∷ xs) = node_below N x && nodes_below N xs
+
+-- Each edge leads to a state.
+abbrev pub is_in_range : Nfa → Bool
+is_in_range n = nodes_below (length n.nodes) n.nodes
+
+abbrev pub no_way_back : Nfa → ℕ → Node → Bool
+no_way_back n q (Split alternates) = true
+no_way_back n q (Assert look next) = not (is_in q (closure_of n all_true (next ∷ [])))
+no_way_back n q (Read ranges) = true
+no_way_back n q (Accept p) = true
+
+abbrev pub no_ways_back : Nfa → ℕ → List Node → Bool
+no_ways_back n q [] = true
+no_ways_back n q (x ∷ xs) = no_way_back n q x && no_ways_back n (suc q) xs
+
+-- No cycle of epsilon edges passes a look.
+abbrev pub is_look_cycle_free : Nfa → Bool
+is_look_cycle_free n = no_ways_back n 0 n.nodes
+
+abbrev pub unit_fits : Option ℕ → Bool
+unit_fits None = true
+unit_fits (Some u) = ltb u 256
+
+abbrev pub tape_fits : Tape → Bool
+tape_fits t = all_below 256 t.bytes && unit_fits t.after

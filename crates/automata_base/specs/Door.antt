@@ -1,0 +1,21 @@
+-- What an NFA of the door is.
+use Rattle.std.specs.Prelude.{ℕ, ◌^◌, ◌≡◌, ◌<◌, ◌≤◌, Bool, eqb, List, [], ◌∷◌, length, All}
+use Rattle.automata_base.specs.Nodes.{Automaton, nfa_of, stack_room}
+use Rattle.automata_base.specs.Truths.{truth_of}
+use Rattle.automata_base.specs.Looks.{Look}
+use Rattle.automata_base.specs.Nfa.{Nfa, accepts}
+use Rattle.automata_base.specs.Computed.{IsInRange, any_node}
+use Rattle.automata_base.specs.Looks.{look_index}
+use Rattle.std.specs.Prelude.{Some}
+
+pub record IsDoor (a : Automaton) : Type 0 where
+  pub small : length a.states ≤ 2 ^ 27
+  pub few : length a.start_pattern ≤ 2 ^ 27
+  pub range : IsInRange (nfa_of a)
+  pub anchored : a.start_anchored < length a.states
+  pub unanchored : a.start_unanchored < length a.states
+  pub starts : All (λ s. s < length a.states) a.start_pattern
+  pub patterns : (q p : ℕ) → accepts (nfa_of a) q ≡ Some p → p < length a.start_pattern
+
+abbrev pub IsLooks : Automaton → ℕ → Type 0
+IsLooks a looks = (look : Look) → truth_of looks look ≡ any_node (λ other. eqb (look_index other) (look_index look)) (nfa_of a).nodes

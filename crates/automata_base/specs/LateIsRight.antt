@@ -1,0 +1,37 @@
+-- The theorems, as statements.
+use Rattle.std.specs.Prelude.{ℕ, suc, ◌<◌, ◌≤◌, Bool, true, false, List, length}
+use Rattle.automata_base.specs.Lists.{IsSet}
+use Rattle.automata_base.specs.Nfa.{Nfa}
+use Rattle.automata_base.specs.Paths.{Tape, IsLookAcyclic}
+use Rattle.automata_base.specs.Cuts.{MatchKind, All}
+use Rattle.automata_base.specs.Passes.{IsTape}
+use Rattle.automata_base.specs.Selections.{Accepts, Selects, IsOverlappingOn, IsNearest, IsFarthest}
+use Rattle.automata_base.specs.Computed.{search_of, walk_of, told_of, IsInRange}
+
+abbrev pub SearchesAreRight : Type 0
+SearchesAreRight =
+    (kind : MatchKind) (earliest : Bool) (n : Nfa) (t : Tape) (start : ℕ)
+    → IsInRange n → start < length n.nodes → IsLookAcyclic n → IsTape t
+    → Selects kind earliest n t start (search_of kind earliest n t start)
+
+abbrev pub WalksAreRight : Type 0
+WalksAreRight =
+    (kind : MatchKind) (n : Nfa) (t : Tape) (start : ℕ)
+    → IsInRange n → start < length n.nodes → IsLookAcyclic n → IsTape t
+    → IsOverlappingOn kind n t start (walk_of n kind start t (suc (length t.bytes)))
+
+abbrev pub NearestEndsAreRight : Type 0
+NearestEndsAreRight =
+    (kind : MatchKind) (n : Nfa) (t : Tape) (start : ℕ)
+    → IsInRange n → start < length n.nodes → IsTape t → IsNearest n t start (search_of kind true n t start)
+
+abbrev pub EndsAreRight : Type 0
+EndsAreRight =
+    (n : Nfa) (t : Tape) (start : ℕ)
+    → IsInRange n → start < length n.nodes → IsTape t → IsFarthest n t start (search_of All false n t start)
+
+abbrev pub PairsAreRight : Type 0
+PairsAreRight =
+    (n : Nfa) (t : Tape) (start i : ℕ)
+    → IsInRange n → start < length n.nodes → IsTape t → i ≤ length t.bytes
+    → IsSet (λ p. (path : List ℕ) × Accepts n t start i p path) (told_of n All start t i)

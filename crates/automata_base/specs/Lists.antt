@@ -1,0 +1,41 @@
+-- Lists of states in the order of their least keys.
+use Rattle.std.specs.Prelude.{ℕ, zero, suc, ◌≡◌, List, [], ◌∷◌, ◌⊎◌, Option, Some, None}
+use Rattle.automata_base.specs.Order.{Before, Upto}
+
+abbrev pub In : ℕ → List ℕ → Type 0
+In x [] = ⊥
+In x (y ∷ ys) = (x ≡ y) ⊎ In x ys
+
+abbrev pub nth : {A : Type 0} → List A → ℕ → Option A
+nth [] k = None
+nth (x ∷ xs) zero = Some x
+nth (x ∷ xs) (suc k) = nth xs k
+
+-- Each state has a least key, which is before all keys of the states behind it.
+abbrev pub Sorted : (ℕ → List ℕ → Type 0) → List ℕ → Type 0
+Sorted P [] = Unit {0}
+Sorted P (q ∷ rest) =
+    (key : List ℕ) × P q key × ((other : List ℕ) → P q other → Upto key other)
+    × ((later : ℕ) (other : List ℕ) → In later rest → P later other → Before key other) × Sorted P rest
+
+-- The list of the states that have a key, each once, in the order of their least keys.
+abbrev pub IsListOf : (ℕ → List ℕ → Type 0) → List ℕ → Type 0
+IsListOf P xs = ((q : ℕ) (key : List ℕ) → P q key → In q xs) × Sorted P xs
+
+abbrev pub put : Option ℕ → List ℕ → List ℕ
+put None ys = ys
+put (Some y) ys = y ∷ ys
+
+-- What `g` makes of the states of a list, in order.
+abbrev pub pick : (ℕ → Option ℕ) → List ℕ → List ℕ
+pick g [] = []
+pick g (x ∷ xs) = put (g x) (pick g xs)
+
+-- A key that begins with a root's index goes on with a path from that root.
+abbrev pub From : (ℕ → List ℕ → ℕ → Type 0) → List ℕ → ℕ → List ℕ → Type 0
+From S roots q [] = ⊥
+From S roots q (k ∷ path) = (root : ℕ) × (nth roots k ≡ Some root) × S root path q
+
+-- The list has just the states that fit.
+abbrev pub IsSet : (ℕ → Type 0) → List ℕ → Type 0
+IsSet P xs = ((q : ℕ) → In q xs → P q) × ((q : ℕ) → P q → In q xs)

@@ -1,0 +1,81 @@
+-- The eighteen looks, and where they hold, by the byte before and the byte behind a place.
+use Rattle.std.specs.Prelude.{ℕ, Bool, true, false, not, ◌&&◌, ◌||◌, leb, eqb, Option, Some, None}
+pub use Rattle.automata_base.specs.declared.util.look.Look.{Look}
+pub use Rattle.automata_base.specs.declared.util.look.Look.TheVariants.{Start, End, StartLF, EndLF, StartCRLF, EndCRLF, WordAscii, WordAsciiNegate, WordUnicode, WordUnicodeNegate, WordStartAscii, WordEndAscii, WordStartUnicode, WordEndUnicode, WordStartHalfAscii, WordEndHalfAscii, WordStartHalfUnicode, WordEndHalfUnicode}
+
+abbrev pub within : ℕ → ℕ → ℕ → Bool
+within lo hi u = leb lo u && leb u hi
+
+abbrev pub is_word_byte : ℕ → Bool
+is_word_byte u = within 48 57 u || within 65 90 u || eqb u 95 || within 97 122 u
+
+-- The byte on one side of a place: absent only outside the haystack.
+abbrev pub is_absent : Option ℕ → Bool
+is_absent None = true
+is_absent (Some u) = false
+
+abbrev pub is_byte : ℕ → Option ℕ → Bool
+is_byte b None = false
+is_byte b (Some u) = eqb u b
+
+abbrev pub is_word : Option ℕ → Bool
+is_word None = false
+is_word (Some u) = is_word_byte u
+
+abbrev pub differ : Bool → Bool → Bool
+differ true b = not b
+differ false b = b
+
+-- A carriage return, or the line feed under the reverse flag; and the other of the two.
+abbrev pub first_half : Bool → ℕ
+first_half false = 13
+first_half true = 10
+
+abbrev pub second_half : Bool → ℕ
+second_half false = 10
+second_half true = 13
+
+abbrev pub holds : (terminator : ℕ) (reverse : Bool) → Look → (prev next : Option ℕ) → Bool
+holds t r Start prev next = is_absent prev
+holds t r End prev next = is_absent next
+holds t r StartLF prev next = is_absent prev || is_byte t prev
+holds t r EndLF prev next = is_absent next || is_byte t next
+holds t r StartCRLF prev next =
+    is_absent prev || is_byte (second_half r) prev
+    || (is_byte (first_half r) prev && not (is_byte (second_half r) next))
+holds t r EndCRLF prev next =
+    is_absent next || is_byte (first_half r) next
+    || (is_byte (second_half r) next && not (is_byte (first_half r) prev))
+holds t r WordAscii prev next = differ (is_word prev) (is_word next)
+holds t r WordAsciiNegate prev next = not (differ (is_word prev) (is_word next))
+holds t r WordUnicode prev next = differ (is_word prev) (is_word next)
+holds t r WordUnicodeNegate prev next = not (differ (is_word prev) (is_word next))
+holds t r WordStartAscii prev next = not (is_word prev) && is_word next
+holds t r WordEndAscii prev next = is_word prev && not (is_word next)
+holds t r WordStartUnicode prev next = not (is_word prev) && is_word next
+holds t r WordEndUnicode prev next = is_word prev && not (is_word next)
+holds t r WordStartHalfAscii prev next = not (is_word prev)
+holds t r WordEndHalfAscii prev next = not (is_word next)
+holds t r WordStartHalfUnicode prev next = not (is_word prev)
+holds t r WordEndHalfUnicode prev next = not (is_word next)
+
+-- The number of a look, which is its bit in a set of looks.
+abbrev pub look_index : Look → ℕ
+look_index Start = 0
+look_index End = 1
+look_index StartLF = 2
+look_index EndLF = 3
+look_index StartCRLF = 4
+look_index EndCRLF = 5
+look_index WordAscii = 6
+look_index WordAsciiNegate = 7
+look_index WordUnicode = 8
+look_index WordUnicodeNegate = 9
+look_index WordStartAscii = 10
+look_index WordEndAscii = 11
+look_index WordStartUnicode = 12
+look_index WordEndUnicode = 13
+look_index WordStartHalfAscii = 14
+look_index WordEndHalfAscii = 15
+look_index WordStartHalfUnicode = 16
+look_index WordEndHalfUnicode = 17

@@ -1,0 +1,31 @@
+use Rattle.std.specs.Prelude.{ℕ, List, [], Bool, false, ◌+◌, ◌*◌, ◌<◌, ◌^◌, nat_eq, length}
+use Rattle.std.specs.List.{AllByRecursion, IsDistinct}
+
+-- a powerset state: NFA states in order, patterns, the looks known and needed, whether it is after a word byte, and half way through a CRLF
+pub record Powerset : Type 0 where
+  pub nfa : List ℕ
+  pub patterns : List ℕ
+  pub known : ℕ
+  pub needed : ℕ
+  pub word : Bool
+  pub half : Bool
+
+-- a number of an NFA state or a pattern
+abbrev pub IsId : ℕ → Type 0
+IsId id = id < 2147483647
+
+-- what every powerset state meets
+pub record IsPowerset (q : Powerset) : Type 0 where
+  pub nfa : AllByRecursion IsId q.nfa
+  pub patterns : AllByRecursion IsId q.patterns
+  pub distinct : IsDistinct nat_eq q.patterns
+  pub known : q.known < 2 ^ 32
+  pub needed : q.needed < 2 ^ 32
+
+-- what is counted for a state
+abbrev pub cost : Powerset → ℕ
+cost q = 13 + 4 * length q.patterns + 5 * length q.nfa
+
+-- the state with nothing in it
+abbrev pub dead : Powerset
+dead = record { nfa = []; patterns = []; known = 0; needed = 0; word = false; half = false }

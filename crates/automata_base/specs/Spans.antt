@@ -1,0 +1,116 @@
+-- Spans of matches, by paths; and how the search over two DFAs finds them.
+use Rattle.std.specs.Prelude.{ℕ, suc, ◌≡◌, ◌<◌, ◌≤◌, ◌+◌, Bool, false, List, [], ◌∷◌, ◌++◌, ◌⊎◌, Option, Some, None, is_some}
+use Rattle.automata_base.specs.Order.{Begins}
+use Rattle.automata_base.specs.Paths.{Tape, IsPath}
+use Rattle.automata_base.specs.Selections.{Accepts, IsChosen}
+use Rattle.automata_base.specs.Tapes.{Forward, Backward, forward_tape}
+use Rattle.automata_base.specs.Engines.{Engine, Anchored, No, Yes, Pattern, first_state, IsAlwaysStartAnchored}
+use Rattle.automata_base.specs.Answers.{Half, IsAnswer}
+use Rattle.automata_base.specs.Input.{Input}
+use Rattle.automata_base.specs.Matches.{Match}
+
+-- Where the match of a path begins: the place where it first stands on the anchored start; for an anchored mode its
+-- first place.
+abbrev pub IsPathStart : Engine → Anchored → Tape → List ℕ → ℕ → Type 0
+IsPathStart d No t path place =
+    (head rest : List ℕ) × (path ≡ head ++ rest) × IsPath d.nfa t d.unanchored place d.anchored head
+    × ((shorter : List ℕ) (sooner : ℕ) → Begins shorter head → IsPath d.nfa t d.unanchored sooner d.anchored shorter → ⊥)
+IsPathStart d Yes t path place = place ≡ 0
+IsPathStart d (Pattern k) t path place = place ≡ 0
+
+-- The search from `q` chose this path, which accepts the pattern at that place.
+abbrev pub Chooses : Engine → (earliest : Bool) → Tape → (q place pattern : ℕ) → List ℕ → Type 0
+Chooses d earliest t q i pattern path =
+    Accepts d.nfa t q i pattern path
+    × ((j p : ℕ) (other : List ℕ) → Accepts d.nfa t q j p other → IsChosen d.kind earliest i path j other)
+
+-- The input searched in full.
+abbrev pub in_full : Input → Input
+in_full input = record input { earliest = false }
+
+-- Whether there is a match: whether the search in full has an answer.
+abbrev pub IsMatch : Engine → Input → Bool → Type 0
+IsMatch d input answer = (o : Option Half) × IsAnswer Forward d (in_full input) o × (answer ≡ is_some o)
+
+-- The match of an input: the pattern and end that the forward search answers, from the start of the path that it chose.
+abbrev pub IsSpan : Engine → Input → Option Match → Type 0
+IsSpan d input None = IsAnswer Forward d input None
+IsSpan d input (Some m) =
+    (half : Half) × (q i place : ℕ) × (path : List ℕ)
+    × IsAnswer Forward d input (Some half) × (first_state d input.anchored ≡ Some q) × (half.offset ≡ half.base + i)
+    × Chooses d input.earliest (forward_tape input.haystack half.base input.end) q i half.pattern path
+    × IsPathStart d input.anchored (forward_tape input.haystack half.base input.end) path place
+    × (m.pattern ≡ half.pattern) × (m.start ≡ half.base + place) × (m.end ≡ half.offset)
+
+-- The start is where the forward search began, and no reverse search is made: the match is empty there, or the
+-- search is anchored by its mode or by its NFA.
+abbrev pub IsShort : Engine → Input → Half → Type 0
+IsShort f input half = (half.base ≡ half.offset) ⊎ ((input.anchored ≡ No → ⊥) ⊎ IsAlwaysStartAnchored f)
+
+-- What the reverse search is asked: the span that the forward search left, anchored and in full.
+abbrev pub back : Input → Half → Input
+back input half =
+    record { haystack = input.haystack; start = half.base; end = half.offset; anchored = Yes; earliest = false }
+
+-- The start that the two searches find for the forward answer; none if the reverse search has no answer.
+abbrev pub FindsStart : Engine → Engine → Input → Half → Option ℕ → Type 0
+FindsStart f r input half None = (IsShort f input half → ⊥) × IsAnswer Backward r (back input half) None
+FindsStart f r input half (Some start) =
+    (IsShort f input half × (start ≡ half.base))
+    ⊎ ((IsShort f input half → ⊥)
+    × ((found : Half) × IsAnswer Backward r (back input half) (Some found) × (start ≡ found.offset)))
+
+pub data Outcome : Type 0 where
+  Found : Option Match → Outcome
+  NotAPair : Outcome
+
+-- What a search over a forward and a reverse DFA tells.
+abbrev pub IsTrySearch : Engine → Engine → Input → Outcome → Type 0
+IsTrySearch f r input (Found None) = IsAnswer Forward f input None
+IsTrySearch f r input (Found (Some m)) =
+    (half : Half) × IsAnswer Forward f input (Some half) × FindsStart f r input half (Some m.start)
+    × (m.pattern ≡ half.pattern) × (m.end ≡ half.offset)
+IsTrySearch f r input NotAPair = (half : Half) × IsAnswer Forward f input (Some half) × FindsStart f r input half None
+
+abbrev pub from : ℕ → Input → Input
+from start input = record input { start = start }
+
+abbrev pub IsEmptyAt : Option ℕ → Match → Type 0
+IsEmptyAt last m = (m.start ≡ m.end) × (last ≡ Some m.end)
+
+-- The next match of an iteration that stands at `start`, the last match having ended at `last`: an empty one there is
+-- replaced by that of the search one place later. `Finds` says what a search finds.
+abbrev pub IsNext : (Finds : Input → Option Match → Type 0) → Input → ℕ → Option ℕ → Option Match → Type 0
+IsNext Finds input start last None =
+    Finds (from start input) None
+    ⊎ ((m : Match) × Finds (from start input) (Some m) × IsEmptyAt last m × Finds (from (suc start) input) None)
+IsNext Finds input start last (Some found) =
+    (Finds (from start input) (Some found) × (IsEmptyAt last found → ⊥))
+    ⊎ ((m : Match) × Finds (from start input) (Some m) × IsEmptyAt last m
+    × Finds (from (suc start) input) (Some found))
+
+-- The matches of an iteration from there on.
+abbrev pub AreMatches : (Finds : Input → Option Match → Type 0) → Input → ℕ → Option ℕ → List Match → Type 0
+AreMatches Finds input start last [] = IsNext Finds input start last None
+AreMatches Finds input start last (m ∷ ms) =
+    IsNext Finds input start last (Some m) × AreMatches Finds input m.end (Some m.end) ms
+
+-- The matches of an input, one after another: by the spans of its paths, and by the search over two DFAs.
+abbrev pub AreSpans : Engine → Input → List Match → Type 0
+AreSpans d input ms = AreMatches (IsSpan d) input input.start None ms
+
+abbrev pub TryFinds : Engine → Engine → Input → Option Match → Type 0
+TryFinds f r input answer = IsTrySearch f r input (Found answer)
+
+abbrev pub AreFound : Engine → Engine → Input → List Match → Type 0
+AreFound f r input ms = AreMatches (TryFinds f r) input input.start None ms
+
+-- What a search over a true pair promises.
+abbrev pub FindsSpan : Engine → Input → Outcome → Type 0
+FindsSpan f input outcome = (answer : Option Match) × (outcome ≡ Found answer) × IsSpan f input answer
+
+-- Each match starts at or after the last end and ends after it, in the span.
+abbrev pub Rise : (end : ℕ) → Option ℕ → List Match → Type 0
+Rise end last [] = Unit {0}
+Rise end None (m ∷ ms) = (m.start ≤ m.end) × (m.end ≤ end) × Rise end (Some m.end) ms
+Rise end (Some e) (m ∷ ms) = (e ≤ m.start) × (m.start ≤ m.end) × (e < m.end) × (m.end ≤ end) × Rise end (Some m.end) ms

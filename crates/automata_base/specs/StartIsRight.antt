@@ -1,0 +1,62 @@
+-- The theorems, as statements.
+use Rattle.std.specs.Prelude.{ℕ, suc, ◌≡◌, ◌≤◌, ◌+◌, ◌-◌, Bool, false, List, length, ◌⊎◌, Option, None, is_some}
+use Rattle.automata_base.specs.Tapes.{Direction, Forward, forward_tape, reverse_tape, MeetsNone}
+use Rattle.automata_base.specs.Engines.{Engine, IsSkipping}
+use Rattle.automata_base.specs.Answers.{Half, IsAnswer, IsInput, IsSound}
+use Rattle.automata_base.specs.Input.{Input}
+use Rattle.automata_base.specs.TruePairs.{IsTruePair, KeepsUtf8}
+use Rattle.automata_base.specs.Spans.{IsSpan, IsMatch, Outcome, Found, IsTrySearch, FindsSpan, AreSpans, AreFound, Rise}
+use Rattle.automata_base.specs.Matches.{Match}
+
+-- Over a true pair under the UTF-8 promise a search tells the match of the path that the forward search chose, and
+-- never that the two are no pair.
+abbrev pub StartsAreRight : Type 0
+StartsAreRight =
+    (f r : Engine) (input : Input) (outcome : Outcome)
+    → IsTruePair f r → KeepsUtf8 Forward f → IsInput input → IsTrySearch f r input outcome → FindsSpan f input outcome
+
+-- It has an outcome, and each input one match.
+abbrev pub SpansAreFound : Type 0
+SpansAreFound =
+    (f r : Engine) (input : Input)
+    → IsTruePair f r → KeepsUtf8 Forward f → IsSound f → IsSound r → IsInput input
+    → (answer : Option Match) × IsTrySearch f r input (Found answer) × IsSpan f input answer
+
+abbrev pub SpansAreOne : Type 0
+SpansAreOne = (d : Engine) (input : Input) (a b : Option Match) → IsSpan d input a → IsSpan d input b → a ≡ b
+
+abbrev pub AnswersAreOne : Type 0
+AnswersAreOne =
+    (way : Direction) (d : Engine) (input : Input) (a b : Option Half) → IsAnswer way d input a → IsAnswer way d input b → a ≡ b
+
+-- An iteration over a true pair tells the spans, one list for each input.
+abbrev pub IterationsAreRight : Type 0
+IterationsAreRight =
+    (f r : Engine) (input : Input) (ms : List Match)
+    → IsTruePair f r → KeepsUtf8 Forward f → IsInput input → AreFound f r input ms → AreSpans f input ms
+
+abbrev pub IterationsAreOne : Type 0
+IterationsAreOne = (d : Engine) (input : Input) (ms ms' : List Match) → AreSpans d input ms → AreSpans d input ms' → ms ≡ ms'
+
+-- Ends rise, by paths and over any two DFAs, so matches are at most one more than the span has bytes.
+abbrev pub EndsRise : Type 0
+EndsRise =
+    (d : Engine) (input : Input) (ms : List Match) → input.end ≤ length input.haystack → AreSpans d input ms
+    → Rise input.end None ms × (length ms ≤ suc (input.end - input.start))
+
+abbrev pub FoundEndsRise : Type 0
+FoundEndsRise =
+    (f r : Engine) (input : Input) (ms : List Match) → input.end ≤ length input.haystack → AreFound f r input ms
+    → Rise input.end None ms × (length ms ≤ suc (input.end - input.start))
+
+-- Where the input is not earliest or nothing is skipped, there is a match exactly if a search finds one.
+abbrev pub MatchIffFound : Type 0
+MatchIffFound =
+    (d : Engine) (input : Input) (truth : Bool) (answer : Option Match)
+    → (input.earliest ≡ false) ⊎ (IsSkipping d → ⊥) → IsMatch d input truth → IsSpan d input answer → truth ≡ is_some answer
+
+-- With one quit set the reverse search meets no quit byte where the forward search met none up to its match.
+abbrev pub BackMeetsNone : Type 0
+BackMeetsNone =
+    (quits : ℕ → Bool) (h : List ℕ) (b e i m : ℕ) → b + i ≤ e → e ≤ length h → m ≤ i
+    → MeetsNone quits (forward_tape h b e) i → MeetsNone quits (reverse_tape h b (b + i)) m

@@ -1,0 +1,31 @@
+-- Where the paths of a mode start, and the powerset state that stands for them.
+use Rattle.std.specs.Prelude.{ℕ, ◌≡◌, ◌+◌, ◌*◌, ◌<◌, length, slice_get, Option, Some, None, []}
+use Rattle.automata_base.specs.declared.util.search.Anchored.{Anchored}
+use Rattle.automata_base.specs.declared.util.search.Anchored.TheVariants.{No, Yes, Pattern}
+use Rattle.automata_base.specs.Nodes.{Automaton, nfa_of}
+use Rattle.automata_base.specs.Lists.{In}
+use Rattle.automata_base.specs.Nfa.{Nfa}
+use Rattle.automata_base.specs.Passes.{IsStart}
+use Rattle.automata_base.specs.Powerset.{Powerset, dead}
+
+-- The state where the paths of a mode start: past the last pattern there is none.
+abbrev pub mode_start : Automaton → Anchored → Option ℕ
+mode_start a No = Some a.start_unanchored
+mode_start a Yes = Some a.start_anchored
+mode_start a (Pattern p) = slice_get a.start_pattern p
+
+abbrev pub IsStartAt : Nfa → Option ℕ → Option ℕ → Powerset → Type 0
+IsStartAt n None prev Q = Q ≡ dead
+IsStartAt n (Some start) prev Q = IsStart n start prev Q
+
+-- The start: past the last pattern the dead state.
+abbrev pub IsStartOf : Automaton → Anchored → Option ℕ → Powerset → Type 0
+IsStartOf a mode prev Q = IsStartAt (nfa_of a) (mode_start a mode) prev Q
+
+-- Every NFA state of the powerset state is one of the NFA's.
+abbrev pub IsOf : Automaton → Powerset → Type 0
+IsOf a q = (s : ℕ) → In s q.nfa → s < length a.states
+
+-- The greatest cost of a powerset state.
+abbrev pub max_cost : Automaton → ℕ
+max_cost a = 13 + 4 * length a.start_pattern + 5 * length a.states

@@ -1,0 +1,27 @@
+//! The laws that searches stand on. Each function does nothing: its contract is the law.
+ghost use Rattle.automata_base.specs.LateIsRight.{SearchesAreRight, WalksAreRight, NearestEndsAreRight, EndsAreRight, PairsAreRight};
+ghost use Rattle.automata_base.specs.StartIsRight.{StartsAreRight, SpansAreFound, SpansAreOne, AnswersAreOne, IterationsAreRight, IterationsAreOne, EndsRise, FoundEndsRise, MatchIffFound, BackMeetsNone};
+
+/// Late is right: the list walk whose matches come one unit late, and whose looks are decided when the next unit is
+/// known, tells what the ordered paths select.
+pub fn late_is_right()
+    ensures searches { SearchesAreRight }
+    ensures walks { WalksAreRight }
+    ensures nearest { NearestEndsAreRight }
+    ensures ends { EndsAreRight }
+    ensures pairs { PairsAreRight }
+{}
+
+/// The start is the right one: over a true pair the reverse pass finds where the chosen path began.
+pub fn start_is_right()
+    ensures starts { StartsAreRight }
+    ensures found { SpansAreFound }
+    ensures one_span { SpansAreOne }
+    ensures one_answer { AnswersAreOne }
+    ensures iterations { IterationsAreRight }
+    ensures one_list { IterationsAreOne }
+    ensures rise { EndsRise }
+    ensures found_rise { FoundEndsRise }
+    ensures matches { MatchIffFound }
+    ensures quits { BackMeetsNone }
+{}

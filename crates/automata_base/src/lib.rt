@@ -1,0 +1,6 @@
+//! The base of the lazy DFA: NFAs, inputs, determinisation, and the theory that they stand on.
+#![tactic(auto)]
+
+pub mod laws;
+pub mod nfa;
+pub mod util;

@@ -1,0 +1,3 @@
+//! Nondeterministic automata.
+
+pub mod thompson;

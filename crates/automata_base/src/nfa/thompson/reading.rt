@@ -1,0 +1,125 @@
+ghost use Rattle.std.specs.Prelude.{◌≡◌, ◌+◌, ◌<◌, ◌≤◌, ◌||◌, [], ◌∷◌, ◌++◌, List, ℕ, length, take, eqb, Bool, Some, None, option_map};
+ghost use Rattle.automata_base.specs.Lists.{In, pick};
+ghost use Rattle.automata_base.specs.Nfa.{stays_at, accepts_at, takes_at, accepts, takes, keep};
+ghost use Rattle.automata_base.specs.Computed.{looks_at, any_state};
+ghost use Rattle.automata_base.specs.Looks.{look_index};
+ghost use Rattle.automata_base.specs.Cuts.{cut_for, cut};
+ghost use Rattle.automata_base.specs.Nodes.{node_of, nfa_of, ranges_of, dense_from};
+ghost use Rattle.automata_base.specs.Truths.{truth_of};
+ghost use Rattle.automata_base.specs.Looks.{Look};
+ghost use Rattle.automata_base.specs.Nfa.{takes_in};
+ghost use Rattle.automata_base.specs.Looks.{within};
+ghost use Rattle.automata_base.specs.Computed.{is_in};
+ghost use Rattle.std.specs.Prelude.{vec_capacity, vec_len, cond};
+
+use crate::nfa::thompson::{NFA, State, Transition};
+use crate::util::look::LookSet;
+use crate::util::primitives::{PatternID, StateID};
+use crate::util::search::MatchKind;
+
+// Whether a powerset state keeps the state.
+pub fn stays(state: &State) -> bool
+    ensures { result ≡ stays_at (node_of state.now) }
+{
+    match state {
+        State::ByteRange { .. } => true,
+        State::Sparse(_) => true,
+        State::Dense(_) => true,
+        State::Look { .. } => true,
+        State::Match { .. } => true,
+        State::Union { .. } => false,
+        State::BinaryUnion { .. } => false,
+        State::Capture { .. } => false,
+        State::Fail => false,
+    }
+}
+
+// The set with the state's look, if it is a look.
+pub fn add_look(set: LookSet, state: &State) -> LookSet
+    ensures { (other : Look) → truth_of result other ≡ (looks_at (λ look. eqb (look_index look) (look_index other)) (node_of state.now) || truth_of set other) }
+{
+    match state {
+        State::Look { look, .. } => set.insert(*look),
+        State::ByteRange { .. } => set,
+        State::Sparse(_) => set,
+        State::Dense(_) => set,
+        State::Match { .. } => set,
+        State::Union { .. } => set,
+        State::BinaryUnion { .. } => set,
+        State::Capture { .. } => set,
+        State::Fail => set,
+    }
+}
+
+// The pattern of a match state.
+pub fn pattern_of(state: &State) -> Option<PatternID>
+    ensures { result ≡ accepts_at (node_of state.now) }
+{
+    match state {
+        State::Match { pattern } => Some(*pattern),
+        State::Look { .. } => None,
+        State::ByteRange { .. } => None,
+        State::Sparse(_) => None,
+        State::Dense(_) => None,
+        State::Union { .. } => None,
+        State::BinaryUnion { .. } => None,
+        State::Capture { .. } => None,
+        State::Fail => None,
+    }
+}
+
+// Whether the range has the byte.
+fn has(t: &Transition, u: u8) -> bool
+    ensures { result ≡ within t.now.lo t.now.hi u }
+{
+    t.lo <= u && u <= t.hi
+}
+
+fn sparse_target(transitions: &[Transition], u: u8) -> Option<StateID>
+    ensures { result ≡ takes_in (ranges_of transitions.now) u }
+{
+    for t in transitions {
+        if has(t, u) {
+            return Some(t.next);
+        }
+    }
+    None
+}
+
+fn is_zero(id: StateID) -> bool
+    ensures { result ≡ eqb id 0 }
+{
+    id.as_usize() == 0
+}
+
+fn dense_target(targets: &[StateID], u: u8) -> Option<StateID>
+    requires { length targets.now ≡ 256 }
+    ensures { result ≡ takes_in (dense_from 0 targets.now) u }
+{
+    let at = usize::from(u);
+    let next = targets[at];
+    if is_zero(next) { None } else { Some(next) }
+}
+
+// Where the byte edge leads on a byte.
+pub fn target(state: &State, u: u8) -> Option<StateID>
+    ensures { result ≡ takes_at (node_of state.now) u }
+{
+    match state {
+        State::ByteRange { lo, hi, next } => {
+            if *lo <= u && u <= *hi {
+                Some(*next)
+            } else {
+                None
+            }
+        }
+        State::Sparse(transitions) => sparse_target(transitions, u),
+        State::Dense(targets) => dense_target(targets, u),
+        State::Match { .. } => None,
+        State::Look { .. } => None,
+        State::Union { .. } => None,
+        State::BinaryUnion { .. } => None,
+        State::Capture { .. } => None,
+        State::Fail => None,
+    }
+}

@@ -1,0 +1,212 @@
+ghost use Rattle.std.specs.Prelude.{◌≡◌, ◌+◌, ◌-◌, ◌<◌, ◌≤◌, ◌&&◌, ◌||◌, ℕ, Bool, false, eqb, length, not};
+ghost use Rattle.automata_base.specs.Classes.{bounds, transitions_bound, targets_bound, quits_bound, look_bounds, state_bounds, states_bound, is_boundary, boundary_count, class_in};
+ghost use Rattle.automata_base.specs.Marks.{marked, Adds};
+
+use crate::nfa::thompson::{NFA, State, Transition};
+use crate::util::look::Look;
+use crate::util::primitives::StateID;
+use std::marker::Model;
+
+/// Which bytes no automaton tells apart: each byte has a class, and bytes of one class lead to the same states.
+///
+/// One class more, behind the last one, is that of the end of the input.
+#[derive(Clone, Copy, Debug, PartialEq, Eq)]
+pub struct ByteClasses {
+    map: [u8; 256],
+}
+
+impl Model for ByteClasses {
+    ghost use Rattle.std.specs.Prelude.{List, ℕ};
+    ghost use Rattle.automata_base.specs.Classes.{AreClasses};
+
+    ghost Value = { List ℕ };
+
+    ghost view = { λ c. c.map };
+
+    ghost invariant = { λ c. AreClasses c.map };
+
+    ghost inverse = { λ classes. record { map = classes } };
+}
+
+impl ByteClasses {
+    ghost use Rattle.std.specs.Prelude.{◌≡◌, ◌+◌, ◌<◌, ◌≤◌, ◌^◌, ℕ, false, true, length};
+    ghost use Rattle.automata_base.specs.Classes.{class_of, class_in, eoi_class, alphabet_length, stride_of, is_quit};
+
+    /// The classes of an automaton's bytes, for these quit bytes. Where `on` is false each byte is its own class.
+    pub fn of(nfa: &NFA, quits: &[bool; 256], on: bool) -> ByteClasses
+        ensures same { (byte : ℕ) → byte < 256 → class_in result byte ≡ class_of nfa.now quits.now on byte }
+    {
+        ByteClasses {
+            map: counts(&boundaries(nfa, quits, on)),
+        }
+    }
+
+    /// The class of a byte.
+    pub fn get(&self, byte: u8) -> u8
+        ensures class { result ≡ class_in self.now byte }
+        ensures below { result < eoi_class self.now }
+    {
+        self.map[usize::from(byte)]
+    }
+
+    /// The number of classes, that of the end of the input being one of them: 2 to 257.
+    pub fn alphabet_len(&self) -> usize
+        ensures number { result ≡ alphabet_length self.now }
+        ensures many { 2 ≤ result }
+        ensures few { result ≤ 257 }
+    {
+        usize::from(self.map[255]) + 2
+    }
+
+    /// The class of the end of the input.
+    pub fn eoi(&self) -> usize
+        ensures class { result ≡ eoi_class self.now }
+        ensures below { result < stride_of self.now }
+    {
+        self.alphabet_len() - 1
+    }
+
+    /// The stride's binary logarithm.
+    pub fn stride2(&self) -> usize
+        ensures power { 2 ^ result ≡ stride_of self.now }
+        ensures few { result ≤ 9 }
+    {
+        (self.alphabet_len() - 1).ilog2() as usize + 1
+    }
+
+    /// The least power of two that is at least the number of classes: 2 to 512.
+    pub fn stride(&self) -> usize
+        ensures number { result ≡ stride_of self.now }
+        ensures few { result ≤ 512 }
+    {
+        1 << self.stride2()
+    }
+}
+
+// A mark before each byte that has a boundary there.
+fn boundaries(nfa: &NFA, quits: &[bool; 256], on: bool) -> [bool; 257]
+    ensures { (byte : ℕ) → byte < 256 → marked result byte ≡ is_boundary nfa.now quits.now on byte }
+{
+    if !on {
+        return [true; 257];
+    }
+    let mut marks = [false; 257];
+    mark_states(&mut marks, nfa.states(), nfa.flags().line_terminator);
+    mark_quits(&mut marks, quits);
+    marks
+}
+
+// How many marks there are from byte 1 to each byte.
+fn counts(marks: &[bool; 257]) -> [u8; 256]
+    ensures whole { length result ≡ 256 }
+    ensures same { (byte : ℕ) → byte < 256 → class_in result byte ≡ boundary_count (marked marks.now) byte }
+{
+    let mut map = [0u8; 256];
+    let mut class = 0u8;
+    for byte in 1..256 {
+        class += u8::from(marks[byte]);
+        map[byte] = class;
+    }
+    map
+}
+
+fn mark_if(marks: &mut [bool; 257], byte: usize, yes: bool)
+    requires { byte < 257 }
+    ensures { Adds marks.old marks.new (λ b. eqb b byte && yes) }
+{
+    if yes {
+        marks[byte] = true;
+    }
+}
+
+// Before the first of the bytes, and behind the last.
+fn mark_range(marks: &mut [bool; 257], lo: u8, hi: u8)
+    ensures { Adds marks.old marks.new (bounds lo hi) }
+{
+    marks[usize::from(lo)] = true;
+    marks[usize::from(hi) + 1] = true;
+}
+
+fn mark_transitions(marks: &mut [bool; 257], transitions: &[Transition])
+    ensures { Adds marks.old marks.new (transitions_bound transitions.now) }
+{
+    for t in transitions {
+        mark_range(marks, t.lo, t.hi);
+    }
+}
+
+fn are_targets_apart(targets: &[StateID; 256], byte: usize) -> bool
+    requires first { 1 ≤ byte }
+    requires within { byte < 256 }
+    ensures { result ≡ targets_bound targets.now byte }
+{
+    targets[byte].as_usize() != targets[byte - 1].as_usize()
+}
+
+fn mark_targets(marks: &mut [bool; 257], targets: &[StateID; 256])
+    ensures { Adds marks.old marks.new (targets_bound targets.now) }
+{
+    for byte in 1..256 {
+        mark_if(marks, byte, are_targets_apart(targets, byte));
+    }
+}
+
+fn are_quits_apart(quits: &[bool; 256], byte: usize) -> bool
+    requires first { 1 ≤ byte }
+    requires within { byte < 256 }
+    ensures { result ≡ quits_bound quits.now byte }
+{
+    quits[byte] != quits[byte - 1]
+}
+
+fn mark_quits(marks: &mut [bool; 257], quits: &[bool; 256])
+    ensures { Adds marks.old marks.new (quits_bound quits.now) }
+{
+    for byte in 1..256 {
+        mark_if(marks, byte, are_quits_apart(quits, byte));
+    }
+}
+
+// What decides whether the look holds.
+fn mark_look(marks: &mut [bool; 257], look: Look, terminator: u8)
+    ensures { Adds marks.old marks.new (look_bounds terminator look) }
+{
+    match look {
+        Look::Start | Look::End => {}
+        Look::StartLF | Look::EndLF => mark_range(marks, terminator, terminator),
+        Look::StartCRLF | Look::EndCRLF => {
+            mark_range(marks, b'\r', b'\r');
+            mark_range(marks, b'\n', b'\n');
+        }
+        _ => {
+            mark_range(marks, b'0', b'9');
+            mark_range(marks, b'A', b'Z');
+            mark_range(marks, b'_', b'_');
+            mark_range(marks, b'a', b'z');
+        }
+    }
+}
+
+fn mark_state(marks: &mut [bool; 257], state: &State, terminator: u8)
+    ensures { Adds marks.old marks.new (state_bounds terminator state.now) }
+{
+    match state {
+        State::ByteRange { lo, hi, .. } => mark_range(marks, *lo, *hi),
+        State::Sparse(transitions) => mark_transitions(marks, transitions),
+        State::Dense(targets) => mark_targets(marks, targets),
+        State::Look { look, .. } => mark_look(marks, *look, terminator),
+        State::Union { .. } => {}
+        State::BinaryUnion { .. } => {}
+        State::Capture { .. } => {}
+        State::Fail => {}
+        State::Match { .. } => {}
+    }
+}
+
+fn mark_states(marks: &mut [bool; 257], states: &[State], terminator: u8)
+    ensures { Adds marks.old marks.new (states_bound terminator states.now) }
+{
+    for state in states {
+        mark_state(marks, state, terminator);
+    }
+}

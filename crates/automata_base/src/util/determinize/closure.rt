@@ -1,0 +1,113 @@
+ghost use Rattle.std.specs.Prelude.{◌≡◌, ◌+◌, ◌<◌, ◌≤◌, [], ◌∷◌, ◌++◌, List, ℕ, length, reverse, All, vec_len, vec_capacity, option_to_list};
+ghost use Rattle.automata_base.specs.Paths.{IsClosure};
+ghost use Rattle.automata_base.specs.Visits.{children_at, IsUnderWay};
+ghost use Rattle.automata_base.specs.Nodes.{node_of, nfa_of, stack_room};
+ghost use Rattle.automata_base.specs.Truths.{truth_of};
+
+use crate::nfa::thompson::{NFA, State};
+use crate::util::determinize::sparse_set::SparseSet;
+use crate::util::look::LookSet;
+use crate::util::primitives::StateID;
+
+// Puts the states on the stack, the first of them on top.
+fn push_reversed(stack: &mut Vec<StateID>, states: &[StateID])
+    requires { vec_len stack.old + length states.now ≤ vec_capacity stack.old }
+    ensures pushed { stack.new.items ≡ stack.old.items ++ reverse states.now }
+    ensures capacity { vec_capacity stack.old ≤ vec_capacity stack.new }
+{
+    for i in (0..states.len()).rev() {
+        stack.push(states[i]).unwrap();
+    }
+}
+
+// Gives the first state that an epsilon edge leads to, and puts the others on the stack.
+fn expand(state: &State, looks: LookSet, stack: &mut Vec<StateID>) -> Option<StateID>
+    requires { vec_len stack.old + length (children_at (node_of state.now) (truth_of looks)) ≤ vec_capacity stack.old + 1 }
+    ensures pushed { option_to_list result ++ reverse stack.new.items
+        ≡ children_at (node_of state.now) (truth_of looks) ++ reverse stack.old.items }
+    ensures capacity { vec_capacity stack.old ≤ vec_capacity stack.new }
+{
+    match state {
+        State::Look { look, next } => {
+            if looks.contains(*look) {
+                Some(*next)
+            } else {
+                None
+            }
+        }
+        State::Union { alternates } => {
+            if alternates.is_empty() {
+                None
+            } else {
+                push_reversed(stack, &alternates[1..]);
+                Some(alternates[0])
+            }
+        }
+        State::BinaryUnion { alt1, alt2 } => {
+            stack.push(*alt2).unwrap();
+            Some(*alt1)
+        }
+        State::Capture { next, .. } => Some(*next),
+        State::ByteRange { .. }
+        | State::Sparse(_)
+        | State::Dense(_)
+        | State::Fail
+        | State::Match { .. } => None,
+    }
+}
+
+/// Adds what epsilon edges reach from `start` to the set. The stack's room is made beforehand, so the call takes no memory.
+pub fn close_one(
+    nfa: &NFA,
+    start: StateID,
+    looks: LookSet,
+    stack: &mut Vec<StateID>,
+    set: &mut SparseSet,
+)
+    requires start { start < length nfa.now.states }
+    requires whole { set.old.capacity ≡ length nfa.now.states }
+    requires empty { stack.old.items ≡ [] }
+    requires room { stack_room nfa.now.states ≤ vec_capacity stack.old }
+    ensures way { (roots tail : List ℕ) → IsUnderWay (nfa_of nfa.now) (truth_of looks) roots (start ∷ tail) set.old.items
+        → IsUnderWay (nfa_of nfa.now) (truth_of looks) roots tail set.new.items }
+    ensures whole { set.new.capacity ≡ set.old.capacity }
+    ensures emptied { stack.new.items ≡ [] }
+    ensures room { vec_capacity stack.old ≤ vec_capacity stack.new }
+{
+    stack.push(start).unwrap();
+    while let Some(top) = stack.pop() {
+        let mut id = top;
+        'follow: loop {
+            if !set.insert(id) {
+                break;
+            }
+            match expand(nfa.state(id), looks, stack) {
+                Some(next) => id = next,
+                None => break,
+            }
+        }
+    }
+}
+
+/// Makes the set what epsilon edges reach from the roots.
+pub fn close(
+    nfa: &NFA,
+    roots: &[StateID],
+    looks: LookSet,
+    stack: &mut Vec<StateID>,
+    set: &mut SparseSet,
+)
+    requires roots { All (λ root. root < length nfa.now.states) roots.now }
+    requires whole { set.old.capacity ≡ length nfa.now.states }
+    requires empty { stack.old.items ≡ [] }
+    requires room { stack_room nfa.now.states ≤ vec_capacity stack.old }
+    ensures closure { IsClosure (nfa_of nfa.now) (truth_of looks) roots.now set.new.items }
+    ensures whole { set.new.capacity ≡ set.old.capacity }
+    ensures emptied { stack.new.items ≡ [] }
+    ensures room { vec_capacity stack.old ≤ vec_capacity stack.new }
+{
+    set.clear();
+    for root in roots {
+        close_one(nfa, *root, looks, stack, set);
+    }
+}

@@ -1,0 +1,392 @@
+ghost use Rattle.std.specs.Prelude.{◌≡◌, ◌+◌, ◌<◌, ◌≤◌, ◌↔◌, [], ◌∷◌, ◌++◌, List, ℕ, length, All, true, false, IsTrue, IsFalse, Option, Some, None, vec_len, vec_capacity, ◌&&◌, cond};
+ghost use Rattle.automata_base.specs.Lists.{In, pick, put};
+ghost use Rattle.automata_base.specs.Nfa.{accepts};
+ghost use Rattle.automata_base.specs.Paths.{IsClosure};
+ghost use Rattle.automata_base.specs.Visits.{IsUnderWay};
+ghost use Rattle.automata_base.specs.Cuts.{cut_for, IsOnce, targets};
+ghost use Rattle.automata_base.specs.Passes.{IsMake, IsArrival, IsDecided, IsSuccessor, IsStart, Occurs, is_word_look, is_crlf_look};
+ghost use Rattle.automata_base.specs.Computed.{known_looks, any_state, any_node, is_full, is_in, once_past};
+ghost use Rattle.automata_base.specs.Nodes.{node_of, nfa_of, stack_room};
+ghost use Rattle.automata_base.specs.Looks.{Look};
+ghost use Rattle.automata_base.specs.Truths.{truth_of};
+ghost use Rattle.automata_base.specs.Parts.{powerset_of};
+ghost use Rattle.automata_base.specs.Once.{Distinct};
+ghost use Rattle.automata_base.specs.Starts.{IsStartAt};
+ghost use Rattle.automata_base.specs.Starts.{IsOf};
+
+use crate::nfa::thompson::NFA;
+use crate::nfa::thompson::reading::{pattern_of, target};
+use crate::util::determinize::closure::{close, close_one};
+use crate::util::determinize::deciding::{
+    first_of, has_news, is_unit, is_word_unit, known_behind, looks_true,
+};
+use crate::util::determinize::lists::{cut_length, has_pattern, keep_states};
+use crate::util::determinize::sparse_set::SparseSet;
+use crate::util::determinize::state::{Parts, State};
+use crate::util::look::LookSet;
+use crate::util::primitives::{PatternID, StateID};
+use crate::util::search::MatchKind;
+
+fn has_word(nfa: &NFA) -> bool
+    ensures { result ≡ any_node is_word_look (nfa_of nfa.now).nodes }
+{
+    has_news(nfa.look_set_any(), LookSet::word(), LookSet::empty())
+}
+
+fn has_crlf(nfa: &NFA) -> bool
+    ensures { result ≡ any_node is_crlf_look (nfa_of nfa.now).nodes }
+{
+    has_news(nfa.look_set_any(), LookSet::crlf(), LookSet::empty())
+}
+
+// Whether the set has a look.
+fn has_some(looks: LookSet) -> bool
+    ensures some { IsTrue result → (look : Look) × (truth_of looks look ≡ true) }
+    ensures none { IsFalse result → (look : Look) → truth_of looks look ≡ false }
+{
+    has_news(looks, looks, LookSet::empty())
+}
+
+fn pick_known(some: bool, known: LookSet) -> LookSet
+    ensures { (look : Look) → truth_of result look ≡ (some && truth_of known look) }
+{
+    if some { known } else { LookSet::empty() }
+}
+
+fn all_of(a: bool, b: bool, c: bool) -> bool
+    ensures { result ≡ (a && b && c) }
+{
+    a && b && c
+}
+
+fn has_any(list: &[StateID]) -> bool
+    ensures { result ≡ is_full list.now }
+{
+    !list.is_empty()
+}
+
+/// Makes a powerset state of a closure, the patterns being there.
+fn fill(nfa: &NFA, set: &SparseSet, known: LookSet, prev: Option<u8>, parts: &mut Parts)
+    requires whole { set.now.capacity ≡ length nfa.now.states }
+    requires room { length nfa.now.states ≤ vec_capacity parts.old.nfa }
+    requires known { (look : Look) → truth_of known look ≡ known_looks (nfa_of nfa.now) prev look }
+    ensures make { IsMake (nfa_of nfa.now) parts.old.patterns.items set.now.items prev (powerset_of parts.new) }
+    ensures patterns { parts.new.patterns ≡ parts.old.patterns }
+    ensures below { (q : ℕ) → In q parts.new.nfa.items → q < length nfa.now.states }
+    ensures few { length parts.new.nfa.items ≤ length nfa.now.states }
+    ensures room { vec_capacity parts.old.nfa ≤ vec_capacity parts.new.nfa }
+{
+    let needed = keep_states(nfa, set.as_slice(), &mut parts.nfa);
+    let some = has_some(needed);
+    let known = pick_known(some, known);
+    parts.needed = needed.bits();
+    parts.known = known.bits();
+    let full = has_any(parts.nfa.as_slice());
+    parts.word = all_of(full, has_word(nfa), is_word_unit(prev));
+    parts.half = all_of(
+        full,
+        has_crlf(nfa),
+        is_unit(first_of(nfa.flags().reverse), prev),
+    );
+}
+
+/// The targets of the byte states of a list that take the unit: closed in order, made a powerset state.
+fn arrive(
+    nfa: &NFA,
+    list: &[StateID],
+    unit: Option<u8>,
+    stack: &mut Vec<StateID>,
+    set: &mut SparseSet,
+    parts: &mut Parts,
+)
+    requires below { (q : ℕ) → In q list.now → q < length nfa.now.states }
+    requires whole { set.old.capacity ≡ length nfa.now.states }
+    requires empty { stack.old.items ≡ [] }
+    requires places { stack_room nfa.now.states ≤ vec_capacity stack.old }
+    requires room { length nfa.now.states ≤ vec_capacity parts.old.nfa }
+    ensures arrival { IsArrival (nfa_of nfa.now) parts.old.patterns.items (targets (nfa_of nfa.now) unit list.now) unit (powerset_of parts.new) }
+    ensures patterns { parts.new.patterns ≡ parts.old.patterns }
+    ensures below { (q : ℕ) → In q parts.new.nfa.items → q < length nfa.now.states }
+    ensures few { length parts.new.nfa.items ≤ length nfa.now.states }
+    ensures whole { set.new.capacity ≡ set.old.capacity }
+    ensures emptied { stack.new.items ≡ [] }
+    ensures places { vec_capacity stack.old ≤ vec_capacity stack.new }
+    ensures room { vec_capacity parts.old.nfa ≤ vec_capacity parts.new.nfa }
+{
+    let known = known_behind(nfa, unit);
+    set.clear();
+    close_unit(nfa, list, unit, known, stack, set);
+    fill(nfa, set, known, unit, parts);
+}
+
+fn close_unit(
+    nfa: &NFA,
+    list: &[StateID],
+    unit: Option<u8>,
+    known: LookSet,
+    stack: &mut Vec<StateID>,
+    set: &mut SparseSet,
+)
+    requires below { (q : ℕ) → In q list.now → q < length nfa.now.states }
+    requires whole { set.old.capacity ≡ length nfa.now.states }
+    requires fresh { set.old.items ≡ [] }
+    requires empty { stack.old.items ≡ [] }
+    requires places { stack_room nfa.now.states ≤ vec_capacity stack.old }
+    ensures closure { IsClosure (nfa_of nfa.now) (truth_of known) (targets (nfa_of nfa.now) unit list.now) set.new.items }
+    ensures whole { set.new.capacity ≡ set.old.capacity }
+    ensures emptied { stack.new.items ≡ [] }
+    ensures places { vec_capacity stack.old ≤ vec_capacity stack.new }
+{
+    match unit {
+        Some(u) => close_targets(nfa, list, u, known, stack, set),
+        None => {}
+    }
+}
+
+// Closes the targets of the byte states of a list that take the byte.
+fn close_targets(
+    nfa: &NFA,
+    list: &[StateID],
+    u: u8,
+    known: LookSet,
+    stack: &mut Vec<StateID>,
+    set: &mut SparseSet,
+)
+    requires below { (q : ℕ) → In q list.now → q < length nfa.now.states }
+    requires whole { set.old.capacity ≡ length nfa.now.states }
+    requires fresh { set.old.items ≡ [] }
+    requires empty { stack.old.items ≡ [] }
+    requires places { stack_room nfa.now.states ≤ vec_capacity stack.old }
+    ensures closure { IsClosure (nfa_of nfa.now) (truth_of known) (targets (nfa_of nfa.now) (Some u) list.now) set.new.items }
+    ensures whole { set.new.capacity ≡ set.old.capacity }
+    ensures emptied { stack.new.items ≡ [] }
+    ensures places { vec_capacity stack.old ≤ vec_capacity stack.new }
+{
+    for i in 0..list.len() {
+        close_maybe(nfa, target(nfa.state(list[i]), u), known, stack, set);
+    }
+}
+
+// The patterns of the match states of a list, each once.
+fn read_patterns(nfa: &NFA, list: &[StateID], patterns: &mut Vec<PatternID>)
+    requires below { (q : ℕ) → In q list.now → q < length nfa.now.states }
+    requires room { length nfa.now.start_pattern ≤ vec_capacity patterns.old }
+    ensures once { IsOnce (pick (accepts (nfa_of nfa.now)) list.now) patterns.new.items }
+    ensures distinct { Distinct patterns.new.items }
+    ensures few { length patterns.new.items ≤ length nfa.now.start_pattern }
+    ensures room { vec_capacity patterns.old ≤ vec_capacity patterns.new }
+{
+    patterns.clear();
+    for i in 0..list.len() {
+        add_maybe(patterns, pattern_of(nfa.state(list[i])));
+    }
+}
+
+fn add_maybe(patterns: &mut Vec<PatternID>, pattern: Option<PatternID>)
+    requires { (p : ℕ) → pattern ≡ Some p → is_in p patterns.old.items ≡ false → vec_len patterns.old < vec_capacity patterns.old }
+    ensures some { (p : ℕ) → pattern ≡ Some p → patterns.new.items ≡ patterns.old.items ++ cond (is_in p patterns.old.items) [] (p ∷ []) }
+    ensures none { pattern ≡ None → patterns.new.items ≡ patterns.old.items }
+    ensures room { vec_capacity patterns.old ≤ vec_capacity patterns.new }
+{
+    match pattern {
+        Some(p) => add_pattern(patterns, p),
+        None => {}
+    }
+}
+
+fn close_maybe(
+    nfa: &NFA,
+    start: Option<StateID>,
+    looks: LookSet,
+    stack: &mut Vec<StateID>,
+    set: &mut SparseSet,
+)
+    requires start { (q : ℕ) → start ≡ Some q → q < length nfa.now.states }
+    requires whole { set.old.capacity ≡ length nfa.now.states }
+    requires empty { stack.old.items ≡ [] }
+    requires room { stack_room nfa.now.states ≤ vec_capacity stack.old }
+    ensures way { (roots tail : List ℕ) → IsUnderWay (nfa_of nfa.now) (truth_of looks) roots (put start tail) set.old.items
+        → IsUnderWay (nfa_of nfa.now) (truth_of looks) roots tail set.new.items }
+    ensures whole { set.new.capacity ≡ set.old.capacity }
+    ensures emptied { stack.new.items ≡ [] }
+    ensures room { vec_capacity stack.old ≤ vec_capacity stack.new }
+{
+    match start {
+        Some(q) => close_one(nfa, q, looks, stack, set),
+        None => {}
+    }
+}
+
+fn add_pattern(patterns: &mut Vec<PatternID>, p: PatternID)
+    requires { (is_in p patterns.old.items ≡ false) → vec_len patterns.old < vec_capacity patterns.old }
+    ensures added { patterns.new.items ≡ patterns.old.items ++ cond (is_in p patterns.old.items) [] (p ∷ []) }
+    ensures room { vec_capacity patterns.old ≤ vec_capacity patterns.new }
+{
+    if !has_pattern(patterns.as_slice(), p) {
+        patterns.push(p).unwrap();
+    }
+}
+
+fn close_start(
+    nfa: &NFA,
+    start: StateID,
+    known: LookSet,
+    stack: &mut Vec<StateID>,
+    set: &mut SparseSet,
+)
+    requires start { start < length nfa.now.states }
+    requires whole { set.old.capacity ≡ length nfa.now.states }
+    requires empty { stack.old.items ≡ [] }
+    requires places { stack_room nfa.now.states ≤ vec_capacity stack.old }
+    ensures closure { IsClosure (nfa_of nfa.now) (truth_of known) (start ∷ []) set.new.items }
+    ensures whole { set.new.capacity ≡ set.old.capacity }
+    ensures emptied { stack.new.items ≡ [] }
+    ensures places { vec_capacity stack.old ≤ vec_capacity stack.new }
+{
+    set.clear();
+    close_one(nfa, start, known, stack, set);
+}
+
+// A start at a state.
+fn start_at(
+    nfa: &NFA,
+    start: StateID,
+    prev: Option<u8>,
+    stack: &mut Vec<StateID>,
+    set: &mut SparseSet,
+    parts: &mut Parts,
+)
+    requires start { start < length nfa.now.states }
+    requires whole { set.old.capacity ≡ length nfa.now.states }
+    requires empty { stack.old.items ≡ [] }
+    requires places { stack_room nfa.now.states ≤ vec_capacity stack.old }
+    requires room { length nfa.now.states ≤ vec_capacity parts.old.nfa }
+    ensures start { IsStart (nfa_of nfa.now) start prev (powerset_of parts.new) }
+    ensures below { IsOf nfa.now (powerset_of parts.new) }
+    ensures few { length parts.new.nfa.items ≤ length nfa.now.states }
+    ensures patterns { parts.new.patterns.items ≡ [] }
+    ensures kept { vec_capacity parts.old.patterns ≤ vec_capacity parts.new.patterns }
+    ensures whole { set.new.capacity ≡ set.old.capacity }
+    ensures emptied { stack.new.items ≡ [] }
+    ensures places { vec_capacity stack.old ≤ vec_capacity stack.new }
+    ensures room { vec_capacity parts.old.nfa ≤ vec_capacity parts.new.nfa }
+{
+    let known = known_behind(nfa, prev);
+    close_start(nfa, start, known, stack, set);
+    parts.patterns.clear();
+    fill(nfa, set, known, prev, parts);
+}
+
+/// The start at a state, or the dead state.
+pub fn start_into(
+    nfa: &NFA,
+    start: Option<StateID>,
+    prev: Option<u8>,
+    stack: &mut Vec<StateID>,
+    set: &mut SparseSet,
+    parts: &mut Parts,
+)
+    requires start { (q : ℕ) → start ≡ Some q → q < length nfa.now.states }
+    requires whole { set.old.capacity ≡ length nfa.now.states }
+    requires empty { stack.old.items ≡ [] }
+    requires places { stack_room nfa.now.states ≤ vec_capacity stack.old }
+    requires room { length nfa.now.states ≤ vec_capacity parts.old.nfa }
+    ensures start { IsStartAt (nfa_of nfa.now) start prev (powerset_of parts.new) }
+    ensures below { IsOf nfa.now (powerset_of parts.new) }
+    ensures few { length parts.new.nfa.items ≤ length nfa.now.states }
+    ensures patterns { parts.new.patterns.items ≡ [] }
+    ensures kept { vec_capacity parts.old.patterns ≤ vec_capacity parts.new.patterns }
+    ensures whole { set.new.capacity ≡ set.old.capacity }
+    ensures emptied { stack.new.items ≡ [] }
+    ensures places { vec_capacity stack.old ≤ vec_capacity stack.new }
+    ensures room { vec_capacity parts.old.nfa ≤ vec_capacity parts.new.nfa }
+{
+    match start {
+        Some(q) => start_at(nfa, q, prev, stack, set, parts),
+        None => {
+            parts.nfa.clear();
+            parts.patterns.clear();
+            parts.known = 0;
+            parts.needed = 0;
+            parts.word = false;
+            parts.half = false;
+        }
+    }
+}
+
+// What a list whose looks are decided leads to.
+fn advance(
+    nfa: &NFA,
+    kind: MatchKind,
+    list: &[StateID],
+    unit: Option<u8>,
+    stack: &mut Vec<StateID>,
+    set: &mut SparseSet,
+    parts: &mut Parts,
+)
+    requires below { (q : ℕ) → In q list.now → q < length nfa.now.states }
+    requires whole { set.old.capacity ≡ length nfa.now.states }
+    requires empty { stack.old.items ≡ [] }
+    requires places { stack_room nfa.now.states ≤ vec_capacity stack.old }
+    requires room { length nfa.now.states ≤ vec_capacity parts.old.nfa }
+    requires slots { length nfa.now.start_pattern ≤ vec_capacity parts.old.patterns }
+    ensures once { IsOnce (pick (accepts (nfa_of nfa.now)) (cut_for kind (nfa_of nfa.now) list.now)) parts.new.patterns.items }
+    ensures arrival { IsArrival (nfa_of nfa.now) parts.new.patterns.items (targets (nfa_of nfa.now) unit (cut_for kind (nfa_of nfa.now) list.now)) unit (powerset_of parts.new) }
+    ensures below { IsOf nfa.now (powerset_of parts.new) }
+    ensures few { length parts.new.nfa.items ≤ length nfa.now.states }
+    ensures seldom { length parts.new.patterns.items ≤ length nfa.now.start_pattern }
+    ensures distinct { Distinct parts.new.patterns.items }
+    ensures whole { set.new.capacity ≡ set.old.capacity }
+    ensures emptied { stack.new.items ≡ [] }
+    ensures places { vec_capacity stack.old ≤ vec_capacity stack.new }
+    ensures room { vec_capacity parts.old.nfa ≤ vec_capacity parts.new.nfa }
+    ensures slots { vec_capacity parts.old.patterns ≤ vec_capacity parts.new.patterns }
+{
+    let end = cut_length(nfa, kind, list);
+    let upto = &list[..end];
+    read_patterns(nfa, upto, &mut parts.patterns);
+    arrive(nfa, upto, unit, stack, set, parts);
+}
+
+/// The state that follows on a unit.
+pub fn next_into(
+    nfa: &NFA,
+    kind: MatchKind,
+    from: &State,
+    list: &[StateID],
+    unit: Option<u8>,
+    stack: &mut Vec<StateID>,
+    one: &mut SparseSet,
+    two: &mut SparseSet,
+    parts: &mut Parts,
+)
+    requires is_of { IsOf nfa.now from.now }
+    requires list { list.now ≡ from.now.nfa }
+    requires whole { one.old.capacity ≡ length nfa.now.states }
+    requires also { two.old.capacity ≡ length nfa.now.states }
+    requires empty { stack.old.items ≡ [] }
+    requires places { stack_room nfa.now.states ≤ vec_capacity stack.old }
+    requires room { length nfa.now.states ≤ vec_capacity parts.old.nfa }
+    requires slots { length nfa.now.start_pattern ≤ vec_capacity parts.old.patterns }
+    ensures succ { IsSuccessor (nfa_of nfa.now) kind from.now unit (powerset_of parts.new) }
+    ensures below { IsOf nfa.now (powerset_of parts.new) }
+    ensures few { length parts.new.nfa.items ≤ length nfa.now.states }
+    ensures seldom { length parts.new.patterns.items ≤ length nfa.now.start_pattern }
+    ensures distinct { Distinct parts.new.patterns.items }
+    ensures whole { one.new.capacity ≡ one.old.capacity }
+    ensures also { two.new.capacity ≡ two.old.capacity }
+    ensures emptied { stack.new.items ≡ [] }
+    ensures places { vec_capacity stack.old ≤ vec_capacity stack.new }
+    ensures room { vec_capacity parts.old.nfa ≤ vec_capacity parts.new.nfa }
+    ensures slots { vec_capacity parts.old.patterns ≤ vec_capacity parts.new.patterns }
+{
+    let known = LookSet::from_bits(from.known());
+    let needed = LookSet::from_bits(from.needed());
+    let truth = looks_true(nfa, known, from.word(), from.half(), unit);
+    if has_news(needed, truth, known) {
+        close(nfa, list, truth, stack, one);
+        advance(nfa, kind, one.as_slice(), unit, stack, two, parts)
+    } else {
+        advance(nfa, kind, list, unit, stack, two, parts)
+    }
+}

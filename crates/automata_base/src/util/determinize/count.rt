@@ -1,0 +1,53 @@
+//! A count that only contracts see.
+
+ghost use Rattle.std.specs.Prelude.{◌≡◌, ◌+◌, ℕ};
+
+use std::marker::{Model, PhantomData};
+use std::mem;
+
+/// A count that clauses read as `number`. It takes no bytes, and its functions do nothing at run time.
+pub struct Count {
+    marker: PhantomData<()>,
+    pub ghost number: { ℕ },
+}
+
+impl Model for Count {
+    ghost use base.Fml.{ftrue};
+
+    ghost also_owns = { λ _. ftrue };
+}
+
+impl Count {
+    /// Nothing was counted.
+    pub fn zero() -> Count
+        ensures { result.number ≡ 0 }
+    {
+        Count {
+            marker: PhantomData,
+        }
+    }
+
+    /// One more.
+    pub fn next(self) -> Count
+        ensures { result.number ≡ self.number + 1 }
+    {
+        let Self { marker: _ } = self;
+        Count {
+            marker: PhantomData,
+        }
+    }
+
+    /// Counts one.
+    pub fn tick(&mut self)
+        ensures { self.new.number ≡ self.old.number + 1 }
+    {
+        let count = mem::replace(self, Count::zero());
+        *self = count.next();
+    }
+}
+
+impl Drop for Count {
+    fn drop(self) {
+        let Self { marker: _ } = self;
+    }
+}

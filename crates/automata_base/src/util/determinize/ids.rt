@@ -1,0 +1,85 @@
+// The NFA states of a state, read one by one from its bytes.
+ghost use Rattle.automata_base.specs.Checks.{all_below};
+ghost use Rattle.std.specs.Prelude.{◌≡◌, OnOk};
+ghost use Rattle.std.specs.Iterator.{YieldsFirst, item_count};
+
+use crate::util::determinize::read::{id_from, number_in};
+use crate::util::primitives::StateID;
+use std::alloc::AllocError;
+use std::marker::Model;
+
+/// The NFA states that are left.
+#[derive(Drop)]
+pub struct Ids<'a> {
+    rest: &'a [u8],
+    before: u32,
+}
+
+impl<'a> Model for Ids<'a> {
+    ghost use Rattle.std.specs.Prelude.{List, ℕ};
+    ghost use Rattle.automata_base.specs.Code.{ids_of, numbers, AreIds};
+
+    ghost Value = { List ℕ };
+
+    ghost view = { λ s. ids_of s.before (numbers s.rest.now) };
+
+    ghost invariant = { λ s. AreIds s.before s.rest.now };
+}
+
+impl<'a> Iterator for Ids<'a> {
+    type Item = StateID;
+
+    ghost next_gives = { YieldsFirst (λ s. s) };
+
+    ghost remaining = { item_count (λ s. s) };
+
+    fn next(&mut self) -> Option<StateID> {
+        if self.rest.is_empty() {
+            return None;
+        }
+        let (difference, rest) = number_in(self.rest);
+        let id = id_from(self.before, difference);
+        self.rest = rest;
+        self.before = id;
+        Some(StateID::new_unchecked(id))
+    }
+}
+
+impl<'a> Ids<'a> {
+    ghost use Rattle.automata_base.specs.Code.{ids_of, numbers, AreIds};
+
+    /// The NFA states of these bytes.
+    pub fn new(bytes: &'a [u8]) -> Ids<'a>
+        requires { AreIds 0 bytes.now }
+        ensures { result ≡ ids_of 0 (numbers bytes.now) }
+    {
+        Ids {
+            rest: bytes,
+            before: 0,
+        }
+    }
+}
+
+/// Sets the list to the NFA states.
+pub fn read_ids(ids: Ids<'_>, out: &mut Vec<StateID>) -> Result<(), AllocError>
+    ensures ok { OnOk result (out.new.items ≡ ids.entry) }
+{
+    out.clear();
+    for id in ids {
+        out.push(id)?;
+    }
+    Ok(())
+}
+
+/// Whether all of them are below a length.
+pub(crate) fn are_below(ids: Ids<'_>, len: usize) -> bool
+    ensures { result ≡ all_below len ids.entry }
+{
+    let mut rest = ids;
+    'rest: while let Some(id) = rest.next() {
+        if id.as_usize() >= len {
+            return false;
+        }
+    }
+    true
+}

@@ -1,0 +1,119 @@
+// Keys of a map from states: a state is looked up by its bytes before it is shared.
+ghost use Rattle.std.specs.Prelude.{◌≡◌, IfOk};
+ghost use Rattle.automata_base.specs.Code.{decoded, IsCode};
+
+use crate::util::determinize::state::State;
+use std::alloc::{AllocError, Global};
+use std::hash::{Hash, Hasher};
+use std::marker::Model;
+use std::rc::RcSlice;
+
+/// The bytes of a key.
+#[derive(Drop)]
+enum Bytes {
+    Shared(RcSlice<u8>),
+    Own(Vec<u8>),
+}
+
+impl Bytes {
+    ghost use Rattle.automata_base.specs.Key.{bytes_of};
+
+    fn as_slice(&self) -> &[u8]
+        ensures { result.now ≡ bytes_of self.now }
+    {
+        match self {
+            Bytes::Shared(bytes) => bytes.as_slice(),
+            Bytes::Own(bytes) => bytes.as_slice(),
+        }
+    }
+}
+
+/// A key. In the map it shares the bytes of a state; to look a state up, it holds a vector.
+#[derive(Drop)]
+pub struct Key {
+    bytes: Bytes,
+}
+
+impl Model for Key {
+    ghost use Rattle.automata_base.specs.Code.{decoded, IsCode};
+    ghost use Rattle.automata_base.specs.Powerset.{Powerset};
+    ghost use Rattle.automata_base.specs.Key.{bytes_of};
+
+    ghost Value = { Powerset };
+
+    ghost view = { λ k. decoded (bytes_of k.bytes) };
+
+    ghost invariant = { λ k. IsCode (bytes_of k.bytes) };
+}
+
+impl PartialEq for Key {
+    ghost use Rattle.std.specs.Cmp.{partial_equiv_from_equiv, decided};
+    ghost use Rattle.automata_base.specs.Equal.{powerset_eq, powerset_eq-Decides};
+
+    ghost eq = { powerset_eq };
+
+    ghost laws = { partial_equiv_from_equiv (decided powerset_eq powerset_eq-Decides) };
+
+    fn eq(&self, other: &Key) -> bool {
+        self.bytes.as_slice() == other.bytes.as_slice()
+    }
+}
+
+impl Eq for Key {
+    ghost use Rattle.std.specs.Cmp.{decided};
+    ghost use Rattle.automata_base.specs.Equal.{powerset_eq, powerset_eq-Decides};
+
+    ghost laws = { decided powerset_eq powerset_eq-Decides };
+}
+
+impl Hash for Key {
+    ghost use Rattle.std.specs.Hash.{same_Alike};
+    ghost use Rattle.automata_base.specs.Equal.{powerset_hash, powerset_eq-Decides};
+
+    ghost hash_input = { powerset_hash };
+
+    ghost respects_eq = { (same_Alike powerset_hash powerset_eq-Decides).fed };
+
+    fn hash<H: Hasher>(&self, state: &mut H) {
+        state.write(self.bytes.as_slice());
+    }
+}
+
+impl Key {
+    ghost use Rattle.std.specs.Rc.{rc_slice_items};
+
+    /// A key that shares these bytes.
+    pub(crate) fn shared(bytes: RcSlice<u8>) -> Key
+        requires { IsCode (rc_slice_items bytes) }
+        ensures { result ≡ decoded (rc_slice_items bytes) }
+    {
+        Key {
+            bytes: Bytes::Shared(bytes),
+        }
+    }
+
+    /// A key that holds these bytes, as `Parts::write` makes them. It takes no memory.
+    pub fn own(bytes: Vec<u8>) -> Key
+        requires { IsCode bytes.items }
+        ensures { result ≡ decoded bytes.items }
+    {
+        Key {
+            bytes: Bytes::Own(bytes),
+        }
+    }
+
+    /// The state of the key, its bytes shared anew.
+    pub fn to_state(&self, alloc: Global) -> Result<State, AllocError>
+        ensures { IfOk result (λ state. state ≡ self.now) }
+    {
+        State::from_bytes(alloc, self.bytes.as_slice())
+    }
+
+    /// The vector of a key that holds one, to be used again, and else an empty one.
+    pub fn into_vec(self, alloc: Global) -> Vec<u8> {
+        match self.bytes {
+            Bytes::Shared(_) => Vec::new(alloc),
+            Bytes::Own(bytes) => bytes,
+        }
+    }
+}

@@ -1,0 +1,34 @@
+// Laws of the bytes of states.
+ghost use Rattle.std.specs.Prelude.{◌≡◌, ◌≤◌, ◌↔◌, IfOk, length};
+ghost use Rattle.std.specs.Prelude.{nat_eq};
+ghost use Rattle.std.specs.List.{IsDistinct};
+ghost use Rattle.automata_base.specs.Code.{code, decoded};
+ghost use Rattle.automata_base.specs.Parts.{powerset_of};
+ghost use Rattle.automata_base.specs.Powerset.{Powerset, IsPowerset, cost};
+
+use crate::util::determinize::state::{Parts, State};
+use std::alloc::{AllocError, Global};
+
+/// What is decoded is what was encoded.
+pub fn round_trip(alloc: Global, parts: &Parts) -> Result<Parts, AllocError>
+    requires { IsDistinct nat_eq parts.now.patterns.items }
+    ensures { IfOk result (λ decoded. powerset_of decoded ≡ powerset_of parts.now) }
+{
+    let state = State::encode(alloc, parts)?;
+    state.decode(alloc)
+}
+
+/// The bytes of a state are read as that state.
+pub fn code_is_read()
+    ensures { (q : Powerset) → IsPowerset q → decoded (code q) ≡ q }
+{}
+
+/// The bytes are equal exactly where the states are.
+pub fn one_code()
+    ensures { (a b : Powerset) → IsPowerset a → IsPowerset b → (code a ≡ code b) ↔ (a ≡ b) }
+{}
+
+/// The bytes are at most what is counted for a state.
+pub fn code_within_cost()
+    ensures { (q : Powerset) → length (code q) ≤ cost q }
+{}

@@ -1,0 +1,94 @@
+ghost use Rattle.std.specs.Prelude.{◌≡◌, ◌+◌, ◌<◌, ◌≤◌, ◌||◌, [], ◌∷◌, ◌++◌, List, ℕ, length, take, eqb, Bool, Some, None, option_map};
+ghost use Rattle.automata_base.specs.Lists.{In, pick};
+ghost use Rattle.automata_base.specs.Nfa.{stays_at, accepts_at, takes_at, accepts, takes, keep};
+ghost use Rattle.automata_base.specs.Computed.{looks_at, any_state};
+ghost use Rattle.automata_base.specs.Looks.{look_index};
+ghost use Rattle.automata_base.specs.Cuts.{cut_for, cut};
+ghost use Rattle.automata_base.specs.Nodes.{node_of, nfa_of, ranges_of, dense_from};
+ghost use Rattle.automata_base.specs.Truths.{truth_of};
+ghost use Rattle.automata_base.specs.Looks.{Look};
+ghost use Rattle.automata_base.specs.Nfa.{takes_in};
+ghost use Rattle.automata_base.specs.Looks.{within};
+ghost use Rattle.automata_base.specs.Computed.{is_in};
+ghost use Rattle.std.specs.Prelude.{vec_capacity, vec_len, cond};
+
+use crate::nfa::thompson::NFA;
+use crate::nfa::thompson::reading::{add_look, pattern_of, stays};
+use crate::util::look::LookSet;
+use crate::util::primitives::{PatternID, StateID};
+use crate::util::search::MatchKind;
+
+fn push_if(kept: &mut Vec<StateID>, id: StateID, passes: bool)
+    requires { vec_len kept.old < vec_capacity kept.old }
+    ensures items { kept.new.items ≡ kept.old.items ++ cond passes (id ∷ []) [] }
+    ensures capacity { vec_capacity kept.old ≤ vec_capacity kept.new }
+{
+    if passes {
+        kept.push(id).unwrap();
+    }
+}
+
+// Puts the kept states of a list into another, and gives the looks among them.
+pub fn keep_states(nfa: &NFA, states: &[StateID], kept: &mut Vec<StateID>) -> LookSet
+    requires below { (q : ℕ) → In q states.now → q < length nfa.now.states }
+    requires room { length states.now ≤ vec_capacity kept.old }
+    ensures kept { kept.new.items ≡ pick (keep (nfa_of nfa.now)) states.now }
+    ensures few { length kept.new.items ≤ length states.now }
+    ensures looks { (other : Look) → truth_of result other ≡ any_state (λ look. eqb (look_index look) (look_index other)) (nfa_of nfa.now) kept.new.items }
+    ensures capacity { vec_capacity kept.old ≤ vec_capacity kept.new }
+{
+    kept.clear();
+    let mut looks = LookSet::empty();
+    for i in 0..states.len() {
+        let id = states[i];
+        let state = nfa.state(id);
+        looks = add_look(looks, state);
+        push_if(kept, id, stays(state));
+    }
+    looks
+}
+
+// How many states of a list stand up to the first match state.
+fn cut_first(nfa: &NFA, states: &[StateID]) -> usize
+    requires below { (q : ℕ) → In q states.now → q < length nfa.now.states }
+    ensures below { result ≤ length states.now }
+    ensures cut { take result states.now ≡ cut (nfa_of nfa.now) states.now }
+{
+    for i in 0..states.len() {
+        match pattern_of(nfa.state(states[i])) {
+            Some(_) => return i + 1,
+            None => {}
+        }
+    }
+    states.len()
+}
+
+// How many states of a list count under the kind.
+pub fn cut_length(nfa: &NFA, kind: MatchKind, states: &[StateID]) -> usize
+    requires below { (q : ℕ) → In q states.now → q < length nfa.now.states }
+    ensures below { result ≤ length states.now }
+    ensures cut { take result states.now ≡ cut_for kind (nfa_of nfa.now) states.now }
+{
+    match kind {
+        MatchKind::All => states.len(),
+        MatchKind::LeftmostFirst => cut_first(nfa, states),
+    }
+}
+
+fn is_same(p: PatternID, q: PatternID) -> bool
+    ensures { result ≡ eqb p q }
+{
+    p.as_usize() == q.as_usize()
+}
+
+// Whether the pattern is in the list.
+pub fn has_pattern(patterns: &[PatternID], p: PatternID) -> bool
+    ensures { result ≡ is_in p patterns.now }
+{
+    for i in 0..patterns.len() {
+        if is_same(p, patterns[i]) {
+            return true;
+        }
+    }
+    false
+}

@@ -1,0 +1,119 @@
+// Reading of coded bytes.
+ghost use Rattle.std.specs.Prelude.{◌≡◌, ◌+◌, ◌<◌, ◌≤◌, ◌^◌, ℕ, List, length};
+ghost use Rattle.std.specs.Prelude.{slice_index, OnOk};
+ghost use Rattle.automata_base.specs.Code.{IsFront, IsCode, number_at, id_at, is_set, patterns_of, ids_bytes};
+
+use crate::util::primitives::PatternID;
+use std::alloc::AllocError;
+
+/// The number in the four bytes at a place.
+pub fn u32_at(bytes: &[u8], place: usize) -> u32
+    requires { place + 4 ≤ length bytes.now }
+    ensures { result ≡ number_at bytes.now place }
+{
+    u32::from_le_bytes([
+        bytes[place],
+        bytes[place + 1],
+        bytes[place + 2],
+        bytes[place + 3],
+    ])
+}
+
+/// The number in groups at the front, and what comes after it.
+pub fn number_in(bytes: &[u8]) -> (u64, &[u8])
+    requires { (n : ℕ) × (tail : List ℕ) × IsFront bytes.now n tail }
+    ensures { (n : ℕ) (tail : List ℕ) → IsFront bytes.now n tail → (result.0 ≡ n) × (result.1.now ≡ tail) }
+{
+    match bytes {
+        [] => (0, bytes),
+        [first, rest @ ..] => {
+            if *first < 128 {
+                return (u64::from(*first), rest);
+            }
+            let (high, rest) = number_in(rest);
+            (u64::from(*first) - 128 + 128 * high, rest)
+        }
+    }
+}
+
+/// The NFA state at a difference from the one before.
+pub fn id_from(before: u32, difference: u64) -> u32
+    requires bound { difference < 2 ^ 35 }
+    requires fits { id_at before difference < 2 ^ 32 }
+    ensures { result ≡ id_at before difference }
+{
+    let before = u64::from(before);
+    if difference % 2 == 0 {
+        (before + difference / 2) as u32
+    } else {
+        before.saturating_sub((difference + 1) / 2) as u32
+    }
+}
+
+/// Whether there are patterns.
+fn has_patterns(bytes: &[u8]) -> bool
+    requires { 0 < length bytes.now }
+    ensures { result ≡ is_set 1 bytes.now }
+{
+    bytes[0] % 2 == 1
+}
+
+/// Whether the patterns are listed.
+fn lists_patterns(bytes: &[u8]) -> bool
+    requires { 0 < length bytes.now }
+    ensures { result ≡ is_set 2 bytes.now }
+{
+    bytes[0] / 2 % 2 == 1
+}
+
+/// How many patterns there are.
+pub fn pattern_count(bytes: &[u8]) -> usize
+    requires { IsCode bytes.now }
+    ensures { result ≡ length (patterns_of bytes.now) }
+{
+    if lists_patterns(bytes) {
+        u32_at(bytes, 9) as usize
+    } else if has_patterns(bytes) {
+        1
+    } else {
+        0
+    }
+}
+
+/// The pattern at an index.
+pub fn pattern_at(bytes: &[u8], index: usize) -> PatternID
+    requires code { IsCode bytes.now }
+    requires index_in { index < length (patterns_of bytes.now) }
+    ensures { result ≡ slice_index (patterns_of bytes.now) index }
+{
+    if lists_patterns(bytes) {
+        PatternID::new_unchecked(u32_at(bytes, 13 + 4 * index))
+    } else {
+        PatternID::new_unchecked(0)
+    }
+}
+
+/// What comes behind the patterns.
+pub fn ids_in(bytes: &[u8]) -> &[u8]
+    requires { IsCode bytes.now }
+    ensures { result.now ≡ ids_bytes bytes.now }
+{
+    if lists_patterns(bytes) {
+        let count = u32_at(bytes, 9) as usize;
+        &bytes[13 + 4 * count..]
+    } else {
+        &bytes[9..]
+    }
+}
+
+/// Sets the list to the patterns.
+pub fn read_patterns(bytes: &[u8], out: &mut Vec<PatternID>) -> Result<(), AllocError>
+    requires { IsCode bytes.now }
+    ensures ok { OnOk result (out.new.items ≡ patterns_of bytes.now) }
+{
+    out.clear();
+    for i in 0..pattern_count(bytes) {
+        out.push(pattern_at(bytes, i))?;
+    }
+    Ok(())
+}

@@ -1,0 +1,85 @@
+ghost use Rattle.std.specs.Prelude.{◌≡◌, ◌<◌, ◌≤◌, ◌^◌, [], ◌∷◌, ◌++◌, IfOk, IsTrue, IsFalse, Contains, if◌then◌else◌, ℕ, length};
+ghost use Rattle.automata_base.specs.Lists.{In};
+
+use crate::util::primitives::StateID;
+use std::alloc::{AllocError, Global};
+use std::marker::Model;
+
+// A set of numbers below its capacity, which keeps the order in which they came.
+#[derive(Drop)]
+pub struct SparseSet {
+    len: usize,
+    dense: Vec<StateID>,
+    sparse: Vec<u32>,
+}
+
+impl Model for SparseSet {
+    ghost use Rattle.automata_base.specs.Members.{Members};
+
+    ghost Value = { Members };
+
+    ghost use Rattle.automata_base.specs.Sparse.{members_of, IsSparse};
+
+    ghost view = { members_of };
+
+    ghost invariant = { IsSparse };
+}
+
+impl SparseSet {
+    // An empty set with room for the numbers below `capacity`.
+    pub fn new(alloc: Global, capacity: u32) -> Result<Self, AllocError>
+        ensures empty { IfOk result (λ set. set.items ≡ []) }
+        ensures capacity { IfOk result (λ set. set.capacity ≡ capacity) }
+    {
+        let dense = vec![in alloc; StateID::ZERO; capacity as usize]?;
+        let sparse = vec![in alloc; 0; capacity as usize]?;
+        Ok(SparseSet {
+            len: 0,
+            dense,
+            sparse,
+        })
+    }
+
+    pub fn clear(&mut self)
+        ensures empty { self.new.items ≡ [] }
+        ensures capacity { self.new.capacity ≡ self.old.capacity }
+    {
+        self.len = 0;
+    }
+
+    pub fn as_slice(&self) -> &[StateID]
+        ensures items { result.now ≡ self.now.items }
+        ensures below { (q : ℕ) → In q self.now.items → q < self.now.capacity }
+        ensures few { length self.now.items ≤ self.now.capacity }
+    {
+        &self.dense[..self.len]
+    }
+
+    pub fn contains(&self, id: StateID) -> bool
+        requires { id < self.now.capacity }
+        ensures had { IsTrue result → Contains self.now.items id }
+        ensures new { IsFalse result → Contains self.now.items id → ⊥ }
+    {
+        let i = self.sparse[id.as_usize()] as usize;
+        i < self.len && self.dense[i] == id
+    }
+
+    // Whether the number is new. It then comes last.
+    pub fn insert(&mut self, id: StateID) -> bool
+        requires { id < self.old.capacity }
+        ensures new { IsTrue result → Contains self.old.items id → ⊥ }
+        ensures added { IsTrue result → self.new.items ≡ self.old.items ++ id ∷ [] }
+        ensures had { IsFalse result → Contains self.old.items id }
+        ensures unchanged { IsFalse result → self.new.items ≡ self.old.items }
+        ensures capacity { self.new.capacity ≡ self.old.capacity }
+    {
+        if self.contains(id) {
+            return false;
+        }
+        let i = self.len;
+        self.dense[i] = id;
+        self.sparse[id.as_usize()] = i as u32;
+        self.len = i + 1;
+        true
+    }
+}

@@ -1,0 +1,249 @@
+// Powerset states as coded bytes, shared.
+ghost use Rattle.std.specs.Prelude.{◌≡◌, ◌≤◌, ◌<◌, IfOk, OnOk, IsTrue, ◌↔◌, ◌++◌, length, slice_index, ℕ};
+ghost use Rattle.std.specs.Prelude.{nat_eq};
+ghost use Rattle.std.specs.List.{IsDistinct};
+ghost use Rattle.automata_base.specs.Code.{code, decoded, IsCode};
+ghost use Rattle.automata_base.specs.Powerset.{Powerset, IsPowerset, cost};
+ghost use Rattle.automata_base.specs.Parts.{powerset_of};
+ghost use Rattle.automata_base.specs.Starts.{IsOf};
+
+use crate::nfa::thompson::NFA;
+use crate::util::determinize::ids::{Ids, are_below, read_ids};
+use crate::util::determinize::key::Key;
+use crate::util::determinize::read::{ids_in, pattern_at, pattern_count, read_patterns, u32_at};
+use crate::util::determinize::valid::are_distinct;
+use crate::util::determinize::write::push_state;
+use crate::util::primitives::{PatternID, StateID, see_patterns, see_states};
+use std::alloc::{AllocError, Global};
+use std::hash::{Hash, Hasher};
+use std::marker::Model;
+use std::rc::RcSlice;
+
+/// The six parts of a powerset state.
+#[derive(Debug, Drop)]
+pub struct Parts {
+    pub nfa: Vec<StateID>,
+    pub patterns: Vec<PatternID>,
+    pub known: u32,
+    pub needed: u32,
+    pub word: bool,
+    pub half: bool,
+}
+
+impl Parts {
+    /// Whether no pattern repeats.
+    pub fn is_without_repeats(&self) -> bool
+        ensures { IsTrue result ↔ IsDistinct nat_eq self.now.patterns.items }
+    {
+        are_distinct(&self.patterns)
+    }
+
+    /// Sets the bytes to those of the state. Where there is room it takes no memory.
+    pub fn write(&self, out: &mut Vec<u8>) -> Result<(), AllocError>
+        requires { IsDistinct nat_eq self.now.patterns.items }
+        ensures bytes { OnOk result (out.new.items ≡ code (powerset_of self.now)) }
+        ensures code { OnOk result (IsCode out.new.items) }
+        ensures state { OnOk result (decoded out.new.items ≡ powerset_of self.now) }
+    {
+        see_states(&self.nfa);
+        see_patterns(&self.patterns);
+        out.clear();
+        push_state(
+            out,
+            &self.nfa,
+            &self.patterns,
+            self.known,
+            self.needed,
+            self.word,
+            self.half,
+        )?;
+        Ok(())
+    }
+}
+
+/// A powerset state as coded bytes, shared. Contracts see the state and not its bytes.
+#[derive(Drop)]
+pub struct State {
+    bytes: RcSlice<u8>,
+}
+
+impl Model for State {
+    ghost use Rattle.std.specs.Rc.{rc_slice_items};
+    ghost use Rattle.automata_base.specs.Code.{decoded, IsCode};
+    ghost use Rattle.automata_base.specs.Powerset.{Powerset};
+
+    ghost Value = { Powerset };
+
+    ghost view = { λ s. decoded (rc_slice_items s.bytes) };
+
+    ghost invariant = { λ s. IsCode (rc_slice_items s.bytes) };
+}
+
+impl PartialEq for State {
+    ghost use Rattle.std.specs.Cmp.{partial_equiv_from_equiv, decided};
+    ghost use Rattle.automata_base.specs.Equal.{powerset_eq, powerset_eq-Decides};
+
+    ghost eq = { powerset_eq };
+
+    ghost laws = { partial_equiv_from_equiv (decided powerset_eq powerset_eq-Decides) };
+
+    fn eq(&self, other: &State) -> bool {
+        self.bytes == other.bytes
+    }
+}
+
+impl Eq for State {
+    ghost use Rattle.std.specs.Cmp.{decided};
+    ghost use Rattle.automata_base.specs.Equal.{powerset_eq, powerset_eq-Decides};
+
+    ghost laws = { decided powerset_eq powerset_eq-Decides };
+}
+
+impl Hash for State {
+    ghost use Rattle.std.specs.Hash.{same_Alike};
+    ghost use Rattle.automata_base.specs.Equal.{powerset_hash, powerset_eq-Decides};
+
+    ghost hash_input = { powerset_hash };
+
+    ghost respects_eq = { (same_Alike powerset_hash powerset_eq-Decides).fed };
+
+    fn hash<H: Hasher>(&self, state: &mut H) {
+        state.write(self.bytes.as_slice());
+    }
+}
+
+impl Clone for State {
+    ghost is_clone = { λ a b. b ≡ a };
+
+    fn clone(&self) -> Result<State, AllocError> {
+        let bytes = self.bytes.clone()?;
+        Ok(State { bytes })
+    }
+}
+
+impl State {
+    ghost use Rattle.automata_base.specs.Parts.{powerset_of};
+
+    /// The state of these parts. It is refused for want of memory alone.
+    pub fn encode(alloc: Global, parts: &Parts) -> Result<State, AllocError>
+        requires { IsDistinct nat_eq parts.now.patterns.items }
+        ensures { IfOk result (λ s. s ≡ powerset_of parts.now) }
+    {
+        let mut bytes = Vec::new(alloc);
+        parts.write(&mut bytes)?;
+        let bytes = RcSlice::from_vec(bytes)?;
+        Ok(State { bytes })
+    }
+
+    /// The state of these bytes, as `Parts::write` makes them.
+    pub fn from_bytes(alloc: Global, bytes: &[u8]) -> Result<State, AllocError>
+        requires { IsCode bytes.now }
+        ensures { IfOk result (λ s. s ≡ decoded bytes.now) }
+    {
+        let bytes = RcSlice::from_slice(alloc, bytes)?;
+        Ok(State { bytes })
+    }
+
+    /// A key of a map, which shares the bytes.
+    pub fn key(&self) -> Result<Key, AllocError>
+        ensures { IfOk result (λ key. key ≡ self.now) }
+    {
+        let bytes = self.bytes.clone()?;
+        Ok(Key::shared(bytes))
+    }
+
+    /// The bytes. It takes no memory.
+    pub fn as_bytes(&self) -> &[u8]
+        ensures bytes { result.now ≡ code self.now }
+        ensures state { IsPowerset self.now }
+        ensures cost { length result.now ≤ cost self.now }
+    {
+        self.bytes.as_slice()
+    }
+
+    /// The NFA states, in order. It takes no memory.
+    pub fn nfa(&self) -> Ids<'_>
+        ensures { result ≡ self.now.nfa }
+    {
+        Ids::new(ids_in(self.bytes.as_slice()))
+    }
+
+    /// How many patterns there are.
+    pub fn match_len(&self) -> usize
+        ensures { result ≡ length self.now.patterns }
+    {
+        pattern_count(self.bytes.as_slice())
+    }
+
+    /// The pattern at an index.
+    pub fn match_pattern(&self, index: usize) -> PatternID
+        requires { index < length self.now.patterns }
+        ensures { result ≡ slice_index self.now.patterns index }
+    {
+        pattern_at(self.bytes.as_slice(), index)
+    }
+
+    /// The looks known.
+    pub fn known(&self) -> u32
+        ensures { result ≡ self.now.known }
+    {
+        u32_at(self.bytes.as_slice(), 1)
+    }
+
+    /// The looks needed.
+    pub fn needed(&self) -> u32
+        ensures { result ≡ self.now.needed }
+    {
+        u32_at(self.bytes.as_slice(), 5)
+    }
+
+    /// Whether it is after a word byte.
+    pub fn word(&self) -> bool
+        ensures { result ≡ self.now.word }
+    {
+        self.bytes.as_slice()[0] / 4 % 2 == 1
+    }
+
+    /// Whether it is half way through a CRLF.
+    pub fn half(&self) -> bool
+        ensures { result ≡ self.now.half }
+    {
+        self.bytes.as_slice()[0] / 8 % 2 == 1
+    }
+
+    /// Whether every NFA state is one of the NFA's. It takes no memory.
+    pub fn is_of(&self, nfa: &NFA) -> bool
+        ensures { IsTrue result ↔ IsOf nfa.now self.now }
+    {
+        let len = nfa.states().len();
+        are_below(self.nfa(), len)
+    }
+
+    /// Sets the parts to those of the state. Where the lists have room it takes no memory.
+    pub fn read(&self, parts: &mut Parts) -> Result<(), AllocError>
+        ensures ok { OnOk result (powerset_of parts.new ≡ self.now) }
+    {
+        parts.known = self.known();
+        parts.needed = self.needed();
+        parts.word = self.word();
+        parts.half = self.half();
+        read_patterns(self.bytes.as_slice(), &mut parts.patterns)?;
+        read_ids(self.nfa(), &mut parts.nfa)
+    }
+
+    /// The six parts. It is refused for want of memory alone.
+    pub fn decode(&self, alloc: Global) -> Result<Parts, AllocError>
+        ensures { IfOk result (λ parts. powerset_of parts ≡ self.now) }
+    {
+        let mut parts = Parts {
+            nfa: Vec::new(alloc),
+            patterns: Vec::new(alloc),
+            known: 0,
+            needed: 0,
+            word: false,
+            half: false,
+        };
+        self.read(&mut parts)?;
+        Ok(parts)
+    }
+}

@@ -1,0 +1,27 @@
+// What the parts of a state have to meet.
+ghost use Rattle.std.specs.Prelude.{◌≡◌, IsTrue, ◌↔◌, nat_eq, false};
+ghost use Rattle.std.specs.List.{AllByRecursion, IsDistinct};
+ghost use Rattle.automata_base.specs.Powerset.{IsId};
+
+use crate::util::primitives::PatternID;
+
+/// Whether this is none of them.
+fn is_apart(id: PatternID, ids: &[PatternID]) -> bool
+    ensures { IsTrue result ↔ AllByRecursion (λ other. nat_eq id other ≡ false) ids.now }
+{
+    ids.iter().all(|other| id != *other)
+}
+
+/// Whether none repeats.
+pub fn are_distinct(ids: &[PatternID]) -> bool
+    ensures { IsTrue result ↔ IsDistinct nat_eq ids.now }
+{
+    let mut rest = ids;
+    while let [first, others @ ..] = rest {
+        if !is_apart(*first, others) {
+            return false;
+        }
+        rest = others;
+    }
+    true
+}

@@ -1,0 +1,114 @@
+// The bytes of a state, appended to a vector.
+ghost use Rattle.std.specs.Prelude.{◌≡◌, ◌++◌, ◌<◌, ◌^◌, length, OnOk, IsTrue};
+ghost use Rattle.std.specs.List.{flat_map};
+ghost use Rattle.automata_base.specs.Code.{four_bytes, varint, ids_code, code, difference, is_listed, patterns_code, flags, has_any};
+
+use crate::util::primitives::{PatternID, StateID};
+use std::alloc::AllocError;
+
+/// Appends a number in four bytes, the least first.
+fn push_u32(out: &mut Vec<u8>, n: u32) -> Result<(), AllocError>
+    ensures ok { OnOk result (out.new.items ≡ out.old.items ++ four_bytes n) }
+{
+    out.extend_from_slice(&n.to_le_bytes())
+}
+
+/// Appends numbers, each in four bytes.
+fn push_u32s(out: &mut Vec<u8>, numbers: &[PatternID]) -> Result<(), AllocError>
+    ensures ok { OnOk result (out.new.items ≡ out.old.items ++ flat_map four_bytes numbers.now) }
+{
+    for n in numbers {
+        push_u32(out, n.as_u32())?;
+    }
+    Ok(())
+}
+
+/// Appends a number in groups of seven bits, the least first.
+fn push_number(out: &mut Vec<u8>, n: u64) -> Result<(), AllocError>
+    requires { n < 2 ^ 35 }
+    ensures ok { OnOk result (out.new.items ≡ out.old.items ++ varint n) }
+{
+    let mut rest = n;
+    while rest >= 128 {
+        out.push(128 + (rest % 128) as u8)?;
+        rest /= 128;
+    }
+    out.push(rest as u8)?;
+    Ok(())
+}
+
+/// The difference as a number without a sign.
+fn difference_of(before: u32, id: u32) -> u64
+    ensures value { result ≡ difference before id }
+    ensures bound { result < 2 ^ 35 }
+{
+    if before <= id {
+        2 * u64::from(id - before)
+    } else {
+        2 * u64::from(before - id) - 1
+    }
+}
+
+/// Appends NFA states, each by its difference to the one before.
+fn push_ids(out: &mut Vec<u8>, ids: &[StateID]) -> Result<(), AllocError>
+    ensures ok { OnOk result (out.new.items ≡ out.old.items ++ ids_code 0 ids.now) }
+{
+    let mut before = 0;
+    for id in ids {
+        let id = id.as_u32();
+        push_number(out, difference_of(before, id))?;
+        before = id;
+    }
+    Ok(())
+}
+
+/// Whether there are patterns and they are not the list of pattern 0 alone.
+fn lists(patterns: &[PatternID]) -> bool
+    ensures { result ≡ is_listed patterns.now }
+{
+    match patterns {
+        [] => false,
+        [pattern] => pattern.as_u32() > 0,
+        _ => true,
+    }
+}
+
+/// Appends the patterns, where they are listed.
+fn push_patterns(out: &mut Vec<u8>, patterns: &[PatternID]) -> Result<(), AllocError>
+    requires { length patterns.now < 2 ^ 32 }
+    ensures ok { OnOk result (out.new.items ≡ out.old.items ++ patterns_code patterns.now) }
+{
+    if !lists(patterns) {
+        return Ok(());
+    }
+    push_u32(out, patterns.len() as u32)?;
+    push_u32s(out, patterns)
+}
+
+/// The first byte.
+fn flags_of(patterns: &[PatternID], word: bool, half: bool) -> u8
+    ensures { result ≡ flags (has_any patterns.now) (is_listed patterns.now) word half }
+{
+    let listed = lists(patterns);
+    u8::from(!patterns.is_empty()) + 2 * u8::from(listed) + 4 * u8::from(word) + 8 * u8::from(half)
+}
+
+/// Appends the bytes of a state.
+pub fn push_state(
+    out: &mut Vec<u8>,
+    nfa: &[StateID],
+    patterns: &[PatternID],
+    known: u32,
+    needed: u32,
+    word: bool,
+    half: bool,
+) -> Result<(), AllocError>
+    requires { length patterns.now < 2 ^ 32 }
+    ensures ok { OnOk result (out.new.items ≡ out.old.items ++ code (record { nfa = nfa.now; patterns = patterns.now; known = known; needed = needed; word = word; half = half })) }
+{
+    out.push(flags_of(patterns, word, half))?;
+    push_u32(out, known)?;
+    push_u32(out, needed)?;
+    push_patterns(out, patterns)?;
+    push_ids(out, nfa)
+}

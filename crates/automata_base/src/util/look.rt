@@ -1,0 +1,157 @@
+ghost use Rattle.std.specs.Prelude.{◌≡◌, ◌<◌, ◌||◌, IsTrue, IsFalse, eqb, false, true};
+ghost use Rattle.automata_base.specs.Truths.{truth_of, nth_look, IsLookSet};
+ghost use Rattle.automata_base.specs.Looks.{Look};
+ghost use Rattle.automata_base.specs.Looks.{look_index};
+
+use std::marker::Model;
+
+/// What a place may be asked for.
+#[derive(Clone, Copy, Debug, PartialEq, Eq)]
+pub enum Look {
+    Start,
+    End,
+    StartLF,
+    EndLF,
+    StartCRLF,
+    EndCRLF,
+    WordAscii,
+    WordAsciiNegate,
+    WordUnicode,
+    WordUnicodeNegate,
+    WordStartAscii,
+    WordEndAscii,
+    WordStartUnicode,
+    WordEndUnicode,
+    WordStartHalfAscii,
+    WordEndHalfAscii,
+    WordStartHalfUnicode,
+    WordEndHalfUnicode,
+}
+
+/// A set of looks, bit k being look k.
+#[derive(Clone, Copy, Debug, PartialEq, Eq)]
+pub struct LookSet {
+    bits: u32,
+}
+
+impl Model for LookSet {
+    ghost use Rattle.std.specs.Prelude.{ℕ};
+    ghost use Rattle.automata_base.specs.Truths.{IsLookSet};
+
+    ghost Value = { ℕ };
+
+    ghost view = { λ a. a.bits };
+
+    ghost invariant = { λ a. IsLookSet a.bits };
+
+    ghost inverse = { λ n. record { bits = n } };
+}
+
+impl Look {
+    /// The number of the look, from 0 to 17.
+    pub fn index(self) -> u32
+        ensures number { result ≡ look_index self }
+        ensures below { result < 18 }
+    {
+        match self {
+            Look::Start => 0,
+            Look::End => 1,
+            Look::StartLF => 2,
+            Look::EndLF => 3,
+            Look::StartCRLF => 4,
+            Look::EndCRLF => 5,
+            Look::WordAscii => 6,
+            Look::WordAsciiNegate => 7,
+            Look::WordUnicode => 8,
+            Look::WordUnicodeNegate => 9,
+            Look::WordStartAscii => 10,
+            Look::WordEndAscii => 11,
+            Look::WordStartUnicode => 12,
+            Look::WordEndUnicode => 13,
+            Look::WordStartHalfAscii => 14,
+            Look::WordEndHalfAscii => 15,
+            Look::WordStartHalfUnicode => 16,
+            Look::WordEndHalfUnicode => 17,
+        }
+    }
+
+    /// The look of this number.
+    pub fn from_index(index: u32) -> Look
+        requires { index < 18 }
+        ensures { result ≡ nth_look index }
+    {
+        match index {
+            0 => Look::Start,
+            1 => Look::End,
+            2 => Look::StartLF,
+            3 => Look::EndLF,
+            4 => Look::StartCRLF,
+            5 => Look::EndCRLF,
+            6 => Look::WordAscii,
+            7 => Look::WordAsciiNegate,
+            8 => Look::WordUnicode,
+            9 => Look::WordUnicodeNegate,
+            10 => Look::WordStartAscii,
+            11 => Look::WordEndAscii,
+            12 => Look::WordStartUnicode,
+            13 => Look::WordEndUnicode,
+            14 => Look::WordStartHalfAscii,
+            15 => Look::WordEndHalfAscii,
+            16 => Look::WordStartHalfUnicode,
+            _ => Look::WordEndHalfUnicode,
+        }
+    }
+}
+
+impl LookSet {
+    pub fn empty() -> LookSet
+        ensures { result ≡ 0 }
+    {
+        LookSet { bits: 0 }
+    }
+
+    /// The word looks.
+    pub fn word() -> LookSet
+        ensures { result ≡ 262080 }
+    {
+        LookSet { bits: 262080 }
+    }
+
+    /// The CRLF looks.
+    pub fn crlf() -> LookSet
+        ensures { result ≡ 48 }
+    {
+        LookSet { bits: 48 }
+    }
+
+    /// The set of these bits: those above bit 17 are left out.
+    pub fn from_bits(bits: u32) -> LookSet
+        ensures { (look : Look) → truth_of result look ≡ truth_of bits look }
+    {
+        LookSet {
+            bits: bits & 0x3FFFF,
+        }
+    }
+
+    /// The bits, bit k being look k.
+    pub fn bits(self) -> u32
+        ensures value { result ≡ self }
+        ensures small { IsLookSet result }
+    {
+        self.bits
+    }
+
+    pub fn contains(self, look: Look) -> bool
+        ensures { result ≡ truth_of self look }
+    {
+        self.bits >> look.index() & 1 == 1
+    }
+
+    pub fn insert(self, look: Look) -> LookSet
+        ensures { (other : Look) → truth_of result other ≡ (eqb (look_index other) (look_index look) || truth_of self other) }
+    {
+        LookSet {
+            bits: self.bits | 1 << look.index(),
+        }
+    }
+}

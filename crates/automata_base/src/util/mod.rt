@@ -1,0 +1,9 @@
+//! What automata and their searches share.
+
+pub mod alphabet;
+pub mod determinize;
+pub mod look;
+pub mod pattern_set;
+pub mod primitives;
+pub mod search;
+pub mod start;

@@ -1,0 +1,146 @@
+use crate::util::primitives::PatternID;
+use std::alloc::{AllocError, Global};
+use std::marker::Model;
+use thiserror::Error;
+
+/// A pattern that a set has no place for.
+#[derive(Clone, Copy, Debug, PartialEq, Eq, Error)]
+#[error("failed to insert pattern {} into a set of capacity {capacity}", attempted.as_usize())]
+pub struct PatternSetInsertError {
+    attempted: PatternID,
+    capacity: usize,
+}
+
+/// A set of the patterns below a fixed capacity.
+#[derive(Debug, Drop)]
+pub struct PatternSet {
+    len: usize,
+    which: Vec<bool>,
+}
+
+impl Model for PatternSet {
+    ghost use Rattle.std.specs.Prelude.{List, Bool};
+    ghost use Rattle.automata_base.specs.PatternSet.{IsCounted};
+
+    ghost Value = { List Bool };
+
+    ghost view = { λ s. s.which.items };
+
+    ghost invariant = { λ s. IsCounted s.which.items s.len };
+}
+
+impl PatternSet {
+    ghost use Rattle.std.specs.Prelude.{◌≡◌, ◌<◌, ◌≤◌, ◌↔◌, [], false, true, not, length, IfOk, OnErr, IsErr, IsTrue, replicate, slice_set};
+    ghost use Rattle.automata_base.specs.PatternSet.{has, members, AreSmall};
+
+    /// The empty set.
+    pub fn new(alloc: Global, capacity: usize) -> Result<PatternSet, AllocError>
+        ensures capacity { IfOk result (λ set. set ≡ replicate capacity false) }
+        ensures empty { IfOk result (λ set. members set ≡ []) }
+    {
+        let which = vec![in alloc; false; capacity]?;
+        Ok(PatternSet { len: 0, which })
+    }
+
+    /// Whether the pattern is new. A pattern that isn't below the capacity is refused, and the set stays as it is.
+    pub fn try_insert(&mut self, pattern: PatternID) -> Result<bool, PatternSetInsertError>
+        ensures refused { IsErr result ↔ (length self.old ≤ pattern) }
+        ensures is_new { IfOk result (λ new. new ≡ not (has self.old pattern)) }
+        ensures inserted { self.new ≡ slice_set self.old pattern true }
+        ensures unchanged { OnErr result (self.new ≡ self.old) }
+    {
+        let capacity = self.which.len();
+        let index = pattern.as_usize();
+        if index >= capacity {
+            return Err(PatternSetInsertError {
+                attempted: pattern,
+                capacity,
+            });
+        }
+        if self.which[index] {
+            return Ok(false);
+        }
+        self.len += 1;
+        self.which[index] = true;
+        Ok(true)
+    }
+
+    pub fn contains(&self, pattern: PatternID) -> bool
+        ensures { result ≡ has self.now pattern }
+    {
+        self.which.get(pattern.as_usize()).copied().unwrap_or(false)
+    }
+
+    pub fn is_empty(&self) -> bool
+        ensures { IsTrue result ↔ (members self.now ≡ []) }
+    {
+        self.len == 0
+    }
+
+    pub fn is_full(&self) -> bool
+        ensures { IsTrue result ↔ (length (members self.now) ≡ length self.now) }
+    {
+        self.len == self.capacity()
+    }
+
+    pub fn len(&self) -> usize
+        ensures { result ≡ length (members self.now) }
+    {
+        self.len
+    }
+
+    pub fn capacity(&self) -> usize
+        ensures { result ≡ length self.now }
+    {
+        self.which.len()
+    }
+
+    /// The members in increasing order.
+    pub fn iter(&self) -> PatternSetIter<'_>
+        ensures { result ≡ members self.now }
+    {
+        PatternSetIter {
+            which: self.which.as_slice(),
+            at: 0,
+        }
+    }
+}
+
+/// The members of a set, in increasing order.
+#[derive(Debug, Drop)]
+pub struct PatternSetIter<'a> {
+    which: &'a [bool],
+    at: usize,
+}
+
+impl<'a> Model for PatternSetIter<'a> {
+    ghost use Rattle.std.specs.Prelude.{List, ℕ, drop};
+    ghost use Rattle.automata_base.specs.PatternSet.{members_from, AreSmall};
+
+    ghost Value = { List ℕ };
+
+    ghost view = { λ i. members_from i.at (drop i.at i.which.now) };
+
+    ghost invariant = { λ i. AreSmall i.which.now };
+}
+
+impl<'a> Iterator for PatternSetIter<'a> {
+    ghost use Rattle.std.specs.Iterator.{YieldsFirst, item_count};
+
+    type Item = PatternID;
+
+    ghost next_gives = { YieldsFirst (λ rest. rest) };
+
+    ghost remaining = { item_count (λ rest. rest) };
+
+    fn next(&mut self) -> Option<PatternID> {
+        while self.at < self.which.len() {
+            let at = self.at;
+            self.at += 1;
+            if self.which[at] {
+                return PatternID::new(at);
+            }
+        }
+        None
+    }
+}

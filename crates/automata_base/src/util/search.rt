@@ -1,0 +1,368 @@
+use crate::util::primitives::PatternID;
+use std::fmt;
+use std::marker::Model;
+use std::ops::Range;
+use thiserror::Error;
+
+/// Offsets between the bytes of a haystack, from `start` to `end`.
+#[derive(Clone, Copy, Debug, PartialEq, Eq)]
+pub struct Span {
+    pub start: usize,
+    pub end: usize,
+}
+
+/// A pattern that matches, and the one offset of its match that is known: the end, or of a reverse search the start.
+#[derive(Clone, Copy, Debug, PartialEq, Eq)]
+pub struct HalfMatch {
+    pattern: PatternID,
+    offset: usize,
+}
+
+impl Model for HalfMatch {
+    ghost use Rattle.automata_base.specs.Matches as matches;
+
+    ghost Value = { matches.HalfMatch };
+
+    ghost view = { λ m. record { pattern = m.pattern; offset = m.offset } };
+
+    ghost inverse = { λ v. record { pattern = v.pattern; offset = v.offset } };
+}
+
+impl HalfMatch {
+    ghost use Rattle.std.specs.Prelude.{◌≡◌};
+
+    pub fn new(pattern: PatternID, offset: usize) -> HalfMatch
+        ensures { result ≡ record { pattern = pattern; offset = offset } }
+    {
+        HalfMatch { pattern, offset }
+    }
+
+    pub fn pattern(&self) -> PatternID
+        ensures { result ≡ self.now.pattern }
+    {
+        self.pattern
+    }
+
+    pub fn offset(&self) -> usize
+        ensures { result ≡ self.now.offset }
+    {
+        self.offset
+    }
+}
+
+/// A pattern that matches, and the span of its match.
+#[derive(Clone, Copy, Debug, PartialEq, Eq)]
+pub struct Match {
+    pattern: PatternID,
+    span: Span,
+}
+
+impl Model for Match {
+    ghost use Rattle.std.specs.Prelude.{◌≤◌};
+    ghost use Rattle.automata_base.specs.Matches as matches;
+
+    ghost Value = { matches.Match };
+
+    ghost view = { λ m. record { pattern = m.pattern; start = m.span.start; end = m.span.end } };
+
+    ghost invariant = { λ m. m.span.start ≤ m.span.end };
+
+    ghost inverse = { λ v. record { pattern = v.pattern; span = record { start = v.start; end = v.end } } };
+}
+
+impl Match {
+    ghost use Rattle.std.specs.Prelude.{◌≡◌, ◌≤◌};
+
+    pub fn new(pattern: PatternID, span: Span) -> Match
+        requires { span.start ≤ span.end }
+        ensures { result ≡ record { pattern = pattern; start = span.start; end = span.end } }
+    {
+        Match { pattern, span }
+    }
+
+    pub fn pattern(&self) -> PatternID
+        ensures { result ≡ self.now.pattern }
+    {
+        self.pattern
+    }
+
+    pub fn span(&self) -> Span
+        ensures start { result.start ≡ self.now.start }
+        ensures end { result.end ≡ self.now.end }
+        ensures ordered { result.start ≤ result.end }
+    {
+        self.span
+    }
+
+    pub fn start(&self) -> usize
+        ensures start { result ≡ self.now.start }
+        ensures ordered { self.now.start ≤ self.now.end }
+    {
+        self.span.start
+    }
+
+    pub fn end(&self) -> usize
+        ensures end { result ≡ self.now.end }
+        ensures ordered { self.now.start ≤ self.now.end }
+    {
+        self.span.end
+    }
+}
+
+/// Which matches a search tells: all of them, or those that a backtracking matcher would find first.
+#[derive(Clone, Copy, Debug, PartialEq, Eq)]
+pub enum MatchKind {
+    All,
+    LeftmostFirst,
+}
+
+/// Where a match may begin: anywhere, at the search's start, or there and of one pattern alone.
+#[derive(Clone, Copy, Debug, PartialEq, Eq)]
+pub enum Anchored {
+    No,
+    Yes,
+    Pattern(PatternID),
+}
+
+impl fmt::Display for Anchored {
+    fn fmt<W: fmt::Write>(&self, f: &mut fmt::Formatter<W>) -> fmt::Result {
+        match self {
+            Anchored::No => write!(f, "unanchored searches"),
+            Anchored::Yes => write!(f, "anchored searches"),
+            Anchored::Pattern(pattern) => {
+                let number = pattern.as_usize();
+                write!(f, "anchored searches for a specific pattern ({number})")
+            }
+        }
+    }
+}
+
+/// Why a search has no answer.
+#[derive(Clone, Copy, Debug, PartialEq, Eq, Error)]
+pub enum MatchErrorKind {
+    /// A byte was read, at this offset, at which the search has to stop.
+    #[error("quit search after observing byte {byte:#04X} at offset {offset}")]
+    Quit { byte: u8, offset: usize },
+    /// The search gave up, being too slow.
+    #[error("gave up searching at offset {offset}")]
+    GaveUp { offset: usize },
+    /// The mode of the input can't be searched with.
+    #[error("{mode} are not supported or enabled")]
+    UnsupportedAnchored { mode: Anchored },
+}
+
+/// Why a search has no answer.
+#[derive(Clone, Copy, Debug, PartialEq, Eq, Error)]
+#[error("{kind}")]
+pub struct MatchError {
+    kind: MatchErrorKind,
+}
+
+impl Model for MatchError {
+    ghost use Rattle.automata_base.specs.declared.util.search.MatchErrorKind.{MatchErrorKind};
+
+    ghost Value = { MatchErrorKind };
+
+    ghost view = { λ e. e.kind };
+
+    ghost inverse = { λ v. record { kind = v } };
+}
+
+impl MatchError {
+    ghost use Rattle.std.specs.Prelude.{◌≡◌};
+
+    pub fn quit(byte: u8, offset: usize) -> MatchError
+        ensures { result ≡ MatchErrorKind.Quit byte offset }
+    {
+        MatchError {
+            kind: MatchErrorKind::Quit { byte, offset },
+        }
+    }
+
+    pub fn gave_up(offset: usize) -> MatchError
+        ensures { result ≡ MatchErrorKind.GaveUp offset }
+    {
+        MatchError {
+            kind: MatchErrorKind::GaveUp { offset },
+        }
+    }
+
+    pub fn unsupported_anchored(mode: Anchored) -> MatchError
+        ensures { result ≡ MatchErrorKind.UnsupportedAnchored mode }
+    {
+        MatchError {
+            kind: MatchErrorKind::UnsupportedAnchored { mode },
+        }
+    }
+
+    pub fn kind(&self) -> &MatchErrorKind
+        ensures { result.now ≡ self.now }
+    {
+        &self.kind
+    }
+}
+
+/// What is searched: the haystack, the span of it, the mode, and whether the first match found will do.
+#[derive(Clone, Debug, Drop)]
+pub struct Input<'h> {
+    haystack: &'h [u8],
+    span: Span,
+    anchored: Anchored,
+    earliest: bool,
+}
+
+impl<'h> Model for Input<'h> {
+    ghost use Rattle.automata_base.specs.Input as spec;
+
+    ghost Value = { spec.Input };
+
+    ghost view = { λ i. record { haystack = i.haystack.now; start = i.span.start; end = i.span.end; anchored = i.anchored; earliest = i.earliest } };
+
+    ghost invariant = { λ i. spec.Allows i.haystack.now i.span.start i.span.end };
+}
+
+impl<'h> Input<'h> {
+    ghost use Rattle.std.specs.Prelude.{◌≡◌, ◌<◌, ◌≤◌, ◌^◌, ◌↔◌, IsTrue, length, true, false};
+    ghost use Rattle.automata_base.specs.Input.{Allows, IsAllowed};
+    ghost use Rattle.automata_base.specs.Tapes.{is_split};
+
+    /// The whole haystack, not anchored, and not earliest.
+    pub fn new(haystack: &'h [u8]) -> Input<'h>
+        ensures { result ≡ record { haystack = haystack.now; start = 0; end = length haystack.now; anchored = Anchored.No; earliest = false } }
+    {
+        Input {
+            haystack,
+            span: Span {
+                start: 0,
+                end: haystack.len(),
+            },
+            anchored: Anchored::No,
+            earliest: false,
+        }
+    }
+
+    /// Whether the setters of spans take this one.
+    pub fn allows(&self, start: usize, end: usize) -> bool
+        ensures { IsTrue result ↔ Allows self.now.haystack start end }
+    {
+        end <= self.haystack.len() && start <= end + 1
+    }
+
+    pub fn span(self, span: Span) -> Input<'h>
+        requires { Allows self.haystack span.start span.end }
+        ensures { result ≡ record self.entry { start = span.start; end = span.end } }
+    {
+        Input {
+            haystack: self.haystack,
+            span,
+            anchored: self.anchored,
+            earliest: self.earliest,
+        }
+    }
+
+    pub fn range(self, range: Range<usize>) -> Input<'h>
+        requires { Allows self.haystack range.start range.end }
+        ensures { result ≡ record self.entry { start = range.start; end = range.end } }
+    {
+        self.span(Span {
+            start: range.start,
+            end: range.end,
+        })
+    }
+
+    pub fn anchored(self, mode: Anchored) -> Input<'h>
+        ensures { result ≡ record self.entry { anchored = mode } }
+    {
+        Input {
+            haystack: self.haystack,
+            span: self.span,
+            anchored: mode,
+            earliest: self.earliest,
+        }
+    }
+
+    pub fn earliest(self, yes: bool) -> Input<'h>
+        ensures { result ≡ record self.entry { earliest = yes } }
+    {
+        Input {
+            haystack: self.haystack,
+            span: self.span,
+            anchored: self.anchored,
+            earliest: yes,
+        }
+    }
+
+    pub fn set_start(&mut self, start: usize)
+        requires { Allows self.old.haystack start self.old.end }
+        ensures { self.new ≡ record self.old { start = start } }
+    {
+        self.span.start = start;
+    }
+
+    pub fn set_end(&mut self, end: usize)
+        requires { Allows self.old.haystack self.old.start end }
+        ensures { self.new ≡ record self.old { end = end } }
+    {
+        self.span.end = end;
+    }
+
+    pub fn haystack(&self) -> &'h [u8]
+        ensures bytes { result.now ≡ self.now.haystack }
+        ensures within { IsAllowed self.now }
+        ensures bound { length self.now.haystack < 2 ^ 63 }
+    {
+        self.haystack
+    }
+
+    pub fn start(&self) -> usize
+        ensures start { result ≡ self.now.start }
+        ensures within { IsAllowed self.now }
+    {
+        self.span.start
+    }
+
+    pub fn end(&self) -> usize
+        ensures end { result ≡ self.now.end }
+        ensures within { IsAllowed self.now }
+    {
+        self.span.end
+    }
+
+    pub fn get_span(&self) -> Span
+        ensures start { result.start ≡ self.now.start }
+        ensures end { result.end ≡ self.now.end }
+        ensures within { IsAllowed self.now }
+    {
+        self.span
+    }
+
+    pub fn get_anchored(&self) -> Anchored
+        ensures { result ≡ self.now.anchored }
+    {
+        self.anchored
+    }
+
+    pub fn get_earliest(&self) -> bool
+        ensures { result ≡ self.now.earliest }
+    {
+        self.earliest
+    }
+
+    /// Whether there is nothing left to search, not even the empty string.
+    pub fn is_done(&self) -> bool
+        ensures done { IsTrue result ↔ (self.now.end < self.now.start) }
+        ensures within { IsAllowed self.now }
+    {
+        self.span.start > self.span.end
+    }
+
+    /// Whether no character is split there, in a haystack that is UTF-8.
+    pub fn is_char_boundary(&self, offset: usize) -> bool
+        ensures { IsTrue result ↔ (offset ≤ length self.now.haystack) × (is_split self.now.haystack offset ≡ false) }
+    {
+        match self.haystack.get(offset) {
+            Some(byte) => *byte < 0x80 || *byte > 0xBF,
+            None => offset == self.haystack.len(),
+        }
+    }
+}

@@ -1,0 +1,101 @@
+ghost use Rattle.std.specs.Prelude.{◌≡◌};
+ghost use Rattle.automata_base.specs.Lists.{nth};
+
+use crate::util::search::{Anchored, Input};
+use std::marker::Model;
+
+/// What a start state depends on: the byte behind the search's start, in its direction, and the mode.
+#[derive(Clone, Copy, Debug)]
+pub struct Config {
+    look_behind: Option<u8>,
+    anchored: Anchored,
+}
+
+impl Model for Config {
+    ghost use Rattle.automata_base.specs.StartConfig.{StartConfig};
+
+    ghost Value = { StartConfig };
+
+    ghost view = { λ c. record { look_behind = c.look_behind; anchored = c.anchored } };
+
+    ghost inverse = { λ v. record { look_behind = v.look_behind; anchored = v.anchored } };
+}
+
+impl Config {
+    ghost use Rattle.std.specs.Prelude.{◌≡◌, None};
+    ghost use Rattle.automata_base.specs.Lists.{nth};
+    ghost use Rattle.automata_base.specs.Tapes.{byte_before};
+
+    /// No byte before, and not anchored.
+    pub fn new() -> Config
+        ensures { result ≡ record { look_behind = None; anchored = Anchored.No } }
+    {
+        Config {
+            look_behind: None,
+            anchored: Anchored::No,
+        }
+    }
+
+    /// Of a forward search: the byte before the span, which may stand outside the span.
+    pub fn from_input_forward(input: &Input<'_>) -> Config
+        ensures { result ≡ record { look_behind = byte_before input.now.haystack input.now.start; anchored = input.now.anchored } }
+    {
+        let start = input.start();
+        let look_behind = if start == 0 {
+            None
+        } else {
+            byte_at(input.haystack(), start - 1)
+        };
+        Config {
+            look_behind,
+            anchored: input.get_anchored(),
+        }
+    }
+
+    /// Of a reverse search: the byte at the span's end.
+    pub fn from_input_reverse(input: &Input<'_>) -> Config
+        ensures { result ≡ record { look_behind = nth input.now.haystack input.now.end; anchored = input.now.anchored } }
+    {
+        Config {
+            look_behind: byte_at(input.haystack(), input.end()),
+            anchored: input.get_anchored(),
+        }
+    }
+
+    pub fn look_behind(self, byte: Option<u8>) -> Config
+        ensures { result ≡ record self { look_behind = byte } }
+    {
+        Config {
+            look_behind: byte,
+            ..self
+        }
+    }
+
+    pub fn anchored(self, mode: Anchored) -> Config
+        ensures { result ≡ record self { anchored = mode } }
+    {
+        Config {
+            anchored: mode,
+            ..self
+        }
+    }
+
+    pub fn get_look_behind(&self) -> Option<u8>
+        ensures { result ≡ self.now.look_behind }
+    {
+        self.look_behind
+    }
+
+    pub fn get_anchored(&self) -> Anchored
+        ensures { result ≡ self.now.anchored }
+    {
+        self.anchored
+    }
+}
+
+// The byte of the haystack at an offset, if it has one there.
+fn byte_at(haystack: &[u8], offset: usize) -> Option<u8>
+    ensures { result ≡ nth haystack.now offset }
+{
+    haystack.get(offset).copied()
+}
