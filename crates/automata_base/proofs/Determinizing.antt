@@ -1,3 +1,6 @@
+pub mod Alike
+pub mod AlikeClasses
+pub mod AlikeUnits
 pub mod Bits_of_looks
 pub mod Dense
 pub mod Distinct

@@ -1,0 +1,185 @@
+-- What an automaton doesn't tell apart it steps on alike and starts behind alike; and the dead state stays dead.
+use Rattle.std.proofs.Common.{ℕ, zero, suc, ◌≡◌, Bool, true, false, not, ◌&&◌, ◌||◌, eqb, if◌then◌else◌, List, [], ◌∷◌, length, Option, Some, None, refl, sym, ap, ◌∙◌, subst}
+use Rattle.std.proofs.lemmas.Bool.{eqb-true}
+use Rattle.automata_base.specs.declared.util.search.Anchored.{Anchored}
+use Rattle.automata_base.specs.Alike.{IsAlike, behind_of}
+use Rattle.automata_base.specs.Computed.{first_visits, closure_of, once_past, known_looks, make, arrive, any_look, decide}
+use Rattle.automata_base.specs.Cuts.{MatchKind, All, LeftmostFirst, cut_for, targets}
+use Rattle.automata_base.specs.Lists.{pick}
+use Rattle.automata_base.specs.Looks.{Look, is_word_byte}
+use Rattle.automata_base.specs.Nfa.{Nfa, Truth, accepts}
+use Rattle.automata_base.specs.Nodes.{Automaton, nfa_of}
+use Rattle.automata_base.specs.Passes.{true_looks}
+use Rattle.automata_base.specs.Powerset.{Powerset, dead}
+use Rattle.automata_base.specs.Starts.{mode_start}
+use Rattle.automata_base.specs.Steps.{start_or_dead, start_state_of, successor, NeedsOwnLooks}
+use Rattle.automata_base.specs.Truths.{truth_of, all_looks}
+use Rattle.automata_base.proofs.Determinizing.AlikeUnits.{SeesAlike, arrive_alike, decide_alike}
+use Rattle.automata_base.proofs.Paths.LookSets.{truth_of_none}
+
+sees_bytes : (a : Automaton) (u v : ℕ) → IsAlike a u v → SeesAlike (nfa_of a) (Some u) (Some v)
+sees_bytes a u v s = record {
+  absent = refl;
+  line = s.line;
+  carriage_return = s.carriage_return;
+  line_feed = s.line_feed;
+  word = s.word;
+}
+
+-- The successor on a byte is that on any byte alike.
+pub alike_step :
+    (a : Automaton) (kind : MatchKind) (q : Powerset) (u v : ℕ)
+    → IsAlike a u v → NeedsOwnLooks a q → successor a kind q (Some u) ≡ successor a kind q (Some v)
+unfolding successor
+alike_step a kind q u v s own =
+    ap (λ L. arrive n (once_past [] (pick (accepts n) (cut_for kind n L))) (targets n (Some u) (cut_for kind n L)) (Some u))
+    (decide_alike n q (Some u) (Some v) sees own)
+    ∙ (ap (λ (g : ℕ → Option ℕ). arrive n told (pick g L') (Some u)) (λ i b. s.takes b i)
+    ∙ arrive_alike n told (targets n (Some v) L') (Some u) (Some v) sees)
+  where
+    n : Nfa
+    n = nfa_of a
+
+    sees : SeesAlike (nfa_of a) (Some u) (Some v)
+    sees = sees_bytes a u v s
+
+    L' : List ℕ
+    L' = cut_for kind n (decide n q (Some v))
+
+    told : List ℕ
+    told = once_past [] (pick (accepts n) L')
+
+-- What the kind of a byte behind a start tells of the byte.
+Other : (t u : ℕ) (word : Bool) → Type 0
+Other t u word = (eqb u 10 ≡ false) × (eqb u 13 ≡ false) × (eqb u t ≡ false) × (is_word_byte u ≡ word)
+
+Told : (t u kind : ℕ) → Type 0
+unfolding Other
+Told t u zero = Other t u false
+Told t u (suc zero) = Other t u true
+Told t u (suc (suc zero)) = ⊥
+Told t u (suc (suc (suc zero))) = u ≡ 10
+Told t u (suc (suc (suc (suc zero)))) = u ≡ 13
+Told t u (suc (suc (suc (suc (suc zero))))) = u ≡ t
+Told t u (suc (suc (suc (suc (suc (suc kind)))))) = ⊥
+
+told_of : (t u : ℕ) → Told t u (behind_of t (Some u))
+unfolding Told Other
+told_of t u = go (eqb u 10) refl (eqb u 13) refl (eqb u t) refl (is_word_byte u) refl
+  where
+    go :
+        (a : Bool) → eqb u 10 ≡ a → (b : Bool) → eqb u 13 ≡ b → (c : Bool) → eqb u t ≡ c → (w : Bool) → is_word_byte u ≡ w
+        → Told t u (if a then 3 else (if b then 4 else (if c then 5 else (if w then 1 else 0))))
+    go true e b f c g w h = eqb-true u 10 e
+    go false e true f c g w h = eqb-true u 13 f
+    go false e false f true g w h = eqb-true u t g
+    go false e false f false g true h = (e, f, g, h)
+    go false e false f false g false h = (e, f, g, h)
+
+sees_one : (n : Nfa) (u v : ℕ) → u ≡ v → SeesAlike n (Some u) (Some v)
+sees_one n u v e = record {
+  absent = refl;
+  line = λ h. ap (λ x. eqb x n.terminator) e;
+  carriage_return = λ h. ap (λ x. eqb x 13) e;
+  line_feed = λ h. ap (λ x. eqb x 10) e;
+  word = λ h. ap is_word_byte e;
+}
+
+sees_other : (n : Nfa) (u v : ℕ) (word : Bool) → Other n.terminator u word → Other n.terminator v word → SeesAlike n (Some u) (Some v)
+unfolding Other
+sees_other n u v word a b = record {
+  absent = refl;
+  line = λ h. a.2 ∙ sym b.2;
+  carriage_return = λ h. a.1 ∙ sym b.1;
+  line_feed = λ h. a.0 ∙ sym b.0;
+  word = λ h. a.3 ∙ sym b.3;
+}
+
+sees_told : (n : Nfa) (u v kind : ℕ) → Told n.terminator u kind → Told n.terminator v kind → SeesAlike n (Some u) (Some v)
+unfolding Told
+sees_told n u v zero a b = sees_other n u v false a b
+sees_told n u v (suc zero) a b = sees_other n u v true a b
+sees_told n u v (suc (suc zero)) a b = absurd a
+sees_told n u v (suc (suc (suc zero))) a b = sees_one n u v (a ∙ sym b)
+sees_told n u v (suc (suc (suc (suc zero)))) a b = sees_one n u v (a ∙ sym b)
+sees_told n u v (suc (suc (suc (suc (suc zero))))) a b = sees_one n u v (a ∙ sym b)
+sees_told n u v (suc (suc (suc (suc (suc (suc kind)))))) a b = absurd a
+
+sees_behind : (n : Nfa) (x y : Option ℕ) → behind_of n.terminator x ≡ behind_of n.terminator y → SeesAlike n x y
+unfolding Told
+sees_behind n None None e = record {
+  absent = refl;
+  line = λ h. refl;
+  carriage_return = λ h. refl;
+  line_feed = λ h. refl;
+  word = λ h. refl;
+}
+sees_behind n None (Some v) e = absurd (subst (λ k. Told n.terminator v k) (sym e) (told_of n.terminator v))
+sees_behind n (Some u) None e = absurd (subst (λ k. Told n.terminator u k) e (told_of n.terminator u))
+sees_behind n (Some u) (Some v) e =
+    sees_told n u v (behind_of n.terminator (Some v)) (subst (λ k. Told n.terminator u k) e (told_of n.terminator u)) (told_of n.terminator v)
+
+-- Behind what is of one kind an automaton starts alike.
+pub behind_alike :
+    (a : Automaton) (mode : Anchored) (x y : Option ℕ)
+    → behind_of a.flags.line_terminator x ≡ behind_of a.flags.line_terminator y → start_state_of a mode x ≡ start_state_of a mode y
+unfolding start_state_of
+behind_alike a mode x y e = go (mode_start a mode)
+  where
+    go : (start : Option ℕ) → start_or_dead (nfa_of a) start x ≡ start_or_dead (nfa_of a) start y
+    go None = refl
+    go (Some s) = arrive_alike (nfa_of a) [] (s ∷ []) x y (sees_behind (nfa_of a) x y e)
+
+-- The dead state leads to itself.
+no_roots : (fuel : ℕ) (n : Nfa) (A : Truth) → first_visits fuel n A [] [] ≡ []
+no_roots zero n A = refl
+no_roots (suc fuel) n A = refl
+
+none_any : (f : Look → Bool) (looks : List Look) → ((look : Look) → f look ≡ false) → any_look f looks ≡ false
+none_any f [] e = refl
+none_any f (x ∷ xs) e = ap (λ b. b || any_look f xs) (e x) ∙ none_any f xs e
+
+dead_decides : (n : Nfa) (u : Option ℕ) → decide n dead u ≡ []
+dead_decides n u =
+    ap (λ b. elim b [ true ↦ closure_of n (true_looks n dead u) [] | false ↦ [] ])
+    (none_any (λ look. truth_of 0 look && (true_looks n dead u look && not (truth_of 0 look))) all_looks
+    (λ look. ap (λ b. b && (true_looks n dead u look && not (truth_of 0 look))) (truth_of_none look)))
+
+dead_makes : (n : Nfa) (u : Option ℕ) → arrive n [] [] u ≡ dead
+dead_makes n u = ap (λ C. make n [] C u) (no_roots (length n.nodes) n (known_looks n u))
+
+dead_arrives :
+    (n : Nfa) (kind : MatchKind) (u : Option ℕ)
+    → arrive n (once_past [] (pick (accepts n) (cut_for kind n []))) (targets n u (cut_for kind n [])) u ≡ dead
+dead_arrives n All None = dead_makes n None
+dead_arrives n All (Some u) = dead_makes n (Some u)
+dead_arrives n LeftmostFirst None = dead_makes n None
+dead_arrives n LeftmostFirst (Some u) = dead_makes n (Some u)
+
+pub dead_stays : (a : Automaton) (kind : MatchKind) (u : Option ℕ) → successor a kind dead u ≡ dead
+unfolding successor
+dead_stays a kind u =
+    ap (λ L. arrive n (once_past [] (pick (accepts n) (cut_for kind n L))) (targets n u (cut_for kind n L)) u) (dead_decides n u)
+    ∙ dead_arrives n kind u
+  where
+    n : Nfa
+    n = nfa_of a
+
+-- Rows.
+row_none : behind_of 10 None ≡ 2
+row_none = refl
+
+row_line_feed : behind_of 10 (Some 10) ≡ 3
+row_line_feed = refl
+
+row_carriage_return : behind_of 13 (Some 13) ≡ 4
+row_carriage_return = refl
+
+row_terminator : behind_of 97 (Some 97) ≡ 5
+row_terminator = refl
+
+row_word : behind_of 0 (Some 97) ≡ 1
+row_word = refl
+
+row_other : behind_of 10 (Some 0) ≡ 0
+row_other = refl
