@@ -1,4 +1,5 @@
 pub mod Ids
+pub mod Owned
 pub mod DFAs
 pub mod Machine
 pub mod Table
@@ -6,3 +7,4 @@ pub mod Clears
 pub mod Progressing
 pub mod Bounds
 pub mod Caches
+pub mod Founds

@@ -2,7 +2,9 @@ use Rattle.std.specs.Prelude.{ℕ, zero, suc, ◌+◌, ◌*◌, ◌^◌, ◌/◌
 use Rattle.automata_base.specs.Powerset.{Powerset}
 use Rattle.automata_base.specs.Nodes.{Automaton}
 use Rattle.automata_base.specs.Classes.{class_in, eoi_class, is_quit}
-use Rattle.automata_base.specs.Determinize.{successor, start_state_of, max_cost, IsOf}
+use Rattle.automata_base.specs.Steps.{successor, start_state_of}
+use Rattle.automata_base.specs.Starts.{max_cost}
+use Rattle.automata_hybrid.specs.Owned.{IsOwn}
 use Rattle.automata_base.specs.declared.util.search.MatchKind.{MatchKind}
 use Rattle.automata_base.specs.declared.util.search.Anchored.{Anchored}
 use Rattle.automata_base.specs.declared.util.search.Anchored.TheVariants.{No, Yes, Pattern}
@@ -38,8 +40,8 @@ mode_of zero = No
 mode_of (suc zero) = Yes
 mode_of (suc (suc pattern)) = Pattern pattern
 
--- a byte of each kind that a start looks behind to: other, word byte, none, line feed, carriage return, the terminator
-abbrev pub sample_of : ℕ → ℕ → Option ℕ
+-- something of each kind that a start looks behind to: an other byte, a word byte, none, line feed, carriage return, the terminator
+abbrev pub sample_of : (terminator kind : ℕ) → Option ℕ
 sample_of terminator zero = Some (cond (terminator == 0) 1 0)
 sample_of terminator (suc zero) = Some (cond (terminator == 97) 98 97)
 sample_of terminator (suc (suc zero)) = None
@@ -47,9 +49,9 @@ sample_of terminator (suc (suc (suc zero))) = Some 10
 sample_of terminator (suc (suc (suc (suc zero)))) = Some 13
 sample_of terminator (suc (suc (suc (suc (suc more))))) = Some terminator
 
--- the start state of a slot
+-- the start state of a slot: six for each mode
 unfoldable pub start_of : Machine → ℕ → Powerset
-start_of m slot = start_state_of m.nfa (mode_of (slot / 6)) (sample_of 10 (slot % 6))
+start_of m slot = start_state_of m.nfa (mode_of (slot / 6)) (sample_of m.nfa.flags.line_terminator (slot % 6))
 
 -- the most that a state costs
 abbrev pub greatest : Machine → ℕ
@@ -81,7 +83,7 @@ pub record IsMachine (m : Machine) : Type 0 where
   pub quit : (byte : ℕ) → byte < 256 → is_quit m.quits byte ≡ true → slice_index (template_of m) (class_in m.classes byte) ≡ quit_id m.stride
   pub free : (byte : ℕ) → byte < 256 → is_quit m.quits byte ≡ false → slice_index (template_of m) (class_in m.classes byte) ≡ 2 ^ 31
   pub end_free : slice_index (template_of m) (eoi_class m.classes) ≡ 2 ^ 31
-  pub alike : (byte : ℕ) (q : Powerset) → byte < 256 → IsOf m.nfa q → successor m.nfa m.kind q (Some byte) ≡ next_of m q (class_in m.classes byte)
-  pub end_alike : (q : Powerset) → IsOf m.nfa q → successor m.nfa m.kind q None ≡ next_of m q (eoi_class m.classes)
+  pub alike : (byte : ℕ) (q : Powerset) → byte < 256 → IsOwn m.nfa q → successor m.nfa m.kind q (Some byte) ≡ next_of m q (class_in m.classes byte)
+  pub end_alike : (q : Powerset) → IsOwn m.nfa q → successor m.nfa m.kind q None ≡ next_of m q (eoi_class m.classes)
   pub enough : minimum (greatest m) m.stride m.slots m.fixed ≤ m.capacity
   pub offsets : (m.slots + 4) * m.stride < 2 ^ 27

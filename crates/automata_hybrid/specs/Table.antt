@@ -5,7 +5,8 @@ use Rattle.std.specs.declared.hash.BuildHasherDefault.{BuildHasherDefault}
 use Rattle.automata_base.specs.Powerset.{Powerset, cost}
 use Rattle.automata_base.specs.Equal.{powerset_eq}
 use Rattle.automata_hybrid.specs.declared.dfa.row.Row.{Row}
-use Rattle.automata_base.specs.Determinize.{dead, IsOf}
+use Rattle.automata_base.specs.Powerset.{dead}
+use Rattle.automata_hybrid.specs.Owned.{IsOwn}
 use Rattle.automata_hybrid.specs.Ids.{tags, dead_id, quit_id}
 use Rattle.automata_hybrid.specs.Machine.{Machine, next_of, greatest, template_of, IsTemplate}
 
@@ -77,7 +78,7 @@ abbrev pub IsDistinct : Rows → Type 0
 IsDistinct t = (k : ℕ) (r : Row) → slice_get t.rows k ≡ Some r → Names t (row_id ((k + 3) * t.of.stride) r) r.state
 
 abbrev pub IsAlive : Rows → Type 0
-IsAlive t = (k : ℕ) (r : Row) → slice_get t.rows k ≡ Some r → (r.state ≡ dead → ⊥) × (cost r.state ≤ greatest t.of) × IsOf t.of.nfa r.state
+IsAlive t = (k : ℕ) (r : Row) → slice_get t.rows k ≡ Some r → (r.state ≡ dead → ⊥) × (cost r.state ≤ greatest t.of) × IsOwn t.of.nfa r.state
 
 -- the table, the states and the map fit each other
 pub record IsTable (t : Rows) (map : StateMap) (costs : ℕ) : Type 0 where

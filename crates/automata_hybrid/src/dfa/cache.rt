@@ -1,6 +1,8 @@
 ghost use Rattle.std.specs.Prelude.{ℕ, ◌≡◌, ◌+◌, ◌*◌, ◌^◌, ◌<◌, ◌≤◌, None, Some, IfOk, IfErr, OnOk, OnErr, slice_index, true, false};
 ghost use Rattle.automata_base.specs.Powerset.{Powerset, cost};
-ghost use Rattle.automata_base.specs.Determinize.{successor, IsOf, dead};
+ghost use Rattle.automata_base.specs.Powerset.{dead};
+ghost use Rattle.automata_base.specs.Steps.{successor};
+ghost use Rattle.automata_hybrid.specs.Owned.{IsOwn};
 ghost use Rattle.automata_hybrid.specs.Machine.{Machine, next_of, start_of, greatest, template_of};
 ghost use Rattle.automata_hybrid.specs.Ids.{dead_id};
 ghost use Rattle.automata_hybrid.specs.Table.{id_of, Names, IsValid, Leads, IsCell};
@@ -19,6 +21,15 @@ use automata_base::util::determinize::scratch::Scratch;
 use automata_base::util::determinize::state::State;
 use std::alloc::AllocError;
 use std::marker::Model;
+
+/// What a look-up of a state gives.
+#[derive(Drop)]
+pub(crate) enum Found {
+    /// The ID of its row, or the dead one.
+    Known(LazyStateID),
+    /// The state, which no row has.
+    New(State),
+}
 
 /// The states that a lazy DFA has found, and the room to find more.
 #[derive(Drop)]
@@ -39,6 +50,8 @@ impl Model for Cache {
 }
 
 impl Cache {
+    ghost use Rattle.automata_hybrid.specs.Founds.{IsFound};
+
     /// A cache of a DFA, with no state yet.
     pub fn new(dfa: &DFA) -> Result<Cache, AllocError>
         ensures { IfOk result (λ c. c ≡ fresh_cache dfa.now) }
@@ -67,10 +80,10 @@ impl Cache {
     ) -> Result<Key, AllocError>
         requires of { IsCacheOf self.old dfa.now }
         requires valid { IsValid self.old.store.table id }
-        requires alike { (q : Powerset) → IsOf dfa.now.nfa q → successor dfa.now.nfa dfa.now.kind q unit ≡ next_of dfa.now q class }
+        requires alike { (q : Powerset) → IsOwn dfa.now.nfa q → successor dfa.now.nfa dfa.now.kind q unit ≡ next_of dfa.now q class }
         ensures value { IfOk result (λ k. (q : Powerset) → Names self.old.store.table id q → k ≡ next_of dfa.now q class) }
         ensures cost { IfOk result (λ k. cost k ≤ greatest dfa.now) }
-        ensures is_of { IfOk result (λ k. IsOf dfa.now.nfa k) }
+        ensures is_of { IfOk result (λ k. IsOwn dfa.now.nfa k) }
         ensures counted { self.new ≡ counted self.old }
     {
         let from = self.store.state(id);
@@ -78,14 +91,22 @@ impl Cache {
         Ok(key)
     }
 
-    /// The state of a key, whose room is used again.
-    pub(crate) fn shared(&mut self, dfa: &DFA, key: Key) -> Result<State, AllocError>
-        ensures value { IfOk result (λ s. s ≡ key) }
+    /// What the cache has for the state of a key, or the state itself, to be added. The key's room is used again.
+    pub(crate) fn resolve(&mut self, dfa: &DFA, key: Key) -> Result<Found, AllocError>
+        ensures found { IfOk result (IsFound self.old.store.table key) }
         ensures same { self.new ≡ self.old }
     {
-        let state = key.to_state(dfa.alloc());
+        if let Some(id) = self.store.get(&key) {
+            self.scratch.recycle(key);
+            return Ok(Found::Known(id));
+        }
+        let made = key.to_state(dfa.alloc());
         self.scratch.recycle(key);
-        state
+        let state = made?;
+        if row::is_dead(&state) {
+            return Ok(Found::Known(self.store.dead()));
+        }
+        Ok(Found::New(state))
     }
 
     /// The cell of a row at a class, which may not be known yet.
@@ -98,26 +119,6 @@ impl Cache {
         ensures stride { self.now.store.table.of.stride ≤ 512 }
     {
         self.store.cell(id, class)
-    }
-
-    /// The ID of a state, where the cache has it.
-    pub(crate) fn get(&self, key: &Key) -> Option<LazyStateID>
-        ensures { result ≡ id_of self.now.store.table key.now }
-    {
-        self.store.get(key)
-    }
-
-    pub(crate) fn dead(&self) -> LazyStateID
-        ensures { result ≡ dead_id self.now.store.table.of.stride }
-    {
-        self.store.dead()
-    }
-
-    /// Uses the room of a key again.
-    pub(crate) fn recycle(&mut self, key: Key)
-        ensures { self.new ≡ self.old }
-    {
-        self.scratch.recycle(key);
     }
 
     /// Writes a transition.
@@ -143,7 +144,7 @@ impl Cache {
         requires absent { id_of self.old.store.table state ≡ None }
         requires alive { state ≡ dead → ⊥ }
         requires cost { cost state ≤ greatest dfa.now }
-        requires of { IsOf dfa.now.nfa state }
+        requires of { IsOwn dfa.now.nfa state }
         ensures effect { OnOk result (IsAdded self.old.store from (record { state = state; started = false }) self.new.store) }
         ensures starts { OnOk result (KeepsStarts self.old.store.starts self.new.store.starts) }
         ensures from { IfOk result (λ p. (q : Powerset) → Names self.old.store.table from q → Names self.new.store.table p.0 q) }

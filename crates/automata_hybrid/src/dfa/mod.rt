@@ -1,7 +1,8 @@
 ghost use Rattle.std.specs.Prelude.{◌≡◌, ◌<◌, ◌^◌, IfOk, Some, None, true, false, slice_index};
 ghost use Rattle.automata_base.specs.Powerset.{Powerset};
 ghost use Rattle.automata_base.specs.Classes.{class_in, eoi_class, is_quit};
-ghost use Rattle.automata_base.specs.Determinize.{successor, IsOf};
+ghost use Rattle.automata_base.specs.Steps.{successor};
+ghost use Rattle.automata_hybrid.specs.Owned.{IsOwn};
 ghost use Rattle.automata_hybrid.specs.Ids.{quit_id};
 ghost use Rattle.automata_hybrid.specs.Machine.{next_of, template_of};
 ghost use Rattle.automata_hybrid.specs.Bounds.{fresh_store, settings_of};
@@ -79,7 +80,7 @@ impl DFA {
         ensures below { result < self.now.stride }
         ensures quit { is_quit self.now.quits byte ≡ true → slice_index (template_of self.now) result ≡ quit_id self.now.stride }
         ensures free { is_quit self.now.quits byte ≡ false → slice_index (template_of self.now) result ≡ 2 ^ 31 }
-        ensures alike { (q : Powerset) → IsOf self.now.nfa q → successor self.now.nfa self.now.kind q (Some byte) ≡ next_of self.now q result }
+        ensures alike { (q : Powerset) → IsOwn self.now.nfa q → successor self.now.nfa self.now.kind q (Some byte) ≡ next_of self.now q result }
     {
         usize::from(self.classes.get(byte))
     }
@@ -89,9 +90,9 @@ impl DFA {
         ensures value { result ≡ eoi_class self.now.classes }
         ensures below { result < self.now.stride }
         ensures free { slice_index (template_of self.now) result ≡ 2 ^ 31 }
-        ensures alike { (q : Powerset) → IsOf self.now.nfa q → successor self.now.nfa self.now.kind q None ≡ next_of self.now q result }
+        ensures alike { (q : Powerset) → IsOwn self.now.nfa q → successor self.now.nfa self.now.kind q None ≡ next_of self.now q result }
     {
-        self.classes.alphabet_len() - 1
+        self.classes.eoi()
     }
 
     /// The fixed rows alone.

@@ -1,14 +1,14 @@
 ghost use Rattle.std.specs.Prelude.{ℕ, ◌≡◌, ◌+◌, ◌*◌, ◌^◌, ◌<◌, ◌≤◌, None, Some, IfOk, IfErr, OnOk, OnErr, length, slice_index, Ok, true};
 ghost use Rattle.automata_base.specs.Powerset.{Powerset, cost};
-ghost use Rattle.automata_base.specs.Determinize.{successor, IsOf};
+ghost use Rattle.automata_base.specs.Steps.{successor};
+ghost use Rattle.automata_hybrid.specs.Owned.{IsOwn};
 ghost use Rattle.automata_hybrid.specs.Machine.{next_of, start_of, template_of};
 ghost use Rattle.automata_hybrid.specs.Table.{id_of, Names, IsValid, Leads};
 ghost use Rattle.automata_hybrid.specs.Bounds.{Fits, refuses_to_clear, IsCacheError, IsKnownTransition, cell_of, IsNext, KeepsStarts, IsComputed};
 ghost use Rattle.automata_hybrid.specs.Caches.{IsCacheOf, counted};
 
 use crate::dfa::DFA;
-use crate::dfa::cache::Cache;
-use crate::dfa::row;
+use crate::dfa::cache::{Cache, Found};
 use crate::errors::StepError;
 use crate::id::LazyStateID;
 
@@ -24,7 +24,7 @@ impl Cache {
         requires of { IsCacheOf self.old dfa.now }
         requires valid { IsValid self.old.store.table id }
         requires class { class < dfa.now.stride }
-        requires alike { (q : Powerset) → IsOf dfa.now.nfa q → successor dfa.now.nfa dfa.now.kind q unit ≡ next_of dfa.now q class }
+        requires alike { (q : Powerset) → IsOwn dfa.now.nfa q → successor dfa.now.nfa dfa.now.kind q unit ≡ next_of dfa.now q class }
         ensures of { IsCacheOf self.new dfa.now }
         ensures known { IsKnownTransition self.old.store id class → result ≡ Ok (cell_of self.old.store id class) }
         ensures unchanged { IsKnownTransition self.old.store id class → self.new ≡ self.old }
@@ -56,7 +56,7 @@ impl Cache {
         requires valid { IsValid self.old.store.table id }
         requires class { class < dfa.now.stride }
         requires free { slice_index (template_of dfa.now) class ≡ 2 ^ 31 }
-        requires alike { (q : Powerset) → IsOf dfa.now.nfa q → successor dfa.now.nfa dfa.now.kind q unit ≡ next_of dfa.now q class }
+        requires alike { (q : Powerset) → IsOwn dfa.now.nfa q → successor dfa.now.nfa dfa.now.kind q unit ≡ next_of dfa.now q class }
         ensures of { IsCacheOf self.new dfa.now }
         ensures named { IfOk result (λ n. (q : Powerset) → Names self.old.store.table id q → Leads self.new.store.table n (next_of dfa.now q class)) }
         ensures effect { IfOk result (λ n. (q : Powerset) → Names self.old.store.table id q → IsComputed self.old.store id class q self.new.store n) }
@@ -66,19 +66,16 @@ impl Cache {
         ensures err { OnErr result (self.new ≡ counted self.old) }
     {
         let key = self.determinise(dfa, id, class, unit)?;
-        if let Some(found) = self.get(&key) {
-            self.recycle(key);
-            self.set_next(id, class, found);
-            return Ok(found);
+        match self.resolve(dfa, key)? {
+            Found::Known(to) => {
+                self.set_next(id, class, to);
+                Ok(to)
+            }
+            Found::New(state) => {
+                let (from, to) = self.add_next(dfa, id, state)?;
+                self.set_next(from, class, to);
+                Ok(to)
+            }
         }
-        let state = self.shared(dfa, key)?;
-        if row::is_dead(&state) {
-            let dead = self.dead();
-            self.set_next(id, class, dead);
-            return Ok(dead);
-        }
-        let (from, to) = self.add_next(dfa, id, state)?;
-        self.set_next(from, class, to);
-        Ok(to)
     }
 }

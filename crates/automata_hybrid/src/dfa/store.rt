@@ -1,6 +1,7 @@
 ghost use Rattle.std.specs.Prelude.{ℕ, ◌≡◌, ◌+◌, ◌-◌, ◌*◌, ◌/◌, ◌%◌, ◌^◌, ◌<◌, ◌≤◌, ◌↔◌, None, Some, IfOk, OnOk, OnErr, length, slice_index, slice_get, sum_by, IsTrue, IfErr, is_ok, is_some, IsSome, true, false};
 ghost use Rattle.automata_base.specs.Powerset.{Powerset, cost};
-ghost use Rattle.automata_base.specs.Determinize.{dead, IsOf};
+ghost use Rattle.automata_base.specs.Powerset.{dead};
+ghost use Rattle.automata_hybrid.specs.Owned.{IsOwn};
 ghost use Rattle.automata_hybrid.specs.Ids.{dead_id};
 ghost use Rattle.automata_hybrid.specs.Machine.{next_of, start_of, greatest, template_of, IsTemplate, minimum};
 ghost use Rattle.automata_hybrid.specs.Table.{id_of, Names, IsValid, with_row, with_cell, Leads, MayLead, IsCell};
@@ -243,7 +244,7 @@ impl Store {
     pub fn state(&self, id: LazyStateID) -> &State
         requires { IsValid self.now.table id }
         ensures named { (q : Powerset) → Names self.now.table id q → result.now ≡ q }
-        ensures of { IsOf self.now.table.of.nfa result.now }
+        ensures of { IsOwn self.now.table.of.nfa result.now }
     {
         self.table.state(id)
     }
@@ -262,7 +263,7 @@ impl Store {
         requires absent { id_of self.old.table state ≡ None }
         requires alive { state ≡ dead → ⊥ }
         requires cost { cost state ≤ greatest self.old.table.of }
-        requires of { IsOf self.old.table.of.nfa state }
+        requires of { IsOwn self.old.table.of.nfa state }
         requires fits { Fits self.old (cost state) }
         ensures ok { OnOk result (self.new ≡ grown self.old (record { state = state; started = started })) }
         ensures named { IfOk result (λ id. Names self.new.table id state) }
@@ -305,7 +306,7 @@ impl Store {
         requires absent { id_of self.old.table state ≡ None }
         requires alive { state ≡ dead → ⊥ }
         requires cost { cost state ≤ greatest self.old.table.of }
-        requires of { IsOf self.old.table.of.nfa state }
+        requires of { IsOwn self.old.table.of.nfa state }
         ensures fits { Fits self.old (cost state) → OnOk result (self.new ≡ grown self.old (record { state = state; started = false })) }
         ensures clears { (Fits self.old (cost state) → ⊥) → OnOk result (self.new ≡ grown (cleared_saving self.old from) (record { state = state; started = false })) }
         ensures effect { OnOk result (IsAdded self.old from (record { state = state; started = false }) self.new) }
@@ -344,7 +345,7 @@ impl Store {
         requires absent { id_of self.old.table state ≡ None }
         requires alive { state ≡ dead → ⊥ }
         requires cost { cost state ≤ greatest self.old.table.of }
-        requires of { IsOf self.old.table.of.nfa state }
+        requires of { IsOwn self.old.table.of.nfa state }
         ensures fits { Fits self.old (cost state) → OnOk result (self.new ≡ grown self.old (record { state = state; started = started })) }
         ensures clears { (Fits self.old (cost state) → ⊥) → OnOk result (self.new ≡ grown (cleared self.old) (record { state = state; started = started })) }
         ensures named { IfOk result (λ id. Names self.new.table id state) }

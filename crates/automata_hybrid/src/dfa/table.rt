@@ -1,7 +1,8 @@
 ghost use Rattle.std.specs.Prelude.{ℕ, List, ◌≡◌, ◌+◌, ◌-◌, ◌*◌, ◌/◌, ◌%◌, ◌^◌, ◌<◌, ◌≤◌, ◌⊎◌, None, Some, IfOk, OnOk, OnErr, length, slice_index, slice_set, slice_get, sum_by, [], ◌++◌, ◌∷◌, false, cond};
 ghost use Rattle.automata_base.specs.Powerset.{Powerset, cost};
 ghost use Rattle.automata_base.specs.Classes.{eoi_class};
-ghost use Rattle.automata_base.specs.Determinize.{dead, IsOf};
+ghost use Rattle.automata_base.specs.Powerset.{dead};
+ghost use Rattle.automata_hybrid.specs.Owned.{IsOwn};
 ghost use Rattle.automata_hybrid.specs.Ids.{dead_id, quit_id};
 ghost use Rattle.automata_hybrid.specs.Machine.{next_of, greatest, template_of, IsTemplate, marked};
 ghost use Rattle.automata_hybrid.specs.Table.{id_of, with_row, fresh, Names, Leads, row_id, row_cost, IsValid, HasState, IsCell, cell_at, with_cell};
@@ -75,7 +76,7 @@ impl Table {
     pub fn state(&self, id: LazyStateID) -> &State
         requires { IsValid self.now id }
         ensures named { (q : Powerset) → Names self.now id q → result.now ≡ q }
-        ensures of { IsOf self.now.of.nfa result.now }
+        ensures of { IsOwn self.now.of.nfa result.now }
     {
         let index = self.row_index(id);
         let row = &self.rows[index];
@@ -93,7 +94,7 @@ impl Table {
         requires absent { id_of self.old state ≡ None }
         requires alive { state ≡ dead → ⊥ }
         requires cost { cost state ≤ greatest self.old.of }
-        requires of { IsOf self.old.of.nfa state }
+        requires of { IsOwn self.old.of.nfa state }
         requires fits { length self.old.cells < 2 ^ 27 }
         requires costs { sum_by row_cost self.old.rows + cost state < 2 ^ 64 }
         ensures ok { OnOk result (self.new ≡ with_row self.old (record { state = state; started = started })) }
@@ -193,7 +194,7 @@ impl Table {
         ensures alive { IfOk result (λ r. r.state ≡ dead → ⊥) }
         ensures had { IfOk result (λ r. id_of self.now r.state ≡ None → ⊥) }
         ensures cost { IfOk result (λ r. cost r.state ≤ greatest self.now.of) }
-        ensures of { IfOk result (λ r. IsOf self.now.of.nfa r.state) }
+        ensures of { IfOk result (λ r. IsOwn self.now.of.nfa r.state) }
     {
         let row = &self.rows[row];
         let state = row.state.clone()?;

@@ -1,5 +1,5 @@
 use Rattle.std.proofs.Common.{◌≡◌, ◌∙◌, ap, sym, subst, ℕ, List, None}
-use Rattle.automata_base.specs.Determinize.{IsOf}
+use Rattle.automata_hybrid.specs.Owned.{IsOwn}
 use Rattle.automata_hybrid.specs.Machine.{Machine}
 use Rattle.automata_hybrid.specs.Table.{Names, id_of}
 use Rattle.automata_hybrid.specs.Bounds.{Stored, KeepsStarts}
@@ -13,7 +13,7 @@ pub add_row-requires-2-clause-cost : goal.add_row-requires-2-clause-cost
 add_row-requires-2-clause-cost c = rw (c.in_ok-from.ensures.of, c.in_ok-fresh.ensures.of) c.requires.cost
 
 pub add_row-requires-2-clause-of : goal.add_row-requires-2-clause-of
-add_row-requires-2-clause-of c = subst (λ (m : Machine). IsOf m.nfa c.args.state) (sym (c.in_ok-from.ensures.of ∙ c.in_ok-fresh.ensures.of)) c.requires.of
+add_row-requires-2-clause-of c = subst (λ (m : Machine). IsOwn m.nfa c.args.state) (sym (c.in_ok-from.ensures.of ∙ c.in_ok-fresh.ensures.of)) c.requires.of
 
 pub add_row-requires-2-clause-absent : goal.add_row-requires-2-clause-absent
 add_row-requires-2-clause-absent c =
