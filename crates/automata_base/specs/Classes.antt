@@ -3,7 +3,7 @@ use Rattle.std.specs.Prelude.{ℕ, zero, suc, ◌≡◌, ◌+◌, ◌-◌, ◌<�
 use Rattle.automata_base.specs.declared.nfa.thompson.State.{State}
 use Rattle.automata_base.specs.declared.nfa.thompson.State.TheVariants as is
 use Rattle.automata_base.specs.declared.nfa.thompson.Transition.{Transition}
-use Rattle.automata_base.specs.Looks.{Look, Start, End, StartLF, EndLF, StartCRLF, EndCRLF}
+use Rattle.automata_base.specs.Looks.{Look, differ, Start, End, StartLF, EndLF, StartCRLF, EndCRLF}
 use Rattle.automata_base.specs.Nodes.{Automaton}
 
 -- Whether a byte is in the quit set.
@@ -21,10 +21,6 @@ transitions_bound (t ∷ ts) byte = bounds t.lo t.hi byte || transitions_bound t
 -- A run of bytes with one target begins or ends before the byte.
 abbrev pub targets_bound : List ℕ → ℕ → Bool
 targets_bound targets byte = not (eqb (slice_index targets byte) (slice_index targets (byte - 1)))
-
-abbrev pub differ : Bool → Bool → Bool
-differ true b = not b
-differ false b = b
 
 -- A run of quit bytes begins or ends before the byte.
 abbrev pub quits_bound : List Bool → ℕ → Bool

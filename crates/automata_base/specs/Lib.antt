@@ -1,3 +1,4 @@
+pub mod Accounting
 pub mod Alike
 pub mod Answers
 pub mod Automata
@@ -35,8 +36,10 @@ pub mod Sparse
 pub mod StartConfig
 pub mod StartIsRight
 pub mod Starts
+pub mod StepLaws
 pub mod Steps
 pub mod Tapes
+pub mod Telling
 pub mod TruePairs
 pub mod Truths
 pub mod Visits

@@ -25,7 +25,3 @@ IsStartOf a mode prev Q = IsStartAt (nfa_of a) (mode_start a mode) prev Q
 -- Every NFA state of the powerset state is one of the NFA's.
 abbrev pub IsOf : Automaton → Powerset → Type 0
 IsOf a q = (s : ℕ) → In s q.nfa → s < length a.states
-
--- The greatest cost of a powerset state.
-abbrev pub max_cost : Automaton → ℕ
-max_cost a = 13 + 4 * length a.start_pattern + 5 * length a.states

@@ -1,6 +1,7 @@
 //! The laws that searches stand on. Each function does nothing: its contract is the law.
 ghost use Rattle.automata_base.specs.LateIsRight.{SearchesAreRight, WalksAreRight, NearestEndsAreRight, EndsAreRight, PairsAreRight};
 ghost use Rattle.automata_base.specs.StartIsRight.{StartsAreRight, SpansAreFound, SpansAreOne, AnswersAreOne, IterationsAreRight, IterationsAreOne, EndsRise, FoundEndsRise, MatchIffFound, BackMeetsNone};
+ghost use Rattle.automata_base.specs.StepLaws.{ClassesStepAlike, ClassesQuitAlike, StartsAreAlike, DeadStaysDead, PassesSelect, PassesFindNearest, PassesFindFarthest};
 
 /// Late is right: the list walk whose matches come one unit late, and whose looks are decided when the next unit is
 /// known, tells what the ordered paths select.
@@ -24,4 +25,20 @@ pub fn start_is_right()
     ensures found_rise { FoundEndsRise }
     ensures matches { MatchIffFound }
     ensures quits { BackMeetsNone }
+{}
+
+/// What a powerset automaton does not tell apart, so that one transition serves a class of bytes, and one start all
+/// bytes of a kind.
+pub fn steps_are_alike()
+    ensures classes { ClassesStepAlike }
+    ensures quits { ClassesQuitAlike }
+    ensures starts { StartsAreAlike }
+    ensures dead { DeadStaysDead }
+{}
+
+/// What a pass tells, unit by unit, is what the ordered paths through the tape select.
+pub fn passes_tell_paths()
+    ensures selects { PassesSelect }
+    ensures nearest { PassesFindNearest }
+    ensures farthest { PassesFindFarthest }
 {}

@@ -6,7 +6,8 @@ use Rattle.automata_base.specs.declared.nfa.thompson.State.{State}
 use Rattle.automata_base.specs.declared.nfa.thompson.State.TheVariants as is
 use Rattle.automata_base.specs.declared.nfa.thompson.Transition.{Transition}
 use Rattle.automata_base.specs.Alike.{is_line_look, IsAlike}
-use Rattle.automata_base.specs.Classes.{is_quit, differ, bounds, transitions_bound, targets_bound, quits_bound, look_bounds, state_bounds, states_bound, is_boundary, boundary_count, class_of}
+use Rattle.automata_base.specs.Classes.{is_quit, bounds, transitions_bound, targets_bound, quits_bound, look_bounds, state_bounds, states_bound, is_boundary, boundary_count, class_of}
+use Rattle.automata_base.specs.Looks.{differ}
 use Rattle.automata_base.specs.Computed.{any_node, looks_at}
 use Rattle.automata_base.specs.Lists.{nth}
 use Rattle.automata_base.specs.Cuts.{MatchKind}

@@ -3,7 +3,8 @@ ghost use Rattle.std.specs.Prelude.{◌≡◌, ◌+◌, ◌≤◌, IfOk};
 ghost use Rattle.automata_base.specs.Nodes.{nfa_of};
 ghost use Rattle.automata_base.specs.Passes.{IsSuccessor};
 ghost use Rattle.automata_base.specs.Powerset.{cost};
-ghost use Rattle.automata_base.specs.Starts.{IsOf, IsStartOf, max_cost};
+ghost use Rattle.automata_base.specs.Starts.{IsOf, IsStartOf};
+ghost use Rattle.automata_base.specs.Accounting.{max_cost};
 ghost use Rattle.automata_base.specs.Steps.{start_state_of, successor};
 
 pub(crate) mod closure;

@@ -5,7 +5,8 @@ ghost use Rattle.automata_base.specs.Once.{Distinct};
 ghost use Rattle.automata_base.specs.Parts.{powerset_of};
 ghost use Rattle.automata_base.specs.Passes.{IsSuccessor};
 ghost use Rattle.automata_base.specs.Powerset.{cost};
-ghost use Rattle.automata_base.specs.Starts.{IsOf, IsStartOf, max_cost};
+ghost use Rattle.automata_base.specs.Starts.{IsOf, IsStartOf};
+ghost use Rattle.automata_base.specs.Accounting.{max_cost};
 ghost use Rattle.automata_base.specs.Steps.{start_state_of, successor, NeedsOwnLooks};
 
 use crate::nfa::thompson::NFA;

@@ -1,0 +1,79 @@
+-- What a pass tells is what the ordered paths select.
+use Rattle.std.proofs.Common.{ℕ, zero, suc, ◌≡◌, ◌<◌, ◌≤◌, Bool, true, false, List, [], ◌∷◌, length, Option, Some, None, refl, sym, ap, ap₂, ◌∙◌, subst}
+use Rattle.std.specs.Prelude.{slice_get}
+use Rattle.automata_base.specs.Computed.{IsInRange, pass_of, told_of, last_of, first_of, search_of, pair_at, earlier_or}
+use Rattle.automata_base.specs.Cuts.{MatchKind, All}
+use Rattle.automata_base.specs.Engines.{Anchored, No, Yes, Pattern}
+use Rattle.automata_base.specs.Nodes.{Automaton, nfa_of, nodes_of}
+use Rattle.automata_base.specs.Paths.{Tape, next, IsLookAcyclic}
+use Rattle.automata_base.specs.Passes.{IsTape}
+use Rattle.automata_base.specs.Powerset.{Powerset, dead}
+use Rattle.automata_base.specs.Selections.{Pair, Selects, IsNearest, IsFarthest}
+use Rattle.automata_base.specs.Starts.{mode_start}
+use Rattle.automata_base.specs.Steps.{start_or_dead, start_state_of, successor}
+use Rattle.automata_base.specs.Telling.{state_after, told_at, last_told, first_told, told_by}
+use Rattle.automata_base.proofs.Paths.Finals.{search_right, earliest_right, end_right}
+
+-- from a mode that has a start the states are those of the pass
+after_is :
+    (a : Automaton) (kind : MatchKind) (mode : Anchored) (t : Tape) (start k : ℕ)
+    → mode_start a mode ≡ Some start → state_after a kind mode t k ≡ pass_of (nfa_of a) kind start t k
+unfolding state_after start_state_of successor
+after_is a kind mode t start zero e = ap (λ o. start_or_dead (nfa_of a) o t.before) e
+after_is a kind mode t start (suc k) e =
+    ap (λ Q. successor a kind Q (next t k)) (after_is a kind mode t start k e)
+
+told_is :
+    (a : Automaton) (kind : MatchKind) (mode : Anchored) (t : Tape) (start i : ℕ)
+    → mode_start a mode ≡ Some start → told_at a kind mode t i ≡ told_of (nfa_of a) kind start t i
+told_is a kind mode t start i e = ap (λ (Q : Powerset). Q.patterns) (after_is a kind mode t start (suc i) e)
+
+last_is :
+    (a : Automaton) (kind : MatchKind) (mode : Anchored) (t : Tape) (start k : ℕ)
+    → mode_start a mode ≡ Some start → last_told a kind mode t k ≡ last_of (nfa_of a) kind start t k
+unfolding last_told
+last_is a kind mode t start zero e = refl
+last_is a kind mode t start (suc i) e =
+    ap₂ (λ ps o. pair_at ps i o) (told_is a kind mode t start i e) (last_is a kind mode t start i e)
+
+first_is :
+    (a : Automaton) (kind : MatchKind) (mode : Anchored) (t : Tape) (start k : ℕ)
+    → mode_start a mode ≡ Some start → first_told a kind mode t k ≡ first_of (nfa_of a) kind start t k
+unfolding first_told
+first_is a kind mode t start zero e = refl
+first_is a kind mode t start (suc i) e =
+    ap₂ (λ o ps. earlier_or o (pair_at ps i None)) (first_is a kind mode t start i e) (told_is a kind mode t start i e)
+
+-- what a pass tells is what the computed search tells
+pub told_by_is :
+    (kind : MatchKind) (earliest : Bool) (a : Automaton) (mode : Anchored) (t : Tape) (start : ℕ)
+    → mode_start a mode ≡ Some start → told_by kind earliest a mode t ≡ search_of kind earliest (nfa_of a) t start
+told_by_is kind true a mode t start e = first_is a kind mode t start (suc (length t.bytes)) e
+told_by_is kind false a mode t start e = last_is a kind mode t start (suc (length t.bytes)) e
+
+-- and so, for look-acyclic automata, what the ordered paths select
+pub told_selects :
+    (kind : MatchKind) (earliest : Bool) (a : Automaton) (mode : Anchored) (t : Tape) (start : ℕ)
+    → mode_start a mode ≡ Some start → IsInRange (nfa_of a) → start < length (nodes_of a.states)
+    → IsLookAcyclic (nfa_of a) → IsTape t → Selects kind earliest (nfa_of a) t start (told_by kind earliest a mode t)
+told_selects kind earliest a mode t start e range below free tape =
+    subst (Selects kind earliest (nfa_of a) t start) (sym (told_by_is kind earliest a mode t start e))
+    (search_right kind earliest (nfa_of a) t start range below free tape)
+
+-- for every automaton the nearest end
+pub told_nearest :
+    (kind : MatchKind) (a : Automaton) (mode : Anchored) (t : Tape) (start : ℕ)
+    → mode_start a mode ≡ Some start → IsInRange (nfa_of a) → start < length (nodes_of a.states) → IsTape t
+    → IsNearest (nfa_of a) t start (told_by kind true a mode t)
+told_nearest kind a mode t start e range below tape =
+    subst (IsNearest (nfa_of a) t start) (sym (told_by_is kind true a mode t start e))
+    (earliest_right kind (nfa_of a) t start range below tape)
+
+-- for every automaton, under kind all the farthest end
+pub told_farthest :
+    (a : Automaton) (mode : Anchored) (t : Tape) (start : ℕ)
+    → mode_start a mode ≡ Some start → IsInRange (nfa_of a) → start < length (nodes_of a.states) → IsTape t
+    → IsFarthest (nfa_of a) t start (told_by All false a mode t)
+told_farthest a mode t start e range below tape =
+    subst (IsFarthest (nfa_of a) t start) (sym (told_by_is All false a mode t start e))
+    (end_right (nfa_of a) t start range below tape)

@@ -1,0 +1,60 @@
+-- What every powerset automaton does alike, and what its passes tell: statements of laws.
+use Rattle.std.specs.Prelude.{ℕ, ◌≡◌, ◌<◌, Bool, true, false, List, length, Option, Some}
+use Rattle.automata_base.specs.Alike.{behind_of}
+use Rattle.automata_base.specs.Classes.{class_of, is_quit}
+use Rattle.automata_base.specs.Computed.{IsInRange}
+use Rattle.automata_base.specs.Cuts.{MatchKind, All}
+use Rattle.automata_base.specs.Engines.{Anchored}
+use Rattle.automata_base.specs.Nodes.{Automaton, nfa_of, nodes_of}
+use Rattle.automata_base.specs.Paths.{Tape, IsLookAcyclic}
+use Rattle.automata_base.specs.Passes.{IsTape}
+use Rattle.automata_base.specs.Powerset.{Powerset, dead}
+use Rattle.automata_base.specs.Selections.{Selects, IsNearest, IsFarthest}
+use Rattle.automata_base.specs.Starts.{mode_start}
+use Rattle.automata_base.specs.Steps.{start_state_of, successor, NeedsOwnLooks}
+use Rattle.automata_base.specs.Telling.{told_by}
+
+-- bytes of one class lead a powerset state to one successor
+abbrev pub ClassesStepAlike : Type 0
+ClassesStepAlike =
+    (a : Automaton) (quits : List Bool) (on : Bool) (kind : MatchKind) (q : Powerset) (u v : ℕ)
+    → class_of a quits on u ≡ class_of a quits on v → NeedsOwnLooks a q
+    → successor a kind q (Some u) ≡ successor a kind q (Some v)
+
+-- bytes of one class are both quit bytes, or neither is
+abbrev pub ClassesQuitAlike : Type 0
+ClassesQuitAlike =
+    (a : Automaton) (quits : List Bool) (on : Bool) (u v : ℕ)
+    → class_of a quits on u ≡ class_of a quits on v → is_quit quits u ≡ is_quit quits v
+
+-- behind bytes of one kind a mode has one start
+abbrev pub StartsAreAlike : Type 0
+StartsAreAlike =
+    (a : Automaton) (mode : Anchored) (x y : Option ℕ)
+    → behind_of a.flags.line_terminator x ≡ behind_of a.flags.line_terminator y
+    → start_state_of a mode x ≡ start_state_of a mode y
+
+-- the dead state leads to itself
+abbrev pub DeadStaysDead : Type 0
+DeadStaysDead = (a : Automaton) (kind : MatchKind) (unit : Option ℕ) → successor a kind dead unit ≡ dead
+
+-- a pass over a look-acyclic automaton tells what the ordered paths select
+abbrev pub PassesSelect : Type 0
+PassesSelect =
+    (kind : MatchKind) (earliest : Bool) (a : Automaton) (mode : Anchored) (t : Tape) (start : ℕ)
+    → mode_start a mode ≡ Some start → IsInRange (nfa_of a) → start < length (nodes_of a.states)
+    → IsLookAcyclic (nfa_of a) → IsTape t → Selects kind earliest (nfa_of a) t start (told_by kind earliest a mode t)
+
+-- an earliest pass over any automaton tells the nearest end
+abbrev pub PassesFindNearest : Type 0
+PassesFindNearest =
+    (kind : MatchKind) (a : Automaton) (mode : Anchored) (t : Tape) (start : ℕ)
+    → mode_start a mode ≡ Some start → IsInRange (nfa_of a) → start < length (nodes_of a.states) → IsTape t
+    → IsNearest (nfa_of a) t start (told_by kind true a mode t)
+
+-- under kind all a pass over any automaton tells the farthest end
+abbrev pub PassesFindFarthest : Type 0
+PassesFindFarthest =
+    (a : Automaton) (mode : Anchored) (t : Tape) (start : ℕ)
+    → mode_start a mode ≡ Some start → IsInRange (nfa_of a) → start < length (nodes_of a.states) → IsTape t
+    → IsFarthest (nfa_of a) t start (told_by All false a mode t)

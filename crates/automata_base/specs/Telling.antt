@@ -1,0 +1,34 @@
+-- What a pass over a tape tells: the search of a powerset automaton, unit by unit, as functions.
+use Rattle.std.specs.Prelude.{ℕ, zero, suc, Bool, true, false, List, length, Option, Some, None}
+use Rattle.automata_base.specs.Computed.{pair_at, earlier_or}
+use Rattle.automata_base.specs.Cuts.{MatchKind}
+use Rattle.automata_base.specs.Engines.{Anchored}
+use Rattle.automata_base.specs.Nodes.{Automaton}
+use Rattle.automata_base.specs.Paths.{Tape, next}
+use Rattle.automata_base.specs.Powerset.{Powerset}
+use Rattle.automata_base.specs.Selections.{Pair}
+use Rattle.automata_base.specs.Steps.{start_state_of, successor}
+
+-- the powerset state after the first `k` units of the tape
+unfoldable pub state_after : Automaton → MatchKind → Anchored → Tape → ℕ → Powerset
+state_after a kind mode t zero = start_state_of a mode t.before
+state_after a kind mode t (suc k) = successor a kind (state_after a kind mode t k) (next t k)
+
+-- the patterns of the state that the unit at place `i` gave: matches are told one unit late
+abbrev pub told_at : Automaton → MatchKind → Anchored → Tape → ℕ → List ℕ
+told_at a kind mode t i = (state_after a kind mode t (suc i)).patterns
+
+-- the first pattern of the last state with patterns, and its place, among what the first `k` units tell
+unfoldable pub last_told : Automaton → MatchKind → Anchored → Tape → ℕ → Option Pair
+last_told a kind mode t zero = None
+last_told a kind mode t (suc i) = pair_at (told_at a kind mode t i) i (last_told a kind mode t i)
+
+-- the same of the first state with patterns
+unfoldable pub first_told : Automaton → MatchKind → Anchored → Tape → ℕ → Option Pair
+first_told a kind mode t zero = None
+first_told a kind mode t (suc i) = earlier_or (first_told a kind mode t i) (pair_at (told_at a kind mode t i) i None)
+
+-- what a search tells of its pass: an earliest one the first match, any other the last one
+abbrev pub told_by : MatchKind → (earliest : Bool) → Automaton → Anchored → Tape → Option Pair
+told_by kind true a mode t = first_told a kind mode t (suc (length t.bytes))
+told_by kind false a mode t = last_told a kind mode t (suc (length t.bytes))
