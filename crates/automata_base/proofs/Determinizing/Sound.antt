@@ -13,9 +13,9 @@ pub sound :
     (d : Data) → length d.states.items ≤ 134217728 → length d.start_pattern.items ≤ 134217728
     → ltb d.start_anchored (length d.states.items) ≡ true → ltb d.start_unanchored (length d.states.items) ≡ true
     → all_below (length d.states.items) d.start_pattern.items ≡ true → states_below (length d.states.items) d.states.items ≡ true
-    → matches_below (length d.start_pattern.items) d.states.items ≡ true → IsLooks (automaton_of d) d.looks → d.room ≡ stack_room d.states.items
+    → matches_below (length d.start_pattern.items) d.states.items ≡ true → IsLooks (automaton_of d) d.looks → d.room ≡ stack_room d.states.items → d.room ≤ 2147483649
     → IsSound d
-sound d small few a u s r m l e =
+sound d small few a u s r m l e b =
     record {
       door = record {
         small = small;
@@ -28,4 +28,5 @@ sound d small few a u s r m l e =
       };
       looks = l;
       room = e;
+      few = b;
     }

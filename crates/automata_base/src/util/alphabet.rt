@@ -34,6 +34,10 @@ impl ByteClasses {
 
     /// The classes of an automaton's bytes, for these quit bytes. Where `on` is false each byte is its own class.
     pub fn of(nfa: &NFA, quits: &[bool; 256], on: bool) -> ByteClasses
+        ensures quits { (u v : ℕ)
+            → u < 256 → v < 256 → class_in result u ≡ class_in result v
+            → is_quit quits.now u ≡ is_quit quits.now v }
+        ensures off { on ≡ false → (byte : ℕ) → byte < 256 → class_in result byte ≡ byte }
         ensures same { (byte : ℕ) → byte < 256 → class_in result byte ≡ class_of nfa.now quits.now on byte }
     {
         ByteClasses {

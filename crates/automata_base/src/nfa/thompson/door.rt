@@ -208,6 +208,7 @@ fn less_one(n: usize) -> usize
 /// The number E, where the unions have at most 2^31 alternates in all.
 pub fn room_of(states: &[State]) -> Option<usize>
     ensures some { (room : ℕ) → result ≡ Some room → room ≡ stack_room states.now }
+    ensures bound { (room : ℕ) → result ≡ Some room → room ≤ 2147483649 }
     ensures few { (room : ℕ) → result ≡ Some room → sum_by alternates_of states.now ≤ 2147483648 }
 {
     let mut total: usize = 0;

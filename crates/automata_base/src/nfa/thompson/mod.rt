@@ -120,7 +120,7 @@ impl Clone for NFA {
 }
 
 impl NFA {
-    ghost use Rattle.std.specs.Prelude.{◌≡◌, ◌<◌, length, slice_index_or};
+    ghost use Rattle.std.specs.Prelude.{◌≡◌, ◌<◌, ◌≤◌, length, slice_index_or};
     ghost use Rattle.std.specs.Prelude.{ℕ, Some, IfOk, true};
     ghost use Rattle.automata_base.specs.Refusals.{states_ordered};
     ghost use Rattle.automata_base.specs.Nodes.{stack_room};
@@ -243,7 +243,8 @@ impl NFA {
 
     /// The number E of places that a stack needs.
     pub fn room(&self) -> usize
-        ensures { result ≡ stack_room self.now.states }
+        ensures number { result ≡ stack_room self.now.states }
+        ensures few { result ≤ 2147483649 }
     {
         self.data.room
     }

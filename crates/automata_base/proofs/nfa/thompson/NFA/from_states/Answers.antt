@@ -30,4 +30,5 @@ invariant_of-result c =
     (ap (λ z. states_below z c.args.states.items) (sym n) ∙ (ap (states_below c.len-n.result) (sym c.as_slice-in-Some-2.ensures.value) ∙ (sym c.are_below.ensures ∙ c.if-not-are_below.false)))
     (ap (λ z. matches_below z c.args.states.items) (sym p) ∙ (ap (matches_below c.len-patterns.result) (sym c.as_slice-in-Some-4.ensures.value) ∙ (sym c.are_matches_below.ensures ∙ c.if-not-are_matches_below.false)))
     (λ look. c.looks_of-looks.ensures look ∙ ap (λ z. any_node (λ other. eqb (look_index other) (look_index look)) (nodes_of z)) c.as_slice-in-Some-5.ensures.value)
-    (c.room_of.ensures.some c.in-Some.room c.in-Some.is ∙ ap stack_room c.as_slice.ensures.value))
+    (c.room_of.ensures.some c.in-Some.room c.in-Some.is ∙ ap stack_room c.as_slice.ensures.value)
+    (c.room_of.ensures.bound c.in-Some.room c.in-Some.is))

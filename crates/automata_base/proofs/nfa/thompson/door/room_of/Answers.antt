@@ -31,3 +31,10 @@ returns-clause-few c = λ room e.
     let p : c.loop-i.total ≡ sum_by alternates_of (take c.loop-i.i c.args.states.now) = c.loop-i.invariant.0 in
     let r : c.loop-i.total ≤ 2147483648 = c.loop-i.invariant.2 in
     omega arith
+
+pub returns-clause-bound : goal.returns-clause-bound
+returns-clause-bound c = λ room e.
+    let same = some_same c.loop-i.room room e in
+    let r : c.loop-i.total ≤ 2147483648 = c.loop-i.invariant.2 in
+    let s : c.loop-i.room ≤ 1 + c.loop-i.total = c.loop-i.invariant.3 in
+    omega (arith, same)

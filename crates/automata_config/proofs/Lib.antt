@@ -1,0 +1,2 @@
+pub mod NonAscii
+pub mod Refusing

@@ -1,0 +1,85 @@
+-- What contracts see of a configuration: each option as it was set, if it was; and what each stands for.
+use Rattle.std.specs.Prelude.{ℕ, Bool, true, false, not, ◌&&◌, nat_le, List, Option, Some, None, unwrap_or, replicate}
+use Rattle.std.specs.Option.{option_or}
+use Rattle.automata_base.specs.declared.util.search.MatchKind.{MatchKind}
+use Rattle.automata_base.specs.declared.util.search.MatchKind.TheVariants.{LeftmostFirst}
+
+pub record Options : Type 0 where
+  pub match_kind : Option MatchKind
+  pub starts_for_each_pattern : Option Bool
+  pub byte_classes : Option Bool
+  pub unicode_word_boundary : Option Bool
+  pub quits : Option (List Bool)
+  pub specialize_start_states : Option Bool
+  pub cache_capacity : Option ℕ
+  pub skip_cache_capacity_check : Option Bool
+  pub minimum_cache_clear_count : Option (Option ℕ)
+  pub minimum_bytes_per_state : Option (Option ℕ)
+
+-- No option is set.
+abbrev pub unset : Options
+unset = record {
+  match_kind = None;
+  starts_for_each_pattern = None;
+  byte_classes = None;
+  unicode_word_boundary = None;
+  quits = None;
+  specialize_start_states = None;
+  cache_capacity = None;
+  skip_cache_capacity_check = None;
+  minimum_cache_clear_count = None;
+  minimum_bytes_per_state = None;
+}
+
+-- Option by option, what is set in the newer one, and else what the older one has.
+abbrev pub overwritten : (old new : Options) → Options
+overwritten old new = record {
+  match_kind = option_or new.match_kind old.match_kind;
+  starts_for_each_pattern = option_or new.starts_for_each_pattern old.starts_for_each_pattern;
+  byte_classes = option_or new.byte_classes old.byte_classes;
+  unicode_word_boundary = option_or new.unicode_word_boundary old.unicode_word_boundary;
+  quits = option_or new.quits old.quits;
+  specialize_start_states = option_or new.specialize_start_states old.specialize_start_states;
+  cache_capacity = option_or new.cache_capacity old.cache_capacity;
+  skip_cache_capacity_check = option_or new.skip_cache_capacity_check old.skip_cache_capacity_check;
+  minimum_cache_clear_count = option_or new.minimum_cache_clear_count old.minimum_cache_clear_count;
+  minimum_bytes_per_state = option_or new.minimum_bytes_per_state old.minimum_bytes_per_state;
+}
+
+abbrev pub match_kind_of : Options → MatchKind
+match_kind_of o = unwrap_or o.match_kind LeftmostFirst
+
+abbrev pub starts_for_each_pattern_of : Options → Bool
+starts_for_each_pattern_of o = unwrap_or o.starts_for_each_pattern false
+
+abbrev pub byte_classes_of : Options → Bool
+byte_classes_of o = unwrap_or o.byte_classes true
+
+abbrev pub unicode_word_boundary_of : Options → Bool
+unicode_word_boundary_of o = unwrap_or o.unicode_word_boundary false
+
+unfoldable pub no_quits : List Bool
+no_quits = replicate 256 false
+
+-- For each byte whether it is in the quit set that was configured.
+abbrev pub quits_of : Options → List Bool
+quits_of o = unwrap_or o.quits no_quits
+
+abbrev pub specialize_start_states_of : Options → Bool
+specialize_start_states_of o = unwrap_or o.specialize_start_states false
+
+abbrev pub cache_capacity_of : Options → ℕ
+cache_capacity_of o = unwrap_or o.cache_capacity 2097152
+
+abbrev pub skip_cache_capacity_check_of : Options → Bool
+skip_cache_capacity_check_of o = unwrap_or o.skip_cache_capacity_check false
+
+abbrev pub minimum_cache_clear_count_of : Options → Option ℕ
+minimum_cache_clear_count_of o = unwrap_or o.minimum_cache_clear_count None
+
+abbrev pub minimum_bytes_per_state_of : Options → Option ℕ
+minimum_bytes_per_state_of o = unwrap_or o.minimum_bytes_per_state None
+
+-- Under the heuristic for Unicode word boundaries no byte from 0x80 on may be taken out of the quit set.
+abbrev pub allows_quit : Options → (byte : ℕ) → (set : Bool) → Bool
+allows_quit o byte set = not (unicode_word_boundary_of o && nat_le 128 byte && not set)

@@ -1,0 +1,73 @@
+-- What a configuration makes of an automaton: a quit set, classes, a capacity; or a refusal.
+use Rattle.std.specs.Prelude.{ℕ, ◌≡◌, ◌+◌, ◌*◌, ◌<◌, ◌≤◌, Bool, true, false, not, ◌&&◌, ◌||◌, nat_le, nat_lt, eqb, if◌then◌else◌, List, [], ◌∷◌, map, Option, Some, None}
+use Rattle.std.specs.List.{list_all, list_any, range_with_len}
+use Rattle.automata_base.specs.Accounting.{start_slots, max_cost, fixed_cost, minimum_capacity, effective_capacity}
+use Rattle.automata_base.specs.Classes.{is_quit, class_of, class_in, stride_for}
+use Rattle.automata_base.specs.Computed.{any_node}
+use Rattle.automata_base.specs.Looks.{look_index}
+use Rattle.automata_base.specs.Nodes.{Automaton, nfa_of}
+use Rattle.automata_base.specs.declared.util.look.Look.{Look}
+use Rattle.automata_base.specs.declared.util.look.Look.TheVariants.{WordUnicode, WordUnicodeNegate, WordStartUnicode, WordEndUnicode, WordStartHalfUnicode, WordEndHalfUnicode}
+use Rattle.automata_config.specs.Options.{Options, starts_for_each_pattern_of, byte_classes_of, unicode_word_boundary_of, quits_of, cache_capacity_of, skip_cache_capacity_check_of}
+use Rattle.automata_config.specs.Settled.{Settled}
+use Rattle.automata_config.specs.declared.error.BuildError.{BuildError}
+use Rattle.automata_config.specs.declared.error.BuildError.TheVariants.{Unsupported, InsufficientCacheCapacity, InsufficientStateIDCapacity}
+
+-- Whether the look is a state of the automaton.
+abbrev pub occurs : Automaton → Look → Bool
+occurs a look = any_node (λ other. eqb (look_index other) (look_index look)) (nfa_of a).nodes
+
+abbrev pub unicode_word_looks : List Look
+unicode_word_looks =
+    WordUnicode ∷ WordUnicodeNegate ∷ WordStartUnicode ∷ WordEndUnicode ∷ WordStartHalfUnicode ∷ WordEndHalfUnicode ∷ []
+
+unfoldable pub has_unicode_word : Automaton → Bool
+has_unicode_word a = list_any (occurs a) unicode_word_looks
+
+-- Whether each of the `count` bytes from `first` on is in the quit set.
+unfoldable pub are_quits : (quits : List Bool) → (first count : ℕ) → Bool
+are_quits quits first count = list_all (is_quit quits) (range_with_len first count)
+
+abbrev pub holds_non_ascii : (quits : List Bool) → Bool
+holds_non_ascii quits = are_quits quits 128 128
+
+-- A Unicode word boundary is decided on ASCII text alone: either the heuristic stops at other bytes, or the quit set does.
+abbrev pub is_unsupported : Options → Automaton → Bool
+is_unsupported o a = has_unicode_word a && not (unicode_word_boundary_of o || holds_non_ascii (quits_of o))
+
+-- The quit set of a DFA: what was configured, and the bytes from 0x80 on where the heuristic needs them.
+unfoldable pub settled_quits : Options → Automaton → List Bool
+settled_quits o a =
+    map (λ byte. is_quit (quits_of o) byte || (has_unicode_word a && unicode_word_boundary_of o && nat_le 128 byte))
+    (range_with_len 0 256)
+
+-- The stride of a DFA: the least power of two that is at least the number of its classes.
+abbrev pub settled_stride : Options → Automaton → ℕ
+settled_stride o a = stride_for (class_of a (settled_quits o a) (byte_classes_of o) 255 + 2)
+
+abbrev pub settled_slots : Options → Automaton → ℕ
+settled_slots o a = start_slots a (starts_for_each_pattern_of o)
+
+unfoldable pub settled_minimum : Options → Automaton → ℕ
+settled_minimum o a = minimum_capacity (settled_stride o a) (settled_slots o a) (max_cost a) (fixed_cost a)
+
+-- The greatest offset of a row that the minimum has room for.
+unfoldable pub greatest_offset : Options → Automaton → ℕ
+greatest_offset o a = (4 + settled_slots o a) * settled_stride o a
+
+abbrev pub is_too_small : Options → Automaton → Bool
+is_too_small o a = not (skip_cache_capacity_check_of o) && nat_lt (cache_capacity_of o) (settled_minimum o a)
+
+-- Why no DFA is built of the automaton, if none is.
+abbrev pub refusal : Options → Automaton → Option BuildError
+refusal o a =
+    if is_unsupported o a then Some Unsupported
+    else (if is_too_small o a then Some (InsufficientCacheCapacity (settled_minimum o a) (cache_capacity_of o))
+    else (if nat_lt 134217727 (greatest_offset o a) then Some (InsufficientStateIDCapacity (greatest_offset o a))
+    else None))
+
+pub record IsSettled (o : Options) (a : Automaton) (s : Settled) : Type 0 where
+  pub quits : s.quits ≡ settled_quits o a
+  pub classes : (byte : ℕ) → byte < 256 → class_in s.classes byte ≡ class_of a s.quits (byte_classes_of o) byte
+  pub capacity : s.capacity ≡ effective_capacity (cache_capacity_of o) (settled_minimum o a)
+  pub offsets : greatest_offset o a ≤ 134217727

@@ -1,0 +1,453 @@
+ghost use Rattle.std.specs.Prelude.{◌≡◌, ◌<◌, ◌||◌, ℕ, length, nat_le};
+ghost use Rattle.automata_base.specs.Classes.{is_quit};
+ghost use Rattle.automata_base.specs.Truths.{truth_of};
+ghost use Rattle.std.specs.List.{list_any};
+ghost use Rattle.automata_config.specs.Settling.{has_unicode_word, holds_non_ascii};
+
+use crate::accounting::{fixed_cost, greatest_offset, max_cost, minimum_capacity, start_slots};
+use crate::error::BuildError;
+use automata_base::nfa::thompson::NFA;
+use automata_base::util::alphabet::ByteClasses;
+use automata_base::util::look::{Look, LookSet};
+use automata_base::util::search::MatchKind;
+use std::marker::Model;
+
+/// The options of a lazy DFA. What isn't set has its default.
+#[derive(Clone, Copy, Debug, Default)]
+pub struct Config {
+    match_kind: Option<MatchKind>,
+    starts_for_each_pattern: Option<bool>,
+    byte_classes: Option<bool>,
+    unicode_word_boundary: Option<bool>,
+    quits: Option<[bool; 256]>,
+    specialize_start_states: Option<bool>,
+    cache_capacity: Option<usize>,
+    skip_cache_capacity_check: Option<bool>,
+    minimum_cache_clear_count: Option<Option<usize>>,
+    minimum_bytes_per_state: Option<Option<usize>>,
+}
+
+impl Model for Config {
+    ghost use Rattle.automata_config.specs.Options.{Options};
+
+    ghost Value = { Options };
+
+    ghost view = { λ c. record {
+      match_kind = c.match_kind;
+      starts_for_each_pattern = c.starts_for_each_pattern;
+      byte_classes = c.byte_classes;
+      unicode_word_boundary = c.unicode_word_boundary;
+      quits = c.quits;
+      specialize_start_states = c.specialize_start_states;
+      cache_capacity = c.cache_capacity;
+      skip_cache_capacity_check = c.skip_cache_capacity_check;
+      minimum_cache_clear_count = c.minimum_cache_clear_count;
+      minimum_bytes_per_state = c.minimum_bytes_per_state;
+    } };
+
+    ghost inverse = { λ o. record {
+      match_kind = o.match_kind;
+      starts_for_each_pattern = o.starts_for_each_pattern;
+      byte_classes = o.byte_classes;
+      unicode_word_boundary = o.unicode_word_boundary;
+      quits = o.quits;
+      specialize_start_states = o.specialize_start_states;
+      cache_capacity = o.cache_capacity;
+      skip_cache_capacity_check = o.skip_cache_capacity_check;
+      minimum_cache_clear_count = o.minimum_cache_clear_count;
+      minimum_bytes_per_state = o.minimum_bytes_per_state;
+    } };
+}
+
+impl Config {
+    ghost use Rattle.std.specs.Prelude.{◌≡◌, ◌≤◌, ◌&&◌, not, nat_lt, length, Some, None, if◌then◌else◌, IfOk, IsTrue, slice_set};
+    ghost use Rattle.std.specs.Result.{result_err};
+    ghost use Rattle.automata_config.specs.Settling.{settled_minimum, settled_stride, settled_quits, greatest_offset, is_unsupported, refusal, IsSettled};
+    ghost use Rattle.automata_base.specs.Classes.{is_quit};
+    ghost use Rattle.automata_config.specs.Options.{unset, overwritten};
+    ghost use Rattle.automata_config.specs.Options as options;
+
+    /// No option is set.
+    pub fn new() -> Config
+        ensures { result ≡ unset }
+    {
+        Config::default()
+    }
+
+    /// Which matches a search tells.
+    pub fn match_kind(self, kind: MatchKind) -> Config
+        ensures { result ≡ record self { match_kind = Some kind } }
+    {
+        Config {
+            match_kind: Some(kind),
+            ..self
+        }
+    }
+
+    /// Whether each pattern has start states of its own, so that it can be searched for alone.
+    pub fn starts_for_each_pattern(self, yes: bool) -> Config
+        ensures { result ≡ record self { starts_for_each_pattern = Some yes } }
+    {
+        Config {
+            starts_for_each_pattern: Some(yes),
+            ..self
+        }
+    }
+
+    /// Whether bytes that lead alike share a class. Without, each byte is a class of its own.
+    pub fn byte_classes(self, yes: bool) -> Config
+        ensures { result ≡ record self { byte_classes = Some yes } }
+    {
+        Config {
+            byte_classes: Some(yes),
+            ..self
+        }
+    }
+
+    /// Whether Unicode word boundaries are tried, the bytes from 0x80 on being quit bytes where one occurs.
+    pub fn unicode_word_boundary(self, yes: bool) -> Config
+        ensures { result ≡ record self { unicode_word_boundary = Some yes } }
+    {
+        Config {
+            unicode_word_boundary: Some(yes),
+            ..self
+        }
+    }
+
+    /// Whether `quit` takes this byte.
+    pub fn allows_quit(&self, byte: u8, yes: bool) -> bool
+        ensures { result ≡ options.allows_quit self.now byte yes }
+    {
+        !(self.get_unicode_word_boundary() && byte >= 0x80 && !yes)
+    }
+
+    /// Puts a byte into the set of bytes at which a search quits, or takes it out.
+    pub fn quit(self, byte: u8, yes: bool) -> Config
+        requires { IsTrue (options.allows_quit self byte yes) }
+        ensures { result ≡ record self { quits = Some (slice_set (options.quits_of self) byte yes) } }
+    {
+        let mut quits = self.quit_set();
+        quits[usize::from(byte)] = yes;
+        Config {
+            quits: Some(quits),
+            ..self
+        }
+    }
+
+    /// Whether the IDs of start states are tagged.
+    pub fn specialize_start_states(self, yes: bool) -> Config
+        ensures { result ≡ record self { specialize_start_states = Some yes } }
+    {
+        Config {
+            specialize_start_states: Some(yes),
+            ..self
+        }
+    }
+
+    /// How many accounted bytes a cache may have.
+    pub fn cache_capacity(self, bytes: usize) -> Config
+        ensures { result ≡ record self { cache_capacity = Some bytes } }
+    {
+        Config {
+            cache_capacity: Some(bytes),
+            ..self
+        }
+    }
+
+    /// Whether the minimum is taken in place of a capacity below it, which is refused otherwise.
+    pub fn skip_cache_capacity_check(self, yes: bool) -> Config
+        ensures { result ≡ record self { skip_cache_capacity_check = Some yes } }
+    {
+        Config {
+            skip_cache_capacity_check: Some(yes),
+            ..self
+        }
+    }
+
+    /// After how many clears a search may give up.
+    pub fn minimum_cache_clear_count(self, min: Option<usize>) -> Config
+        ensures { result ≡ record self { minimum_cache_clear_count = Some min } }
+    {
+        Config {
+            minimum_cache_clear_count: Some(min),
+            ..self
+        }
+    }
+
+    /// How many bytes searched for each state keep a search from giving up.
+    pub fn minimum_bytes_per_state(self, min: Option<usize>) -> Config
+        ensures { result ≡ record self { minimum_bytes_per_state = Some min } }
+    {
+        Config {
+            minimum_bytes_per_state: Some(min),
+            ..self
+        }
+    }
+
+    pub fn get_match_kind(&self) -> MatchKind
+        ensures { result ≡ options.match_kind_of self.now }
+    {
+        self.match_kind.unwrap_or(MatchKind::LeftmostFirst)
+    }
+
+    pub fn get_starts_for_each_pattern(&self) -> bool
+        ensures { result ≡ options.starts_for_each_pattern_of self.now }
+    {
+        self.starts_for_each_pattern.unwrap_or(false)
+    }
+
+    pub fn get_byte_classes(&self) -> bool
+        ensures { result ≡ options.byte_classes_of self.now }
+    {
+        self.byte_classes.unwrap_or(true)
+    }
+
+    pub fn get_unicode_word_boundary(&self) -> bool
+        ensures { result ≡ options.unicode_word_boundary_of self.now }
+    {
+        self.unicode_word_boundary.unwrap_or(false)
+    }
+
+    /// Whether the byte was put into the quit set. What the heuristic adds isn't told here.
+    pub fn get_quit(&self, byte: u8) -> bool
+        ensures { result ≡ is_quit (options.quits_of self.now) byte }
+    {
+        self.quit_set()[usize::from(byte)]
+    }
+
+    pub fn get_specialize_start_states(&self) -> bool
+        ensures { result ≡ options.specialize_start_states_of self.now }
+    {
+        self.specialize_start_states.unwrap_or(false)
+    }
+
+    pub fn get_cache_capacity(&self) -> usize
+        ensures { result ≡ options.cache_capacity_of self.now }
+    {
+        self.cache_capacity.unwrap_or(2 * (1 << 20))
+    }
+
+    pub fn get_skip_cache_capacity_check(&self) -> bool
+        ensures { result ≡ options.skip_cache_capacity_check_of self.now }
+    {
+        self.skip_cache_capacity_check.unwrap_or(false)
+    }
+
+    pub fn get_minimum_cache_clear_count(&self) -> Option<usize>
+        ensures { result ≡ options.minimum_cache_clear_count_of self.now }
+    {
+        self.minimum_cache_clear_count.unwrap_or(None)
+    }
+
+    pub fn get_minimum_bytes_per_state(&self) -> Option<usize>
+        ensures { result ≡ options.minimum_bytes_per_state_of self.now }
+    {
+        self.minimum_bytes_per_state.unwrap_or(None)
+    }
+
+    /// Joins two configurations, option by option: what the new one sets, and else what this one has.
+    pub fn overwrite(&self, new: Config) -> Config
+        ensures { result ≡ overwritten self.now new }
+    {
+        Config {
+            match_kind: new.match_kind.or(self.match_kind),
+            starts_for_each_pattern: new.starts_for_each_pattern.or(self.starts_for_each_pattern),
+            byte_classes: new.byte_classes.or(self.byte_classes),
+            unicode_word_boundary: new.unicode_word_boundary.or(self.unicode_word_boundary),
+            quits: new.quits.or(self.quits),
+            specialize_start_states: new.specialize_start_states.or(self.specialize_start_states),
+            cache_capacity: new.cache_capacity.or(self.cache_capacity),
+            skip_cache_capacity_check: new
+                .skip_cache_capacity_check
+                .or(self.skip_cache_capacity_check),
+            minimum_cache_clear_count: new
+                .minimum_cache_clear_count
+                .or(self.minimum_cache_clear_count),
+            minimum_bytes_per_state: new.minimum_bytes_per_state.or(self.minimum_bytes_per_state),
+        }
+    }
+
+    /// The least capacity that a cache for the NFA may have, or `Unsupported`.
+    pub fn get_minimum_cache_capacity(&self, nfa: &NFA) -> Result<usize, BuildError>
+        ensures ok { IfOk result (λ minimum. minimum ≡ settled_minimum self.now nfa.now) }
+        ensures refused { result_err result ≡ (if is_unsupported self.now nfa.now then Some BuildError.Unsupported else None) }
+    {
+        let quits = self.settled_quits(nfa)?;
+        let classes = ByteClasses::of(nfa, &quits, self.get_byte_classes());
+        Ok(self.minimum_for(nfa, classes.stride()))
+    }
+
+    /// What a DFA of the NFA is built from.
+    ///
+    /// Refused in this order: Unicode word boundaries that can't be decided, a capacity below the minimum, and a
+    /// minimum of which a row would have too great an offset.
+    pub fn settle(&self, nfa: &NFA) -> Result<Settled, BuildError>
+        ensures ok { IfOk result (IsSettled self.now nfa.now) }
+        ensures refused { result_err result ≡ refusal self.now nfa.now }
+    {
+        let quits = self.settled_quits(nfa)?;
+        let classes = ByteClasses::of(nfa, &quits, self.get_byte_classes());
+        let stride = classes.stride();
+        let minimum = self.minimum_for(nfa, stride);
+        let given = self.get_cache_capacity();
+        if self.is_too_small_for(minimum) {
+            return Err(BuildError::InsufficientCacheCapacity { minimum, given });
+        }
+        let attempted = self.greatest_offset_for(nfa, stride);
+        if attempted > GREATEST_OFFSET {
+            return Err(BuildError::InsufficientStateIDCapacity { attempted });
+        }
+        Ok(Settled {
+            classes,
+            quits,
+            capacity: given.max(minimum),
+        })
+    }
+
+    fn is_too_small_for(&self, minimum: usize) -> bool
+        ensures { result ≡ (not (options.skip_cache_capacity_check_of self.now) && nat_lt (options.cache_capacity_of self.now) minimum) }
+    {
+        !self.get_skip_cache_capacity_check() && self.get_cache_capacity() < minimum
+    }
+
+    fn minimum_for(&self, nfa: &NFA, stride: usize) -> usize
+        requires few { stride ≤ 512 }
+        requires stride { stride ≡ settled_stride self.now nfa.now }
+        ensures { result ≡ settled_minimum self.now nfa.now }
+    {
+        let slots = start_slots(nfa, self.get_starts_for_each_pattern());
+        minimum_capacity(stride, slots, max_cost(nfa), fixed_cost(nfa))
+    }
+
+    fn greatest_offset_for(&self, nfa: &NFA, stride: usize) -> usize
+        requires few { stride ≤ 512 }
+        requires stride { stride ≡ settled_stride self.now nfa.now }
+        ensures { result ≡ greatest_offset self.now nfa.now }
+    {
+        let slots = start_slots(nfa, self.get_starts_for_each_pattern());
+        greatest_offset(stride, slots)
+    }
+
+    fn settled_quits(&self, nfa: &NFA) -> Result<[bool; 256], BuildError>
+        ensures ok { IfOk result (λ quits. quits ≡ settled_quits self.now nfa.now) }
+        ensures refused { result_err result ≡ (if is_unsupported self.now nfa.now then Some BuildError.Unsupported else None) }
+    {
+        let quits = self.quit_set();
+        if !has_unicode_word(nfa) {
+            return Ok(quits);
+        }
+        if self.get_unicode_word_boundary() {
+            return Ok(with_non_ascii(&quits));
+        }
+        if holds_non_ascii(&quits) {
+            return Ok(quits);
+        }
+        Err(BuildError::Unsupported)
+    }
+
+    fn quit_set(&self) -> [bool; 256]
+        ensures whole { length result ≡ 256 }
+        ensures set { result ≡ options.quits_of self.now }
+    {
+        self.quits.unwrap_or([false; 256])
+    }
+}
+
+// The greatest number that the ID of a row may have without its tags.
+const GREATEST_OFFSET: usize = 134217727;
+
+const UNICODE_WORD_LOOKS: [Look; 6] = [
+    Look::WordUnicode,
+    Look::WordUnicodeNegate,
+    Look::WordStartUnicode,
+    Look::WordEndUnicode,
+    Look::WordStartHalfUnicode,
+    Look::WordEndHalfUnicode,
+];
+
+// Whether a Unicode word look is a state of the NFA.
+fn has_unicode_word(nfa: &NFA) -> bool
+    ensures { result ≡ has_unicode_word nfa.now }
+{
+    contains_any(nfa.look_set_any(), &UNICODE_WORD_LOOKS)
+}
+
+fn contains_any(set: LookSet, looks: &[Look]) -> bool
+    ensures { result ≡ list_any (truth_of set) looks.now }
+{
+    looks.iter().any(|look| set.contains(*look))
+}
+
+// Whether each byte from 0x80 on quits.
+fn holds_non_ascii(quits: &[bool; 256]) -> bool
+    ensures { result ≡ holds_non_ascii quits.now }
+{
+    for byte in 128..256 {
+        if !quits[byte] {
+            return false;
+        }
+    }
+    true
+}
+
+// The quit set with each byte from 0x80 on.
+fn with_non_ascii(quits: &[bool; 256]) -> [bool; 256]
+    ensures whole { length result ≡ 256 }
+    ensures set { (byte : ℕ) → byte < 256 → is_quit result byte ≡ (is_quit quits.now byte || nat_le 128 byte) }
+{
+    let mut all = *quits;
+    for byte in 128..256 {
+        all[byte] = true;
+    }
+    all
+}
+
+/// What a DFA is built from.
+#[derive(Clone, Copy, Debug)]
+pub struct Settled {
+    classes: ByteClasses,
+    quits: [bool; 256],
+    capacity: usize,
+}
+
+impl Model for Settled {
+    ghost use Rattle.automata_config.specs.Settled as settled;
+
+    ghost Value = { settled.Settled };
+
+    ghost view = { λ s. record { classes = s.classes; quits = s.quits; capacity = s.capacity } };
+
+    ghost inverse = { λ v. record { classes = v.classes; quits = v.quits; capacity = v.capacity } };
+}
+
+impl Settled {
+    ghost use Rattle.std.specs.Prelude.{◌≡◌};
+    ghost use Rattle.automata_base.specs.Classes.{is_quit};
+
+    pub fn classes(&self) -> &ByteClasses
+        ensures { result.now ≡ self.now.classes }
+    {
+        &self.classes
+    }
+
+    /// Whether a search quits at the byte, by what was configured or by the heuristic.
+    pub fn quits(&self, byte: u8) -> bool
+        ensures { result ≡ is_quit self.now.quits byte }
+    {
+        self.quits[usize::from(byte)]
+    }
+
+    /// For each byte whether a search quits at it.
+    pub fn quit_set(&self) -> &[bool; 256]
+        ensures { result.now ≡ self.now.quits }
+    {
+        &self.quits
+    }
+
+    /// How many accounted bytes a cache may have: at least the minimum.
+    pub fn capacity(&self) -> usize
+        ensures { result ≡ self.now.capacity }
+    {
+        self.capacity
+    }
+}

@@ -1,0 +1,182 @@
+ghost use Rattle.std.specs.Prelude.{◌≡◌};
+ghost use Rattle.automata_config.specs.declared.error.BuildError.TheVariants.{OutOfMemory as BuildOutOfMemory};
+ghost use Rattle.automata_config.specs.declared.error.StepError.TheVariants.{Cache as StepCache, OutOfMemory as StepOutOfMemory};
+ghost use Rattle.automata_config.specs.declared.error.StartError.TheVariants.{Cache as StartCache, OutOfMemory as StartOutOfMemory};
+ghost use Rattle.automata_config.specs.declared.error.SearchError.TheVariants.{Match as SearchMatch, OutOfMemory as SearchOutOfMemory};
+
+use automata_base::util::search::{Anchored, MatchError};
+use std::alloc::{AllocError, AllocFailed};
+use std::fmt;
+use thiserror::Error;
+
+/// Why no DFA is built.
+#[derive(Clone, Copy, Debug, PartialEq, Eq, Error)]
+pub enum BuildError {
+    /// The NFA has a Unicode word look, the heuristic is off, and not every byte above 0x7F is a quit byte.
+    #[error("unsupported regex feature for DFAs: cannot build lazy DFAs for regexes with Unicode word boundaries; switch to ASCII word boundaries, or heuristically enable Unicode word boundaries or use a different regex engine")]
+    Unsupported,
+    /// The capacity given is below the minimum, and the test isn't skipped.
+    #[error("given cache capacity ({given}) is smaller than minimum required ({minimum})")]
+    InsufficientCacheCapacity { minimum: usize, given: usize },
+    /// The least table has an offset that no ID can hold.
+    #[error("failed to create LazyStateID from {attempted}, which exceeds 134217727")]
+    InsufficientStateIDCapacity { attempted: usize },
+    #[error("out of memory")]
+    OutOfMemory,
+    /// The two DFAs of a regex are not for the same patterns.
+    #[error("forward DFA has {forward} patterns and reverse DFA has {reverse}")]
+    PatternCounts { forward: usize, reverse: usize },
+}
+
+/// The cache has been cleared as often as the settings allow.
+#[derive(Clone, Copy, Debug, PartialEq, Eq, Error)]
+#[error("lazy DFA cache has been cleared too many times")]
+pub struct CacheError;
+
+/// Why a step has no answer.
+#[derive(Clone, Copy, Debug, PartialEq, Eq, Error)]
+pub enum StepError {
+    #[error("{0}")]
+    Cache(CacheError),
+    #[error("out of memory")]
+    OutOfMemory,
+}
+
+/// Why there is no start state.
+#[derive(Clone, Copy, Debug, PartialEq, Eq, Error)]
+pub enum StartError {
+    #[error("error computing start state because of cache inefficiency")]
+    Cache { err: CacheError },
+    /// The byte before the start is a quit byte.
+    #[error("error computing start state because the look-behind byte {} triggered a quit state", ByteText(*.byte))]
+    Quit { byte: u8 },
+    /// The DFA has no starts for this mode.
+    #[error("error computing start state because {mode} are not supported or enabled")]
+    UnsupportedAnchored { mode: Anchored },
+    #[error("out of memory")]
+    OutOfMemory,
+}
+
+/// Why a search has no answer.
+#[derive(Clone, Copy, Debug, PartialEq, Eq, Error)]
+pub enum SearchError {
+    #[error("{0}")]
+    Match(MatchError),
+    #[error("out of memory")]
+    OutOfMemory,
+    /// A regex was made of two DFAs that are no pair.
+    #[error("reverse DFA finds no start for the match of the forward DFA")]
+    NotAPair,
+}
+
+impl From<CacheError> for StepError {
+    ghost from_gives = { λ err e. e ≡ StepCache err };
+
+    fn from(err: CacheError) -> StepError {
+        StepError::Cache(err)
+    }
+}
+
+impl From<CacheError> for StartError {
+    ghost from_gives = { λ err e. e ≡ StartCache err };
+
+    fn from(err: CacheError) -> StartError {
+        StartError::Cache { err }
+    }
+}
+
+impl From<MatchError> for SearchError {
+    ghost from_gives = { λ err e. e ≡ SearchMatch err };
+
+    fn from(err: MatchError) -> SearchError {
+        SearchError::Match(err)
+    }
+}
+
+impl From<AllocError> for BuildError {
+    ghost from_gives = { λ _ e. e ≡ BuildOutOfMemory };
+
+    fn from(_error: AllocError) -> BuildError {
+        BuildError::OutOfMemory
+    }
+}
+
+impl<T: Drop> From<AllocFailed<T>> for BuildError {
+    ghost from_gives = { λ _ e. e ≡ BuildOutOfMemory };
+
+    fn from(_error: AllocFailed<T>) -> BuildError {
+        BuildError::OutOfMemory
+    }
+}
+
+impl From<AllocError> for StepError {
+    ghost from_gives = { λ _ e. e ≡ StepOutOfMemory };
+
+    fn from(_error: AllocError) -> StepError {
+        StepError::OutOfMemory
+    }
+}
+
+impl<T: Drop> From<AllocFailed<T>> for StepError {
+    ghost from_gives = { λ _ e. e ≡ StepOutOfMemory };
+
+    fn from(_error: AllocFailed<T>) -> StepError {
+        StepError::OutOfMemory
+    }
+}
+
+impl From<AllocError> for StartError {
+    ghost from_gives = { λ _ e. e ≡ StartOutOfMemory };
+
+    fn from(_error: AllocError) -> StartError {
+        StartError::OutOfMemory
+    }
+}
+
+impl<T: Drop> From<AllocFailed<T>> for StartError {
+    ghost from_gives = { λ _ e. e ≡ StartOutOfMemory };
+
+    fn from(_error: AllocFailed<T>) -> StartError {
+        StartError::OutOfMemory
+    }
+}
+
+impl From<AllocError> for SearchError {
+    ghost from_gives = { λ _ e. e ≡ SearchOutOfMemory };
+
+    fn from(_error: AllocError) -> SearchError {
+        SearchError::OutOfMemory
+    }
+}
+
+impl<T: Drop> From<AllocFailed<T>> for SearchError {
+    ghost from_gives = { λ _ e. e ≡ SearchOutOfMemory };
+
+    fn from(_error: AllocFailed<T>) -> SearchError {
+        SearchError::OutOfMemory
+    }
+}
+
+// A byte as text: printable ASCII as it is, but for a space in quotes; the rest escaped.
+#[derive(Clone, Copy)]
+struct ByteText(u8);
+
+impl fmt::Display for ByteText {
+    fn fmt<W: fmt::Write>(&self, f: &mut fmt::Formatter<W>) -> fmt::Result {
+        let byte = self.0;
+        match byte {
+            b' ' => write!(f, "' '"),
+            b'\t' => write!(f, "\\t"),
+            b'\r' => write!(f, "\\r"),
+            b'\n' => write!(f, "\\n"),
+            b'\'' => write!(f, "\\'"),
+            b'"' => write!(f, "\\\""),
+            b'\\' => write!(f, "\\\\"),
+            0x21..=0x7E => {
+                let printable = char::from(byte);
+                write!(f, "{printable}")
+            }
+            _ => write!(f, "\\x{byte:02X}"),
+        }
+    }
+}
