@@ -3,9 +3,10 @@ use Rattle.std.specs.List.{sum_by}
 use Rattle.std.proofs.Math.Nat.{mul-le-mul_right}
 use Rattle.std.proofs.lemmas.List.Sums.{sum_by_push}
 use Rattle.automata_base.specs.Powerset.{cost}
+use Rattle.automata_base.specs.Accounting.{minimum_capacity}
 use Rattle.automata_hybrid.specs.declared.dfa.row.Row.{Row}
 use Rattle.automata_hybrid.specs.Ids.{dead_id, quit_id}
-use Rattle.automata_hybrid.specs.Machine.{Machine, greatest, template_of, minimum}
+use Rattle.automata_hybrid.specs.Machine.{Machine, greatest, template_of}
 use Rattle.std.proofs.lemmas.List.{length-replicate, get_or-replicate}
 use Rattle.std.proofs.lemmas.Option.{slice_get_within, get_or_from_slice_get}
 use Rattle.automata_hybrid.specs.declared.dfa.settings.Settings.{Settings}
@@ -15,7 +16,7 @@ use Rattle.automata_hybrid.specs.Clears.{AllStarts}
 use Rattle.automata_hybrid.specs.Bounds.{Stored, usage_by, IsCache, usage, Fits, with_table, fresh_store, settings_of}
 
 -- a cache with so few rows is within its capacity
-pub few_within : (n cells most stride slots sum fixed capacity : ℕ) → n ≤ slots + 1 → cells ≡ (n + 3) * stride → sum ≤ n * most → minimum most stride slots fixed ≤ capacity
+pub few_within : (n cells most stride slots sum fixed capacity : ℕ) → n ≤ slots + 1 → cells ≡ (n + 3) * stride → sum ≤ n * most → minimum_capacity stride slots most fixed ≤ capacity
     → 4 * cells + 4 * slots + 16 * (n + 3) + 20 * (n + 1) + 39 + sum + fixed ≤ capacity
 few_within n cells most stride slots sum fixed capacity few whole cheap enough =
     let more : n + 3 ≤ slots + 4 = omega (arith, few) in
@@ -26,7 +27,7 @@ few_within n cells most stride slots sum fixed capacity few whole cheap enough =
     omega (arith, few, whole, cheap, enough, le, le2, e, f)
 
 -- and a new state fits
-pub few_fits : (n cells most stride slots sum fixed capacity extra : ℕ) → n ≤ slots + 1 → cells ≡ (n + 3) * stride → sum ≤ n * most → minimum most stride slots fixed ≤ capacity → extra ≤ most
+pub few_fits : (n cells most stride slots sum fixed capacity extra : ℕ) → n ≤ slots + 1 → cells ≡ (n + 3) * stride → sum ≤ n * most → minimum_capacity stride slots most fixed ≤ capacity → extra ≤ most
     → (4 * cells + 4 * slots + 16 * (n + 3) + 20 * (n + 1) + 39 + sum + fixed) + 4 * stride + 36 + extra ≤ capacity
 few_fits n cells most stride slots sum fixed capacity extra few whole cheap enough little =
     let more : n + 3 ≤ slots + 4 = omega (arith, few) in
@@ -63,7 +64,7 @@ IsCache-grown c t r i wide named e fits =
 -- another table with few rows, which has what the slots name
 pub IsCache-few : (c : Stored) (t : Rows) → IsCache c → AllStarts t c.starts → t.of ≡ c.table.of → length t.rows ≤ length c.starts + 1 → length t.cells ≡ (length t.rows + 3) * t.of.stride → sum_by row_cost t.rows ≤ length t.rows * greatest t.of → IsCache (with_table c t)
 IsCache-few c t i named s few whole cheap =
-    let enough : minimum (greatest t.of) t.of.stride (length c.starts) c.settings.fixed ≤ c.settings.capacity = rw s i.enough in
+    let enough : minimum_capacity t.of.stride (length c.starts) (greatest t.of) c.settings.fixed ≤ c.settings.capacity = rw s i.enough in
     record {
       named = named;
       within = few_within (length t.rows) (length t.cells) (greatest t.of) t.of.stride (length c.starts) (sum_by row_cost t.rows) c.settings.fixed c.settings.capacity few whole cheap enough;
@@ -79,7 +80,7 @@ unknown_at n slot id h =
     let within : slot < n = subst (λ m. slot < m) (length-replicate n (2 ^ 31)) (slice_get_within (replicate n (2 ^ 31)) slot id h) in
     sym (get_or_from_slice_get (replicate n (2 ^ 31)) slot id 0 h) ∙ get_or-replicate n slot (2 ^ 31) 0 within
 
-pub IsCache-fresh : (m : Machine) (settings : Settings) → settings ≡ settings_of m → minimum (greatest m) m.stride m.slots settings.fixed ≤ settings.capacity → (m.slots + 4) * m.stride < 2 ^ 27 → settings.capacity < 2 ^ 64 → IsCache (fresh_store m settings)
+pub IsCache-fresh : (m : Machine) (settings : Settings) → settings ≡ settings_of m → minimum_capacity m.stride m.slots (greatest m) settings.fixed ≤ settings.capacity → (m.slots + 4) * m.stride < 2 ^ 27 → settings.capacity < 2 ^ 64 → IsCache (fresh_store m settings)
 IsCache-fresh m settings same enough offsets bounded =
     let n : length (replicate m.slots (2 ^ 31)) ≡ m.slots = length-replicate m.slots (2 ^ 31) in
     let a : length (replicate m.stride (2 ^ 31)) ≡ m.stride = length-replicate m.stride (2 ^ 31) in
@@ -100,7 +101,7 @@ IsCache-fresh m settings same enough offsets bounded =
 pub IsCache-cleared : (c : Stored) (t : Rows) (starts : List ℕ) (clears : ℕ) (searched : Searched) → IsCache c → AllStarts t starts → t.of ≡ c.table.of → length starts ≡ length c.starts → length t.rows ≤ length starts → length t.cells ≡ (length t.rows + 3) * t.of.stride → sum_by row_cost t.rows ≤ length t.rows * greatest t.of
     → IsCache (record { table = t; starts = starts; settings = c.settings; clears = clears; searched = searched })
 IsCache-cleared c t starts clears searched i named s n few whole cheap =
-    let enough : minimum (greatest t.of) t.of.stride (length starts) c.settings.fixed ≤ c.settings.capacity = rw (s, n) i.enough in
+    let enough : minimum_capacity t.of.stride (length starts) (greatest t.of) c.settings.fixed ≤ c.settings.capacity = rw (s, n) i.enough in
     record {
       named = named;
       within = few_within (length t.rows) (length t.cells) (greatest t.of) t.of.stride (length starts) (sum_by row_cost t.rows) c.settings.fixed c.settings.capacity (omega (arith, few)) whole cheap enough;

@@ -1,12 +1,13 @@
 use Rattle.std.specs.Prelude.{◌≡◌, ℕ, ◌+◌, ◌*◌, ◌^◌, ◌<◌, ◌≤◌, ◌⊎◌, List, length, Bool, true, false, cond, Option, None, Some, slice_index, slice_set, replicate, sum_by, nat_lt}
 use Rattle.automata_base.specs.Powerset.{Powerset, cost}
+use Rattle.automata_base.specs.Accounting.{minimum_capacity}
 use Rattle.automata_hybrid.specs.declared.dfa.row.Row.{Row}
 use Rattle.automata_hybrid.specs.declared.dfa.progress.Searched.{Searched}
 use Rattle.automata_hybrid.specs.declared.dfa.settings.Settings.{Settings}
-use Rattle.automata_hybrid.specs.declared.errors.StepError.{StepError}
-use Rattle.automata_hybrid.specs.declared.errors.StepError.TheVariants.{Cache, OutOfMemory}
+use Rattle.automata_config.specs.declared.error.StepError.{StepError}
+use Rattle.automata_config.specs.declared.error.StepError.TheVariants.{Cache, OutOfMemory}
 use Rattle.automata_hybrid.specs.Ids.{quit_id}
-use Rattle.automata_hybrid.specs.Machine.{Machine, next_of, greatest, template_of, minimum}
+use Rattle.automata_hybrid.specs.Machine.{Machine, next_of, greatest, template_of}
 use Rattle.automata_hybrid.specs.Table.{Rows, row_cost, Leads, with_row, with_cell, cell_at, fresh, id_of, Names}
 use Rattle.automata_hybrid.specs.Clears.{AllStarts, kept, put, row_of}
 use Rattle.automata_hybrid.specs.Progressing.{saturated, total_len, progress_cleared}
@@ -57,7 +58,7 @@ with_table c t = record { table = t; starts = c.starts; settings = c.settings; c
 pub record IsCache (c : Stored) : Type 0 where
   pub named : AllStarts c.table c.starts
   pub within : usage c ≤ c.settings.capacity
-  pub enough : minimum (greatest c.table.of) c.table.of.stride (length c.starts) c.settings.fixed ≤ c.settings.capacity
+  pub enough : minimum_capacity c.table.of.stride (length c.starts) (greatest c.table.of) c.settings.fixed ≤ c.settings.capacity
   pub offsets : (length c.starts + 4) * c.table.of.stride < 2 ^ 27
   pub slots : length c.starts ≡ c.table.of.slots
   pub settings : c.settings ≡ settings_of c.table.of
@@ -118,3 +119,10 @@ abbrev pub IsComputed : Stored → ℕ → ℕ → Powerset → Stored → ℕ �
 IsComputed old id class q new next =
     (new ≡ with_next old id class next)
     ⊎ ((id_of old.table (next_of old.table.of q class) ≡ None) × (from : ℕ) × (between : Stored) × IsAdded old id (record { state = next_of old.table.of q class; started = false }) between × Names between.table from q × (new ≡ with_next between from class next))
+
+-- why a state is refused: it isn't there, it doesn't fit, and the clear rule refuses
+abbrev pub GivesUp : Stored → Powerset → Type 0
+GivesUp c q = (id_of c.table q ≡ None) × (Fits c (cost q) → ⊥) × (refuses_to_clear c ≡ true)
+
+abbrev pub with_searched : Stored → Searched → Stored
+with_searched c s = record { table = c.table; starts = c.starts; settings = c.settings; clears = c.clears; searched = s }

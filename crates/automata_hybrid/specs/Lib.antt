@@ -6,5 +6,8 @@ pub mod Table
 pub mod Clears
 pub mod Progressing
 pub mod Bounds
+pub mod Builds
 pub mod Caches
+pub mod Starting
+pub mod Slots
 pub mod Founds

@@ -1,18 +1,20 @@
-use Rattle.std.specs.Prelude.{ℕ, zero, suc, ◌+◌, ◌*◌, ◌^◌, ◌/◌, ◌%◌, ◌<◌, ◌≤◌, ◌==◌, List, [], ◌∷◌, Bool, true, false, cond, Option, None, Some, slice_set, slice_index, slice_get, length, replicate, ◌≡◌, ◌⊎◌}
+use Rattle.std.specs.Prelude.{ℕ, zero, suc, ◌+◌, ◌*◌, ◌^◌, ◌/◌, ◌%◌, ◌<◌, ◌≤◌, ◌==◌, eqb, List, [], ◌∷◌, Bool, true, false, cond, Option, None, Some, slice_set, slice_index, slice_get, length, replicate, ◌≡◌, ◌⊎◌}
 use Rattle.automata_base.specs.Powerset.{Powerset}
 use Rattle.automata_base.specs.Nodes.{Automaton}
 use Rattle.automata_base.specs.Classes.{class_in, eoi_class, is_quit}
 use Rattle.automata_base.specs.Steps.{successor, start_state_of}
-use Rattle.automata_base.specs.Starts.{max_cost}
+use Rattle.automata_base.specs.Accounting.{max_cost, minimum_capacity, start_slots}
 use Rattle.automata_hybrid.specs.Owned.{IsOwn}
 use Rattle.automata_base.specs.declared.util.search.MatchKind.{MatchKind}
 use Rattle.automata_base.specs.declared.util.search.Anchored.{Anchored}
 use Rattle.automata_base.specs.declared.util.search.Anchored.TheVariants.{No, Yes, Pattern}
+use Rattle.automata_config.specs.Options.{Options}
 use Rattle.automata_hybrid.specs.Ids.{quit_id}
 
 -- what contracts see of a lazy DFA
 pub record Machine : Type 0 where
   pub nfa : Automaton
+  pub config : Options
   pub kind : MatchKind
   pub classes : List ℕ
   pub quits : List Bool
@@ -25,14 +27,14 @@ pub record Machine : Type 0 where
   pub specialized : Bool
   pub per_pattern : Bool
 
--- the first byte of a class, from a byte on; none is the end
-abbrev pub first_of : ℕ → ℕ → List ℕ → Option ℕ
-first_of class byte [] = None
-first_of class byte (c ∷ cs) = cond (c == class) (Some byte) (first_of class (suc byte) cs)
+-- a byte of a class, the greatest one below a number; none is the end
+unfoldable pub byte_of : (classes : List ℕ) (class bytes : ℕ) → Option ℕ
+byte_of classes class zero = None
+byte_of classes class (suc byte) = cond (class_in classes byte == class) (Some byte) (byte_of classes class byte)
 
 -- the state after a unit of a class
 unfoldable pub next_of : Machine → Powerset → ℕ → Powerset
-next_of m q class = successor m.nfa m.kind q (first_of class 0 m.classes)
+next_of m q class = successor m.nfa m.kind q (byte_of m.classes class 256)
 
 -- the anchored mode of a group of start slots
 abbrev pub mode_of : ℕ → Anchored
@@ -42,8 +44,8 @@ mode_of (suc (suc pattern)) = Pattern pattern
 
 -- something of each kind that a start looks behind to: an other byte, a word byte, none, line feed, carriage return, the terminator
 abbrev pub sample_of : (terminator kind : ℕ) → Option ℕ
-sample_of terminator zero = Some (cond (terminator == 0) 1 0)
-sample_of terminator (suc zero) = Some (cond (terminator == 97) 98 97)
+sample_of terminator zero = Some (cond (eqb 0 terminator) 1 0)
+sample_of terminator (suc zero) = Some (cond (eqb 97 terminator) 98 97)
 sample_of terminator (suc (suc zero)) = None
 sample_of terminator (suc (suc (suc zero))) = Some 10
 sample_of terminator (suc (suc (suc (suc zero)))) = Some 13
@@ -72,10 +74,6 @@ pub record IsTemplate (stride : ℕ) (template : List ℕ) : Type 0 where
   pub whole : length template ≡ stride
   pub cells : (class : ℕ) → class < stride → (slice_index template class ≡ quit_id stride) ⊎ (slice_index template class ≡ 2 ^ 31)
 
--- what a clear's start states, a saved state and a new one take
-abbrev pub minimum : ℕ → ℕ → ℕ → ℕ → ℕ
-minimum most stride slots fixed = 4 * ((5 + slots) * stride) + 4 * slots + 16 * (5 + slots) + 20 * (3 + slots) + 39 + (2 + slots) * most + fixed
-
 -- what each lazy DFA keeps: each byte and the end have a class, whose units step alike, and a fresh cache fits
 pub record IsMachine (m : Machine) : Type 0 where
   pub template : IsTemplate m.stride (template_of m)
@@ -85,5 +83,6 @@ pub record IsMachine (m : Machine) : Type 0 where
   pub end_free : slice_index (template_of m) (eoi_class m.classes) ≡ 2 ^ 31
   pub alike : (byte : ℕ) (q : Powerset) → byte < 256 → IsOwn m.nfa q → successor m.nfa m.kind q (Some byte) ≡ next_of m q (class_in m.classes byte)
   pub end_alike : (q : Powerset) → IsOwn m.nfa q → successor m.nfa m.kind q None ≡ next_of m q (eoi_class m.classes)
-  pub enough : minimum (greatest m) m.stride m.slots m.fixed ≤ m.capacity
+  pub enough : minimum_capacity m.stride m.slots (greatest m) m.fixed ≤ m.capacity
+  pub slots : m.slots ≡ start_slots m.nfa m.per_pattern
   pub offsets : (m.slots + 4) * m.stride < 2 ^ 27

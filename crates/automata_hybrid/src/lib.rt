@@ -2,5 +2,5 @@
 #![tactic(auto)]
 
 pub mod dfa;
-pub mod errors;
 pub mod id;
+pub mod search;

@@ -1,4 +1,4 @@
-ghost use Rattle.std.specs.Prelude.{◌≡◌, ◌+◌, ◌-◌, Some, None, IsSome};
+ghost use Rattle.std.specs.Prelude.{◌≡◌, ◌+◌, ◌-◌, Some, None};
 ghost use Rattle.automata_hybrid.specs.Progressing.{distance, started, updated, finished, total_len, progress_cleared};
 
 /// A running search: where it began, and where it is.
@@ -48,7 +48,6 @@ impl Searched {
     }
 
     pub fn update(&mut self, at: usize)
-        requires { IsSome self.old.running }
         ensures { self.new ≡ updated self.old at }
     {
         if let Some(running) = self.running {
@@ -60,7 +59,6 @@ impl Searched {
     }
 
     pub fn finish(&mut self, at: usize)
-        requires { IsSome self.old.running }
         ensures { self.new ≡ finished self.old at }
     {
         self.update(at);

@@ -1,9 +1,10 @@
-ghost use Rattle.std.specs.Prelude.{ℕ, ◌≡◌, ◌+◌, ◌-◌, ◌*◌, ◌/◌, ◌%◌, ◌^◌, ◌<◌, ◌≤◌, ◌↔◌, None, Some, IfOk, OnOk, OnErr, length, slice_index, slice_get, sum_by, IsTrue, IfErr, is_ok, is_some, IsSome, true, false};
+ghost use Rattle.std.specs.Prelude.{ℕ, ◌≡◌, ◌+◌, ◌-◌, ◌*◌, ◌/◌, ◌%◌, ◌^◌, ◌<◌, ◌≤◌, ◌↔◌, None, Some, IfOk, OnOk, OnErr, length, slice_index, slice_get, sum_by, IsTrue, IfErr, is_ok, is_some, true, false};
 ghost use Rattle.automata_base.specs.Powerset.{Powerset, cost};
 ghost use Rattle.automata_base.specs.Powerset.{dead};
+ghost use Rattle.automata_base.specs.Accounting.{minimum_capacity};
 ghost use Rattle.automata_hybrid.specs.Owned.{IsOwn};
 ghost use Rattle.automata_hybrid.specs.Ids.{dead_id};
-ghost use Rattle.automata_hybrid.specs.Machine.{next_of, start_of, greatest, template_of, IsTemplate, minimum};
+ghost use Rattle.automata_hybrid.specs.Machine.{next_of, start_of, greatest, template_of, IsTemplate};
 ghost use Rattle.automata_hybrid.specs.Table.{id_of, Names, IsValid, with_row, with_cell, Leads, MayLead, IsCell};
 ghost use Rattle.automata_hybrid.specs.Clears.{IsPut, row_of};
 ghost use Rattle.automata_hybrid.specs.Bounds.{usage, Fits, refuses_to_clear, cleared, with_table, grown, put_found, cleared_saving, IsCacheError, cell_of, with_next, fresh_store, settings_of, with_start, IsAdded, KeepsStarts};
@@ -14,7 +15,7 @@ use crate::dfa::progress::Searched;
 use crate::dfa::settings::Settings;
 use crate::dfa::table::Table;
 use crate::dfa::{DFA, row};
-use crate::errors::{CacheError, StepError};
+use automata_config::error::{CacheError, StepError};
 use crate::id::LazyStateID;
 use automata_base::util::determinize::key::Key;
 use automata_base::util::determinize::state::State;
@@ -55,7 +56,7 @@ impl Store {
         requires template { template.items ≡ template_of dfa.now }
         requires slots { slots ≡ dfa.now.slots }
         requires settings { settings ≡ settings_of dfa.now }
-        requires enough { minimum (greatest dfa.now) stride slots settings.fixed ≤ settings.capacity }
+        requires enough { minimum_capacity stride slots (greatest dfa.now) settings.fixed ≤ settings.capacity }
         requires offsets { (slots + 4) * stride < 2 ^ 27 }
         ensures { IfOk result (λ c. c ≡ fresh_store dfa.now settings) }
     {
@@ -100,14 +101,12 @@ impl Store {
     }
 
     pub fn search_update(&mut self, at: usize)
-        requires { IsSome self.old.searched.running }
         ensures { self.new ≡ record self.old { searched = updated self.old.searched at } }
     {
         self.searched.update(at);
     }
 
     pub fn search_finish(&mut self, at: usize)
-        requires { IsSome self.old.searched.running }
         ensures { self.new ≡ record self.old { searched = finished self.old.searched at } }
     {
         self.searched.finish(at);
@@ -157,6 +156,20 @@ impl Store {
         let used = self.memory_usage();
         let room = self.settings.capacity - used;
         4 * self.table.stride() + 36 + extra <= room && self.table.cell_count() < 134217728
+    }
+
+    /// The start slots are as many as the DFA's.
+    pub fn slot_count(&self)
+        ensures { length self.now.starts ≡ self.now.table.of.slots }
+    {
+        let _ = self.starts.len();
+    }
+
+    /// IDs of rows have no high tag.
+    pub fn low(&self)
+        ensures { (id : ℕ) (q : Powerset) → Names self.now.table id q → id < 2 ^ 29 }
+    {
+        let _ = self.table.len();
     }
 
     /// No state of the automaton costs more than fits.
