@@ -1,19 +1,20 @@
-use Rattle.std.proofs.Common.{◌≡◌, ℕ, ◌+◌, ◌*◌, ◌^◌, ◌<◌, ◌≤◌, length, List, sym, ◌∙◌, subst, arith, length-append, replicate, slice_get, Some, inl, ap, [], ◌∷◌, ◌++◌}
+use Rattle.std.proofs.Common.{◌≡◌, ℕ, ◌+◌, ◌*◌, ◌^◌, ◌<◌, ◌≤◌, length, List, sym, ◌∙◌, subst, arith, length-append, replicate, slice_get, get_or, set, length-set, Some, inl, inr, ⊎_elim, ap, [], ◌∷◌, ◌++◌}
 use Rattle.std.specs.List.{sum_by}
 use Rattle.std.proofs.Math.Nat.{mul-le-mul_right}
 use Rattle.std.proofs.lemmas.List.Sums.{sum_by_push}
-use Rattle.automata_base.specs.Powerset.{cost}
+use Rattle.automata_base.specs.Powerset.{Powerset, cost}
 use Rattle.automata_base.specs.Accounting.{minimum_capacity}
 use Rattle.automata_hybrid.specs.declared.dfa.row.Row.{Row}
 use Rattle.automata_hybrid.specs.Ids.{dead_id, quit_id}
-use Rattle.automata_hybrid.specs.Machine.{Machine, greatest, template_of}
-use Rattle.std.proofs.lemmas.List.{length-replicate, get_or-replicate}
-use Rattle.std.proofs.lemmas.Option.{slice_get_within, get_or_from_slice_get}
+use Rattle.automata_hybrid.specs.Machine.{Machine, greatest, template_of, start_of}
+use Rattle.std.proofs.lemmas.List.{length-replicate, get_or-replicate, get_or-set_same, get_or-set_other}
+use Rattle.std.proofs.lemmas.Option.{slice_get_within, get_or_from_slice_get, slice_get-get_or}
+use Rattle.std.proofs.lemmas.Bool.{cases_eq}
 use Rattle.automata_hybrid.specs.declared.dfa.settings.Settings.{Settings}
 use Rattle.automata_hybrid.specs.declared.dfa.progress.Searched.{Searched}
-use Rattle.automata_hybrid.specs.Table.{Rows, row_cost, with_row, fresh, fixed_rows}
+use Rattle.automata_hybrid.specs.Table.{Rows, MayLead, Leads, Names, row_cost, with_row, fresh, fixed_rows}
 use Rattle.automata_hybrid.specs.Clears.{AllStarts}
-use Rattle.automata_hybrid.specs.Bounds.{Stored, usage_by, IsCache, usage, Fits, with_table, fresh_store, settings_of}
+use Rattle.automata_hybrid.specs.Bounds.{Stored, usage_by, IsCache, usage, Fits, with_table, fresh_store, settings_of, with_start}
 
 -- a cache with so few rows is within its capacity
 pub few_within : (n cells most stride slots sum fixed capacity : ℕ) → n ≤ slots + 1 → cells ≡ (n + 3) * stride → sum ≤ n * most → minimum_capacity stride slots most fixed ≤ capacity
@@ -117,3 +118,30 @@ pub small_cost : (c : Stored) (extra : ℕ) → IsCache c → extra ≤ greatest
 small_cost c extra i little =
     let e : (2 + length c.starts) * greatest c.table.of ≡ length c.starts * greatest c.table.of + 2 * greatest c.table.of = omega arith in
     omega (arith, little, i.enough, i.bounded, e)
+
+-- a start that is written
+pub IsCache-start : (c : Stored) (slot id : ℕ) → IsCache c → MayLead c.table id (start_of c.table.of slot) → slot < length c.starts → IsCache (with_start c slot id)
+IsCache-start c slot id i leads within =
+    let n : length c.starts ≡ length (set c.starts slot id) = sym (length-set c.starts slot id) in
+    record {
+      named = named;
+      within = subst (λ k. usage_by c.table k c.settings.fixed ≤ c.settings.capacity) n i.within;
+      enough = subst (λ k. minimum_capacity c.table.of.stride k (greatest c.table.of) c.settings.fixed ≤ c.settings.capacity) n i.enough;
+      offsets = subst (λ k. (k + 4) * c.table.of.stride < 2 ^ 27) n i.offsets;
+      slots = sym n ∙ i.slots;
+      settings = i.settings;
+      bounded = i.bounded;
+    } where
+      named : AllStarts c.table (set c.starts slot id)
+      named k x h =
+          let read : get_or (set c.starts slot id) k 0 ≡ x = get_or_from_slice_get (set c.starts slot id) k x 0 h in
+          let inside : k < length c.starts = subst (λ m. k < m) (length-set c.starts slot id) (slice_get_within (set c.starts slot id) k x h) in
+          ⊎_elim
+          (λ (e : k ≡ slot). (let same : id ≡ x = sym (get_or-set_same c.starts slot id 0 within) ∙ ap (λ m. get_or (set c.starts slot id) m 0) (sym e) ∙ read in subst (λ y. MayLead c.table y (start_of c.table.of k)) same (subst (λ m. MayLead c.table id (start_of c.table.of m)) (sym e) leads)))
+          (λ (ne : k ≡ slot → ⊥). i.named k x (slice_get-get_or c.starts k 0 inside ∙ ap Some (sym (get_or-set_other c.starts slot k id 0 ne) ∙ read)))
+          (cases_eq k slot)
+
+-- what leads to a state is known
+pub Leads-known : (t : Rows) (id : ℕ) (q : Powerset) → ((n : ℕ) (p : Powerset) → Names t n p → n < 2 ^ 29) → t.of.stride ≤ 512 → Leads t id q → id < 2 ^ 31
+Leads-known t id q low small (inl (e, d)) = omega (arith, e, small)
+Leads-known t id q low small (inr h) = omega (arith, low id q h)

@@ -34,18 +34,15 @@ count_up_to f n m h = let k : ℕ = m - n in let e : k + n ≡ m = omega arith i
 marked-length : (cs : List ℕ) (qs : List Bool) (s n : ℕ) → length (marked cs qs s n) ≡ s
 unfolding marked
 marked-length cs qs s zero = length-replicate s (2 ^ 31)
-marked-length cs qs s (suc n) = go (is_quit qs n) where
-  go : (b : Bool) → length (cond b (set (marked cs qs s n) (class_in cs n) (quit_id s)) (marked cs qs s n)) ≡ s
-  go true = length-set (marked cs qs s n) (class_in cs n) (quit_id s) ∙ marked-length cs qs s n
-  go false = marked-length cs qs s n
+marked-length cs qs s (suc n) = go (is_quit qs n) (marked-length cs qs s n) where
+  go : (b : Bool) → length (marked cs qs s n) ≡ s → length (cond b (set (marked cs qs s n) (class_in cs n) (quit_id s)) (marked cs qs s n)) ≡ s
+  go true again = length-set (marked cs qs s n) (class_in cs n) (quit_id s) ∙ again
+  go false again = again
 
 marked-either : (cs : List ℕ) (qs : List Bool) (s n class : ℕ) → class < s → (get_or (marked cs qs s n) class 0 ≡ quit_id s) ⊎ (get_or (marked cs qs s n) class 0 ≡ 2 ^ 31)
 unfolding marked
 marked-either cs qs s zero class l = inr (get_or-replicate s class (2 ^ 31) 0 l)
 marked-either cs qs s (suc n) class l = go (is_quit qs n) (marked-either cs qs s n class l) where
-  row : List ℕ
-  row = marked cs qs s n
-
   go : (b : Bool) → (get_or (marked cs qs s n) class 0 ≡ quit_id s) ⊎ (get_or (marked cs qs s n) class 0 ≡ 2 ^ 31) → (get_or (cond b (set (marked cs qs s n) (class_in cs n) (quit_id s)) (marked cs qs s n)) class 0 ≡ quit_id s) ⊎ (get_or (cond b (set (marked cs qs s n) (class_in cs n) (quit_id s)) (marked cs qs s n)) class 0 ≡ 2 ^ 31)
   go false again = again
   go true again = ⊎_elim
@@ -64,18 +61,15 @@ marked-free cs qs s (suc n) class l none = go (is_quit qs n) refl (marked-free c
 marked-quit : (cs : List ℕ) (qs : List Bool) (s n byte : ℕ) → byte < n → class_in cs byte < s → is_quit qs byte ≡ true → get_or (marked cs qs s n) (class_in cs byte) 0 ≡ quit_id s
 unfolding marked
 marked-quit cs qs s zero byte h l q = absurd (omega (arith, h))
-marked-quit cs qs s (suc n) byte h l q = go (is_quit qs n) refl (cases_lt byte n) where
-  again : byte < n → get_or (marked cs qs s n) (class_in cs byte) 0 ≡ quit_id s
-  again k = marked-quit cs qs s n byte k l q
-
+marked-quit cs qs s (suc n) byte h l q = go (is_quit qs n) refl (cases_lt byte n) (λ k. marked-quit cs qs s n byte k l q) where
   here : class_in cs byte ≡ class_in cs n → get_or (set (marked cs qs s n) (class_in cs n) (quit_id s)) (class_in cs byte) 0 ≡ quit_id s
   here e = let w : class_in cs n < length (marked cs qs s n) = rw marked-length (omega (arith, e, l)) in rw e (get_or-set_same (marked cs qs s n) (class_in cs n) (quit_id s) 0 w)
 
-  go : (b : Bool) → is_quit qs n ≡ b → (byte < n) ⊎ (n ≤ byte) → get_or (cond b (set (marked cs qs s n) (class_in cs n) (quit_id s)) (marked cs qs s n)) (class_in cs byte) 0 ≡ quit_id s
-  go false e (inl k) = again k
-  go false e (inr k) = let same : byte ≡ n = omega (arith, k, h) in let clash : true ≡ false = sym q ∙ ap (is_quit qs) same ∙ e in cc
-  go true e (inl k) = ⊎_elim here (λ (ne : class_in cs byte ≡ class_in cs n → ⊥). rw (get_or-set_other (marked cs qs s n) (class_in cs n) (class_in cs byte) (quit_id s) 0 ne) (again k)) (cases_eq (class_in cs byte) (class_in cs n))
-  go true e (inr k) = here (ap (class_in cs) (omega (arith, k, h)))
+  go : (b : Bool) → is_quit qs n ≡ b → (byte < n) ⊎ (n ≤ byte) → (byte < n → get_or (marked cs qs s n) (class_in cs byte) 0 ≡ quit_id s) → get_or (cond b (set (marked cs qs s n) (class_in cs n) (quit_id s)) (marked cs qs s n)) (class_in cs byte) 0 ≡ quit_id s
+  go false e (inl k) again = again k
+  go false e (inr k) again = let same : byte ≡ n = omega (arith, k, h) in let clash : true ≡ false = sym q ∙ ap (is_quit qs) same ∙ e in cc
+  go true e (inl k) again = ⊎_elim here (λ (ne : class_in cs byte ≡ class_in cs n → ⊥). rw (get_or-set_other (marked cs qs s n) (class_in cs n) (class_in cs byte) (quit_id s) 0 ne) (again k)) (cases_eq (class_in cs byte) (class_in cs n))
+  go true e (inr k) again = let same : byte ≡ n = omega (arith, k, h) in here (ap (class_in cs) same)
 
 -- a byte of a class of a byte
 pub record IsOfClass (cs : List ℕ) (class n : ℕ) : Type 0 where
@@ -87,22 +81,22 @@ pub record IsOfClass (cs : List ℕ) (class n : ℕ) : Type 0 where
 byte_of-some : (cs : List ℕ) (class n b : ℕ) → b < n → class_in cs b ≡ class → IsOfClass cs class n
 unfolding byte_of
 byte_of-some cs class zero b h e = absurd (omega (arith, h))
-byte_of-some cs class (suc n) b h e = go (class_in cs n == class) refl where
-  go : (t : Bool) → (class_in cs n == class) ≡ t → IsOfClass cs class (suc n)
-  go true f = record { byte = n; below = omega arith; class_is = eqb-true (class_in cs n) class f; found = rw f refl }
-  go false f =
+byte_of-some cs class (suc n) b h e = go (class_in cs n == class) refl (λ lt. byte_of-some cs class n b lt e) where
+  go : (t : Bool) → (class_in cs n == class) ≡ t → (b < n → IsOfClass cs class n) → IsOfClass cs class (suc n)
+  go true f again = record { byte = n; below = omega arith; class_is = eqb-true (class_in cs n) class f; found = rw f refl }
+  go false f again =
       let ne : b ≡ n → ⊥ = λ s. eqb-false (class_in cs n) class f (sym (ap (class_in cs) s) ∙ e) in
       let lt : b < n = omega (arith, h, ne) in
-      let i = byte_of-some cs class n b lt e in
+      let i = again lt in
       record { byte = i.byte; below = omega (arith, i.below); class_is = i.class_is; found = rw f i.found }
 
 byte_of-none : (cs : List ℕ) (class n : ℕ) → ((b : ℕ) → b < n → class_in cs b ≡ class → ⊥) → byte_of cs class n ≡ None
 unfolding byte_of
 byte_of-none cs class zero none = refl
-byte_of-none cs class (suc n) none = go (class_in cs n == class) refl where
-  go : (t : Bool) → (class_in cs n == class) ≡ t → cond t (Some n) (byte_of cs class n) ≡ None
-  go true f = absurd (none n (omega arith) (eqb-true (class_in cs n) class f))
-  go false f = byte_of-none cs class n (λ b h. none b (omega (arith, h)))
+byte_of-none cs class (suc n) none = go (class_in cs n == class) refl (byte_of-none cs class n (λ b h. none b (omega (arith, h)))) where
+  go : (t : Bool) → (class_in cs n == class) ≡ t → byte_of cs class n ≡ None → cond t (Some n) (byte_of cs class n) ≡ None
+  go true f again = absurd (none n (omega arith) (eqb-true (class_in cs n) class f))
+  go false f again = again
 
 -- what a DFA is built of
 pub record IsBuilt (o : Options) (s : Settled) (m : Machine) : Type 0 where
@@ -134,7 +128,7 @@ class_within o s m i b h =
 
 -- what is built is a machine
 pub IsBuilt-IsMachine : (o : Options) (s : Settled) (m : Machine) → IsBuilt o s m → IsMachine m
-unfolding template_of next_of
+unfolding template_of next_of IsOwn settled_minimum greatest_offset
 IsBuilt-IsMachine o s m i =
     let end : eoi_class m.classes < m.stride = rw (i.stride, i.classes) i.end_below in
     let small : m.stride ≤ 512 = rw i.stride i.small in
@@ -162,7 +156,6 @@ IsBuilt-IsMachine o s m i =
           cc
 
       alike : (b : ℕ) (q : Powerset) → b < 256 → IsOwn m.nfa q → IsOfClass m.classes (class_in m.classes b) 256 → successor m.nfa m.kind q (Some b) ≡ successor m.nfa m.kind q (byte_of m.classes (class_in m.classes b) 256)
-      unfolding IsOwn
       alike b q h own j =
           let e : class_of m.nfa m.quits (byte_classes_of o) b ≡ class_of m.nfa m.quits (byte_classes_of o) j.byte = sym (class_is o s m i b h) ∙ sym j.class_is ∙ class_is o s m i j.byte j.below in
           class_step m.nfa m.quits (byte_classes_of o) m.kind q b j.byte e own.1 ∙ ap (successor m.nfa m.kind q) (sym j.found)
@@ -171,14 +164,12 @@ IsBuilt-IsMachine o s m i =
       same_stride = i.stride ∙ ap (λ n. stride_for (n + 2)) (i.settled.classes 255 (lit< tt))
 
       minimum_is : settled_minimum o m.nfa ≡ minimum_capacity m.stride m.slots (greatest m) m.fixed
-      unfolding settled_minimum
       minimum_is = rw (same_stride, i.slots, i.fixed, i.settled.quits) refl
 
       enough : minimum_capacity m.stride m.slots (greatest m) m.fixed ≤ m.capacity
       enough = rw (i.capacity, i.settled.capacity, ← minimum_is) (omega arith)
 
       offsets : (m.slots + 4) * m.stride < 2 ^ 27
-      unfolding greatest_offset
       offsets =
           let le : (4 + start_slots m.nfa (starts_for_each_pattern_of o)) * m.stride ≤ 134217727 = rw (same_stride, i.settled.quits) i.settled.offsets in
           let e : (m.slots + 4) * m.stride ≡ (4 + start_slots m.nfa (starts_for_each_pattern_of o)) * m.stride = rw i.slots (omega arith) in

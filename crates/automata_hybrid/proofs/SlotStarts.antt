@@ -1,6 +1,10 @@
-use Rattle.std.proofs.Common.{◌≡◌, ℕ, suc, ◌+◌, ◌*◌, ◌/◌, ◌%◌, ◌<◌, Bool, true, false, cond, eqb, Option, None, Some, refl, sym, ap, ◌∙◌, subst, arith, lit<}
+use Rattle.std.proofs.Common.{◌≡◌, ℕ, suc, ◌+◌, ◌*◌, ◌/◌, ◌%◌, ◌<◌, ◌≤◌, length, Bool, true, false, cond, eqb, Option, None, Some, refl, sym, ap, ◌∙◌, subst, arith, lit<}
 use Rattle.std.proofs.lemmas.Bool.{eqb-true, eq-eqb}
 use Rattle.std.proofs.lemmas.Nat.{div-mul-add, mod-mul-add}
+use Rattle.std.proofs.lemmas.Option.{slice_get_past}
+use Rattle.automata_base.specs.Accounting.{start_slots}
+use Rattle.automata_base.specs.Nodes.{Automaton}
+use Rattle.automata_base.specs.Powerset.{dead}
 use Rattle.automata_base.specs.Alike.{behind_of}
 use Rattle.automata_base.specs.Looks.{is_word_byte}
 use Rattle.automata_base.specs.Steps.{start_state_of}
@@ -11,7 +15,7 @@ use Rattle.automata_hybrid.specs.Machine.{Machine, mode_of, sample_of, start_of}
 use Rattle.automata_hybrid.specs.Slots.{group_of, slot_of}
 
 -- a sample of a kind is of that kind
-IsSample : ℕ → ℕ → Type 0
+abbrev pub IsSample : ℕ → ℕ → Type 0
 IsSample t k = (behind_of t (sample_of t k) ≡ k) × (k < 6)
 
 sample_other : (t : ℕ) (b : Bool) → eqb 0 t ≡ b → behind_of t (Some (cond b 1 0)) ≡ 0
@@ -26,7 +30,6 @@ sample_terminator : (t : ℕ) → eqb t 10 ≡ false → eqb t 13 ≡ false → 
 sample_terminator t a b = rw (a, b, eq-eqb t t refl) refl
 
 pub behind_sample : (t : ℕ) (x : Option ℕ) → IsSample t (behind_of t x)
-unfolding IsSample
 behind_sample t None = (refl, lit< tt)
 behind_sample t (Some u) = go (eqb u 10) refl (eqb u 13) refl (eqb u t) refl (is_word_byte u)
   where
@@ -45,12 +48,11 @@ mode_group Yes = refl
 mode_group (Pattern p) = refl
 
 pub few_kinds : (t : ℕ) (x : Option ℕ) → behind_of t x < 6
-unfolding IsSample
 few_kinds t x = (behind_sample t x).1
 
 -- the start of a slot is that of its mode behind each thing of its kind
 pub start_same : (m : Machine) (mode : Anchored) (x : Option ℕ) → start_state_of m.nfa mode x ≡ start_of m (slot_of mode (behind_of m.nfa.flags.line_terminator x))
-unfolding IsSample start_of
+unfolding start_of
 start_same m mode x =
     let t : ℕ = m.nfa.flags.line_terminator in
     let k : ℕ = behind_of t x in
@@ -59,3 +61,8 @@ start_same m mode x =
     let kind : slot_of mode k % 6 ≡ k = mod-mul-add (group_of mode) 6 k s.1 in
     behind_alike m.nfa mode x (sample_of t k) (sym s.0)
     ∙ sym (λ i. start_state_of m.nfa ((ap mode_of group ∙ mode_group mode) i) (sample_of t (kind i)))
+
+-- past the last pattern the start is dead
+pub past_patterns : (a : Automaton) (p : ℕ) (x : Option ℕ) → length a.start_pattern ≤ p → start_state_of a (Pattern p) x ≡ dead
+unfolding start_state_of
+past_patterns a p x l = rw (slice_get_past a.start_pattern p l) refl

@@ -10,17 +10,16 @@ ghost use Rattle.automata_hybrid.specs.Bounds.{Fits, refuses_to_clear, IsCacheEr
 ghost use Rattle.automata_hybrid.specs.Caches.{IsCacheOf, fresh_cache, counted, with_store};
 ghost use Rattle.automata_hybrid.specs.Progressing.{started, updated, finished, total_len};
 
-use crate::dfa::DFA;
-use crate::dfa::row;
 use crate::dfa::store::Store;
-use automata_config::error::StepError;
+use crate::dfa::{DFA, row};
 use crate::id::LazyStateID;
 use automata_base::util::determinize::key::Key;
-use automata_base::util::determinize::{next_key, start_key};
 use automata_base::util::determinize::scratch::Scratch;
 use automata_base::util::determinize::state::State;
+use automata_base::util::determinize::{next_key, start_key};
 use automata_base::util::primitives::PatternID;
 use automata_base::util::search::Anchored;
+use automata_config::error::StepError;
 use std::alloc::AllocError;
 use std::marker::Model;
 
@@ -330,6 +329,7 @@ impl Cache {
         ensures usage { result ≡ usage self.now.store }
         ensures within { result ≤ self.now.store.table.of.capacity }
     {
+        self.store.bounds();
         self.store.memory_usage()
     }
 }

@@ -208,6 +208,7 @@ impl DFA {
     pub(crate) fn end_class(&self) -> usize
         ensures value { result ≡ eoi_class self.now.classes }
         ensures below { result < self.now.stride }
+        ensures small { self.now.stride ≤ 512 }
         ensures free { slice_index (template_of self.now) result ≡ 2 ^ 31 }
         ensures alike { (q : Powerset) → IsOwn self.now.nfa q → successor self.now.nfa self.now.kind q None ≡ next_of self.now q result }
     {
@@ -216,9 +217,10 @@ impl DFA {
 
     /// The start slots are as many as the modes give.
     pub(crate) fn ends_slots(&self)
-        ensures { self.now.slots ≡ start_slots self.now.nfa self.now.per_pattern }
+        ensures number { self.now.slots ≡ start_slots self.now.nfa self.now.per_pattern }
+        ensures fits { self.now.slots < 2 ^ 64 }
     {
-        let _ = self.slots;
+        let _slots = self.slots;
     }
 
     /// The fixed rows alone.

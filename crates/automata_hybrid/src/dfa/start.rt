@@ -112,6 +112,7 @@ impl DFA {
         ensures value { result ≡ group * 6 + behind_of self.now.nfa.flags.line_terminator prev }
         ensures within { result < self.now.slots }
     {
+        self.ends_slots();
         group * 6 + self.behind(prev)
     }
 
@@ -187,14 +188,36 @@ impl DFA {
         ensures starts { KeepsStarts cache.old.store.starts cache.new.store.starts }
         ensures refused { OnErr result ((cache.new ≡ cache.old) ⊎ (cache.new ≡ counted cache.old)) }
     {
-        let prev = config.get_look_behind();
-        let mode = config.get_anchored();
-        if let Some(byte) = self.quits_behind(prev) {
+        if let Some(byte) = self.quits_behind(config.get_look_behind()) {
             return Err(StartError::Quit { byte });
         }
-        let Some(slot) = self.mode_slot(mode, prev)? else {
-            return Ok(cache.dead());
-        };
+        match self.mode_slot(config.get_anchored(), config.get_look_behind())? {
+            None => Ok(cache.dead()),
+            Some(slot) => {
+                let mode = config.get_anchored();
+                let prev = config.get_look_behind();
+                self.start_at(cache, slot, mode, prev)
+            }
+        }
+    }
+
+    /// The start state of a slot.
+    fn start_at(
+        &self,
+        cache: &mut Cache,
+        slot: usize,
+        mode: Anchored,
+        prev: Option<u8>,
+    ) -> Result<LazyStateID, StartError>
+        requires of { IsCacheOf cache.old self.now }
+        requires slot { slot < self.now.slots }
+        requires same { start_state_of self.now.nfa mode prev ≡ start_of self.now slot }
+        ensures of { IsCacheOf cache.new self.now }
+        ensures row { IfOk result (HasRow cache.new.store.table) }
+        ensures named { IfOk result (λ n. Leads cache.new.store.table n (start_state_of self.now.nfa mode prev)) }
+        ensures starts { KeepsStarts cache.old.store.starts cache.new.store.starts }
+        ensures err { OnErr result (cache.new ≡ counted cache.old) }
+    {
         cache.slot_count();
         match cache.start(self, slot, mode, prev) {
             Ok(id) => Ok(id),
@@ -252,7 +275,9 @@ fn search_refusal(error: StartError, behind: usize, at: usize) -> SearchError
     match error {
         StartError::Cache { .. } => SearchError::Match(MatchError::gave_up(at)),
         StartError::Quit { byte } => SearchError::Match(MatchError::quit(byte, behind)),
-        StartError::UnsupportedAnchored { mode } => SearchError::Match(MatchError::unsupported_anchored(mode)),
+        StartError::UnsupportedAnchored { mode } => SearchError::Match(
+            MatchError::unsupported_anchored(mode),
+        ),
         StartError::OutOfMemory => SearchError::OutOfMemory,
     }
 }

@@ -11,9 +11,9 @@ ghost use Rattle.automata_base.specs.Classes.{class_in, eoi_class, is_quit};
 
 use crate::dfa::DFA;
 use crate::dfa::cache::{Cache, Found};
-use automata_config::error::StepError;
 use crate::id::LazyStateID;
 use automata_base::util::primitives::PatternID;
+use automata_config::error::StepError;
 
 impl Cache {
     /// The state after a unit of this class, by its ID. A known transition takes no memory.

@@ -15,10 +15,10 @@ use crate::dfa::progress::Searched;
 use crate::dfa::settings::Settings;
 use crate::dfa::table::Table;
 use crate::dfa::{DFA, row};
-use automata_config::error::{CacheError, StepError};
 use crate::id::LazyStateID;
 use automata_base::util::determinize::key::Key;
 use automata_base::util::determinize::state::State;
+use automata_config::error::{CacheError, StepError};
 use std::alloc::AllocError;
 use std::marker::Model;
 
@@ -156,6 +156,13 @@ impl Store {
         let used = self.memory_usage();
         let room = self.settings.capacity - used;
         4 * self.table.stride() + 36 + extra <= room && self.table.cell_count() < 134217728
+    }
+
+    /// The bounds are the DFA's.
+    pub fn bounds(&self)
+        ensures { self.now.settings ≡ settings_of self.now.table.of }
+    {
+        let _ = &self.settings;
     }
 
     /// The start slots are as many as the DFA's.
@@ -363,6 +370,7 @@ impl Store {
         ensures clears { (Fits self.old (cost state) → ⊥) → OnOk result (self.new ≡ grown (cleared self.old) (record { state = state; started = started })) }
         ensures named { IfOk result (λ id. Names self.new.table id state) }
         ensures slots { OnOk result (length self.new.starts ≡ length self.old.starts) }
+        ensures of { OnOk result (self.new.table.of ≡ self.old.table.of) }
         ensures starts { OnOk result (KeepsStarts self.old.starts self.new.starts) }
         ensures gives_up { IfErr result (λ e. IsCacheError e → (Fits self.old (cost state) → ⊥) × (refuses_to_clear self.old ≡ true)) }
         ensures err { OnErr result (self.new ≡ self.old) }

@@ -74,7 +74,10 @@ impl DFA {
         ensures within { result.at ≤ end }
     {
         if from.is_tagged() {
-            return Stop { at: start, id: from };
+            return Stop {
+                at: start,
+                id: from,
+            };
         }
         let mut at = start;
         let mut id = from;
