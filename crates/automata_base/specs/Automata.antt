@@ -1,9 +1,20 @@
 -- The data of an NFA as what contracts see.
-use Rattle.std.specs.Prelude.{◌≡◌, ◌↔◌, IsTrue}
+use Rattle.std.specs.Prelude.{ℕ, ◌≡◌, ◌↔◌, IsTrue, List}
 use Rattle.automata_base.specs.declared.nfa.thompson.Data.{Data}
+use Rattle.automata_base.specs.declared.nfa.thompson.Flags.{Flags}
+use Rattle.automata_base.specs.declared.nfa.thompson.State.{State}
 use Rattle.automata_base.specs.Nodes.{Automaton, stack_room}
 use Rattle.automata_base.specs.Door.{IsDoor, IsLooks}
 use Rattle.automata_base.specs.Getters.{HasEmpty, SkipsLazily}
+
+abbrev pub automaton : List State → (anchored unanchored : ℕ) → (starts : List ℕ) → Flags → Automaton
+automaton states anchored unanchored starts flags = record {
+  states = states;
+  start_anchored = anchored;
+  start_unanchored = unanchored;
+  start_pattern = starts;
+  flags = flags;
+}
 
 abbrev pub automaton_of : Data → Automaton
 automaton_of d = record {

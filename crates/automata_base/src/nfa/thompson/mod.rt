@@ -186,15 +186,17 @@ impl NFA {
     ghost use Rattle.automata_base.specs.Door.{IsDoor, IsLooks};
     ghost use Rattle.automata_base.specs.Getters.{HasEmpty, IsAlwaysStartAnchored, SkipsLazily};
     ghost use Rattle.automata_base.specs.Looks.{Look};
+    ghost use Rattle.automata_base.specs.Automata.{automaton};
     ghost use Rattle.automata_base.specs.Nodes.{nfa_of, stack_room};
     ghost use Rattle.automata_base.specs.Passes.{Occurs};
     ghost use Rattle.automata_base.specs.Refusals.{refusal};
     ghost use Rattle.automata_base.specs.Starts.{mode_start};
     ghost use Rattle.automata_base.specs.Truths.{truth_of};
 
-    /// An NFA of these states, which starts there, pattern k at state k of `start_pattern`. It is refused by the first of
-    /// these tests that fails, each of the whole list: its size, the starts, the states that edges lead to, the order of
-    /// ranges, the patterns; then for want of memory.
+    /// An NFA of these states. Searches start at the anchored or the unanchored start, and those for pattern k at
+    /// `start_pattern[k]`, so there are as many patterns as such starts. The tests are made in this order, each of the
+    /// whole list: its size, the starts, the states that edges lead to, the order of ranges, the patterns. The first
+    /// that fails refuses it. A refusal hands neither list back.
     pub fn from_states(
         alloc: Global,
         states: Vec<State>,
@@ -203,9 +205,13 @@ impl NFA {
         start_pattern: Vec<StateID>,
         flags: Flags,
     ) -> Result<NFA, NfaError>
-        ensures same { IfOk result (λ nfa. nfa ≡ record { states = states.items; start_anchored = start_anchored; start_unanchored = start_unanchored; start_pattern = start_pattern.items; flags = flags }) }
-        ensures refused { (e : NfaError) → refusal states.items start_anchored start_unanchored start_pattern.items ≡ Some e → result ≡ Err e }
-        ensures passed { refusal states.items start_anchored start_unanchored start_pattern.items ≡ None → IsOkUnless result NfaError.OutOfMemory }
+        ensures same { IfOk result (λ nfa. nfa ≡ automaton
+            states.items start_anchored start_unanchored start_pattern.items flags) }
+        ensures refused { (error : NfaError)
+            → refusal states.items start_anchored start_unanchored start_pattern.items ≡ Some error
+            → result ≡ Err error }
+        ensures memory { refusal states.items start_anchored start_unanchored start_pattern.items ≡ None
+            → IsOkUnless result NfaError.OutOfMemory }
     {
         let room = test(
             states.as_slice(),
@@ -235,7 +241,8 @@ impl NFA {
     ) -> Result<NFA, NfaError>
         requires passed { refusal states.items start_anchored start_unanchored start_pattern.items ≡ None }
         requires room { room ≡ stack_room states.items }
-        ensures same { IfOk result (λ nfa. nfa ≡ record { states = states.items; start_anchored = start_anchored; start_unanchored = start_unanchored; start_pattern = start_pattern.items; flags = flags }) }
+        ensures same { IfOk result (λ nfa. nfa ≡ automaton
+            states.items start_anchored start_unanchored start_pattern.items flags) }
         ensures memory { IsOkUnless result NfaError.OutOfMemory }
     {
         let has_empty = reaches_match(alloc, states.as_slice(), start_pattern.as_slice())?;

@@ -4,7 +4,8 @@ ghost use Rattle.automata_base.specs.Lists.{In};
 ghost use Rattle.automata_base.specs.Nodes.{node_of, ranges_of, dense_from};
 ghost use Rattle.automata_base.specs.Once.{once_from};
 ghost use Rattle.automata_base.specs.Paths.{all_true};
-ghost use Rattle.automata_base.specs.Reach.{node_in, nexts, byte_targets, targets_at, IsReached, ReachesMatch, second_of, second_at, is_any_byte_of, IsMatchAt, SkipsFrom};
+ghost use Rattle.automata_base.specs.Reach.{node_in, nexts, byte_targets, targets_at, IsReached, IsMatchAt, ReachesMatch};
+ghost use Rattle.automata_base.specs.Reach.{second_of, second_at, is_any_byte_of, SkipsFrom};
 ghost use Rattle.automata_base.specs.Refusals.{transitions_below, state_below, states_below};
 ghost use Rattle.automata_base.specs.Visits.{children_at};
 
@@ -130,7 +131,8 @@ fn add_targets(set: &mut SparseSet, state: &State, edges: Edges)
 // The member that came at this place.
 fn member(set: &SparseSet, at: usize) -> Option<StateID>
     ensures some { (id : ℕ) → result ≡ Some id
-        → (at < length set.now.items) × (id ≡ get_or set.now.items at id) × (id < set.now.capacity) × (at < set.now.capacity) }
+        → (at < length set.now.items) × (id ≡ get_or set.now.items at id)
+        × (id < set.now.capacity) × (at < set.now.capacity) }
     ensures none { result ≡ None → length set.now.items ≤ at }
 {
     let items = set.as_slice();

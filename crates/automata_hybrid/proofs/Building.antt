@@ -1,0 +1,176 @@
+use Rattle.std.proofs.Common.{◌≡◌, ℕ, zero, suc, ◌+◌, ◌-◌, ◌*◌, ◌^◌, ◌<◌, ◌≤◌, List, length, Bool, true, false, cond, eqb, set, get_or, Option, None, Some, replicate, refl, sym, ap, ◌∙◌, subst, ◌⊎◌, inl, inr, ⊎_elim, arith, length-set, add-suc, lit<}
+use Rattle.std.specs.Prelude.{◌==◌, max, if◌then◌else◌}
+use Rattle.std.proofs.lemmas.Bool.{cases_lt, cases_eq, eqb-true, eqb-false, eq-eqb, cases_Bool}
+use Rattle.std.proofs.lemmas.List.{length-replicate, get_or-replicate, get_or-set_same, get_or-set_other}
+use Rattle.automata_base.specs.Accounting.{max_cost, fixed_cost, start_slots, minimum_capacity, effective_capacity}
+use Rattle.automata_base.specs.Classes.{class_in, eoi_class, is_quit, is_boundary, boundary_count, class_of, stride_of, stride_for}
+use Rattle.automata_base.specs.Nodes.{Automaton}
+use Rattle.automata_base.specs.Powerset.{Powerset}
+use Rattle.automata_base.specs.Steps.{successor}
+use Rattle.automata_base.proofs.Determinizing.AlikeClasses.{class_step, class_quits}
+use Rattle.automata_config.specs.Options.{Options, starts_for_each_pattern_of, byte_classes_of, cache_capacity_of}
+use Rattle.automata_config.specs.Settled.{Settled}
+use Rattle.automata_config.specs.Settling.{IsSettled, settled_minimum, greatest_offset}
+use Rattle.automata_hybrid.specs.Ids.{quit_id}
+use Rattle.automata_hybrid.specs.Owned.{IsOwn}
+use Rattle.automata_hybrid.specs.Machine.{Machine, IsMachine, IsTemplate, marked, template_of, byte_of, next_of, greatest}
+
+count_more : (f : ℕ → Bool) (n : ℕ) → boundary_count f n ≤ boundary_count f (suc n)
+unfolding boundary_count
+count_more f n = omega arith
+
+-- classes rise
+count_rises : (f : ℕ → Bool) (n k : ℕ) → boundary_count f n ≤ boundary_count f (k + n)
+count_rises f n zero = let e : 0 + n ≡ n = omega arith in rw e (omega arith)
+count_rises f n (suc k) =
+    let e : suc k + n ≡ suc (k + n) = omega arith in
+    let more : boundary_count f (k + n) ≤ boundary_count f (suc (k + n)) = count_more f (k + n) in
+    rw e (omega (arith, count_rises f n k, more))
+
+count_up_to : (f : ℕ → Bool) (n m : ℕ) → n ≤ m → boundary_count f n ≤ boundary_count f m
+count_up_to f n m h = let k : ℕ = m - n in let e : k + n ≡ m = omega arith in subst (λ x. boundary_count f n ≤ boundary_count f x) e (count_rises f n k)
+
+-- the cells of a new row
+marked-length : (cs : List ℕ) (qs : List Bool) (s n : ℕ) → length (marked cs qs s n) ≡ s
+unfolding marked
+marked-length cs qs s zero = length-replicate s (2 ^ 31)
+marked-length cs qs s (suc n) = go (is_quit qs n) (marked-length cs qs s n) where
+  go : (b : Bool) → length (marked cs qs s n) ≡ s → length (cond b (set (marked cs qs s n) (class_in cs n) (quit_id s)) (marked cs qs s n)) ≡ s
+  go true again = length-set (marked cs qs s n) (class_in cs n) (quit_id s) ∙ again
+  go false again = again
+
+marked-either : (cs : List ℕ) (qs : List Bool) (s n class : ℕ) → class < s → (get_or (marked cs qs s n) class 0 ≡ quit_id s) ⊎ (get_or (marked cs qs s n) class 0 ≡ 2 ^ 31)
+unfolding marked
+marked-either cs qs s zero class l = inr (get_or-replicate s class (2 ^ 31) 0 l)
+marked-either cs qs s (suc n) class l = go (is_quit qs n) (marked-either cs qs s n class l) where
+  go : (b : Bool) → (get_or (marked cs qs s n) class 0 ≡ quit_id s) ⊎ (get_or (marked cs qs s n) class 0 ≡ 2 ^ 31) → (get_or (cond b (set (marked cs qs s n) (class_in cs n) (quit_id s)) (marked cs qs s n)) class 0 ≡ quit_id s) ⊎ (get_or (cond b (set (marked cs qs s n) (class_in cs n) (quit_id s)) (marked cs qs s n)) class 0 ≡ 2 ^ 31)
+  go false again = again
+  go true again = ⊎_elim
+      (λ (e : class ≡ class_in cs n). inl (let w : class_in cs n < length (marked cs qs s n) = rw marked-length (omega (arith, e, l)) in rw e (get_or-set_same (marked cs qs s n) (class_in cs n) (quit_id s) 0 w)))
+      (λ (ne : class ≡ class_in cs n → ⊥). rw (get_or-set_other (marked cs qs s n) (class_in cs n) class (quit_id s) 0 ne) again)
+      (cases_eq class (class_in cs n))
+
+marked-free : (cs : List ℕ) (qs : List Bool) (s n class : ℕ) → class < s → ((b : ℕ) → b < n → is_quit qs b ≡ true → class ≡ class_in cs b → ⊥) → get_or (marked cs qs s n) class 0 ≡ 2 ^ 31
+unfolding marked
+marked-free cs qs s zero class l none = get_or-replicate s class (2 ^ 31) 0 l
+marked-free cs qs s (suc n) class l none = go (is_quit qs n) refl (marked-free cs qs s n class l (λ b h. none b (omega (arith, h)))) where
+  go : (b : Bool) → is_quit qs n ≡ b → get_or (marked cs qs s n) class 0 ≡ 2 ^ 31 → get_or (cond b (set (marked cs qs s n) (class_in cs n) (quit_id s)) (marked cs qs s n)) class 0 ≡ 2 ^ 31
+  go false e again = again
+  go true e again = rw (get_or-set_other (marked cs qs s n) (class_in cs n) class (quit_id s) 0 (none n (omega arith) e)) again
+
+marked-quit : (cs : List ℕ) (qs : List Bool) (s n byte : ℕ) → byte < n → class_in cs byte < s → is_quit qs byte ≡ true → get_or (marked cs qs s n) (class_in cs byte) 0 ≡ quit_id s
+unfolding marked
+marked-quit cs qs s zero byte h l q = absurd (omega (arith, h))
+marked-quit cs qs s (suc n) byte h l q = go (is_quit qs n) refl (cases_lt byte n) (λ k. marked-quit cs qs s n byte k l q) where
+  here : class_in cs byte ≡ class_in cs n → get_or (set (marked cs qs s n) (class_in cs n) (quit_id s)) (class_in cs byte) 0 ≡ quit_id s
+  here e = let w : class_in cs n < length (marked cs qs s n) = rw marked-length (omega (arith, e, l)) in rw e (get_or-set_same (marked cs qs s n) (class_in cs n) (quit_id s) 0 w)
+
+  go : (b : Bool) → is_quit qs n ≡ b → (byte < n) ⊎ (n ≤ byte) → (byte < n → get_or (marked cs qs s n) (class_in cs byte) 0 ≡ quit_id s) → get_or (cond b (set (marked cs qs s n) (class_in cs n) (quit_id s)) (marked cs qs s n)) (class_in cs byte) 0 ≡ quit_id s
+  go false e (inl k) again = again k
+  go false e (inr k) again = let same : byte ≡ n = omega (arith, k, h) in let clash : true ≡ false = sym q ∙ ap (is_quit qs) same ∙ e in cc
+  go true e (inl k) again = ⊎_elim here (λ (ne : class_in cs byte ≡ class_in cs n → ⊥). rw (get_or-set_other (marked cs qs s n) (class_in cs n) (class_in cs byte) (quit_id s) 0 ne) (again k)) (cases_eq (class_in cs byte) (class_in cs n))
+  go true e (inr k) again = let same : byte ≡ n = omega (arith, k, h) in here (ap (class_in cs) same)
+
+-- a byte of a class of a byte
+pub record IsOfClass (cs : List ℕ) (class n : ℕ) : Type 0 where
+  pub byte : ℕ
+  pub below : byte < n
+  pub class_is : class_in cs byte ≡ class
+  pub found : byte_of cs class n ≡ Some byte
+
+byte_of-some : (cs : List ℕ) (class n b : ℕ) → b < n → class_in cs b ≡ class → IsOfClass cs class n
+unfolding byte_of
+byte_of-some cs class zero b h e = absurd (omega (arith, h))
+byte_of-some cs class (suc n) b h e = go (class_in cs n == class) refl (λ lt. byte_of-some cs class n b lt e) where
+  go : (t : Bool) → (class_in cs n == class) ≡ t → (b < n → IsOfClass cs class n) → IsOfClass cs class (suc n)
+  go true f again = record { byte = n; below = omega arith; class_is = eqb-true (class_in cs n) class f; found = rw f refl }
+  go false f again =
+      let ne : b ≡ n → ⊥ = λ s. eqb-false (class_in cs n) class f (sym (ap (class_in cs) s) ∙ e) in
+      let lt : b < n = omega (arith, h, ne) in
+      let i = again lt in
+      record { byte = i.byte; below = omega (arith, i.below); class_is = i.class_is; found = rw f i.found }
+
+byte_of-none : (cs : List ℕ) (class n : ℕ) → ((b : ℕ) → b < n → class_in cs b ≡ class → ⊥) → byte_of cs class n ≡ None
+unfolding byte_of
+byte_of-none cs class zero none = refl
+byte_of-none cs class (suc n) none = go (class_in cs n == class) refl (byte_of-none cs class n (λ b h. none b (omega (arith, h)))) where
+  go : (t : Bool) → (class_in cs n == class) ≡ t → byte_of cs class n ≡ None → cond t (Some n) (byte_of cs class n) ≡ None
+  go true f again = absurd (none n (omega arith) (eqb-true (class_in cs n) class f))
+  go false f again = again
+
+-- what a DFA is built of
+pub record IsBuilt (o : Options) (s : Settled) (m : Machine) : Type 0 where
+  pub settled : IsSettled o m.nfa s
+  pub classes : m.classes ≡ s.classes
+  pub quits : m.quits ≡ s.quits
+  pub stride : m.stride ≡ stride_of s.classes
+  pub end_below : eoi_class s.classes < stride_of s.classes
+  pub small : stride_of s.classes ≤ 512
+  pub slots : m.slots ≡ start_slots m.nfa (starts_for_each_pattern_of o)
+  pub fixed : m.fixed ≡ fixed_cost m.nfa
+  pub capacity : m.capacity ≡ s.capacity
+  pub per_pattern : m.per_pattern ≡ starts_for_each_pattern_of o
+
+class_is : (o : Options) (s : Settled) (m : Machine) → IsBuilt o s m → (b : ℕ) → b < 256 → class_in m.classes b ≡ class_of m.nfa m.quits (byte_classes_of o) b
+class_is o s m i b h = rw (i.classes, i.quits) (i.settled.classes b h)
+
+class_below : (o : Options) (s : Settled) (m : Machine) → IsBuilt o s m → (b : ℕ) → b < 256 → class_in m.classes b < eoi_class m.classes
+class_below o s m i b h =
+    let f : ℕ → Bool = is_boundary m.nfa m.quits (byte_classes_of o) in
+    let le : boundary_count f b ≤ boundary_count f 255 = count_up_to f b 255 (omega (arith, h)) in
+    let last : class_in m.classes 255 ≡ boundary_count f 255 = class_is o s m i 255 (lit< tt) in
+    omega (arith, le, last, class_is o s m i b h)
+
+class_within : (o : Options) (s : Settled) (m : Machine) → IsBuilt o s m → (b : ℕ) → b < 256 → class_in m.classes b < m.stride
+class_within o s m i b h =
+    let e : eoi_class m.classes < m.stride = rw (i.stride, i.classes) i.end_below in
+    omega (arith, e, class_below o s m i b h)
+
+-- what is built is a machine
+pub IsBuilt-IsMachine : (o : Options) (s : Settled) (m : Machine) → IsBuilt o s m → IsMachine m
+unfolding template_of next_of IsOwn settled_minimum greatest_offset
+IsBuilt-IsMachine o s m i =
+    let end : eoi_class m.classes < m.stride = rw (i.stride, i.classes) i.end_below in
+    let small : m.stride ≤ 512 = rw i.stride i.small in
+    record {
+      template = record {
+        positive = omega (arith, end);
+        small = small;
+        whole = marked-length m.classes m.quits m.stride 256;
+        cells = λ class l. marked-either m.classes m.quits m.stride 256 class l;
+      };
+      below = end;
+      quit = λ b h q. marked-quit m.classes m.quits m.stride 256 b h (class_within o s m i b h) q;
+      free = λ b h q. marked-free m.classes m.quits m.stride 256 (class_in m.classes b) (class_within o s m i b h) (apart b h q);
+      end_free = marked-free m.classes m.quits m.stride 256 (eoi_class m.classes) end (λ b h q e. absurd (omega (arith, e, class_below o s m i b h)));
+      alike = λ b q h own. alike b q h own (byte_of-some m.classes (class_in m.classes b) 256 b h refl);
+      end_alike = λ q own. ap (successor m.nfa m.kind q) (sym (byte_of-none m.classes (eoi_class m.classes) 256 (λ b h e. absurd (omega (arith, e, class_below o s m i b h)))));
+      enough = enough;
+      slots = i.slots ∙ ap (start_slots m.nfa) (sym i.per_pattern);
+      offsets = offsets;
+    } where
+      apart : (b : ℕ) → b < 256 → is_quit m.quits b ≡ false → (u : ℕ) → u < 256 → is_quit m.quits u ≡ true → class_in m.classes b ≡ class_in m.classes u → ⊥
+      apart b h q u k p e =
+          let same : is_quit m.quits b ≡ is_quit m.quits u = class_quits m.nfa m.quits (byte_classes_of o) b u (sym (class_is o s m i b h) ∙ e ∙ class_is o s m i u k) in
+          let clash : false ≡ true = sym q ∙ same ∙ p in
+          cc
+
+      alike : (b : ℕ) (q : Powerset) → b < 256 → IsOwn m.nfa q → IsOfClass m.classes (class_in m.classes b) 256 → successor m.nfa m.kind q (Some b) ≡ successor m.nfa m.kind q (byte_of m.classes (class_in m.classes b) 256)
+      alike b q h own j =
+          let e : class_of m.nfa m.quits (byte_classes_of o) b ≡ class_of m.nfa m.quits (byte_classes_of o) j.byte = sym (class_is o s m i b h) ∙ sym j.class_is ∙ class_is o s m i j.byte j.below in
+          class_step m.nfa m.quits (byte_classes_of o) m.kind q b j.byte e own.1 ∙ ap (successor m.nfa m.kind q) (sym j.found)
+
+      same_stride : m.stride ≡ stride_for (class_of m.nfa s.quits (byte_classes_of o) 255 + 2)
+      same_stride = i.stride ∙ ap (λ n. stride_for (n + 2)) (i.settled.classes 255 (lit< tt))
+
+      minimum_is : settled_minimum o m.nfa ≡ minimum_capacity m.stride m.slots (greatest m) m.fixed
+      minimum_is = rw (same_stride, i.slots, i.fixed, i.settled.quits) refl
+
+      enough : minimum_capacity m.stride m.slots (greatest m) m.fixed ≤ m.capacity
+      enough = rw (i.capacity, i.settled.capacity, ← minimum_is) (omega arith)
+
+      offsets : (m.slots + 4) * m.stride < 2 ^ 27
+      offsets =
+          let le : (4 + start_slots m.nfa (starts_for_each_pattern_of o)) * m.stride ≤ 134217727 = rw (same_stride, i.settled.quits) i.settled.offsets in
+          let e : (m.slots + 4) * m.stride ≡ (4 + start_slots m.nfa (starts_for_each_pattern_of o)) * m.stride = rw i.slots (omega arith) in
+          omega (arith, le, e)

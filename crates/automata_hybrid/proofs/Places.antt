@@ -1,0 +1,147 @@
+use Rattle.std.proofs.Common.{◌≡◌, ℕ, ◌+◌, ◌-◌, ◌*◌, ◌/◌, ◌%◌, ◌^◌, ◌<◌, ◌≤◌, suc, List, [], ◌∷◌, length, Bool, true, false, cond, Some, get_or, set, slice_get, refl, sym, ap, ◌∙◌, subst, inr, ⊎_elim, arith, length-set}
+use Rattle.std.proofs.lemmas.Bool.{cases_eq}
+use Rattle.std.proofs.lemmas.Option.{slice_get_within}
+use Rattle.std.proofs.lemmas.Nat.{div-mul-add, mod-mul-add}
+use Rattle.std.proofs.lemmas.List.{get_or-set_same, get_or-set_other, take-set-le}
+use Rattle.std.proofs.Math.Nat.{mul-le-mul_right}
+use Rattle.automata_base.specs.Powerset.{Powerset, cost}
+use Rattle.automata_base.specs.Equal.{powerset_eq, powerset_eq-Decides}
+use Rattle.automata_hybrid.specs.declared.dfa.row.Row.{Row}
+use Rattle.automata_hybrid.specs.Ids.{tags}
+use Rattle.automata_hybrid.specs.Machine.{next_of, greatest, template_of}
+use Rattle.std.specs.List.{sum_by}
+use Rattle.std.proofs.lemmas.List.Sums.{sum_by-cons}
+use Rattle.automata_hybrid.specs.Table.{Rows, has_patterns, find_id, Names, Leads, IsCell, row_id, with_cell, cell_at, IsTable, IsStepped, HasState, StateMap, row_cost}
+use Rattle.automata_hybrid.proofs.Rows.{inside}
+
+-- the row that a look-up met
+pub record Found (s at : ℕ) (q : Powerset) (rs : List Row) (id : ℕ) : Type 0 where
+  pub place : ℕ
+  pub row : Row
+  pub has : slice_get rs place ≡ Some row
+  pub state : row.state ≡ q
+  pub «is» : id ≡ row_id (at + place * s) row
+
+pub find_id-Found : (s at : ℕ) (q : Powerset) (rs : List Row) (id : ℕ) → find_id s at q rs ≡ Some id → Found s at q rs id
+find_id-Found s at q [] id h = cc
+find_id-Found s at q (r ∷ rs) id h = go (powerset_eq q r.state) refl h (λ e. find_id-Found s (at + s) q rs id e) where
+  go : (b : Bool) → powerset_eq q r.state ≡ b → cond b (Some (row_id at r)) (find_id s (at + s) q rs) ≡ Some id → (find_id s (at + s) q rs ≡ Some id → Found s (at + s) q rs id) → Found s at q (r ∷ rs) id
+  go true e h again =
+      let i : row_id at r ≡ id = cc in
+      let z : at ≡ at + 0 * s = omega arith in
+      record { place = 0; row = r; has = refl; state = sym ((powerset_eq-Decides q r.state).0 e); «is» = sym i ∙ ap (λ n. row_id n r) z }
+  go false e h again =
+      let f = again h in
+      let z : at + s + f.place * s ≡ at + suc f.place * s = omega arith in
+      record { place = suc f.place; row = f.row; has = f.has; state = f.state; «is» = f.«is» ∙ ap (λ n. row_id n f.row) z }
+
+pub tags_mod : (x : ℕ) (a b : Bool) → x < 2 ^ 27 → (x + tags a b) % 2 ^ 27 ≡ x
+tags_mod x true true h = let e : x + (2 ^ 28 + 2 ^ 27) ≡ 3 * 2 ^ 27 + x = omega arith in ap (λ n. n % 2 ^ 27) e ∙ mod-mul-add 3 (2 ^ 27) x h
+tags_mod x true false h = let e : x + (2 ^ 28 + 0) ≡ 2 * 2 ^ 27 + x = omega arith in ap (λ n. n % 2 ^ 27) e ∙ mod-mul-add 2 (2 ^ 27) x h
+tags_mod x false true h = let e : x + (0 + 2 ^ 27) ≡ 1 * 2 ^ 27 + x = omega arith in ap (λ n. n % 2 ^ 27) e ∙ mod-mul-add 1 (2 ^ 27) x h
+tags_mod x false false h = let e : x + (0 + 0) ≡ 0 * 2 ^ 27 + x = omega arith in ap (λ n. n % 2 ^ 27) e ∙ mod-mul-add 0 (2 ^ 27) x h
+
+pub tags_low : (x : ℕ) (a b : Bool) → x < 2 ^ 27 → x + tags a b < 2 ^ 29
+tags_low x true true h = omega arith
+tags_low x true false h = omega arith
+tags_low x false true h = omega arith
+tags_low x false false h = omega arith
+
+-- where the row of an ID stands
+pub record Placed (t : Rows) (id : ℕ) (q : Powerset) : Type 0 where
+  pub place : ℕ
+  pub row : Row
+  pub has : slice_get t.rows place ≡ Some row
+  pub state : row.state ≡ q
+  pub within : place < length t.rows
+  pub offset : id % 2 ^ 27 ≡ (place + 3) * t.of.stride
+  pub low : id < 2 ^ 29
+
+pub Names-Placed : (t : Rows) (m : StateMap) (costs id : ℕ) (q : Powerset) → IsTable t m costs → Names t id q → Placed t id q
+Names-Placed t m costs id q i h =
+    let f = find_id-Found t.of.stride (3 * t.of.stride) q t.rows id h in
+    let within : f.place < length t.rows = slice_get_within t.rows f.place f.row f.has in
+    let le : (f.place + 4) * t.of.stride ≤ (length t.rows + 3) * t.of.stride = mul-le-mul_right t.of.stride (omega (arith, within)) in
+    let low : (f.place + 3) * t.of.stride < 2 ^ 27 = omega (arith, le, i.whole, i.small) in
+    let at : 3 * t.of.stride + f.place * t.of.stride ≡ (f.place + 3) * t.of.stride = omega arith in
+    record {
+      place = f.place;
+      row = f.row;
+      has = f.has;
+      state = f.state;
+      within = within;
+      offset = ap (λ n. n % 2 ^ 27) (f.«is» ∙ ap (λ n. row_id n f.row) at) ∙ tags_mod _ f.row.started (has_patterns f.row.state) low;
+      low = rw (f.«is») (tags_low _ f.row.started (has_patterns f.row.state) (omega (arith, low, at)));
+    }
+
+pub Placed-cell : (t : Rows) (m : StateMap) (costs id class : ℕ) (q : Powerset) → IsTable t m costs → Placed t id q → class < t.of.stride → cell_at id class < length t.cells
+Placed-cell t m costs id class q i p l = rw (p.offset, i.whole) (inside p.place (length t.rows) t.of.stride class p.within l)
+
+pub Placed-place : (t : Rows) (m : StateMap) (costs id : ℕ) (q : Powerset) → IsTable t m costs → (p : Placed t id q) → (id % 2 ^ 27) / t.of.stride ≡ p.place + 3
+Placed-place t m costs id q i p =
+    let e : (p.place + 3) * t.of.stride ≡ (p.place + 3) * t.of.stride + 0 = omega arith in
+    ap (λ n. n / t.of.stride) (p.offset ∙ e) ∙ div-mul-add (p.place + 3) t.of.stride 0 i.template.positive
+
+pub Placed-HasState : (t : Rows) (m : StateMap) (costs id k : ℕ) (q : Powerset) → IsTable t m costs → Placed t id q → k ≡ (id % 2 ^ 27) / t.of.stride - 3 → HasState t k q
+Placed-HasState t m costs id k q i p e =
+    let same : k ≡ p.place = omega (arith, Placed-place t m costs id q i p, e) in
+    (p.row, subst (λ n. slice_get t.rows n ≡ Some p.row) (sym same) p.has, p.state)
+
+pub Placed-IsCell : (t : Rows) (m : StateMap) (costs id class : ℕ) (q : Powerset) → IsTable t m costs → Placed t id q → class < t.of.stride → IsCell t q class (get_or t.cells (cell_at id class) 0)
+Placed-IsCell t m costs id class q i p l =
+    subst (λ n. IsCell t q class (get_or t.cells (n + class) 0)) (sym p.offset) (subst (λ w. IsCell t w class (get_or t.cells ((p.place + 3) * t.of.stride + class) 0)) p.state (i.stepped p.place class p.row p.has l))
+
+some_inj : (x y : Row) → Some x ≡ Some y → x ≡ y
+some_inj x y e = cc
+
+-- one cell, one row and one class
+pub one_cell : (a b c d s : ℕ) → c < s → d < s → a * s + c ≡ b * s + d → (a ≡ b) × (c ≡ d)
+one_cell a b c d s l m e =
+    let f : a ≡ b = sym (div-mul-add a s c l) ∙ ap (λ n. n / s) e ∙ div-mul-add b s d m in
+    let g : c ≡ d = sym (mod-mul-add a s c l) ∙ ap (λ n. n % s) e ∙ mod-mul-add b s d m in
+    (f, g)
+
+-- a cell that is written with what names the next state
+pub IsTable-with_cell : (t : Rows) (m : StateMap) (costs id class next : ℕ) (q : Powerset) → IsTable t m costs → Names t id q → class < t.of.stride → get_or (template_of t.of) class 0 ≡ 2 ^ 31 → Leads t next (next_of t.of q class) → IsTable (with_cell t id class next) m costs
+IsTable-with_cell t m costs id class next q i h l free leads =
+    let p = Names-Placed t m costs id q i h in
+    let far : 3 * t.of.stride ≤ cell_at id class = omega (arith, p.offset, mul-le-mul_right t.of.stride (le3 p.place)) in
+    record {
+      template = i.template;
+      whole = length-set t.cells (cell_at id class) next ∙ i.whole;
+      small = rw length-set i.small;
+      fixed = take-set-le (3 * t.of.stride) t.cells (cell_at id class) next far ∙ i.fixed;
+      stepped = stepped p;
+      distinct = i.distinct;
+      alive = i.alive;
+      mapped = i.mapped;
+      costs_of = i.costs_of;
+    } where
+      le3 : (k : ℕ) → 3 ≤ k + 3
+      le3 k = omega arith
+
+      stepped : Placed t id q → IsStepped (with_cell t id class next)
+      stepped p k c r has lc = ⊎_elim
+          (λ (e : (k + 3) * t.of.stride + c ≡ cell_at id class). same e)
+          (λ (ne : (k + 3) * t.of.stride + c ≡ cell_at id class → ⊥). subst (IsCell t r.state c) (sym (get_or-set_other t.cells (cell_at id class) ((k + 3) * t.of.stride + c) next 0 ne)) (i.stepped k c r has lc))
+          (cases_eq ((k + 3) * t.of.stride + c) (cell_at id class)) where
+            same : (k + 3) * t.of.stride + c ≡ cell_at id class → IsCell t r.state c (get_or (set t.cells (cell_at id class) next) ((k + 3) * t.of.stride + c) 0)
+            same e =
+                let both = one_cell (k + 3) (p.place + 3) c class t.of.stride lc l (e ∙ ap (λ n. n + class) p.offset) in
+                let place : k ≡ p.place = omega (arith, both.0) in
+                let row : Some r ≡ Some p.row = sym has ∙ ap (slice_get t.rows) place ∙ p.has in
+                let state : r.state ≡ q = ap (λ (x : Row). x.state) (some_inj r p.row row) ∙ p.state in
+                let read : next ≡ get_or (set t.cells (cell_at id class) next) ((k + 3) * t.of.stride + c) 0 = sym (get_or-set_same t.cells (cell_at id class) next 0 (Placed-cell t m costs id class q i p l)) ∙ ap (λ n. get_or (set t.cells (cell_at id class) next) n 0) (sym e) in
+                subst (IsCell t r.state c) read (subst (λ d. IsCell t r.state d next) (sym both.1) (subst (λ w. IsCell t w class next) (sym state) (inr (free, inr leads))))
+
+pub costs_le : (rs : List Row) (m : ℕ) → ((k : ℕ) (r : Row) → slice_get rs k ≡ Some r → cost r.state ≤ m) → sum_by row_cost rs ≤ length rs * m
+costs_le [] m all = omega arith
+costs_le (r ∷ rs) m all =
+    let one : cost r.state ≤ m = all 0 r refl in
+    let more : sum_by row_cost rs ≤ length rs * m = costs_le rs m (λ k x h. all (suc k) x h) in
+    let e : suc (length rs) * m ≡ m + length rs * m = omega arith in
+    let f : sum_by row_cost (r ∷ rs) ≡ cost r.state + sum_by row_cost rs = sum_by-cons row_cost r rs in
+    omega (arith, one, more, e, f)
+
+pub IsTable-costs : (t : Rows) (m : StateMap) (costs : ℕ) → IsTable t m costs → sum_by row_cost t.rows ≤ length t.rows * greatest t.of
+IsTable-costs t m costs i = costs_le t.rows (greatest t.of) (λ k r h. (i.alive k r h).1)

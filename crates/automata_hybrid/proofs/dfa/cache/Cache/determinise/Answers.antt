@@ -1,0 +1,31 @@
+use Rattle.std.proofs.Common.{◌≡◌, ◌∙◌, ap, subst, sym}
+use Rattle.automata_base.specs.Powerset.{Powerset}
+use Rattle.automata_base.specs.Nodes.{Automaton}
+use Rattle.automata_base.specs.Starts.{IsOf}
+use Rattle.automata_base.specs.Steps.{NeedsOwnLooks, successor}
+use Rattle.automata_hybrid.specs.Owned.{IsOwn}
+use Rattle.automata_hybrid.specs.Machine.{Machine, next_of}
+use Rattle.automata_hybrid.specs.Table.{Names}
+use Rattle.automata_hybrid.specs.Caches.{CacheView}
+use Rattle.automata_hybrid.proofs.dfa.cache.Cache.determinise.Goals as goal
+
+pub next_key-requires-clause-is_of : goal.next_key-requires-clause-is_of
+unfolding IsOwn
+next_key-requires-clause-is_of c =
+    let m : c.self.inside.store.table.of ≡ c.args.dfa.now = ap (λ (v : CacheView). v.store.table.of) c.self.view_is ∙ c.requires.of in
+    let own : IsOwn c.args.dfa.now.nfa c.state-from.result.now = subst (λ (u : Machine). IsOwn u.nfa c.state-from.result.now) m c.state-from.ensures.of in
+    subst (λ (a : Automaton). IsOf a c.state-from.result.now) (sym c.get_nfa.ensures) own.0
+
+pub returns-clause-is_of : goal.returns-clause-is_of
+unfolding IsOwn
+returns-clause-is_of c =
+    (subst (λ (a : Automaton). IsOf a c.in_ok-key.key) c.get_nfa.ensures c.in_ok-key.ensures.is_of, subst (λ (a : Automaton). NeedsOwnLooks a c.in_ok-key.key) c.get_nfa.ensures c.in_ok-key.ensures.looks)
+
+pub returns-clause-value : goal.returns-clause-value
+returns-clause-value c = λ q n.
+    let m : c.self.inside.store.table.of ≡ c.args.dfa.now = ap (λ (v : CacheView). v.store.table.of) c.self.view_is ∙ c.requires.of in
+    let own : IsOwn c.args.dfa.now.nfa c.state-from.result.now = subst (λ (u : Machine). IsOwn u.nfa c.state-from.result.now) m c.state-from.ensures.of in
+    let named : Names c.self.inside.store.table c.args.id q = subst (λ (v : CacheView). Names v.store.table c.args.id q) (sym c.self.view_is) n in
+    let from : c.state-from.result.now ≡ q = c.state-from.ensures.named q named in
+    let same : successor c.get_nfa.result.now c.kind.result c.state-from.result.now c.args.unit ≡ successor c.args.dfa.now.nfa c.args.dfa.now.kind q c.args.unit = λ i. successor (c.get_nfa.ensures i) (c.kind.ensures i) (from i) c.args.unit in
+    c.in_ok-key.ensures.key ∙ same ∙ c.requires.alike q (subst (λ (p : Powerset). IsOwn c.args.dfa.now.nfa p) from own)

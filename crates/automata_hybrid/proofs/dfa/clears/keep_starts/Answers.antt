@@ -1,0 +1,61 @@
+use Rattle.std.proofs.Common.{◌≡◌, ◌∙◌, sym, ap, ℕ, [], ◌+◌, ◌^◌, ◌<◌, ◌≤◌, length, take, get_or, arith, subst, refl, Some, slice_get, below_more, ⊎_elim, lit<}
+use Rattle.std.proofs.lemmas.Grind.{get_or_default_zero}
+use Rattle.std.proofs.lemmas.Option.{slice_get_read}
+use Rattle.std.proofs.lemmas.List.{get_or_past}
+use Rattle.std.proofs.lemmas.Bool.{cases_lt}
+use Rattle.automata_hybrid.specs.Machine.{start_of}
+use Rattle.automata_hybrid.specs.Table.{Rows, fresh, MayLead}
+use Rattle.automata_hybrid.specs.Clears.{keep_slot, keep_slots, Kept}
+use Rattle.automata_hybrid.proofs.Keeping.{kept_step, AllStarts-none}
+use Rattle.automata_hybrid.proofs.dfa.clears.keep_starts.Goals as goal
+
+pub loop-id-init : goal.loop-id-init
+unfolding keep_slots
+loop-id-init c =
+    let e = c.in_ok-table.ensures in
+    record {
+      kept = e;
+      slots = c.new-slots.ensures.items;
+      few = rw e (omega arith);
+      length = rw c.new-slots.ensures.items refl;
+      named = AllStarts-none c.in_ok-table.table c.new-slots.result.items c.new-slots.ensures.items;
+      known = λ j h k. absurd (omega (arith, h));
+      absent = λ q h. rw e refl;
+      of = ap (λ (r : Rows). r.of) e;
+    }
+
+pub keep_slot-requires-clause-leads : goal.keep_slot-requires-clause-leads
+keep_slot-requires-clause-leads c =
+    let at : slice_get c.args.starts.now c.loop-id.id-index ≡ Some c.id-item.result = slice_get_read c.args.starts.now (length c.args.starts.now) c.loop-id.id-index c.id-item.result refl (omega arith) c.id-item.is in
+    subst (λ n. MayLead c.args.old.now c.id-item.result (start_of c.args.old.now.of n)) (sym c.loop-id.invariant.length) (c.requires.named c.loop-id.id-index c.id-item.result at)
+
+pub loop-id-preserved : goal.loop-id-preserved
+loop-id-preserved c =
+    let i = c.loop-id.invariant in
+    let n = c.in_ok-keep_slot.ensures in
+    let k : Kept = record { table = fresh c.args.old.now.of; starts = [] } in
+    let within : c.loop-id.id-index < length c.args.starts.now = omega arith in
+    let step : keep_slot c.args.old.now (record { table = c.loop-id.table; starts = c.loop-id.slots.items }) c.id-item.result ≡ keep_slots c.args.old.now k (take (c.loop-id.id-index + 1) c.args.starts.now) = kept_step c.args.old.now k c.args.starts.now c.loop-id.id-index c.id-item.result c.loop-id.table c.loop-id.slots.items within c.id-item.is i.kept i.slots in
+    let read : c.id-item.result ≡ get_or c.args.starts.now c.loop-id.id-index 0 = c.id-item.is ∙ get_or_default_zero c.args.starts.now c.loop-id.id-index c.id-item.result within in
+    let last : get_or c.args.starts.now c.loop-id.id-index 0 < 2 ^ 31 → get_or c.keep_slot.new.slots.items c.loop-id.id-index 0 < 2 ^ 31 = λ h. subst (λ m. get_or c.keep_slot.new.slots.items m 0 < 2 ^ 31) i.length (n.last (rw read h)) in
+    let front : (j : ℕ) → j < c.loop-id.id-index → get_or c.args.starts.now j 0 < 2 ^ 31 → get_or c.keep_slot.new.slots.items j 0 < 2 ^ 31 = λ j h k. (let f : j < length c.loop-id.slots.items = rw i.length h in rw (n.front j f) (i.known j h k)) in
+    let known : (j : ℕ) → j < c.loop-id.id-index + 1 → get_or c.args.starts.now j 0 < 2 ^ 31 → get_or c.keep_slot.new.slots.items j 0 < 2 ^ 31 = below_more (λ j. get_or c.args.starts.now j 0 < 2 ^ 31 → get_or c.keep_slot.new.slots.items j 0 < 2 ^ 31) c.loop-id.id-index front last in
+    record {
+      kept = n.kept ∙ ap (λ (u : Kept). u.table) step;
+      slots = n.slots ∙ ap (λ (u : Kept). u.starts) step;
+      few = omega (arith, n.few, i.few);
+      length = n.len ∙ ap (λ m. m + 1) i.length;
+      named = n.named;
+      known = known;
+      absent = λ q h. n.absent q h (i.absent q h);
+      of = n.of ∙ i.of;
+    }
+
+pub returns-clause-known : goal.returns-clause-known
+returns-clause-known c = λ slot h.
+    let i = c.loop-id.invariant in
+    let all : c.loop-id.id-index ≡ length c.args.starts.now = omega arith in
+    ⊎_elim
+    (λ (l : slot < length c.args.starts.now). i.known slot (rw all l) h)
+    (λ (g : length c.args.starts.now ≤ slot). (let past : length c.loop-id.slots.items ≤ slot = omega (arith, i.length, all, g) in rw (get_or_past c.loop-id.slots.items slot 0 past) (lit< tt)))
+    (cases_lt slot (length c.args.starts.now))

@@ -1,0 +1,35 @@
+use Rattle.std.proofs.Common.{◌≡◌, ◌∙◌, ap, sym, subst, ℕ, List, None}
+use Rattle.automata_hybrid.specs.Owned.{IsOwn}
+use Rattle.automata_hybrid.specs.Machine.{Machine}
+use Rattle.automata_hybrid.specs.Table.{Names, id_of}
+use Rattle.automata_hybrid.specs.Bounds.{Stored, KeepsStarts}
+use Rattle.automata_base.specs.Powerset.{cost}
+use Rattle.automata_hybrid.proofs.dfa.store.Store.add_next.Goals as goal
+
+pub add_row-requires-2-clause-fits : goal.add_row-requires-2-clause-fits
+add_row-requires-2-clause-fits c = c.has_room.ensures.fits (cost c.args.state) (rw (c.in_ok-from.ensures.of, c.in_ok-fresh.ensures.of) c.requires.cost)
+
+pub add_row-requires-2-clause-cost : goal.add_row-requires-2-clause-cost
+add_row-requires-2-clause-cost c = rw (c.in_ok-from.ensures.of, c.in_ok-fresh.ensures.of) c.requires.cost
+
+pub add_row-requires-2-clause-of : goal.add_row-requires-2-clause-of
+add_row-requires-2-clause-of c = subst (λ (m : Machine). IsOwn m.nfa c.args.state) (sym (c.in_ok-from.ensures.of ∙ c.in_ok-fresh.ensures.of)) c.requires.of
+
+pub add_row-requires-2-clause-absent : goal.add_row-requires-2-clause-absent
+add_row-requires-2-clause-absent c =
+    let old : id_of c.self.inside.table c.args.state ≡ None = subst (λ (v : Stored). id_of v.table c.args.state ≡ None) (sym c.self.view_is) c.requires.absent in
+    c.in_ok-from.ensures.absent c.args.state old (c.in_ok-fresh.ensures.absent c.args.state c.requires.absent)
+
+pub returns-clause-from : goal.returns-clause-from
+returns-clause-from c = λ q h.
+    let before : Names c.self.inside.table c.args.from q = subst (λ (v : Stored). Names v.table c.args.from q) (sym c.self.view_is) h in
+    let after : Names c.add_row-2.new.self.table c.in_ok-from.from q = c.in_ok-to-2.ensures.kept c.in_ok-from.from q (c.in_ok-from.ensures.named q before) in
+    subst (λ (v : Stored). Names v.table c.in_ok-from.from q) (sym c.fresh-2.view_is) after
+
+pub returns-clause-starts : goal.returns-clause-starts
+returns-clause-starts c =
+    let a : c.add_row-2.new.self.starts ≡ c.keep_saved.new.self.starts = ap (λ (v : Stored). v.starts) c.in_ok-to-2.ensures.ok in
+    let b : c.keep_saved.new.self.starts ≡ c.in_ok-fresh.fresh.starts = ap (λ (v : Stored). v.starts) c.in_ok-from.ensures.row in
+    let d : c.fresh-2.inside.starts.items ≡ c.add_row-2.new.self.starts = ap (λ (v : Stored). v.starts) c.fresh-2.view_is in
+    let k : KeepsStarts c.args.self.now.starts c.in_ok-fresh.fresh.starts = c.in_ok-fresh.ensures.starts in
+    subst (λ (xs : List ℕ). KeepsStarts c.args.self.now.starts xs) (sym (d ∙ a ∙ b)) k

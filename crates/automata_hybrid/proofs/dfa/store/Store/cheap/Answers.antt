@@ -1,0 +1,11 @@
+use Rattle.std.proofs.Common.{◌≤◌, subst, arith}
+use Rattle.automata_hybrid.specs.Machine.{greatest}
+use Rattle.automata_hybrid.specs.Bounds.{Stored, IsCache}
+use Rattle.automata_hybrid.proofs.Bounding.{small_cost}
+use Rattle.automata_hybrid.proofs.dfa.store.Store.cheap.Goals as goal
+
+pub returns : goal.returns
+returns c =
+    let i : IsCache c.args.self.now = subst (λ (v : Stored). IsCache v) c.self.view_is c.self.invariant in
+    let same : greatest c.args.self.now.table.of ≤ greatest c.args.self.now.table.of = omega arith in
+    small_cost c.args.self.now (greatest c.args.self.now.table.of) i same

@@ -1,0 +1,11 @@
+use Rattle.std.proofs.Common.{subst, sym}
+use Rattle.automata_hybrid.specs.Machine.{greatest}
+use Rattle.automata_hybrid.specs.Bounds.{Stored, IsCache}
+use Rattle.automata_hybrid.proofs.Bounding.{Fits-few}
+use Rattle.automata_hybrid.proofs.dfa.store.Store.has_room.Goals as goal
+
+pub returns : goal.returns
+returns c =
+    let i : IsCache c.args.self.now = subst (λ (v : Stored). IsCache v) c.self.view_is c.self.invariant in
+    let e = c.len.ensures in
+    record { fits = Fits-few c.args.self.now i c.requires (rw (← c.self.view_is) e.whole) (rw (← c.self.view_is) e.costs) }

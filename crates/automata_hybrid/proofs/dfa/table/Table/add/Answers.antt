@@ -1,0 +1,78 @@
+use Rattle.std.proofs.Common.{◌≡◌, sym, List, [], ◌∷◌, ◌++◌, ◌^◌, ◌<◌, ◌≤◌, length, cond, Some, arith, subst, None}
+use Rattle.std.specs.HashMap.{get}
+use Rattle.std.proofs.lemmas.Grind.{common_steps}
+use Rattle.automata_hybrid.proofs.Rows.{IsTable-with_row, IsTable-map, Names-new, Names-more}
+use Rattle.automata_hybrid.proofs.Keeping.{AllStarts-more}
+use Rattle.automata_hybrid.specs.Owned.{IsOwn}
+use Rattle.automata_hybrid.specs.Machine.{greatest, template_of}
+use Rattle.automata_hybrid.specs.Clears.{AllStarts}
+use Rattle.automata_hybrid.specs.Table.{Rows, Names, id_of, row_id}
+use Rattle.automata_hybrid.specs.declared.dfa.row.Row.{Row}
+use Rattle.automata_base.specs.Powerset.{Powerset, cost}
+use Rattle.automata_base.specs.Equal.{powerset_eq}
+use Rattle.automata_hybrid.proofs.dfa.table.Table.add.Goals as goal
+
+pub invariant_of-self-in_err-reserve-3 : goal.invariant_of-self-in_err-reserve-3
+invariant_of-self-in_err-reserve-3 c =
+    let same : (p : Powerset) → get powerset_eq c.reserve-3.new.self p ≡ get powerset_eq c.self.inside.map p = λ p. grind (arith, common_steps) in
+    record {
+      table = rw (c.in_ok-reserve.ensures.items, c.in_ok-reserve-2.ensures.items) (IsTable-map _ c.self.inside.map _ _ c.self.invariant.table same);
+      stride = c.self.invariant.stride;
+      template = c.self.invariant.template;
+    }
+
+pub invariant_of-self-in_err-key : goal.invariant_of-self-in_err-key
+invariant_of-self-in_err-key c =
+    let same : (p : Powerset) → get powerset_eq c.reserve-3.new.self p ≡ get powerset_eq c.self.inside.map p = λ p. grind (arith, common_steps, c.in_ok-reserve-3.ensures.entries.2 p) in
+    record {
+      table = rw (c.in_ok-reserve.ensures.items, c.in_ok-reserve-2.ensures.items) (IsTable-map _ c.self.inside.map _ _ c.self.invariant.table same);
+      stride = c.self.invariant.stride;
+      template = c.self.invariant.template;
+    }
+
+pub invariant_of-self-2 : goal.invariant_of-self-2
+invariant_of-self-2 c =
+    let q = c.args.state in
+    let r : Row = record { state = c.args.state; started = c.args.started } in
+    let cells : c.extend_from_slice-grown.new.self.items ≡ c.self.inside.cells.items ++ template_of c.self.inside.of.value = grind (arith, common_steps, c.self.invariant.template) in
+    let rows : c.push-pushed.new.self.items ≡ c.self.inside.rows.items ++ r ∷ [] = grind (arith, common_steps) in
+    let absent : id_of (record { of = c.self.inside.of.value; cells = c.self.inside.cells.items; rows = c.self.inside.rows.items }) q ≡ None = rw (← c.self.view_is) at c.requires.absent in
+    let fits : length c.self.inside.cells.items < 2 ^ 27 = rw (← c.self.view_is) at c.requires.fits in
+    let map : (p : Powerset) → get powerset_eq c.insert-inserted.new.self p ≡ cond (powerset_eq q p) (Some (row_id (length c.self.inside.cells.items) r)) (get powerset_eq c.self.inside.map p) = λ p. grind (arith, common_steps, c.in_ok-reserve-3.ensures.entries.2 p) in
+    let cheap : cost q ≤ greatest c.self.inside.of.value = rw (← c.self.view_is) at c.requires.cost in
+    let of : IsOwn c.self.inside.of.value.nfa q = rw (← c.self.view_is) at c.requires.of in
+    record {
+      table = rw (cells, rows, c.cost-cost.ensures) (IsTable-with_row _ r c.self.inside.map c.insert-inserted.new.self c.self.inside.costs c.self.invariant.table absent c.requires.alive cheap of fits map);
+      stride = c.self.invariant.stride;
+      template = c.self.invariant.template;
+    }
+
+pub returns-clause-named : goal.returns-clause-named
+returns-clause-named c =
+    let q = c.args.state in
+    let r : Row = record { state = c.args.state; started = c.args.started } in
+    let cells : c.extend_from_slice-grown.new.self.items ≡ c.self.inside.cells.items ++ template_of c.self.inside.of.value = grind (arith, common_steps, c.self.invariant.template) in
+    let rows : c.push-pushed.new.self.items ≡ c.self.inside.rows.items ++ r ∷ [] = grind (arith, common_steps) in
+    let absent : id_of (record { of = c.self.inside.of.value; cells = c.self.inside.cells.items; rows = c.self.inside.rows.items }) q ≡ None = rw (← c.self.view_is) at c.requires.absent in
+    let id : c.of_row-id.result ≡ row_id (length c.self.inside.cells.items) r = grind (arith, common_steps) in
+    let t : Rows = record { of = c.self.inside.of.value; cells = c.extend_from_slice-grown.new.self.items; rows = c.push-pushed.new.self.items } in
+    let named : Names t c.of_row-id.result q = rw (rows, id) (Names-new (record { of = c.self.inside.of.value; cells = c.self.inside.cells.items; rows = c.self.inside.rows.items }) r c.self.invariant.table.whole absent) in
+    named
+
+pub returns-clause-kept : goal.returns-clause-kept
+returns-clause-kept c = λ id q h.
+    let r : Row = record { state = c.args.state; started = c.args.started } in
+    let t : Rows = record { of = c.self.inside.of.value; cells = c.self.inside.cells.items; rows = c.self.inside.rows.items } in
+    let rows : c.push-pushed.new.self.items ≡ c.self.inside.rows.items ++ r ∷ [] = grind (arith, common_steps) in
+    let before : Names t id q = rw (← c.self.view_is) at h in
+    let u : Rows = record { of = c.self.inside.of.value; cells = c.extend_from_slice-grown.new.self.items; rows = c.push-pushed.new.self.items } in
+    let named : Names u id q = rw rows (Names-more t r id q before) in
+    named
+
+pub returns-clause-starts : goal.returns-clause-starts
+returns-clause-starts c = λ xs all.
+    let r : Row = record { state = c.args.state; started = c.args.started } in
+    let t : Rows = record { of = c.self.inside.of.value; cells = c.self.inside.cells.items; rows = c.self.inside.rows.items } in
+    let rows : c.push-pushed.new.self.items ≡ c.self.inside.rows.items ++ r ∷ [] = grind (arith, common_steps) in
+    let before : AllStarts t xs = subst (λ (v : Rows). AllStarts v xs) (sym c.self.view_is) all in
+    subst (λ (rs : List Row). AllStarts (record { of = c.self.inside.of.value; cells = c.extend_from_slice-grown.new.self.items; rows = rs }) xs) (sym rows) (AllStarts-more t r xs before)

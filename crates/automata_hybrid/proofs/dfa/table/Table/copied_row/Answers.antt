@@ -1,0 +1,37 @@
+use Rattle.std.proofs.Common.{◌≡◌, ◌∙◌, sym, ap, ◌+◌, ◌*◌, ◌≤◌, length, None, Some, slice_get, get_or, subst, refl}
+use Rattle.std.proofs.lemmas.Option.{slice_get_read}
+use Rattle.automata_base.specs.Powerset.{Powerset, cost}
+use Rattle.automata_hybrid.specs.Owned.{IsOwn}
+use Rattle.automata_hybrid.specs.Machine.{greatest}
+use Rattle.automata_hybrid.specs.Table.{Rows, IsTable, id_of, row_id}
+use Rattle.automata_hybrid.specs.declared.dfa.row.Row.{Row}
+use Rattle.automata_hybrid.proofs.dfa.table.Table.copied_row.Goals as goal
+
+at : (c : goal.In_ok-state) → slice_get c.args.self.now.rows c.args.row ≡ Some c.index-row.result.now
+at c =
+    let t : Rows = c.args.self.now in
+    let r : Row = c.index-row.result.now in
+    let e : r ≡ get_or t.rows c.args.row r = c.index-row.ensures ∙ ap (λ (v : Rows). get_or v.rows c.args.row r) c.self.view_is in
+    slice_get_read t.rows (length t.rows) c.args.row r refl c.requires e
+
+pub returns-clause-had : goal.returns-clause-had
+returns-clause-had c = λ n.
+    let t : Rows = c.args.self.now in
+    let r : Row = c.index-row.result.now in
+    let i : IsTable t c.self.inside.map c.self.inside.costs = subst (λ (v : Rows). IsTable v c.self.inside.map c.self.inside.costs) c.self.view_is c.self.invariant.table in
+    let d = i.distinct c.args.row r (at c) in
+    let m : id_of t r.state ≡ None = subst (λ q. id_of t q ≡ None) c.in_ok-state.ensures.cases n in
+    let clash : None ≡ Some (row_id ((c.args.row + 3) * t.of.stride) r) = sym m ∙ d in
+    cc
+
+pub returns-clause-cost : goal.returns-clause-cost
+returns-clause-cost c =
+    let t : Rows = c.args.self.now in
+    let i : IsTable t c.self.inside.map c.self.inside.costs = subst (λ (v : Rows). IsTable v c.self.inside.map c.self.inside.costs) c.self.view_is c.self.invariant.table in
+    subst (λ q. cost q ≤ greatest t.of) (sym c.in_ok-state.ensures.cases) (i.alive c.args.row c.index-row.result.now (at c)).1
+
+pub returns-clause-of : goal.returns-clause-of
+returns-clause-of c =
+    let t : Rows = c.args.self.now in
+    let i : IsTable t c.self.inside.map c.self.inside.costs = subst (λ (v : Rows). IsTable v c.self.inside.map c.self.inside.costs) c.self.view_is c.self.invariant.table in
+    subst (λ (q : Powerset). IsOwn t.of.nfa q) (sym c.in_ok-state.ensures.cases) (i.alive c.args.row c.index-row.result.now (at c)).2

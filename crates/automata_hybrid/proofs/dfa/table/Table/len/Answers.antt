@@ -1,0 +1,14 @@
+use Rattle.std.proofs.Common.{subst}
+use Rattle.automata_hybrid.proofs.Places.{Names-Placed, IsTable-costs}
+use Rattle.automata_hybrid.specs.Table.{Rows, IsTable}
+use Rattle.automata_hybrid.proofs.dfa.table.Table.len.Goals as goal
+
+pub returns-clause-costs : goal.returns-clause-costs
+returns-clause-costs c =
+    let i : IsTable c.args.self.now c.self.inside.map c.self.inside.costs = subst (λ (v : Rows). IsTable v c.self.inside.map c.self.inside.costs) c.self.view_is c.self.invariant.table in
+    IsTable-costs c.args.self.now c.self.inside.map c.self.inside.costs i
+
+pub returns-clause-low : goal.returns-clause-low
+returns-clause-low c = λ id q h.
+    let i : IsTable c.args.self.now c.self.inside.map c.self.inside.costs = subst (λ (v : Rows). IsTable v c.self.inside.map c.self.inside.costs) c.self.view_is c.self.invariant.table in
+    (Names-Placed c.args.self.now c.self.inside.map c.self.inside.costs id q i h).low

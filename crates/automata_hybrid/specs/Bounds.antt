@@ -1,0 +1,128 @@
+use Rattle.std.specs.Prelude.{◌≡◌, ℕ, ◌+◌, ◌*◌, ◌^◌, ◌<◌, ◌≤◌, ◌⊎◌, List, length, Bool, true, false, cond, Option, None, Some, slice_index, slice_set, replicate, sum_by, nat_lt}
+use Rattle.automata_base.specs.Powerset.{Powerset, cost}
+use Rattle.automata_base.specs.Accounting.{minimum_capacity}
+use Rattle.automata_hybrid.specs.declared.dfa.row.Row.{Row}
+use Rattle.automata_hybrid.specs.declared.dfa.progress.Searched.{Searched}
+use Rattle.automata_hybrid.specs.declared.dfa.settings.Settings.{Settings}
+use Rattle.automata_config.specs.declared.error.StepError.{StepError}
+use Rattle.automata_config.specs.declared.error.StepError.TheVariants.{Cache, OutOfMemory}
+use Rattle.automata_hybrid.specs.Ids.{quit_id}
+use Rattle.automata_hybrid.specs.Machine.{Machine, next_of, greatest, template_of}
+use Rattle.automata_hybrid.specs.Table.{Rows, row_cost, Leads, with_row, with_cell, cell_at, fresh, id_of, Names}
+use Rattle.automata_hybrid.specs.Clears.{AllStarts, kept, put, row_of}
+use Rattle.automata_hybrid.specs.Progressing.{saturated, total_len, progress_cleared}
+
+-- what contracts see of a cache
+pub record Stored : Type 0 where
+  pub table : Rows
+  pub starts : List ℕ
+  pub settings : Settings
+  pub clears : ℕ
+  pub searched : Searched
+
+-- what the store of a machine is bounded by
+abbrev pub settings_of : Machine → Settings
+settings_of m = record { capacity = m.capacity; fixed = m.fixed; minimum_clear_count = m.minimum_clear_count; minimum_bytes_per_state = m.minimum_bytes_per_state }
+
+-- the accounted bytes: cells, slots, rows and map, states, scratch
+abbrev pub usage_by : Rows → ℕ → ℕ → ℕ
+usage_by t slots fixed = 4 * length t.cells + 4 * slots + 16 * (length t.rows + 3) + 20 * (length t.rows + 1) + 39 + sum_by row_cost t.rows + fixed
+
+abbrev pub usage : Stored → ℕ
+usage c = usage_by c.table (length c.starts) c.settings.fixed
+
+-- a new state of this cost fits
+abbrev pub Fits : Stored → ℕ → Type 0
+Fits c extra = (usage c + 4 * c.table.of.stride + 36 + extra ≤ c.settings.capacity) × (length c.table.cells < 2 ^ 27)
+
+abbrev pub short_of : Option ℕ → ℕ → ℕ → Bool
+short_of None states searched = true
+short_of (Some bytes) states searched = nat_lt searched (saturated (bytes * states))
+
+abbrev pub refuses_at : Option ℕ → Stored → Bool
+refuses_at None c = false
+refuses_at (Some limit) c = cond (nat_lt c.clears limit) false (short_of c.settings.minimum_bytes_per_state (length c.table.rows + 3) (total_len c.searched))
+
+-- the clear rule
+abbrev pub refuses_to_clear : Stored → Bool
+refuses_to_clear c = refuses_at c.settings.minimum_clear_count c
+
+-- a clear that keeps the start states
+abbrev pub cleared : Stored → Stored
+cleared c = record { table = (kept c.table c.starts).table; starts = (kept c.table c.starts).starts; settings = c.settings; clears = saturated (c.clears + 1); searched = progress_cleared c.searched }
+
+abbrev pub with_table : Stored → Rows → Stored
+with_table c t = record { table = t; starts = c.starts; settings = c.settings; clears = c.clears; searched = c.searched }
+
+-- the slots name their states, and the accounted bytes are within the capacity
+pub record IsCache (c : Stored) : Type 0 where
+  pub named : AllStarts c.table c.starts
+  pub within : usage c ≤ c.settings.capacity
+  pub enough : minimum_capacity c.table.of.stride (length c.starts) (greatest c.table.of) c.settings.fixed ≤ c.settings.capacity
+  pub offsets : (length c.starts + 4) * c.table.of.stride < 2 ^ 27
+  pub slots : length c.starts ≡ c.table.of.slots
+  pub settings : c.settings ≡ settings_of c.table.of
+  pub bounded : c.settings.capacity < 2 ^ 64
+
+abbrev pub put_found : Rows → Option Row → Rows
+put_found t None = t
+put_found t (Some r) = put t r
+
+-- with one more row
+abbrev pub grown : Stored → Row → Stored
+grown c r = with_table c (with_row c.table r)
+
+-- cleared, the state of this ID saved, and with a new row
+abbrev pub cleared_saving : Stored → ℕ → Stored
+cleared_saving c id = with_table (cleared c) (put_found (cleared c).table (row_of c.table id))
+
+abbrev pub IsCacheError : StepError → Type 0
+IsCacheError (Cache e) = Unit {0}
+IsCacheError OutOfMemory = ⊥
+
+abbrev pub cell_of : Stored → ℕ → ℕ → ℕ
+cell_of c id class = slice_index c.table.cells (cell_at id class)
+
+-- the transition is known
+abbrev pub IsKnownTransition : Stored → ℕ → ℕ → Type 0
+IsKnownTransition c id class = cell_of c id class < 2 ^ 31
+
+-- what a step from a state answers: quit at quit classes, and else what names the next state
+abbrev pub IsNext : Rows → Powerset → ℕ → ℕ → Type 0
+IsNext t q class id = ((slice_index (template_of t.of) class ≡ quit_id t.of.stride) × (id ≡ quit_id t.of.stride)) ⊎ ((slice_index (template_of t.of) class ≡ 2 ^ 31) × Leads t id (next_of t.of q class))
+
+abbrev pub with_next : Stored → ℕ → ℕ → ℕ → Stored
+with_next c id class next = with_table c (with_cell c.table id class next)
+
+abbrev pub with_start : Stored → ℕ → ℕ → Stored
+with_start c slot id = record { table = c.table; starts = slice_set c.starts slot id; settings = c.settings; clears = c.clears; searched = c.searched }
+
+-- a cache that nothing was done to
+abbrev pub fresh_store : Machine → Settings → Stored
+fresh_store m settings = record { table = fresh m; starts = replicate m.slots (2 ^ 31); settings = settings; clears = 0; searched = record { bytes = 0; running = None } }
+
+-- the slot's start is known
+abbrev pub IsKnownStart : Stored → ℕ → Type 0
+IsKnownStart c slot = slice_index c.starts slot < 2 ^ 31
+
+-- each start that was known is known
+abbrev pub KeepsStarts : List ℕ → List ℕ → Type 0
+KeepsStarts old new = (slot : ℕ) → slice_index old slot < 2 ^ 31 → slice_index new slot < 2 ^ 31
+
+-- what adding a state that is absent does: it grows where the state fits, and else clears first and saves a row
+abbrev pub IsAdded : Stored → ℕ → Row → Stored → Type 0
+IsAdded old from r new =
+    (Fits old (cost r.state) × (new ≡ grown old r)) ⊎ ((Fits old (cost r.state) → ⊥) × (new ≡ grown (cleared_saving old from) r))
+
+-- the whole effect of computing a transition to a state: it is written, at the row as it is after an addition
+abbrev pub IsComputed : Stored → ℕ → ℕ → Powerset → Stored → ℕ → Type 0
+IsComputed old id class q new next =
+    (new ≡ with_next old id class next)
+    ⊎ ((id_of old.table (next_of old.table.of q class) ≡ None) × (from : ℕ) × (between : Stored) × IsAdded old id (record { state = next_of old.table.of q class; started = false }) between × Names between.table from q × (new ≡ with_next between from class next))
+
+-- why a state is refused: it isn't there, it doesn't fit, and the clear rule refuses
+abbrev pub GivesUp : Stored → Powerset → Type 0
+GivesUp c q = (id_of c.table q ≡ None) × (Fits c (cost q) → ⊥) × (refuses_to_clear c ≡ true)
+
+abbrev pub with_searched : Stored → Searched → Stored
+with_searched c s = record { table = c.table; starts = c.starts; settings = c.settings; clears = c.clears; searched = s }

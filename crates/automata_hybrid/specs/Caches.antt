@@ -1,0 +1,30 @@
+use Rattle.std.specs.Prelude.{◌≡◌, ℕ, ◌+◌, ◌^◌, ◌<◌, ◌⊎◌}
+use Rattle.automata_hybrid.specs.Ids.{dead_id, quit_id}
+use Rattle.automata_hybrid.specs.Machine.{Machine}
+use Rattle.automata_hybrid.specs.Table.{Rows, IsValid}
+use Rattle.automata_hybrid.specs.Bounds.{Stored, settings_of, fresh_store}
+
+-- what contracts see of a cache: its states, and how often it determinised
+pub record CacheView : Type 0 where
+  pub store : Stored
+  pub count : ℕ
+
+-- the cache is of this machine
+abbrev pub IsCacheOf : CacheView → Machine → Type 0
+IsCacheOf c m = c.store.table.of ≡ m
+
+-- a cache that nothing was done to
+abbrev pub fresh_cache : Machine → CacheView
+fresh_cache m = record { store = fresh_store m (settings_of m); count = 0 }
+
+-- one more determinisation
+abbrev pub counted : CacheView → CacheView
+counted c = record { store = c.store; count = c.count + 1 }
+
+-- with other states
+abbrev pub with_store : CacheView → Stored → CacheView
+with_store c s = record { store = s; count = c.count }
+
+-- an ID of a row but the unknown one
+abbrev pub HasRow : Rows → ℕ → Type 0
+HasRow t id = (id ≡ dead_id t.of.stride) ⊎ ((id ≡ quit_id t.of.stride) ⊎ IsValid t id)

@@ -1,0 +1,14 @@
+use Rattle.std.specs.Prelude.{ℕ, ◌+◌, ◌*◌, ◌^◌, Bool, if◌then◌else◌}
+
+-- the tags of a row: started, and with patterns
+abbrev pub tags : Bool → Bool → ℕ
+tags started matches = (if started then 2 ^ 28 else 0) + (if matches then 2 ^ 27 else 0)
+
+abbrev pub unknown_id : ℕ
+unknown_id = 2 ^ 31
+
+abbrev pub dead_id : ℕ → ℕ
+dead_id stride = stride + 2 ^ 30
+
+abbrev pub quit_id : ℕ → ℕ
+quit_id stride = 2 * stride + 2 ^ 29

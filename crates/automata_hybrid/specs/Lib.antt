@@ -1,0 +1,13 @@
+pub mod Ids
+pub mod Owned
+pub mod DFAs
+pub mod Machine
+pub mod Table
+pub mod Clears
+pub mod Progressing
+pub mod Bounds
+pub mod Builds
+pub mod Caches
+pub mod Starting
+pub mod Slots
+pub mod Founds

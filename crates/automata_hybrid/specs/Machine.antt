@@ -1,0 +1,88 @@
+use Rattle.std.specs.Prelude.{ℕ, zero, suc, ◌+◌, ◌*◌, ◌^◌, ◌/◌, ◌%◌, ◌<◌, ◌≤◌, ◌==◌, eqb, List, [], ◌∷◌, Bool, true, false, cond, Option, None, Some, slice_set, slice_index, slice_get, length, replicate, ◌≡◌, ◌⊎◌}
+use Rattle.automata_base.specs.Powerset.{Powerset}
+use Rattle.automata_base.specs.Nodes.{Automaton}
+use Rattle.automata_base.specs.Classes.{class_in, eoi_class, is_quit}
+use Rattle.automata_base.specs.Steps.{successor, start_state_of}
+use Rattle.automata_base.specs.Accounting.{max_cost, minimum_capacity, start_slots}
+use Rattle.automata_hybrid.specs.Owned.{IsOwn}
+use Rattle.automata_base.specs.declared.util.search.MatchKind.{MatchKind}
+use Rattle.automata_base.specs.declared.util.search.Anchored.{Anchored}
+use Rattle.automata_base.specs.declared.util.search.Anchored.TheVariants.{No, Yes, Pattern}
+use Rattle.automata_config.specs.Options.{Options}
+use Rattle.automata_hybrid.specs.Ids.{quit_id}
+
+-- what contracts see of a lazy DFA
+pub record Machine : Type 0 where
+  pub nfa : Automaton
+  pub config : Options
+  pub kind : MatchKind
+  pub classes : List ℕ
+  pub quits : List Bool
+  pub stride : ℕ
+  pub slots : ℕ
+  pub capacity : ℕ
+  pub fixed : ℕ
+  pub minimum_clear_count : Option ℕ
+  pub minimum_bytes_per_state : Option ℕ
+  pub specialized : Bool
+  pub per_pattern : Bool
+
+-- a byte of a class, the greatest one below a number; none is the end
+unfoldable pub byte_of : (classes : List ℕ) (class bytes : ℕ) → Option ℕ
+byte_of classes class zero = None
+byte_of classes class (suc byte) = cond (class_in classes byte == class) (Some byte) (byte_of classes class byte)
+
+-- the state after a unit of a class
+unfoldable pub next_of : Machine → Powerset → ℕ → Powerset
+next_of m q class = successor m.nfa m.kind q (byte_of m.classes class 256)
+
+-- the anchored mode of a group of start slots
+abbrev pub mode_of : ℕ → Anchored
+mode_of zero = No
+mode_of (suc zero) = Yes
+mode_of (suc (suc pattern)) = Pattern pattern
+
+-- something of each kind that a start looks behind to: an other byte, a word byte, none, line feed, carriage return, the terminator
+abbrev pub sample_of : (terminator kind : ℕ) → Option ℕ
+sample_of terminator zero = Some (cond (eqb 0 terminator) 1 0)
+sample_of terminator (suc zero) = Some (cond (eqb 97 terminator) 98 97)
+sample_of terminator (suc (suc zero)) = None
+sample_of terminator (suc (suc (suc zero))) = Some 10
+sample_of terminator (suc (suc (suc (suc zero)))) = Some 13
+sample_of terminator (suc (suc (suc (suc (suc more))))) = Some terminator
+
+-- the start state of a slot: six for each mode
+unfoldable pub start_of : Machine → ℕ → Powerset
+start_of m slot = start_state_of m.nfa (mode_of (slot / 6)) (sample_of m.nfa.flags.line_terminator (slot % 6))
+
+-- the most that a state costs
+abbrev pub greatest : Machine → ℕ
+greatest m = max_cost m.nfa
+
+-- the cells of a row in which the classes of the quit bytes below a number are quit, and the others unknown
+unfoldable pub marked : (classes : List ℕ) (quits : List Bool) (stride bytes : ℕ) → List ℕ
+marked classes quits stride zero = replicate stride (2 ^ 31)
+marked classes quits stride (suc byte) = cond (is_quit quits byte) (slice_set (marked classes quits stride byte) (class_in classes byte) (quit_id stride)) (marked classes quits stride byte)
+
+-- a new row: quit at quit classes, and else unknown
+unfoldable pub template_of : Machine → List ℕ
+template_of m = marked m.classes m.quits m.stride 256
+
+pub record IsTemplate (stride : ℕ) (template : List ℕ) : Type 0 where
+  pub positive : 0 < stride
+  pub small : stride ≤ 512
+  pub whole : length template ≡ stride
+  pub cells : (class : ℕ) → class < stride → (slice_index template class ≡ quit_id stride) ⊎ (slice_index template class ≡ 2 ^ 31)
+
+-- what each lazy DFA keeps: each byte and the end have a class, whose units step alike, and a fresh cache fits
+pub record IsMachine (m : Machine) : Type 0 where
+  pub template : IsTemplate m.stride (template_of m)
+  pub below : eoi_class m.classes < m.stride
+  pub quit : (byte : ℕ) → byte < 256 → is_quit m.quits byte ≡ true → slice_index (template_of m) (class_in m.classes byte) ≡ quit_id m.stride
+  pub free : (byte : ℕ) → byte < 256 → is_quit m.quits byte ≡ false → slice_index (template_of m) (class_in m.classes byte) ≡ 2 ^ 31
+  pub end_free : slice_index (template_of m) (eoi_class m.classes) ≡ 2 ^ 31
+  pub alike : (byte : ℕ) (q : Powerset) → byte < 256 → IsOwn m.nfa q → successor m.nfa m.kind q (Some byte) ≡ next_of m q (class_in m.classes byte)
+  pub end_alike : (q : Powerset) → IsOwn m.nfa q → successor m.nfa m.kind q None ≡ next_of m q (eoi_class m.classes)
+  pub enough : minimum_capacity m.stride m.slots (greatest m) m.fixed ≤ m.capacity
+  pub slots : m.slots ≡ start_slots m.nfa m.per_pattern
+  pub offsets : (m.slots + 4) * m.stride < 2 ^ 27

@@ -1,0 +1,8 @@
+use Rattle.automata_base.specs.Nodes.{Automaton}
+use Rattle.automata_base.specs.Powerset.{Powerset}
+use Rattle.automata_base.specs.Starts.{IsOf}
+use Rattle.automata_base.specs.Steps.{NeedsOwnLooks}
+
+-- the states and the looks of a powerset state are the automaton's
+unfoldable pub IsOwn : Automaton → Powerset → Type 0
+IsOwn a q = IsOf a q × NeedsOwnLooks a q

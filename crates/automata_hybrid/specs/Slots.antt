@@ -1,0 +1,20 @@
+use Rattle.std.specs.Prelude.{ℕ, suc, ◌+◌, ◌*◌, Bool, true}
+use Rattle.automata_hybrid.specs.Machine.{Machine}
+use Rattle.automata_base.specs.declared.util.search.Anchored.{Anchored}
+use Rattle.automata_base.specs.declared.util.search.Anchored.TheVariants.{No, Yes, Pattern}
+
+-- the group of start slots of a mode
+abbrev pub group_of : Anchored → ℕ
+group_of No = 0
+group_of Yes = 1
+group_of (Pattern pattern) = suc (suc pattern)
+
+-- the slot of a mode and of the kind of what is behind the start
+abbrev pub slot_of : Anchored → ℕ → ℕ
+slot_of mode kind = group_of mode * 6 + kind
+
+-- each mode but patterns of their own is supported always, and these where each pattern has its starts
+abbrev pub supports : Machine → Anchored → Bool
+supports m No = true
+supports m Yes = true
+supports m (Pattern pattern) = m.per_pattern

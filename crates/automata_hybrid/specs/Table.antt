@@ -1,0 +1,114 @@
+use Rattle.std.specs.Prelude.{◌≡◌, ℕ, ◌+◌, ◌*◌, ◌%◌, ◌^◌, ◌<◌, ◌≤◌, ◌⊎◌, List, [], ◌∷◌, ◌++◌, length, Bool, cond, nat_lt, Option, None, Some, slice_index, slice_set, slice_get, replicate, take, sum_by, if◌then◌else◌}
+use Rattle.std.specs.HashMap.{HashMap, get}
+use Rattle.std.specs.declared.hash.FoldHasher.{FoldHasher}
+use Rattle.std.specs.declared.hash.BuildHasherDefault.{BuildHasherDefault}
+use Rattle.automata_base.specs.Powerset.{Powerset, cost}
+use Rattle.automata_base.specs.Equal.{powerset_eq}
+use Rattle.automata_hybrid.specs.declared.dfa.row.Row.{Row}
+use Rattle.automata_base.specs.Powerset.{dead}
+use Rattle.automata_hybrid.specs.Owned.{IsOwn}
+use Rattle.automata_hybrid.specs.Ids.{tags, dead_id, quit_id}
+use Rattle.automata_hybrid.specs.Machine.{Machine, next_of, greatest, template_of, IsTemplate}
+
+-- a state has patterns
+abbrev pub has_patterns : Powerset → Bool
+has_patterns q = nat_lt 0 (length q.patterns)
+
+-- the ID of a row at an offset
+abbrev pub row_id : ℕ → Row → ℕ
+row_id at r = at + tags r.started (has_patterns r.state)
+
+abbrev pub row_cost : Row → ℕ
+row_cost r = cost r.state
+
+-- what contracts see of a table: the rows behind the three fixed ones, and all cells
+pub record Rows : Type 0 where
+  pub of : Machine
+  pub cells : List ℕ
+  pub rows : List Row
+
+-- the ID that rows give a state, the first of them standing at an offset
+abbrev pub find_id : ℕ → ℕ → Powerset → List Row → Option ℕ
+find_id s at q [] = None
+find_id s at q (r ∷ rs) = cond (powerset_eq q r.state) (Some (row_id at r)) (find_id s (at + s) q rs)
+
+-- the ID that a table has for a state
+abbrev pub id_of : Rows → Powerset → Option ℕ
+id_of t q = find_id t.of.stride (3 * t.of.stride) q t.rows
+
+-- this ID, tags included, is that of the row of this state
+abbrev pub Names : Rows → ℕ → Powerset → Type 0
+Names t id q = id_of t q ≡ Some id
+
+-- the dead ID for the dead state, and else a row's
+abbrev pub Leads : Rows → ℕ → Powerset → Type 0
+Leads t id q = ((id ≡ dead_id t.of.stride) × (q ≡ dead)) ⊎ Names t id q
+
+-- a cell that isn't known, or that names what it should
+abbrev pub MayLead : Rows → ℕ → Powerset → Type 0
+MayLead t id q = (id ≡ 2 ^ 31) ⊎ Leads t id q
+
+-- what stands in a cell of a state's row: quit at quit classes, and else what names the next state or nothing yet
+abbrev pub IsCell : Rows → Powerset → ℕ → ℕ → Type 0
+IsCell t q class id =
+    ((slice_index (template_of t.of) class ≡ quit_id t.of.stride) × (id ≡ quit_id t.of.stride))
+    ⊎ ((slice_index (template_of t.of) class ≡ 2 ^ 31) × MayLead t id (next_of t.of q class))
+
+-- the three fixed rows
+abbrev pub fixed_rows : ℕ → List ℕ
+fixed_rows s = replicate s (2 ^ 31) ++ (replicate s (dead_id s) ++ replicate s (quit_id s))
+
+-- the fixed rows alone
+abbrev pub fresh : Machine → Rows
+fresh m = record { of = m; cells = fixed_rows m.stride; rows = [] }
+
+-- with one more row
+abbrev pub with_row : Rows → Row → Rows
+with_row t r = record { of = t.of; cells = t.cells ++ template_of t.of; rows = t.rows ++ r ∷ [] }
+
+abbrev pub StateMap : Type 0
+StateMap = HashMap Powerset ℕ (BuildHasherDefault FoldHasher)
+
+-- each known cell of a row names the next state of that row's state
+abbrev pub IsStepped : Rows → Type 0
+IsStepped t = (k class : ℕ) (r : Row) → slice_get t.rows k ≡ Some r → class < t.of.stride → IsCell t r.state class (slice_index t.cells ((k + 3) * t.of.stride + class))
+
+-- each row is found by its state, so no two rows have one state
+abbrev pub IsDistinct : Rows → Type 0
+IsDistinct t = (k : ℕ) (r : Row) → slice_get t.rows k ≡ Some r → Names t (row_id ((k + 3) * t.of.stride) r) r.state
+
+abbrev pub IsAlive : Rows → Type 0
+IsAlive t = (k : ℕ) (r : Row) → slice_get t.rows k ≡ Some r → (r.state ≡ dead → ⊥) × (cost r.state ≤ greatest t.of) × IsOwn t.of.nfa r.state
+
+-- the table, the states and the map fit each other
+pub record IsTable (t : Rows) (map : StateMap) (costs : ℕ) : Type 0 where
+  pub template : IsTemplate t.of.stride (template_of t.of)
+  pub whole : length t.cells ≡ (length t.rows + 3) * t.of.stride
+  pub small : length t.cells < 2 ^ 27 + t.of.stride
+  pub fixed : take (3 * t.of.stride) t.cells ≡ fixed_rows t.of.stride
+  pub stepped : IsStepped t
+  pub distinct : IsDistinct t
+  pub alive : IsAlive t
+  pub mapped : (q : Powerset) → get powerset_eq map q ≡ id_of t q
+  pub costs_of : costs ≡ sum_by row_cost t.rows
+
+-- some row has exactly this ID
+abbrev pub IsValid : Rows → ℕ → Type 0
+IsValid t id = (q : Powerset) × Names t id q
+
+-- the row at a place has this state
+abbrev pub HasState : Rows → ℕ → Powerset → Type 0
+HasState t k q = (r : Row) × (slice_get t.rows k ≡ Some r) × (r.state ≡ q)
+
+-- the place of a cell
+abbrev pub cell_at : ℕ → ℕ → ℕ
+cell_at id class = id % 2 ^ 27 + class
+
+abbrev pub with_cell : Rows → ℕ → ℕ → ℕ → Rows
+with_cell t id class next = record { of = t.of; cells = slice_set t.cells (cell_at id class) next; rows = t.rows }
+
+-- the parts that a table holds are its machine's
+pub record IsHeld (t : Rows) (s : ℕ) (row : List ℕ) (map : StateMap) (costs : ℕ) : Type 0 where
+  pub table : IsTable t map costs
+  pub stride : s ≡ t.of.stride
+  pub template : row ≡ template_of t.of

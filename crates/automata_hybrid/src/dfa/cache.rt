@@ -1,0 +1,335 @@
+ghost use Rattle.std.specs.Prelude.{ℕ, ◌≡◌, ◌+◌, ◌*◌, ◌^◌, ◌<◌, ◌≤◌, None, Some, IfOk, IfErr, OnOk, OnErr, slice_index, length, is_some, IsSome, true, false};
+ghost use Rattle.automata_base.specs.Powerset.{Powerset, cost};
+ghost use Rattle.automata_base.specs.Powerset.{dead};
+ghost use Rattle.automata_base.specs.Steps.{successor, start_state_of};
+ghost use Rattle.automata_hybrid.specs.Owned.{IsOwn};
+ghost use Rattle.automata_hybrid.specs.Machine.{Machine, next_of, start_of, greatest, template_of};
+ghost use Rattle.automata_hybrid.specs.Ids.{dead_id};
+ghost use Rattle.automata_hybrid.specs.Table.{id_of, Names, IsValid, Leads, MayLead, IsCell};
+ghost use Rattle.automata_hybrid.specs.Bounds.{Fits, refuses_to_clear, IsCacheError, KeepsStarts, IsAdded, cell_of, with_next, with_start, with_searched, grown, cleared, usage};
+ghost use Rattle.automata_hybrid.specs.Caches.{IsCacheOf, fresh_cache, counted, with_store};
+ghost use Rattle.automata_hybrid.specs.Progressing.{started, updated, finished, total_len};
+
+use crate::dfa::store::Store;
+use crate::dfa::{DFA, row};
+use crate::id::LazyStateID;
+use automata_base::util::determinize::key::Key;
+use automata_base::util::determinize::scratch::Scratch;
+use automata_base::util::determinize::state::State;
+use automata_base::util::determinize::{next_key, start_key};
+use automata_base::util::primitives::PatternID;
+use automata_base::util::search::Anchored;
+use automata_config::error::StepError;
+use std::alloc::AllocError;
+use std::marker::Model;
+
+/// What a look-up of a state gives.
+#[derive(Drop)]
+pub(crate) enum Found {
+    /// The ID of its row, or the dead one.
+    Known(LazyStateID),
+    /// The state, which no row has.
+    New(State),
+}
+
+/// The states that a lazy DFA has found, and the room to find more.
+#[derive(Drop)]
+pub struct Cache {
+    store: Store,
+    scratch: Scratch,
+}
+
+impl Model for Cache {
+    ghost use Rattle.std.specs.Prelude.{◌≡◌};
+    ghost use Rattle.automata_hybrid.specs.Caches.{CacheView};
+
+    ghost Value = { CacheView };
+
+    ghost view = { λ c. record { store = c.store; count = c.scratch.count } };
+
+    ghost invariant = { λ c. c.scratch.of ≡ c.store.table.of.nfa };
+}
+
+impl Cache {
+    ghost use Rattle.automata_hybrid.specs.Founds.{IsFound};
+
+    /// A cache of a DFA, with no state yet.
+    pub fn new(dfa: &DFA) -> Result<Cache, AllocError>
+        ensures { IfOk result (λ c. c ≡ fresh_cache dfa.now) }
+    {
+        let scratch = Scratch::new(dfa.get_nfa())?;
+        let store = dfa.fresh_store()?;
+        Ok(Cache { store, scratch })
+    }
+
+    /// A fresh cache, of this DFA from now on. A refusal changes nothing.
+    pub fn reset(&mut self, dfa: &DFA) -> Result<(), AllocError>
+        ensures ok { OnOk result (self.new ≡ fresh_cache dfa.now) }
+        ensures err { OnErr result (self.new ≡ self.old) }
+    {
+        *self = Cache::new(dfa)?;
+        Ok(())
+    }
+
+    /// The state after a unit, as a key.
+    pub(crate) fn determinise(
+        &mut self,
+        dfa: &DFA,
+        id: LazyStateID,
+        class: usize,
+        unit: Option<u8>,
+    ) -> Result<Key, AllocError>
+        requires of { IsCacheOf self.old dfa.now }
+        requires valid { IsValid self.old.store.table id }
+        requires alike { (q : Powerset) → IsOwn dfa.now.nfa q → successor dfa.now.nfa dfa.now.kind q unit ≡ next_of dfa.now q class }
+        ensures value { IfOk result (λ k. (q : Powerset) → Names self.old.store.table id q → k ≡ next_of dfa.now q class) }
+        ensures cost { IfOk result (λ k. cost k ≤ greatest dfa.now) }
+        ensures is_of { IfOk result (λ k. IsOwn dfa.now.nfa k) }
+        ensures counted { self.new ≡ counted self.old }
+    {
+        let from = self.store.state(id);
+        let key = next_key(dfa.get_nfa(), &mut self.scratch, dfa.kind(), from, unit)?;
+        Ok(key)
+    }
+
+    /// What the cache has for the state of a key, or the state itself, to be added. The key's room is used again.
+    pub(crate) fn resolve(&mut self, dfa: &DFA, key: Key) -> Result<Found, AllocError>
+        ensures found { IfOk result (IsFound self.old.store.table key) }
+        ensures same { self.new ≡ self.old }
+    {
+        if let Some(id) = self.store.get(&key) {
+            self.scratch.recycle(key);
+            return Ok(Found::Known(id));
+        }
+        let made = key.to_state(dfa.alloc());
+        self.scratch.recycle(key);
+        let state = made?;
+        if row::is_dead(&state) {
+            return Ok(Found::Known(self.store.dead()));
+        }
+        Ok(Found::New(state))
+    }
+
+    /// The cell of a row at a class, which may not be known yet.
+    #[inline(always)]
+    pub(crate) fn cell(&self, id: LazyStateID, class: usize) -> LazyStateID
+        requires row { IsValid self.now.store.table id }
+        requires class { class < self.now.store.table.of.stride }
+        ensures value { result ≡ cell_of self.now.store id class }
+        ensures named { (q : Powerset) → Names self.now.store.table id q → IsCell self.now.store.table q class result }
+        ensures stride { self.now.store.table.of.stride ≤ 512 }
+    {
+        self.store.cell(id, class)
+    }
+
+    /// Writes a transition.
+    pub(crate) fn set_next(&mut self, id: LazyStateID, class: usize, next: LazyStateID)
+        requires row { IsValid self.old.store.table id }
+        requires class { class < self.old.store.table.of.stride }
+        requires free { slice_index (template_of self.old.store.table.of) class ≡ 2 ^ 31 }
+        requires next { (q : Powerset) × Names self.old.store.table id q × Leads self.old.store.table next (next_of self.old.store.table.of q class) }
+        ensures { self.new ≡ with_store self.old (with_next self.old.store id class next) }
+    {
+        self.store.set_next(id, class, next);
+    }
+
+    /// Adds a state that the cache lacks, stepped to from a row.
+    pub(crate) fn add_next(
+        &mut self,
+        dfa: &DFA,
+        from: LazyStateID,
+        state: State,
+    ) -> Result<(LazyStateID, LazyStateID), StepError>
+        requires dfa { IsCacheOf self.old dfa.now }
+        requires valid { IsValid self.old.store.table from }
+        requires absent { id_of self.old.store.table state ≡ None }
+        requires alive { state ≡ dead → ⊥ }
+        requires cost { cost state ≤ greatest dfa.now }
+        requires of { IsOwn dfa.now.nfa state }
+        ensures effect { OnOk result (IsAdded self.old.store from (record { state = state; started = false }) self.new.store) }
+        ensures starts { OnOk result (KeepsStarts self.old.store.starts self.new.store.starts) }
+        ensures from { IfOk result (λ p. (q : Powerset) → Names self.old.store.table from q → Names self.new.store.table p.0 q) }
+        ensures to { IfOk result (λ p. Names self.new.store.table p.1 state) }
+        ensures of { IsCacheOf self.new dfa.now }
+        ensures count { self.new.count ≡ self.old.count }
+        ensures gives_up { IfErr result (λ e. IsCacheError e → (Fits self.old.store (cost state) → ⊥) × (refuses_to_clear self.old.store ≡ true)) }
+        ensures err { OnErr result (self.new ≡ self.old) }
+    {
+        let added = self.store.add_next(dfa, from, state)?;
+        Ok(added)
+    }
+
+    /// The ID of a start slot, which may not be known yet.
+    pub(crate) fn start_slot(&self, slot: usize) -> LazyStateID
+        requires { slot < length self.now.store.starts }
+        ensures value { result ≡ slice_index self.now.store.starts slot }
+        ensures leads { MayLead self.now.store.table result (start_of self.now.store.table.of slot) }
+    {
+        self.store.start_slot(slot)
+    }
+
+    /// The start of a mode, as a key.
+    pub(crate) fn determinise_start(
+        &mut self,
+        dfa: &DFA,
+        mode: Anchored,
+        prev: Option<u8>,
+    ) -> Result<Key, AllocError>
+        requires of { IsCacheOf self.old dfa.now }
+        ensures value { IfOk result (λ k. k ≡ start_state_of dfa.now.nfa mode prev) }
+        ensures cost { IfOk result (λ k. cost k ≤ greatest dfa.now) }
+        ensures is_of { IfOk result (λ k. IsOwn dfa.now.nfa k) }
+        ensures counted { self.new ≡ counted self.old }
+    {
+        let key = start_key(dfa.get_nfa(), &mut self.scratch, mode, prev)?;
+        Ok(key)
+    }
+
+    /// Writes a start.
+    pub(crate) fn set_start(&mut self, slot: usize, id: LazyStateID)
+        requires slot { slot < length self.old.store.starts }
+        requires leads { Leads self.old.store.table id (start_of self.old.store.table.of slot) }
+        ensures value { self.new ≡ with_store self.old (with_start self.old.store slot id) }
+        ensures found { slice_index self.new.store.starts slot < 2 ^ 31 }
+    {
+        self.store.set_start(slot, id);
+    }
+
+    /// Adds a start state that the cache lacks.
+    pub(crate) fn add_start(
+        &mut self,
+        dfa: &DFA,
+        state: State,
+        started: bool,
+    ) -> Result<LazyStateID, StepError>
+        requires dfa { IsCacheOf self.old dfa.now }
+        requires absent { id_of self.old.store.table state ≡ None }
+        requires alive { state ≡ dead → ⊥ }
+        requires cost { cost state ≤ greatest dfa.now }
+        requires of { IsOwn dfa.now.nfa state }
+        ensures fits { Fits self.old.store (cost state) → OnOk result (self.new ≡ with_store self.old (grown self.old.store (record { state = state; started = started }))) }
+        ensures clears { (Fits self.old.store (cost state) → ⊥) → OnOk result (self.new ≡ with_store self.old (grown (cleared self.old.store) (record { state = state; started = started }))) }
+        ensures named { IfOk result (λ id. Names self.new.store.table id state) }
+        ensures slots { OnOk result (length self.new.store.starts ≡ length self.old.store.starts) }
+        ensures starts { OnOk result (KeepsStarts self.old.store.starts self.new.store.starts) }
+        ensures of { IsCacheOf self.new dfa.now }
+        ensures count { self.new.count ≡ self.old.count }
+        ensures gives_up { IfErr result (λ e. IsCacheError e → (Fits self.old.store (cost state) → ⊥) × (refuses_to_clear self.old.store ≡ true)) }
+        ensures err { OnErr result (self.new ≡ self.old) }
+    {
+        let id = self.store.add_start(dfa, state, started)?;
+        Ok(id)
+    }
+
+    pub(crate) fn dead(&self) -> LazyStateID
+        ensures { result ≡ dead_id self.now.store.table.of.stride }
+    {
+        self.store.dead()
+    }
+
+    /// The start slots are as many as the DFA's.
+    pub(crate) fn slot_count(&self)
+        ensures { length self.now.store.starts ≡ self.now.store.table.of.slots }
+    {
+        self.store.slot_count();
+    }
+
+    /// IDs of rows have no high tag.
+    pub(crate) fn low(&self)
+        ensures { (id : ℕ) (q : Powerset) → Names self.now.store.table id q → id < 2 ^ 29 }
+    {
+        self.store.low();
+    }
+
+    /// The states of rows are the automaton's own.
+    pub(crate) fn own(&self, id: LazyStateID)
+        requires { IsValid self.now.store.table id }
+        ensures { (q : Powerset) → Names self.now.store.table id q → IsOwn self.now.store.table.of.nfa q }
+    {
+        let _ = self.store.state(id);
+    }
+
+    /// The number of patterns of a row's state.
+    pub(crate) fn match_len(&self, id: LazyStateID) -> usize
+        requires { IsValid self.now.store.table id }
+        ensures { (q : Powerset) → Names self.now.store.table id q → result ≡ length q.patterns }
+    {
+        self.store.state(id).match_len()
+    }
+
+    /// A pattern of a row's state.
+    pub(crate) fn match_pattern(&self, id: LazyStateID, index: usize) -> PatternID
+        requires valid { IsValid self.now.store.table id }
+        requires index { (q : Powerset) → Names self.now.store.table id q → index < length q.patterns }
+        ensures { (q : Powerset) → Names self.now.store.table id q → result ≡ slice_index q.patterns index }
+    {
+        self.store.state(id).match_pattern(index)
+    }
+
+    /// How often the cache was cleared.
+    pub fn clear_count(&self) -> usize
+        ensures { result ≡ self.now.store.clears }
+    {
+        self.store.clear_count()
+    }
+
+    /// Whether a search was started and isn't finished.
+    pub fn in_progress(&self) -> bool
+        ensures { result ≡ is_some self.now.store.searched.running }
+    {
+        self.store.in_progress()
+    }
+
+    /// The bytes searched since the last clear, with those of an open search.
+    pub fn search_total_len(&self) -> usize
+        ensures { result ≡ total_len self.now.store.searched }
+    {
+        self.store.search_total_len()
+    }
+
+    /// A search begins at an offset; one that is open ends.
+    pub fn search_start(&mut self, at: usize)
+        ensures { self.new ≡ with_store self.old (with_searched self.old.store (started self.old.store.searched at)) }
+    {
+        self.store.search_start(at);
+    }
+
+    /// The open search has come to an offset.
+    pub fn search_update(&mut self, at: usize)
+        requires { IsSome self.old.store.searched.running }
+        ensures { self.new ≡ with_store self.old (with_searched self.old.store (updated self.old.store.searched at)) }
+    {
+        self.store.search_update(at);
+    }
+
+    /// The open search ends at an offset.
+    pub fn search_finish(&mut self, at: usize)
+        requires { IsSome self.old.store.searched.running }
+        ensures { self.new ≡ with_store self.old (with_searched self.old.store (finished self.old.store.searched at)) }
+    {
+        self.store.search_finish(at);
+    }
+
+    /// Moves the search to an offset, if one is open.
+    pub(crate) fn move_search(&mut self, at: usize)
+        ensures { self.new ≡ with_store self.old (with_searched self.old.store (updated self.old.store.searched at)) }
+    {
+        self.store.search_update(at);
+    }
+
+    /// Ends the search at an offset, if one is open.
+    pub(crate) fn end_search(&mut self, at: usize)
+        ensures { self.new ≡ with_store self.old (with_searched self.old.store (finished self.old.store.searched at)) }
+    {
+        self.store.search_finish(at);
+    }
+
+    /// The accounted bytes.
+    pub fn memory_usage(&self) -> usize
+        ensures usage { result ≡ usage self.now.store }
+        ensures within { result ≤ self.now.store.table.of.capacity }
+    {
+        self.store.bounds();
+        self.store.memory_usage()
+    }
+}

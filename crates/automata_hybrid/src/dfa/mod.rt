@@ -1,0 +1,245 @@
+ghost use Rattle.std.specs.Prelude.{◌≡◌, ◌<◌, ◌≤◌, ◌^◌, IfOk, OnOk, OnErr, Some, None, true, false, slice_index, length};
+ghost use Rattle.automata_base.specs.Powerset.{Powerset};
+ghost use Rattle.automata_base.specs.Classes.{class_in, eoi_class, is_quit};
+ghost use Rattle.automata_base.specs.Steps.{successor};
+ghost use Rattle.automata_hybrid.specs.Owned.{IsOwn};
+ghost use Rattle.automata_base.specs.Accounting.{start_slots};
+ghost use Rattle.automata_hybrid.specs.Ids.{quit_id};
+ghost use Rattle.automata_hybrid.specs.Machine.{next_of, template_of};
+ghost use Rattle.automata_config.specs.Settling.{IsSettled};
+ghost use Rattle.automata_config.specs.Options.{unset};
+ghost use Rattle.automata_hybrid.specs.Caches.{fresh_cache};
+ghost use Rattle.automata_hybrid.specs.Builds.{built};
+ghost use Rattle.automata_hybrid.specs.Bounds.{fresh_store, settings_of};
+
+pub mod builder;
+pub mod cache;
+pub mod clears;
+pub mod progress;
+pub mod row;
+pub mod settings;
+pub mod start;
+pub mod step;
+pub mod store;
+pub mod table;
+
+use crate::dfa::builder::Builder;
+use crate::dfa::cache::Cache;
+use crate::dfa::settings::Settings;
+use crate::dfa::store::Store;
+use crate::dfa::table::new_row;
+use automata_base::nfa::thompson::NFA;
+use automata_base::util::alphabet::ByteClasses;
+use automata_base::util::search::MatchKind;
+use automata_config::accounting::{fixed_cost, start_slots};
+use automata_config::config::{Config, Settled};
+use std::alloc::{AllocError, Global};
+use std::marker::Model;
+
+/// A lazy DFA: an automaton, its settings, and what these make of it.
+#[derive(Drop)]
+pub struct DFA {
+    nfa: NFA,
+    config: Config,
+    classes: ByteClasses,
+    quits: [bool; 256],
+    stride: usize,
+    slots: usize,
+    capacity: usize,
+    fixed: usize,
+}
+
+impl Model for DFA {
+    ghost use Rattle.automata_hybrid.specs.Machine.{Machine, IsMachine};
+
+    ghost Value = { Machine };
+
+    ghost use Rattle.automata_hybrid.specs.DFAs.{machine_of};
+
+    ghost view = { machine_of };
+
+    ghost invariant = { λ d. IsMachine (machine_of d) };
+}
+
+impl Clone for DFA {
+    ghost is_clone = { λ a b. b ≡ a };
+
+    fn clone(&self) -> Result<DFA, AllocError> {
+        let nfa = self.nfa.clone()?;
+        Ok(DFA {
+            nfa,
+            config: self.config,
+            classes: self.classes,
+            quits: self.quits,
+            stride: self.stride,
+            slots: self.slots,
+            capacity: self.capacity,
+            fixed: self.fixed,
+        })
+    }
+}
+
+impl DFA {
+    /// The settings to configure.
+    pub fn config() -> Config
+        ensures { result ≡ unset }
+    {
+        Config::new()
+    }
+
+    /// A builder of lazy DFAs.
+    pub fn builder() -> Builder
+        ensures { result ≡ unset }
+    {
+        Builder::new()
+    }
+
+    /// The DFA of an automaton and of what its settings make of it.
+    pub(crate) fn of_settled(nfa: NFA, config: Config, settled: Settled) -> DFA
+        requires { IsSettled config nfa settled }
+        ensures { result ≡ built config nfa settled }
+    {
+        let classes = *settled.classes();
+        let stride = classes.stride();
+        let _ = classes.eoi();
+        let slots = start_slots(&nfa, config.get_starts_for_each_pattern());
+        let fixed = fixed_cost(&nfa);
+        DFA {
+            nfa,
+            config,
+            classes,
+            quits: *settled.quit_set(),
+            stride,
+            slots,
+            capacity: settled.capacity(),
+            fixed,
+        }
+    }
+
+    /// A cache for its searches.
+    pub fn create_cache(&self) -> Result<Cache, AllocError>
+        ensures { IfOk result (λ c. c ≡ fresh_cache self.now) }
+    {
+        Cache::new(self)
+    }
+
+    /// Makes a cache a fresh one of this DFA. A refusal changes nothing.
+    pub fn reset_cache(&self, cache: &mut Cache) -> Result<(), AllocError>
+        ensures ok { OnOk result (cache.new ≡ fresh_cache self.now) }
+        ensures err { OnErr result (cache.new ≡ cache.old) }
+    {
+        cache.reset(self)
+    }
+
+    /// The classes of bytes that it tells apart.
+    pub fn byte_classes(&self) -> &ByteClasses
+        ensures { result.now ≡ self.now.classes }
+    {
+        &self.classes
+    }
+
+    /// The settings it was built with.
+    pub fn get_config(&self) -> &Config
+        ensures { result.now ≡ self.now.config }
+    {
+        &self.config
+    }
+
+    /// The bytes beside its automaton: none.
+    pub fn memory_usage(&self) -> usize
+        ensures { result ≡ 0 }
+    {
+        0
+    }
+
+    /// The allocator of its automaton.
+    pub(crate) fn alloc(&self) -> Global {
+        self.nfa.alloc()
+    }
+
+    /// The automaton.
+    pub fn get_nfa(&self) -> &NFA
+        ensures { result.now ≡ self.now.nfa }
+    {
+        &self.nfa
+    }
+
+    /// Whether each pattern has starts of its own.
+    pub(crate) fn starts_each_pattern(&self) -> bool
+        ensures { result ≡ self.now.per_pattern }
+    {
+        self.config.get_starts_for_each_pattern()
+    }
+
+    /// The number of patterns.
+    pub fn pattern_len(&self) -> usize
+        ensures { result ≡ length self.now.nfa.start_pattern }
+    {
+        self.nfa.pattern_starts().len()
+    }
+
+    /// Whether start states are tagged.
+    pub(crate) fn specializes(&self) -> bool
+        ensures { result ≡ self.now.specialized }
+    {
+        self.config.get_specialize_start_states()
+    }
+
+    pub(crate) fn kind(&self) -> MatchKind
+        ensures { result ≡ self.now.kind }
+    {
+        self.config.get_match_kind()
+    }
+
+    /// The class of a byte.
+    #[inline(always)]
+    pub(crate) fn class_of(&self, byte: u8) -> usize
+        ensures value { result ≡ class_in self.now.classes byte }
+        ensures below { result < self.now.stride }
+        ensures small { self.now.stride ≤ 512 }
+        ensures quit { is_quit self.now.quits byte ≡ true → slice_index (template_of self.now) result ≡ quit_id self.now.stride }
+        ensures free { is_quit self.now.quits byte ≡ false → slice_index (template_of self.now) result ≡ 2 ^ 31 }
+        ensures alike { (q : Powerset) → IsOwn self.now.nfa q → successor self.now.nfa self.now.kind q (Some byte) ≡ next_of self.now q result }
+    {
+        usize::from(self.classes.get(byte))
+    }
+
+    /// The class of the haystack's end.
+    pub(crate) fn end_class(&self) -> usize
+        ensures value { result ≡ eoi_class self.now.classes }
+        ensures below { result < self.now.stride }
+        ensures small { self.now.stride ≤ 512 }
+        ensures free { slice_index (template_of self.now) result ≡ 2 ^ 31 }
+        ensures alike { (q : Powerset) → IsOwn self.now.nfa q → successor self.now.nfa self.now.kind q None ≡ next_of self.now q result }
+    {
+        self.classes.eoi()
+    }
+
+    /// The start slots are as many as the modes give.
+    pub(crate) fn ends_slots(&self)
+        ensures number { self.now.slots ≡ start_slots self.now.nfa self.now.per_pattern }
+        ensures fits { self.now.slots < 2 ^ 64 }
+    {
+        let _slots = self.slots;
+    }
+
+    /// The fixed rows alone.
+    pub(crate) fn fresh_store(&self) -> Result<Store, AllocError>
+        ensures { IfOk result (λ c. c ≡ fresh_store self.now (settings_of self.now)) }
+    {
+        let template = new_row(self.nfa.alloc(), &self.classes, &self.quits, self.stride)?;
+        let store = Store::new(self, self.stride, template, self.slots, self.settings())?;
+        Ok(store)
+    }
+
+    fn settings(&self) -> Settings
+        ensures { result ≡ settings_of self.now }
+    {
+        Settings {
+            capacity: self.capacity,
+            fixed: self.fixed,
+            minimum_clear_count: self.config.get_minimum_cache_clear_count(),
+            minimum_bytes_per_state: self.config.get_minimum_bytes_per_state(),
+        }
+    }
+}

@@ -1,0 +1,84 @@
+ghost use Rattle.std.specs.Prelude.{◌≡◌, ◌+◌, ◌-◌, Some, None};
+ghost use Rattle.automata_hybrid.specs.Progressing.{distance, started, updated, finished, total_len, progress_cleared};
+
+/// A running search: where it began, and where it is.
+#[derive(Clone, Copy)]
+pub struct Progress {
+    pub start: usize,
+    pub place: usize,
+}
+
+/// The bytes searched since the last clear, and the running search.
+#[derive(Clone, Copy)]
+pub struct Searched {
+    pub bytes: usize,
+    pub running: Option<Progress>,
+}
+
+impl Progress {
+    pub fn distance(self) -> usize
+        ensures { result ≡ distance self }
+    {
+        if self.start < self.place {
+            self.place - self.start
+        } else {
+            self.start - self.place
+        }
+    }
+}
+
+impl Searched {
+    pub fn total_len(&self) -> usize
+        ensures { result ≡ total_len self.now }
+    {
+        match self.running {
+            None => self.bytes,
+            Some(running) => self.bytes.saturating_add(running.distance()),
+        }
+    }
+
+    pub fn start(&mut self, at: usize)
+        ensures { self.new ≡ started self.old at }
+    {
+        self.bytes = self.total_len();
+        self.running = Some(Progress {
+            start: at,
+            place: at,
+        });
+    }
+
+    pub fn update(&mut self, at: usize)
+        ensures { self.new ≡ updated self.old at }
+    {
+        if let Some(running) = self.running {
+            self.running = Some(Progress {
+                start: running.start,
+                place: at,
+            });
+        }
+    }
+
+    pub fn finish(&mut self, at: usize)
+        ensures { self.new ≡ finished self.old at }
+    {
+        self.update(at);
+        self.bytes = self.total_len();
+        self.running = None;
+    }
+
+    /// What a clear makes of it.
+    pub fn cleared(&self) -> Searched
+        ensures { result ≡ progress_cleared self.now }
+    {
+        Searched {
+            bytes: 0,
+            running: match self.running {
+                None => None,
+                Some(running) => Some(Progress {
+                    start: running.place,
+                    place: running.place,
+                }),
+            },
+        }
+    }
+}

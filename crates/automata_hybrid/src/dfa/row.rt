@@ -1,0 +1,38 @@
+ghost use Rattle.std.specs.Prelude.{◌≡◌, ◌+◌, ◌*◌, ◌^◌, ◌<◌, ◌≤◌, ◌↔◌, IsTrue};
+ghost use Rattle.automata_base.specs.Powerset.{cost};
+ghost use Rattle.automata_base.specs.Powerset.{dead};
+ghost use Rattle.automata_hybrid.specs.Table.{has_patterns};
+
+use automata_base::util::determinize::state::State;
+
+/// A row's state, and whether it was added as a start with its tag.
+#[derive(Drop)]
+pub struct Row {
+    pub state: State,
+    pub started: bool,
+}
+
+/// The accounted bytes of a state.
+pub fn cost(state: &State) -> usize
+    requires { cost state.now < 2 ^ 64 }
+    ensures { result ≡ cost state.now }
+{
+    13 + 4 * state.match_len() + 5 * state.nfa().count()
+}
+
+pub fn is_dead(state: &State) -> bool
+    ensures { IsTrue result ↔ (state.now ≡ dead) }
+{
+    state.nfa().next().is_none()
+        && state.match_len() == 0
+        && state.known() == 0
+        && state.needed() == 0
+        && !state.word()
+        && !state.half()
+}
+
+pub fn has_patterns(state: &State) -> bool
+    ensures { result ≡ has_patterns state.now }
+{
+    state.match_len() > 0
+}

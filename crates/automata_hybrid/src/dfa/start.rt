@@ -1,0 +1,283 @@
+ghost use Rattle.std.specs.Prelude.{ℕ, ◌≡◌, ◌+◌, ◌*◌, ◌^◌, ◌<◌, ◌≤◌, None, Some, IfOk, IfErr, IfSome, IfNone, ◌↔◌, OnOk, OnErr, length, slice_index, Ok, Err, true, false, Option, ◌⊎◌};
+ghost use Rattle.automata_base.specs.Alike.{behind_of};
+ghost use Rattle.automata_base.specs.Powerset.{Powerset, cost, dead};
+ghost use Rattle.automata_base.specs.Classes.{is_quit};
+ghost use Rattle.automata_base.specs.Steps.{start_state_of};
+ghost use Rattle.automata_hybrid.specs.Machine.{start_of, greatest};
+ghost use Rattle.automata_base.specs.Tapes.{byte_before};
+ghost use Rattle.automata_base.specs.Lists.{nth};
+ghost use Rattle.automata_hybrid.specs.Starting.{quit_behind, start_refusal, search_refusal};
+ghost use Rattle.automata_hybrid.specs.Slots.{supports};
+ghost use Rattle.automata_hybrid.specs.Table.{id_of, Names, IsValid, Leads};
+ghost use Rattle.automata_hybrid.specs.Bounds.{Fits, refuses_to_clear, IsCacheError, IsKnownStart, KeepsStarts, GivesUp};
+ghost use Rattle.automata_hybrid.specs.Caches.{IsCacheOf, counted, HasRow};
+
+use crate::dfa::DFA;
+use crate::dfa::cache::{Cache, Found};
+use crate::id::LazyStateID;
+use automata_base::util::search::{Anchored, Input, MatchError};
+use automata_base::util::start;
+use automata_config::error::{SearchError, StartError, StepError};
+
+impl Cache {
+    /// The start state of a slot. A known one takes no memory.
+    pub(crate) fn start(
+        &mut self,
+        dfa: &DFA,
+        slot: usize,
+        mode: Anchored,
+        prev: Option<u8>,
+    ) -> Result<LazyStateID, StepError>
+        requires of { IsCacheOf self.old dfa.now }
+        requires slot { slot < length self.old.store.starts }
+        requires same { start_state_of dfa.now.nfa mode prev ≡ start_of dfa.now slot }
+        ensures of { IsCacheOf self.new dfa.now }
+        ensures known { IsKnownStart self.old.store slot → result ≡ Ok (slice_index self.old.store.starts slot) }
+        ensures unchanged { IsKnownStart self.old.store slot → self.new ≡ self.old }
+        ensures named { IfOk result (λ n. Leads self.new.store.table n (start_state_of dfa.now.nfa mode prev)) }
+        ensures starts { KeepsStarts self.old.store.starts self.new.store.starts }
+        ensures found { OnOk result (IsKnownStart self.new.store slot) }
+        ensures gives_up { IfErr result (λ e. IsCacheError e → GivesUp self.old.store (start_state_of dfa.now.nfa mode prev)) }
+        ensures err { OnErr result (self.new ≡ counted self.old) }
+    {
+        let found = self.start_slot(slot);
+        if !found.is_unknown() {
+            return Ok(found);
+        }
+        let id = self.compute_start(dfa, slot, mode, prev)?;
+        Ok(id)
+    }
+
+    /// Computes a start that isn't known.
+    #[inline(never)]
+    fn compute_start(
+        &mut self,
+        dfa: &DFA,
+        slot: usize,
+        mode: Anchored,
+        prev: Option<u8>,
+    ) -> Result<LazyStateID, StepError>
+        requires of { IsCacheOf self.old dfa.now }
+        requires slot { slot < length self.old.store.starts }
+        requires same { start_state_of dfa.now.nfa mode prev ≡ start_of dfa.now slot }
+        ensures of { IsCacheOf self.new dfa.now }
+        ensures named { IfOk result (λ n. Leads self.new.store.table n (start_state_of dfa.now.nfa mode prev)) }
+        ensures starts { OnOk result (KeepsStarts self.old.store.starts self.new.store.starts) }
+        ensures found { OnOk result (IsKnownStart self.new.store slot) }
+        ensures gives_up { IfErr result (λ e. IsCacheError e → GivesUp self.old.store (start_state_of dfa.now.nfa mode prev)) }
+        ensures err { OnErr result (self.new ≡ counted self.old) }
+    {
+        let key = self.determinise_start(dfa, mode, prev)?;
+        match self.resolve(dfa, key)? {
+            Found::Known(id) => {
+                self.set_start(slot, id);
+                Ok(id)
+            }
+            Found::New(state) => {
+                let id = self.add_start(dfa, state, dfa.specializes())?;
+                self.set_start(slot, id);
+                Ok(id)
+            }
+        }
+    }
+}
+
+impl DFA {
+    /// The kind of what is behind a start: 0 for any byte that isn't said here, 1 for a word byte, 2 for none, 3 for a line
+    /// feed, 4 for a carriage return, 5 for a line terminator that is none of these two.
+    fn behind(&self, prev: Option<u8>) -> usize
+        ensures { result ≡ behind_of self.now.nfa.flags.line_terminator prev }
+    {
+        let Some(byte) = prev else {
+            return 2;
+        };
+        if byte == b'\n' {
+            return 3;
+        }
+        if byte == b'\r' {
+            return 4;
+        }
+        if byte == self.get_nfa().flags().line_terminator {
+            return 5;
+        }
+        if byte.is_ascii_alphanumeric() || byte == b'_' {
+            return 1;
+        }
+        0
+    }
+
+    /// The start slot of a group, behind a byte or behind none.
+    fn slot(&self, group: usize, prev: Option<u8>) -> usize
+        requires { group * 6 + 6 ≤ self.now.slots }
+        ensures value { result ≡ group * 6 + behind_of self.now.nfa.flags.line_terminator prev }
+        ensures within { result < self.now.slots }
+    {
+        self.ends_slots();
+        group * 6 + self.behind(prev)
+    }
+
+    /// The start slot of a mode. Past the last pattern there is none.
+    fn mode_slot(&self, mode: Anchored, prev: Option<u8>) -> Result<Option<usize>, StartError>
+        ensures within { IfOk result (λ o. IfSome o (λ slot. slot < self.now.slots)) }
+        ensures same { IfOk result (λ o. IfSome o (λ slot. start_state_of self.now.nfa mode prev ≡ start_of self.now slot)) }
+        ensures past { IfOk result (λ o. IfNone o (start_state_of self.now.nfa mode prev ≡ dead)) }
+        ensures refused { (result ≡ Err (StartError.UnsupportedAnchored mode)) ↔ (supports self.now mode ≡ false) }
+        ensures only { IfErr result (λ e. e ≡ StartError.UnsupportedAnchored mode) }
+    {
+        self.ends_slots();
+        match mode {
+            Anchored::No => Ok(Some(self.slot(0, prev))),
+            Anchored::Yes => Ok(Some(self.slot(1, prev))),
+            Anchored::Pattern(pattern) => {
+                if !self.starts_each_pattern() {
+                    return Err(StartError::UnsupportedAnchored {
+                        mode: Anchored::Pattern(pattern),
+                    });
+                }
+                let pattern = pattern.as_usize();
+                if pattern >= self.pattern_len() {
+                    return Ok(None);
+                }
+                Ok(Some(self.slot(pattern + 2, prev)))
+            }
+        }
+    }
+}
+
+/// Why a start is refused.
+fn start_refusal(error: StepError) -> StartError
+    ensures { result ≡ start_refusal error }
+{
+    match error {
+        StepError::Cache(err) => StartError::Cache { err },
+        StepError::OutOfMemory => StartError::OutOfMemory,
+    }
+}
+
+impl DFA {
+    /// Whether a search stops at a byte.
+    #[inline(always)]
+    pub(crate) fn quits(&self, byte: u8) -> bool
+        ensures { result ≡ is_quit self.now.quits byte }
+    {
+        self.quits[usize::from(byte)]
+    }
+
+    fn quits_behind(&self, prev: Option<u8>) -> Option<u8>
+        ensures { result ≡ quit_behind self.now prev }
+    {
+        match prev {
+            Some(byte) if self.quits(byte) => Some(byte),
+            _ => None,
+        }
+    }
+
+    /// The start state of a mode behind a byte. A known one takes no memory.
+    pub fn start_state(
+        &self,
+        cache: &mut Cache,
+        config: &start::Config,
+    ) -> Result<LazyStateID, StartError>
+        requires { IsCacheOf cache.old self.now }
+        ensures of { IsCacheOf cache.new self.now }
+        ensures row { IfOk result (HasRow cache.new.store.table) }
+
+        // A quit byte behind is told first, and a mode that isn't supported then.
+        ensures quit { (byte : ℕ) → quit_behind self.now config.now.look_behind ≡ Some byte → result ≡ Err (StartError.Quit byte) }
+        ensures named { IfOk result (λ n. Leads cache.new.store.table n (start_state_of self.now.nfa config.now.anchored config.now.look_behind)) }
+        ensures starts { KeepsStarts cache.old.store.starts cache.new.store.starts }
+        ensures refused { OnErr result ((cache.new ≡ cache.old) ⊎ (cache.new ≡ counted cache.old)) }
+    {
+        if let Some(byte) = self.quits_behind(config.get_look_behind()) {
+            return Err(StartError::Quit { byte });
+        }
+        match self.mode_slot(config.get_anchored(), config.get_look_behind())? {
+            None => Ok(cache.dead()),
+            Some(slot) => {
+                let mode = config.get_anchored();
+                let prev = config.get_look_behind();
+                self.start_at(cache, slot, mode, prev)
+            }
+        }
+    }
+
+    /// The start state of a slot.
+    fn start_at(
+        &self,
+        cache: &mut Cache,
+        slot: usize,
+        mode: Anchored,
+        prev: Option<u8>,
+    ) -> Result<LazyStateID, StartError>
+        requires of { IsCacheOf cache.old self.now }
+        requires slot { slot < self.now.slots }
+        requires same { start_state_of self.now.nfa mode prev ≡ start_of self.now slot }
+        ensures of { IsCacheOf cache.new self.now }
+        ensures row { IfOk result (HasRow cache.new.store.table) }
+        ensures named { IfOk result (λ n. Leads cache.new.store.table n (start_state_of self.now.nfa mode prev)) }
+        ensures starts { KeepsStarts cache.old.store.starts cache.new.store.starts }
+        ensures err { OnErr result (cache.new ≡ counted cache.old) }
+    {
+        cache.slot_count();
+        match cache.start(self, slot, mode, prev) {
+            Ok(id) => Ok(id),
+            Err(error) => Err(start_refusal(error)),
+        }
+    }
+
+    /// The start state of a forward search.
+    pub fn start_state_forward(
+        &self,
+        cache: &mut Cache,
+        input: &Input<'_>,
+    ) -> Result<LazyStateID, SearchError>
+        requires { IsCacheOf cache.old self.now }
+        ensures of { IsCacheOf cache.new self.now }
+        ensures row { IfOk result (HasRow cache.new.store.table) }
+        ensures named { IfOk result (λ n. Leads cache.new.store.table n (start_state_of self.now.nfa input.now.anchored (byte_before input.now.haystack input.now.start))) }
+        ensures starts { KeepsStarts cache.old.store.starts cache.new.store.starts }
+    {
+        let config = start::Config::from_input_forward(input);
+        match self.start_state(cache, &config) {
+            Ok(id) => Ok(id),
+            Err(error) => Err(search_refusal(
+                error,
+                input.start().saturating_sub(1),
+                input.start(),
+            )),
+        }
+    }
+
+    /// The start state of a reverse search.
+    pub fn start_state_reverse(
+        &self,
+        cache: &mut Cache,
+        input: &Input<'_>,
+    ) -> Result<LazyStateID, SearchError>
+        requires { IsCacheOf cache.old self.now }
+        ensures of { IsCacheOf cache.new self.now }
+        ensures row { IfOk result (HasRow cache.new.store.table) }
+        ensures named { IfOk result (λ n. Leads cache.new.store.table n (start_state_of self.now.nfa input.now.anchored (nth input.now.haystack input.now.end))) }
+        ensures starts { KeepsStarts cache.old.store.starts cache.new.store.starts }
+    {
+        let config = start::Config::from_input_reverse(input);
+        match self.start_state(cache, &config) {
+            Ok(id) => Ok(id),
+            Err(error) => Err(search_refusal(error, input.end(), input.end())),
+        }
+    }
+}
+
+/// A start's refusal as a search tells it: a quit byte and the giving up each at an offset.
+fn search_refusal(error: StartError, behind: usize, at: usize) -> SearchError
+    ensures { result ≡ search_refusal error behind at }
+{
+    match error {
+        StartError::Cache { .. } => SearchError::Match(MatchError::gave_up(at)),
+        StartError::Quit { byte } => SearchError::Match(MatchError::quit(byte, behind)),
+        StartError::UnsupportedAnchored { mode } => SearchError::Match(
+            MatchError::unsupported_anchored(mode),
+        ),
+        StartError::OutOfMemory => SearchError::OutOfMemory,
+    }
+}

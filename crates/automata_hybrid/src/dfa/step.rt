@@ -1,0 +1,184 @@
+ghost use Rattle.std.specs.Prelude.{ℕ, ◌≡◌, ◌+◌, ◌*◌, ◌^◌, ◌<◌, ◌≤◌, None, Some, IfOk, IfErr, OnOk, OnErr, length, slice_index, Ok, true, false};
+ghost use Rattle.automata_base.specs.Powerset.{Powerset, cost};
+ghost use Rattle.automata_base.specs.Steps.{successor};
+ghost use Rattle.automata_hybrid.specs.Owned.{IsOwn};
+ghost use Rattle.automata_hybrid.specs.Machine.{next_of, start_of, template_of};
+ghost use Rattle.automata_hybrid.specs.Table.{id_of, Names, IsValid, Leads};
+ghost use Rattle.automata_hybrid.specs.Bounds.{GivesUp, Fits, refuses_to_clear, IsCacheError, IsKnownTransition, cell_of, IsNext, KeepsStarts, IsComputed};
+ghost use Rattle.automata_hybrid.specs.Caches.{IsCacheOf, HasRow, counted};
+ghost use Rattle.automata_hybrid.specs.Ids.{quit_id};
+ghost use Rattle.automata_base.specs.Classes.{class_in, eoi_class, is_quit};
+
+use crate::dfa::DFA;
+use crate::dfa::cache::{Cache, Found};
+use crate::id::LazyStateID;
+use automata_base::util::primitives::PatternID;
+use automata_config::error::StepError;
+
+impl Cache {
+    /// The state after a unit of this class, by its ID. A known transition takes no memory.
+    pub(crate) fn next(
+        &mut self,
+        dfa: &DFA,
+        id: LazyStateID,
+        class: usize,
+        unit: Option<u8>,
+    ) -> Result<LazyStateID, StepError>
+        requires of { IsCacheOf self.old dfa.now }
+        requires valid { IsValid self.old.store.table id }
+        requires class { class < dfa.now.stride }
+        requires alike { (q : Powerset) → IsOwn dfa.now.nfa q → successor dfa.now.nfa dfa.now.kind q unit ≡ next_of dfa.now q class }
+        ensures of { IsCacheOf self.new dfa.now }
+        ensures known { IsKnownTransition self.old.store id class → result ≡ Ok (cell_of self.old.store id class) }
+        ensures unchanged { IsKnownTransition self.old.store id class → self.new ≡ self.old }
+        ensures named { IfOk result (λ n. (q : Powerset) → Names self.old.store.table id q → IsNext self.new.store.table q class n) }
+        ensures effect { (IsKnownTransition self.old.store id class → ⊥) → IfOk result (λ n. (q : Powerset) → Names self.old.store.table id q → IsComputed self.old.store id class q self.new.store n) }
+        ensures counted { (IsKnownTransition self.old.store id class → ⊥) → self.new.count ≡ self.old.count + 1 }
+        ensures starts { KeepsStarts self.old.store.starts self.new.store.starts }
+        ensures gives_up { IfErr result (λ e. IsCacheError e → (q : Powerset) → Names self.old.store.table id q → (id_of self.old.store.table (next_of dfa.now q class) ≡ None) × (Fits self.old.store (cost (next_of dfa.now q class)) → ⊥) × (refuses_to_clear self.old.store ≡ true)) }
+        ensures err { OnErr result (self.new ≡ counted self.old) }
+    {
+        let cell = self.cell(id, class);
+        if !cell.is_unknown() {
+            return Ok(cell);
+        }
+        let next = self.compute_next(dfa, id, class, unit)?;
+        Ok(next)
+    }
+
+    /// Computes a transition that isn't known.
+    #[inline(never)]
+    fn compute_next(
+        &mut self,
+        dfa: &DFA,
+        id: LazyStateID,
+        class: usize,
+        unit: Option<u8>,
+    ) -> Result<LazyStateID, StepError>
+        requires of { IsCacheOf self.old dfa.now }
+        requires valid { IsValid self.old.store.table id }
+        requires class { class < dfa.now.stride }
+        requires free { slice_index (template_of dfa.now) class ≡ 2 ^ 31 }
+        requires alike { (q : Powerset) → IsOwn dfa.now.nfa q → successor dfa.now.nfa dfa.now.kind q unit ≡ next_of dfa.now q class }
+        ensures of { IsCacheOf self.new dfa.now }
+        ensures named { IfOk result (λ n. (q : Powerset) → Names self.old.store.table id q → Leads self.new.store.table n (next_of dfa.now q class)) }
+        ensures effect { IfOk result (λ n. (q : Powerset) → Names self.old.store.table id q → IsComputed self.old.store id class q self.new.store n) }
+        ensures counted { self.new.count ≡ self.old.count + 1 }
+        ensures starts { OnOk result (KeepsStarts self.old.store.starts self.new.store.starts) }
+        ensures gives_up { IfErr result (λ e. IsCacheError e → (q : Powerset) → Names self.old.store.table id q → (id_of self.old.store.table (next_of dfa.now q class) ≡ None) × (Fits self.old.store (cost (next_of dfa.now q class)) → ⊥) × (refuses_to_clear self.old.store ≡ true)) }
+        ensures err { OnErr result (self.new ≡ counted self.old) }
+    {
+        let key = self.determinise(dfa, id, class, unit)?;
+        match self.resolve(dfa, key)? {
+            Found::Known(to) => {
+                self.set_next(id, class, to);
+                Ok(to)
+            }
+            Found::New(state) => {
+                let (from, to) = self.add_next(dfa, id, state)?;
+                self.set_next(from, class, to);
+                Ok(to)
+            }
+        }
+    }
+}
+
+impl DFA {
+    /// The state after a byte, by its ID. A known transition takes no memory.
+    pub fn next_state(
+        &self,
+        cache: &mut Cache,
+        id: LazyStateID,
+        byte: u8,
+    ) -> Result<LazyStateID, StepError>
+        requires of { IsCacheOf cache.old self.now }
+        requires row { HasRow cache.old.store.table id }
+        ensures of { IsCacheOf cache.new self.now }
+
+        // Dead leads to dead, and quit to quit.
+        ensures fixed { 2 ^ 29 ≤ id → result ≡ Ok id }
+        ensures quit { id < 2 ^ 29 → is_quit self.now.quits byte ≡ true → IfOk result (λ n. n ≡ quit_id self.now.stride) }
+        ensures named { is_quit self.now.quits byte ≡ false → IfOk result (λ n. (q : Powerset) → Names cache.old.store.table id q → Leads cache.new.store.table n (successor self.now.nfa self.now.kind q (Some byte))) }
+        ensures row { IfOk result (HasRow cache.new.store.table) }
+
+        ensures known { id < 2 ^ 29 → IsKnownTransition cache.old.store id (class_in self.now.classes byte) → result ≡ Ok (cell_of cache.old.store id (class_in self.now.classes byte)) }
+        ensures unchanged { IsKnownTransition cache.old.store id (class_in self.now.classes byte) → cache.new ≡ cache.old }
+        ensures starts { KeepsStarts cache.old.store.starts cache.new.store.starts }
+        ensures gives_up { IfErr result (λ e. IsCacheError e → (q : Powerset) → Names cache.old.store.table id q → GivesUp cache.old.store (successor self.now.nfa self.now.kind q (Some byte))) }
+        ensures err { OnErr result (cache.new ≡ counted cache.old) }
+    {
+        cache.low();
+        if id.is_fixed() {
+            return Ok(id);
+        }
+        cache.own(id);
+        let class = self.class_of(byte);
+        let next = cache.next(self, id, class, Some(byte))?;
+        Ok(next)
+    }
+
+    /// The state after the haystack's end, by its ID. A known transition takes no memory.
+    pub fn next_eoi_state(
+        &self,
+        cache: &mut Cache,
+        id: LazyStateID,
+    ) -> Result<LazyStateID, StepError>
+        requires of { IsCacheOf cache.old self.now }
+        requires row { HasRow cache.old.store.table id }
+        ensures of { IsCacheOf cache.new self.now }
+
+        // Dead leads to dead, and quit to quit.
+        ensures fixed { 2 ^ 29 ≤ id → result ≡ Ok id }
+        ensures named { IfOk result (λ n. (q : Powerset) → Names cache.old.store.table id q → Leads cache.new.store.table n (successor self.now.nfa self.now.kind q None)) }
+        ensures row { IfOk result (HasRow cache.new.store.table) }
+
+        ensures known { id < 2 ^ 29 → IsKnownTransition cache.old.store id (eoi_class self.now.classes) → result ≡ Ok (cell_of cache.old.store id (eoi_class self.now.classes)) }
+        ensures unchanged { IsKnownTransition cache.old.store id (eoi_class self.now.classes) → cache.new ≡ cache.old }
+        ensures starts { KeepsStarts cache.old.store.starts cache.new.store.starts }
+        ensures gives_up { IfErr result (λ e. IsCacheError e → (q : Powerset) → Names cache.old.store.table id q → GivesUp cache.old.store (successor self.now.nfa self.now.kind q None)) }
+        ensures err { OnErr result (cache.new ≡ counted cache.old) }
+    {
+        cache.low();
+        if id.is_fixed() {
+            return Ok(id);
+        }
+        cache.own(id);
+        let class = self.end_class();
+        let next = cache.next(self, id, class, None)?;
+        Ok(next)
+    }
+
+    /// The state after a byte as far as the cache knows it, and else an unknown ID. It takes no memory.
+    #[inline(always)]
+    pub fn next_state_untagged(&self, cache: &Cache, id: LazyStateID, byte: u8) -> LazyStateID
+        requires of { IsCacheOf cache.now self.now }
+        requires valid { IsValid cache.now.store.table id }
+        requires untagged { id ≤ 134217727 }
+        ensures value { result ≡ cell_of cache.now.store id (class_in self.now.classes byte) }
+        ensures quit { is_quit self.now.quits byte ≡ true → result ≡ quit_id self.now.stride }
+        ensures named { is_quit self.now.quits byte ≡ false → result < 2 ^ 31 → (q : Powerset) → Names cache.now.store.table id q → Leads cache.now.store.table result (successor self.now.nfa self.now.kind q (Some byte)) }
+        ensures row { result < 2 ^ 31 → HasRow cache.now.store.table result }
+    {
+        cache.own(id);
+        cache.cell(id, self.class_of(byte))
+    }
+
+    /// How many patterns match at a match state.
+    pub fn match_len(&self, cache: &Cache, id: LazyStateID) -> usize
+        requires of { IsCacheOf cache.now self.now }
+        requires valid { IsValid cache.now.store.table id }
+        ensures { (q : Powerset) → Names cache.now.store.table id q → result ≡ length q.patterns }
+    {
+        cache.match_len(id)
+    }
+
+    /// A pattern that matches at a match state.
+    pub fn match_pattern(&self, cache: &Cache, id: LazyStateID, index: usize) -> PatternID
+        requires of { IsCacheOf cache.now self.now }
+        requires valid { IsValid cache.now.store.table id }
+        requires index { (q : Powerset) → Names cache.now.store.table id q → index < length q.patterns }
+        ensures { (q : Powerset) → Names cache.now.store.table id q → result ≡ slice_index q.patterns index }
+    {
+        cache.match_pattern(id, index)
+    }
+}

@@ -1,0 +1,392 @@
+ghost use Rattle.std.specs.Prelude.{ℕ, ◌≡◌, ◌+◌, ◌-◌, ◌*◌, ◌/◌, ◌%◌, ◌^◌, ◌<◌, ◌≤◌, ◌↔◌, None, Some, IfOk, OnOk, OnErr, length, slice_index, slice_get, sum_by, IsTrue, IfErr, is_ok, is_some, true, false};
+ghost use Rattle.automata_base.specs.Powerset.{Powerset, cost};
+ghost use Rattle.automata_base.specs.Powerset.{dead};
+ghost use Rattle.automata_base.specs.Accounting.{minimum_capacity};
+ghost use Rattle.automata_hybrid.specs.Owned.{IsOwn};
+ghost use Rattle.automata_hybrid.specs.Ids.{dead_id};
+ghost use Rattle.automata_hybrid.specs.Machine.{next_of, start_of, greatest, template_of, IsTemplate};
+ghost use Rattle.automata_hybrid.specs.Table.{id_of, Names, IsValid, with_row, with_cell, Leads, MayLead, IsCell};
+ghost use Rattle.automata_hybrid.specs.Clears.{IsPut, row_of};
+ghost use Rattle.automata_hybrid.specs.Bounds.{usage, Fits, refuses_to_clear, cleared, with_table, grown, put_found, cleared_saving, IsCacheError, cell_of, with_next, fresh_store, settings_of, with_start, IsAdded, KeepsStarts};
+ghost use Rattle.automata_hybrid.specs.Progressing.{started, updated, finished, total_len};
+
+use crate::dfa::clears::{keep_row, keep_starts};
+use crate::dfa::progress::Searched;
+use crate::dfa::settings::Settings;
+use crate::dfa::table::Table;
+use crate::dfa::{DFA, row};
+use crate::id::LazyStateID;
+use automata_base::util::determinize::key::Key;
+use automata_base::util::determinize::state::State;
+use automata_config::error::{CacheError, StepError};
+use std::alloc::AllocError;
+use std::marker::Model;
+
+/// A lazy DFA's cache, whose accounted bytes never pass its capacity.
+#[derive(Drop)]
+pub struct Store {
+    table: Table,
+    starts: Vec<LazyStateID>,
+    settings: Settings,
+    clears: usize,
+    searched: Searched,
+}
+
+impl Model for Store {
+    ghost use Rattle.automata_hybrid.specs.Bounds.{Stored, IsCache};
+
+    ghost Value = { Stored };
+
+    ghost view = { λ c. record { table = c.table; starts = c.starts.items; settings = c.settings; clears = c.clears; searched = c.searched } };
+
+    ghost invariant = { λ c. IsCache (record { table = c.table; starts = c.starts.items; settings = c.settings; clears = c.clears; searched = c.searched }) };
+}
+
+impl Store {
+    /// The fixed rows alone, and no start.
+    pub fn new(
+        dfa: &DFA,
+        stride: usize,
+        template: Vec<LazyStateID>,
+        slots: usize,
+        settings: Settings,
+    ) -> Result<Store, AllocError>
+        requires whole { IsTemplate stride template.items }
+        requires stride { stride ≡ dfa.now.stride }
+        requires template { template.items ≡ template_of dfa.now }
+        requires slots { slots ≡ dfa.now.slots }
+        requires settings { settings ≡ settings_of dfa.now }
+        requires enough { minimum_capacity stride slots (greatest dfa.now) settings.fixed ≤ settings.capacity }
+        requires offsets { (slots + 4) * stride < 2 ^ 27 }
+        ensures { IfOk result (λ c. c ≡ fresh_store dfa.now settings) }
+    {
+        let _capacity = settings.capacity;
+        let table = Table::fresh(dfa, stride, template)?;
+        let mut starts = Vec::new(dfa.alloc());
+        starts.resize(slots, LazyStateID::UNKNOWN)?;
+        Ok(Store {
+            table,
+            starts,
+            settings,
+            clears: 0,
+            searched: Searched {
+                bytes: 0,
+                running: None,
+            },
+        })
+    }
+
+    pub fn clear_count(&self) -> usize
+        ensures { result ≡ self.now.clears }
+    {
+        self.clears
+    }
+
+    pub fn in_progress(&self) -> bool
+        ensures { result ≡ is_some self.now.searched.running }
+    {
+        self.searched.running.is_some()
+    }
+
+    pub fn search_total_len(&self) -> usize
+        ensures { result ≡ total_len self.now.searched }
+    {
+        self.searched.total_len()
+    }
+
+    pub fn search_start(&mut self, at: usize)
+        ensures { self.new ≡ record self.old { searched = started self.old.searched at } }
+    {
+        self.searched.start(at);
+    }
+
+    pub fn search_update(&mut self, at: usize)
+        ensures { self.new ≡ record self.old { searched = updated self.old.searched at } }
+    {
+        self.searched.update(at);
+    }
+
+    pub fn search_finish(&mut self, at: usize)
+        ensures { self.new ≡ record self.old { searched = finished self.old.searched at } }
+    {
+        self.searched.finish(at);
+    }
+
+    /// The slot of a start, which may not be known yet.
+    pub fn start_slot(&self, slot: usize) -> LazyStateID
+        requires { slot < length self.now.starts }
+        ensures value { result ≡ slice_index self.now.starts slot }
+        ensures leads { MayLead self.now.table result (start_of self.now.table.of slot) }
+    {
+        self.starts[slot]
+    }
+
+    /// Writes a start.
+    pub fn set_start(&mut self, slot: usize, id: LazyStateID)
+        requires slot { slot < length self.old.starts }
+        requires leads { Leads self.old.table id (start_of self.old.table.of slot) }
+        ensures value { self.new ≡ with_start self.old slot id }
+        ensures found { slice_index self.new.starts slot < 2 ^ 31 }
+    {
+        let _ = self.table.len();
+        self.starts[slot] = id;
+    }
+
+    /// The accounted bytes.
+    pub fn memory_usage(&self) -> usize
+        ensures usage { result ≡ usage self.now }
+        ensures within { result ≤ self.now.settings.capacity }
+    {
+        let states = self.table.len();
+        4 * self.table.cell_count()
+            + 4 * self.starts.len()
+            + 16 * (states + 3)
+            + 20 * (states + 1)
+            + 39
+            + self.table.costs()
+            + self.settings.fixed
+    }
+
+    /// Whether a new state fits.
+    pub fn fits(&self, extra: usize) -> bool
+        requires { extra ≤ greatest self.now.table.of }
+        ensures { IsTrue result ↔ Fits self.now extra }
+    {
+        let _ = self.table.len();
+        let used = self.memory_usage();
+        let room = self.settings.capacity - used;
+        4 * self.table.stride() + 36 + extra <= room && self.table.cell_count() < 134217728
+    }
+
+    /// The bounds are the DFA's.
+    pub fn bounds(&self)
+        ensures { self.now.settings ≡ settings_of self.now.table.of }
+    {
+        let _ = &self.settings;
+    }
+
+    /// The start slots are as many as the DFA's.
+    pub fn slot_count(&self)
+        ensures { length self.now.starts ≡ self.now.table.of.slots }
+    {
+        let _ = self.starts.len();
+    }
+
+    /// IDs of rows have no high tag.
+    pub fn low(&self)
+        ensures { (id : ℕ) (q : Powerset) → Names self.now.table id q → id < 2 ^ 29 }
+    {
+        let _ = self.table.len();
+    }
+
+    /// No state of the automaton costs more than fits.
+    fn cheap(&self)
+        ensures { greatest self.now.table.of < 2 ^ 64 }
+    {
+        let _ = self.starts.len();
+    }
+
+    /// Whether the clear rule refuses.
+    pub fn refuses(&self) -> bool
+        ensures { result ≡ refuses_to_clear self.now }
+    {
+        let Some(limit) = self.settings.minimum_clear_count else {
+            return false;
+        };
+        if self.clears < limit {
+            return false;
+        }
+        let Some(bytes) = self.settings.minimum_bytes_per_state else {
+            return true;
+        };
+        self.searched.total_len() < bytes.saturating_mul(self.table.len() + 3)
+    }
+
+    /// What a clear makes of the cache: it changes nothing here.
+    pub fn cleared(&self, dfa: &DFA) -> Result<Store, AllocError>
+        requires { dfa.now ≡ self.now.table.of }
+        ensures value { IfOk result (λ c. c ≡ cleared self.now) }
+        ensures few { IfOk result (λ c. length c.table.rows ≤ length c.starts) }
+        ensures slots { IfOk result (λ c. length c.starts ≡ length self.now.starts) }
+        ensures starts { IfOk result (λ c. KeepsStarts self.now.starts c.starts) }
+        ensures absent { IfOk result (λ c. (q : Powerset) → id_of self.now.table q ≡ None → id_of c.table q ≡ None) }
+        ensures of { IfOk result (λ c. c.table.of ≡ self.now.table.of) }
+    {
+        let _ = self.table.len();
+        let (table, starts) = keep_starts(dfa, &self.table, self.starts.as_slice())?;
+        let _ = table.len();
+        Ok(Store {
+            table,
+            starts,
+            settings: self.settings,
+            clears: self.clears.saturating_add(1),
+            searched: self.searched.cleared(),
+        })
+    }
+
+    /// The ID of a state, where the cache has it.
+    pub fn get(&self, state: &Key) -> Option<LazyStateID>
+        ensures { result ≡ id_of self.now.table state.now }
+    {
+        self.table.get(state)
+    }
+
+    pub fn dead(&self) -> LazyStateID
+        ensures { result ≡ dead_id self.now.table.of.stride }
+    {
+        let _ = self.table.len();
+        LazyStateID::dead(self.table.stride() as u32)
+    }
+
+    /// The cell of a row at a class, which may not be known yet.
+    pub fn cell(&self, id: LazyStateID, class: usize) -> LazyStateID
+        requires row { IsValid self.now.table id }
+        requires class { class < self.now.table.of.stride }
+        ensures value { result ≡ cell_of self.now id class }
+        ensures named { (q : Powerset) → Names self.now.table id q → IsCell self.now.table q class result }
+        ensures stride { self.now.table.of.stride ≤ 512 }
+    {
+        self.table.cell(id, class)
+    }
+
+    /// Writes a transition.
+    pub fn set_next(&mut self, id: LazyStateID, class: usize, next: LazyStateID)
+        requires row { IsValid self.old.table id }
+        requires class { class < self.old.table.of.stride }
+        requires free { slice_index (template_of self.old.table.of) class ≡ 2 ^ 31 }
+        requires next { (q : Powerset) × Names self.old.table id q × Leads self.old.table next (next_of self.old.table.of q class) }
+        ensures { self.new ≡ with_next self.old id class next }
+    {
+        self.table.set_cell(id, class, next);
+    }
+
+    /// The state that an ID names.
+    pub fn state(&self, id: LazyStateID) -> &State
+        requires { IsValid self.now.table id }
+        ensures named { (q : Powerset) → Names self.now.table id q → result.now ≡ q }
+        ensures of { IsOwn self.now.table.of.nfa result.now }
+    {
+        self.table.state(id)
+    }
+
+    /// With so few rows a state fits, whatever it costs.
+    fn has_room(&self)
+        requires { length self.now.table.rows ≤ length self.now.starts + 1 }
+        ensures fits { (extra : ℕ) → extra ≤ greatest self.now.table.of → Fits self.now extra }
+    {
+        let _ = self.table.len();
+        let _ = self.starts.len();
+    }
+
+    /// Adds a row for a state that fits.
+    pub fn add_row(&mut self, state: State, started: bool) -> Result<LazyStateID, AllocError>
+        requires absent { id_of self.old.table state ≡ None }
+        requires alive { state ≡ dead → ⊥ }
+        requires cost { cost state ≤ greatest self.old.table.of }
+        requires of { IsOwn self.old.table.of.nfa state }
+        requires fits { Fits self.old (cost state) }
+        ensures ok { OnOk result (self.new ≡ grown self.old (record { state = state; started = started })) }
+        ensures named { IfOk result (λ id. Names self.new.table id state) }
+        ensures kept { OnOk result ((id : ℕ) (q : Powerset) → Names self.old.table id q → Names self.new.table id q) }
+        ensures of { OnOk result (self.new.table.of ≡ self.old.table.of) }
+        ensures err { OnErr result (self.new ≡ self.old) }
+    {
+        let _ = self.table.len();
+        let added = self.table.add(state, started)?;
+        Ok(added)
+    }
+
+    /// Takes the row of another table over, where few rows are here.
+    pub fn keep_saved(&mut self, old: &Table, id: LazyStateID) -> Result<LazyStateID, AllocError>
+        requires valid { IsValid old.now id }
+        requires of { self.old.table.of ≡ old.now.of }
+        requires few { length self.old.table.rows ≤ length self.old.starts }
+        ensures row { OnOk result (self.new ≡ with_table self.old (put_found self.old.table (row_of old.now id))) }
+        ensures named { IfOk result (λ n. (q : Powerset) → Names old.now id q → Names self.new.table n q) }
+        ensures few { OnOk result (length self.new.table.rows ≤ length self.new.starts + 1) }
+        ensures absent { OnOk result ((q : Powerset) → id_of old.now q ≡ None → id_of self.old.table q ≡ None → id_of self.new.table q ≡ None) }
+        ensures of { OnOk result (self.new.table.of ≡ self.old.table.of) }
+    {
+        let _ = self.table.len();
+        let kept = keep_row(&mut self.table, old, id)?;
+        let _ = self.table.len();
+        Ok(kept)
+    }
+
+    /// Adds a state that the cache lacks, stepped to from a row; clears first where it doesn't fit. It answers the
+    /// row's ID as it is now, and the new one. A refusal changes nothing.
+    pub fn add_next(
+        &mut self,
+        dfa: &DFA,
+        from: LazyStateID,
+        state: State,
+    ) -> Result<(LazyStateID, LazyStateID), StepError>
+        requires dfa { dfa.now ≡ self.old.table.of }
+        requires valid { IsValid self.old.table from }
+        requires absent { id_of self.old.table state ≡ None }
+        requires alive { state ≡ dead → ⊥ }
+        requires cost { cost state ≤ greatest self.old.table.of }
+        requires of { IsOwn self.old.table.of.nfa state }
+        ensures fits { Fits self.old (cost state) → OnOk result (self.new ≡ grown self.old (record { state = state; started = false })) }
+        ensures clears { (Fits self.old (cost state) → ⊥) → OnOk result (self.new ≡ grown (cleared_saving self.old from) (record { state = state; started = false })) }
+        ensures effect { OnOk result (IsAdded self.old from (record { state = state; started = false }) self.new) }
+        ensures starts { OnOk result (KeepsStarts self.old.starts self.new.starts) }
+        ensures from { IfOk result (λ p. (q : Powerset) → Names self.old.table from q → Names self.new.table p.0 q) }
+        ensures to { IfOk result (λ p. Names self.new.table p.1 state) }
+        ensures of { OnOk result (self.new.table.of ≡ self.old.table.of) }
+        ensures gives_up { IfErr result (λ e. IsCacheError e → (Fits self.old (cost state) → ⊥) × (refuses_to_clear self.old ≡ true)) }
+        ensures refused { (Fits self.old (cost state) → ⊥) → refuses_to_clear self.old ≡ true → IfErr result IsCacheError × (is_ok result ≡ false) }
+        ensures err { OnErr result (self.new ≡ self.old) }
+    {
+        self.cheap();
+        if self.fits(row::cost(&state)) {
+            let to = self.add_row(state, false)?;
+            return Ok((from, to));
+        }
+        if self.refuses() {
+            return Err(StepError::Cache(CacheError));
+        }
+        let mut fresh = self.cleared(dfa)?;
+        let from = fresh.keep_saved(&self.table, from)?;
+        fresh.has_room();
+        let to = fresh.add_row(state, false)?;
+        *self = fresh;
+        Ok((from, to))
+    }
+
+    /// Adds a start state that the cache lacks; clears first where it doesn't fit. A refusal changes nothing.
+    pub fn add_start(
+        &mut self,
+        dfa: &DFA,
+        state: State,
+        started: bool,
+    ) -> Result<LazyStateID, StepError>
+        requires dfa { dfa.now ≡ self.old.table.of }
+        requires absent { id_of self.old.table state ≡ None }
+        requires alive { state ≡ dead → ⊥ }
+        requires cost { cost state ≤ greatest self.old.table.of }
+        requires of { IsOwn self.old.table.of.nfa state }
+        ensures fits { Fits self.old (cost state) → OnOk result (self.new ≡ grown self.old (record { state = state; started = started })) }
+        ensures clears { (Fits self.old (cost state) → ⊥) → OnOk result (self.new ≡ grown (cleared self.old) (record { state = state; started = started })) }
+        ensures named { IfOk result (λ id. Names self.new.table id state) }
+        ensures slots { OnOk result (length self.new.starts ≡ length self.old.starts) }
+        ensures of { OnOk result (self.new.table.of ≡ self.old.table.of) }
+        ensures starts { OnOk result (KeepsStarts self.old.starts self.new.starts) }
+        ensures gives_up { IfErr result (λ e. IsCacheError e → (Fits self.old (cost state) → ⊥) × (refuses_to_clear self.old ≡ true)) }
+        ensures err { OnErr result (self.new ≡ self.old) }
+    {
+        self.cheap();
+        if self.fits(row::cost(&state)) {
+            let id = self.add_row(state, started)?;
+            return Ok(id);
+        }
+        if self.refuses() {
+            return Err(StepError::Cache(CacheError));
+        }
+        let mut fresh = self.cleared(dfa)?;
+        fresh.has_room();
+        let id = fresh.add_row(state, started)?;
+        *self = fresh;
+        Ok(id)
+    }
+}

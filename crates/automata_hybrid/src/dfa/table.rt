@@ -1,0 +1,237 @@
+ghost use Rattle.std.specs.Prelude.{ℕ, List, ◌≡◌, ◌+◌, ◌-◌, ◌*◌, ◌/◌, ◌%◌, ◌^◌, ◌<◌, ◌≤◌, ◌⊎◌, None, Some, IfOk, OnOk, OnErr, length, slice_index, slice_set, slice_get, sum_by, [], ◌++◌, ◌∷◌, false, cond};
+ghost use Rattle.automata_base.specs.Powerset.{Powerset, cost};
+ghost use Rattle.automata_base.specs.Classes.{eoi_class};
+ghost use Rattle.automata_base.specs.Powerset.{dead};
+ghost use Rattle.automata_hybrid.specs.Owned.{IsOwn};
+ghost use Rattle.automata_hybrid.specs.Ids.{dead_id, quit_id};
+ghost use Rattle.automata_hybrid.specs.Machine.{next_of, greatest, template_of, IsTemplate, marked};
+ghost use Rattle.automata_hybrid.specs.Table.{id_of, with_row, fresh, Names, Leads, row_id, row_cost, IsValid, HasState, IsCell, cell_at, with_cell};
+ghost use Rattle.automata_hybrid.specs.Clears.{AllStarts};
+ghost use Rattle.automata_hybrid.specs.declared.dfa.row.Row.{Row as ARow};
+
+use crate::dfa::row::Row;
+use crate::dfa::{DFA, row};
+use crate::id::LazyStateID;
+use automata_base::util::alphabet::ByteClasses;
+use automata_base::util::determinize::key::Key;
+use automata_base::util::determinize::state::State;
+use std::alloc::{AllocError, AllocFailed, Global};
+use std::collections::HashMap;
+use std::marker::Model;
+use std::snapshot::Snapshot;
+
+/// The rows of a lazy DFA, and the map from states to them.
+#[derive(Drop)]
+pub struct Table {
+    of: Snapshot<DFA>,
+    stride: usize,
+    template: Vec<LazyStateID>,
+    cells: Vec<LazyStateID>,
+    rows: Vec<Row>,
+    map: HashMap<Key, LazyStateID>,
+    costs: usize,
+}
+
+impl Model for Table {
+    ghost use Rattle.automata_hybrid.specs.Table.{Rows, IsHeld};
+
+    ghost Value = { Rows };
+
+    ghost view = { λ t. record { of = t.of.value; cells = t.cells.items; rows = t.rows.items } };
+
+    ghost invariant = { λ t. IsHeld (record { of = t.of.value; cells = t.cells.items; rows = t.rows.items }) t.stride t.template.items t.map t.costs };
+}
+
+impl Table {
+    /// The ID of a state, where the table has it.
+    pub fn get(&self, state: &Key) -> Option<LazyStateID>
+        ensures { result ≡ id_of self.now state.now }
+    {
+        self.map.get(state).copied()
+    }
+
+    pub fn len(&self) -> usize
+        ensures value { result ≡ length self.now.rows }
+        ensures whole { length self.now.cells ≡ (length self.now.rows + 3) * self.now.of.stride }
+        ensures template { IsTemplate self.now.of.stride (template_of self.now.of) }
+        ensures costs { sum_by row_cost self.now.rows ≤ length self.now.rows * greatest self.now.of }
+        ensures low { (id : ℕ) (q : Powerset) → Names self.now id q → id < 2 ^ 29 }
+    {
+        self.rows.len()
+    }
+
+    pub fn stride(&self) -> usize
+        ensures { result ≡ self.now.of.stride }
+    {
+        self.stride
+    }
+
+    pub fn cell_count(&self) -> usize
+        ensures { result ≡ length self.now.cells }
+    {
+        self.cells.len()
+    }
+
+    /// The state that an ID names.
+    pub fn state(&self, id: LazyStateID) -> &State
+        requires { IsValid self.now id }
+        ensures named { (q : Powerset) → Names self.now id q → result.now ≡ q }
+        ensures of { IsOwn self.now.of.nfa result.now }
+    {
+        let index = self.row_index(id);
+        let row = &self.rows[index];
+        &row.state
+    }
+
+    pub fn costs(&self) -> usize
+        ensures { result ≡ sum_by row_cost self.now.rows }
+    {
+        self.costs
+    }
+
+    /// Adds a row for a state that the table lacks. A refusal changes nothing.
+    pub fn add(&mut self, state: State, started: bool) -> Result<LazyStateID, AllocError>
+        requires absent { id_of self.old state ≡ None }
+        requires alive { state ≡ dead → ⊥ }
+        requires cost { cost state ≤ greatest self.old.of }
+        requires of { IsOwn self.old.of.nfa state }
+        requires fits { length self.old.cells < 2 ^ 27 }
+        requires costs { sum_by row_cost self.old.rows + cost state < 2 ^ 64 }
+        ensures ok { OnOk result (self.new ≡ with_row self.old (record { state = state; started = started })) }
+        ensures named { IfOk result (λ id. Names self.new id state) }
+        ensures kept { OnOk result ((id : ℕ) (q : Powerset) → Names self.old id q → Names self.new id q) }
+        ensures starts { OnOk result ((starts : List ℕ) → AllStarts self.old starts → AllStarts self.new starts) }
+        ensures err { OnErr result (self.new ≡ self.old) }
+    {
+        self.cells.reserve(self.stride)?;
+        self.rows.reserve(1)?;
+        self.map.reserve(1)?;
+        let key = state.key()?;
+        let matches = row::has_patterns(&state);
+        let cost = row::cost(&state);
+        let offset = self.cells.len();
+        let id = LazyStateID::of_row(offset as u32, started, matches);
+        let grown: Result<(), AllocError> = self.cells.extend_from_slice(&self.template);
+        grown.unwrap();
+        let pushed: Result<(), AllocFailed<Row>> = self.rows.push(Row { state, started });
+        pushed.unwrap();
+        let inserted: Result<Option<LazyStateID>, AllocFailed<(Key, LazyStateID)>> = self
+            .map
+            .insert(key, id);
+        let _ = inserted.unwrap();
+        self.costs += cost;
+        Ok(id)
+    }
+
+    /// The fixed rows alone.
+    pub fn fresh(dfa: &DFA, stride: usize, template: Vec<LazyStateID>) -> Result<Table, AllocError>
+        requires whole { IsTemplate stride template.items }
+        requires stride { stride ≡ dfa.now.stride }
+        requires template { template.items ≡ template_of dfa.now }
+        ensures { IfOk result (λ t. t ≡ fresh dfa.now) }
+    {
+        let alloc = dfa.alloc();
+        let mut cells = Vec::new(alloc);
+        cells.resize(stride, LazyStateID::UNKNOWN)?;
+        cells.resize(2 * stride, LazyStateID::dead(stride as u32))?;
+        cells.resize(3 * stride, LazyStateID::quit(stride as u32))?;
+        Ok(Table {
+            of: Snapshot::of(dfa),
+            stride,
+            template,
+            cells,
+            rows: Vec::new(alloc),
+            map: HashMap::new(alloc),
+            costs: 0,
+        })
+    }
+
+    /// A table of the same shape, with the fixed rows alone.
+    pub fn emptied(&self, dfa: &DFA) -> Result<Table, AllocError>
+        requires { dfa.now ≡ self.now.of }
+        ensures { IfOk result (λ t. t ≡ fresh self.now.of) }
+    {
+        let template = Vec::from_slice(dfa.alloc(), &self.template)?;
+        Table::fresh(dfa, self.stride, template)
+    }
+
+    /// The place of the row that has this ID.
+    pub fn row_index(&self, id: LazyStateID) -> usize
+        requires { IsValid self.now id }
+        ensures value { result ≡ (id % 2 ^ 27) / self.now.of.stride - 3 }
+        ensures row { (q : Powerset) → Names self.now id q → HasState self.now result q }
+        ensures within { result < length self.now.rows }
+    {
+        id.offset() as usize / self.stride - 3
+    }
+
+    /// The cell of a row at a class.
+    pub fn cell(&self, id: LazyStateID, class: usize) -> LazyStateID
+        requires row { IsValid self.now id }
+        requires class { class < self.now.of.stride }
+        ensures value { result ≡ slice_index self.now.cells (cell_at id class) }
+        ensures named { (q : Powerset) → Names self.now id q → IsCell self.now q class result }
+        ensures stride { self.now.of.stride ≤ 512 }
+    {
+        self.cells[id.offset() as usize + class]
+    }
+
+    /// Writes a transition.
+    pub fn set_cell(&mut self, id: LazyStateID, class: usize, next: LazyStateID)
+        requires row { IsValid self.old id }
+        requires class { class < self.old.of.stride }
+        requires free { slice_index (template_of self.old.of) class ≡ 2 ^ 31 }
+        requires next { (q : Powerset) × Names self.old id q × Leads self.old next (next_of self.old.of q class) }
+        ensures { self.new ≡ with_cell self.old id class next }
+    {
+        self.cells[id.offset() as usize + class] = next;
+    }
+
+    /// A copy of a row's state, with its mark.
+    pub fn copied_row(&self, row: usize) -> Result<Row, AllocError>
+        requires { row < length self.now.rows }
+        ensures value { IfOk result (λ r. slice_get self.now.rows row ≡ Some r) }
+        ensures alive { IfOk result (λ r. r.state ≡ dead → ⊥) }
+        ensures had { IfOk result (λ r. id_of self.now r.state ≡ None → ⊥) }
+        ensures cost { IfOk result (λ r. cost r.state ≤ greatest self.now.of) }
+        ensures of { IfOk result (λ r. IsOwn self.now.of.nfa r.state) }
+    {
+        let row = &self.rows[row];
+        let state = row.state.clone()?;
+        Ok(Row {
+            state,
+            started: row.started,
+        })
+    }
+}
+
+/// Sets the cell of a class, where the byte is a quit byte.
+fn mark(cells: &mut Vec<LazyStateID>, class: usize, quit: LazyStateID, quits: bool)
+    requires { class < length cells.old.items }
+    ensures { cells.new.items ≡ cond quits (slice_set cells.old.items class quit) cells.old.items }
+{
+    if quits {
+        cells[class] = quit;
+    }
+}
+
+/// The cells of a new row: quit at the classes of quit bytes, and else unknown.
+pub fn new_row(
+    alloc: Global,
+    classes: &ByteClasses,
+    quits: &[bool; 256],
+    stride: usize,
+) -> Result<Vec<LazyStateID>, AllocError>
+    requires classes { eoi_class classes.now < stride }
+    requires stride { stride ≤ 512 }
+    ensures { IfOk result (λ v. v.items ≡ marked classes.now quits.now stride 256) }
+{
+    let quit = LazyStateID::quit(stride as u32);
+    let mut cells = Vec::new(alloc);
+    cells.resize(stride, LazyStateID::UNKNOWN)?;
+    for byte in 0..256usize {
+        let class = classes.get(byte as u8);
+        mark(&mut cells, usize::from(class), quit, quits[byte]);
+    }
+    Ok(cells)
+}

@@ -1,0 +1,115 @@
+ghost use Rattle.std.specs.Prelude.{◌≡◌, ◌+◌, ◌*◌, ◌%◌, ◌^◌, ◌<◌, ◌≤◌, ◌↔◌, IsTrue, IsBitSet};
+ghost use Rattle.automata_hybrid.specs.Ids.{tags, unknown_id, dead_id, quit_id};
+
+use std::marker::Model;
+
+/// A state of a lazy DFA, by the offset of its row in the transition table. The five high bits are tags: unknown, dead,
+/// quit, start and match. An ID is of one cache, and a clear of that cache can end it.
+#[derive(Clone, Copy, Debug, Default, PartialEq, Eq, PartialOrd, Ord, Hash)]
+pub struct LazyStateID {
+    id: u32,
+}
+
+impl Model for LazyStateID {
+    ghost use Rattle.std.specs.Prelude.{ℕ};
+
+    ghost Value = { ℕ };
+
+    ghost view = { λ a. a.id };
+
+    ghost inverse = { λ n. record { id = n } };
+}
+
+impl LazyStateID {
+    /// The greatest ID without a tag.
+    const MAX: u32 = 134217727;
+
+    pub(crate) const UNKNOWN: LazyStateID = LazyStateID { id: 1 << 31 };
+
+    /// The ID of a row at this offset.
+    pub(crate) fn of_row(offset: u32, started: bool, matches: bool) -> LazyStateID
+        requires { offset < 2 ^ 27 }
+        ensures { result ≡ offset + tags started matches }
+    {
+        let start = if started { 1 << 28 } else { 0 };
+        let matched = if matches { 1 << 27 } else { 0 };
+        LazyStateID {
+            id: offset + (start + matched),
+        }
+    }
+
+    pub(crate) fn dead(stride: u32) -> LazyStateID
+        requires { stride ≤ 512 }
+        ensures { result ≡ dead_id stride }
+    {
+        LazyStateID {
+            id: stride + (1 << 30),
+        }
+    }
+
+    pub(crate) fn quit(stride: u32) -> LazyStateID
+        requires { stride ≤ 512 }
+        ensures { result ≡ quit_id stride }
+    {
+        LazyStateID {
+            id: 2 * stride + (1 << 29),
+        }
+    }
+
+    /// Whether any tag is set.
+    pub fn is_tagged(self) -> bool
+        ensures { IsTrue result ↔ (134217727 < self) }
+    {
+        self.id > LazyStateID::MAX
+    }
+
+    /// Whether the transition to it isn't computed yet.
+    pub fn is_unknown(self) -> bool
+        ensures bit { IsTrue result ↔ IsBitSet self 31 }
+        ensures size { IsTrue result ↔ (2 ^ 31 ≤ self) }
+    {
+        self.id >= 1 << 31
+    }
+
+    /// Whether no match can come after it.
+    pub fn is_dead(self) -> bool
+        ensures { IsTrue result ↔ IsBitSet self 30 }
+    {
+        self.id & (1 << 30) != 0
+    }
+
+    /// Whether a quit byte was read.
+    pub fn is_quit(self) -> bool
+        ensures { IsTrue result ↔ IsBitSet self 29 }
+    {
+        self.id & (1 << 29) != 0
+    }
+
+    /// Whether it was added as a start state by a DFA that specializes them.
+    pub fn is_start(self) -> bool
+        ensures { IsTrue result ↔ IsBitSet self 28 }
+    {
+        self.id & (1 << 28) != 0
+    }
+
+    /// Whether its state has patterns.
+    pub fn is_match(self) -> bool
+        ensures { IsTrue result ↔ IsBitSet self 27 }
+    {
+        self.id & (1 << 27) != 0
+    }
+
+    /// Whether it is unknown, dead or quit.
+    pub(crate) fn is_fixed(self) -> bool
+        ensures { IsTrue result ↔ (2 ^ 29 ≤ self) }
+    {
+        self.id >= 1 << 29
+    }
+
+    /// The offset without the tags.
+    pub(crate) fn offset(self) -> u32
+        ensures { result ≡ self % 2 ^ 27 }
+    {
+        self.id & LazyStateID::MAX
+    }
+}

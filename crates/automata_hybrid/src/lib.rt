@@ -1,0 +1,6 @@
+//! A lazy DFA: its states are determinised while it searches, into a cache whose accounted bytes never pass its capacity.
+#![tactic(auto)]
+
+pub mod dfa;
+pub mod id;
+pub mod search;
