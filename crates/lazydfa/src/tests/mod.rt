@@ -15,6 +15,7 @@ use std::test::Fail;
 
 mod automata;
 mod config;
+mod dfa;
 mod forward;
 mod memory;
 mod nfa;

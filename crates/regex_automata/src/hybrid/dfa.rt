@@ -1,4 +1,4 @@
 //! The lazy DFA, its settings and its cache.
 
 pub use automata_config::config::Config;
-pub use automata_hybrid::dfa::{Builder, Cache, DFA};
+pub use automata_hybrid::dfa::{DFA, builder::Builder, cache::Cache};

@@ -1,0 +1,1 @@
+pub use Rattle.automata_hybrid.specs.Caches
