@@ -120,7 +120,11 @@ fn refuses_too_many_starts(rt: HostRuntime) -> Result<(), Fail> {
         ),
     ] {
         let alloc = rt.alloc();
-        let states = vec![in alloc; State::Match { pattern: PatternID::ZERO }]?;
+        let states = vec![in alloc;
+            State::Match {
+                pattern: PatternID::ZERO
+            },
+        ]?;
         let starts = vec![in alloc; StateID::ZERO; patterns]?;
         let flags = Flags {
             utf8: false,
@@ -256,9 +260,19 @@ fn answers_the_example(rt: HostRuntime) -> Result<(), Fail> {
     let zero = StateID::ZERO;
     let (one, two) = (StateID::new(1).ok_or("1")?, StateID::new(2).ok_or("2")?);
     let states = vec![in alloc;
-        State::ByteRange { lo: b'a', hi: b'a', next: one },
-        State::ByteRange { lo: b'b', hi: b'b', next: two },
-        State::Match { pattern: PatternID::ZERO },
+        State::ByteRange {
+            lo: b'a',
+            hi: b'a',
+            next: one
+        },
+        State::ByteRange {
+            lo: b'b',
+            hi: b'b',
+            next: two
+        },
+        State::Match {
+            pattern: PatternID::ZERO
+        },
     ]?;
     let flags = Flags {
         utf8: false,
