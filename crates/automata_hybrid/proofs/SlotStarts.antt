@@ -66,3 +66,8 @@ start_same m mode x =
 pub past_patterns : (a : Automaton) (p : ℕ) (x : Option ℕ) → length a.start_pattern ≤ p → start_state_of a (Pattern p) x ≡ dead
 unfolding start_state_of
 past_patterns a p x l = rw (slice_get_past a.start_pattern p l) refl
+
+-- there are no more slots than with starts for each pattern
+pub few_slots : (a : Automaton) (each : Bool) (slots : ℕ) → slots ≡ start_slots a each → slots ≤ 12 + 6 * length a.start_pattern
+few_slots a true slots e = omega (arith, e)
+few_slots a false slots e = omega (arith, e)

@@ -1,5 +1,6 @@
-use Rattle.std.specs.Prelude.{ℕ, suc, ◌+◌, ◌*◌, Bool, true}
+use Rattle.std.specs.Prelude.{ℕ, suc, ◌+◌, ◌*◌, ◌<◌, Bool, true, length}
 use Rattle.automata_hybrid.specs.Machine.{Machine}
+use Rattle.automata_hybrid.specs.Bounds.{Stored, IsKnownStart}
 use Rattle.automata_base.specs.declared.util.search.Anchored.{Anchored}
 use Rattle.automata_base.specs.declared.util.search.Anchored.TheVariants.{No, Yes, Pattern}
 
@@ -18,3 +19,7 @@ abbrev pub supports : Machine → Anchored → Bool
 supports m No = true
 supports m Yes = true
 supports m (Pattern pattern) = m.per_pattern
+
+-- there is such a slot, and its start is known
+abbrev pub HasStart : Stored → ℕ → Type 0
+HasStart c slot = (slot < length c.starts) × IsKnownStart c slot

@@ -4,3 +4,5 @@
 pub mod dfa;
 pub mod id;
 pub mod search;
+#[cfg(test)]
+mod tests;

@@ -1,12 +1,14 @@
-ghost use Rattle.std.specs.Prelude.{◌≡◌, IfOk};
+ghost use Rattle.std.specs.Prelude.{◌≡◌, IfOk, [], ◌∷◌};
 ghost use Rattle.automata_config.specs.Options.{unset};
 ghost use Rattle.automata_config.specs.Settling.{refusal};
 ghost use Rattle.automata_hybrid.specs.Builds.{Builds};
 
 use crate::dfa::DFA;
-use automata_base::nfa::thompson::NFA;
+use automata_base::nfa::thompson::{Flags, NFA, State};
+use automata_base::util::primitives::{PatternID, StateID};
 use automata_config::config::Config;
 use automata_config::error::BuildError;
+use std::alloc::Global;
 use std::marker::Model;
 
 /// A builder of lazy DFAs, which holds their settings.
@@ -50,6 +52,55 @@ impl Builder {
     {
         let settled = self.config.settle(&nfa)?;
         let dfa = DFA::of_settled(nfa, self.config, settled);
+        Ok(dfa)
+    }
+}
+
+/// The DFA of an automaton of one state, by the default settings. It is refused for want of memory alone.
+fn of_state(alloc: Global, state: State, starts: Vec<StateID>) -> Result<DFA, BuildError>
+    ensures built { IfOk result (λ m. Builds unset m.nfa m) }
+    ensures states { IfOk result (λ m. m.nfa.states ≡ state ∷ []) }
+    ensures starts { IfOk result (λ m. m.nfa.start_pattern ≡ starts.items) }
+{
+    let mut states = Vec::new(alloc);
+    states.push(state)?;
+    let flags = Flags {
+        utf8: false,
+        reverse: false,
+        line_terminator: b'\n',
+    };
+    match NFA::from_states(alloc, states, StateID::ZERO, StateID::ZERO, starts, flags) {
+        Ok(nfa) => Builder::new().build_from_nfa(nfa),
+        Err(_) => Err(BuildError::OutOfMemory),
+    }
+}
+
+impl DFA {
+    /// A DFA of one pattern, which matches everywhere.
+    pub fn always_match(alloc: Global) -> Result<DFA, BuildError>
+        ensures built { IfOk result (λ m. Builds unset m.nfa m) }
+        ensures states { IfOk result (λ m. m.nfa.states ≡ State.Match 0 ∷ []) }
+        ensures starts { IfOk result (λ m. m.nfa.start_pattern ≡ 0 ∷ []) }
+    {
+        let mut starts = Vec::new(alloc);
+        starts.push(StateID::ZERO)?;
+        let dfa = of_state(
+            alloc,
+            State::Match {
+                pattern: PatternID::ZERO,
+            },
+            starts,
+        )?;
+        Ok(dfa)
+    }
+
+    /// A DFA of no pattern, which matches nowhere.
+    pub fn never_match(alloc: Global) -> Result<DFA, BuildError>
+        ensures built { IfOk result (λ m. Builds unset m.nfa m) }
+        ensures states { IfOk result (λ m. m.nfa.states ≡ State.Fail ∷ []) }
+        ensures starts { IfOk result (λ m. m.nfa.start_pattern ≡ []) }
+    {
+        let dfa = of_state(alloc, State::Fail, Vec::new(alloc))?;
         Ok(dfa)
     }
 }

@@ -7,7 +7,7 @@ ghost use Rattle.automata_hybrid.specs.Machine.{start_of, greatest};
 ghost use Rattle.automata_base.specs.Tapes.{byte_before};
 ghost use Rattle.automata_base.specs.Lists.{nth};
 ghost use Rattle.automata_hybrid.specs.Starting.{quit_behind, start_refusal, search_refusal};
-ghost use Rattle.automata_hybrid.specs.Slots.{supports};
+ghost use Rattle.automata_hybrid.specs.Slots.{supports, slot_of, HasStart};
 ghost use Rattle.automata_hybrid.specs.Table.{id_of, Names, IsValid, Leads};
 ghost use Rattle.automata_hybrid.specs.Bounds.{Fits, refuses_to_clear, IsCacheError, IsKnownStart, KeepsStarts, GivesUp};
 ghost use Rattle.automata_hybrid.specs.Caches.{IsCacheOf, counted, HasRow};
@@ -121,6 +121,8 @@ impl DFA {
         ensures within { IfOk result (λ o. IfSome o (λ slot. slot < self.now.slots)) }
         ensures same { IfOk result (λ o. IfSome o (λ slot. start_state_of self.now.nfa mode prev ≡ start_of self.now slot)) }
         ensures past { IfOk result (λ o. IfNone o (start_state_of self.now.nfa mode prev ≡ dead)) }
+        ensures slot { IfOk result (λ o. IfSome o (λ slot. slot ≡ slot_of mode (behind_of self.now.nfa.flags.line_terminator prev))) }
+        ensures behind { IfOk result (λ o. IfNone o (self.now.slots ≤ slot_of mode (behind_of self.now.nfa.flags.line_terminator prev))) }
         ensures refused { (result ≡ Err (StartError.UnsupportedAnchored mode)) ↔ (supports self.now mode ≡ false) }
         ensures only { IfErr result (λ e. e ≡ StartError.UnsupportedAnchored mode) }
     {
@@ -186,11 +188,15 @@ impl DFA {
         ensures quit { (byte : ℕ) → quit_behind self.now config.now.look_behind ≡ Some byte → result ≡ Err (StartError.Quit byte) }
         ensures named { IfOk result (λ n. Leads cache.new.store.table n (start_state_of self.now.nfa config.now.anchored config.now.look_behind)) }
         ensures starts { KeepsStarts cache.old.store.starts cache.new.store.starts }
+
+        // A known start is never refused but for a quit byte, and takes no memory.
+        ensures known { quit_behind self.now config.now.look_behind ≡ None → supports self.now config.now.anchored ≡ true → HasStart cache.old.store (slot_of config.now.anchored (behind_of self.now.nfa.flags.line_terminator config.now.look_behind)) → result ≡ Ok (slice_index cache.old.store.starts (slot_of config.now.anchored (behind_of self.now.nfa.flags.line_terminator config.now.look_behind))) }
         ensures refused { OnErr result ((cache.new ≡ cache.old) ⊎ (cache.new ≡ counted cache.old)) }
     {
         if let Some(byte) = self.quits_behind(config.get_look_behind()) {
             return Err(StartError::Quit { byte });
         }
+        cache.slot_count();
         match self.mode_slot(config.get_anchored(), config.get_look_behind())? {
             None => Ok(cache.dead()),
             Some(slot) => {
@@ -216,6 +222,7 @@ impl DFA {
         ensures row { IfOk result (HasRow cache.new.store.table) }
         ensures named { IfOk result (λ n. Leads cache.new.store.table n (start_state_of self.now.nfa mode prev)) }
         ensures starts { KeepsStarts cache.old.store.starts cache.new.store.starts }
+        ensures known { IsKnownStart cache.old.store slot → result ≡ Ok (slice_index cache.old.store.starts slot) }
         ensures err { OnErr result (cache.new ≡ counted cache.old) }
     {
         cache.slot_count();

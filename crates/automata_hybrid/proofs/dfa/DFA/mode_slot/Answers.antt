@@ -5,7 +5,7 @@ use Rattle.automata_base.specs.Steps.{start_state_of}
 use Rattle.automata_base.specs.declared.util.search.Anchored.{Anchored}
 use Rattle.automata_hybrid.specs.Machine.{start_of}
 use Rattle.automata_hybrid.specs.Slots.{slot_of}
-use Rattle.automata_hybrid.proofs.SlotStarts.{start_same, past_patterns}
+use Rattle.automata_hybrid.proofs.SlotStarts.{start_same, past_patterns, few_slots}
 use Rattle.automata_hybrid.proofs.dfa.DFA.mode_slot.Goals as goal
 
 pub returns-then-pattern-pattern_len-clause-past : goal.returns-then-pattern-pattern_len-clause-past
@@ -28,3 +28,26 @@ returns-else-pattern-pattern_len-clause-same c =
     let k : ℕ = behind_of c.args.self.now.nfa.flags.line_terminator c.args.prev in
     let e : suc (suc c.in-Pattern.pattern) * 6 + k ≡ c.slot-in-Pattern.result = omega (arith, c.slot-in-Pattern.ensures.value, c.as_usize-pattern.ensures.value) in
     start_same c.args.self.now c.args.mode c.args.prev ∙ ap (start_of c.args.self.now) (ap (λ (m : Anchored). slot_of m k) c.in-Pattern.is ∙ e)
+
+pub returns-in-No-clause-slot : goal.returns-in-No-clause-slot
+returns-in-No-clause-slot c =
+    let k : ℕ = behind_of c.args.self.now.nfa.flags.line_terminator c.args.prev in
+    c.slot.ensures.value ∙ ap (λ (m : Anchored). slot_of m k) (sym c.in-No.is)
+
+pub returns-in-Yes-clause-slot : goal.returns-in-Yes-clause-slot
+returns-in-Yes-clause-slot c =
+    let k : ℕ = behind_of c.args.self.now.nfa.flags.line_terminator c.args.prev in
+    c.slot-in-Yes.ensures.value ∙ ap (λ (m : Anchored). slot_of m k) (sym c.in-Yes.is)
+
+pub returns-else-pattern-pattern_len-clause-slot : goal.returns-else-pattern-pattern_len-clause-slot
+returns-else-pattern-pattern_len-clause-slot c =
+    let k : ℕ = behind_of c.args.self.now.nfa.flags.line_terminator c.args.prev in
+    let e : c.slot-in-Pattern.result ≡ suc (suc c.in-Pattern.pattern) * 6 + k = omega (arith, c.slot-in-Pattern.ensures.value, c.as_usize-pattern.ensures.value) in
+    e ∙ ap (λ (m : Anchored). slot_of m k) (sym c.in-Pattern.is)
+
+pub returns-then-pattern-pattern_len-clause-behind : goal.returns-then-pattern-pattern_len-clause-behind
+returns-then-pattern-pattern_len-clause-behind c =
+    let k : ℕ = behind_of c.args.self.now.nfa.flags.line_terminator c.args.prev in
+    let few : c.args.self.now.slots ≤ 12 + 6 * length c.args.self.now.nfa.start_pattern = few_slots c.args.self.now.nfa c.args.self.now.per_pattern c.args.self.now.slots c.ends_slots.ensures.number in
+    let past : c.args.self.now.slots ≤ suc (suc c.in-Pattern.pattern) * 6 + k = omega (arith, few, c.if-pattern-pattern_len.true, c.pattern_len.ensures, c.as_usize-pattern.ensures.value) in
+    subst (λ (m : Anchored). c.args.self.now.slots ≤ slot_of m k) (sym c.in-Pattern.is) past
