@@ -4,5 +4,3 @@
 pub mod dfa;
 pub mod id;
 pub mod search;
-#[cfg(test)]
-mod tests;
