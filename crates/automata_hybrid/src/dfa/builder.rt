@@ -70,7 +70,10 @@ fn of_state(alloc: Global, state: State, starts: Vec<StateID>) -> Result<DFA, Bu
         line_terminator: b'\n',
     };
     match NFA::from_states(alloc, states, StateID::ZERO, StateID::ZERO, starts, flags) {
-        Ok(nfa) => Builder::new().build_from_nfa(nfa),
+        Ok(nfa) => {
+            let dfa = Builder::new().build_from_nfa(nfa)?;
+            Ok(dfa)
+        }
         Err(_) => Err(BuildError::OutOfMemory),
     }
 }
