@@ -39,7 +39,7 @@ fn counts_memory_and_searched_bytes(rt: HostRuntime) -> Result<(), Fail> {
         let first = searcher.find(&input)?;
         counts(&rt, &searcher.cache, used, searched);
         let second = searcher.find(&input)?;
-        counts(&rt, &searcher.cache, used, searched + searched);
+        counts(&rt, &searcher.cache, used, searched.saturating_mul(2));
         assert_eq!(rt; first, second, "{entry:?}");
         searcher.reset()?;
         counts(&rt, &searcher.cache, fresh, 0);
@@ -314,5 +314,21 @@ fn counts_classes(rt: HostRuntime) -> Result<(), Fail> {
         let dfa = built(rt.alloc(), entry, config)?;
         assert_eq!(rt; dfa.byte_classes().alphabet_len(), classes, "{entry:?}");
     }
+    Ok(())
+}
+
+#[test]
+fn matches_always_or_never(rt: HostRuntime) -> Result<(), Fail> {
+    let input = Input::new(b"abc").range(1..2);
+    let always = DFA::always_match(rt.alloc())?;
+    let mut cache = always.create_cache()?;
+    let found = always.try_search_fwd(&mut cache, &input)?;
+    assert_eq!(rt; found, Some(HalfMatch::new(PatternID::ZERO, 1)));
+    let never = DFA::never_match(rt.alloc())?;
+    let mut cache = never.create_cache()?;
+    let found = never.try_search_fwd(&mut cache, &input)?;
+    assert_eq!(rt; found, None);
+    assert_eq!(rt; (always.pattern_len(), never.pattern_len()), (1, 0));
+    assert_eq!(rt; (always.memory_usage(), never.memory_usage()), (0, 0));
     Ok(())
 }
