@@ -43,9 +43,9 @@ fn replies_to(alloc: Global, script: &Script) -> Result<String, RunError> {
         }
         return Ok(replies);
     };
-    let mut session = Session::new(regex)?;
+    let mut searcher = Searcher::new(regex)?;
     for request in script.requests.as_slice() {
-        let reply = session.answer(request);
+        let reply = searcher.answer(request);
         writeln!(replies, "{reply}")?;
     }
     Ok(replies)
@@ -84,16 +84,16 @@ fn build(alloc: Global, definition: &Definition) -> Result<DFA, BuildError> {
 
 /// A regex, and the one cache that serves all requests.
 #[derive(Drop)]
-struct Session<'r> {
+struct Searcher<'r> {
     regex: &'r DFA,
     cache: Cache,
     ghost of: { IsCacheOf cache regex.now },
 }
 
-impl<'r> Session<'r> {
-    fn new(regex: &'r DFA) -> Result<Session<'r>, AllocError> {
+impl<'r> Searcher<'r> {
+    fn new(regex: &'r DFA) -> Result<Searcher<'r>, AllocError> {
         let cache = regex.create_cache()?;
-        Ok(Session { regex, cache })
+        Ok(Searcher { regex, cache })
     }
 
     fn answer(&mut self, request: &Request) -> Reply {
