@@ -49,12 +49,13 @@ fn least_capacity(rt: HostRuntime) -> Result<(), Fail> {
     let dfa = builder.build_from_nfa(nfa)?;
     let mut cache = dfa.create_cache()?;
     assert_eq!(rt; cache.memory_usage(), 335);
-    for _ in 0..2 {
-        let found = dfa.try_search_fwd(&mut cache, &Input::new(b"ab"))?;
-        assert_eq!(rt; found, Some(HalfMatch::new(PatternID::ZERO, 2)));
-        assert_eq!(rt; cache.clear_count(), 0);
-        assert_eq!(rt; cache.memory_usage(), 678);
-    }
+    let first = dfa.try_search_fwd(&mut cache, &Input::new(b"ab"))?;
+    assert_eq!(rt; first, Some(HalfMatch::new(PatternID::ZERO, 2)));
+    assert_eq!(rt; cache.memory_usage(), 678);
+    let second = dfa.try_search_fwd(&mut cache, &Input::new(b"ab"))?;
+    assert_eq!(rt; second, Some(HalfMatch::new(PatternID::ZERO, 2)));
+    assert_eq!(rt; cache.clear_count(), 0);
+    assert_eq!(rt; cache.memory_usage(), 678);
     assert_eq!(rt; cache.search_total_len(), 4);
     Ok(())
 }
@@ -66,12 +67,15 @@ fn clears_keep_starts(rt: HostRuntime) -> Result<(), Fail> {
     builder.configure(DFA::config().byte_classes(false).cache_capacity(37281));
     let dfa = builder.build_from_nfa(nfa)?;
     let mut cache = dfa.create_cache()?;
-    for (count, usage) in [(1, 19288), (2, 29798)] {
-        let found = dfa.try_search_fwd(&mut cache, &Input::new(b"aaaaaaaaaaaaaaaa"))?;
-        assert_eq!(rt; found, Some(HalfMatch::new(PatternID::ZERO, 16)));
-        assert_eq!(rt; cache.clear_count(), count);
-        assert_eq!(rt; cache.memory_usage(), usage);
-    }
+    let text = b"aaaaaaaaaaaaaaaa";
+    let first = dfa.try_search_fwd(&mut cache, &Input::new(text))?;
+    assert_eq!(rt; first, Some(HalfMatch::new(PatternID::ZERO, 16)));
+    assert_eq!(rt; cache.clear_count(), 1);
+    assert_eq!(rt; cache.memory_usage(), 19288);
+    let second = dfa.try_search_fwd(&mut cache, &Input::new(text))?;
+    assert_eq!(rt; second, Some(HalfMatch::new(PatternID::ZERO, 16)));
+    assert_eq!(rt; cache.clear_count(), 2);
+    assert_eq!(rt; cache.memory_usage(), 29798);
     Ok(())
 }
 
