@@ -1,5 +1,5 @@
 ghost use Rattle.std.specs.Prelude.{◌≡◌, IfOk, [], ◌∷◌};
-ghost use Rattle.automata_config.specs.Options.{unset};
+ghost use Rattle.automata_config.specs.Options.{unset, overwritten};
 ghost use Rattle.automata_config.specs.Settling.{refusal};
 ghost use Rattle.automata_hybrid.specs.Builds.{Builds};
 
@@ -40,7 +40,9 @@ impl Builder {
     }
 
     /// Sets what is set in these settings, and keeps the rest.
-    pub fn configure(&mut self, config: Config) -> &mut Builder {
+    pub fn configure(&mut self, config: Config) -> &mut Builder
+        ensures { result.now ≡ overwritten self.old config }
+    {
         self.config = self.config.overwrite(config);
         self
     }
