@@ -11,7 +11,7 @@ use Rattle.automata_hybrid.specs.Ids.{tags}
 use Rattle.automata_hybrid.specs.Machine.{next_of, greatest, template_of}
 use Rattle.std.specs.List.{sum_by}
 use Rattle.std.proofs.lemmas.List.Sums.{sum_by-cons}
-use Rattle.automata_hybrid.specs.Table.{Rows, has_patterns, find_id, Names, Leads, IsCell, row_id, with_cell, cell_at, IsTable, IsStepped, HasState, StateMap, row_cost}
+use Rattle.automata_hybrid.specs.Table.{Rows, has_patterns, find_id, Names, IsValid, Leads, IsCell, row_id, with_cell, cell_at, IsTable, IsStepped, HasState, StateMap, row_cost}
 use Rattle.automata_hybrid.proofs.Rows.{inside}
 
 -- the row that a look-up met
@@ -91,7 +91,7 @@ pub Placed-IsCell : (t : Rows) (m : StateMap) (costs id class : ℕ) (q : Powers
 Placed-IsCell t m costs id class q i p l =
     subst (λ n. IsCell t q class (get_or t.cells (n + class) 0)) (sym p.offset) (subst (λ w. IsCell t w class (get_or t.cells ((p.place + 3) * t.of.stride + class) 0)) p.state (i.stepped p.place class p.row p.has l))
 
-some_inj : (x y : Row) → Some x ≡ Some y → x ≡ y
+pub some_inj : (x y : Row) → Some x ≡ Some y → x ≡ y
 some_inj x y e = cc
 
 -- one cell, one row and one class
@@ -145,3 +145,45 @@ costs_le (r ∷ rs) m all =
 
 pub IsTable-costs : (t : Rows) (m : StateMap) (costs : ℕ) → IsTable t m costs → sum_by row_cost t.rows ≤ length t.rows * greatest t.of
 IsTable-costs t m costs i = costs_le t.rows (greatest t.of) (λ k r h. (i.alive k r h).1)
+
+-- an ID at a row's offset, with that row's tags, is the row's
+pub placed_valid :
+    (t : Rows) (m : StateMap) (costs id index : ℕ) (r : Row)
+    → IsTable t m costs → 3 ≤ index → slice_get t.rows (index - 3) ≡ Some r → index * t.of.stride ≡ id % 2 ^ 27 → id ≡ row_id (id % 2 ^ 27) r
+    → IsValid t id
+placed_valid t m costs id index r i three has at same =
+    let place : index - 3 + 3 ≡ index = omega (arith, three) in
+    let e : id ≡ row_id ((index - 3 + 3) * t.of.stride) r = same ∙ ap (λ n. row_id n r) (sym at ∙ ap (λ n. n * t.of.stride) (sym place)) in
+    (r.state, i.distinct (index - 3) r has ∙ ap Some (sym e))
+
+-- and a valid ID is at its row's offset, with its tags
+pub record IsAtRow (t : Rows) (id index : ℕ) : Type 0 where
+  pub row : Row
+  pub behind : 3 ≤ index
+  pub within : index < length t.rows + 3
+  pub has : slice_get t.rows (index - 3) ≡ Some row
+  pub at : index * t.of.stride ≡ id % 2 ^ 27
+  pub same : id ≡ row_id (id % 2 ^ 27) row
+
+pub valid_at :
+    (t : Rows) (m : StateMap) (costs id : ℕ) → IsTable t m costs → IsValid t id → IsAtRow t id ((id % 2 ^ 27) / t.of.stride)
+valid_at t m costs id i v =
+    let f = find_id-Found t.of.stride (3 * t.of.stride) v.0 t.rows id v.1 in
+    let within : f.place < length t.rows = slice_get_within t.rows f.place f.row f.has in
+    let le : (f.place + 4) * t.of.stride ≤ (length t.rows + 3) * t.of.stride = mul-le-mul_right t.of.stride (omega (arith, within)) in
+    let low : (f.place + 3) * t.of.stride < 2 ^ 27 = omega (arith, le, i.whole, i.small) in
+    let at : 3 * t.of.stride + f.place * t.of.stride ≡ (f.place + 3) * t.of.stride = omega arith in
+    let offset : id % 2 ^ 27 ≡ (f.place + 3) * t.of.stride =
+    ap (λ n. n % 2 ^ 27) (f.«is» ∙ ap (λ n. row_id n f.row) at) ∙ tags_mod _ f.row.started (has_patterns f.row.state) low in
+    let whole : (f.place + 3) * t.of.stride ≡ (f.place + 3) * t.of.stride + 0 = omega arith in
+    let index : (id % 2 ^ 27) / t.of.stride ≡ f.place + 3 =
+    ap (λ n. n / t.of.stride) (offset ∙ whole) ∙ div-mul-add (f.place + 3) t.of.stride 0 i.template.positive in
+    let behind : (id % 2 ^ 27) / t.of.stride - 3 ≡ f.place = omega (arith, index) in
+    record {
+      row = f.row;
+      behind = omega (arith, index);
+      within = omega (arith, index, within);
+      has = subst (λ n. slice_get t.rows n ≡ Some f.row) (sym behind) f.has;
+      at = ap (λ n. n * t.of.stride) index ∙ sym offset;
+      same = f.«is» ∙ ap (λ n. row_id n f.row) (at ∙ sym offset);
+    }

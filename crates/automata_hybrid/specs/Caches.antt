@@ -1,5 +1,5 @@
 use Rattle.std.specs.Prelude.{◌≡◌, ℕ, ◌+◌, ◌^◌, ◌<◌, ◌⊎◌}
-use Rattle.automata_hybrid.specs.Ids.{dead_id, quit_id}
+use Rattle.automata_hybrid.specs.Ids.{unknown_id, dead_id, quit_id}
 use Rattle.automata_hybrid.specs.Machine.{Machine}
 use Rattle.automata_hybrid.specs.Table.{Rows, IsValid}
 use Rattle.automata_hybrid.specs.Bounds.{Stored, settings_of, fresh_store}
@@ -28,3 +28,7 @@ with_store c s = record { store = s; count = c.count }
 -- an ID of a row but the unknown one
 abbrev pub HasRow : Rows → ℕ → Type 0
 HasRow t id = (id ≡ dead_id t.of.stride) ⊎ ((id ≡ quit_id t.of.stride) ⊎ IsValid t id)
+
+-- some row has exactly this ID, tags included
+abbrev pub IsRow : Rows → ℕ → Type 0
+IsRow t id = (id ≡ unknown_id) ⊎ HasRow t id

@@ -1,4 +1,4 @@
-ghost use Rattle.std.specs.Prelude.{ℕ, ◌≡◌, ◌+◌, ◌*◌, ◌^◌, ◌<◌, ◌≤◌, None, Some, IfOk, IfErr, OnOk, OnErr, slice_index, length, is_some, IsSome, true, false};
+ghost use Rattle.std.specs.Prelude.{ℕ, ◌≡◌, ◌+◌, ◌*◌, ◌^◌, ◌<◌, ◌≤◌, None, Some, IfOk, IfErr, OnOk, OnErr, slice_index, length, is_some, IsSome, IsTrue, ◌↔◌, true, false};
 ghost use Rattle.automata_base.specs.Powerset.{Powerset, cost};
 ghost use Rattle.automata_base.specs.Powerset.{dead};
 ghost use Rattle.automata_base.specs.Steps.{successor, start_state_of};
@@ -7,7 +7,7 @@ ghost use Rattle.automata_hybrid.specs.Machine.{Machine, next_of, start_of, grea
 ghost use Rattle.automata_hybrid.specs.Ids.{dead_id};
 ghost use Rattle.automata_hybrid.specs.Table.{id_of, Names, IsValid, Leads, MayLead, IsCell};
 ghost use Rattle.automata_hybrid.specs.Bounds.{Fits, refuses_to_clear, IsCacheError, KeepsStarts, IsAdded, cell_of, with_next, with_start, with_searched, grown, cleared, usage};
-ghost use Rattle.automata_hybrid.specs.Caches.{IsCacheOf, fresh_cache, counted, with_store};
+ghost use Rattle.automata_hybrid.specs.Caches.{IsRow, IsCacheOf, fresh_cache, counted, with_store};
 ghost use Rattle.automata_hybrid.specs.Progressing.{started, updated, finished, total_len};
 
 use crate::dfa::store::Store;
@@ -108,6 +108,13 @@ impl Cache {
             return Ok(Found::Known(self.store.dead()));
         }
         Ok(Found::New(state))
+    }
+
+    /// Whether some row of the cache has exactly this ID now, tags included. A clear can end it.
+    pub fn is_valid(&self, id: LazyStateID) -> bool
+        ensures { IsTrue result ↔ IsRow self.now.store.table id }
+    {
+        self.store.is_valid(id)
     }
 
     /// The cell of a row at a class, which may not be known yet.

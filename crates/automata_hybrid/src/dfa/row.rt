@@ -3,6 +3,7 @@ ghost use Rattle.automata_base.specs.Powerset.{cost};
 ghost use Rattle.automata_base.specs.Powerset.{dead};
 ghost use Rattle.automata_hybrid.specs.Table.{has_patterns};
 
+use crate::id::LazyStateID;
 use automata_base::util::determinize::state::State;
 
 /// A row's state, and whether it was added as a start with its tag.
@@ -10,6 +11,19 @@ use automata_base::util::determinize::state::State;
 pub struct Row {
     pub state: State,
     pub started: bool,
+}
+
+impl Row {
+    ghost use Rattle.std.specs.Prelude.{◌≡◌, ◌^◌, ◌<◌};
+    ghost use Rattle.automata_hybrid.specs.Table.{row_id};
+
+    /// The ID of the row at an offset.
+    pub fn id(&self, offset: u32) -> LazyStateID
+        requires { offset < 2 ^ 27 }
+        ensures { result ≡ row_id offset self.now }
+    {
+        LazyStateID::of_row(offset, self.started, has_patterns(&self.state))
+    }
 }
 
 /// The accounted bytes of a state.

@@ -8,6 +8,7 @@ ghost use Rattle.automata_hybrid.specs.Machine.{next_of, start_of, greatest, tem
 ghost use Rattle.automata_hybrid.specs.Table.{id_of, Names, IsValid, with_row, with_cell, Leads, MayLead, IsCell};
 ghost use Rattle.automata_hybrid.specs.Clears.{IsPut, row_of};
 ghost use Rattle.automata_hybrid.specs.Bounds.{usage, Fits, refuses_to_clear, cleared, with_table, grown, put_found, cleared_saving, IsCacheError, cell_of, with_next, fresh_store, settings_of, with_start, IsAdded, KeepsStarts};
+ghost use Rattle.automata_hybrid.specs.Caches.{IsRow};
 ghost use Rattle.automata_hybrid.specs.Progressing.{started, updated, finished, total_len};
 
 use crate::dfa::clears::{keep_row, keep_starts};
@@ -229,6 +230,18 @@ impl Store {
         ensures { result ≡ id_of self.now.table state.now }
     {
         self.table.get(state)
+    }
+
+    /// Whether some row has exactly this ID, tags included: one of the three fixed ones, or one behind them.
+    pub fn is_valid(&self, id: LazyStateID) -> bool
+        ensures { IsTrue result ↔ IsRow self.now.table id }
+    {
+        let _ = self.table.len();
+        let stride = self.table.stride() as u32;
+        id == LazyStateID::UNKNOWN
+            || id == LazyStateID::dead(stride)
+            || id == LazyStateID::quit(stride)
+            || self.table.has_row(id)
     }
 
     pub fn dead(&self) -> LazyStateID

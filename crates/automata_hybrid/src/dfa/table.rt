@@ -1,4 +1,4 @@
-ghost use Rattle.std.specs.Prelude.{ℕ, List, ◌≡◌, ◌+◌, ◌-◌, ◌*◌, ◌/◌, ◌%◌, ◌^◌, ◌<◌, ◌≤◌, ◌⊎◌, None, Some, IfOk, OnOk, OnErr, length, slice_index, slice_set, slice_get, sum_by, [], ◌++◌, ◌∷◌, false, cond};
+ghost use Rattle.std.specs.Prelude.{ℕ, List, ◌≡◌, ◌+◌, ◌-◌, ◌*◌, ◌/◌, ◌%◌, ◌^◌, ◌<◌, ◌≤◌, ◌⊎◌, None, Some, IfOk, IsTrue, ◌↔◌, OnOk, OnErr, length, slice_index, slice_set, slice_get, sum_by, [], ◌++◌, ◌∷◌, false, cond};
 ghost use Rattle.automata_base.specs.Powerset.{Powerset, cost};
 ghost use Rattle.automata_base.specs.Classes.{eoi_class};
 ghost use Rattle.automata_base.specs.Powerset.{dead};
@@ -163,6 +163,22 @@ impl Table {
         ensures within { result < length self.now.rows }
     {
         id.offset() as usize / self.stride - 3
+    }
+
+    /// Whether a row behind the fixed ones has exactly this ID, tags included.
+    pub fn has_row(&self, id: LazyStateID) -> bool
+        ensures { IsTrue result ↔ IsValid self.now id }
+    {
+        let offset = id.offset();
+        let index = offset as usize / self.stride;
+        if index < 3 || self.rows.len() + 3 <= index {
+            return false;
+        }
+        let row = &self.rows[index - 3];
+        if index * self.stride != offset as usize {
+            return false;
+        }
+        id == row.id(offset)
     }
 
     /// The cell of a row at a class.
