@@ -19,7 +19,7 @@ returns-then-index-lt3 c =
     λ v. let a = valid_at t c.self.inside.map c.self.inside.costs c.args.id i v in
     let len : vec_len c.self.inside.rows ≡ length c.self.inside.rows.items = c.self.inside.rows.ok.0 in
     elim c.then-index-lt3.branch [
-      then-index-lt3-via-then-index-lt3 w ↦ omega (arith, e, a.behind, w.if-index-lt3.true)
+      | then-index-lt3-via-then-index-lt3 w ↦ omega (arith, e, a.behind, w.if-index-lt3.true)
       | then-index-lt3-via-else-index-lt3+then-len-index w ↦ omega (arith, e, a.within, rows, len, w.len.ensures, w.if-len-index.true)
     ] in ((λ f. absurd (true≢false (sym f))), λ v. absurd (none v))
 
@@ -29,10 +29,11 @@ returns-then-index-self c =
     let i : IsTable t c.self.inside.map c.self.inside.costs = subst (λ (v : Rows). IsTable v c.self.inside.map c.self.inside.costs) c.self.view_is c.self.invariant.table in
     let s : c.self.inside.stride ≡ t.of.stride = c.self.invariant.stride ∙ ap (λ (v : Rows). v.of.stride) c.self.view_is in
     let e : c.offset-offset.result / c.self.inside.stride ≡ (c.args.id % 2 ^ 27) / t.of.stride =
-    ap (λ n. n / c.self.inside.stride) c.offset-offset.ensures ∙ ap (λ z. (c.args.id % 2 ^ 27) / z) s in
-    ((λ f. absurd (true≢false (sym f))),
-    λ v. let a = valid_at t c.self.inside.map c.self.inside.costs c.args.id i v in
-    absurd (c.if-index-self.true (ap (λ n. n * c.self.inside.stride) e ∙ ap (λ z. (c.args.id % 2 ^ 27) / t.of.stride * z) s ∙ a.at ∙ sym c.offset-offset.ensures)))
+    ap (λ n. n / c.self.inside.stride) c.offset-offset.ensures ∙ ap (λ z. (c.args.id % 2 ^ 27) / z) s in (
+      (λ f. absurd (true≢false (sym f))),
+      λ v. let a = valid_at t c.self.inside.map c.self.inside.costs c.args.id i v in
+          absurd (c.if-index-self.true (ap (λ n. n * c.self.inside.stride) e ∙ ap (λ z. (c.args.id % 2 ^ 27) / t.of.stride * z) s ∙ a.at ∙ sym c.offset-offset.ensures)),
+    )
 
 pub returns : goal.returns
 returns c =
@@ -54,9 +55,9 @@ returns c =
     ap (λ z. c.offset-offset.result / c.self.inside.stride * z) (sym s) ∙ c.if-index-self.false ∙ c.offset-offset.ensures in
     let made : c.id.result ≡ row_id (c.args.id % 2 ^ 27) row = c.id.ensures ∙ ap (λ n. row_id n row) c.offset-offset.ensures in (
       (λ yes. placed_valid t c.self.inside.map c.self.inside.costs c.args.id (c.offset-offset.result / c.self.inside.stride) row i three has at
-      (eqb-true c.args.id c.id.result (sym c.eq.ensures ∙ yes) ∙ made)),
+          (eqb-true c.args.id c.id.result (sym c.eq.ensures ∙ yes) ∙ made)),
       (λ v. let a = valid_at t c.self.inside.map c.self.inside.costs c.args.id i v in
-      let one : a.row ≡ row =
-      some_inj a.row row (sym a.has ∙ ap (λ n. slice_get t.rows (n - 3)) (sym e) ∙ has) in
-      c.eq.ensures ∙ eq-eqb c.args.id c.id.result (a.same ∙ ap (λ r. row_id (c.args.id % 2 ^ 27) r) one ∙ sym made)),
+          let one : a.row ≡ row =
+          some_inj a.row row (sym a.has ∙ ap (λ n. slice_get t.rows (n - 3)) (sym e) ∙ has) in
+          c.eq.ensures ∙ eq-eqb c.args.id c.id.result (a.same ∙ ap (λ r. row_id (c.args.id % 2 ^ 27) r) one ∙ sym made)),
     )
