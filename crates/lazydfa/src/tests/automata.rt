@@ -56,6 +56,33 @@ fn door(states: Vec<State>, start: u8, patterns: u8) -> Result<NFA, NfaError> {
     NFA::from_states(alloc, states, id(start), id(start), starts, flags)
 }
 
+/// Each test of the door, the ones before it being passed, and those behind it not.
+#[test]
+fn refuses_malformed_automata(rt: HostRuntime) -> Result<(), Fail> {
+    let alloc = rt.alloc();
+    let none = door(Vec::new(alloc), 0, 1);
+    assert_eq!(rt; none.err(), Some(NfaError::StartRange));
+    for (lo, hi, next, start, want) in [
+        (b'b', b'a', 9, 5, Some(NfaError::StartRange)),
+        (b'b', b'a', 9, 0, Some(NfaError::StateRange)),
+        (b'b', b'a', 0, 0, Some(NfaError::Ranges)),
+        (b'a', b'b', 0, 0, None),
+        (b'a', b'a', 1, 0, Some(NfaError::StateRange)),
+    ] {
+        let states = vec![in alloc; range(lo, hi, next)]?;
+        assert_eq!(rt;
+            door(states, start, 1).err(),
+            want,
+            "{lo} {hi} {next} {start}"
+        );
+    }
+    let states = vec![in alloc; accept(3)]?;
+    assert_eq!(rt; door(states, 0, 1).err(), Some(NfaError::PatternRange));
+    let states = vec![in alloc; accept(3), range(b'b', b'a', 0)]?;
+    assert_eq!(rt; door(states, 0, 1).err(), Some(NfaError::Ranges));
+    Ok(())
+}
+
 #[test]
 fn refuses_sparse_ranges_out_of_order(rt: HostRuntime) -> Result<(), Fail> {
     let alloc = rt.alloc();
@@ -92,6 +119,46 @@ fn finds<R: Abort + AllocGlobal>(
         assert_eq!(rt; found, want, "{haystack}");
     }
     Ok(())
+}
+
+#[test]
+fn searches_odd_unions(rt: HostRuntime) -> Result<(), Fail> {
+    let alloc = rt.alloc();
+    let alternates = Vec::new(alloc);
+    let empty = door(vec![in alloc; State::Union { alternates }]?, 0, 0)?;
+    assert_eq!(rt; Config::new().get_minimum_cache_capacity(&empty), Ok(1085));
+    finds(&rt, empty, MatchKind::All, &[("ab", None)])?;
+    let twice = door(vec![in alloc; either(1, 1), accept(0)]?, 0, 1)?;
+    finds(&rt, twice, MatchKind::LeftmostFirst, &[("", Some((0, 0)))])?;
+    let both = door(vec![in alloc; either(1, 2), accept(0), accept(0)]?, 0, 1)?;
+    finds(&rt, both, MatchKind::All, &[("", Some((0, 0)))])
+}
+
+#[test]
+fn searches_dense_states_and_captures(rt: HostRuntime) -> Result<(), Fail> {
+    let alloc = rt.alloc();
+    let mut targets = [id(0); 256];
+    targets[usize::from(b'a')] = id(1);
+    let dense = door(vec![in alloc; State::Dense(targets), accept(0)]?, 0, 1)?;
+    finds(
+        &rt,
+        dense,
+        MatchKind::LeftmostFirst,
+        &[("a", Some((0, 1))), ("b", None)],
+    )?;
+    let capture = State::Capture {
+        next: id(1),
+        pattern_id: pattern(0),
+        group_index: 0,
+        slot: 0,
+    };
+    let captured = door(vec![in alloc; capture, byte(b'a', 2), accept(0)]?, 0, 1)?;
+    finds(
+        &rt,
+        captured,
+        MatchKind::LeftmostFirst,
+        &[("a", Some((0, 1))), ("b", None)],
+    )
 }
 
 /// A cycle of epsilon edges that passes a look.

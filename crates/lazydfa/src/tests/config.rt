@@ -36,6 +36,20 @@ fn tells_the_minimum(rt: HostRuntime) -> Result<(), Fail> {
     Ok(())
 }
 
+/// An option set in the new settings wins, one that is unset keeps the old; the quit set is one
+/// option.
+#[test]
+fn joins_settings(rt: HostRuntime) {
+    let old = Config::new().quit(b'a', true).cache_capacity(7);
+    let new = Config::new().quit(b'b', true).byte_classes(false);
+    let joined = old.overwrite(new);
+    assert_eq!(rt; joined.get_cache_capacity(), 7);
+    assert!(rt; !joined.get_byte_classes());
+    assert!(rt; joined.get_quit(b'b') && !joined.get_quit(b'a'));
+    assert!(rt; old.overwrite(Config::new()).get_quit(b'a'));
+    assert_eq!(rt; Config::new().get_cache_capacity(), 2097152);
+}
+
 #[test]
 fn settles_settings(rt: HostRuntime) -> Result<(), Fail> {
     let heuristic = Config::new().unicode_word_boundary(true);

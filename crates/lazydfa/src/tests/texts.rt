@@ -102,6 +102,17 @@ fn prints_refused_starts(rt: HostRuntime) -> Result<(), Fail> {
 }
 
 #[test]
+fn prints_refused_steps_and_searches(rt: HostRuntime) -> Result<(), Fail> {
+    let cleared = "lazy DFA cache has been cleared too many times";
+    prints(&rt, &CacheError, cleared)?;
+    prints(&rt, &StepError::Cache(CacheError), cleared)?;
+    prints(&rt, &StepError::OutOfMemory, "out of memory")?;
+    prints(&rt, &SearchError::OutOfMemory, "out of memory")?;
+    let no_start = "reverse DFA finds no start for the match of the forward DFA";
+    prints(&rt, &SearchError::NotAPair, no_start)
+}
+
+#[test]
 fn prints_faults_of_a_run(rt: HostRuntime) -> Result<(), Fail> {
     prints(&rt, &RunError::BadLine(17), "line 17: bad line")?;
     prints(&rt, &RunError::Failed, "input or output failed")?;
