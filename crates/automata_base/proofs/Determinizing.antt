@@ -14,5 +14,6 @@ pub mod Sound
 pub mod Sparsely
 pub mod Stepping
 pub mod Telling
+pub mod Told
 pub mod Tests_of_lists
 pub mod Walking

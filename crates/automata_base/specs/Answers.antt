@@ -26,17 +26,17 @@ later Backward k input = record input { end = input.end - k }
 abbrev pub offset_in : Direction → Input → ℕ → ℕ
 offset_in way input i = offset way input.start input.end i
 
--- The answer over the span of an input, which is not done, splits a character.
-abbrev pub IsSplitAnswer : Direction → Engine → Input → Type 0
-IsSplitAnswer way d input =
-    (pair : Pair) × SelectsOver way d input (Some pair) × (is_split input.haystack (offset_in way input pair.place) ≡ true)
+-- What is told over one span splits a character. `Tells` says what is told over the span of an input, which is not done.
+abbrev pub IsSplit : (Tells : Input → Option Pair → Type 0) → Direction → Input → Type 0
+IsSplit Tells way input =
+    (pair : Pair) × Tells input (Some pair) × (is_split input.haystack (offset_in way input pair.place) ≡ true)
 
--- The search comes to the span that begins `k` places later: all the spans before it answered a split place, and
--- only an unanchored search that skips goes on after such an answer.
-abbrev pub ComesTo : Direction → Engine → Input → ℕ → Type 0
-ComesTo way d input k =
-    ((k ≡ 0) ⊎ (IsSkipping d × (input.anchored ≡ No)))
-    × ((j : ℕ) → j < k → (input.start + j ≤ input.end) × IsSplitAnswer way d (later way j input))
+-- The spans tried come to the one that begins `k` places later: over all the spans before it a split place was told,
+-- and only an unanchored search that skips goes on after one.
+abbrev pub Tries : (Tells : Input → Option Pair → Type 0) → (skipping : Type 0) → Direction → Input → ℕ → Type 0
+Tries Tells skipping way input k =
+    ((k ≡ 0) ⊎ (skipping × (input.anchored ≡ No)))
+    × ((j : ℕ) → j < k → (input.start + j ≤ input.end) × IsSplit Tells way (later way j input))
 
 -- A pattern, the offset where its path ends, and the start of the span that gave it.
 pub record Half : Type 0 where
@@ -44,20 +44,31 @@ pub record Half : Type 0 where
   pub offset : ℕ
   pub base : ℕ
 
--- What a search answers: the answer of the first span that has none or an unsplit one. An anchored search that skips
--- has no answer where it is split.
-abbrev pub IsAnswer : Direction → Engine → Input → Option Half → Type 0
-IsAnswer way d input None =
-    (k : ℕ) × ComesTo way d input k
+-- What is told over the first span where that is nothing or not split. Where split places are skipped, an anchored
+-- search has no answer but over its first span.
+abbrev pub Answers : (Tells : Input → Option Pair → Type 0) → (skipping : Type 0) → Direction → Input → Option Half → Type 0
+Answers Tells skipping way input None =
+    (k : ℕ) × Tries Tells skipping way input k
     × ((input.end < input.start + k)
-    ⊎ (SelectsOver way d (later way k input) None
-    ⊎ (IsSkipping d × (input.anchored ≡ No → ⊥) × IsSplitAnswer way d (later way k input))))
-IsAnswer way d input (Some half) =
-    (k : ℕ) × (pair : Pair) × ComesTo way d input k × (input.start + k ≤ input.end)
-    × SelectsOver way d (later way k input) (Some pair)
-    × (IsSkipping d → is_split input.haystack (offset_in way (later way k input) pair.place) ≡ false)
+    ⊎ (Tells (later way k input) None
+    ⊎ (skipping × (input.anchored ≡ No → ⊥) × IsSplit Tells way (later way k input))))
+Answers Tells skipping way input (Some half) =
+    (k : ℕ) × (pair : Pair) × Tries Tells skipping way input k × (input.start + k ≤ input.end)
+    × Tells (later way k input) (Some pair)
+    × (skipping → is_split input.haystack (offset_in way (later way k input) pair.place) ≡ false)
     × (half.pattern ≡ pair.pattern) × (half.offset ≡ offset_in way (later way k input) pair.place)
     × (half.base ≡ (later way k input).start)
+
+-- The same of what the paths answer.
+abbrev pub IsSplitAnswer : Direction → Engine → Input → Type 0
+IsSplitAnswer way d input = IsSplit (SelectsOver way d) way input
+
+abbrev pub ComesTo : Direction → Engine → Input → ℕ → Type 0
+ComesTo way d input k = Tries (SelectsOver way d) (IsSkipping d) way input k
+
+-- What a search answers, by paths.
+abbrev pub IsAnswer : Direction → Engine → Input → Option Half → Type 0
+IsAnswer way d input answer = Answers (SelectsOver way d) (IsSkipping d) way input answer
 
 -- The pairs of a walk with their offsets; and without the split ones.
 abbrev pub with_offsets : Direction → Input → List Pair → List Pair

@@ -42,6 +42,7 @@ pub mod StepLaws
 pub mod Steps
 pub mod Tapes
 pub mod Telling
+pub mod Told
 pub mod TruePairs
 pub mod Truths
 pub mod Visits

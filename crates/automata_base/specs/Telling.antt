@@ -28,7 +28,11 @@ unfoldable pub first_told : Automaton → MatchKind → Anchored → Tape → �
 first_told a kind mode t zero = None
 first_told a kind mode t (suc i) = earlier_or (first_told a kind mode t i) (pair_at (told_at a kind mode t i) i None)
 
--- what a search tells of its pass: an earliest one the first match, any other the last one
+-- what the first `k` units tell: an earliest search the first match, any other the last one
+abbrev pub told_upto : MatchKind → (earliest : Bool) → Automaton → Anchored → Tape → ℕ → Option Pair
+told_upto kind true a mode t k = first_told a kind mode t k
+told_upto kind false a mode t k = last_told a kind mode t k
+
+-- what a search tells of its pass, which reads each byte of the tape and the unit behind
 abbrev pub told_by : MatchKind → (earliest : Bool) → Automaton → Anchored → Tape → Option Pair
-told_by kind true a mode t = first_told a kind mode t (suc (length t.bytes))
-told_by kind false a mode t = last_told a kind mode t (suc (length t.bytes))
+told_by kind earliest a mode t = told_upto kind earliest a mode t (suc (length t.bytes))

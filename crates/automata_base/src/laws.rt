@@ -2,6 +2,9 @@
 ghost use Rattle.automata_base.specs.LateIsRight.{SearchesAreRight, WalksAreRight, NearestEndsAreRight, EndsAreRight, PairsAreRight};
 ghost use Rattle.automata_base.specs.StartIsRight.{StartsAreRight, SpansAreFound, SpansAreOne, AnswersAreOne, IterationsAreRight, IterationsAreOne, EndsRise, FoundEndsRise, MatchIffFound, BackMeetsNone};
 ghost use Rattle.automata_base.specs.StepLaws.{ClassesStepAlike, ClassesQuitAlike, StartsAreAlike, DeadStaysDead, PassesSelect, PassesFindNearest, PassesFindFarthest};
+ghost use Rattle.automata_base.specs.Told.{ToldIsRight};
+
+use crate::nfa::thompson::NFA;
 
 /// Late is right: the list walk whose matches come one unit late, and whose looks are decided when the next unit is
 /// known, tells what the ordered paths select.
@@ -42,3 +45,10 @@ pub fn passes_tell_paths()
     ensures nearest { PassesFindNearest }
     ensures farthest { PassesFindFarthest }
 {}
+
+/// What passes tell is the answer of the ordered paths, split places skipped as by these.
+pub fn told_is_right(nfa: &NFA)
+    ensures { ToldIsRight nfa.now }
+{
+    let _states = nfa.states();
+}

@@ -1,0 +1,145 @@
+-- What the passes of a search tell is the answer of the ordered paths.
+use Rattle.std.proofs.Common.{ℕ, zero, suc, ◌≡◌, ◌<◌, ◌≤◌, ◌+◌, ◌⊎◌, inl, inr, Bool, true, false, List, [], ◌∷◌, length, Option, Some, None, refl, sym, ap, ◌∙◌, subst, arith}
+use Rattle.std.specs.Prelude.{slice_get, All}
+use Rattle.automata_base.specs.Answers.{Half, SelectsFrom, SelectsOver, later, IsSplit, Tries, Answers, IsAnswer, IsInput}
+use Rattle.automata_base.specs.Computed.{pair_at, earlier_or}
+use Rattle.automata_base.specs.Cuts.{MatchKind}
+use Rattle.automata_base.specs.Door.{IsDoor}
+use Rattle.automata_base.specs.Engines.{Anchored, No, Yes, Pattern, IsSkipping, engine_of, first_state}
+use Rattle.automata_base.specs.Input.{Input}
+use Rattle.automata_base.specs.Lists.{nth}
+use Rattle.automata_base.specs.Nodes.{Automaton, nfa_of, nodes_of}
+use Rattle.automata_base.specs.Paths.{Tape, next, IsLookAcyclic}
+use Rattle.automata_base.specs.Passes.{IsTape}
+use Rattle.automata_base.specs.Powerset.{Powerset, dead}
+use Rattle.automata_base.specs.Selections.{Pair}
+use Rattle.automata_base.specs.Starts.{mode_start}
+use Rattle.automata_base.specs.Steps.{start_or_dead, start_state_of, successor}
+use Rattle.automata_base.specs.Tapes.{Direction, tape_of}
+use Rattle.automata_base.specs.Telling.{state_after, told_at, last_told, first_told, told_by}
+use Rattle.automata_base.specs.Told.{TellsOver, IsTold, ToldIsRight}
+use Rattle.automata_base.proofs.Determinizing.Alike.{dead_stays}
+use Rattle.automata_base.proofs.Determinizing.Telling.{told_selects}
+use Rattle.automata_base.proofs.Spans.Total.{tape_units, later_input}
+use Rattle.automata_base.proofs.Paths.Orders.{some_inj}
+use Rattle.std.proofs.lemmas.Option.{slice_get_within, get_or_from_slice_get}
+
+-- a mode without a start is dead all along
+none_after :
+    (a : Automaton) (kind : MatchKind) (mode : Anchored) (t : Tape) (k : ℕ)
+    → mode_start a mode ≡ None → state_after a kind mode t k ≡ dead
+unfolding state_after start_state_of
+none_after a kind mode t zero e = ap (λ o. start_or_dead (nfa_of a) o t.before) e
+none_after a kind mode t (suc k) e =
+    ap (λ Q. successor a kind Q (next t k)) (none_after a kind mode t k e) ∙ dead_stays a kind (next t k)
+
+none_at :
+    (a : Automaton) (kind : MatchKind) (mode : Anchored) (t : Tape) (i : ℕ)
+    → mode_start a mode ≡ None → told_at a kind mode t i ≡ []
+none_at a kind mode t i e = ap (λ (Q : Powerset). Q.patterns) (none_after a kind mode t (suc i) e)
+
+none_last :
+    (a : Automaton) (kind : MatchKind) (mode : Anchored) (t : Tape) (k : ℕ)
+    → mode_start a mode ≡ None → last_told a kind mode t k ≡ None
+unfolding last_told
+none_last a kind mode t zero e = refl
+none_last a kind mode t (suc i) e =
+    ap (λ ps. pair_at ps i (last_told a kind mode t i)) (none_at a kind mode t i e) ∙ none_last a kind mode t i e
+
+none_first :
+    (a : Automaton) (kind : MatchKind) (mode : Anchored) (t : Tape) (k : ℕ)
+    → mode_start a mode ≡ None → first_told a kind mode t k ≡ None
+unfolding first_told
+none_first a kind mode t zero e = refl
+none_first a kind mode t (suc i) e =
+    ap (λ o. earlier_or o (pair_at (told_at a kind mode t i) i None)) (none_first a kind mode t i e)
+    ∙ ap (λ ps. pair_at ps i None) (none_at a kind mode t i e)
+
+none_told :
+    (kind : MatchKind) (earliest : Bool) (a : Automaton) (mode : Anchored) (t : Tape)
+    → mode_start a mode ≡ None → told_by kind earliest a mode t ≡ None
+none_told kind true a mode t e = none_first a kind mode t (suc (length t.bytes)) e
+none_told kind false a mode t e = none_last a kind mode t (suc (length t.bytes)) e
+
+get_nth : (xs : List ℕ) (k : ℕ) → nth xs k ≡ slice_get xs k
+get_nth [] k = refl
+get_nth (x ∷ xs) zero = refl
+get_nth (x ∷ xs) (suc k) = get_nth xs k
+
+first_is : (a : Automaton) (kind : MatchKind) (mode : Anchored) → first_state (engine_of a kind) mode ≡ mode_start a mode
+first_is a kind No = refl
+first_is a kind Yes = refl
+first_is a kind (Pattern p) = get_nth a.start_pattern p
+
+nodes_length : (states : List _) → length (nodes_of states) ≡ length states
+nodes_length [] = refl
+nodes_length (x ∷ xs) = ap suc (nodes_length xs)
+
+all_get : (n : ℕ) (xs : List ℕ) (k q : ℕ) → All (λ s. s < n) xs → slice_get xs k ≡ Some q → q < n
+all_get n xs k q h e =
+    subst (λ v. v < n) (get_or_from_slice_get xs k q 0 e) (h k 0 (slice_get_within xs k q e))
+
+start_below : (a : Automaton) (mode : Anchored) (q : ℕ) → IsDoor a → mode_start a mode ≡ Some q → q < length (nodes_of a.states)
+start_below a No q d e = let s : a.start_unanchored ≡ q = some_inj e in omega (arith, d.unanchored, s, nodes_length a.states)
+start_below a Yes q d e = let s : a.start_anchored ≡ q = some_inj e in omega (arith, d.anchored, s, nodes_length a.states)
+start_below a (Pattern p) q d e =
+    let l : q < length a.states = all_get (length a.states) a.start_pattern p q d.starts e in
+    omega (arith, l, nodes_length a.states)
+
+told_from :
+    (a : Automaton) (kind : MatchKind) (earliest : Bool) (mode : Anchored) (t : Tape) (o : Option ℕ)
+    → IsDoor a → IsLookAcyclic (nfa_of a) → IsTape t → mode_start a mode ≡ o
+    → SelectsFrom (engine_of a kind) earliest t o (told_by kind earliest a mode t)
+told_from a kind earliest mode t None d free tape e = none_told kind earliest a mode t e
+told_from a kind earliest mode t (Some q) d free tape e =
+    told_selects kind earliest a mode t q e d.range (start_below a mode q d e) free tape
+
+told_over_selects :
+    (a : Automaton) (kind : MatchKind) (way : Direction) (input : Input) (o : Option Pair)
+    → IsDoor a → IsLookAcyclic (nfa_of a) → IsInput input → input.start ≤ input.end
+    → TellsOver way a kind input o → SelectsOver way (engine_of a kind) input o
+told_over_selects a kind way input o d free i l e =
+    let t : Tape = tape_of way input.haystack input.start input.end in
+    let tape : IsTape t = tape_units way input.haystack input.start input.end i.0 l i.1 in
+    let s : SelectsFrom (engine_of a kind) input.earliest t (mode_start a input.anchored) (told_by kind input.earliest a input.anchored t) =
+        told_from a kind input.earliest input.anchored t (mode_start a input.anchored) d free tape refl in
+    subst (λ (p : Option Pair). SelectsOver way (engine_of a kind) input p) (sym e)
+    (subst (λ (q : Option ℕ). SelectsFrom (engine_of a kind) input.earliest t q (told_by kind input.earliest a input.anchored t))
+    (sym (first_is a kind input.anchored)) s)
+
+-- what is told over the spans may be replaced by what it stands for
+module _ (T U : Input → Option Pair → Type 0) (S : Type 0) (way : Direction) (input : Input)
+    (turn : (k : ℕ) (o : Option Pair) → input.start + k ≤ input.end → T (later way k input) o → U (later way k input) o) where
+
+  turn_tries : (k : ℕ) → Tries T S way input k → Tries U S way input k
+  turn_tries k (first, before) =
+      (first, λ j l.
+          let b : (input.start + j ≤ input.end) × IsSplit T way (later way j input) = before j l in
+          (b.0, (b.1.0, turn j (Some b.1.0) b.0 b.1.1, b.1.2)))
+
+  turn_end :
+      (k : ℕ) (more : (input.end < input.start + k) ⊎ (input.start + k ≤ input.end))
+      → (input.end < input.start + k)
+      ⊎ (T (later way k input) None ⊎ (S × (input.anchored ≡ No → ⊥) × IsSplit T way (later way k input)))
+      → (input.end < input.start + k)
+      ⊎ (U (later way k input) None ⊎ (S × (input.anchored ≡ No → ⊥) × IsSplit U way (later way k input)))
+  turn_end k (inl l) h = inl l
+  turn_end k (inr l) (inl h) = inl h
+  turn_end k (inr l) (inr (inl h)) = inr (inl (turn k None l h))
+  turn_end k (inr l) (inr (inr (s, a, b))) = inr (inr (s, a, (b.0, turn k (Some b.0) l b.1, b.2)))
+
+  within_or_past : (k : ℕ) → (input.end < input.start + k) ⊎ (input.start + k ≤ input.end)
+  within_or_past k = grind arith
+
+  turn_answers : (o : Option Half) → Answers T S way input o → Answers U S way input o
+  turn_answers None (k, tries, h) = (k, turn_tries k tries, turn_end k (within_or_past k) h)
+  turn_answers (Some half) (k, pair, tries, l, h, unsplit, p, o, b) =
+      (k, pair, turn_tries k tries, l, turn k (Some pair) l h, unsplit, p, o, b)
+
+pub told_right : (a : Automaton) → IsDoor a → ToldIsRight a
+told_right a d way kind input answer free i =
+    turn_answers (TellsOver way a kind) (SelectsOver way (engine_of a kind)) (IsSkipping (engine_of a kind)) way input
+    (λ k o l h.
+        let n : IsInput (later way k input) × ((later way k input).start ≤ (later way k input).end) = later_input way k input i l in
+        told_over_selects a kind way (later way k input) o d free n.0 n.1 h)
+    answer
