@@ -1,3 +1,5 @@
+ghost use Rattle.automata_base.specs.Tapes.{IsHaystack};
+
 use crate::util::primitives::PatternID;
 use std::fmt;
 use std::marker::Model;
@@ -224,7 +226,7 @@ impl<'h> Model for Input<'h> {
 impl<'h> Input<'h> {
     ghost use Rattle.std.specs.Prelude.{◌≡◌, ◌<◌, ◌≤◌, ◌^◌, ◌↔◌, IsTrue, length, true, false};
     ghost use Rattle.automata_base.specs.Input.{Allows, IsAllowed};
-    ghost use Rattle.automata_base.specs.Tapes.{is_split};
+    ghost use Rattle.automata_base.specs.Tapes.{IsHaystack, is_split};
 
     /// The whole haystack, not anchored, and not earliest.
     pub fn new(haystack: &'h [u8]) -> Input<'h>
@@ -307,10 +309,12 @@ impl<'h> Input<'h> {
     }
 
     pub fn haystack(&self) -> &'h [u8]
-        ensures bytes { result.now ≡ self.now.haystack }
+        ensures same { result.now ≡ self.now.haystack }
+        ensures bytes { IsHaystack self.now.haystack }
         ensures within { IsAllowed self.now }
         ensures bound { length self.now.haystack < 2 ^ 63 }
     {
+        see_bytes(self.haystack);
         self.haystack
     }
 
@@ -366,3 +370,8 @@ impl<'h> Input<'h> {
         }
     }
 }
+
+/// Each byte of a haystack is below 256.
+fn see_bytes(haystack: &[u8])
+    ensures { IsHaystack haystack.now }
+{}
