@@ -1,5 +1,5 @@
 -- What a pass over a tape tells: the search of a powerset automaton, unit by unit, as functions.
-use Rattle.std.specs.Prelude.{ℕ, zero, suc, Bool, true, false, List, length, Option, Some, None}
+use Rattle.std.specs.Prelude.{ℕ, zero, suc, Bool, true, false, List, length, Option, None}
 use Rattle.automata_base.specs.Computed.{pair_at, earlier_or}
 use Rattle.automata_base.specs.Cuts.{MatchKind}
 use Rattle.automata_base.specs.Engines.{Anchored}

@@ -1,5 +1,4 @@
 use Rattle.std.proofs.Common.{◌≡◌, ℕ, ◌+◌, ◌^◌, List, length, Bool, true, false, cond, set, replicate, refl, sym, ap, ◌∙◌, add-one, length-set}
-use Rattle.std.proofs.lemmas.List.{length-replicate}
 use Rattle.automata_base.specs.Classes.{class_in, is_quit}
 use Rattle.automata_hybrid.specs.Ids.{quit_id}
 use Rattle.automata_hybrid.specs.Machine.{marked}

@@ -1,10 +1,11 @@
 use Rattle.std.proofs.Common.{◌≡◌, ℕ, ◌+◌, ◌-◌, ◌*◌, ◌/◌, ◌%◌, ◌^◌, ◌<◌, ◌≤◌, suc, List, [], ◌∷◌, length, Bool, true, false, cond, Some, get_or, set, slice_get, refl, sym, ap, ◌∙◌, subst, inr, ⊎_elim, arith, length-set}
-use Rattle.std.proofs.lemmas.Bool.{cases_eq}
+use Rattle.std.proofs.lemmas.Bool.{cases_eq, ltb-true, lt-ltb}
 use Rattle.std.proofs.lemmas.Option.{slice_get_within}
-use Rattle.std.proofs.lemmas.Nat.{div-mul-add, mod-mul-add}
+use Rattle.std.proofs.lemmas.Nat.{div-mul-add, mod-mul-add, bit_set_by_shift}
+use Rattle.std.specs.Prelude.{IsBitSet, bit_and, ◌↔◌}
 use Rattle.std.proofs.lemmas.List.{get_or-set_same, get_or-set_other, take-set-le}
 use Rattle.std.proofs.Math.Nat.{mul-le-mul_right}
-use Rattle.automata_base.specs.Powerset.{Powerset, cost}
+use Rattle.automata_base.specs.Powerset.{Powerset, cost, dead}
 use Rattle.automata_base.specs.Equal.{powerset_eq, powerset_eq-Decides}
 use Rattle.automata_hybrid.specs.declared.dfa.row.Row.{Row}
 use Rattle.automata_hybrid.specs.Ids.{tags}
@@ -187,3 +188,53 @@ valid_at t m costs id i v =
       at = ap (λ n. n * t.of.stride) index ∙ sym offset;
       same = f.«is» ∙ ap (λ n. row_id n f.row) (at ∙ sym offset);
     }
+
+-- a bit, by the number above it
+pub bit_of : (k x c n : ℕ) → x < 2 ^ k → n ≡ c * 2 ^ k + x → IsBitSet n k ↔ (bit_and c 1 ≡ 1)
+bit_of k x c n h e =
+    let d : n / 2 ^ k ≡ c = ap (λ v. v / 2 ^ k) e ∙ div-mul-add c (2 ^ k) x h in
+    (λ b. subst (λ v. bit_and v 1 ≡ 1) d ((bit_set_by_shift n k).1 b), λ b. (bit_set_by_shift n k).0 (subst (λ v. bit_and v 1 ≡ 1) (sym d) b))
+
+pub zero_one : ◌≡◌ {A = ℕ} 0 1 → ⊥
+zero_one e = cc
+
+-- the match tag of an ID at a row's offset
+tags_bit : (x : ℕ) (a b : Bool) → x < 2 ^ 27 → IsBitSet (x + tags a b) 27 ↔ (b ≡ true)
+tags_bit x true true h = let i = bit_of 27 x 3 (x + tags true true) h (omega arith) in (λ s. refl, λ e. i.1 refl)
+tags_bit x true false h = let i = bit_of 27 x 2 (x + tags true false) h (omega arith) in (λ s. absurd (zero_one (i.0 s)), λ e. absurd (cc))
+tags_bit x false true h = let i = bit_of 27 x 1 (x + tags false true) h (omega arith) in (λ s. refl, λ e. i.1 refl)
+tags_bit x false false h = let i = bit_of 27 x 0 (x + tags false false) h (omega arith) in (λ s. absurd (zero_one (i.0 s)), λ e. absurd (cc))
+
+has_some : (q : Powerset) → has_patterns q ≡ true ↔ (0 < length q.patterns)
+has_some q = (λ e. ltb-true 0 (length q.patterns) e, λ l. lt-ltb 0 (length q.patterns) l)
+
+pub Names-tagged : (t : Rows) (m : StateMap) (costs id : ℕ) (q : Powerset) → IsTable t m costs → Names t id q → IsBitSet id 27 ↔ (0 < length q.patterns)
+Names-tagged t m costs id q i h =
+    let f = find_id-Found t.of.stride (3 * t.of.stride) q t.rows id h in
+    let within : f.place < length t.rows = slice_get_within t.rows f.place f.row f.has in
+    let le : (f.place + 4) * t.of.stride ≤ (length t.rows + 3) * t.of.stride = mul-le-mul_right t.of.stride (omega (arith, within)) in
+    let low : 3 * t.of.stride + f.place * t.of.stride < 2 ^ 27 = omega (arith, le, i.whole, i.small) in
+    let bit = tags_bit (3 * t.of.stride + f.place * t.of.stride) f.row.started (has_patterns f.row.state) low in
+    let some = has_some q in
+    let s : has_patterns f.row.state ≡ has_patterns q = ap has_patterns f.state in
+    (λ b. some.0 (sym s ∙ bit.0 (subst (λ v. IsBitSet v 27) f.«is» b)), λ l. subst (λ v. IsBitSet v 27) (sym f.«is») (bit.1 (s ∙ some.1 l)))
+
+pub no_patterns : (ps : List ℕ) → (0 < length ps → ⊥) → ps ≡ []
+no_patterns [] n = refl
+no_patterns (p ∷ ps) n = absurd (n (omega arith))
+
+-- an ID without the match tag names a state without patterns
+pub Names-silent : (t : Rows) (id : ℕ) (q : Powerset) → Names t id q → id < 2 ^ 27 → q.patterns ≡ []
+Names-silent t id q h l =
+    let f = find_id-Found t.of.stride (3 * t.of.stride) q t.rows id h in
+    let s : has_patterns f.row.state ≡ has_patterns q = ap has_patterns f.state in
+    no_patterns q.patterns (λ some. heavy f.row.started (has_patterns f.row.state) (3 * t.of.stride + f.place * t.of.stride) (s ∙ (has_some q).1 some) (subst (λ v. v < 2 ^ 27) f.«is» l)) where
+      heavy : (a b : Bool) (x : ℕ) → b ≡ true → x + tags a b < 2 ^ 27 → ⊥
+      heavy true true x e l = omega (arith, l)
+      heavy false true x e l = omega (arith, l)
+      heavy a false x e l = cc
+
+-- no row has the dead state
+pub Names-alive : (t : Rows) (m : StateMap) (costs id : ℕ) (q : Powerset) → IsTable t m costs → Names t id q → q ≡ dead → ⊥
+Names-alive t m costs id q i h d =
+    let p = Names-Placed t m costs id q i h in (i.alive p.place p.row p.has).0 (p.state ∙ d)

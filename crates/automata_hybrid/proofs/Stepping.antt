@@ -1,10 +1,17 @@
-use Rattle.std.proofs.Common.{◌≡◌, ℕ, ◌^◌, ◌<◌, ◌≤◌, inl, inr, arith, get_or}
+use Rattle.std.proofs.Common.{◌≡◌, ℕ, Bool, true, false, Some, [], ◌+◌, ◌*◌, ◌^◌, ◌<◌, ◌≤◌, inl, inr, refl, sym, ap, subst, arith, get_or, Option}
 use Rattle.automata_base.specs.Powerset.{Powerset}
-use Rattle.automata_hybrid.specs.Machine.{template_of, next_of}
-use Rattle.automata_hybrid.specs.Table.{Rows, IsCell, IsValid, Leads}
+use Rattle.automata_hybrid.specs.Machine.{Machine, template_of, next_of}
+use Rattle.automata_hybrid.specs.Table.{Rows, IsCell, IsValid, Leads, Names}
 use Rattle.automata_hybrid.specs.Ids.{quit_id}
 use Rattle.automata_hybrid.specs.Caches.{HasRow}
-use Rattle.automata_hybrid.specs.Bounds.{IsNext}
+use Rattle.automata_hybrid.specs.Bounds.{Stored, IsNext, IsCacheError, GivesUp}
+use Rattle.automata_hybrid.specs.Searches.{IsDeadTagged, IsStepRefusal, step_refusal}
+use Rattle.automata_config.specs.declared.error.StepError.{StepError}
+use Rattle.automata_config.specs.declared.error.StepError.TheVariants.{Cache, OutOfMemory}
+use Rattle.std.specs.Prelude.{IsBitSet, length, ◌↔◌, Result, Ok}
+use Rattle.automata_hybrid.proofs.Places.{Names-silent, no_patterns, bit_of, zero_one}
+use Rattle.automata_base.specs.Classes.{is_quit}
+use Rattle.automata_base.specs.Steps.{successor}
 
 -- an unknown cell stands at no quit class
 pub unknown_free : (t : Rows) (q : Powerset) (class id : ℕ) → IsCell t q class id → t.of.stride ≤ 512 → 2 ^ 31 ≤ id → get_or (template_of t.of) class 0 ≡ 2 ^ 31
@@ -37,3 +44,79 @@ IsNext-quit t q class id (inr (f, l)) s h = absurd (omega (arith, f, h, s))
 pub IsNext-free : (t : Rows) (q : Powerset) (class id : ℕ) → IsNext t q class id → t.of.stride ≤ 512 → get_or (template_of t.of) class 0 ≡ 2 ^ 31 → Leads t id (next_of t.of q class)
 IsNext-free t q class id (inl (f, e)) s h = absurd (omega (arith, f, h, s))
 IsNext-free t q class id (inr (f, l)) s h = l
+
+-- an untagged ID names a state without patterns
+pub Leads-silent : (t : Rows) (id : ℕ) (q : Powerset) → Leads t id q → id < 2 ^ 27 → q.patterns ≡ []
+Leads-silent t id q (inl (e, d)) l = absurd (omega (arith, e, l))
+Leads-silent t id q (inr h) l = Names-silent t id q h l
+
+pub Leads-Names : (t : Rows) (id : ℕ) (q : Powerset) → Leads t id q → id < 2 ^ 29 → Names t id q
+Leads-Names t id q (inl (e, d)) l = absurd (omega (arith, e, l))
+Leads-Names t id q (inr h) l = h
+
+-- an ID without the match bit tells nothing
+pub Leads-untagged :
+    (t : Rows) (id : ℕ) (q : Powerset) → Leads t id q → (Names t id q → IsBitSet id 27 ↔ (0 < length q.patterns)) → (IsBitSet id 27 → ⊥)
+    → q.patterns ≡ []
+Leads-untagged t id q (inl (e, d)) tagged clear = ap (λ (p : Powerset). p.patterns) d
+Leads-untagged t id q (inr h) tagged clear = no_patterns q.patterns (λ some. clear ((tagged h).1 some))
+
+low_bit : (k n : ℕ) → n < 2 ^ k → IsBitSet n k → ⊥
+low_bit k n l b = let z : n ≡ 0 * 2 ^ k + n = omega arith in zero_one ((bit_of k n 0 n l z).0 b)
+
+-- the bit of quit IDs
+pub Leads-quit :
+    (t : Rows) (id : ℕ) (q : Powerset) → Leads t id q → (Names t id q → id < 2 ^ 29) → t.of.stride ≤ 512 → IsBitSet id 29 → ⊥
+Leads-quit t id q (inl (e, d)) low small b =
+    let n : id ≡ 2 * 2 ^ 29 + t.of.stride = omega (arith, e) in
+    zero_one ((bit_of 29 t.of.stride 2 id (omega (arith, small)) n).0 b)
+Leads-quit t id q (inr h) low small b = low_bit 29 id (low h) b
+
+-- the bit of dead IDs
+pub dead_tagged :
+    (t : Rows) (id : ℕ) → ((q : Powerset) → Names t id q → id < 2 ^ 29) → t.of.stride ≤ 512 → IsDeadTagged t id
+dead_tagged t id low small q (inl (e, d)) =
+    let n : id ≡ 1 * 2 ^ 30 + t.of.stride = omega (arith, e) in
+    (λ b. d, λ clear. absurd (clear ((bit_of 30 t.of.stride 1 id (omega (arith, small)) n).1 refl)))
+dead_tagged t id low small q (inr h) =
+    (λ b. absurd (let l : id < 2 ^ 29 = low q h in low_bit 30 id (omega (arith, l)) b), λ clear. h)
+
+pub ok_one : {E : Type 0} {a b : ℕ} → ◌≡◌ {A = Result ℕ E} (Ok a) (Ok b) → a ≡ b
+ok_one e = cc
+
+-- a refused step, told at an offset
+pub refused :
+    (m : Machine) (c c' : Stored) (q : Powerset) (unit : Option ℕ) (at : ℕ) (e : StepError)
+    → c' ≡ c → (IsCacheError e → GivesUp c (successor m.nfa m.kind q unit)) → IsStepRefusal m c' q unit at at (step_refusal e at)
+refused m c c' q unit at (Cache err) same gives =
+    (subst (λ (s : Stored). GivesUp s (successor m.nfa m.kind q unit)) (sym same) (gives tt), refl)
+refused m c c' q unit at OutOfMemory same gives = tt
+
+pub quit_bit : (s : ℕ) → s ≤ 512 → IsBitSet (quit_id s) 29
+quit_bit s l =
+    let n : quit_id s ≡ 1 * 2 ^ 29 + 2 * s = omega arith in
+    (bit_of 29 (2 * s) 1 (quit_id s) (omega (arith, l)) n).1 refl
+
+-- a step that led to no quit state read no quit byte
+pub unquit :
+    (m : Machine) (t : Rows) (id' byte : ℕ)
+    → t.of ≡ m → t.of.stride ≤ 512 → (IsBitSet id' 29 → ⊥)
+    → (is_quit m.quits byte ≡ true → id' ≡ quit_id m.stride) → is_quit m.quits byte ≡ false
+unquit m t id' byte of small clear quit = go (is_quit m.quits byte) refl where
+  go : (b : Bool) → is_quit m.quits byte ≡ b → is_quit m.quits byte ≡ false
+  go false e = e
+  go true e =
+      let s : t.of.stride ≡ m.stride = ap (λ (n : Machine). n.stride) of in
+      absurd (clear (subst (λ v. IsBitSet v 29) (sym (quit e)) (quit_bit m.stride (omega (arith, s, small)))))
+
+-- and one that led there read one
+pub quits :
+    (m : Machine) (t t' : Rows) (id id' byte : ℕ) (q : Powerset)
+    → t'.of.stride ≤ 512 → ((p : Powerset) → Names t' id' p → id' < 2 ^ 29) → IsBitSet id' 29
+    → (is_quit m.quits byte ≡ false → (p : Powerset) → Names t id p → Leads t' id' (successor m.nfa m.kind p (Some byte)))
+    → Names t id q → is_quit m.quits byte ≡ true
+quits m t t' id id' byte q small low bit named h = go (is_quit m.quits byte) refl where
+  go : (b : Bool) → is_quit m.quits byte ≡ b → is_quit m.quits byte ≡ true
+  go true e = e
+  go false e =
+      absurd (Leads-quit t' id' (successor m.nfa m.kind q (Some byte)) (named e q h) (low (successor m.nfa m.kind q (Some byte))) small bit)

@@ -6,7 +6,7 @@ use Rattle.automata_hybrid.specs.declared.dfa.progress.Searched.{Searched}
 use Rattle.automata_hybrid.specs.declared.dfa.settings.Settings.{Settings}
 use Rattle.automata_config.specs.declared.error.StepError.{StepError}
 use Rattle.automata_config.specs.declared.error.StepError.TheVariants.{Cache, OutOfMemory}
-use Rattle.automata_hybrid.specs.Ids.{quit_id}
+use Rattle.automata_hybrid.specs.Ids.{quit_id, unknown_id, offset_limit}
 use Rattle.automata_hybrid.specs.Machine.{Machine, next_of, greatest, template_of}
 use Rattle.automata_hybrid.specs.Table.{Rows, row_cost, Leads, with_row, with_cell, cell_at, fresh, id_of, Names}
 use Rattle.automata_hybrid.specs.Clears.{AllStarts, kept, put, row_of}
@@ -33,7 +33,7 @@ usage c = usage_by c.table (length c.starts) c.settings.fixed
 
 -- a new state of this cost fits
 abbrev pub Fits : Stored → ℕ → Type 0
-Fits c extra = (usage c + 4 * c.table.of.stride + 36 + extra ≤ c.settings.capacity) × (length c.table.cells < 2 ^ 27)
+Fits c extra = (usage c + 4 * c.table.of.stride + 36 + extra ≤ c.settings.capacity) × (length c.table.cells < offset_limit)
 
 abbrev pub short_of : Option ℕ → ℕ → ℕ → Bool
 short_of None states searched = true
@@ -59,7 +59,7 @@ pub record IsCache (c : Stored) : Type 0 where
   pub named : AllStarts c.table c.starts
   pub within : usage c ≤ c.settings.capacity
   pub enough : minimum_capacity c.table.of.stride (length c.starts) (greatest c.table.of) c.settings.fixed ≤ c.settings.capacity
-  pub offsets : (length c.starts + 4) * c.table.of.stride < 2 ^ 27
+  pub offsets : (length c.starts + 4) * c.table.of.stride < offset_limit
   pub slots : length c.starts ≡ c.table.of.slots
   pub settings : c.settings ≡ settings_of c.table.of
   pub bounded : c.settings.capacity < 2 ^ 64
@@ -85,11 +85,11 @@ cell_of c id class = slice_index c.table.cells (cell_at id class)
 
 -- the transition is known
 abbrev pub IsKnownTransition : Stored → ℕ → ℕ → Type 0
-IsKnownTransition c id class = cell_of c id class < 2 ^ 31
+IsKnownTransition c id class = cell_of c id class < unknown_id
 
 -- what a step from a state answers: quit at quit classes, and else what names the next state
 abbrev pub IsNext : Rows → Powerset → ℕ → ℕ → Type 0
-IsNext t q class id = ((slice_index (template_of t.of) class ≡ quit_id t.of.stride) × (id ≡ quit_id t.of.stride)) ⊎ ((slice_index (template_of t.of) class ≡ 2 ^ 31) × Leads t id (next_of t.of q class))
+IsNext t q class id = ((slice_index (template_of t.of) class ≡ quit_id t.of.stride) × (id ≡ quit_id t.of.stride)) ⊎ ((slice_index (template_of t.of) class ≡ unknown_id) × Leads t id (next_of t.of q class))
 
 abbrev pub with_next : Stored → ℕ → ℕ → ℕ → Stored
 with_next c id class next = with_table c (with_cell c.table id class next)
@@ -99,15 +99,15 @@ with_start c slot id = record { table = c.table; starts = slice_set c.starts slo
 
 -- a cache that nothing was done to
 abbrev pub fresh_store : Machine → Settings → Stored
-fresh_store m settings = record { table = fresh m; starts = replicate m.slots (2 ^ 31); settings = settings; clears = 0; searched = record { bytes = 0; running = None } }
+fresh_store m settings = record { table = fresh m; starts = replicate m.slots unknown_id; settings = settings; clears = 0; searched = record { bytes = 0; running = None } }
 
 -- the slot's start is known
 abbrev pub IsKnownStart : Stored → ℕ → Type 0
-IsKnownStart c slot = slice_index c.starts slot < 2 ^ 31
+IsKnownStart c slot = slice_index c.starts slot < unknown_id
 
 -- each start that was known is known
 abbrev pub KeepsStarts : List ℕ → List ℕ → Type 0
-KeepsStarts old new = (slot : ℕ) → slice_index old slot < 2 ^ 31 → slice_index new slot < 2 ^ 31
+KeepsStarts old new = (slot : ℕ) → slice_index old slot < unknown_id → slice_index new slot < unknown_id
 
 -- what adding a state that is absent does: it grows where the state fits, and else clears first and saves a row
 abbrev pub IsAdded : Stored → ℕ → Row → Stored → Type 0

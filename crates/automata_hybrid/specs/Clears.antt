@@ -1,7 +1,8 @@
-use Rattle.std.specs.Prelude.{◌≡◌, ℕ, ◌-◌, ◌/◌, ◌%◌, ◌^◌, List, [], ◌∷◌, ◌++◌, cond, Option, None, Some, slice_get, nat_le}
+use Rattle.std.specs.Prelude.{◌≡◌, ℕ, ◌-◌, ◌/◌, ◌%◌, List, [], ◌∷◌, ◌++◌, cond, Option, None, Some, slice_get, nat_le}
 use Rattle.automata_hybrid.specs.declared.dfa.row.Row.{Row}
 use Rattle.automata_hybrid.specs.Machine.{start_of}
 use Rattle.automata_hybrid.specs.Table.{Rows, id_of, with_row, fresh, MayLead, Names}
+use Rattle.automata_hybrid.specs.Ids.{unknown_id, fixed_from, offset_limit}
 
 -- what each slot has: unknown, dead for the dead state, or the ID of its start state
 abbrev pub AllStarts : Rows → List ℕ → Type 0
@@ -9,7 +10,7 @@ AllStarts t starts = (slot id : ℕ) → slice_get starts slot ≡ Some id → M
 
 -- the row that an ID names
 abbrev pub row_of : Rows → ℕ → Option Row
-row_of t id = slice_get t.rows ((id % 2 ^ 27) / t.of.stride - 3)
+row_of t id = slice_get t.rows ((id % offset_limit) / t.of.stride - 3)
 
 abbrev pub put_if : Option ℕ → Rows → Row → Rows
 put_if None t r = with_row t r
@@ -20,7 +21,7 @@ abbrev pub put : Rows → Row → Rows
 put t r = put_if (id_of t r.state) t r
 
 abbrev pub or_unknown : Option ℕ → ℕ
-or_unknown None = 2 ^ 31
+or_unknown None = unknown_id
 or_unknown (Some id) = id
 
 -- rows and slots while start states are kept
@@ -34,7 +35,7 @@ keep_found (Some r) k = record { table = put k.table r; starts = k.starts ++ or_
 
 -- a slot that names a row: the row stays, and the slot has its new ID; another slot stays as it is
 abbrev pub keep_slot : Rows → Kept → ℕ → Kept
-keep_slot old k id = cond (nat_le (2 ^ 29) id) (record { table = k.table; starts = k.starts ++ id ∷ [] }) (keep_found (row_of old id) k)
+keep_slot old k id = cond (nat_le fixed_from id) (record { table = k.table; starts = k.starts ++ id ∷ [] }) (keep_found (row_of old id) k)
 
 unfoldable pub keep_slots : Rows → Kept → List ℕ → Kept
 keep_slots old k [] = k

@@ -4,6 +4,14 @@ use Rattle.std.specs.Prelude.{ℕ, ◌+◌, ◌*◌, ◌^◌, Bool, if◌then◌
 abbrev pub tags : Bool → Bool → ℕ
 tags started matches = (if started then 2 ^ 28 else 0) + (if matches then 2 ^ 27 else 0)
 
+-- offsets of rows are below this
+abbrev pub offset_limit : ℕ
+offset_limit = 2 ^ 27
+
+-- IDs of rows are below this, and the three fixed ones not
+abbrev pub fixed_from : ℕ
+fixed_from = 2 ^ 29
+
 abbrev pub unknown_id : ℕ
 unknown_id = 2 ^ 31
 

@@ -11,3 +11,5 @@ pub mod Caches
 pub mod Starting
 pub mod Slots
 pub mod Founds
+pub mod Searches
+pub mod Agreeing

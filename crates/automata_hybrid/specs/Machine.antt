@@ -1,4 +1,4 @@
-use Rattle.std.specs.Prelude.{ℕ, zero, suc, ◌+◌, ◌*◌, ◌^◌, ◌/◌, ◌%◌, ◌<◌, ◌≤◌, ◌==◌, eqb, List, [], ◌∷◌, Bool, true, false, cond, Option, None, Some, slice_set, slice_index, slice_get, length, replicate, ◌≡◌, ◌⊎◌}
+use Rattle.std.specs.Prelude.{ℕ, zero, suc, ◌+◌, ◌*◌, ◌/◌, ◌%◌, ◌<◌, ◌≤◌, ◌==◌, eqb, List, Bool, true, false, cond, Option, None, Some, slice_set, slice_index, length, replicate, ◌≡◌, ◌⊎◌}
 use Rattle.automata_base.specs.Powerset.{Powerset}
 use Rattle.automata_base.specs.Nodes.{Automaton}
 use Rattle.automata_base.specs.Classes.{class_in, eoi_class, is_quit}
@@ -9,7 +9,7 @@ use Rattle.automata_base.specs.declared.util.search.MatchKind.{MatchKind}
 use Rattle.automata_base.specs.declared.util.search.Anchored.{Anchored}
 use Rattle.automata_base.specs.declared.util.search.Anchored.TheVariants.{No, Yes, Pattern}
 use Rattle.automata_config.specs.Options.{Options}
-use Rattle.automata_hybrid.specs.Ids.{quit_id}
+use Rattle.automata_hybrid.specs.Ids.{quit_id, unknown_id, offset_limit}
 
 -- what contracts see of a lazy DFA
 pub record Machine : Type 0 where
@@ -61,7 +61,7 @@ greatest m = max_cost m.nfa
 
 -- the cells of a row in which the classes of the quit bytes below a number are quit, and the others unknown
 unfoldable pub marked : (classes : List ℕ) (quits : List Bool) (stride bytes : ℕ) → List ℕ
-marked classes quits stride zero = replicate stride (2 ^ 31)
+marked classes quits stride zero = replicate stride unknown_id
 marked classes quits stride (suc byte) = cond (is_quit quits byte) (slice_set (marked classes quits stride byte) (class_in classes byte) (quit_id stride)) (marked classes quits stride byte)
 
 -- a new row: quit at quit classes, and else unknown
@@ -72,17 +72,17 @@ pub record IsTemplate (stride : ℕ) (template : List ℕ) : Type 0 where
   pub positive : 0 < stride
   pub small : stride ≤ 512
   pub whole : length template ≡ stride
-  pub cells : (class : ℕ) → class < stride → (slice_index template class ≡ quit_id stride) ⊎ (slice_index template class ≡ 2 ^ 31)
+  pub cells : (class : ℕ) → class < stride → (slice_index template class ≡ quit_id stride) ⊎ (slice_index template class ≡ unknown_id)
 
 -- what each lazy DFA keeps: each byte and the end have a class, whose units step alike, and a fresh cache fits
 pub record IsMachine (m : Machine) : Type 0 where
   pub template : IsTemplate m.stride (template_of m)
   pub below : eoi_class m.classes < m.stride
   pub quit : (byte : ℕ) → byte < 256 → is_quit m.quits byte ≡ true → slice_index (template_of m) (class_in m.classes byte) ≡ quit_id m.stride
-  pub free : (byte : ℕ) → byte < 256 → is_quit m.quits byte ≡ false → slice_index (template_of m) (class_in m.classes byte) ≡ 2 ^ 31
-  pub end_free : slice_index (template_of m) (eoi_class m.classes) ≡ 2 ^ 31
+  pub free : (byte : ℕ) → byte < 256 → is_quit m.quits byte ≡ false → slice_index (template_of m) (class_in m.classes byte) ≡ unknown_id
+  pub end_free : slice_index (template_of m) (eoi_class m.classes) ≡ unknown_id
   pub alike : (byte : ℕ) (q : Powerset) → byte < 256 → IsOwn m.nfa q → successor m.nfa m.kind q (Some byte) ≡ next_of m q (class_in m.classes byte)
   pub end_alike : (q : Powerset) → IsOwn m.nfa q → successor m.nfa m.kind q None ≡ next_of m q (eoi_class m.classes)
   pub enough : minimum_capacity m.stride m.slots (greatest m) m.fixed ≤ m.capacity
   pub slots : m.slots ≡ start_slots m.nfa m.per_pattern
-  pub offsets : (m.slots + 4) * m.stride < 2 ^ 27
+  pub offsets : (m.slots + 4) * m.stride < offset_limit

@@ -1,4 +1,5 @@
-use Rattle.std.specs.Prelude.{ℕ, suc, ◌+◌, ◌*◌, ◌<◌, Bool, true, length}
+use Rattle.std.specs.Prelude.{ℕ, suc, ◌+◌, ◌*◌, ◌<◌, Bool, true, Option, length}
+use Rattle.automata_base.specs.Alike.{behind_of}
 use Rattle.automata_hybrid.specs.Machine.{Machine}
 use Rattle.automata_hybrid.specs.Bounds.{Stored, IsKnownStart}
 use Rattle.automata_base.specs.declared.util.search.Anchored.{Anchored}
@@ -13,6 +14,10 @@ group_of (Pattern pattern) = suc (suc pattern)
 -- the slot of a mode and of the kind of what is behind the start
 abbrev pub slot_of : Anchored → ℕ → ℕ
 slot_of mode kind = group_of mode * 6 + kind
+
+-- the slot of a mode behind a byte, or behind none
+abbrev pub slot_behind : Machine → Anchored → Option ℕ → ℕ
+slot_behind m mode behind = slot_of mode (behind_of m.nfa.flags.line_terminator behind)
 
 -- each mode but patterns of their own is supported always, and these where each pattern has its starts
 abbrev pub supports : Machine → Anchored → Bool

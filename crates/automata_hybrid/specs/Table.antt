@@ -1,4 +1,4 @@
-use Rattle.std.specs.Prelude.{◌≡◌, ℕ, ◌+◌, ◌*◌, ◌%◌, ◌^◌, ◌<◌, ◌≤◌, ◌⊎◌, List, [], ◌∷◌, ◌++◌, length, Bool, cond, nat_lt, Option, None, Some, slice_index, slice_set, slice_get, replicate, take, sum_by, if◌then◌else◌}
+use Rattle.std.specs.Prelude.{◌≡◌, ℕ, ◌+◌, ◌*◌, ◌%◌, ◌<◌, ◌≤◌, ◌⊎◌, List, [], ◌∷◌, ◌++◌, length, Bool, cond, nat_lt, Option, None, Some, slice_index, slice_set, slice_get, replicate, take, sum_by}
 use Rattle.std.specs.HashMap.{HashMap, get}
 use Rattle.std.specs.declared.hash.FoldHasher.{FoldHasher}
 use Rattle.std.specs.declared.hash.BuildHasherDefault.{BuildHasherDefault}
@@ -7,7 +7,7 @@ use Rattle.automata_base.specs.Equal.{powerset_eq}
 use Rattle.automata_hybrid.specs.declared.dfa.row.Row.{Row}
 use Rattle.automata_base.specs.Powerset.{dead}
 use Rattle.automata_hybrid.specs.Owned.{IsOwn}
-use Rattle.automata_hybrid.specs.Ids.{tags, dead_id, quit_id}
+use Rattle.automata_hybrid.specs.Ids.{tags, dead_id, quit_id, unknown_id, offset_limit}
 use Rattle.automata_hybrid.specs.Machine.{Machine, next_of, greatest, template_of, IsTemplate}
 
 -- a state has patterns
@@ -46,17 +46,17 @@ Leads t id q = ((id ≡ dead_id t.of.stride) × (q ≡ dead)) ⊎ Names t id q
 
 -- a cell that isn't known, or that names what it should
 abbrev pub MayLead : Rows → ℕ → Powerset → Type 0
-MayLead t id q = (id ≡ 2 ^ 31) ⊎ Leads t id q
+MayLead t id q = (id ≡ unknown_id) ⊎ Leads t id q
 
 -- what stands in a cell of a state's row: quit at quit classes, and else what names the next state or nothing yet
 abbrev pub IsCell : Rows → Powerset → ℕ → ℕ → Type 0
 IsCell t q class id =
     ((slice_index (template_of t.of) class ≡ quit_id t.of.stride) × (id ≡ quit_id t.of.stride))
-    ⊎ ((slice_index (template_of t.of) class ≡ 2 ^ 31) × MayLead t id (next_of t.of q class))
+    ⊎ ((slice_index (template_of t.of) class ≡ unknown_id) × MayLead t id (next_of t.of q class))
 
 -- the three fixed rows
 abbrev pub fixed_rows : ℕ → List ℕ
-fixed_rows s = replicate s (2 ^ 31) ++ (replicate s (dead_id s) ++ replicate s (quit_id s))
+fixed_rows s = replicate s unknown_id ++ (replicate s (dead_id s) ++ replicate s (quit_id s))
 
 -- the fixed rows alone
 abbrev pub fresh : Machine → Rows
@@ -84,7 +84,7 @@ IsAlive t = (k : ℕ) (r : Row) → slice_get t.rows k ≡ Some r → (r.state �
 pub record IsTable (t : Rows) (map : StateMap) (costs : ℕ) : Type 0 where
   pub template : IsTemplate t.of.stride (template_of t.of)
   pub whole : length t.cells ≡ (length t.rows + 3) * t.of.stride
-  pub small : length t.cells < 2 ^ 27 + t.of.stride
+  pub small : length t.cells < offset_limit + t.of.stride
   pub fixed : take (3 * t.of.stride) t.cells ≡ fixed_rows t.of.stride
   pub stepped : IsStepped t
   pub distinct : IsDistinct t
@@ -102,7 +102,7 @@ HasState t k q = (r : Row) × (slice_get t.rows k ≡ Some r) × (r.state ≡ q)
 
 -- the place of a cell
 abbrev pub cell_at : ℕ → ℕ → ℕ
-cell_at id class = id % 2 ^ 27 + class
+cell_at id class = id % offset_limit + class
 
 abbrev pub with_cell : Rows → ℕ → ℕ → ℕ → Rows
 with_cell t id class next = record { of = t.of; cells = slice_set t.cells (cell_at id class) next; rows = t.rows }

@@ -1,5 +1,5 @@
-ghost use Rattle.std.specs.Prelude.{◌≡◌, ◌+◌, ◌*◌, ◌%◌, ◌^◌, ◌<◌, ◌≤◌, ◌↔◌, IsTrue, IsBitSet};
-ghost use Rattle.automata_hybrid.specs.Ids.{tags, unknown_id, dead_id, quit_id};
+ghost use Rattle.std.specs.Prelude.{◌≡◌, ◌+◌, ◌*◌, ◌%◌, ◌<◌, ◌≤◌, ◌↔◌, IsTrue, IsBitSet};
+ghost use Rattle.automata_hybrid.specs.Ids.{tags, unknown_id, dead_id, quit_id, fixed_from, offset_limit};
 
 use std::marker::Model;
 
@@ -28,7 +28,7 @@ impl LazyStateID {
 
     /// The ID of a row at this offset.
     pub(crate) fn of_row(offset: u32, started: bool, matches: bool) -> LazyStateID
-        requires { offset < 2 ^ 27 }
+        requires { offset < offset_limit }
         ensures { result ≡ offset + tags started matches }
     {
         let start = if started { 1 << 28 } else { 0 };
@@ -66,7 +66,7 @@ impl LazyStateID {
     /// Whether the transition to it isn't computed yet.
     pub fn is_unknown(self) -> bool
         ensures bit { IsTrue result ↔ IsBitSet self 31 }
-        ensures size { IsTrue result ↔ (2 ^ 31 ≤ self) }
+        ensures size { IsTrue result ↔ (unknown_id ≤ self) }
     {
         self.id >= 1 << 31
     }
@@ -101,14 +101,23 @@ impl LazyStateID {
 
     /// Whether it is unknown, dead or quit.
     pub(crate) fn is_fixed(self) -> bool
-        ensures { IsTrue result ↔ (2 ^ 29 ≤ self) }
+        ensures { IsTrue result ↔ (fixed_from ≤ self) }
     {
         self.id >= 1 << 29
     }
 
+    /// The offset of an ID without a tag: it needs no mask.
+    #[inline(always)]
+    pub(crate) fn untagged(self) -> u32
+        requires { self ≤ 134217727 }
+        ensures { result ≡ self % offset_limit }
+    {
+        self.id
+    }
+
     /// The offset without the tags.
     pub(crate) fn offset(self) -> u32
-        ensures { result ≡ self % 2 ^ 27 }
+        ensures { result ≡ self % offset_limit }
     {
         self.id & LazyStateID::MAX
     }

@@ -3,4 +3,5 @@
 
 pub mod dfa;
 pub mod id;
+pub mod laws;
 pub mod search;

@@ -6,7 +6,9 @@ use crate::error::RunError;
 use crate::reply::Reply;
 use crate::script::{Definition, Request, Script};
 use regex_automata::hybrid::BuildError;
-use regex_automata::hybrid::dfa::{Cache, DFA};
+use regex_automata::hybrid::dfa::{Cache, Config, DFA};
+use regex_automata::nfa::thompson::{NFA, NfaError};
+use regex_automata::util::search::MatchKind;
 use std::alloc::{AllocError, Global};
 use std::fmt::Write;
 use std::io;
@@ -56,10 +58,10 @@ fn build_all(
     alloc: Global,
     definitions: &[Definition],
     replies: &mut String,
-) -> Result<Vec<DFA>, RunError> {
+) -> Result<Vec<Regex>, RunError> {
     let mut regexes = Vec::new(alloc);
     for definition in definitions {
-        match build(alloc, definition) {
+        match Regex::new(alloc, definition) {
             Ok(regex) => {
                 let number = regexes.len();
                 writeln!(replies, "regex {number}")?;
@@ -71,37 +73,64 @@ fn build_all(
     Ok(regexes)
 }
 
-fn build(alloc: Global, definition: &Definition) -> Result<DFA, BuildError> {
-    // The automata of the catalogue are well formed, so only memory can be wanting.
-    let nfa = definition
-        .entry
-        .forward(alloc)
-        .map_err(|_| BuildError::OutOfMemory)?;
-    DFA::builder()
-        .configure(definition.config)
-        .build_from_nfa(nfa)
+/// A lazy automaton for each direction.
+#[derive(Drop)]
+struct Regex {
+    forward: DFA,
+    reverse: DFA,
 }
 
-/// A regex, and the one cache that serves all requests.
+impl Regex {
+    /// The reverse automaton looks for the farthest start of a match, so it is of kind all.
+    fn new(alloc: Global, definition: &Definition) -> Result<Regex, BuildError> {
+        let config = definition.config;
+        let forward = build(definition.entry.forward(alloc), config)?;
+        let config = config
+            .match_kind(MatchKind::All)
+            .specialize_start_states(false);
+        let reverse = build(definition.entry.reverse(alloc), config)?;
+        Ok(Regex { forward, reverse })
+    }
+}
+
+/// The automata of the catalogue are well formed, so only memory can be wanting.
+fn build(nfa: Result<NFA, NfaError>, config: Config) -> Result<DFA, BuildError> {
+    let nfa = nfa.map_err(|_| BuildError::OutOfMemory)?;
+    DFA::builder().configure(config).build_from_nfa(nfa)
+}
+
+/// A regex, and the cache of each direction that serves all requests.
 #[derive(Drop)]
 struct Searcher<'r> {
-    regex: &'r DFA,
-    cache: Cache,
-    ghost of: { IsCacheOf cache regex.now },
+    regex: &'r Regex,
+    forward: Cache,
+    reverse: Cache,
+    ghost of_forward: { IsCacheOf forward regex.now.forward },
+    ghost of_reverse: { IsCacheOf reverse regex.now.reverse },
 }
 
 impl<'r> Searcher<'r> {
-    fn new(regex: &'r DFA) -> Result<Searcher<'r>, AllocError> {
-        let cache = regex.create_cache()?;
-        Ok(Searcher { regex, cache })
+    fn new(regex: &'r Regex) -> Result<Searcher<'r>, AllocError> {
+        let forward = regex.forward.create_cache()?;
+        let reverse = regex.reverse.create_cache()?;
+        Ok(Searcher {
+            regex,
+            forward,
+            reverse,
+        })
     }
 
     fn answer(&mut self, request: &Request) -> Reply {
-        match request {
+        let found = match request {
             Request::Forward(query) => {
-                let found = self.regex.try_search_fwd(&mut self.cache, &query.input());
-                Reply::Half(found)
+                let dfa = &self.regex.forward;
+                dfa.try_search_fwd(&mut self.forward, &query.input())
             }
-        }
+            Request::Reverse(query) => {
+                let dfa = &self.regex.reverse;
+                dfa.try_search_rev(&mut self.reverse, &query.input())
+            }
+        };
+        Reply::Half(found)
     }
 }

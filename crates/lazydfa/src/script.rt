@@ -27,6 +27,7 @@ pub struct Definition {
 #[derive(Drop)]
 pub enum Request {
     Forward(Query),
+    Reverse(Query),
 }
 
 /// A haystack, and how it is to be searched.
@@ -94,13 +95,19 @@ impl Script {
             }
             [b"fwd", haystack, options @ ..] => {
                 let query = Query::parse(alloc, *haystack, options)?;
-                self.requests
-                    .push(Request::Forward(query))
-                    .map_err(AllocError::from)?;
+                self.add_request(Request::Forward(query))?;
+            }
+            [b"rev", haystack, options @ ..] => {
+                let query = Query::parse(alloc, *haystack, options)?;
+                self.add_request(Request::Reverse(query))?;
             }
             _ => return Err(LineError::Bad),
         }
         Ok(())
+    }
+
+    fn add_request(&mut self, request: Request) -> Result<(), AllocError> {
+        self.requests.push(request).map_err(AllocError::from)
     }
 }
 

@@ -1,5 +1,5 @@
 -- Tests of lists of numbers, and what they say of each.
-use Rattle.std.proofs.Common.{ℕ, ◌≡◌, ◌<◌, ◌&&◌, true, List, [], ◌∷◌, inl, inr, refl, ltb, ap, ◌∙◌}
+use Rattle.std.proofs.Common.{ℕ, ◌≡◌, ◌<◌, ◌&&◌, true, List, [], ◌∷◌, inl, inr, refl, ap, ◌∙◌}
 use Rattle.std.proofs.lemmas.Bool.{lt-ltb}
 use Rattle.automata_base.specs.Checks.{all_below}
 use Rattle.automata_base.specs.Lists.{In}

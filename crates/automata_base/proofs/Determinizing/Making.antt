@@ -1,9 +1,9 @@
 -- A powerset state made of a closure.
-use Rattle.std.proofs.Common.{ℕ, ◌≡◌, ◌&&◌, Bool, true, false, eqb, List, [], refl, sym, ap, ◌∙◌, true≢false, subst, Option}
-use Rattle.std.proofs.lemmas.Bool.{eq-eqb, eqb-true}
+use Rattle.std.proofs.Common.{ℕ, ◌≡◌, ◌&&◌, Bool, true, false, eqb, List, refl, sym, ap, ◌∙◌, true≢false, subst, Option}
+use Rattle.std.proofs.lemmas.Bool.{eq-eqb}
 use Rattle.automata_base.specs.Looks as l
 use Rattle.automata_base.specs.Lists.{pick}
-use Rattle.automata_base.specs.Nfa.{Nfa, Truth, keep}
+use Rattle.automata_base.specs.Nfa.{Nfa, keep}
 use Rattle.automata_base.specs.Computed.{any_node, any_state, known_looks, is_full, make}
 use Rattle.automata_base.specs.Looks.{look_index}
 use Rattle.automata_base.specs.Passes.{is_word_look, is_crlf_look, IsMake}

@@ -5,7 +5,7 @@ use Rattle.automata_base.specs.Computed.{IsInRange, start_of, successor_of}
 use Rattle.automata_base.specs.Cuts.{MatchKind}
 use Rattle.automata_base.specs.Lists.{In}
 use Rattle.automata_base.specs.Nfa.{Nfa}
-use Rattle.automata_base.specs.Nodes.{Automaton, nfa_of, nodes_of}
+use Rattle.automata_base.specs.Nodes.{Automaton, nfa_of}
 use Rattle.automata_base.specs.Looks.{Look}
 use Rattle.automata_base.specs.Passes.{IsSuccessor, IsMake, Occurs}
 use Rattle.automata_base.specs.Truths.{truth_of}

@@ -1,7 +1,7 @@
 -- What the passes of a search tell is the answer of the ordered paths.
 use Rattle.std.proofs.Common.{ℕ, zero, suc, ◌≡◌, ◌<◌, ◌≤◌, ◌+◌, ◌⊎◌, inl, inr, Bool, true, false, List, [], ◌∷◌, length, Option, Some, None, refl, sym, ap, ◌∙◌, subst, arith}
 use Rattle.std.specs.Prelude.{slice_get, All}
-use Rattle.automata_base.specs.Answers.{Half, SelectsFrom, SelectsOver, later, IsSplit, Tries, Answers, IsAnswer, IsInput}
+use Rattle.automata_base.specs.Answers.{Half, SelectsFrom, SelectsOver, later, IsSplit, Tries, Answers, IsInput}
 use Rattle.automata_base.specs.Computed.{pair_at, earlier_or}
 use Rattle.automata_base.specs.Cuts.{MatchKind}
 use Rattle.automata_base.specs.Door.{IsDoor}
@@ -17,7 +17,7 @@ use Rattle.automata_base.specs.Starts.{mode_start}
 use Rattle.automata_base.specs.Steps.{start_or_dead, start_state_of, successor}
 use Rattle.automata_base.specs.Tapes.{Direction, tape_of}
 use Rattle.automata_base.specs.Telling.{state_after, told_at, last_told, first_told, told_by}
-use Rattle.automata_base.specs.Told.{TellsOver, IsTold, ToldIsRight}
+use Rattle.automata_base.specs.Told.{TellsOver, ToldIsRight}
 use Rattle.automata_base.proofs.Determinizing.Alike.{dead_stays}
 use Rattle.automata_base.proofs.Determinizing.Telling.{told_selects}
 use Rattle.automata_base.proofs.Spans.Total.{tape_units, later_input}
@@ -102,7 +102,7 @@ told_over_selects a kind way input o d free i l e =
     let t : Tape = tape_of way input.haystack input.start input.end in
     let tape : IsTape t = tape_units way input.haystack input.start input.end i.0 l i.1 in
     let s : SelectsFrom (engine_of a kind) input.earliest t (mode_start a input.anchored) (told_by kind input.earliest a input.anchored t) =
-        told_from a kind input.earliest input.anchored t (mode_start a input.anchored) d free tape refl in
+    told_from a kind input.earliest input.anchored t (mode_start a input.anchored) d free tape refl in
     subst (λ (p : Option Pair). SelectsOver way (engine_of a kind) input p) (sym e)
     (subst (λ (q : Option ℕ). SelectsFrom (engine_of a kind) input.earliest t q (told_by kind input.earliest a input.anchored t))
     (sym (first_is a kind input.anchored)) s)
@@ -110,12 +110,13 @@ told_over_selects a kind way input o d free i l e =
 -- what is told over the spans may be replaced by what it stands for
 module _ (T U : Input → Option Pair → Type 0) (S : Type 0) (way : Direction) (input : Input)
     (turn : (k : ℕ) (o : Option Pair) → input.start + k ≤ input.end → T (later way k input) o → U (later way k input) o) where
-
   turn_tries : (k : ℕ) → Tries T S way input k → Tries U S way input k
-  turn_tries k (first, before) =
-      (first, λ j l.
-          let b : (input.start + j ≤ input.end) × IsSplit T way (later way j input) = before j l in
-          (b.0, (b.1.0, turn j (Some b.1.0) b.0 b.1.1, b.1.2)))
+  turn_tries k (first, before) = (
+    first,
+    λ j l.
+        let b : (input.start + j ≤ input.end) × IsSplit T way (later way j input) = before j l in
+        (b.0, (b.1.0, turn j (Some b.1.0) b.0 b.1.1, b.1.2)),
+  )
 
   turn_end :
       (k : ℕ) (more : (input.end < input.start + k) ⊎ (input.start + k ≤ input.end))
@@ -131,7 +132,7 @@ module _ (T U : Input → Option Pair → Type 0) (S : Type 0) (way : Direction)
   within_or_past : (k : ℕ) → (input.end < input.start + k) ⊎ (input.start + k ≤ input.end)
   within_or_past k = grind arith
 
-  turn_answers : (o : Option Half) → Answers T S way input o → Answers U S way input o
+  pub turn_answers : (o : Option Half) → Answers T S way input o → Answers U S way input o
   turn_answers None (k, tries, h) = (k, turn_tries k tries, turn_end k (within_or_past k) h)
   turn_answers (Some half) (k, pair, tries, l, h, unsplit, p, o, b) =
       (k, pair, turn_tries k tries, l, turn k (Some pair) l h, unsplit, p, o, b)
@@ -140,6 +141,6 @@ pub told_right : (a : Automaton) → IsDoor a → ToldIsRight a
 told_right a d way kind input answer free i =
     turn_answers (TellsOver way a kind) (SelectsOver way (engine_of a kind)) (IsSkipping (engine_of a kind)) way input
     (λ k o l h.
-        let n : IsInput (later way k input) × ((later way k input).start ≤ (later way k input).end) = later_input way k input i l in
-        told_over_selects a kind way (later way k input) o d free n.0 n.1 h)
+    let n : IsInput (later way k input) × ((later way k input).start ≤ (later way k input).end) = later_input way k input i l in
+    told_over_selects a kind way (later way k input) o d free n.0 n.1 h)
     answer

@@ -1,8 +1,8 @@
 -- The steps of the walk over a stack with fixed room.
-use Rattle.std.proofs.Common.{◌≡◌, ◌<◌, ◌≤◌, ◌+◌, ◌-◌, ◌⊎◌, ℕ, zero, suc, List, [], ◌∷◌, ◌++◌, length, get_or, take, refl, sym, ap, ◌∙◌, subst, inl, inr, arith, cond, length-append, reverse, append_assoc, append-nil}
+use Rattle.std.proofs.Common.{◌≡◌, ◌<◌, ◌≤◌, ◌+◌, ◌⊎◌, ℕ, zero, suc, List, [], ◌∷◌, ◌++◌, length, get_or, take, refl, sym, ap, ◌∙◌, subst, inl, inr, arith, length-append, reverse, append_assoc}
 use Rattle.std.specs.Prelude.{Contains, sum_by, slice_index_or}
 use Rattle.std.proofs.lemmas.Bool.{cond_both}
-use Rattle.std.proofs.lemmas.List.{take_all, reverse-append, get_or_default, length-reverse}
+use Rattle.std.proofs.lemmas.List.{take_all, reverse-append, length-reverse}
 use Rattle.std.proofs.lemmas.List.Sums.{sum_by_more}
 use Rattle.automata_base.specs.declared.nfa.thompson.State.{State}
 use Rattle.automata_base.specs.declared.nfa.thompson.State.TheVariants.{ByteRange, Sparse, Dense, Look, Union, BinaryUnion, Capture, Fail, Match}
@@ -10,7 +10,7 @@ use Rattle.automata_base.specs.Nodes.{Automaton, nfa_of, nodes_of, node_of, extr
 use Rattle.automata_base.specs.Truths.{truth_of}
 use Rattle.automata_base.specs.Door.{IsDoor}
 use Rattle.automata_base.specs.Lists.{In, nth}
-use Rattle.automata_base.specs.Nfa.{Truth, node, node_or_fail}
+use Rattle.automata_base.specs.Nfa.{Truth, node_or_fail}
 use Rattle.automata_base.specs.Visits.{children, children_at, IsUnderWay}
 use Rattle.automata_base.proofs.Paths.Loops.{under_way_skip, under_way_visit}
 use Rattle.automata_base.proofs.Determinizing.Distinct.{In-Contains, Contains-In, In-either, unvisited, unvisited_push, unvisited_most, among}

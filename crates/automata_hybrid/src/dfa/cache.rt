@@ -1,12 +1,12 @@
-ghost use Rattle.std.specs.Prelude.{ℕ, ◌≡◌, ◌+◌, ◌*◌, ◌^◌, ◌<◌, ◌≤◌, None, Some, IfOk, IfErr, OnOk, OnErr, slice_index, length, is_some, IsSome, IsTrue, ◌↔◌, true, false};
+ghost use Rattle.std.specs.Prelude.{ℕ, ◌≡◌, ◌+◌, ◌*◌, ◌<◌, ◌≤◌, None, Some, IfOk, IfErr, OnOk, OnErr, slice_index, length, is_some, IsSome, IsTrue, ◌↔◌, true, false, IsBitSet};
 ghost use Rattle.automata_base.specs.Powerset.{Powerset, cost};
 ghost use Rattle.automata_base.specs.Powerset.{dead};
 ghost use Rattle.automata_base.specs.Steps.{successor, start_state_of};
 ghost use Rattle.automata_hybrid.specs.Owned.{IsOwn};
 ghost use Rattle.automata_hybrid.specs.Machine.{Machine, next_of, start_of, greatest, template_of};
-ghost use Rattle.automata_hybrid.specs.Ids.{dead_id};
+ghost use Rattle.automata_hybrid.specs.Ids.{dead_id, unknown_id, fixed_from};
 ghost use Rattle.automata_hybrid.specs.Table.{id_of, Names, IsValid, Leads, MayLead, IsCell};
-ghost use Rattle.automata_hybrid.specs.Bounds.{Fits, refuses_to_clear, IsCacheError, KeepsStarts, IsAdded, cell_of, with_next, with_start, with_searched, grown, cleared, usage};
+ghost use Rattle.automata_hybrid.specs.Bounds.{Fits, refuses_to_clear, IsCacheError, KeepsStarts, IsAdded, cell_of, with_next, with_start, with_searched, grown, cleared, usage, settings_of};
 ghost use Rattle.automata_hybrid.specs.Caches.{IsRow, IsCacheOf, fresh_cache, counted, with_store};
 ghost use Rattle.automata_hybrid.specs.Progressing.{started, updated, finished, total_len};
 
@@ -129,11 +129,24 @@ impl Cache {
         self.store.cell(id, class)
     }
 
+    /// The same, of an ID without a tag.
+    #[inline(always)]
+    pub(crate) fn cell_untagged(&self, id: LazyStateID, class: usize) -> LazyStateID
+        requires row { IsValid self.now.store.table id }
+        requires class { class < self.now.store.table.of.stride }
+        requires untagged { id ≤ 134217727 }
+        ensures value { result ≡ cell_of self.now.store id class }
+        ensures named { (q : Powerset) → Names self.now.store.table id q → IsCell self.now.store.table q class result }
+        ensures stride { self.now.store.table.of.stride ≤ 512 }
+    {
+        self.store.cell_untagged(id, class)
+    }
+
     /// Writes a transition.
     pub(crate) fn set_next(&mut self, id: LazyStateID, class: usize, next: LazyStateID)
         requires row { IsValid self.old.store.table id }
         requires class { class < self.old.store.table.of.stride }
-        requires free { slice_index (template_of self.old.store.table.of) class ≡ 2 ^ 31 }
+        requires free { slice_index (template_of self.old.store.table.of) class ≡ unknown_id }
         requires next { (q : Powerset) × Names self.old.store.table id q × Leads self.old.store.table next (next_of self.old.store.table.of q class) }
         ensures { self.new ≡ with_store self.old (with_next self.old.store id class next) }
     {
@@ -197,7 +210,7 @@ impl Cache {
         requires slot { slot < length self.old.store.starts }
         requires leads { Leads self.old.store.table id (start_of self.old.store.table.of slot) }
         ensures value { self.new ≡ with_store self.old (with_start self.old.store slot id) }
-        ensures found { slice_index self.new.store.starts slot < 2 ^ 31 }
+        ensures found { slice_index self.new.store.starts slot < unknown_id }
     {
         self.store.set_start(slot, id);
     }
@@ -241,9 +254,19 @@ impl Cache {
         self.store.slot_count();
     }
 
-    /// IDs of rows have no high tag.
+    /// The bounds are the DFA's.
+    pub(crate) fn bounds(&self)
+        ensures { self.now.store.settings ≡ settings_of self.now.store.table.of }
+    {
+        self.store.bounds();
+    }
+
+    /// IDs of rows have no high tag, and the match tag exactly where their state has patterns; no row has the dead state.
     pub(crate) fn low(&self)
-        ensures { (id : ℕ) (q : Powerset) → Names self.now.store.table id q → id < 2 ^ 29 }
+        ensures low { (id : ℕ) (q : Powerset) → Names self.now.store.table id q → id < fixed_from }
+        ensures tagged { (id : ℕ) (q : Powerset) → Names self.now.store.table id q → IsBitSet id 27 ↔ (0 < length q.patterns) }
+        ensures small { self.now.store.table.of.stride ≤ 512 }
+        ensures alive { (id : ℕ) (q : Powerset) → Names self.now.store.table id q → q ≡ dead → ⊥ }
     {
         self.store.low();
     }
@@ -296,7 +319,9 @@ impl Cache {
 
     /// A search begins at an offset; one that is open ends.
     pub fn search_start(&mut self, at: usize)
-        ensures { self.new ≡ with_store self.old (with_searched self.old.store (started self.old.store.searched at)) }
+        ensures value { self.new ≡ with_store self.old (with_searched self.old.store (started self.old.store.searched at)) }
+        ensures table { self.new.store.table ≡ self.old.store.table }
+        ensures count { self.new.count ≡ self.old.count }
     {
         self.store.search_start(at);
     }
@@ -319,14 +344,18 @@ impl Cache {
 
     /// Moves the search to an offset, if one is open.
     pub(crate) fn move_search(&mut self, at: usize)
-        ensures { self.new ≡ with_store self.old (with_searched self.old.store (updated self.old.store.searched at)) }
+        ensures value { self.new ≡ with_store self.old (with_searched self.old.store (updated self.old.store.searched at)) }
+        ensures table { self.new.store.table ≡ self.old.store.table }
+        ensures count { self.new.count ≡ self.old.count }
     {
         self.store.search_update(at);
     }
 
     /// Ends the search at an offset, if one is open.
     pub(crate) fn end_search(&mut self, at: usize)
-        ensures { self.new ≡ with_store self.old (with_searched self.old.store (finished self.old.store.searched at)) }
+        ensures value { self.new ≡ with_store self.old (with_searched self.old.store (finished self.old.store.searched at)) }
+        ensures table { self.new.store.table ≡ self.old.store.table }
+        ensures count { self.new.count ≡ self.old.count }
     {
         self.store.search_finish(at);
     }

@@ -5,6 +5,7 @@ ghost use Rattle.automata_hybrid.specs.Table.{id_of, Names, IsValid, row_cost, M
 ghost use Rattle.automata_hybrid.specs.Clears.{AllStarts, kept, put, row_of, keep_slot, IsPut};
 ghost use Rattle.automata_hybrid.specs.Bounds.{KeepsStarts};
 ghost use Rattle.automata_hybrid.specs.declared.dfa.row.Row.{Row as ARow};
+ghost use Rattle.automata_hybrid.specs.Ids.{unknown_id, offset_limit};
 
 use crate::dfa::DFA;
 use crate::dfa::table::Table;
@@ -15,7 +16,7 @@ use std::alloc::AllocError;
 pub fn keep_row(kept: &mut Table, old: &Table, id: LazyStateID) -> Result<LazyStateID, AllocError>
     requires valid { IsValid old.now id }
     requires of { kept.old.of ≡ old.now.of }
-    requires fits { length kept.old.cells < 2 ^ 27 }
+    requires fits { length kept.old.cells < offset_limit }
     requires costs { sum_by row_cost kept.old.rows + greatest old.now.of < 2 ^ 64 }
     ensures row { IfOk result (λ n. IsPut old.now kept.old kept.new id n) }
     ensures named { IfOk result (λ n. (q : Powerset) → Names old.now id q → Names kept.new n q) }
@@ -44,7 +45,7 @@ pub fn keep_slot(
     requires leads { MayLead old.now id (start_of old.now.of (length slots.old.items)) }
     requires named { AllStarts kept.old slots.old.items }
     requires of { kept.old.of ≡ old.now.of }
-    requires fits { length kept.old.cells < 2 ^ 27 }
+    requires fits { length kept.old.cells < offset_limit }
     requires costs { sum_by row_cost kept.old.rows + greatest old.now.of < 2 ^ 64 }
     ensures kept { OnOk result (kept.new ≡ (keep_slot old.now (record { table = kept.old; starts = slots.old.items }) id).table) }
     ensures slots { OnOk result (slots.new.items ≡ (keep_slot old.now (record { table = kept.old; starts = slots.old.items }) id).starts) }
@@ -54,7 +55,7 @@ pub fn keep_slot(
     ensures of { OnOk result (kept.new.of ≡ kept.old.of) }
     ensures len { OnOk result (length slots.new.items ≡ length slots.old.items + 1) }
     ensures front { OnOk result ((j : ℕ) → j < length slots.old.items → slice_index slots.new.items j ≡ slice_index slots.old.items j) }
-    ensures last { OnOk result (id < 2 ^ 31 → slice_index slots.new.items (length slots.old.items) < 2 ^ 31) }
+    ensures last { OnOk result (id < unknown_id → slice_index slots.new.items (length slots.old.items) < unknown_id) }
 {
     let _ = old.len();
     if id.is_fixed() {
@@ -75,7 +76,7 @@ pub fn keep_starts(
 ) -> Result<(Table, Vec<LazyStateID>), AllocError>
     requires of { dfa.now ≡ old.now.of }
     requires named { AllStarts old.now starts.now }
-    requires offsets { (length starts.now + 3) * old.now.of.stride < 2 ^ 27 }
+    requires offsets { (length starts.now + 3) * old.now.of.stride < offset_limit }
     requires costs { (length starts.now + 1) * greatest old.now.of < 2 ^ 64 }
     ensures table { IfOk result (λ p. p.0 ≡ (kept old.now starts.now).table) }
     ensures starts { IfOk result (λ p. p.1.items ≡ (kept old.now starts.now).starts) }

@@ -4,7 +4,7 @@ ghost use Rattle.automata_base.specs.Classes.{class_in, eoi_class, is_quit};
 ghost use Rattle.automata_base.specs.Steps.{successor};
 ghost use Rattle.automata_hybrid.specs.Owned.{IsOwn};
 ghost use Rattle.automata_base.specs.Accounting.{start_slots};
-ghost use Rattle.automata_hybrid.specs.Ids.{quit_id};
+ghost use Rattle.automata_hybrid.specs.Ids.{quit_id, unknown_id};
 ghost use Rattle.automata_hybrid.specs.Machine.{next_of, template_of};
 ghost use Rattle.automata_config.specs.Settling.{IsSettled};
 ghost use Rattle.automata_config.specs.Options.{unset};
@@ -198,7 +198,7 @@ impl DFA {
         ensures below { result < self.now.stride }
         ensures small { self.now.stride ≤ 512 }
         ensures quit { is_quit self.now.quits byte ≡ true → slice_index (template_of self.now) result ≡ quit_id self.now.stride }
-        ensures free { is_quit self.now.quits byte ≡ false → slice_index (template_of self.now) result ≡ 2 ^ 31 }
+        ensures free { is_quit self.now.quits byte ≡ false → slice_index (template_of self.now) result ≡ unknown_id }
         ensures alike { (q : Powerset) → IsOwn self.now.nfa q → successor self.now.nfa self.now.kind q (Some byte) ≡ next_of self.now q result }
     {
         usize::from(self.classes.get(byte))
@@ -209,7 +209,7 @@ impl DFA {
         ensures value { result ≡ eoi_class self.now.classes }
         ensures below { result < self.now.stride }
         ensures small { self.now.stride ≤ 512 }
-        ensures free { slice_index (template_of self.now) result ≡ 2 ^ 31 }
+        ensures free { slice_index (template_of self.now) result ≡ unknown_id }
         ensures alike { (q : Powerset) → IsOwn self.now.nfa q → successor self.now.nfa self.now.kind q None ≡ next_of self.now q result }
     {
         self.classes.eoi()

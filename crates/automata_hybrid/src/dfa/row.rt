@@ -2,6 +2,7 @@ ghost use Rattle.std.specs.Prelude.{◌≡◌, ◌+◌, ◌*◌, ◌^◌, ◌<�
 ghost use Rattle.automata_base.specs.Powerset.{cost};
 ghost use Rattle.automata_base.specs.Powerset.{dead};
 ghost use Rattle.automata_hybrid.specs.Table.{has_patterns};
+ghost use Rattle.automata_hybrid.specs.Ids.{offset_limit};
 
 use crate::id::LazyStateID;
 use automata_base::util::determinize::state::State;
@@ -19,7 +20,7 @@ impl Row {
 
     /// The ID of the row at an offset.
     pub fn id(&self, offset: u32) -> LazyStateID
-        requires { offset < 2 ^ 27 }
+        requires { offset < offset_limit }
         ensures { result ≡ row_id offset self.now }
     {
         LazyStateID::of_row(offset, self.started, has_patterns(&self.state))

@@ -1,4 +1,4 @@
-ghost use Rattle.std.specs.Prelude.{ℕ, ◌≡◌, ◌+◌, ◌*◌, ◌^◌, ◌<◌, ◌≤◌, None, Some, IfOk, IfErr, IfSome, IfNone, ◌↔◌, OnOk, OnErr, length, slice_index, Ok, Err, true, false, Option, ◌⊎◌};
+ghost use Rattle.std.specs.Prelude.{ℕ, ◌≡◌, ◌+◌, ◌-◌, ◌*◌, ◌<◌, ◌≤◌, None, Some, IfOk, IfErr, IfSome, IfNone, ◌↔◌, OnOk, OnErr, length, slice_index, Ok, Err, true, false, Option, ◌⊎◌};
 ghost use Rattle.automata_base.specs.Alike.{behind_of};
 ghost use Rattle.automata_base.specs.Powerset.{Powerset, cost, dead};
 ghost use Rattle.automata_base.specs.Classes.{is_quit};
@@ -6,8 +6,9 @@ ghost use Rattle.automata_base.specs.Steps.{start_state_of};
 ghost use Rattle.automata_hybrid.specs.Machine.{start_of, greatest};
 ghost use Rattle.automata_base.specs.Tapes.{byte_before};
 ghost use Rattle.automata_base.specs.Lists.{nth};
-ghost use Rattle.automata_hybrid.specs.Starting.{quit_behind, start_refusal, search_refusal};
-ghost use Rattle.automata_hybrid.specs.Slots.{supports, slot_of, HasStart};
+ghost use Rattle.automata_base.specs.declared.util.search.MatchErrorKind.TheVariants.{Quit as QuitAt, UnsupportedAnchored as UnsupportedMode};
+ghost use Rattle.automata_hybrid.specs.Starting.{quit_behind, start_refusal, search_refusal, KnowsStart, known_start, MayStart, IsStartRefusal, IsSearchRefusal};
+ghost use Rattle.automata_hybrid.specs.Slots.{supports, slot_of};
 ghost use Rattle.automata_hybrid.specs.Table.{id_of, Names, IsValid, Leads};
 ghost use Rattle.automata_hybrid.specs.Bounds.{Fits, refuses_to_clear, IsCacheError, IsKnownStart, KeepsStarts, GivesUp};
 ghost use Rattle.automata_hybrid.specs.Caches.{IsCacheOf, counted, HasRow};
@@ -35,6 +36,7 @@ impl Cache {
         ensures known { IsKnownStart self.old.store slot → result ≡ Ok (slice_index self.old.store.starts slot) }
         ensures unchanged { IsKnownStart self.old.store slot → self.new ≡ self.old }
         ensures named { IfOk result (λ n. Leads self.new.store.table n (start_state_of dfa.now.nfa mode prev)) }
+        ensures counted { self.new.count ≤ self.old.count + 1 }
         ensures starts { KeepsStarts self.old.store.starts self.new.store.starts }
         ensures found { OnOk result (IsKnownStart self.new.store slot) }
         ensures gives_up { IfErr result (λ e. IsCacheError e → GivesUp self.old.store (start_state_of dfa.now.nfa mode prev)) }
@@ -62,6 +64,7 @@ impl Cache {
         requires same { start_state_of dfa.now.nfa mode prev ≡ start_of dfa.now slot }
         ensures of { IsCacheOf self.new dfa.now }
         ensures named { IfOk result (λ n. Leads self.new.store.table n (start_state_of dfa.now.nfa mode prev)) }
+        ensures counted { self.new.count ≡ self.old.count + 1 }
         ensures starts { OnOk result (KeepsStarts self.old.store.starts self.new.store.starts) }
         ensures found { OnOk result (IsKnownStart self.new.store slot) }
         ensures gives_up { IfErr result (λ e. IsCacheError e → GivesUp self.old.store (start_state_of dfa.now.nfa mode prev)) }
@@ -174,7 +177,8 @@ impl DFA {
         }
     }
 
-    /// The start state of a mode behind a byte. A known one takes no memory.
+    /// The start state of a mode behind a byte. Refused where that is a quit byte, where the mode isn't supported, where
+    /// the state finds no room and the settings allow no clear, and where memory is out.
     pub fn start_state(
         &self,
         cache: &mut Cache,
@@ -183,15 +187,21 @@ impl DFA {
         requires { IsCacheOf cache.old self.now }
         ensures of { IsCacheOf cache.new self.now }
         ensures row { IfOk result (HasRow cache.new.store.table) }
+        ensures counted { cache.new.count ≤ cache.old.count + 1 }
 
         // A quit byte behind is told first, and a mode that isn't supported then.
         ensures quit { (byte : ℕ) → quit_behind self.now config.now.look_behind ≡ Some byte → result ≡ Err (StartError.Quit byte) }
+        ensures unsupported { quit_behind self.now config.now.look_behind ≡ None → supports self.now config.now.anchored ≡ false → result ≡ Err (StartError.UnsupportedAnchored config.now.anchored) }
+        ensures errors { IfErr result (IsStartRefusal self.now cache.old.store config.now.anchored config.now.look_behind) }
+        ensures refused { OnErr result ((cache.new ≡ cache.old) ⊎ (cache.new ≡ counted cache.old)) }
+        ensures barred { (MayStart self.now config.now.anchored config.now.look_behind → ⊥) → cache.new ≡ cache.old }
+
         ensures named { IfOk result (λ n. Leads cache.new.store.table n (start_state_of self.now.nfa config.now.anchored config.now.look_behind)) }
         ensures starts { KeepsStarts cache.old.store.starts cache.new.store.starts }
 
-        // A known start is never refused but for a quit byte, and takes no memory.
-        ensures known { quit_behind self.now config.now.look_behind ≡ None → supports self.now config.now.anchored ≡ true → HasStart cache.old.store (slot_of config.now.anchored (behind_of self.now.nfa.flags.line_terminator config.now.look_behind)) → result ≡ Ok (slice_index cache.old.store.starts (slot_of config.now.anchored (behind_of self.now.nfa.flags.line_terminator config.now.look_behind))) }
-        ensures refused { OnErr result ((cache.new ≡ cache.old) ⊎ (cache.new ≡ counted cache.old)) }
+        // A known start takes no memory, and changes nothing.
+        ensures known { KnowsStart self.now cache.old.store config.now.anchored config.now.look_behind → result ≡ Ok (known_start self.now cache.old.store config.now.anchored config.now.look_behind) }
+        ensures unchanged { KnowsStart self.now cache.old.store config.now.anchored config.now.look_behind → cache.new ≡ cache.old }
     {
         if let Some(byte) = self.quits_behind(config.get_look_behind()) {
             return Err(StartError::Quit { byte });
@@ -220,9 +230,12 @@ impl DFA {
         requires same { start_state_of self.now.nfa mode prev ≡ start_of self.now slot }
         ensures of { IsCacheOf cache.new self.now }
         ensures row { IfOk result (HasRow cache.new.store.table) }
+        ensures counted { cache.new.count ≤ cache.old.count + 1 }
         ensures named { IfOk result (λ n. Leads cache.new.store.table n (start_state_of self.now.nfa mode prev)) }
         ensures starts { KeepsStarts cache.old.store.starts cache.new.store.starts }
         ensures known { IsKnownStart cache.old.store slot → result ≡ Ok (slice_index cache.old.store.starts slot) }
+        ensures unchanged { IsKnownStart cache.old.store slot → cache.new ≡ cache.old }
+        ensures errors { MayStart self.now mode prev → IfErr result (IsStartRefusal self.now cache.old.store mode prev) }
         ensures err { OnErr result (cache.new ≡ counted cache.old) }
     {
         cache.slot_count();
@@ -232,7 +245,8 @@ impl DFA {
         }
     }
 
-    /// The start state of a forward search.
+    /// The start state of a forward search. A quit byte is told at its own offset, before the span, and giving up at the
+    /// span's start.
     pub fn start_state_forward(
         &self,
         cache: &mut Cache,
@@ -241,8 +255,21 @@ impl DFA {
         requires { IsCacheOf cache.old self.now }
         ensures of { IsCacheOf cache.new self.now }
         ensures row { IfOk result (HasRow cache.new.store.table) }
+        ensures counted { cache.new.count ≤ cache.old.count + 1 }
+
+        // The byte behind is the one before the span.
+        ensures quit { (byte : ℕ) → quit_behind self.now (byte_before input.now.haystack input.now.start) ≡ Some byte → result ≡ Err (SearchError.Match (QuitAt byte (input.now.start - 1))) }
+        ensures unsupported { quit_behind self.now (byte_before input.now.haystack input.now.start) ≡ None → supports self.now input.now.anchored ≡ false → result ≡ Err (SearchError.Match (UnsupportedMode input.now.anchored)) }
+        ensures errors { IfErr result (IsSearchRefusal self.now cache.old.store input.now.anchored (byte_before input.now.haystack input.now.start) (input.now.start - 1) input.now.start) }
+        ensures refused { OnErr result ((cache.new ≡ cache.old) ⊎ (cache.new ≡ counted cache.old)) }
+        ensures barred { (MayStart self.now input.now.anchored (byte_before input.now.haystack input.now.start) → ⊥) → cache.new ≡ cache.old }
+
         ensures named { IfOk result (λ n. Leads cache.new.store.table n (start_state_of self.now.nfa input.now.anchored (byte_before input.now.haystack input.now.start))) }
         ensures starts { KeepsStarts cache.old.store.starts cache.new.store.starts }
+
+        // A known start takes no memory, and changes nothing.
+        ensures known { KnowsStart self.now cache.old.store input.now.anchored (byte_before input.now.haystack input.now.start) → result ≡ Ok (known_start self.now cache.old.store input.now.anchored (byte_before input.now.haystack input.now.start)) }
+        ensures unchanged { KnowsStart self.now cache.old.store input.now.anchored (byte_before input.now.haystack input.now.start) → cache.new ≡ cache.old }
     {
         let config = start::Config::from_input_forward(input);
         match self.start_state(cache, &config) {
@@ -255,7 +282,7 @@ impl DFA {
         }
     }
 
-    /// The start state of a reverse search.
+    /// The start state of a reverse search. A quit byte is told at its own offset, the span's end, and giving up there too.
     pub fn start_state_reverse(
         &self,
         cache: &mut Cache,
@@ -264,8 +291,21 @@ impl DFA {
         requires { IsCacheOf cache.old self.now }
         ensures of { IsCacheOf cache.new self.now }
         ensures row { IfOk result (HasRow cache.new.store.table) }
+        ensures counted { cache.new.count ≤ cache.old.count + 1 }
+
+        // The byte behind is the one at the span's end.
+        ensures quit { (byte : ℕ) → quit_behind self.now (nth input.now.haystack input.now.end) ≡ Some byte → result ≡ Err (SearchError.Match (QuitAt byte input.now.end)) }
+        ensures unsupported { quit_behind self.now (nth input.now.haystack input.now.end) ≡ None → supports self.now input.now.anchored ≡ false → result ≡ Err (SearchError.Match (UnsupportedMode input.now.anchored)) }
+        ensures errors { IfErr result (IsSearchRefusal self.now cache.old.store input.now.anchored (nth input.now.haystack input.now.end) input.now.end input.now.end) }
+        ensures refused { OnErr result ((cache.new ≡ cache.old) ⊎ (cache.new ≡ counted cache.old)) }
+        ensures barred { (MayStart self.now input.now.anchored (nth input.now.haystack input.now.end) → ⊥) → cache.new ≡ cache.old }
+
         ensures named { IfOk result (λ n. Leads cache.new.store.table n (start_state_of self.now.nfa input.now.anchored (nth input.now.haystack input.now.end))) }
         ensures starts { KeepsStarts cache.old.store.starts cache.new.store.starts }
+
+        // A known start takes no memory, and changes nothing.
+        ensures known { KnowsStart self.now cache.old.store input.now.anchored (nth input.now.haystack input.now.end) → result ≡ Ok (known_start self.now cache.old.store input.now.anchored (nth input.now.haystack input.now.end)) }
+        ensures unchanged { KnowsStart self.now cache.old.store input.now.anchored (nth input.now.haystack input.now.end) → cache.new ≡ cache.old }
     {
         let config = start::Config::from_input_reverse(input);
         match self.start_state(cache, &config) {

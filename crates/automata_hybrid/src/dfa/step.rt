@@ -1,4 +1,4 @@
-ghost use Rattle.std.specs.Prelude.{ℕ, ◌≡◌, ◌+◌, ◌*◌, ◌^◌, ◌<◌, ◌≤◌, None, Some, IfOk, IfErr, OnOk, OnErr, length, slice_index, Ok, true, false};
+ghost use Rattle.std.specs.Prelude.{ℕ, ◌≡◌, ◌+◌, ◌*◌, ◌<◌, ◌≤◌, None, Some, IfOk, IfErr, OnOk, OnErr, length, slice_index, Ok, true, false};
 ghost use Rattle.automata_base.specs.Powerset.{Powerset, cost};
 ghost use Rattle.automata_base.specs.Steps.{successor};
 ghost use Rattle.automata_hybrid.specs.Owned.{IsOwn};
@@ -6,7 +6,7 @@ ghost use Rattle.automata_hybrid.specs.Machine.{next_of, start_of, template_of};
 ghost use Rattle.automata_hybrid.specs.Table.{id_of, Names, IsValid, Leads};
 ghost use Rattle.automata_hybrid.specs.Bounds.{GivesUp, Fits, refuses_to_clear, IsCacheError, IsKnownTransition, cell_of, IsNext, KeepsStarts, IsComputed};
 ghost use Rattle.automata_hybrid.specs.Caches.{IsCacheOf, HasRow, counted};
-ghost use Rattle.automata_hybrid.specs.Ids.{quit_id};
+ghost use Rattle.automata_hybrid.specs.Ids.{quit_id, unknown_id, fixed_from};
 ghost use Rattle.automata_base.specs.Classes.{class_in, eoi_class, is_quit};
 
 use crate::dfa::DFA;
@@ -31,6 +31,7 @@ impl Cache {
         ensures of { IsCacheOf self.new dfa.now }
         ensures known { IsKnownTransition self.old.store id class → result ≡ Ok (cell_of self.old.store id class) }
         ensures unchanged { IsKnownTransition self.old.store id class → self.new ≡ self.old }
+        ensures quit { slice_index (template_of dfa.now) class ≡ quit_id dfa.now.stride → (result ≡ Ok (quit_id dfa.now.stride)) × (self.new ≡ self.old) }
         ensures named { IfOk result (λ n. (q : Powerset) → Names self.old.store.table id q → IsNext self.new.store.table q class n) }
         ensures effect { (IsKnownTransition self.old.store id class → ⊥) → IfOk result (λ n. (q : Powerset) → Names self.old.store.table id q → IsComputed self.old.store id class q self.new.store n) }
         ensures counted { (IsKnownTransition self.old.store id class → ⊥) → self.new.count ≡ self.old.count + 1 }
@@ -58,7 +59,7 @@ impl Cache {
         requires of { IsCacheOf self.old dfa.now }
         requires valid { IsValid self.old.store.table id }
         requires class { class < dfa.now.stride }
-        requires free { slice_index (template_of dfa.now) class ≡ 2 ^ 31 }
+        requires free { slice_index (template_of dfa.now) class ≡ unknown_id }
         requires alike { (q : Powerset) → IsOwn dfa.now.nfa q → successor dfa.now.nfa dfa.now.kind q unit ≡ next_of dfa.now q class }
         ensures of { IsCacheOf self.new dfa.now }
         ensures named { IfOk result (λ n. (q : Powerset) → Names self.old.store.table id q → Leads self.new.store.table n (next_of dfa.now q class)) }
@@ -96,12 +97,18 @@ impl DFA {
         ensures of { IsCacheOf cache.new self.now }
 
         // Dead leads to dead, and quit to quit.
-        ensures fixed { 2 ^ 29 ≤ id → result ≡ Ok id }
-        ensures quit { id < 2 ^ 29 → is_quit self.now.quits byte ≡ true → IfOk result (λ n. n ≡ quit_id self.now.stride) }
+        ensures fixed { fixed_from ≤ id → result ≡ Ok id }
+        ensures fixed_unchanged { fixed_from ≤ id → cache.new ≡ cache.old }
+
+        // A quit byte leads to quit, and takes no memory.
+        ensures quit { id < fixed_from → is_quit self.now.quits byte ≡ true → result ≡ Ok (quit_id self.now.stride) }
+        ensures quit_unchanged { is_quit self.now.quits byte ≡ true → cache.new ≡ cache.old }
+
         ensures named { is_quit self.now.quits byte ≡ false → IfOk result (λ n. (q : Powerset) → Names cache.old.store.table id q → Leads cache.new.store.table n (successor self.now.nfa self.now.kind q (Some byte))) }
         ensures row { IfOk result (HasRow cache.new.store.table) }
+        ensures counted { cache.new.count ≤ cache.old.count + 1 }
 
-        ensures known { id < 2 ^ 29 → IsKnownTransition cache.old.store id (class_in self.now.classes byte) → result ≡ Ok (cell_of cache.old.store id (class_in self.now.classes byte)) }
+        ensures known { id < fixed_from → IsKnownTransition cache.old.store id (class_in self.now.classes byte) → result ≡ Ok (cell_of cache.old.store id (class_in self.now.classes byte)) }
         ensures unchanged { IsKnownTransition cache.old.store id (class_in self.now.classes byte) → cache.new ≡ cache.old }
         ensures starts { KeepsStarts cache.old.store.starts cache.new.store.starts }
         ensures gives_up { IfErr result (λ e. IsCacheError e → (q : Powerset) → Names cache.old.store.table id q → GivesUp cache.old.store (successor self.now.nfa self.now.kind q (Some byte))) }
@@ -128,11 +135,14 @@ impl DFA {
         ensures of { IsCacheOf cache.new self.now }
 
         // Dead leads to dead, and quit to quit.
-        ensures fixed { 2 ^ 29 ≤ id → result ≡ Ok id }
+        ensures fixed { fixed_from ≤ id → result ≡ Ok id }
+        ensures fixed_unchanged { fixed_from ≤ id → cache.new ≡ cache.old }
+
         ensures named { IfOk result (λ n. (q : Powerset) → Names cache.old.store.table id q → Leads cache.new.store.table n (successor self.now.nfa self.now.kind q None)) }
         ensures row { IfOk result (HasRow cache.new.store.table) }
+        ensures counted { cache.new.count ≤ cache.old.count + 1 }
 
-        ensures known { id < 2 ^ 29 → IsKnownTransition cache.old.store id (eoi_class self.now.classes) → result ≡ Ok (cell_of cache.old.store id (eoi_class self.now.classes)) }
+        ensures known { id < fixed_from → IsKnownTransition cache.old.store id (eoi_class self.now.classes) → result ≡ Ok (cell_of cache.old.store id (eoi_class self.now.classes)) }
         ensures unchanged { IsKnownTransition cache.old.store id (eoi_class self.now.classes) → cache.new ≡ cache.old }
         ensures starts { KeepsStarts cache.old.store.starts cache.new.store.starts }
         ensures gives_up { IfErr result (λ e. IsCacheError e → (q : Powerset) → Names cache.old.store.table id q → GivesUp cache.old.store (successor self.now.nfa self.now.kind q None)) }
@@ -156,11 +166,11 @@ impl DFA {
         requires untagged { id ≤ 134217727 }
         ensures value { result ≡ cell_of cache.now.store id (class_in self.now.classes byte) }
         ensures quit { is_quit self.now.quits byte ≡ true → result ≡ quit_id self.now.stride }
-        ensures named { is_quit self.now.quits byte ≡ false → result < 2 ^ 31 → (q : Powerset) → Names cache.now.store.table id q → Leads cache.now.store.table result (successor self.now.nfa self.now.kind q (Some byte)) }
-        ensures row { result < 2 ^ 31 → HasRow cache.now.store.table result }
+        ensures named { is_quit self.now.quits byte ≡ false → result < unknown_id → (q : Powerset) → Names cache.now.store.table id q → Leads cache.now.store.table result (successor self.now.nfa self.now.kind q (Some byte)) }
+        ensures row { result < unknown_id → HasRow cache.now.store.table result }
     {
         cache.own(id);
-        cache.cell(id, self.class_of(byte))
+        cache.cell_untagged(id, self.class_of(byte))
     }
 
     /// How many patterns match at a match state.

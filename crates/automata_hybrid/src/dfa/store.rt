@@ -1,9 +1,9 @@
-ghost use Rattle.std.specs.Prelude.{ℕ, ◌≡◌, ◌+◌, ◌-◌, ◌*◌, ◌/◌, ◌%◌, ◌^◌, ◌<◌, ◌≤◌, ◌↔◌, None, Some, IfOk, OnOk, OnErr, length, slice_index, slice_get, sum_by, IsTrue, IfErr, is_ok, is_some, true, false};
+ghost use Rattle.std.specs.Prelude.{ℕ, ◌≡◌, ◌+◌, ◌-◌, ◌*◌, ◌/◌, ◌%◌, ◌^◌, ◌<◌, ◌≤◌, ◌↔◌, None, Some, IfOk, OnOk, OnErr, length, slice_index, slice_get, sum_by, IsTrue, IfErr, is_ok, is_some, true, false, IsBitSet};
 ghost use Rattle.automata_base.specs.Powerset.{Powerset, cost};
 ghost use Rattle.automata_base.specs.Powerset.{dead};
 ghost use Rattle.automata_base.specs.Accounting.{minimum_capacity};
 ghost use Rattle.automata_hybrid.specs.Owned.{IsOwn};
-ghost use Rattle.automata_hybrid.specs.Ids.{dead_id};
+ghost use Rattle.automata_hybrid.specs.Ids.{dead_id, unknown_id, fixed_from, offset_limit};
 ghost use Rattle.automata_hybrid.specs.Machine.{next_of, start_of, greatest, template_of, IsTemplate};
 ghost use Rattle.automata_hybrid.specs.Table.{id_of, Names, IsValid, with_row, with_cell, Leads, MayLead, IsCell};
 ghost use Rattle.automata_hybrid.specs.Clears.{IsPut, row_of};
@@ -58,7 +58,7 @@ impl Store {
         requires slots { slots ≡ dfa.now.slots }
         requires settings { settings ≡ settings_of dfa.now }
         requires enough { minimum_capacity stride slots (greatest dfa.now) settings.fixed ≤ settings.capacity }
-        requires offsets { (slots + 4) * stride < 2 ^ 27 }
+        requires offsets { (slots + 4) * stride < offset_limit }
         ensures { IfOk result (λ c. c ≡ fresh_store dfa.now settings) }
     {
         let _capacity = settings.capacity;
@@ -127,7 +127,7 @@ impl Store {
         requires slot { slot < length self.old.starts }
         requires leads { Leads self.old.table id (start_of self.old.table.of slot) }
         ensures value { self.new ≡ with_start self.old slot id }
-        ensures found { slice_index self.new.starts slot < 2 ^ 31 }
+        ensures found { slice_index self.new.starts slot < unknown_id }
     {
         let _ = self.table.len();
         self.starts[slot] = id;
@@ -175,7 +175,10 @@ impl Store {
 
     /// IDs of rows have no high tag.
     pub fn low(&self)
-        ensures { (id : ℕ) (q : Powerset) → Names self.now.table id q → id < 2 ^ 29 }
+        ensures low { (id : ℕ) (q : Powerset) → Names self.now.table id q → id < fixed_from }
+        ensures tagged { (id : ℕ) (q : Powerset) → Names self.now.table id q → IsBitSet id 27 ↔ (0 < length q.patterns) }
+        ensures small { self.now.table.of.stride ≤ 512 }
+        ensures alive { (id : ℕ) (q : Powerset) → Names self.now.table id q → q ≡ dead → ⊥ }
     {
         let _ = self.table.len();
     }
@@ -262,11 +265,24 @@ impl Store {
         self.table.cell(id, class)
     }
 
+    /// The same, of an ID without a tag.
+    #[inline(always)]
+    pub fn cell_untagged(&self, id: LazyStateID, class: usize) -> LazyStateID
+        requires row { IsValid self.now.table id }
+        requires class { class < self.now.table.of.stride }
+        requires untagged { id ≤ 134217727 }
+        ensures value { result ≡ cell_of self.now id class }
+        ensures named { (q : Powerset) → Names self.now.table id q → IsCell self.now.table q class result }
+        ensures stride { self.now.table.of.stride ≤ 512 }
+    {
+        self.table.cell_untagged(id, class)
+    }
+
     /// Writes a transition.
     pub fn set_next(&mut self, id: LazyStateID, class: usize, next: LazyStateID)
         requires row { IsValid self.old.table id }
         requires class { class < self.old.table.of.stride }
-        requires free { slice_index (template_of self.old.table.of) class ≡ 2 ^ 31 }
+        requires free { slice_index (template_of self.old.table.of) class ≡ unknown_id }
         requires next { (q : Powerset) × Names self.old.table id q × Leads self.old.table next (next_of self.old.table.of q class) }
         ensures { self.new ≡ with_next self.old id class next }
     {

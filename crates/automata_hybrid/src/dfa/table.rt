@@ -1,9 +1,9 @@
-ghost use Rattle.std.specs.Prelude.{ℕ, List, ◌≡◌, ◌+◌, ◌-◌, ◌*◌, ◌/◌, ◌%◌, ◌^◌, ◌<◌, ◌≤◌, ◌⊎◌, None, Some, IfOk, IsTrue, ◌↔◌, OnOk, OnErr, length, slice_index, slice_set, slice_get, sum_by, [], ◌++◌, ◌∷◌, false, cond};
+ghost use Rattle.std.specs.Prelude.{ℕ, List, ◌≡◌, ◌+◌, ◌-◌, ◌*◌, ◌/◌, ◌%◌, ◌^◌, ◌<◌, ◌≤◌, ◌⊎◌, None, Some, IfOk, IsTrue, ◌↔◌, OnOk, OnErr, length, slice_index, slice_set, slice_get, sum_by, [], ◌++◌, ◌∷◌, false, cond, IsBitSet};
 ghost use Rattle.automata_base.specs.Powerset.{Powerset, cost};
 ghost use Rattle.automata_base.specs.Classes.{eoi_class};
 ghost use Rattle.automata_base.specs.Powerset.{dead};
 ghost use Rattle.automata_hybrid.specs.Owned.{IsOwn};
-ghost use Rattle.automata_hybrid.specs.Ids.{dead_id, quit_id};
+ghost use Rattle.automata_hybrid.specs.Ids.{dead_id, quit_id, unknown_id, fixed_from, offset_limit};
 ghost use Rattle.automata_hybrid.specs.Machine.{next_of, greatest, template_of, IsTemplate, marked};
 ghost use Rattle.automata_hybrid.specs.Table.{id_of, with_row, fresh, Names, Leads, row_id, row_cost, IsValid, HasState, IsCell, cell_at, with_cell};
 ghost use Rattle.automata_hybrid.specs.Clears.{AllStarts};
@@ -42,6 +42,16 @@ impl Model for Table {
     ghost invariant = { λ t. IsHeld (record { of = t.of.value; cells = t.cells.items; rows = t.rows.items }) t.stride t.template.items t.map t.costs };
 }
 
+/// A row's cell at a class. The column is found first, so that from one row to the next there is one load alone.
+#[inline(always)]
+fn cell_in(cells: &[LazyStateID], row: usize, class: usize) -> LazyStateID
+    requires { row + class < length cells.now }
+    ensures { result ≡ slice_index cells.now (row + class) }
+{
+    let column = &cells[class..];
+    column[row]
+}
+
 impl Table {
     /// The ID of a state, where the table has it.
     pub fn get(&self, state: &Key) -> Option<LazyStateID>
@@ -55,7 +65,9 @@ impl Table {
         ensures whole { length self.now.cells ≡ (length self.now.rows + 3) * self.now.of.stride }
         ensures template { IsTemplate self.now.of.stride (template_of self.now.of) }
         ensures costs { sum_by row_cost self.now.rows ≤ length self.now.rows * greatest self.now.of }
-        ensures low { (id : ℕ) (q : Powerset) → Names self.now id q → id < 2 ^ 29 }
+        ensures low { (id : ℕ) (q : Powerset) → Names self.now id q → id < fixed_from }
+        ensures tagged { (id : ℕ) (q : Powerset) → Names self.now id q → IsBitSet id 27 ↔ (0 < length q.patterns) }
+        ensures alive { (id : ℕ) (q : Powerset) → Names self.now id q → q ≡ dead → ⊥ }
     {
         self.rows.len()
     }
@@ -95,7 +107,7 @@ impl Table {
         requires alive { state ≡ dead → ⊥ }
         requires cost { cost state ≤ greatest self.old.of }
         requires of { IsOwn self.old.of.nfa state }
-        requires fits { length self.old.cells < 2 ^ 27 }
+        requires fits { length self.old.cells < offset_limit }
         requires costs { sum_by row_cost self.old.rows + cost state < 2 ^ 64 }
         ensures ok { OnOk result (self.new ≡ with_row self.old (record { state = state; started = started })) }
         ensures named { IfOk result (λ id. Names self.new id state) }
@@ -158,7 +170,7 @@ impl Table {
     /// The place of the row that has this ID.
     pub fn row_index(&self, id: LazyStateID) -> usize
         requires { IsValid self.now id }
-        ensures value { result ≡ (id % 2 ^ 27) / self.now.of.stride - 3 }
+        ensures value { result ≡ (id % offset_limit) / self.now.of.stride - 3 }
         ensures row { (q : Powerset) → Names self.now id q → HasState self.now result q }
         ensures within { result < length self.now.rows }
     {
@@ -189,14 +201,27 @@ impl Table {
         ensures named { (q : Powerset) → Names self.now id q → IsCell self.now q class result }
         ensures stride { self.now.of.stride ≤ 512 }
     {
-        self.cells[id.offset() as usize + class]
+        cell_in(self.cells.as_slice(), id.offset() as usize, class)
+    }
+
+    /// The same, of an ID without a tag.
+    #[inline(always)]
+    pub fn cell_untagged(&self, id: LazyStateID, class: usize) -> LazyStateID
+        requires row { IsValid self.now id }
+        requires class { class < self.now.of.stride }
+        requires untagged { id ≤ 134217727 }
+        ensures value { result ≡ slice_index self.now.cells (cell_at id class) }
+        ensures named { (q : Powerset) → Names self.now id q → IsCell self.now q class result }
+        ensures stride { self.now.of.stride ≤ 512 }
+    {
+        cell_in(self.cells.as_slice(), id.untagged() as usize, class)
     }
 
     /// Writes a transition.
     pub fn set_cell(&mut self, id: LazyStateID, class: usize, next: LazyStateID)
         requires row { IsValid self.old id }
         requires class { class < self.old.of.stride }
-        requires free { slice_index (template_of self.old.of) class ≡ 2 ^ 31 }
+        requires free { slice_index (template_of self.old.of) class ≡ unknown_id }
         requires next { (q : Powerset) × Names self.old id q × Leads self.old next (next_of self.old.of q class) }
         ensures { self.new ≡ with_cell self.old id class next }
     {

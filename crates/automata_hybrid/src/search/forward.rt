@@ -1,77 +1,147 @@
-ghost use Rattle.std.specs.Prelude.{◌≡◌, ◌+◌, ◌^◌, ◌<◌, ◌≤◌, IfOk, length};
-ghost use Rattle.automata_hybrid.specs.Caches.{IsCacheOf, HasRow};
-ghost use Rattle.automata_hybrid.specs.Table.{IsValid};
+ghost use Rattle.std.specs.Prelude.{ℕ, ◌≡◌, ◌+◌, ◌-◌, ◌^◌, ◌<◌, ◌≤◌, IfOk, IfErr, OnOk, Option, None, Err, true, false, length, option_map};
+ghost use Rattle.automata_base.specs.Answers.{IsAnswer};
+ghost use Rattle.automata_base.specs.Engines.{engine_of};
+ghost use Rattle.automata_base.specs.Matches as matches;
+ghost use Rattle.automata_base.specs.Nodes.{nfa_of};
+ghost use Rattle.automata_base.specs.Paths.{IsLookAcyclic};
+ghost use Rattle.automata_base.specs.Tapes.{Forward, byte_before};
+ghost use Rattle.automata_base.specs.declared.util.search.MatchErrorKind.TheVariants.{UnsupportedAnchored as UnsupportedMode};
+ghost use Rattle.automata_hybrid.specs.Caches.{IsCacheOf};
+ghost use Rattle.automata_hybrid.specs.Searches.{IsAt, IsFound, IsPassRefusal, IsRefused, MeetsNoQuit, NoQuitInReach, Skips, WithoutBase, found_over, state_in, tape_in, with_base};
+ghost use Rattle.automata_hybrid.specs.Slots.{supports};
+ghost use Rattle.automata_hybrid.specs.Starting.{quit_behind};
+ghost use Rattle.automata_hybrid.specs.Table.{IsValid, Names};
 
 use crate::dfa::DFA;
 use crate::dfa::cache::Cache;
 use crate::id::LazyStateID;
-use automata_base::util::search::{HalfMatch, Input, MatchError};
-use automata_config::error::{SearchError, StepError};
-
-/// Where known transitions without a tag were followed to.
-#[derive(Clone, Copy)]
-struct Stop {
-    at: usize,
-    id: LazyStateID,
-}
-
-/// A refused step, at an offset.
-fn refusal(error: StepError, at: usize) -> SearchError {
-    match error {
-        StepError::Cache(_) => SearchError::Match(MatchError::gave_up(at)),
-        StepError::OutOfMemory => SearchError::OutOfMemory,
-    }
-}
-
-/// The answer at a dead or a quit ID, which a byte at an offset led to.
-fn stopped(
-    id: LazyStateID,
-    byte: u8,
-    at: usize,
-    found: Option<HalfMatch>,
-) -> Result<Option<HalfMatch>, SearchError> {
-    if id.is_dead() {
-        return Ok(found);
-    }
-    Err(SearchError::Match(MatchError::quit(byte, at)))
-}
+use crate::search::{Stop, is_anchored, with_span};
+use automata_base::laws::told_is_right;
+use automata_base::util::search::{HalfMatch, Input};
+use automata_config::error::SearchError;
 
 impl DFA {
     /// The pattern and the end of the first match, by the DFA's kind; with an earliest input, of the match that ends
     /// first.
+    ///
+    /// A quit byte is told at its own offset, and the giving up at the offset of the byte that was to be read, or at the
+    /// span's start. After a refusal the cache serves other searches as before.
     pub fn try_search_fwd(
         &self,
         cache: &mut Cache,
         input: &Input<'_>,
     ) -> Result<Option<HalfMatch>, SearchError>
         requires { IsCacheOf cache.old self.now }
-        ensures { IsCacheOf cache.new self.now }
+        ensures of { IsCacheOf cache.new self.now }
+
+        // What the passes tell, for every automaton; and where no cycle passes a look, the answer of the ordered paths.
+        ensures found { IfOk result (WithoutBase (IsFound Forward self.now input.now)) }
+        ensures answer { IsLookAcyclic (nfa_of self.now.nfa) → IfOk result (WithoutBase (IsAnswer Forward (engine_of self.now.nfa self.now.kind) input.now)) }
+        ensures errors { IfErr result (IsRefused Forward self.now cache.new.store input.now) }
+        ensures bounded { (Skips self.now → ⊥) → cache.new.count ≤ cache.old.count + (input.now.end - input.now.start + 2) }
+        ensures unsupported { input.now.start ≤ input.now.end → quit_behind self.now (byte_before input.now.haystack input.now.start) ≡ None → supports self.now input.now.anchored ≡ false → result ≡ Err (SearchError.Match (UnsupportedMode input.now.anchored)) }
+
+        // It does answer where no quit byte is in reach, the mode is supported, no clear limit is set, and memory is found.
+        ensures answers { NoQuitInReach self.now input.now → supports self.now input.now.anchored ≡ true → self.now.minimum_clear_count ≡ None → IfErr result (λ e. e ≡ SearchError.OutOfMemory) }
     {
-        if input.is_done() {
+        match self.try_search_fwd_base(cache, input)? {
+            Some((half, _)) => Ok(Some(half)),
+            None => Ok(None),
+        }
+    }
+
+    /// What `try_search_fwd` answers, and where the span began that gave it: an end that splits a character is skipped
+    /// by searching again from one place later.
+    pub fn try_search_fwd_base(
+        &self,
+        cache: &mut Cache,
+        input: &Input<'_>,
+    ) -> Result<Option<(HalfMatch, usize)>, SearchError>
+        requires { IsCacheOf cache.old self.now }
+        ensures of { IsCacheOf cache.new self.now }
+
+        // What the passes tell, for every automaton; and where no cycle passes a look, the answer of the ordered paths.
+        ensures found { IfOk result (λ o. IsFound Forward self.now input.now (option_map (λ p. with_base p.0 p.1) o)) }
+        ensures answer { IsLookAcyclic (nfa_of self.now.nfa) → IfOk result (λ o. IsAnswer Forward (engine_of self.now.nfa self.now.kind) input.now (option_map (λ p. with_base p.0 p.1) o)) }
+        ensures errors { IfErr result (IsRefused Forward self.now cache.new.store input.now) }
+        ensures bounded { (Skips self.now → ⊥) → cache.new.count ≤ cache.old.count + (input.now.end - input.now.start + 2) }
+        ensures unsupported { input.now.start ≤ input.now.end → quit_behind self.now (byte_before input.now.haystack input.now.start) ≡ None → supports self.now input.now.anchored ≡ false → result ≡ Err (SearchError.Match (UnsupportedMode input.now.anchored)) }
+
+        // It does answer where no quit byte is in reach, the mode is supported, no clear limit is set, and memory is found.
+        ensures answers { NoQuitInReach self.now input.now → supports self.now input.now.anchored ≡ true → self.now.minimum_clear_count ≡ None → IfErr result (λ e. e ≡ SearchError.OutOfMemory) }
+    {
+        told_is_right(self.get_nfa());
+        let _haystack = input.haystack();
+        let found = self.search_fwd(cache, input);
+        cache.bounds();
+        found
+    }
+
+    /// Tries one span after another.
+    fn search_fwd(
+        &self,
+        cache: &mut Cache,
+        input: &Input<'_>,
+    ) -> Result<Option<(HalfMatch, usize)>, SearchError>
+        requires { IsCacheOf cache.old self.now }
+        ensures of { IsCacheOf cache.new self.now }
+        ensures found { IfOk result (λ o. IsFound Forward self.now input.now (option_map (λ p. with_base p.0 p.1) o)) }
+        ensures errors { IfErr result (IsRefused Forward self.now cache.new.store input.now) }
+        ensures bounded { (Skips self.now → ⊥) → cache.new.count ≤ cache.old.count + (input.now.end - input.now.start + 2) }
+        ensures unsupported { input.now.start ≤ input.now.end → quit_behind self.now (byte_before input.now.haystack input.now.start) ≡ None → supports self.now input.now.anchored ≡ false → result ≡ Err (SearchError.Match (UnsupportedMode input.now.anchored)) }
+    {
+        let mut later = with_span(input, input.start(), input.end());
+        while !later.is_done() {
+            let Some(half) = self.pass_fwd(cache, &later)? else {
+                return Ok(None);
+            };
+            if !self.skips_at(&later, half.offset()) {
+                return Ok(Some((half, later.start())));
+            }
+            if is_anchored(later.get_anchored()) {
+                return Ok(None);
+            }
+            later.set_start(later.start() + 1);
+        }
+        Ok(None)
+    }
+
+    /// One run over the span, which isn't done.
+    fn pass_fwd(
+        &self,
+        cache: &mut Cache,
+        input: &Input<'_>,
+    ) -> Result<Option<HalfMatch>, SearchError>
+        requires of { IsCacheOf cache.old self.now }
+        requires open { input.now.start ≤ input.now.end }
+        ensures of { IsCacheOf cache.new self.now }
+        ensures found { IfOk result (λ o. o ≡ found_over Forward self.now input.now) }
+        ensures clean { OnOk result (MeetsNoQuit Forward self.now input.now) }
+        ensures errors { IfErr result (IsPassRefusal Forward self.now cache.new.store input.now) }
+        ensures counted { cache.new.count ≤ cache.old.count + (input.now.end - input.now.start + 2) }
+        ensures unsupported { quit_behind self.now (byte_before input.now.haystack input.now.start) ≡ None → supports self.now input.now.anchored ≡ false → result ≡ Err (SearchError.Match (UnsupportedMode input.now.anchored)) }
+        ensures supported { OnOk result (supports self.now input.now.anchored ≡ true) }
+    {
+        let start = self.start_state_forward(cache, input)?;
+        cache.low();
+        cache.search_start(input.start());
+        if start.is_dead() {
+            cache.end_search(input.start());
             return Ok(None);
         }
-        let start = self.start_state_forward(cache, input)?;
-        cache.search_start(input.start());
         let found = self.find_fwd(cache, input, start)?;
         Ok(found)
     }
 
     /// Follows known transitions without a tag, from an ID without one.
-    fn follow(
-        &self,
-        cache: &Cache,
-        haystack: &[u8],
-        start: usize,
-        end: usize,
-        from: LazyStateID,
-    ) -> Stop
+    fn follow_fwd(&self, cache: &Cache, input: &Input<'_>, start: usize, from: LazyStateID) -> Stop
         requires of { IsCacheOf cache.now self.now }
-        requires row { HasRow cache.now.store.table from }
-        requires ordered { start ≤ end }
-        requires within { end ≤ length haystack.now }
-        ensures row { HasRow cache.now.store.table result.id }
+        requires valid { IsValid cache.now.store.table from }
+        requires from { input.now.start ≤ start }
+        requires within { start ≤ input.now.end }
         ensures from { start ≤ result.at }
-        ensures within { result.at ≤ end }
+        ensures within { result.at ≤ input.now.end }
+        ensures at { (found : Option matches.HalfMatch) → IsAt Forward self.now cache.now.store.table input.now (start - input.now.start) from found → IsAt Forward self.now cache.now.store.table input.now (result.at - input.now.start) result.id found }
     {
         if from.is_tagged() {
             return Stop {
@@ -79,6 +149,8 @@ impl DFA {
                 id: from,
             };
         }
+        let haystack = input.haystack();
+        let end = input.end();
         let mut at = start;
         let mut id = from;
         while at < end {
@@ -92,7 +164,7 @@ impl DFA {
         Stop { at, id }
     }
 
-    /// Runs over the span, and takes the end step.
+    /// Runs over the span from its start state, and takes the end step.
     fn find_fwd(
         &self,
         cache: &mut Cache,
@@ -100,107 +172,66 @@ impl DFA {
         start: LazyStateID,
     ) -> Result<Option<HalfMatch>, SearchError>
         requires of { IsCacheOf cache.old self.now }
-        requires row { HasRow cache.old.store.table start }
+        requires named { Names cache.old.store.table start (state_in Forward self.now input.now 0) }
+        requires behind { quit_behind self.now (tape_in Forward input.now).before ≡ None }
         requires open { input.now.start ≤ input.now.end }
-        ensures { IsCacheOf cache.new self.now }
+        ensures of { IsCacheOf cache.new self.now }
+        ensures found { IfOk result (λ o. o ≡ found_over Forward self.now input.now) }
+        ensures clean { OnOk result (MeetsNoQuit Forward self.now input.now) }
+        ensures errors { IfErr result (IsPassRefusal Forward self.now cache.new.store input.now) }
+        ensures counted { cache.new.count ≤ cache.old.count + (input.now.end - input.now.start + 1) }
     {
-        let haystack = input.haystack();
-        let end = input.end();
-        let earliest = input.get_earliest();
         let mut at = input.start();
         let mut id = start;
         let mut found = None;
-        while at < end {
-            let stop = self.follow(cache, haystack, at, end, id);
-            if stop.at >= end {
-                return self.find_end_fwd(cache, haystack, end, stop.id, found);
+        while at < input.end() {
+            let stop = self.follow_fwd(cache, input, at, id);
+            if stop.at >= input.end() {
+                return self.find_end_fwd(cache, input, stop.id, found);
             }
-            let byte = haystack[stop.at];
-            let next = self.read(cache, stop.id, byte, stop.at)?;
-            if next.is_fixed() {
+            let next = self.read(cache, stop.id, input.haystack()[stop.at], stop.at)?;
+            if next.is_dead() {
                 cache.end_search(stop.at);
-                return stopped(next, byte, stop.at, found);
+                return Ok(found);
             }
-            if next.is_match() {
-                found = self.half_match(cache, next, stop.at);
-                if earliest {
-                    cache.end_search(stop.at);
-                    return Ok(found);
-                }
+            found = self.found_at(cache, next, stop.at, found);
+            if input.get_earliest() && found.is_some() {
+                cache.end_search(stop.at);
+                return Ok(found);
             }
             id = next;
             at = stop.at + 1;
         }
-        self.find_end_fwd(cache, haystack, end, id, found)
-    }
-
-    /// The state after a byte, at an offset.
-    #[inline(never)]
-    fn read(
-        &self,
-        cache: &mut Cache,
-        id: LazyStateID,
-        byte: u8,
-        at: usize,
-    ) -> Result<LazyStateID, SearchError>
-        requires of { IsCacheOf cache.old self.now }
-        requires row { HasRow cache.old.store.table id }
-        ensures of { IsCacheOf cache.new self.now }
-        ensures row { IfOk result (HasRow cache.new.store.table) }
-    {
-        cache.move_search(at);
-        match self.next_state(cache, id, byte) {
-            Ok(next) => Ok(next),
-            Err(error) => Err(refusal(error, at)),
-        }
-    }
-
-    /// The first pattern of a match state, with an offset.
-    fn half_match(&self, cache: &Cache, id: LazyStateID, at: usize) -> Option<HalfMatch>
-        requires of { IsCacheOf cache.now self.now }
-        requires valid { IsValid cache.now.store.table id }
-    {
-        if self.match_len(cache, id) == 0 {
-            return None;
-        }
-        Some(HalfMatch::new(cache.match_pattern(id, 0), at))
+        self.find_end_fwd(cache, input, id, found)
     }
 
     /// The step at the span's end: on the byte behind it, or on the haystack's end.
     fn find_end_fwd(
         &self,
         cache: &mut Cache,
-        haystack: &[u8],
-        end: usize,
+        input: &Input<'_>,
         id: LazyStateID,
         found: Option<HalfMatch>,
     ) -> Result<Option<HalfMatch>, SearchError>
         requires of { IsCacheOf cache.old self.now }
-        requires row { HasRow cache.old.store.table id }
-        ensures { IsCacheOf cache.new self.now }
+        requires open { input.now.start ≤ input.now.end }
+        requires behind { quit_behind self.now (tape_in Forward input.now).before ≡ None }
+        requires at { IsAt Forward self.now cache.old.store.table input.now (input.now.end - input.now.start) id found }
+        ensures of { IsCacheOf cache.new self.now }
+        ensures found { IfOk result (λ o. o ≡ found_over Forward self.now input.now) }
+        ensures clean { OnOk result (MeetsNoQuit Forward self.now input.now) }
+        ensures errors { IfErr result (IsPassRefusal Forward self.now cache.new.store input.now) }
+        ensures counted { cache.new.count ≤ cache.old.count + 1 }
     {
-        cache.move_search(end);
-        if end < haystack.len() {
-            let byte = haystack[end];
-            let last = self.read(cache, id, byte, end)?;
+        let end = input.end();
+        if end < input.haystack().len() {
+            let last = self.read(cache, id, input.haystack()[end], end)?;
             cache.end_search(end);
-            if last.is_fixed() {
-                return stopped(last, byte, end, found);
-            }
-            if last.is_match() {
-                return Ok(self.half_match(cache, last, end));
-            }
-            return Ok(found);
+            return Ok(self.found_at(cache, last, end, found));
         }
-        match self.next_eoi_state(cache, id) {
-            Ok(last) => {
-                cache.end_search(end);
-                if !last.is_fixed() && last.is_match() {
-                    return Ok(self.half_match(cache, last, end));
-                }
-                Ok(found)
-            }
-            Err(error) => Err(refusal(error, end)),
-        }
+        cache.move_search(end);
+        let last = self.read_end(cache, id, end)?;
+        cache.end_search(end);
+        Ok(self.found_at(cache, last, end, found))
     }
 }

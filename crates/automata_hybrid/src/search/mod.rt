@@ -1,1 +1,190 @@
+ghost use Rattle.std.specs.Prelude.{ℕ, ◌≡◌, ◌+◌, ◌^◌, ◌<◌, ◌≤◌, ◌↔◌, ◌⊎◌, IfOk, IfErr, OnOk, IsTrue, Some, None, true, false};
+ghost use Rattle.automata_base.specs.Classes.{is_quit};
+ghost use Rattle.automata_base.specs.Input.{Allows};
+ghost use Rattle.automata_base.specs.Powerset.{Powerset, dead};
+ghost use Rattle.automata_base.specs.Steps.{successor};
+ghost use Rattle.automata_hybrid.specs.Caches.{IsCacheOf};
+ghost use Rattle.automata_hybrid.specs.Ids.{quit_id};
+ghost use Rattle.automata_base.specs.Tapes.{is_split};
+ghost use Rattle.automata_hybrid.specs.Searches.{IsDeadTagged, Skips, IsStepRefusal, half_at, step_refusal};
+ghost use Rattle.automata_base.specs.declared.util.search.MatchErrorKind.TheVariants.{Quit as QuitAt};
+ghost use Rattle.automata_hybrid.specs.Table.{IsValid, Leads, Names};
+
 mod forward;
+mod reverse;
+
+use crate::dfa::DFA;
+use crate::dfa::cache::Cache;
+use crate::id::LazyStateID;
+use automata_base::util::search::{Anchored, HalfMatch, Input, MatchError};
+use automata_config::error::{SearchError, StepError};
+
+/// Where known transitions without a tag were followed to.
+#[derive(Clone, Copy)]
+struct Stop {
+    at: usize,
+    id: LazyStateID,
+}
+
+/// A refused step, at an offset.
+fn refusal(error: StepError, at: usize) -> SearchError
+    ensures { result ≡ step_refusal error at }
+{
+    match error {
+        StepError::Cache(_) => SearchError::Match(MatchError::gave_up(at)),
+        StepError::OutOfMemory => SearchError::OutOfMemory,
+    }
+}
+
+/// A quit byte, met at an offset.
+fn quit(byte: u8, at: usize) -> SearchError
+    ensures { result ≡ SearchError.Match (QuitAt byte at) }
+{
+    SearchError::Match(MatchError::quit(byte, at))
+}
+
+/// The input with another span.
+fn with_span<'h>(input: &Input<'h>, start: usize, end: usize) -> Input<'h>
+    requires { Allows input.now.haystack start end }
+    ensures { result ≡ record input.now { start = start; end = end } }
+{
+    Input::new(input.haystack())
+        .range(start..end)
+        .anchored(input.get_anchored())
+        .earliest(input.get_earliest())
+}
+
+/// Whether a mode is one of the anchored ones.
+fn is_anchored(mode: Anchored) -> bool
+    ensures no { result ≡ false → mode ≡ Anchored.No }
+    ensures yes { result ≡ true → mode ≡ Anchored.No → ⊥ }
+{
+    match mode {
+        Anchored::No => false,
+        Anchored::Yes | Anchored::Pattern(_) => true,
+    }
+}
+
+/// Whether a place splits a character.
+fn splits(input: &Input<'_>, offset: usize) -> bool
+    ensures { result ≡ is_split input.now.haystack offset }
+{
+    match input.haystack().get(offset) {
+        Some(byte) => 0x80 <= *byte && *byte <= 0xBF,
+        None => false,
+    }
+}
+
+impl DFA {
+    /// Whether a match at an offset is left out, since it splits a character.
+    fn skips_at(&self, input: &Input<'_>, offset: usize) -> bool
+        ensures yes { result ≡ true → Skips self.now × (is_split input.now.haystack offset ≡ true) }
+        ensures no { result ≡ false → Skips self.now → is_split input.now.haystack offset ≡ false }
+    {
+        let nfa = self.get_nfa();
+        if !nfa.is_utf8() {
+            return false;
+        }
+        if !nfa.has_empty() {
+            return false;
+        }
+        splits(input, offset)
+    }
+
+    /// The state after a byte, which is the quit state at a quit byte. A refusal is told at an offset.
+    fn step(
+        &self,
+        cache: &mut Cache,
+        id: LazyStateID,
+        byte: u8,
+        at: usize,
+    ) -> Result<LazyStateID, SearchError>
+        requires of { IsCacheOf cache.old self.now }
+        requires valid { IsValid cache.old.store.table id }
+        ensures of { IsCacheOf cache.new self.now }
+        ensures counted { cache.new.count ≤ cache.old.count + 1 }
+        ensures quit { IfOk result (λ n. is_quit self.now.quits byte ≡ true → n ≡ quit_id self.now.stride) }
+        ensures named { IfOk result (λ n. is_quit self.now.quits byte ≡ false → (q : Powerset) → Names cache.old.store.table id q → Leads cache.new.store.table n (successor self.now.nfa self.now.kind q (Some byte))) }
+        ensures errors { IfErr result (λ e. (q : Powerset) → Names cache.old.store.table id q → IsStepRefusal self.now cache.new.store q (Some byte) at at e) }
+    {
+        cache.low();
+        match self.next_state(cache, id, byte) {
+            Ok(next) => Ok(next),
+            Err(error) => Err(refusal(error, at)),
+        }
+    }
+
+    /// The state after a byte of the span or the one behind it, to which the search moves. A quit byte ends it.
+    #[inline(never)]
+    fn read(
+        &self,
+        cache: &mut Cache,
+        id: LazyStateID,
+        byte: u8,
+        at: usize,
+    ) -> Result<LazyStateID, SearchError>
+        requires of { IsCacheOf cache.old self.now }
+        requires valid { IsValid cache.old.store.table id }
+        ensures of { IsCacheOf cache.new self.now }
+        ensures counted { cache.new.count ≤ cache.old.count + 1 }
+        ensures named { IfOk result (λ n. (q : Powerset) → Names cache.old.store.table id q → Leads cache.new.store.table n (successor self.now.nfa self.now.kind q (Some byte))) }
+        ensures dead { IfOk result (IsDeadTagged cache.new.store.table) }
+        ensures alive { (q : Powerset) → Names cache.old.store.table id q → q ≡ dead → ⊥ }
+        ensures clean { OnOk result (is_quit self.now.quits byte ≡ false) }
+        ensures errors { IfErr result (λ e. (q : Powerset) → Names cache.old.store.table id q → IsStepRefusal self.now cache.new.store q (Some byte) at at e) }
+    {
+        cache.low();
+        cache.move_search(at);
+        let next = self.step(cache, id, byte, at)?;
+        cache.low();
+        if next.is_quit() {
+            cache.end_search(at);
+            return Err(quit(byte, at));
+        }
+        Ok(next)
+    }
+
+    /// The state after the haystack's end. A refusal is told at an offset.
+    fn read_end(
+        &self,
+        cache: &mut Cache,
+        id: LazyStateID,
+        at: usize,
+    ) -> Result<LazyStateID, SearchError>
+        requires of { IsCacheOf cache.old self.now }
+        requires valid { IsValid cache.old.store.table id }
+        ensures of { IsCacheOf cache.new self.now }
+        ensures counted { cache.new.count ≤ cache.old.count + 1 }
+        ensures named { IfOk result (λ n. (q : Powerset) → Names cache.old.store.table id q → Leads cache.new.store.table n (successor self.now.nfa self.now.kind q None)) }
+        ensures alive { (q : Powerset) → Names cache.old.store.table id q → q ≡ dead → ⊥ }
+        ensures errors { IfErr result (λ e. (q : Powerset) → Names cache.old.store.table id q → IsStepRefusal self.now cache.new.store q None at at e) }
+    {
+        cache.low();
+        match self.next_eoi_state(cache, id) {
+            Ok(next) => Ok(next),
+            Err(error) => Err(refusal(error, at)),
+        }
+    }
+
+    /// What was found last, once the state of an ID told its patterns at an offset.
+    fn found_at(
+        &self,
+        cache: &Cache,
+        id: LazyStateID,
+        at: usize,
+        found: Option<HalfMatch>,
+    ) -> Option<HalfMatch>
+        requires of { IsCacheOf cache.now self.now }
+        requires leads { (q : Powerset) × Leads cache.now.store.table id q }
+        ensures { (q : Powerset) → Leads cache.now.store.table id q → result ≡ half_at q.patterns at found }
+    {
+        cache.low();
+        if id.is_fixed() {
+            return found;
+        }
+        if id.is_match() {
+            return Some(HalfMatch::new(self.match_pattern(cache, id, 0), at));
+        }
+        found
+    }
+}

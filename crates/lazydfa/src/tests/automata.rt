@@ -10,7 +10,7 @@ use std::alloc::{AllocError, Global};
 use std::process::Abort;
 use std::test::Fail;
 
-fn id(number: u8) -> StateID {
+pub fn id(number: u8) -> StateID {
     StateID::new(usize::from(number)).unwrap()
 }
 
@@ -30,21 +30,21 @@ fn range(lo: u8, hi: u8, next: u8) -> State {
     }
 }
 
-fn either(first: u8, second: u8) -> State {
+pub fn either(first: u8, second: u8) -> State {
     State::BinaryUnion {
         alt1: id(first),
         alt2: id(second),
     }
 }
 
-fn accept(number: u8) -> State {
+pub fn accept(number: u8) -> State {
     State::Match {
         pattern: pattern(number),
     }
 }
 
 /// The automaton of these states, all starts at one of them.
-fn door(states: Vec<State>, start: u8, patterns: u8) -> Result<NFA, NfaError> {
+pub fn door(states: Vec<State>, start: u8, patterns: u8) -> Result<NFA, NfaError> {
     let alloc = *states.allocator();
     let starts = vec![in alloc; id(start); usize::from(patterns)];
     let starts = starts.map_err(|_| NfaError::OutOfMemory)?;
@@ -54,6 +54,16 @@ fn door(states: Vec<State>, start: u8, patterns: u8) -> Result<NFA, NfaError> {
         line_terminator: b'\n',
     };
     NFA::from_states(alloc, states, id(start), id(start), starts, flags)
+}
+
+/// A state, and behind it nineteen bytes `a` to the one match.
+pub fn chain(alloc: Global, first: State) -> Result<NFA, Fail> {
+    let mut states = vec![in alloc; first]?;
+    for next in 2..21u8 {
+        states.push(byte(b'a', next))?;
+    }
+    states.push(accept(0))?;
+    Ok(door(states, 0, 1)?)
 }
 
 /// Each test of the door, the ones before it being passed, and those behind it not.

@@ -1,13 +1,13 @@
 //! The calls of the lazy automaton, each once with ample memory, and what they count.
 
 use super::Searcher;
+use super::automata::accept;
 use crate::catalogue::Entry;
+use regex_automata::hybrid::BuildError;
 use regex_automata::hybrid::dfa::{Cache, Config, DFA};
-use regex_automata::hybrid::{BuildError, StartError};
 use regex_automata::nfa::thompson::{Flags, NFA, State};
 use regex_automata::util::primitives::{PatternID, StateID};
-use regex_automata::util::search::{Anchored, HalfMatch, Input, MatchKind};
-use regex_automata::util::start;
+use regex_automata::util::search::{Anchored, HalfMatch, Input};
 use std::alloc::Global;
 use std::process::Abort;
 use std::test::Fail;
@@ -50,7 +50,7 @@ fn counts_memory_and_searched_bytes(rt: HostRuntime) -> Result<(), Fail> {
     Ok(())
 }
 
-fn counts<R: Abort>(rt: &R, cache: &Cache, memory: usize, searched: usize) {
+pub fn counts<R: Abort>(rt: &R, cache: &Cache, memory: usize, searched: usize) {
     assert_eq!(rt; cache.memory_usage(), memory);
     assert_eq!(rt; cache.search_total_len(), searched);
     assert_eq!(rt; cache.clear_count(), 0);
@@ -119,5 +119,137 @@ fn counts_classes(rt: HostRuntime) -> Result<(), Fail> {
         let dfa = built(rt.alloc(), entry, config)?;
         assert_eq!(rt; dfa.byte_classes().alphabet_len(), classes, "{entry:?}");
     }
+    Ok(())
+}
+
+#[test]
+fn refuses_to_build(rt: HostRuntime) -> Result<(), Fail> {
+    let too_small = BuildError::InsufficientCacheCapacity {
+        minimum: 1735,
+        given: 1734,
+    };
+    for (entry, capacity, want) in [
+        (Entry::Bound, 2097152, BuildError::Unsupported),
+        (Entry::Bnum, 0, BuildError::Unsupported),
+        (Entry::Ab, 1734, too_small),
+    ] {
+        let config = Config::new().cache_capacity(capacity);
+        let nfa = entry.forward(rt.alloc())?;
+        let refused = DFA::builder().configure(config).build_from_nfa(nfa).err();
+        assert_eq!(rt; refused, Some(want), "{entry:?}");
+    }
+    Ok(())
+}
+
+/// One match state, at which many patterns start.
+fn crowd(alloc: Global, patterns: usize) -> Result<NFA, Fail> {
+    let states = vec![in alloc; accept(0)]?;
+    let starts = vec![in alloc; StateID::ZERO; patterns]?;
+    let zero = StateID::ZERO;
+    Ok(NFA::from_states(alloc, states, zero, zero, starts, Flags::default())?)
+}
+
+/// With starts for each pattern, this many patterns need more start states than have IDs.
+#[test]
+fn refuses_too_many_starts(rt: HostRuntime) -> Result<(), Fail> {
+    let attempted = 134217728;
+    let too_many = BuildError::InsufficientStateIDCapacity { attempted };
+    let config = Config::new()
+        .byte_classes(false)
+        .skip_cache_capacity_check(true)
+        .starts_for_each_pattern(true);
+    for (patterns, want) in [(43687, None), (43688, Some(too_many))] {
+        let nfa = crowd(rt.alloc(), patterns)?;
+        let refused = DFA::builder().configure(config).build_from_nfa(nfa).err();
+        assert_eq!(rt; refused, want, "{patterns}");
+    }
+    Ok(())
+}
+
+#[test]
+fn keeps_a_progress(rt: HostRuntime) -> Result<(), Fail> {
+    let dfa = built(rt.alloc(), Entry::Ab, Config::new())?;
+    let mut cache = dfa.create_cache()?;
+    cache.search_start(3);
+    assert!(rt; cache.in_progress());
+    assert_eq!(rt; cache.search_total_len(), 0);
+    cache.search_update(7);
+    assert!(rt; cache.in_progress());
+    assert_eq!(rt; cache.search_total_len(), 4);
+    Ok(())
+}
+
+/// One search after another, each from a place to a place, and the bytes searched by then.
+#[test]
+fn adds_up_searched_bytes(rt: HostRuntime) -> Result<(), Fail> {
+    let dfa = built(rt.alloc(), Entry::Ab, Config::new())?;
+    let mut cache = dfa.create_cache()?;
+    for (start, end, searched) in [
+        (3, 7, 4),
+        (10, 2, 12),
+        (5, 5, 12),
+        (0, usize::MAX, usize::MAX),
+        (0, 1, usize::MAX),
+    ] {
+        cache.search_start(start);
+        cache.search_finish(end);
+        counts(&rt, &cache, 335, searched);
+    }
+    Ok(())
+}
+
+/// The automaton of the README's example.
+fn example(alloc: Global) -> Result<NFA, Fail> {
+    let zero = StateID::ZERO;
+    let (one, two) = (StateID::new(1).ok_or("1")?, StateID::new(2).ok_or("2")?);
+    let (a, b) = (b'a', b'b');
+    let states = vec![in alloc;
+        State::ByteRange {
+            lo: a,
+            hi: a,
+            next: one
+        },
+        State::ByteRange {
+            lo: b,
+            hi: b,
+            next: two
+        },
+        accept(0),
+    ]?;
+    let starts = vec![in alloc; zero]?;
+    Ok(NFA::from_states(alloc, states, zero, zero, starts, Flags::default())?)
+}
+
+#[test]
+fn answers_the_example(rt: HostRuntime) -> Result<(), Fail> {
+    let config = Config::new().cache_capacity(1 << 16);
+    let mut searcher = Searcher::new(example(rt.alloc())?, config)?;
+    let found = searcher.find(&Input::new(b"abc"))?;
+    assert_eq!(rt; found, Some(HalfMatch::new(PatternID::ZERO, 2)));
+    let input = Input::new(b"cab").range(1..3).anchored(Anchored::Yes);
+    let again = searcher.find(&input)?;
+    assert_eq!(rt; again, Some(HalfMatch::new(PatternID::ZERO, 3)));
+    Ok(())
+}
+
+#[test]
+fn matches_always(rt: HostRuntime) -> Result<(), Fail> {
+    let dfa = DFA::always_match(rt.alloc())?;
+    let mut cache = dfa.create_cache()?;
+    let input = Input::new(b"abc").range(1..2);
+    let found = dfa.try_search_fwd(&mut cache, &input)?;
+    assert_eq!(rt; found, Some(HalfMatch::new(PatternID::ZERO, 1)));
+    assert_eq!(rt; (dfa.pattern_len(), dfa.memory_usage()), (1, 0));
+    Ok(())
+}
+
+#[test]
+fn matches_never(rt: HostRuntime) -> Result<(), Fail> {
+    let dfa = DFA::never_match(rt.alloc())?;
+    let mut cache = dfa.create_cache()?;
+    let input = Input::new(b"abc").range(1..2);
+    let found = dfa.try_search_fwd(&mut cache, &input)?;
+    assert_eq!(rt; found, None);
+    assert_eq!(rt; (dfa.pattern_len(), dfa.memory_usage()), (0, 0));
     Ok(())
 }

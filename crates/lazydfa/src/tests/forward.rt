@@ -1,20 +1,7 @@
 //! Forward searches, by scripts of one request.
 
-use super::printed;
-use std::alloc::{AllocError, Global};
-use std::fmt::Write;
-use std::process::Abort;
+use super::rows::{Row, answers};
 use std::test::Fail;
-
-/// What the row shows, the regex with its options, the haystack, the options of the search, and
-/// the reply.
-type Row = (
-    &'static str,
-    &'static str,
-    &'static str,
-    &'static str,
-    &'static str,
-);
 
 const PLAIN: [Row; 28] = [
     ("a match", "ab", "ab", "", "half 0 2"),
@@ -327,10 +314,158 @@ const QUITS: [Row; 14] = [
     ),
 ];
 
+/// In UTF-8 mode an end that splits a character is passed.
+const CHARACTERS: [Row; 24] = [
+    (
+        "an empty match before a character",
+        "empty",
+        "\u{2603}",
+        "",
+        "half 0 0",
+    ),
+    (
+        "a split place is passed",
+        "empty",
+        "\u{2603}",
+        "span=1..3",
+        "half 0 3",
+    ),
+    ("two split places", "empty", "\u{2603}", "span=1..2", "none"),
+    (
+        "anchored, nothing is passed",
+        "empty",
+        "\u{2603}",
+        "span=1..3 anchored",
+        "none",
+    ),
+    (
+        "anchored where a character begins",
+        "empty",
+        "\u{2603}",
+        "span=0..2 anchored",
+        "half 0 0",
+    ),
+    (
+        "an empty span inside a character",
+        "empty",
+        "\u{2603}",
+        "span=2..2",
+        "none",
+    ),
+    (
+        "behind the last character",
+        "empty",
+        "\u{2603}",
+        "span=3..3",
+        "half 0 3",
+    ),
+    (
+        "all: the haystack's end",
+        "empty all",
+        "\u{2603}",
+        "",
+        "half 0 3",
+    ),
+    (
+        "all: a farthest end that splits",
+        "empty all",
+        "a\u{2603}",
+        "span=0..2",
+        "none",
+    ),
+    (
+        "a character and its neighbours",
+        "snow",
+        "a\u{2603}x",
+        "",
+        "half 0 5",
+    ),
+    (
+        "earliest: each nearest end splits",
+        "snow",
+        "a\u{2603}x",
+        "earliest",
+        "none",
+    ),
+    ("the character alone", "snow", "a\u{2603}", "", "half 0 4"),
+    (
+        "an empty match where the other fails",
+        "snow",
+        " \u{2603}x",
+        "",
+        "half 0 0",
+    ),
+    (
+        "from inside the character",
+        "snow",
+        "a\u{2603}x",
+        "span=2..5",
+        "none",
+    ),
+    (
+        "anchored inside the character",
+        "snow",
+        "a\u{2603}x",
+        "span=2..5 anchored",
+        "none",
+    ),
+    (
+        "earliest: another pattern behind",
+        "snowx",
+        "a\u{2603}x",
+        "earliest",
+        "half 1 5",
+    ),
+    (
+        "the first pattern first",
+        "snowx",
+        "a\u{2603}x",
+        "",
+        "half 0 5",
+    ),
+    (
+        "one pattern's own start",
+        "snowx starts",
+        "a\u{2603}x",
+        "span=4..5 pattern=1",
+        "half 1 5",
+    ),
+    (
+        "a pattern's own start passes nothing",
+        "snowx starts",
+        "a\u{2603}x",
+        "span=2..5 pattern=0",
+        "none",
+    ),
+    ("at each place", "any", "a\u{2603}", "", "half 0 0"),
+    ("at each place, all", "any all", "a\u{2603}", "", "half 0 4"),
+    (
+        "no end that splits",
+        "any all",
+        "a\u{2603}",
+        "span=0..3",
+        "none",
+    ),
+    (
+        "text that is read with no skipping",
+        "words",
+        "caf\u{e9} au lait",
+        "",
+        "half 0 3",
+    ),
+    (
+        "empty patterns without characters",
+        "always",
+        "\u{2603}",
+        "span=1..2",
+        "half 0 1",
+    ),
+];
+
 #[test]
 fn finds_plain_matches(rt: HostRuntime) -> Result<(), Fail> {
     for row in PLAIN {
-        answers(&rt, row)?;
+        answers(&rt, "fwd", row)?;
     }
     Ok(())
 }
@@ -338,7 +473,7 @@ fn finds_plain_matches(rt: HostRuntime) -> Result<(), Fail> {
 #[test]
 fn decides_looks(rt: HostRuntime) -> Result<(), Fail> {
     for row in LOOKS {
-        answers(&rt, row)?;
+        answers(&rt, "fwd", row)?;
     }
     Ok(())
 }
@@ -346,7 +481,7 @@ fn decides_looks(rt: HostRuntime) -> Result<(), Fail> {
 #[test]
 fn starts_by_mode(rt: HostRuntime) -> Result<(), Fail> {
     for row in MODES {
-        answers(&rt, row)?;
+        answers(&rt, "fwd", row)?;
     }
     Ok(())
 }
@@ -354,32 +489,15 @@ fn starts_by_mode(rt: HostRuntime) -> Result<(), Fail> {
 #[test]
 fn stops_at_quit_bytes(rt: HostRuntime) -> Result<(), Fail> {
     for row in QUITS {
-        answers(&rt, row)?;
+        answers(&rt, "fwd", row)?;
     }
     Ok(())
 }
 
-fn answers<R: Abort + AllocGlobal>(rt: &R, row: Row) -> Result<(), Fail> {
-    let (shows, regex, haystack, how, reply) = row;
-    let text = script(rt.alloc(), regex, haystack, how)?;
-    let want = format!(in rt.alloc(); "regex 0\n{reply}\n")?;
-    let (text, fault) = printed(rt.alloc(), text.as_str())?;
-    assert_eq!(rt; fault, None, "{shows}");
-    assert_eq!(rt; text.as_str(), want.as_str(), "{shows}");
+#[test]
+fn passes_places_that_split_characters(rt: HostRuntime) -> Result<(), Fail> {
+    for row in CHARACTERS {
+        answers(&rt, "fwd", row)?;
+    }
     Ok(())
-}
-
-/// The script that searches one haystack.
-fn script(alloc: Global, regex: &str, haystack: &str, how: &str) -> Result<String, AllocError> {
-    let mut text = format!(in alloc; "regex {regex}\nfwd ")?;
-    if haystack.is_empty() {
-        text.push_str("-")?;
-    }
-    for byte in haystack.as_bytes() {
-        write!(text, "{byte:02x}")?;
-    }
-    if !how.is_empty() {
-        write!(text, " {how}")?;
-    }
-    Ok(text)
 }

@@ -4,8 +4,8 @@ ghost use Rattle.regex_automata.specs.Caches.{IsCacheOf};
 
 use crate::error::RunError;
 use crate::run::run;
-use regex_automata::hybrid::SearchError;
 use regex_automata::hybrid::dfa::{Cache, Config, DFA};
+use regex_automata::hybrid::{LazyStateID, SearchError};
 use regex_automata::nfa::thompson::NFA;
 use regex_automata::util::search::{HalfMatch, Input};
 use std::alloc::{AllocError, Global};
@@ -14,12 +14,16 @@ use std::io::{Read, Write};
 use std::test::Fail;
 
 mod automata;
+mod clears;
 mod config;
 mod dfa;
 mod forward;
+mod hand;
 mod memory;
 mod nfa;
 mod paths;
+mod reverse;
+mod rows;
 mod scripts;
 mod texts;
 
@@ -113,6 +117,18 @@ impl Searcher {
 
     fn find(&mut self, input: &Input<'_>) -> Result<Option<HalfMatch>, SearchError> {
         self.dfa.try_search_fwd(&mut self.cache, input)
+    }
+
+    fn find_reverse(&mut self, input: &Input<'_>) -> Result<Option<HalfMatch>, SearchError> {
+        self.dfa.try_search_rev(&mut self.cache, input)
+    }
+
+    fn start(&mut self, input: &Input<'_>) -> Result<LazyStateID, SearchError> {
+        self.dfa.start_state_forward(&mut self.cache, input)
+    }
+
+    fn start_reverse(&mut self, input: &Input<'_>) -> Result<LazyStateID, SearchError> {
+        self.dfa.start_state_reverse(&mut self.cache, input)
     }
 
     fn reset(&mut self) -> Result<(), AllocError> {

@@ -1,5 +1,5 @@
 //! A slow search that lists the paths of an automaton one by one, beside the search of the lazy
-//! automaton.
+//! automaton. An automaton for reverse searches is walked from the span's end to its start.
 
 use super::Searcher;
 use crate::catalogue::Entry;
@@ -15,6 +15,42 @@ use std::test::Fail;
 /// A state at a place.
 type Stand = (StateID, usize);
 
+/// The answer of a search: what is selected over the span, or where that splits a character and
+/// the automaton is in UTF-8 mode and has an empty match, over the span without its first place.
+fn answer(nfa: &NFA, kind: MatchKind, input: &Input<'_>) -> Result<Option<HalfMatch>, AllocError> {
+    let haystack = input.haystack();
+    let skips = nfa.is_utf8() && nfa.has_empty();
+    let (mut start, mut end) = (input.start(), input.end());
+    while start <= end && end <= haystack.len() {
+        let rest = Input::new(haystack)
+            .range(start..end)
+            .anchored(input.get_anchored())
+            .earliest(input.get_earliest());
+        let Some(found) = select(nfa, kind, &rest)? else {
+            return Ok(None);
+        };
+        if !skips || !splits(haystack, found.offset()) {
+            return Ok(Some(found));
+        }
+        if input.get_anchored() != Anchored::No || start == end {
+            return Ok(None);
+        }
+        if nfa.is_reverse() {
+            end -= 1;
+        } else {
+            start += 1;
+        }
+    }
+    Ok(None)
+}
+
+/// Whether a place is inside a character.
+fn splits(haystack: &[u8], place: usize) -> bool {
+    haystack
+        .get(place)
+        .is_some_and(|byte| 0x80 <= *byte && *byte <= 0xBF)
+}
+
 /// The selected path's pattern and end.
 fn select(nfa: &NFA, kind: MatchKind, input: &Input<'_>) -> Result<Option<HalfMatch>, AllocError> {
     let mut selected: Option<HalfMatch> = None;
@@ -23,10 +59,16 @@ fn select(nfa: &NFA, kind: MatchKind, input: &Input<'_>) -> Result<Option<HalfMa
             selected = Some(*found);
             continue;
         };
-        let is_better = if input.get_earliest() {
-            found.offset() < best.offset()
+        let (found_at, best_at) = (found.offset(), best.offset());
+        let is_nearer = if nfa.is_reverse() {
+            found_at > best_at
         } else {
-            kind == MatchKind::All && found.offset() > best.offset()
+            found_at < best_at
+        };
+        let is_better = if input.get_earliest() {
+            is_nearer
+        } else {
+            kind == MatchKind::All && found_at != best_at && !is_nearer
         };
         if is_better {
             selected = Some(*found);
@@ -40,9 +82,14 @@ fn accepting(nfa: &NFA, input: &Input<'_>) -> Result<Vec<HalfMatch>, AllocError>
     let alloc = nfa.alloc();
     let mut found = Vec::new(alloc);
     let mut open: Vec<Vec<Stand>> = Vec::new(alloc);
+    let first = if nfa.is_reverse() {
+        input.end()
+    } else {
+        input.start()
+    };
     if let Some(start) = nfa.start(input.get_anchored()) {
         if !input.is_done() {
-            open.push(vec![in alloc; (start, input.start())]?)?;
+            open.push(vec![in alloc; (start, first)]?)?;
         }
     }
     for _ in 0..1_000_000u32 {
@@ -66,6 +113,36 @@ fn accepting(nfa: &NFA, input: &Input<'_>) -> Result<Vec<HalfMatch>, AllocError>
     Ok(found)
 }
 
+/// What is beside a place: the byte that was walked over last, the one that comes next, that one
+/// as far as the span goes, and the place behind it.
+#[derive(Clone, Copy)]
+struct Sides {
+    before: Option<u8>,
+    after: Option<u8>,
+    read: Option<u8>,
+    behind: usize,
+}
+
+fn beside(nfa: &NFA, input: &Input<'_>, place: usize) -> Sides {
+    let left = input.haystack().get(place.wrapping_sub(1)).copied();
+    let right = input.haystack().get(place).copied();
+    if nfa.is_reverse() {
+        Sides {
+            before: right,
+            after: left,
+            read: left.filter(|_| input.start() < place),
+            behind: place.saturating_sub(1),
+        }
+    } else {
+        Sides {
+            before: left,
+            after: right,
+            read: right.filter(|_| place < input.end()),
+            behind: place.saturating_add(1),
+        }
+    }
+}
+
 /// Where a path may go on from a state at a place, the preferred way first.
 fn edges(
     nfa: &NFA,
@@ -74,25 +151,23 @@ fn edges(
     place: usize,
 ) -> Result<Vec<Stand>, AllocError> {
     let mut next = Vec::new(nfa.alloc());
-    let before = input.haystack().get(place.wrapping_sub(1)).copied();
-    let after = input.haystack().get(place).copied();
-    let read = if place < input.end() { after } else { None };
-    let behind = place.saturating_add(1);
+    let at = beside(nfa, input, place);
     match nfa.states().get(state.as_usize()) {
         Some(State::ByteRange { lo, hi, next: to }) => {
-            if read.is_some_and(|byte| *lo <= byte && byte <= *hi) {
-                next.push((*to, behind))?;
+            if at.read.is_some_and(|byte| *lo <= byte && byte <= *hi) {
+                next.push((*to, at.behind))?;
             }
         }
         Some(State::Sparse(transitions)) => {
             for transition in transitions {
-                if read.is_some_and(|byte| transition.lo <= byte && byte <= transition.hi) {
-                    next.push((transition.next, behind))?;
+                let (lo, hi) = (transition.lo, transition.hi);
+                if at.read.is_some_and(|byte| lo <= byte && byte <= hi) {
+                    next.push((transition.next, at.behind))?;
                 }
             }
         }
         Some(State::Look { look, next: to }) => {
-            if holds(*look, before, after) {
+            if holds(*look, at.before, at.after) {
                 next.push((*to, place))?;
             }
         }
@@ -105,16 +180,24 @@ fn edges(
     Ok(next)
 }
 
-/// The looks of the catalogue's forward automata.
+/// The looks of the catalogue's automata, by the bytes beside a place in the direction of the
+/// walk. Walked in reverse, a CRLF begins with its line feed.
 fn holds(look: Look, before: Option<u8>, after: Option<u8>) -> bool {
     match look {
+        Look::Start => before.is_none(),
         Look::End => after.is_none(),
+        Look::StartCRLF => match before {
+            None | Some(b'\r') => true,
+            Some(b'\n') => after != Some(b'\r'),
+            Some(_) => false,
+        },
         Look::EndCRLF => match after {
             None | Some(b'\r') => true,
             Some(b'\n') => before != Some(b'\r'),
             Some(_) => false,
         },
         Look::WordUnicode => is_word(before) != is_word(after),
+        Look::WordAsciiNegate => is_word(before) == is_word(after),
         _ => false,
     }
 }
@@ -123,67 +206,143 @@ fn is_word(byte: Option<u8>) -> bool {
     byte.is_some_and(|byte| byte.is_ascii_alphanumeric() || byte == b'_')
 }
 
-/// The entries that never skip, each with three bytes to make haystacks of.
-const COMPARED: [(Entry, &[u8; 3]); 13] = [
-    (Entry::Ab, b"abx"),
-    (Entry::Always, b"abx"),
-    (Entry::Never, b"abx"),
-    (Entry::Date, b"0-x"),
-    (Entry::Words, b"a! "),
-    (Entry::Abc, b"abc"),
-    (Entry::Aa, b"abx"),
-    (Entry::Bnum, b"1a "),
-    (Entry::Wordend, b"a_ "),
-    (Entry::Bound, b"a_ "),
-    (Entry::Crlf, b"a\r\n"),
-    (Entry::Runs, b"a1 "),
-    (Entry::A16, b"abx"),
+/// An entry, and three pieces to make haystacks of.
+type Row = (Entry, [&'static [u8]; 3]);
+
+/// All entries, with single bytes.
+const COMPARED: [Row; 17] = [
+    (Entry::Ab, [b"a", b"b", b"x"]),
+    (Entry::Always, [b"a", b"b", b"x"]),
+    (Entry::Never, [b"a", b"b", b"x"]),
+    (Entry::Date, [b"0", b"-", b"x"]),
+    (Entry::Words, [b"a", b"!", b" "]),
+    (Entry::Abc, [b"a", b"b", b"c"]),
+    (Entry::Aa, [b"a", b"b", b"x"]),
+    (Entry::Bnum, [b"1", b"a", b" "]),
+    (Entry::Wordend, [b"a", b"_", b" "]),
+    (Entry::Empty, [b"a", b"\xE2", b"\x98"]),
+    (Entry::Snow, [b"a", b"\x98", b" "]),
+    (Entry::Snowx, [b"x", b"\x98", b" "]),
+    (Entry::Bound, [b"a", b"_", b" "]),
+    (Entry::Crlf, [b"a", b"\r", b"\n"]),
+    (Entry::Any, [b"a", b"\xE2", b"\x98"]),
+    (Entry::Runs, [b"a", b"1", b" "]),
+    (Entry::A16, [b"a", b"b", b"x"]),
+];
+
+/// The entries in UTF-8 mode, with whole characters.
+const CHARACTERS: [Row; 4] = [
+    (Entry::Empty, [b"a", b"\xC3\xA9", b"\xE2\x98\x83"]),
+    (Entry::Snow, [b"a", b"x", b"\xE2\x98\x83"]),
+    (Entry::Snowx, [b"a", b"x", b"\xE2\x98\x83"]),
+    (Entry::Any, [b"a", b"\xC3\xA9", b"\xE2\x98\x83"]),
 ];
 
 #[test]
-fn searches_as_the_paths_say(rt: HostRuntime) -> Result<(), Fail> {
-    for (entry, bytes) in COMPARED {
-        compare_all(&rt, entry, MatchKind::LeftmostFirst, bytes)?;
-        compare_all(&rt, entry, MatchKind::All, bytes)?;
+fn finds_the_first_path(rt: HostRuntime) -> Result<(), Fail> {
+    for row in COMPARED {
+        let nfa = row.0.forward(rt.alloc())?;
+        compare(&rt, nfa, MatchKind::LeftmostFirst, row, 6)?;
     }
     Ok(())
 }
 
-/// All haystacks of up to five bytes, over one cache.
-fn compare_all<R: Abort + AllocGlobal>(
-    rt: &R,
-    entry: Entry,
-    kind: MatchKind,
-    bytes: &[u8; 3],
-) -> Result<(), Fail> {
-    let config = Config::new()
-        .match_kind(kind)
-        .starts_for_each_pattern(true)
-        .unicode_word_boundary(true);
-    let mut searcher = Searcher::new(entry.forward(rt.alloc())?, config)?;
-    for (length, count) in [(0, 1), (1, 3), (2, 9), (3, 27), (4, 81), (5, 243)] {
-        for number in 0..count {
-            let spelled = spell(number, bytes);
-            let haystack = &spelled[..length];
-            for input in inputs(haystack) {
-                let want = select(searcher.dfa.get_nfa(), kind, &input)?;
-                let found = searcher.find(&input);
-                assert_eq!(rt; found, Ok(want), "{entry:?} {kind:?} {input:?}");
-            }
+#[test]
+fn finds_the_farthest_end(rt: HostRuntime) -> Result<(), Fail> {
+    for row in COMPARED {
+        let nfa = row.0.forward(rt.alloc())?;
+        compare(&rt, nfa, MatchKind::All, row, 6)?;
+    }
+    Ok(())
+}
+
+#[test]
+fn finds_the_first_path_in_reverse(rt: HostRuntime) -> Result<(), Fail> {
+    for row in COMPARED {
+        let nfa = row.0.reverse(rt.alloc())?;
+        compare(&rt, nfa, MatchKind::LeftmostFirst, row, 6)?;
+    }
+    Ok(())
+}
+
+#[test]
+fn finds_the_farthest_start(rt: HostRuntime) -> Result<(), Fail> {
+    for row in COMPARED {
+        let nfa = row.0.reverse(rt.alloc())?;
+        compare(&rt, nfa, MatchKind::All, row, 6)?;
+    }
+    Ok(())
+}
+
+#[test]
+fn passes_split_places(rt: HostRuntime) -> Result<(), Fail> {
+    for row in CHARACTERS {
+        for kind in [MatchKind::LeftmostFirst, MatchKind::All] {
+            compare(&rt, row.0.forward(rt.alloc())?, kind, row, 5)?;
+            compare(&rt, row.0.reverse(rt.alloc())?, kind, row, 5)?;
         }
     }
     Ok(())
 }
 
-/// The bytes that a number of five digits to the base 3 stands for, the last digit first.
-fn spell(number: usize, bytes: &[u8; 3]) -> [u8; 5] {
+/// All haystacks of fewer pieces than this, over one cache.
+fn compare<R: Abort + AllocGlobal>(
+    rt: &R,
+    nfa: NFA,
+    kind: MatchKind,
+    row: Row,
+    lengths: usize,
+) -> Result<(), Fail> {
+    let (entry, pieces) = row;
+    let config = Config::new()
+        .match_kind(kind)
+        .starts_for_each_pattern(true)
+        .unicode_word_boundary(true);
+    let mut searcher = Searcher::new(nfa, config)?;
+    let mut count = 1usize;
+    for length in 0..lengths {
+        for number in 0..count {
+            let haystack = spell(rt.alloc(), number, length, pieces)?;
+            compare_one(rt, &mut searcher, entry, kind, haystack.as_slice())?;
+        }
+        count = count.saturating_mul(3);
+    }
+    Ok(())
+}
+
+fn compare_one<R: Abort>(
+    rt: &R,
+    searcher: &mut Searcher,
+    entry: Entry,
+    kind: MatchKind,
+    haystack: &[u8],
+) -> Result<(), Fail> {
+    for input in inputs(haystack) {
+        let want = answer(searcher.dfa.get_nfa(), kind, &input)?;
+        let found = if searcher.dfa.get_nfa().is_reverse() {
+            searcher.find_reverse(&input)
+        } else {
+            searcher.find(&input)
+        };
+        assert_eq!(rt; found, Ok(want), "{entry:?} {kind:?} {input:?}");
+    }
+    Ok(())
+}
+
+/// The pieces that the digits of a number to the base 3 stand for, the last digit first.
+fn spell(
+    alloc: Global,
+    number: usize,
+    length: usize,
+    pieces: [&[u8]; 3],
+) -> Result<Vec<u8>, AllocError> {
+    let mut haystack = Vec::new(alloc);
     let mut rest = number;
-    let mut spelled = [0; 5];
-    for at in 0..5 {
-        spelled[at] = bytes[rest % 3];
+    for _ in 0..length {
+        haystack.extend_from_slice(pieces[rest % 3])?;
         rest /= 3;
     }
-    spelled
+    Ok(haystack)
 }
 
 /// The whole haystack in each mode, earliest or not, and without its first or its last byte.

@@ -5,7 +5,7 @@ use crate::error::RunError;
 use crate::run::run;
 use std::test::Fail;
 
-const ANSWERED: [(&str, &str); 14] = [
+const ANSWERED: [(&str, &str); 18] = [
     ("regex ab\nfwd 6162\n", "regex 0\nhalf 0 2\n"),
     ("regex ab\nfwd 6162", "regex 0\nhalf 0 2\n"),
     ("", ""),
@@ -30,6 +30,16 @@ const ANSWERED: [(&str, &str); 14] = [
         "regex ab capacity=1734\nregex aa\nfwd 6261\n",
         "refused given cache capacity (1734) is smaller than minimum required (1735)\nregex 0\nhalf 0 2\n",
     ),
+    ("regex ab\nrev 6162\n", "regex 0\nhalf 0 0\n"),
+    ("rev 61", "bad regex\n"),
+    (
+        "regex ab tags\nrev 6162\nfwd 6162\nrev 786162\n",
+        "regex 0\nhalf 0 0\nhalf 0 2\nhalf 0 1\n",
+    ),
+    (
+        "regex wordend\nregex ab\nrev 40666F6f20626172\n",
+        "regex 0\nregex 1\nhalf 0 5\n",
+    ),
     ("regex bound\nfwd 61\n", BOUND_REFUSED),
     (
         "regex ab capacity=1735 limit=1\nfwd 6162\nfwd 6162\n",
@@ -51,7 +61,7 @@ fn answers_scripts(rt: HostRuntime) -> Result<(), Fail> {
 }
 
 /// A script, and its first bad line.
-const BAD: [(&str, usize); 54] = [
+const BAD: [(&str, usize); 61] = [
     ("regex ab\nfwd 616", 2),
     ("regex ab\n\n# comment\nfwd 6\n", 4),
     ("triple", 1),
@@ -106,6 +116,13 @@ const BAD: [(&str, usize); 54] = [
     ("fwd 6162 6162", 1),
     ("forward 6162", 1),
     ("fwd \u{e9}", 1),
+    ("rev", 1),
+    ("rev 616", 1),
+    ("rev 6162 span=0..3", 1),
+    ("rev 6162 pattern=2147483647", 1),
+    ("reverse 6162", 1),
+    ("regex ab\nrev 6162\nregex aa\n", 3),
+    ("regex ab\nfwd 6162\nrev 6162 \n", 3),
 ];
 
 #[test]
@@ -119,7 +136,7 @@ fn tells_the_first_bad_line(rt: HostRuntime) -> Result<(), Fail> {
 }
 
 /// Lines at the edge of what is allowed.
-const ALLOWED: [&str; 10] = [
+const ALLOWED: [&str; 12] = [
     "regex ab capacity=18446744073709551615",
     "regex ab capacity=00000000000000001735",
     "regex ab quit=78 quit=7A quit=7a",
@@ -130,6 +147,8 @@ const ALLOWED: [&str; 10] = [
     "fwd - span=1..0",
     "fwd 6162 pattern=2147483646",
     "fwd 6162 anchored pattern=0 earliest anchored",
+    "rev - span=1..0",
+    "rev 6162 anchored pattern=0 earliest span=3..2",
 ];
 
 #[test]

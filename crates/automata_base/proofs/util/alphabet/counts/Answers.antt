@@ -1,4 +1,4 @@
-use Rattle.std.proofs.Common.{◌≡◌, ◌+◌, ◌-◌, ap, sym, ◌∙◌, arith, refl, length-set, replicate}
+use Rattle.std.proofs.Common.{◌≡◌, ◌+◌, ap, sym, ◌∙◌, arith, refl, length-set, replicate}
 use Rattle.automata_base.specs.Marks.{marked}
 use Rattle.automata_base.specs.Classes.{boundary_count}
 use Rattle.automata_base.proofs.Values.Boundaries.{count_none, first_counted, count_next, next_counted, from_bool-cond, from_bool-small}

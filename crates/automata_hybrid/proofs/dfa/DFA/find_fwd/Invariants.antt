@@ -1,13 +1,17 @@
-use Rattle.std.proofs.Common.{◌≤◌, ◌-◌}
-use Rattle.automata_hybrid.specs.Caches.{HasRow, IsCacheOf}
+use Rattle.std.proofs.Common.{◌≤◌, ◌+◌, ◌-◌}
+use Rattle.automata_base.specs.Tapes.{Forward}
+use Rattle.automata_hybrid.specs.Caches.{IsCacheOf}
+use Rattle.automata_hybrid.specs.Searches.{IsAt}
 use Rattle.automata_hybrid.proofs.dfa.DFA.find_fwd.Given as goal
 
 abbrev pub invariant-loop-at : goal.invariant-loop-at
 invariant-loop-at l = record {
   of : IsCacheOf l.cache l.self;
-  row : HasRow l.cache.store.table l.id;
-  within : l.at ≤ l.end;
+  counted : l.cache.count ≤ l.fn.cache.count + (l.at - l.input.start);
+  from : l.input.start ≤ l.at;
+  within : l.at ≤ l.input.end;
+  at : IsAt Forward l.self l.cache.store.table l.input (l.at - l.input.start) l.id l.found;
 }
 
 abbrev pub decreases-loop-at : goal.decreases-loop-at
-decreases-loop-at l = l.end - l.at
+decreases-loop-at l = l.input.end - l.at

@@ -1,13 +1,17 @@
-use Rattle.std.proofs.Common.{◌≤◌, ◌-◌}
-use Rattle.automata_hybrid.specs.Caches.{HasRow}
-use Rattle.automata_hybrid.proofs.dfa.DFA.follow.Given as goal
+use Rattle.std.proofs.Common.{◌≤◌, ◌-◌, Option}
+use Rattle.automata_base.specs.Matches.{HalfMatch}
+use Rattle.automata_base.specs.Tapes.{Forward}
+use Rattle.automata_hybrid.specs.Table.{IsValid}
+use Rattle.automata_hybrid.specs.Searches.{IsAt}
+use Rattle.automata_hybrid.proofs.dfa.DFA.follow_fwd.Given as goal
 
 abbrev pub invariant-loop-at : goal.invariant-loop-at
 invariant-loop-at l = record {
-  row : HasRow l.cache.store.table l.id;
+  valid : IsValid l.cache.store.table l.id;
   untagged : l.id ≤ 134217727;
   from : l.fn.start ≤ l.at;
   within : l.at ≤ l.end;
+  at : (found : Option HalfMatch) → IsAt Forward l.self l.cache.store.table l.input (l.fn.start - l.input.start) l.fn.from found → IsAt Forward l.self l.cache.store.table l.input (l.at - l.input.start) l.id found;
 }
 
 abbrev pub decreases-loop-at : goal.decreases-loop-at

@@ -1,4 +1,4 @@
-use Rattle.std.proofs.Common.{◌≡◌, ◌≤◌, length}
+use Rattle.std.proofs.Common.{◌≡◌, length}
 use Rattle.automata_hybrid.specs.Machine.{marked}
 use Rattle.automata_hybrid.proofs.dfa.table.new_row.Given as goal
 

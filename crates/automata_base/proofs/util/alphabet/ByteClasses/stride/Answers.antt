@@ -1,7 +1,6 @@
-use Rattle.std.proofs.Common.{◌≡◌, ◌≤◌, ◌*◌, ◌%◌, ◌^◌, arith}
-use Rattle.std.proofs.lemmas.Grind.{common_steps}
-use Rattle.automata_base.specs.Classes.{alphabet_length, stride_of}
-use Rattle.automata_base.proofs.Values.Boundaries.{stride_for-enough, stride_for-few}
+use Rattle.std.proofs.Common.{arith}
+use Rattle.automata_base.specs.Classes.{alphabet_length}
+use Rattle.automata_base.proofs.Values.Boundaries.{stride_for-few}
 use Rattle.automata_base.proofs.util.alphabet.ByteClasses.stride.Goals as goal
 
 pub returns-clause-few : goal.returns-clause-few

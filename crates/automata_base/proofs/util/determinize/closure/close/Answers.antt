@@ -1,4 +1,4 @@
-use Rattle.std.proofs.Common.{subst, [], drop}
+use Rattle.std.proofs.Common.{subst}
 use Rattle.std.proofs.lemmas.List.{drop_all}
 use Rattle.automata_base.specs.Nodes.{nfa_of}
 use Rattle.automata_base.specs.Truths.{truth_of}

@@ -1,4 +1,4 @@
-use Rattle.std.proofs.Common.{◌≡◌, ◌<◌, ◌≤◌, length, Option, Some, ℕ, sym, ap, ◌∙◌, subst, ◌+◌, arith, drop, vec_capacity, refl}
+use Rattle.std.proofs.Common.{◌≡◌, ◌<◌, ◌≤◌, length, Some, sym, ap, ◌∙◌, subst, ◌+◌, arith, drop, vec_capacity}
 use Rattle.std.proofs.lemmas.List.{drop_all}
 use Rattle.automata_base.specs.Nodes.{nfa_of}
 use Rattle.automata_base.specs.Truths.{truth_of}

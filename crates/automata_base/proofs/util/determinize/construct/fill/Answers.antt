@@ -1,8 +1,8 @@
-use Rattle.std.proofs.Common.{◌≡◌, ◌&&◌, ◌<◌, subst, ℕ, List, true, sym, ap, ◌∙◌}
+use Rattle.std.proofs.Common.{◌≡◌, ◌&&◌, ◌<◌, subst, true, ap, ◌∙◌}
 use Rattle.automata_base.specs.Lists.{pick, In}
-use Rattle.automata_base.specs.Looks.{is_byte, first_half, is_word}
+use Rattle.automata_base.specs.Looks.{is_byte, first_half}
 use Rattle.automata_base.specs.Nfa.{keep}
-use Rattle.automata_base.specs.Computed.{known_looks, any_state, any_node, is_full}
+use Rattle.automata_base.specs.Computed.{any_state, any_node, is_full}
 use Rattle.automata_base.specs.Passes.{is_word_look, is_crlf_look}
 use Rattle.automata_base.specs.Nodes.{nfa_of}
 use Rattle.automata_base.specs.Truths.{truth_of}

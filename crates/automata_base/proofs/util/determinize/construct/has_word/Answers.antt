@@ -1,5 +1,5 @@
 use Rattle.automata_base.specs.Nodes.{nfa_of}
-use Rattle.std.proofs.Common.{◌≡◌, sym, ap, ◌∙◌}
+use Rattle.std.proofs.Common.{ap, ◌∙◌}
 use Rattle.automata_base.specs.Passes.{is_word_look}
 use Rattle.automata_base.specs.Truths.{truth_of}
 use Rattle.automata_base.proofs.Determinizing.Making.{masked, word_mask}

@@ -1,4 +1,4 @@
-use Rattle.std.proofs.Common.{◌<◌, ◌≡◌, ◌∙◌, length, sym, subst, ap, inl, inr, refl, ◌||◌}
+use Rattle.std.proofs.Common.{◌<◌, ◌≡◌, ◌∙◌, length, sym, subst, inl, inr, refl}
 use Rattle.std.specs.Prelude.{All}
 use Rattle.automata_base.specs.Nodes.{nfa_of}
 use Rattle.automata_base.specs.Parts.{powerset_of}
@@ -8,7 +8,7 @@ use Rattle.automata_base.specs.Lists.{In, pick}
 use Rattle.automata_base.specs.Nfa.{accepts}
 use Rattle.automata_base.specs.Paths.{IsClosure}
 use Rattle.automata_base.specs.Cuts.{cut_for, IsOnce, targets}
-use Rattle.automata_base.specs.Passes.{true_looks, IsArrival, decided}
+use Rattle.automata_base.specs.Passes.{true_looks, IsArrival}
 use Rattle.automata_base.proofs.Determinizing.Keeping.{all_in}
 use Rattle.automata_base.proofs.Determinizing.Deciding.{truly, of_bits, news_of, of_news}
 use Rattle.automata_base.proofs.util.determinize.construct.next_into.Goals as goal

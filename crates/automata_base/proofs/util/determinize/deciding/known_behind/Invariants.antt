@@ -1,9 +1,7 @@
-use Rattle.std.proofs.Common.{◌≡◌, ◌<◌, ◌&&◌, ◌||◌, true, false}
-use Rattle.automata_base.specs.Passes.{decided}
+use Rattle.std.proofs.Common.{false}
 use Rattle.automata_base.specs.Computed.{known_looks}
-use Rattle.automata_base.specs.Truths.{truth_of}
 use Rattle.automata_base.specs.Nodes.{nfa_of}
-use Rattle.automata_base.proofs.Determinizing.Bits_of_looks.{Sofar, Unnews}
+use Rattle.automata_base.proofs.Determinizing.Bits_of_looks.{Sofar}
 use Rattle.automata_base.proofs.util.determinize.deciding.known_behind.Given as goal
 
 abbrev pub invariant-loop-index : goal.invariant-loop-index

@@ -1,8 +1,7 @@
-use Rattle.std.proofs.Common.{◌≡◌, ◌++◌, ◌≤◌, ◌||◌, eqb, sym, ◌∙◌, ap, length, arith, refl, vec_len, vec_capacity}
+use Rattle.std.proofs.Common.{◌≡◌, ◌++◌, ◌≤◌, ◌||◌, eqb, sym, ◌∙◌, ap, length, arith, vec_len, vec_capacity}
 use Rattle.automata_base.specs.Lists.{pick}
 use Rattle.automata_base.specs.Nodes.{nfa_of, node_of}
 use Rattle.automata_base.specs.Truths.{truth_of}
-use Rattle.automata_base.specs.Looks.{Look}
 use Rattle.automata_base.specs.Nfa.{stays_at, node, keep}
 use Rattle.automata_base.specs.Computed.{looks_at, any_state}
 use Rattle.automata_base.specs.Looks.{look_index}

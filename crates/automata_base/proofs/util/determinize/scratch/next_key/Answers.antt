@@ -1,9 +1,7 @@
-use Rattle.std.proofs.Common.{sym, subst, ◌≡◌}
+use Rattle.std.proofs.Common.{sym, subst}
 use Rattle.automata_base.specs.Nodes.{nfa_of}
-use Rattle.automata_base.specs.Parts.{powerset_of}
 use Rattle.automata_base.specs.Passes.{IsSuccessor}
 use Rattle.automata_base.specs.Starts.{IsOf}
-use Rattle.automata_base.specs.Steps.{successor, NeedsOwnLooks}
 use Rattle.automata_base.proofs.Determinizing.Stepping.{is_successor, successor_needs}
 use Rattle.automata_base.proofs.util.determinize.scratch.next_key.Goals as goal
 

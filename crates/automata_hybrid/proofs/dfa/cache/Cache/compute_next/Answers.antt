@@ -1,7 +1,7 @@
 use Rattle.std.proofs.Common.{◌≡◌, ◌∙◌, ap, sym, subst, inr, false, None}
-use Rattle.automata_base.specs.Powerset.{Powerset, dead}
+use Rattle.automata_base.specs.Powerset.{Powerset}
 use Rattle.automata_hybrid.specs.Machine.{Machine, next_of}
-use Rattle.automata_hybrid.specs.Table.{Rows, Names, id_of}
+use Rattle.automata_hybrid.specs.Table.{Names, id_of}
 use Rattle.automata_hybrid.specs.Bounds.{Stored, IsAdded}
 use Rattle.automata_hybrid.specs.Caches.{CacheView}
 use Rattle.automata_hybrid.specs.Founds.{IsFound}

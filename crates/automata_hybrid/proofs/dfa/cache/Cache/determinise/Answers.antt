@@ -4,7 +4,7 @@ use Rattle.automata_base.specs.Nodes.{Automaton}
 use Rattle.automata_base.specs.Starts.{IsOf}
 use Rattle.automata_base.specs.Steps.{NeedsOwnLooks, successor}
 use Rattle.automata_hybrid.specs.Owned.{IsOwn}
-use Rattle.automata_hybrid.specs.Machine.{Machine, next_of}
+use Rattle.automata_hybrid.specs.Machine.{Machine}
 use Rattle.automata_hybrid.specs.Table.{Names}
 use Rattle.automata_hybrid.specs.Caches.{CacheView}
 use Rattle.automata_hybrid.proofs.dfa.cache.Cache.determinise.Goals as goal

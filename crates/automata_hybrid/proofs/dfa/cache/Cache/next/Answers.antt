@@ -2,7 +2,7 @@ use Rattle.std.proofs.Common.{◌≡◌, ◌^◌, ◌≤◌, arith, subst}
 use Rattle.std.proofs.lemmas.Grind.{common_steps}
 use Rattle.std.specs.Prelude.{slice_index}
 use Rattle.automata_hybrid.specs.Machine.{Machine, template_of}
-use Rattle.automata_hybrid.proofs.Stepping.{unknown_free, known_next}
+use Rattle.automata_hybrid.proofs.Stepping.{unknown_free}
 use Rattle.automata_hybrid.proofs.dfa.cache.Cache.next.Goals as goal
 
 pub compute_next-requires-clause-free : goal.compute_next-requires-clause-free

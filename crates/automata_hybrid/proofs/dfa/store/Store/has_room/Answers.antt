@@ -1,5 +1,4 @@
-use Rattle.std.proofs.Common.{subst, sym}
-use Rattle.automata_hybrid.specs.Machine.{greatest}
+use Rattle.std.proofs.Common.{subst}
 use Rattle.automata_hybrid.specs.Bounds.{Stored, IsCache}
 use Rattle.automata_hybrid.proofs.Bounding.{Fits-few}
 use Rattle.automata_hybrid.proofs.dfa.store.Store.has_room.Goals as goal

@@ -1,4 +1,4 @@
-use Rattle.std.proofs.Common.{◌≡◌, ◌^◌, ◌<◌, length, set, get_or, subst, sym, ap, inr}
+use Rattle.std.proofs.Common.{◌≡◌, ◌^◌, ◌<◌, length, set, get_or, subst, sym, inr}
 use Rattle.std.proofs.lemmas.List.{get_or-set_same}
 use Rattle.automata_hybrid.specs.Machine.{start_of}
 use Rattle.automata_hybrid.specs.Table.{Leads}

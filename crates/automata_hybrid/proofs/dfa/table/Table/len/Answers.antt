@@ -1,5 +1,5 @@
 use Rattle.std.proofs.Common.{subst}
-use Rattle.automata_hybrid.proofs.Places.{Names-Placed, IsTable-costs}
+use Rattle.automata_hybrid.proofs.Places.{Names-Placed, Names-tagged, Names-alive, IsTable-costs}
 use Rattle.automata_hybrid.specs.Table.{Rows, IsTable}
 use Rattle.automata_hybrid.proofs.dfa.table.Table.len.Goals as goal
 
@@ -12,3 +12,13 @@ pub returns-clause-low : goal.returns-clause-low
 returns-clause-low c = λ id q h.
     let i : IsTable c.args.self.now c.self.inside.map c.self.inside.costs = subst (λ (v : Rows). IsTable v c.self.inside.map c.self.inside.costs) c.self.view_is c.self.invariant.table in
     (Names-Placed c.args.self.now c.self.inside.map c.self.inside.costs id q i h).low
+
+pub returns-clause-tagged : goal.returns-clause-tagged
+returns-clause-tagged c = λ id q h.
+    let i : IsTable c.args.self.now c.self.inside.map c.self.inside.costs = subst (λ (v : Rows). IsTable v c.self.inside.map c.self.inside.costs) c.self.view_is c.self.invariant.table in
+    Names-tagged c.args.self.now c.self.inside.map c.self.inside.costs id q i h
+
+pub returns-clause-alive : goal.returns-clause-alive
+returns-clause-alive c = λ id q h.
+    let i : IsTable c.args.self.now c.self.inside.map c.self.inside.costs = subst (λ (v : Rows). IsTable v c.self.inside.map c.self.inside.costs) c.self.view_is c.self.invariant.table in
+    Names-alive c.args.self.now c.self.inside.map c.self.inside.costs id q i h

@@ -1,13 +1,13 @@
 -- `next` makes another value of no bytes, whose ghost field is one more.
-use Rattle.std.proofs.Common.{List, [], ◌∷◌, refl, ℕ, ◌+◌}
+use Rattle.std.proofs.Common.{[], ◌∷◌, refl, ◌+◌}
 use Rattle.std.proofs.raw_atomic.Walks.{proved}
 use mir.Val.{Val, vstruct, vcons, vnil}
 use base.Fml.{Fml, ftrue}
-use types.Kit.{‵, raw, ◌⊛◌, ◌$◌, ◌∵◌, !, qed, keep, join, fjoin, use0, suffices, done}
+use types.Kit.{‵, raw, ◌$◌, ◌∵◌, !, qed, keep, join, fjoin, use0, suffices, done}
 use types.Run.{no_more, and_then, returns, enter}
 use types.Part.{agg}
 use types.ByLocal.{alloc_all, pass_all, free_all, look_at, get, sets}
-use denote.Exit.{yes, no}
+use denote.Exit.{yes}
 use denote.Shadow.{makes_shadow}
 use denote.Signature.{type_at, plain}
 use denote.Steps.{nothing}

@@ -1,10 +1,9 @@
 -- `zero` makes a value of no bytes, whose ghost field is 0.
-use Rattle.std.proofs.Common.{List, [], ◌∷◌, refl, ℕ}
+use Rattle.std.proofs.Common.{[], ◌∷◌, refl}
 use Rattle.std.proofs.raw_atomic.Walks.{proved}
 use mir.Val.{Val, vstruct, vcons, vnil}
 use base.Fml.{Fml, ftrue}
-use contract.Running.{tables}
-use types.Kit.{‵, raw, ◌⊛◌, ◌$◌, ◌∵◌, !, qed, keep, join, use0, suffices, done}
+use types.Kit.{‵, raw, ◌$◌, ◌∵◌, !, qed, keep, join, use0, suffices, done}
 use types.Run.{no_more, and_then, returns, enter}
 use types.Part.{agg}
 use types.ByLocal.{alloc_all, pass_all, free_all, look_at, get, sets}

@@ -1,4 +1,4 @@
-use Rattle.std.proofs.Common.{subst, sym, ap, ℕ, ◌<◌}
+use Rattle.std.proofs.Common.{subst, ℕ, ◌<◌}
 use Rattle.automata_base.specs.Lists.{In}
 use Rattle.automata_base.specs.Members.{Members}
 use Rattle.automata_base.proofs.Determinizing.Holding.{members_below}

@@ -1,0 +1,121 @@
+-- Spans tried one after another.
+use Rattle.std.proofs.Common.{ℕ, suc, ◌≡◌, ◌<◌, ◌≤◌, ◌+◌, ◌⊎◌, inl, inr, true, Option, Some, None, false, refl, sym, ap, ap₂, ◌∙◌, subst, arith}
+use Rattle.automata_base.specs.Answers.{Half, later, offset_in, IsSplit, Tries}
+use Rattle.automata_base.specs.declared.util.search.Anchored.TheVariants.{No}
+use Rattle.automata_base.specs.Input.{Input}
+use Rattle.automata_base.specs.Matches.{HalfMatch}
+use Rattle.automata_base.specs.Selections.{Pair}
+use Rattle.automata_base.specs.Tapes.{Direction, Forward, Backward, is_split}
+use Rattle.automata_base.specs.Told.{TellsOver, IsTold, told_over}
+use Rattle.automata_base.proofs.Determinizing.Told.{turn_answers}
+use Rattle.automata_config.specs.declared.error.SearchError.{SearchError}
+use Rattle.automata_hybrid.specs.Bounds.{Stored}
+use Rattle.automata_hybrid.specs.Machine.{Machine}
+use Rattle.automata_hybrid.specs.Searches.{half_of, found_over, Finds, Skips, IsFound, IsRefused, IsPassRefusal, MeetsNoQuit, with_base}
+use Rattle.automata_hybrid.proofs.Searching.{half_none}
+
+-- the pair that a half match stands for
+pub record Stands (way : Direction) (input : Input) (o : Option Pair) (half : HalfMatch) : Type 0 where
+  pub pair : Pair
+  pub told : o ≡ Some pair
+  pub pattern : half.pattern ≡ pair.pattern
+  pub offset : half.offset ≡ offset_in way input pair.place
+
+pub half_stands :
+    (way : Direction) (input : Input) (o : Option Pair) (half : HalfMatch) → Some half ≡ half_of way input o → Stands way input o half
+half_stands way input None half e = absurd (cc)
+half_stands way input (Some pair) half e =
+    let h : half ≡ record { pattern = pair.pattern; offset = offset_in way input pair.place } = cc in
+    record { pair = pair; told = refl; pattern = ap (λ (v : HalfMatch). v.pattern) h; offset = ap (λ (v : HalfMatch). v.offset) h }
+
+module _ (T : Input → Option Pair → Type 0) (S : Type 0) (way : Direction) (input : Input) where
+  pub tries_first : Tries T S way input 0
+  tries_first = (inl refl, λ j l. absurd (omega (arith, l)))
+
+  pub tries_more :
+      (k : ℕ) → Tries T S way input k → S → input.anchored ≡ No → input.start + k ≤ input.end
+      → IsSplit T way (later way k input) → Tries T S way input (suc k)
+  tries_more k tries s free l split = (inr (s, free), before) where
+    before : (j : ℕ) → j < suc k → (input.start + j ≤ input.end) × IsSplit T way (later way j input)
+    before j less = go (eq_or_less j k less) where
+      eq_or_less : (j k : ℕ) → j < suc k → (j ≡ k) ⊎ (j < k)
+      eq_or_less j k h = grind (arith, h)
+
+      go : (j ≡ k) ⊎ (j < k) → (input.start + j ≤ input.end) × IsSplit T way (later way j input)
+      go (inl e) = (omega (arith, l, e), subst (λ i. IsSplit T way (later way i input)) (sym e) split)
+      go (inr h) = tries.1 j h
+
+pub later_haystack : (way : Direction) (k : ℕ) (input : Input) → (later way k input).haystack ≡ input.haystack
+later_haystack Forward k input = refl
+later_haystack Backward k input = refl
+
+-- a pass over the span that begins `k` places later was made
+module _ (way : Direction) (m : Machine) (input now : Input) (k : ℕ) (same : now ≡ later way k input)
+    (tries : Tries (Finds way m) (Skips m) way input k) (within : input.start + k ≤ input.end) where
+  there : (o : Option HalfMatch) → o ≡ found_over way m now → o ≡ found_over way m (later way k input)
+  there o e = e ∙ ap (found_over way m) same
+
+  clear : MeetsNoQuit way m now → MeetsNoQuit way m (later way k input)
+  clear c = subst (MeetsNoQuit way m) same c
+
+  -- it found nothing
+  pub finds_none : None ≡ found_over way m now → MeetsNoQuit way m now → IsFound way m input None
+  finds_none e c =
+      let none : told_over way m.nfa m.kind (later way k input) ≡ None = half_none way (later way k input) _ (sym (there None e)) in
+      (k, tries, inr (inl (sym none, clear c)))
+
+  stands : (half : HalfMatch) → Some half ≡ found_over way m now → Stands way (later way k input) (told_over way m.nfa m.kind (later way k input)) half
+  stands half e = half_stands way (later way k input) (told_over way m.nfa m.kind (later way k input)) half (there (Some half) e)
+
+  split_at : (half : HalfMatch) (s : Stands way (later way k input) (told_over way m.nfa m.kind (later way k input)) half) → is_split now.haystack half.offset ≡ is_split input.haystack (offset_in way (later way k input) s.pair.place)
+  split_at half s =
+      ap₂ is_split (ap (λ (i : Input). i.haystack) same ∙ later_haystack way k input) s.offset
+
+  -- it found what is not left out
+  pub finds_some :
+      (half : HalfMatch) → Some half ≡ found_over way m now → MeetsNoQuit way m now
+      → (Skips m → is_split now.haystack half.offset ≡ false) → IsFound way m input (Some (with_base half now.start))
+  finds_some half e c keeps =
+      let s : Stands way (later way k input) (told_over way m.nfa m.kind (later way k input)) half = stands half e in
+      (k, s.pair, tries, within, (sym s.told, clear c), (λ skips. sym (split_at half s) ∙ keeps skips), s.pattern, s.offset, ap (λ (i : Input). i.start) same)
+
+  split_there :
+      (half : HalfMatch) → Some half ≡ found_over way m now → MeetsNoQuit way m now
+      → is_split now.haystack half.offset ≡ true → IsSplit (Finds way m) way (later way k input)
+  split_there half e c split =
+      let s : Stands way (later way k input) (told_over way m.nfa m.kind (later way k input)) half = stands half e in (
+        s.pair,
+        (sym s.told, clear c),
+        ap (λ h. is_split h (offset_in way (later way k input) s.pair.place)) (later_haystack way k input) ∙ (sym (split_at half s) ∙ split),
+      )
+
+  -- it found what is left out: an anchored search ends
+  pub finds_split :
+      (half : HalfMatch) → Some half ≡ found_over way m now → MeetsNoQuit way m now → Skips m
+      → is_split now.haystack half.offset ≡ true → (input.anchored ≡ No → ⊥) → IsFound way m input None
+  finds_split half e c skips split anchored = (k, tries, inr (inr (skips, anchored, split_there half e c split)))
+
+  -- and another one goes on
+  pub tries_on :
+      (half : HalfMatch) → Some half ≡ found_over way m now → MeetsNoQuit way m now → Skips m
+      → is_split now.haystack half.offset ≡ true → input.anchored ≡ No → Tries (Finds way m) (Skips m) way input (suc k)
+  tries_on half e c skips split free =
+      tries_more (Finds way m) (Skips m) way input k tries skips free within (split_there half e c split)
+
+  -- or it was refused
+  pub refuses :
+      (c : Stored) (e : SearchError) → IsPassRefusal way m c now e → IsRefused way m c input e
+  refuses c e r = (k, tries, within, subst (λ i. IsPassRefusal way m c i e) same r)
+
+-- no span is left
+pub finds_no_more :
+    (way : Direction) (m : Machine) (input : Input) (k : ℕ)
+    → Tries (Finds way m) (Skips m) way input k → input.end < input.start + k → IsFound way m input None
+finds_no_more way m input k tries past = (k, tries, inl past)
+
+-- what a search finds is what its passes tell
+pub found_told :
+    (way : Direction) (m : Machine) (input : Input) (o : Option Half)
+    → IsFound way m input o → IsTold way m.nfa m.kind input o
+found_told way m input o found =
+    turn_answers (Finds way m) (TellsOver way m.nfa m.kind) (Skips m) way input (λ k told l f. f.0) o found

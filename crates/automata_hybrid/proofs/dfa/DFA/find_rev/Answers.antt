@@ -1,0 +1,121 @@
+use Rattle.std.proofs.Common.{ℕ, ◌≡◌, ◌∙◌, ◌-◌, ◌<◌, ◌≤◌, true, length, Some, None, refl, sym, subst, arith}
+use Rattle.automata_base.specs.Paths.{next}
+use Rattle.automata_base.specs.Tapes.{Backward}
+use Rattle.automata_hybrid.specs.Searches.{IsAt, tape_in}
+use Rattle.automata_hybrid.specs.Table.{Rows}
+use Rattle.automata_hybrid.proofs.Searching.{more_leads, more_at, more_dead, clean_dead, more_ends, clean_ends, starts_at, step_refuses, if_err, false_true, some_is, none_is}
+use Rattle.automata_hybrid.proofs.Backward.{span_place, span_unit_offset, span_given_up_offset, span_more, span_few, span_read, quit_free}
+use Rattle.automata_hybrid.proofs.dfa.DFA.find_rev.Goals as goal
+use Rattle.automata_hybrid.proofs.dfa.DFA.find_rev.Goals.{else-get_earliest-via-then-get_earliest+else-is_some, else-get_earliest-via-else-get_earliest}
+
+pub loop-at-init : goal.loop-at-init
+loop-at-init c =
+    let z : 0 ≡ c.args.input.now.end - c.end-at.result = omega (arith, c.end-at.ensures.end) in
+    record {
+      of = c.requires.of;
+      counted = omega arith;
+      from = omega (arith, c.end-at.ensures.end, c.requires.open);
+      within = omega (arith, c.end-at.ensures.end);
+      at = subst (λ k. IsAt Backward c.args.self.now c.args.cache.now.store.table c.args.input.now k c.args.start None) z (starts_at Backward c.args.self.now c.args.cache.now.store.table c.args.input.now c.args.start c.requires.named);
+    }
+
+pub find_end_rev-requires-clause-at : goal.find_end_rev-requires-clause-at
+find_end_rev-requires-clause-at c =
+    let same : c.args.input.now.end - c.follow_rev-stop.result.at ≡ c.args.input.now.end - c.args.input.now.start = omega (arith, c.if-stop-start.true, c.follow_rev-stop.ensures.from, c.start-in-loop-at.ensures.start) in
+    subst (λ k. IsAt Backward c.args.self.now c.end_search.new.self.store.table c.args.input.now k c.follow_rev-stop.result.id c.loop-at.found) same
+    (subst (λ (t : Rows). IsAt Backward c.args.self.now t c.args.input.now (c.args.input.now.end - c.follow_rev-stop.result.at) c.follow_rev-stop.result.id c.loop-at.found) (sym c.end_search.ensures.table)
+    (c.follow_rev-stop.ensures.at c.loop-at.found c.loop-at.invariant.at))
+
+pub returns-in_err-id-clause-errors : goal.returns-in_err-id-clause-errors
+returns-in_err-id-clause-errors c =
+    let above : c.args.input.now.start < c.follow_rev-stop.result.at = omega (arith, c.if-stop-start.false, c.start-in-loop-at.ensures.start) in
+    let below : c.follow_rev-stop.result.at ≤ c.args.input.now.end = omega (arith, c.follow_rev-stop.ensures.within, c.loop-at.invariant.within) in
+    let k : ℕ = c.args.input.now.end - c.follow_rev-stop.result.at in
+    let at : IsAt Backward c.args.self.now c.loop-at.cache.store.table c.args.input.now k c.follow_rev-stop.result.id c.loop-at.found = c.follow_rev-stop.ensures.at c.loop-at.found c.loop-at.invariant.at in
+    let read : next (tape_in Backward c.args.input.now) k ≡ Some _ = span_read c.args.input.now c.follow_rev-stop.result.at above below c.haystack.result.now c.haystack.ensures.within.1 c.haystack.ensures.same in
+    let few : k ≤ length (tape_in Backward c.args.input.now).bytes = span_few c.args.input.now c.follow_rev-stop.result.at above below c.haystack.ensures.within.1 in
+    if_err c.from_residual.result _ _ c.from_residual.ensures.1
+    (step_refuses Backward c.args.self.now c.loop-at.cache.store.table c.read.new.cache.store c.args.input.now k c.follow_rev-stop.result.id (c.follow_rev-stop.result.at - 1) (c.follow_rev-stop.result.at - 1) _ c.loop-at.found c.in_err-id.field-0.0
+    at few c.in_err-id.ensures.alive read
+    (span_unit_offset c.args.input.now c.follow_rev-stop.result.at above below) (span_given_up_offset c.args.input.now c.follow_rev-stop.result.at above below) c.in_err-id.ensures.errors c.requires.behind)
+
+pub returns-then-is_dead-clause-found : goal.returns-then-is_dead-clause-found
+returns-then-is_dead-clause-found c =
+    let above : c.args.input.now.start < c.follow_rev-stop.result.at = omega (arith, c.if-stop-start.false, c.start-in-loop-at.ensures.start) in
+    let below : c.follow_rev-stop.result.at ≤ c.args.input.now.end = omega (arith, c.follow_rev-stop.ensures.within, c.loop-at.invariant.within) in
+    let k : ℕ = c.args.input.now.end - c.follow_rev-stop.result.at in
+    let at : IsAt Backward c.args.self.now c.loop-at.cache.store.table c.args.input.now k c.follow_rev-stop.result.id c.loop-at.found = c.follow_rev-stop.ensures.at c.loop-at.found c.loop-at.invariant.at in
+    let read : next (tape_in Backward c.args.input.now) k ≡ Some _ = span_read c.args.input.now c.follow_rev-stop.result.at above below c.haystack.result.now c.haystack.ensures.within.1 c.haystack.ensures.same in
+    let few : k ≤ length (tape_in Backward c.args.input.now).bytes = span_few c.args.input.now c.follow_rev-stop.result.at above below c.haystack.ensures.within.1 in
+    more_dead Backward c.args.self.now c.loop-at.cache.store.table c.read.new.cache.store.table c.args.input.now k c.follow_rev-stop.result.id c.in_ok-id.id _ c.loop-at.found None
+    at read c.in_ok-id.ensures.named (quit_free c.args.self.now _ c.in_ok-id.ensures.clean)
+    (λ l. (c.in_ok-id.ensures.dead _ l).0 (c.if-is_dead.ensures.0 refl)) few
+
+pub returns-then-is_dead-clause-clean : goal.returns-then-is_dead-clause-clean
+returns-then-is_dead-clause-clean c =
+    let above : c.args.input.now.start < c.follow_rev-stop.result.at = omega (arith, c.if-stop-start.false, c.start-in-loop-at.ensures.start) in
+    let below : c.follow_rev-stop.result.at ≤ c.args.input.now.end = omega (arith, c.follow_rev-stop.ensures.within, c.loop-at.invariant.within) in
+    let k : ℕ = c.args.input.now.end - c.follow_rev-stop.result.at in
+    let at : IsAt Backward c.args.self.now c.loop-at.cache.store.table c.args.input.now k c.follow_rev-stop.result.id c.loop-at.found = c.follow_rev-stop.ensures.at c.loop-at.found c.loop-at.invariant.at in
+    let read : next (tape_in Backward c.args.input.now) k ≡ Some _ = span_read c.args.input.now c.follow_rev-stop.result.at above below c.haystack.result.now c.haystack.ensures.within.1 c.haystack.ensures.same in
+    clean_dead Backward c.args.self.now c.loop-at.cache.store.table c.read.new.cache.store.table c.args.input.now k c.follow_rev-stop.result.id c.in_ok-id.id _ c.loop-at.found None
+    at read c.in_ok-id.ensures.named (quit_free c.args.self.now _ c.in_ok-id.ensures.clean)
+    (λ l. (c.in_ok-id.ensures.dead _ l).0 (c.if-is_dead.ensures.0 refl)) c.requires.behind
+
+pub found_at-found-requires-clause-leads : goal.found_at-found-requires-clause-leads
+found_at-found-requires-clause-leads c =
+    let above : c.args.input.now.start < c.follow_rev-stop.result.at = omega (arith, c.if-stop-start.false, c.start-in-loop-at.ensures.start) in
+    let below : c.follow_rev-stop.result.at ≤ c.args.input.now.end = omega (arith, c.follow_rev-stop.ensures.within, c.loop-at.invariant.within) in
+    let k : ℕ = c.args.input.now.end - c.follow_rev-stop.result.at in
+    let at : IsAt Backward c.args.self.now c.loop-at.cache.store.table c.args.input.now k c.follow_rev-stop.result.id c.loop-at.found = c.follow_rev-stop.ensures.at c.loop-at.found c.loop-at.invariant.at in
+    let read : next (tape_in Backward c.args.input.now) k ≡ Some _ = span_read c.args.input.now c.follow_rev-stop.result.at above below c.haystack.result.now c.haystack.ensures.within.1 c.haystack.ensures.same in (
+      _,
+      more_leads Backward c.args.self.now c.loop-at.cache.store.table c.read.new.cache.store.table c.args.input.now k c.follow_rev-stop.result.id c.in_ok-id.id _ c.loop-at.found None
+          at read c.in_ok-id.ensures.named (quit_free c.args.self.now _ c.in_ok-id.ensures.clean),
+    )
+
+pub returns-then-is_some-clause-found : goal.returns-then-is_some-clause-found
+returns-then-is_some-clause-found c =
+    let above : c.args.input.now.start < c.follow_rev-stop.result.at = omega (arith, c.if-stop-start.false, c.start-in-loop-at.ensures.start) in
+    let below : c.follow_rev-stop.result.at ≤ c.args.input.now.end = omega (arith, c.follow_rev-stop.ensures.within, c.loop-at.invariant.within) in
+    let k : ℕ = c.args.input.now.end - c.follow_rev-stop.result.at in
+    let at : IsAt Backward c.args.self.now c.loop-at.cache.store.table c.args.input.now k c.follow_rev-stop.result.id c.loop-at.found = c.follow_rev-stop.ensures.at c.loop-at.found c.loop-at.invariant.at in
+    let read : next (tape_in Backward c.args.input.now) k ≡ Some _ = span_read c.args.input.now c.follow_rev-stop.result.at above below c.haystack.result.now c.haystack.ensures.within.1 c.haystack.ensures.same in
+    let few : k ≤ length (tape_in Backward c.args.input.now).bytes = span_few c.args.input.now c.follow_rev-stop.result.at above below c.haystack.ensures.within.1 in
+    more_ends Backward c.args.self.now c.loop-at.cache.store.table c.read.new.cache.store.table c.args.input.now k c.follow_rev-stop.result.id c.in_ok-id.id _ c.loop-at.found c.found_at-found.result
+    at read c.in_ok-id.ensures.named (quit_free c.args.self.now _ c.in_ok-id.ensures.clean)
+    (c.follow_rev-stop.result.at, span_place c.args.input.now c.follow_rev-stop.result.at above below, c.found_at-found.ensures) few (sym c.get_earliest.ensures ∙ c.if-get_earliest.true) (some_is c.found_at-found.result c.if-is_some.ensures)
+
+pub returns-then-is_some-clause-clean : goal.returns-then-is_some-clause-clean
+returns-then-is_some-clause-clean c =
+    let above : c.args.input.now.start < c.follow_rev-stop.result.at = omega (arith, c.if-stop-start.false, c.start-in-loop-at.ensures.start) in
+    let below : c.follow_rev-stop.result.at ≤ c.args.input.now.end = omega (arith, c.follow_rev-stop.ensures.within, c.loop-at.invariant.within) in
+    let k : ℕ = c.args.input.now.end - c.follow_rev-stop.result.at in
+    let at : IsAt Backward c.args.self.now c.loop-at.cache.store.table c.args.input.now k c.follow_rev-stop.result.id c.loop-at.found = c.follow_rev-stop.ensures.at c.loop-at.found c.loop-at.invariant.at in
+    let read : next (tape_in Backward c.args.input.now) k ≡ Some _ = span_read c.args.input.now c.follow_rev-stop.result.at above below c.haystack.result.now c.haystack.ensures.within.1 c.haystack.ensures.same in
+    clean_ends Backward c.args.self.now c.loop-at.cache.store.table c.read.new.cache.store.table c.args.input.now k c.follow_rev-stop.result.id c.in_ok-id.id _ c.loop-at.found c.found_at-found.result
+    at read c.in_ok-id.ensures.named (quit_free c.args.self.now _ c.in_ok-id.ensures.clean)
+    (c.follow_rev-stop.result.at, span_place c.args.input.now c.follow_rev-stop.result.at above below, c.found_at-found.ensures) (sym c.get_earliest.ensures ∙ c.if-get_earliest.true) (some_is c.found_at-found.result c.if-is_some.ensures) c.requires.behind
+
+pub loop-at-preserved : goal.loop-at-preserved
+loop-at-preserved c =
+    let above : c.args.input.now.start < c.follow_rev-stop.result.at = omega (arith, c.if-stop-start.false, c.start-in-loop-at.ensures.start) in
+    let below : c.follow_rev-stop.result.at ≤ c.args.input.now.end = omega (arith, c.follow_rev-stop.ensures.within, c.loop-at.invariant.within) in
+    let k : ℕ = c.args.input.now.end - c.follow_rev-stop.result.at in
+    let at : IsAt Backward c.args.self.now c.loop-at.cache.store.table c.args.input.now k c.follow_rev-stop.result.id c.loop-at.found = c.follow_rev-stop.ensures.at c.loop-at.found c.loop-at.invariant.at in
+    let read : next (tape_in Backward c.args.input.now) k ≡ Some _ = span_read c.args.input.now c.follow_rev-stop.result.at above below c.haystack.result.now c.haystack.ensures.within.1 c.haystack.ensures.same in
+    let first : c.args.input.now.earliest ≡ true → c.found_at-found.result ≡ None =
+    elim c.else-get_earliest.branch [
+      | else-get_earliest-via-then-get_earliest+else-is_some w ↦ λ e. none_is c.found_at-found.result (sym w.is_some.ensures ∙ w.if-is_some.false)
+      | else-get_earliest-via-else-get_earliest w ↦ λ e. absurd (false_true (sym w.if-get_earliest.false ∙ (c.get_earliest.ensures ∙ e)))
+    ] in
+    record {
+      of = c.in_ok-id.ensures.of;
+      counted = omega (arith, c.in_ok-id.ensures.counted, c.loop-at.invariant.counted, above, c.follow_rev-stop.ensures.within, c.loop-at.invariant.within);
+      from = omega (arith, above);
+      within = omega (arith, below);
+      at = subst (λ n. IsAt Backward c.args.self.now c.read.new.cache.store.table c.args.input.now n c.in_ok-id.id c.found_at-found.result) (span_more c.args.input.now c.follow_rev-stop.result.at above below)
+          (more_at Backward c.args.self.now c.loop-at.cache.store.table c.read.new.cache.store.table c.args.input.now k c.follow_rev-stop.result.id c.in_ok-id.id _ c.loop-at.found c.found_at-found.result
+          at read c.in_ok-id.ensures.named (quit_free c.args.self.now _ c.in_ok-id.ensures.clean)
+          (c.follow_rev-stop.result.at, span_place c.args.input.now c.follow_rev-stop.result.at above below, c.found_at-found.ensures) first (λ l. (c.in_ok-id.ensures.dead _ l).1 (λ b. false_true (c.if-is_dead.ensures.1 b))));
+    }

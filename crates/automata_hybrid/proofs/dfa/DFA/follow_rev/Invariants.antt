@@ -1,0 +1,18 @@
+use Rattle.std.proofs.Common.{◌≤◌, ◌-◌, Option}
+use Rattle.automata_base.specs.Matches.{HalfMatch}
+use Rattle.automata_base.specs.Tapes.{Backward}
+use Rattle.automata_hybrid.specs.Table.{IsValid}
+use Rattle.automata_hybrid.specs.Searches.{IsAt}
+use Rattle.automata_hybrid.proofs.dfa.DFA.follow_rev.Given as goal
+
+abbrev pub invariant-loop-at : goal.invariant-loop-at
+invariant-loop-at l = record {
+  valid : IsValid l.cache.store.table l.id;
+  untagged : l.id ≤ 134217727;
+  from : l.first ≤ l.at;
+  within : l.at ≤ l.fn.start;
+  at : (found : Option HalfMatch) → IsAt Backward l.self l.cache.store.table l.input (l.input.end - l.fn.start) l.fn.from found → IsAt Backward l.self l.cache.store.table l.input (l.input.end - l.at) l.id found;
+}
+
+abbrev pub decreases-loop-at : goal.decreases-loop-at
+decreases-loop-at l = l.at - l.first

@@ -1,0 +1,14 @@
+use Rattle.std.proofs.Common.{sym, ap, subst}
+use Rattle.automata_hybrid.proofs.Stepping.{refused, ok_one}
+use Rattle.automata_hybrid.specs.Caches.{CacheView}
+use Rattle.automata_hybrid.specs.Searches.{IsStepRefusal}
+use Rattle.automata_hybrid.proofs.dfa.DFA.step.Goals as goal
+
+pub returns-in-Ok-clause-quit : goal.returns-in-Ok-clause-quit
+returns-in-Ok-clause-quit c = λ e.
+    ok_one (c.in-Ok.ensures.quit (c.low.ensures.low c.args.id c.requires.valid.0 c.requires.valid.1) e)
+
+pub returns-in-Err-clause-errors : goal.returns-in-Err-clause-errors
+returns-in-Err-clause-errors c = λ q n.
+    subst (IsStepRefusal c.args.self.now c.next_state.new.cache.store q _ c.args.at c.args.at) (sym c.refusal.ensures)
+    (refused c.args.self.now c.args.cache.now.store c.next_state.new.cache.store q _ c.args.at c.in-Err.error (ap (λ (v : CacheView). v.store) c.in-Err.ensures.err) (λ e. c.in-Err.ensures.gives_up e q n))

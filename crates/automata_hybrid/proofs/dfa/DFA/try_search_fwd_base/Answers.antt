@@ -1,0 +1,22 @@
+use Rattle.std.proofs.Common.{◌∙◌, ap, subst}
+use Rattle.std.proofs.lemmas.Result.{IfErr-weaker, IfOk-weaker}
+use Rattle.automata_base.specs.Nodes.{Automaton}
+use Rattle.automata_base.specs.Tapes.{Forward}
+use Rattle.automata_base.specs.Told.{ToldIsRight}
+use Rattle.automata_hybrid.specs.Bounds.{settings_of}
+use Rattle.automata_hybrid.proofs.Answering.{refused_memory}
+use Rattle.automata_hybrid.proofs.Skipping.{found_told}
+use Rattle.automata_hybrid.proofs.dfa.DFA.try_search_fwd_base.Goals as goal
+
+pub returns-clause-answer : goal.returns-clause-answer
+returns-clause-answer c = λ acyclic.
+    IfOk-weaker c.search_fwd-found.result _ _ (λ o found.
+    subst (λ (a : Automaton). ToldIsRight a) c.get_nfa.ensures c.told_is_right.ensures Forward c.args.self.now.kind c.args.input.now _ acyclic (c.haystack-haystack.ensures.bytes, c.haystack-haystack.ensures.within.1)
+    (found_told Forward c.args.self.now c.args.input.now _ found))
+    c.search_fwd-found.ensures.found
+
+pub returns-clause-answers : goal.returns-clause-answers
+returns-clause-answers c = λ reach mode free.
+    IfErr-weaker c.search_fwd-found.result _ _ (λ e r.
+    refused_memory Forward c.args.self.now c.search_fwd-found.new.cache.store c.args.input.now e c.haystack-haystack.ensures.within.1 (c.bounds.ensures ∙ ap settings_of c.search_fwd-found.ensures.of) reach mode free r)
+    c.search_fwd-found.ensures.errors

@@ -1,0 +1,5 @@
+use Rattle.automata_hybrid.proofs.Agreeing.{answers_agree}
+use Rattle.automata_hybrid.proofs.laws.answers_agree.Goals as goal
+
+pub returns : goal.returns
+returns c = answers_agree

@@ -1,0 +1,146 @@
+-- A pass of a search over the span of an input, unit by unit, and what a search answers.
+use Rattle.std.specs.Prelude.{ℕ, ◌≡◌, ◌<◌, ◌≤◌, ◌+◌, ◌-◌, ◌⊎◌, max, option_map, IsBitSet, List, [], ◌∷◌, length, true, false, Option, Some, None}
+use Rattle.automata_base.specs.Answers.{Answers, Half, Tries, later, offset_in}
+use Rattle.automata_base.specs.Classes.{is_quit}
+use Rattle.automata_base.specs.Engines.{IsSkipping, engine_of}
+use Rattle.automata_base.specs.Input.{Input}
+use Rattle.automata_base.specs.Lists.{nth}
+use Rattle.automata_base.specs.Matches.{HalfMatch}
+use Rattle.automata_base.specs.Paths.{Tape, next}
+use Rattle.automata_base.specs.Powerset.{Powerset, dead}
+use Rattle.automata_base.specs.Selections.{Pair}
+use Rattle.automata_base.specs.Tapes.{Direction, Forward, Backward, tape_of}
+use Rattle.automata_base.specs.Telling.{state_after, told_upto}
+use Rattle.automata_base.specs.Told.{told_over}
+use Rattle.automata_base.specs.Steps.{successor}
+use Rattle.automata_base.specs.declared.util.search.MatchErrorKind.TheVariants.{Quit as QuitAt, GaveUp, UnsupportedAnchored as UnsupportedMode}
+use Rattle.automata_config.specs.declared.error.StepError.{StepError}
+use Rattle.automata_config.specs.declared.error.StepError.TheVariants as step
+use Rattle.automata_config.specs.declared.error.SearchError.{SearchError}
+use Rattle.automata_config.specs.declared.error.SearchError.TheVariants as search
+use Rattle.automata_hybrid.specs.Bounds.{Stored, GivesUp}
+use Rattle.automata_hybrid.specs.Machine.{Machine}
+use Rattle.automata_hybrid.specs.Starting.{IsSearchRefusal, quit_behind}
+use Rattle.automata_hybrid.specs.Table.{Rows, Names, Leads}
+
+-- the tape that the span of an input is in a direction
+abbrev pub tape_in : Direction → Input → Tape
+tape_in way input = tape_of way input.haystack input.start input.end
+
+-- the powerset state of a pass behind its first `k` units
+abbrev pub state_in : Direction → Machine → Input → ℕ → Powerset
+state_in way m input k = state_after m.nfa m.kind input.anchored (tape_in way input) k
+
+-- what its first `k` units tell
+abbrev pub told_in : Direction → Machine → Input → ℕ → Option Pair
+told_in way m input k = told_upto m.kind input.earliest m.nfa input.anchored (tape_in way input) k
+
+-- a pass reads the unit at place `k`: its state there isn't dead, and an earliest one has told nothing yet
+abbrev pub Reads : Direction → Machine → Input → ℕ → Type 0
+Reads way m input k =
+    (k ≤ length (tape_in way input).bytes) × (state_in way m input k ≡ dead → ⊥)
+    × (input.earliest ≡ true → told_in way m input k ≡ None)
+
+-- no unit that a pass reads is a quit byte, nor is the byte behind its start
+abbrev pub MeetsNoQuit : Direction → Machine → Input → Type 0
+MeetsNoQuit way m input =
+    (quit_behind m (tape_in way input).before ≡ None)
+    × ((k byte : ℕ) → Reads way m input k → next (tape_in way input) k ≡ Some byte → is_quit m.quits byte ≡ false)
+
+-- a pair of a pass as a half match: its place is an offset
+abbrev pub half_of : Direction → Input → Option Pair → Option HalfMatch
+half_of way input None = None
+half_of way input (Some pair) = Some (record { pattern = pair.pattern; offset = offset_in way input pair.place })
+
+-- what was found last, once these patterns are told at an offset
+abbrev pub half_at : List ℕ → ℕ → Option HalfMatch → Option HalfMatch
+half_at [] at found = found
+half_at (pattern ∷ patterns) at found = Some (record { pattern = pattern; offset = at })
+
+-- what a pass over the span of an input finds
+abbrev pub found_over : Direction → Machine → Input → Option HalfMatch
+found_over way m input = half_of way input (told_over way m.nfa m.kind input)
+
+-- a pass has read `k` units, none a quit byte: the ID names its state there, and this was found
+pub record IsAt (way : Direction) (m : Machine) (t : Rows) (input : Input) (k id : ℕ) (found : Option HalfMatch) : Type 0 where
+  pub named : Names t id (state_in way m input k)
+  pub told : found ≡ half_of way input (told_in way m input k)
+  pub nothing : input.earliest ≡ true → found ≡ None
+  pub clean : (j byte : ℕ) → j < k → next (tape_in way input) j ≡ Some byte → is_quit m.quits byte ≡ false
+
+-- the dead tag of an ID tells whether it leads to the dead state, which no row has
+abbrev pub IsDeadTagged : Rows → ℕ → Type 0
+IsDeadTagged t id = (q : Powerset) → Leads t id q → (IsBitSet id 30 → q ≡ dead) × ((IsBitSet id 30 → ⊥) → Names t id q)
+
+-- a refused step, as a search tells it at an offset
+abbrev pub step_refusal : StepError → (at : ℕ) → SearchError
+step_refusal (step.Cache err) at = search.Match (GaveUp at)
+step_refusal step.OutOfMemory at = search.OutOfMemory
+
+-- why a step from a state on a unit is refused: at a quit byte, or where the state that it leads to isn't there, doesn't
+-- fit, and the clear rule refuses; each is told at an offset
+abbrev pub IsStepRefusal : Machine → Stored → Powerset → Option ℕ → (quit_at given_up_at : ℕ) → SearchError → Type 0
+IsStepRefusal m c q unit quit_at given_up_at (search.Match (QuitAt byte offset)) =
+    (unit ≡ Some byte) × (is_quit m.quits byte ≡ true) × (offset ≡ quit_at)
+IsStepRefusal m c q unit quit_at given_up_at (search.Match (GaveUp offset)) =
+    GivesUp c (successor m.nfa m.kind q unit) × (offset ≡ given_up_at)
+IsStepRefusal m c q unit quit_at given_up_at (search.Match (UnsupportedMode mode)) = ⊥
+IsStepRefusal m c q unit quit_at given_up_at search.OutOfMemory = Unit {0}
+IsStepRefusal m c q unit quit_at given_up_at search.NotAPair = ⊥
+
+-- the offset of the unit at a place of a pass, and the one in the span that the giving up there is told at
+abbrev pub unit_offset : Direction → Input → ℕ → ℕ
+unit_offset Forward input k = input.start + k
+unit_offset Backward input k = input.end - k - 1
+
+abbrev pub given_up_offset : Direction → Input → ℕ → ℕ
+given_up_offset Forward input k = input.start + k
+given_up_offset Backward input k = max input.start (input.end - k - 1)
+
+-- the offset of the byte behind the start of a pass
+abbrev pub behind_offset : Direction → Input → ℕ
+behind_offset Forward input = input.start - 1
+behind_offset Backward input = input.end
+
+-- why a pass is refused: its start is, or the step on a unit that it reads, no quit byte having been met before
+abbrev pub IsPassRefusal : Direction → Machine → Stored → Input → SearchError → Type 0
+IsPassRefusal way m c input e =
+    IsSearchRefusal m c input.anchored (tape_in way input).before (behind_offset way input) (offset_in way input 0) e
+    ⊎ ((k : ℕ) × (quit_behind m (tape_in way input).before ≡ None) × Reads way m input k
+    × ((j byte : ℕ) → j < k → next (tape_in way input) j ≡ Some byte → is_quit m.quits byte ≡ false)
+    × IsStepRefusal m c (state_in way m input k) (next (tape_in way input) k) (unit_offset way input k) (given_up_offset way input k) e)
+
+-- a pass over the span of an input tells this, and meets no quit byte
+abbrev pub Finds : Direction → Machine → Input → Option Pair → Type 0
+Finds way m input told = (told ≡ told_over way m.nfa m.kind input) × MeetsNoQuit way m input
+
+-- split places are skipped
+abbrev pub Skips : Machine → Type 0
+Skips m = IsSkipping (engine_of m.nfa m.kind)
+
+-- what a search finds: what is told over the first span where that is nothing or not split. No pass that it made met a
+-- quit byte.
+abbrev pub IsFound : Direction → Machine → Input → Option Half → Type 0
+IsFound way m input answer = Answers (Finds way m) (Skips m) way input answer
+
+-- why a search is refused: a pass over one of the spans that it tries is
+abbrev pub IsRefused : Direction → Machine → Stored → Input → SearchError → Type 0
+IsRefused way m c input e =
+    (k : ℕ) × Tries (Finds way m) (Skips m) way input k × (input.start + k ≤ input.end)
+    × IsPassRefusal way m c (later way k input) e
+
+-- a half match with the start of the span that gave it
+abbrev pub with_base : HalfMatch → ℕ → Half
+with_base half base = record { pattern = half.pattern; offset = half.offset; base = base }
+
+abbrev pub without_base : Half → HalfMatch
+without_base half = record { pattern = half.pattern; offset = half.offset }
+
+-- it is an answer of this kind without its base
+abbrev pub WithoutBase : (Option Half → Type 0) → Option HalfMatch → Type 0
+WithoutBase P found = (answer : Option Half) × P answer × (found ≡ option_map without_base answer)
+
+-- no byte is a quit byte from the one before the span to the one behind it
+abbrev pub NoQuitInReach : Machine → Input → Type 0
+NoQuitInReach m input =
+    (at byte : ℕ) → input.start ≤ at + 1 → at ≤ input.end → nth input.haystack at ≡ Some byte → is_quit m.quits byte ≡ false

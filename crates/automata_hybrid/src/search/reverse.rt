@@ -1,0 +1,256 @@
+ghost use Rattle.std.specs.Prelude.{ℕ, ◌≡◌, ◌+◌, ◌-◌, ◌^◌, ◌<◌, ◌≤◌, IfOk, IfErr, OnOk, Option, None, Some, true, false, length, Err};
+ghost use Rattle.automata_base.specs.Answers.{IsAnswer};
+ghost use Rattle.automata_base.specs.Classes.{is_quit};
+ghost use Rattle.automata_base.specs.Engines.{engine_of};
+ghost use Rattle.automata_base.specs.Lists.{nth};
+ghost use Rattle.automata_base.specs.Matches as matches;
+ghost use Rattle.automata_base.specs.Nodes.{nfa_of};
+ghost use Rattle.automata_base.specs.Paths.{IsLookAcyclic};
+ghost use Rattle.automata_base.specs.Powerset.{Powerset, dead};
+ghost use Rattle.automata_base.specs.Steps.{successor};
+ghost use Rattle.automata_base.specs.Tapes.{Backward};
+ghost use Rattle.automata_base.specs.declared.util.search.MatchErrorKind.TheVariants.{UnsupportedAnchored as UnsupportedMode};
+ghost use Rattle.automata_hybrid.specs.Caches.{IsCacheOf};
+ghost use Rattle.automata_hybrid.specs.Searches.{IsAt, IsFound, IsPassRefusal, IsRefused, IsStepRefusal, MeetsNoQuit, NoQuitInReach, Skips, WithoutBase, found_over, state_in, tape_in};
+ghost use Rattle.automata_hybrid.specs.Slots.{supports};
+ghost use Rattle.automata_hybrid.specs.Starting.{quit_behind};
+ghost use Rattle.automata_hybrid.specs.Table.{IsValid, Leads, Names};
+
+use crate::dfa::DFA;
+use crate::dfa::cache::Cache;
+use crate::id::LazyStateID;
+use crate::search::{Stop, is_anchored, quit, refusal, with_span};
+use automata_base::laws::told_is_right;
+use automata_base::util::search::{HalfMatch, Input};
+use automata_config::error::SearchError;
+
+impl DFA {
+    /// The pattern and the start of the match that a search from the span's end to its start finds: of the longest one
+    /// that ends there under kind all, and with an earliest input of the shortest one.
+    ///
+    /// The DFA is of an automaton that reads its regular expressions backward. A start that splits a character is
+    /// skipped by searching again from one place before.
+    ///
+    /// A quit byte is told at its own offset, and the giving up at the offset of the byte that was to be read, or at the
+    /// span's end or its start. After a refusal the cache serves other searches as before.
+    pub fn try_search_rev(
+        &self,
+        cache: &mut Cache,
+        input: &Input<'_>,
+    ) -> Result<Option<HalfMatch>, SearchError>
+        requires { IsCacheOf cache.old self.now }
+        ensures of { IsCacheOf cache.new self.now }
+
+        // What the passes tell, for every automaton; and where no cycle passes a look, the answer of the ordered paths.
+        ensures found { IfOk result (WithoutBase (IsFound Backward self.now input.now)) }
+        ensures answer { IsLookAcyclic (nfa_of self.now.nfa) → IfOk result (WithoutBase (IsAnswer Backward (engine_of self.now.nfa self.now.kind) input.now)) }
+        ensures errors { IfErr result (IsRefused Backward self.now cache.new.store input.now) }
+        ensures bounded { (Skips self.now → ⊥) → cache.new.count ≤ cache.old.count + (input.now.end - input.now.start + 2) }
+        ensures unsupported { input.now.start ≤ input.now.end → quit_behind self.now (nth input.now.haystack input.now.end) ≡ None → supports self.now input.now.anchored ≡ false → result ≡ Err (SearchError.Match (UnsupportedMode input.now.anchored)) }
+
+        // It does answer where no quit byte is in reach, the mode is supported, no clear limit is set, and memory is found.
+        ensures answers { NoQuitInReach self.now input.now → supports self.now input.now.anchored ≡ true → self.now.minimum_clear_count ≡ None → IfErr result (λ e. e ≡ SearchError.OutOfMemory) }
+    {
+        told_is_right(self.get_nfa());
+        let _haystack = input.haystack();
+        let found = self.search_rev(cache, input);
+        cache.bounds();
+        found
+    }
+
+    /// Tries one span after another.
+    fn search_rev(
+        &self,
+        cache: &mut Cache,
+        input: &Input<'_>,
+    ) -> Result<Option<HalfMatch>, SearchError>
+        requires { IsCacheOf cache.old self.now }
+        ensures of { IsCacheOf cache.new self.now }
+        ensures found { IfOk result (WithoutBase (IsFound Backward self.now input.now)) }
+        ensures errors { IfErr result (IsRefused Backward self.now cache.new.store input.now) }
+        ensures bounded { (Skips self.now → ⊥) → cache.new.count ≤ cache.old.count + (input.now.end - input.now.start + 2) }
+        ensures unsupported { input.now.start ≤ input.now.end → quit_behind self.now (nth input.now.haystack input.now.end) ≡ None → supports self.now input.now.anchored ≡ false → result ≡ Err (SearchError.Match (UnsupportedMode input.now.anchored)) }
+    {
+        let mut later = with_span(input, input.start(), input.end());
+        while !later.is_done() {
+            let Some(half) = self.pass_rev(cache, &later)? else {
+                return Ok(None);
+            };
+            if !self.skips_at(&later, half.offset()) {
+                return Ok(Some(half));
+            }
+            if is_anchored(later.get_anchored()) {
+                return Ok(None);
+            }
+            if later.end() == 0 {
+                return Ok(None);
+            }
+            later.set_end(later.end() - 1);
+        }
+        Ok(None)
+    }
+
+    /// One run over the span, which isn't done, from its end.
+    fn pass_rev(
+        &self,
+        cache: &mut Cache,
+        input: &Input<'_>,
+    ) -> Result<Option<HalfMatch>, SearchError>
+        requires of { IsCacheOf cache.old self.now }
+        requires open { input.now.start ≤ input.now.end }
+        ensures of { IsCacheOf cache.new self.now }
+        ensures found { IfOk result (λ o. o ≡ found_over Backward self.now input.now) }
+        ensures clean { OnOk result (MeetsNoQuit Backward self.now input.now) }
+        ensures errors { IfErr result (IsPassRefusal Backward self.now cache.new.store input.now) }
+        ensures counted { cache.new.count ≤ cache.old.count + (input.now.end - input.now.start + 2) }
+        ensures unsupported { quit_behind self.now (nth input.now.haystack input.now.end) ≡ None → supports self.now input.now.anchored ≡ false → result ≡ Err (SearchError.Match (UnsupportedMode input.now.anchored)) }
+        ensures supported { OnOk result (supports self.now input.now.anchored ≡ true) }
+    {
+        let start = self.start_state_reverse(cache, input)?;
+        cache.low();
+        if input.start() == input.end() {
+            if start.is_dead() {
+                return Ok(None);
+            }
+            return self.find_end_rev(cache, input, start, None);
+        }
+        cache.search_start(input.end() - 1);
+        if start.is_dead() {
+            cache.end_search(input.end() - 1);
+            return Ok(None);
+        }
+        let found = self.find_rev(cache, input, start)?;
+        Ok(found)
+    }
+
+    /// Follows known transitions without a tag, from an ID without one.
+    fn follow_rev(&self, cache: &Cache, input: &Input<'_>, start: usize, from: LazyStateID) -> Stop
+        requires of { IsCacheOf cache.now self.now }
+        requires valid { IsValid cache.now.store.table from }
+        requires from { input.now.start ≤ start }
+        requires within { start ≤ input.now.end }
+        ensures from { input.now.start ≤ result.at }
+        ensures within { result.at ≤ start }
+        ensures at { (found : Option matches.HalfMatch) → IsAt Backward self.now cache.now.store.table input.now (input.now.end - start) from found → IsAt Backward self.now cache.now.store.table input.now (input.now.end - result.at) result.id found }
+    {
+        if from.is_tagged() {
+            return Stop {
+                at: start,
+                id: from,
+            };
+        }
+        let haystack = input.haystack();
+        let first = input.start();
+        let mut at = start;
+        let mut id = from;
+        while at > first {
+            let next = self.next_state_untagged(cache, id, haystack[at - 1]);
+            if next.is_tagged() {
+                return Stop { at, id };
+            }
+            id = next;
+            at -= 1;
+        }
+        Stop { at, id }
+    }
+
+    /// Runs over the span, which isn't empty, from its start state, and takes the end step.
+    fn find_rev(
+        &self,
+        cache: &mut Cache,
+        input: &Input<'_>,
+        start: LazyStateID,
+    ) -> Result<Option<HalfMatch>, SearchError>
+        requires of { IsCacheOf cache.old self.now }
+        requires named { Names cache.old.store.table start (state_in Backward self.now input.now 0) }
+        requires behind { quit_behind self.now (tape_in Backward input.now).before ≡ None }
+        requires open { input.now.start ≤ input.now.end }
+        ensures of { IsCacheOf cache.new self.now }
+        ensures found { IfOk result (λ o. o ≡ found_over Backward self.now input.now) }
+        ensures clean { OnOk result (MeetsNoQuit Backward self.now input.now) }
+        ensures errors { IfErr result (IsPassRefusal Backward self.now cache.new.store input.now) }
+        ensures counted { cache.new.count ≤ cache.old.count + (input.now.end - input.now.start + 1) }
+    {
+        let mut at = input.end();
+        let mut id = start;
+        let mut found = None;
+        while at > input.start() {
+            let stop = self.follow_rev(cache, input, at, id);
+            if stop.at <= input.start() {
+                cache.end_search(input.start());
+                return self.find_end_rev(cache, input, stop.id, found);
+            }
+            at = stop.at - 1;
+            id = self.read(cache, stop.id, input.haystack()[at], at)?;
+            if id.is_dead() {
+                cache.end_search(at);
+                return Ok(found);
+            }
+            found = self.found_at(cache, id, stop.at, found);
+            if input.get_earliest() && found.is_some() {
+                cache.end_search(at);
+                return Ok(found);
+            }
+        }
+        cache.end_search(input.start());
+        self.find_end_rev(cache, input, id, found)
+    }
+
+    /// The step at the span's start: on the byte before it, or on the haystack's end.
+    fn find_end_rev(
+        &self,
+        cache: &mut Cache,
+        input: &Input<'_>,
+        id: LazyStateID,
+        found: Option<HalfMatch>,
+    ) -> Result<Option<HalfMatch>, SearchError>
+        requires of { IsCacheOf cache.old self.now }
+        requires open { input.now.start ≤ input.now.end }
+        requires behind { quit_behind self.now (tape_in Backward input.now).before ≡ None }
+        requires at { IsAt Backward self.now cache.old.store.table input.now (input.now.end - input.now.start) id found }
+        ensures of { IsCacheOf cache.new self.now }
+        ensures found { IfOk result (λ o. o ≡ found_over Backward self.now input.now) }
+        ensures clean { OnOk result (MeetsNoQuit Backward self.now input.now) }
+        ensures errors { IfErr result (IsPassRefusal Backward self.now cache.new.store input.now) }
+        ensures counted { cache.new.count ≤ cache.old.count + 1 }
+    {
+        let start = input.start();
+        if start == 0 {
+            let last = self.read_end(cache, id, start)?;
+            return Ok(self.found_at(cache, last, start, found));
+        }
+        let last = self.read_before(cache, id, input.haystack()[start - 1], start)?;
+        Ok(self.found_at(cache, last, start, found))
+    }
+
+    /// The state after the byte before the span. A quit byte is told at its own offset, and a refusal at the span's start.
+    fn read_before(
+        &self,
+        cache: &mut Cache,
+        id: LazyStateID,
+        byte: u8,
+        start: usize,
+    ) -> Result<LazyStateID, SearchError>
+        requires of { IsCacheOf cache.old self.now }
+        requires valid { IsValid cache.old.store.table id }
+        requires before { 0 < start }
+        ensures of { IsCacheOf cache.new self.now }
+        ensures counted { cache.new.count ≤ cache.old.count + 1 }
+        ensures named { IfOk result (λ n. (q : Powerset) → Names cache.old.store.table id q → Leads cache.new.store.table n (successor self.now.nfa self.now.kind q (Some byte))) }
+        ensures alive { (q : Powerset) → Names cache.old.store.table id q → q ≡ dead → ⊥ }
+        ensures clean { OnOk result (is_quit self.now.quits byte ≡ false) }
+        ensures errors { IfErr result (λ e. (q : Powerset) → Names cache.old.store.table id q → IsStepRefusal self.now cache.new.store q (Some byte) (start - 1) start e) }
+    {
+        cache.low();
+        match self.next_state(cache, id, byte) {
+            Ok(next) => {
+                cache.low();
+                if next.is_quit() {
+                    return Err(quit(byte, start - 1));
+                }
+                Ok(next)
+            }
+            Err(error) => Err(refusal(error, start)),
+        }
+    }
+}

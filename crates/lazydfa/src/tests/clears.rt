@@ -1,0 +1,257 @@
+//! Full caches: what a clear keeps, and when a search gives up in its place.
+
+use super::automata::{chain, id};
+use super::hand::Hand;
+use super::{Searcher, printed};
+use crate::catalogue::Entry;
+use regex_automata::hybrid::dfa::{Cache, Config};
+use regex_automata::hybrid::{CacheError, SearchError, StartError, StepError};
+use regex_automata::nfa::thompson::{NFA, State, Transition};
+use regex_automata::util::look::Look;
+use regex_automata::util::search::{Anchored, Input, MatchError, MatchKind};
+use std::alloc::Global;
+use std::process::Abort;
+use std::test::Fail;
+
+/// What the row shows, the options of the regex, the requests, and the replies. In the requests A
+/// stands for sixteen bytes `a`, for which the cache at its minimum has too little room.
+type Row = (&'static str, &'static str, &'static str, &'static str);
+
+const FULL: [Row; 16] = [
+    (
+        "each search clears",
+        "",
+        "fwd A\nfwd A",
+        "half 0 16\nhalf 0 16",
+    ),
+    (
+        "one clear is free",
+        " limit=1",
+        "fwd A\nfwd A",
+        "half 0 16\ngaveup 8",
+    ),
+    (
+        "two are",
+        " limit=2",
+        "fwd A\nfwd A\nfwd A",
+        "half 0 16\nhalf 0 16\ngaveup 3",
+    ),
+    (
+        "none is",
+        " limit=0",
+        "fwd A\nfwd A",
+        "gaveup 13\ngaveup 13",
+    ),
+    (
+        "too few bytes for each state",
+        " limit=0 perstate=1",
+        "fwd A",
+        "gaveup 13",
+    ),
+    (
+        "no byte for each state",
+        " limit=0 perstate=0",
+        "fwd A\nfwd A",
+        "half 0 16\nhalf 0 16",
+    ),
+    (
+        "a byte for each state but one",
+        " limit=0 perstate=1",
+        "fwd 61616162\nfwd A",
+        "none\ngaveup 13",
+    ),
+    (
+        "a byte for each state",
+        " limit=0 perstate=1",
+        "fwd 6161616162\nfwd A",
+        "none\nhalf 0 16",
+    ),
+    (
+        "the bytes before giving up count",
+        " limit=0 perstate=1",
+        "fwd A\nfwd A",
+        "gaveup 13\nhalf 0 16",
+    ),
+    (
+        "each reverse search clears",
+        "",
+        "rev A\nrev A",
+        "half 0 0\nhalf 0 0",
+    ),
+    (
+        "in reverse one clear is free",
+        " limit=1",
+        "rev A\nrev A",
+        "half 0 0\ngaveup 7",
+    ),
+    (
+        "in reverse none is",
+        " limit=0",
+        "rev A\nrev A",
+        "gaveup 2\ngaveup 2",
+    ),
+    (
+        "in reverse no byte for each state",
+        " limit=0 perstate=0",
+        "rev A\nrev A",
+        "half 0 0\nhalf 0 0",
+    ),
+    (
+        "in reverse a byte for each state but one",
+        " limit=0 perstate=1",
+        "rev 62616161\nrev A",
+        "none\ngaveup 2",
+    ),
+    (
+        "in reverse a byte for each state",
+        " limit=0 perstate=1",
+        "rev 6261616161\nrev A",
+        "none\nhalf 0 0",
+    ),
+    (
+        "each direction has a cache",
+        " limit=1",
+        "fwd A\nrev A\nfwd A\nrev A",
+        "half 0 16\nhalf 0 0\ngaveup 8\ngaveup 7",
+    ),
+];
+
+#[test]
+fn gives_up_by_the_clear_rule(rt: HostRuntime) -> Result<(), Fail> {
+    for (shows, options, requests, replies) in FULL {
+        let requests = requests.replace(rt.alloc(), 'A', "61616161616161616161616161616161")?;
+        let regex = "regex a16 noclasses capacity=37281";
+        let script = format!(in rt.alloc(); "{regex}{options}\n{requests}\n")?;
+        let want = format!(in rt.alloc(); "regex 0\n{replies}\n")?;
+        let (text, fault) = printed(rt.alloc(), script.as_str())?;
+        assert_eq!(rt; fault, None, "{shows}");
+        assert_eq!(rt; text.as_str(), want.as_str(), "{shows}");
+    }
+    Ok(())
+}
+
+/// Sixteen bytes `a`, one class for each byte, and no more capacity than has to be.
+fn tight() -> Config {
+    Config::new().byte_classes(false).cache_capacity(37281)
+}
+
+fn counts<R: Abort>(rt: &R, cache: &Cache, clears: usize, memory: usize, searched: usize) {
+    assert_eq!(rt; cache.clear_count(), clears);
+    assert_eq!(rt; cache.memory_usage(), memory);
+    assert_eq!(rt; cache.search_total_len(), searched);
+}
+
+#[test]
+fn counts_clears(rt: HostRuntime) -> Result<(), Fail> {
+    let mut searcher = Searcher::new(Entry::A16.forward(rt.alloc())?, tight())?;
+    let input = Input::new(b"aaaaaaaaaaaaaaaa");
+    counts(&rt, &searcher.cache, 0, 6677, 0);
+    searcher.find(&input)?;
+    counts(&rt, &searcher.cache, 1, 19288, 3);
+    searcher.find(&input)?;
+    counts(&rt, &searcher.cache, 2, 29798, 8);
+    Ok(())
+}
+
+#[test]
+fn counts_clears_in_reverse(rt: HostRuntime) -> Result<(), Fail> {
+    let config = tight().match_kind(MatchKind::All);
+    let mut searcher = Searcher::new(Entry::A16.reverse(rt.alloc())?, config)?;
+    let input = Input::new(b"aaaaaaaaaaaaaaaa");
+    searcher.find_reverse(&input)?;
+    counts(&rt, &searcher.cache, 1, 19288, 2);
+    searcher.find_reverse(&input)?;
+    counts(&rt, &searcher.cache, 2, 29798, 7);
+    Ok(())
+}
+
+/// Where a search gives up, it is still in progress.
+#[test]
+fn gives_up_in_progress(rt: HostRuntime) -> Result<(), Fail> {
+    let config = tight().minimum_cache_clear_count(Some(0));
+    let mut searcher = Searcher::new(Entry::A16.forward(rt.alloc())?, config)?;
+    let found = searcher.find(&Input::new(b"aaaaaaaaaaaaaaaa"));
+    let gave_up = MatchError::gave_up(13);
+    assert_eq!(rt; found, Err(SearchError::Match(gave_up)));
+    counts(&rt, &searcher.cache, 0, 36105, 13);
+    assert!(rt; searcher.cache.in_progress());
+    Ok(())
+}
+
+/// A start state outlives a clear, with its tag.
+#[test]
+fn keeps_the_start(rt: HostRuntime) -> Result<(), Fail> {
+    let config = tight().specialize_start_states(true);
+    let mut hand = Hand::new(Entry::A16.forward(rt.alloc())?, config)?;
+    let start = hand.at;
+    hand.steps("aaaaaaaaaaaaaaaa")?;
+    hand.end()?;
+    assert!(rt; start.is_start() && hand.at.is_match());
+    counts(&rt, &hand.cache, 1, 19288, 0);
+    hand.start(Anchored::No, None)?;
+    assert_eq!(rt; hand.at, start);
+    counts(&rt, &hand.cache, 1, 19288, 0);
+    Ok(())
+}
+
+/// `b`, or else twenty bytes `a`.
+fn fork(alloc: Global) -> Result<NFA, Fail> {
+    let mut transitions = Vec::new(alloc);
+    for (byte, next) in [(b'a', 1), (b'b', 20)] {
+        let next = id(next);
+        transitions.push(Transition {
+            lo: byte,
+            hi: byte,
+            next,
+        })?;
+    }
+    chain(alloc, State::Sparse(transitions))
+}
+
+/// A clear in a step from the start state keeps that state once, and forgets its other steps.
+#[test]
+fn clears_in_a_step_from_the_start(rt: HostRuntime) -> Result<(), Fail> {
+    let config = Config::new().byte_classes(false).cache_capacity(37645);
+    let mut hand = Hand::new(fork(rt.alloc())?, config)?;
+    let start = hand.at;
+    hand.steps("aaaaaaaaaaaaa")?;
+    counts(&rt, &hand.cache, 0, 36189, 0);
+    hand.start(Anchored::No, None)?;
+    hand.step(b'b')?;
+    counts(&rt, &hand.cache, 1, 10965, 0);
+    let stepped = hand.at;
+    hand.start(Anchored::No, None)?;
+    assert_eq!(rt; hand.at, start);
+    assert_eq!(rt; hand.known(b'b'), Some(stepped));
+    assert!(rt; hand.known(b'a').is_some_and(|id| id.is_unknown()));
+    Ok(())
+}
+
+/// Twenty bytes `a` from a word boundary on, so that the starts differ by the byte behind.
+fn word(alloc: Global) -> Result<NFA, Fail> {
+    chain(
+        alloc,
+        State::Look {
+            look: Look::WordAscii,
+            next: id(1),
+        },
+    )
+}
+
+/// The cache has no room for a start, and may not be cleared.
+#[test]
+fn refuses_a_start_without_room(rt: HostRuntime) -> Result<(), Fail> {
+    let config = Config::new()
+        .byte_classes(false)
+        .cache_capacity(37645)
+        .minimum_cache_clear_count(Some(0));
+    let mut hand = Hand::new(word(rt.alloc())?, config)?;
+    hand.steps("aaaaaaaaaaaaa")?;
+    let refused = hand.step(b'a');
+    assert_eq!(rt; refused, Err(StepError::Cache(CacheError)));
+    let refused = hand.start(Anchored::No, Some(b'a'));
+    let err = CacheError;
+    assert_eq!(rt; refused, Err(StartError::Cache { err }));
+    counts(&rt, &hand.cache, 0, 36189, 0);
+    Ok(())
+}

@@ -1,0 +1,202 @@
+//! Steps by hand.
+
+ghost use Rattle.std.specs.Prelude.{◌<◌, ◌^◌, IsTrue};
+ghost use Rattle.regex_automata.specs.Caches.{IsCacheOf, HasRow};
+
+use super::automata::{accept, door, either};
+use crate::catalogue::Entry;
+use regex_automata::hybrid::dfa::{Cache, Config, DFA};
+use regex_automata::hybrid::{LazyStateID, StartError, StepError};
+use regex_automata::nfa::thompson::NFA;
+use regex_automata::util::primitives::PatternID;
+use regex_automata::util::search::{Anchored, MatchKind};
+use regex_automata::util::start;
+use std::alloc::Global;
+use std::test::Fail;
+
+/// A lazy automaton with a cache of its own, and the state that was stepped to.
+#[derive(Drop)]
+pub struct Hand {
+    dfa: DFA,
+    pub cache: Cache,
+    pub at: LazyStateID,
+    ghost of: { IsCacheOf cache dfa },
+}
+
+impl Hand {
+    /// At the start that isn't anchored, behind no byte.
+    pub fn new(nfa: NFA, config: Config) -> Result<Hand, Fail> {
+        let dfa = DFA::builder().configure(config).build_from_nfa(nfa)?;
+        let cache = Cache::new(&dfa)?;
+        let at = LazyStateID::default();
+        let mut hand = Hand { dfa, cache, at };
+        hand.start(Anchored::No, None)?;
+        Ok(hand)
+    }
+
+    pub fn start(&mut self, mode: Anchored, behind: Option<u8>) -> Result<(), StartError> {
+        let config = start::Config::new().anchored(mode).look_behind(behind);
+        self.at = self.dfa.start_state(&mut self.cache, &config)?;
+        Ok(())
+    }
+
+    /// Whether the state is still there. A clear can end it.
+    fn has_state(&self) -> bool
+        ensures row { IsTrue result → HasRow self.now.cache.store.table self.now.at }
+        ensures low { IsTrue result → self.now.at < 2 ^ 31 }
+    {
+        !self.at.is_unknown() && self.cache.is_valid(self.at)
+    }
+
+    /// The step on a byte, from a state that is there.
+    pub fn step(&mut self, byte: u8) -> Result<(), StepError> {
+        if self.has_state() {
+            self.at = self.dfa.next_state(&mut self.cache, self.at, byte)?;
+        }
+        Ok(())
+    }
+
+    pub fn steps(&mut self, bytes: &str) -> Result<(), StepError> {
+        for byte in bytes.as_bytes() {
+            self.step(*byte)?;
+        }
+        Ok(())
+    }
+
+    pub fn end(&mut self) -> Result<(), StepError> {
+        if self.has_state() {
+            self.at = self.dfa.next_eoi_state(&mut self.cache, self.at)?;
+        }
+        Ok(())
+    }
+
+    /// What is known of the step on a byte, from a state that is there and has no tag.
+    pub fn known(&self, byte: u8) -> Option<LazyStateID> {
+        if self.at.is_tagged() || !self.has_state() {
+            return None;
+        }
+        Some(self.dfa.next_state_untagged(&self.cache, self.at, byte))
+    }
+
+    /// How many patterns match, and the last of them.
+    fn matched(&self) -> (usize, Option<PatternID>) {
+        if self.at.is_dead() || self.at.is_quit() || !self.has_state() {
+            return (0, None);
+        }
+        let count = self.dfa.match_len(&self.cache, self.at);
+        if count == 0 {
+            return (0, None);
+        }
+        let last = self.dfa.match_pattern(&self.cache, self.at, count - 1);
+        (count, Some(last))
+    }
+}
+
+#[test]
+fn steps_by_hand(rt: HostRuntime) -> Result<(), Fail> {
+    let mut hand = Hand::new(Entry::Ab.forward(rt.alloc())?, Config::new())?;
+    let start = hand.at;
+    assert!(rt; !start.is_tagged());
+    hand.step(b'a')?;
+    assert!(rt; hand.known(b'b').is_some_and(|id| id.is_unknown()));
+    let one = hand.at;
+    hand.step(b'b')?;
+    assert!(rt; !hand.at.is_tagged() && hand.at != one);
+    hand.end()?;
+    assert!(rt; hand.at.is_match());
+    assert_eq!(rt; hand.matched(), (1, Some(PatternID::ZERO)));
+    assert_eq!(rt; hand.cache.memory_usage(), 678);
+    hand.start(Anchored::No, None)?;
+    assert_eq!(rt; hand.at, start);
+    assert_eq!(rt; hand.known(b'a'), Some(one));
+    Ok(())
+}
+
+/// Dead leads to dead.
+#[test]
+fn stays_dead(rt: HostRuntime) -> Result<(), Fail> {
+    let mut hand = Hand::new(Entry::Ab.forward(rt.alloc())?, Config::new())?;
+    hand.step(b'x')?;
+    assert!(rt; hand.at.is_dead());
+    let dead = hand.at;
+    hand.steps("ab")?;
+    hand.end()?;
+    assert_eq!(rt; hand.at, dead);
+    assert_eq!(rt; hand.cache.memory_usage(), 421);
+    Ok(())
+}
+
+/// A quit byte leads to quit, which leads to itself.
+#[test]
+fn stays_at_quit(rt: HostRuntime) -> Result<(), Fail> {
+    let config = Config::new().quit(b'c', true);
+    let mut hand = Hand::new(Entry::Ab.forward(rt.alloc())?, config)?;
+    assert!(rt; hand.known(b'c').is_some_and(|id| id.is_quit()));
+    hand.step(b'c')?;
+    assert!(rt; hand.at.is_quit());
+    hand.step(b'a')?;
+    assert!(rt; hand.at.is_quit());
+    Ok(())
+}
+
+#[test]
+fn lists_the_patterns_of_a_match(rt: HostRuntime) -> Result<(), Fail> {
+    let config = Config::new().match_kind(MatchKind::All);
+    let mut hand = Hand::new(Entry::Aa.forward(rt.alloc())?, config)?;
+    hand.steps("aa")?;
+    assert!(rt; hand.at.is_match());
+    assert_eq!(rt; hand.matched(), (2, PatternID::new(1)));
+    Ok(())
+}
+
+/// Two ways to one pattern match once.
+#[test]
+fn lists_a_pattern_once(rt: HostRuntime) -> Result<(), Fail> {
+    let states = vec![in rt.alloc(); either(1, 2), accept(0), accept(0)]?;
+    let config = Config::new().match_kind(MatchKind::All);
+    let mut hand = Hand::new(door(states, 0, 1)?, config)?;
+    hand.end()?;
+    assert_eq!(rt; hand.matched(), (1, Some(PatternID::ZERO)));
+    Ok(())
+}
+
+#[test]
+fn tags_starts_where_asked(rt: HostRuntime) -> Result<(), Fail> {
+    for tags in [false, true] {
+        let config = Config::new().specialize_start_states(tags);
+        let hand = Hand::new(Entry::Ab.forward(rt.alloc())?, config)?;
+        assert_eq!(rt; hand.at.is_start(), tags);
+    }
+    Ok(())
+}
+
+/// The byte behind is looked at first, and then the mode.
+#[test]
+fn refuses_starts_in_order(rt: HostRuntime) -> Result<(), Fail> {
+    let mode = Anchored::Pattern(PatternID::ZERO);
+    let config = Config::new().quit(b'c', true);
+    let mut hand = Hand::new(Entry::Ab.forward(rt.alloc())?, config)?;
+    let refused = hand.start(mode, None);
+    assert_eq!(rt; refused, Err(StartError::UnsupportedAnchored { mode }));
+    let refused = hand.start(mode, Some(b'c'));
+    assert_eq!(rt; refused, Err(StartError::Quit { byte: b'c' }));
+    Ok(())
+}
+
+/// Whether the start of a pattern of `words` is dead.
+fn starts_dead(alloc: Global, number: usize) -> Result<bool, Fail> {
+    let config = Config::new().starts_for_each_pattern(true);
+    let mut hand = Hand::new(Entry::Words.forward(alloc)?, config)?;
+    let pattern = PatternID::new(number).ok_or("a pattern")?;
+    hand.start(Anchored::Pattern(pattern), None)?;
+    Ok(hand.at.is_dead())
+}
+
+#[test]
+fn starts_dead_past_the_last_pattern(rt: HostRuntime) -> Result<(), Fail> {
+    for (number, dead) in [(0, false), (1, false), (2, true), (7, true)] {
+        let found = starts_dead(rt.alloc(), number)?;
+        assert_eq!(rt; found, dead, "{number}");
+    }
+    Ok(())
+}
