@@ -25,6 +25,7 @@ mod paths;
 mod reverse;
 mod rows;
 mod scripts;
+mod sets;
 mod texts;
 
 /// A reader over memory that takes few bytes a call and fails at a chosen call, counted from 1.
