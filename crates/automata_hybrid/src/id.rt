@@ -58,7 +58,7 @@ impl LazyStateID {
 
     /// Whether any tag is set.
     pub fn is_tagged(self) -> bool
-        ensures { IsTrue result ↔ (134217727 < self) }
+        ensures { IsTrue result ↔ (offset_limit ≤ self) }
     {
         self.id > LazyStateID::MAX
     }
@@ -109,7 +109,7 @@ impl LazyStateID {
     /// The offset of an ID without a tag: it needs no mask.
     #[inline(always)]
     pub(crate) fn untagged(self) -> u32
-        requires { self ≤ 134217727 }
+        requires { self < offset_limit }
         ensures { result ≡ self % offset_limit }
     {
         self.id

@@ -4,7 +4,7 @@ ghost use Rattle.automata_base.specs.Powerset.{dead};
 ghost use Rattle.automata_base.specs.Steps.{successor, start_state_of};
 ghost use Rattle.automata_hybrid.specs.Owned.{IsOwn};
 ghost use Rattle.automata_hybrid.specs.Machine.{Machine, next_of, start_of, greatest, template_of};
-ghost use Rattle.automata_hybrid.specs.Ids.{dead_id, unknown_id, fixed_from};
+ghost use Rattle.automata_hybrid.specs.Ids.{dead_id, unknown_id, fixed_from, offset_limit};
 ghost use Rattle.automata_hybrid.specs.Table.{id_of, Names, IsValid, Leads, MayLead, IsCell};
 ghost use Rattle.automata_hybrid.specs.Bounds.{Fits, refuses_to_clear, IsCacheError, KeepsStarts, IsAdded, cell_of, with_next, with_start, with_searched, grown, cleared, usage, settings_of};
 ghost use Rattle.automata_hybrid.specs.Caches.{IsRow, IsCacheOf, fresh_cache, counted, with_store};
@@ -134,7 +134,7 @@ impl Cache {
     pub(crate) fn cell_untagged(&self, id: LazyStateID, class: usize) -> LazyStateID
         requires row { IsValid self.now.store.table id }
         requires class { class < self.now.store.table.of.stride }
-        requires untagged { id ≤ 134217727 }
+        requires untagged { id < offset_limit }
         ensures value { result ≡ cell_of self.now.store id class }
         ensures named { (q : Powerset) → Names self.now.store.table id q → IsCell self.now.store.table q class result }
         ensures stride { self.now.store.table.of.stride ≤ 512 }
@@ -248,31 +248,31 @@ impl Cache {
     }
 
     /// The start slots are as many as the DFA's.
-    pub(crate) fn slot_count(&self)
+    pub(crate) fn see_slots(&self)
         ensures { length self.now.store.starts ≡ self.now.store.table.of.slots }
     {
-        self.store.slot_count();
+        self.store.see_slots();
     }
 
     /// The bounds are the DFA's.
-    pub(crate) fn bounds(&self)
+    pub(crate) fn see_settings(&self)
         ensures { self.now.store.settings ≡ settings_of self.now.store.table.of }
     {
-        self.store.bounds();
+        self.store.see_settings();
     }
 
     /// IDs of rows have no high tag, and the match tag exactly where their state has patterns; no row has the dead state.
-    pub(crate) fn low(&self)
+    pub(crate) fn see_ids(&self)
         ensures low { (id : ℕ) (q : Powerset) → Names self.now.store.table id q → id < fixed_from }
         ensures tagged { (id : ℕ) (q : Powerset) → Names self.now.store.table id q → IsBitSet id 27 ↔ (0 < length q.patterns) }
         ensures small { self.now.store.table.of.stride ≤ 512 }
         ensures alive { (id : ℕ) (q : Powerset) → Names self.now.store.table id q → q ≡ dead → ⊥ }
     {
-        self.store.low();
+        self.store.see_ids();
     }
 
     /// The states of rows are the automaton's own.
-    pub(crate) fn own(&self, id: LazyStateID)
+    pub(crate) fn see_state(&self, id: LazyStateID)
         requires { IsValid self.now.store.table id }
         ensures { (q : Powerset) → Names self.now.store.table id q → IsOwn self.now.store.table.of.nfa q }
     {
@@ -365,7 +365,7 @@ impl Cache {
         ensures usage { result ≡ usage self.now.store }
         ensures within { result ≤ self.now.store.table.of.capacity }
     {
-        self.store.bounds();
+        self.store.see_settings();
         self.store.memory_usage()
     }
 }

@@ -216,7 +216,7 @@ impl DFA {
     }
 
     /// The start slots are as many as the modes give.
-    pub(crate) fn ends_slots(&self)
+    pub(crate) fn see_slots(&self)
         ensures number { self.now.slots ≡ start_slots self.now.nfa self.now.per_pattern }
         ensures fits { self.now.slots < 2 ^ 64 }
     {

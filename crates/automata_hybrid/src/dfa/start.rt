@@ -115,7 +115,7 @@ impl DFA {
         ensures value { result ≡ group * 6 + behind_of self.now.nfa.flags.line_terminator prev }
         ensures within { result < self.now.slots }
     {
-        self.ends_slots();
+        self.see_slots();
         group * 6 + self.behind(prev)
     }
 
@@ -129,7 +129,7 @@ impl DFA {
         ensures refused { (result ≡ Err (StartError.UnsupportedAnchored mode)) ↔ (supports self.now mode ≡ false) }
         ensures only { IfErr result (λ e. e ≡ StartError.UnsupportedAnchored mode) }
     {
-        self.ends_slots();
+        self.see_slots();
         match mode {
             Anchored::No => Ok(Some(self.slot(0, prev))),
             Anchored::Yes => Ok(Some(self.slot(1, prev))),
@@ -206,7 +206,7 @@ impl DFA {
         if let Some(byte) = self.quits_behind(config.get_look_behind()) {
             return Err(StartError::Quit { byte });
         }
-        cache.slot_count();
+        cache.see_slots();
         match self.mode_slot(config.get_anchored(), config.get_look_behind())? {
             None => Ok(cache.dead()),
             Some(slot) => {
@@ -238,7 +238,7 @@ impl DFA {
         ensures errors { MayStart self.now mode prev → IfErr result (IsStartRefusal self.now cache.old.store mode prev) }
         ensures err { OnErr result (cache.new ≡ counted cache.old) }
     {
-        cache.slot_count();
+        cache.see_slots();
         match cache.start(self, slot, mode, prev) {
             Ok(id) => Ok(id),
             Err(error) => Err(start_refusal(error)),

@@ -6,7 +6,7 @@ ghost use Rattle.automata_hybrid.specs.Machine.{next_of, start_of, template_of};
 ghost use Rattle.automata_hybrid.specs.Table.{id_of, Names, IsValid, Leads};
 ghost use Rattle.automata_hybrid.specs.Bounds.{GivesUp, Fits, refuses_to_clear, IsCacheError, IsKnownTransition, cell_of, IsNext, KeepsStarts, IsComputed};
 ghost use Rattle.automata_hybrid.specs.Caches.{IsCacheOf, HasRow, counted};
-ghost use Rattle.automata_hybrid.specs.Ids.{quit_id, unknown_id, fixed_from};
+ghost use Rattle.automata_hybrid.specs.Ids.{quit_id, unknown_id, fixed_from, offset_limit};
 ghost use Rattle.automata_base.specs.Classes.{class_in, eoi_class, is_quit};
 
 use crate::dfa::DFA;
@@ -114,11 +114,11 @@ impl DFA {
         ensures gives_up { IfErr result (λ e. IsCacheError e → (q : Powerset) → Names cache.old.store.table id q → GivesUp cache.old.store (successor self.now.nfa self.now.kind q (Some byte))) }
         ensures err { OnErr result (cache.new ≡ counted cache.old) }
     {
-        cache.low();
+        cache.see_ids();
         if id.is_fixed() {
             return Ok(id);
         }
-        cache.own(id);
+        cache.see_state(id);
         let class = self.class_of(byte);
         let next = cache.next(self, id, class, Some(byte))?;
         Ok(next)
@@ -148,11 +148,11 @@ impl DFA {
         ensures gives_up { IfErr result (λ e. IsCacheError e → (q : Powerset) → Names cache.old.store.table id q → GivesUp cache.old.store (successor self.now.nfa self.now.kind q None)) }
         ensures err { OnErr result (cache.new ≡ counted cache.old) }
     {
-        cache.low();
+        cache.see_ids();
         if id.is_fixed() {
             return Ok(id);
         }
-        cache.own(id);
+        cache.see_state(id);
         let class = self.end_class();
         let next = cache.next(self, id, class, None)?;
         Ok(next)
@@ -163,13 +163,13 @@ impl DFA {
     pub fn next_state_untagged(&self, cache: &Cache, id: LazyStateID, byte: u8) -> LazyStateID
         requires of { IsCacheOf cache.now self.now }
         requires valid { IsValid cache.now.store.table id }
-        requires untagged { id ≤ 134217727 }
+        requires untagged { id < offset_limit }
         ensures value { result ≡ cell_of cache.now.store id (class_in self.now.classes byte) }
         ensures quit { is_quit self.now.quits byte ≡ true → result ≡ quit_id self.now.stride }
         ensures named { is_quit self.now.quits byte ≡ false → result < unknown_id → (q : Powerset) → Names cache.now.store.table id q → Leads cache.now.store.table result (successor self.now.nfa self.now.kind q (Some byte)) }
         ensures row { result < unknown_id → HasRow cache.now.store.table result }
     {
-        cache.own(id);
+        cache.see_state(id);
         cache.cell_untagged(id, self.class_of(byte))
     }
 

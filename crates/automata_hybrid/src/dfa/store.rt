@@ -160,21 +160,21 @@ impl Store {
     }
 
     /// The bounds are the DFA's.
-    pub fn bounds(&self)
+    pub fn see_settings(&self)
         ensures { self.now.settings ≡ settings_of self.now.table.of }
     {
         let _ = &self.settings;
     }
 
     /// The start slots are as many as the DFA's.
-    pub fn slot_count(&self)
+    pub fn see_slots(&self)
         ensures { length self.now.starts ≡ self.now.table.of.slots }
     {
         let _ = self.starts.len();
     }
 
     /// IDs of rows have no high tag.
-    pub fn low(&self)
+    pub fn see_ids(&self)
         ensures low { (id : ℕ) (q : Powerset) → Names self.now.table id q → id < fixed_from }
         ensures tagged { (id : ℕ) (q : Powerset) → Names self.now.table id q → IsBitSet id 27 ↔ (0 < length q.patterns) }
         ensures small { self.now.table.of.stride ≤ 512 }
@@ -184,7 +184,7 @@ impl Store {
     }
 
     /// No state of the automaton costs more than fits.
-    fn cheap(&self)
+    fn see_costs(&self)
         ensures { greatest self.now.table.of < 2 ^ 64 }
     {
         let _ = self.starts.len();
@@ -270,7 +270,7 @@ impl Store {
     pub fn cell_untagged(&self, id: LazyStateID, class: usize) -> LazyStateID
         requires row { IsValid self.now.table id }
         requires class { class < self.now.table.of.stride }
-        requires untagged { id ≤ 134217727 }
+        requires untagged { id < offset_limit }
         ensures value { result ≡ cell_of self.now id class }
         ensures named { (q : Powerset) → Names self.now.table id q → IsCell self.now.table q class result }
         ensures stride { self.now.table.of.stride ≤ 512 }
@@ -299,7 +299,7 @@ impl Store {
     }
 
     /// With so few rows a state fits, whatever it costs.
-    fn has_room(&self)
+    fn see_room(&self)
         requires { length self.now.table.rows ≤ length self.now.starts + 1 }
         ensures fits { (extra : ℕ) → extra ≤ greatest self.now.table.of → Fits self.now extra }
     {
@@ -367,7 +367,7 @@ impl Store {
         ensures refused { (Fits self.old (cost state) → ⊥) → refuses_to_clear self.old ≡ true → IfErr result IsCacheError × (is_ok result ≡ false) }
         ensures err { OnErr result (self.new ≡ self.old) }
     {
-        self.cheap();
+        self.see_costs();
         if self.fits(row::cost(&state)) {
             let to = self.add_row(state, false)?;
             return Ok((from, to));
@@ -377,7 +377,7 @@ impl Store {
         }
         let mut fresh = self.cleared(dfa)?;
         let from = fresh.keep_saved(&self.table, from)?;
-        fresh.has_room();
+        fresh.see_room();
         let to = fresh.add_row(state, false)?;
         *self = fresh;
         Ok((from, to))
@@ -404,7 +404,7 @@ impl Store {
         ensures gives_up { IfErr result (λ e. IsCacheError e → (Fits self.old (cost state) → ⊥) × (refuses_to_clear self.old ≡ true)) }
         ensures err { OnErr result (self.new ≡ self.old) }
     {
-        self.cheap();
+        self.see_costs();
         if self.fits(row::cost(&state)) {
             let id = self.add_row(state, started)?;
             return Ok(id);
@@ -413,7 +413,7 @@ impl Store {
             return Err(StepError::Cache(CacheError));
         }
         let mut fresh = self.cleared(dfa)?;
-        fresh.has_room();
+        fresh.see_room();
         let id = fresh.add_row(state, started)?;
         *self = fresh;
         Ok(id)

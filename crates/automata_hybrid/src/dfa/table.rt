@@ -209,7 +209,7 @@ impl Table {
     pub fn cell_untagged(&self, id: LazyStateID, class: usize) -> LazyStateID
         requires row { IsValid self.now id }
         requires class { class < self.now.of.stride }
-        requires untagged { id ≤ 134217727 }
+        requires untagged { id < offset_limit }
         ensures value { result ≡ slice_index self.now.cells (cell_at id class) }
         ensures named { (q : Powerset) → Names self.now id q → IsCell self.now q class result }
         ensures stride { self.now.of.stride ≤ 512 }

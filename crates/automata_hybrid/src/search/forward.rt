@@ -73,7 +73,7 @@ impl DFA {
         told_is_right(self.get_nfa());
         let _haystack = input.haystack();
         let found = self.search_fwd(cache, input);
-        cache.bounds();
+        cache.see_settings();
         found
     }
 
@@ -123,7 +123,7 @@ impl DFA {
         ensures supported { OnOk result (supports self.now input.now.anchored ≡ true) }
     {
         let start = self.start_state_forward(cache, input)?;
-        cache.low();
+        cache.see_ids();
         cache.search_start(input.start());
         if start.is_dead() {
             cache.end_search(input.start());

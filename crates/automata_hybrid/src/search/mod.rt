@@ -107,7 +107,7 @@ impl DFA {
         ensures named { IfOk result (λ n. is_quit self.now.quits byte ≡ false → (q : Powerset) → Names cache.old.store.table id q → Leads cache.new.store.table n (successor self.now.nfa self.now.kind q (Some byte))) }
         ensures errors { IfErr result (λ e. (q : Powerset) → Names cache.old.store.table id q → IsStepRefusal self.now cache.new.store q (Some byte) at at e) }
     {
-        cache.low();
+        cache.see_ids();
         match self.next_state(cache, id, byte) {
             Ok(next) => Ok(next),
             Err(error) => Err(refusal(error, at)),
@@ -133,10 +133,10 @@ impl DFA {
         ensures clean { OnOk result (is_quit self.now.quits byte ≡ false) }
         ensures errors { IfErr result (λ e. (q : Powerset) → Names cache.old.store.table id q → IsStepRefusal self.now cache.new.store q (Some byte) at at e) }
     {
-        cache.low();
+        cache.see_ids();
         cache.move_search(at);
         let next = self.step(cache, id, byte, at)?;
-        cache.low();
+        cache.see_ids();
         if next.is_quit() {
             cache.end_search(at);
             return Err(quit(byte, at));
@@ -159,7 +159,7 @@ impl DFA {
         ensures alive { (q : Powerset) → Names cache.old.store.table id q → q ≡ dead → ⊥ }
         ensures errors { IfErr result (λ e. (q : Powerset) → Names cache.old.store.table id q → IsStepRefusal self.now cache.new.store q None at at e) }
     {
-        cache.low();
+        cache.see_ids();
         match self.next_eoi_state(cache, id) {
             Ok(next) => Ok(next),
             Err(error) => Err(refusal(error, at)),
@@ -178,7 +178,7 @@ impl DFA {
         requires leads { (q : Powerset) × Leads cache.now.store.table id q }
         ensures { (q : Powerset) → Leads cache.now.store.table id q → result ≡ half_at q.patterns at found }
     {
-        cache.low();
+        cache.see_ids();
         if id.is_fixed() {
             return found;
         }

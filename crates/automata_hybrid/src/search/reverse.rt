@@ -54,7 +54,7 @@ impl DFA {
         told_is_right(self.get_nfa());
         let _haystack = input.haystack();
         let found = self.search_rev(cache, input);
-        cache.bounds();
+        cache.see_settings();
         found
     }
 
@@ -107,7 +107,7 @@ impl DFA {
         ensures supported { OnOk result (supports self.now input.now.anchored ≡ true) }
     {
         let start = self.start_state_reverse(cache, input)?;
-        cache.low();
+        cache.see_ids();
         if input.start() == input.end() {
             if start.is_dead() {
                 return Ok(None);
@@ -241,10 +241,10 @@ impl DFA {
         ensures clean { OnOk result (is_quit self.now.quits byte ≡ false) }
         ensures errors { IfErr result (λ e. (q : Powerset) → Names cache.old.store.table id q → IsStepRefusal self.now cache.new.store q (Some byte) (start - 1) start e) }
     {
-        cache.low();
+        cache.see_ids();
         match self.next_state(cache, id, byte) {
             Ok(next) => {
-                cache.low();
+                cache.see_ids();
                 if next.is_quit() {
                     return Err(quit(byte, start - 1));
                 }

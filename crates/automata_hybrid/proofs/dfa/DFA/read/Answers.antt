@@ -7,7 +7,7 @@ use Rattle.automata_hybrid.proofs.dfa.DFA.read.Goals as goal
 
 pub returns-clause-clean : goal.returns-clause-clean
 returns-clause-clean c =
-    unquit c.args.self.now c.step.new.cache.store.table c.in_ok-next.next c.args.byte c.in_ok-next.ensures.of c.low-2.ensures.small
+    unquit c.args.self.now c.step.new.cache.store.table c.in_ok-next.next c.args.byte c.in_ok-next.ensures.of c.see_ids-2.ensures.small
     (λ b. false_true (c.if-is_quit.ensures.1 b)) c.in_ok-next.ensures.quit
 
 pub returns-clause-named : goal.returns-clause-named
@@ -15,14 +15,14 @@ returns-clause-named c = λ q n.
     c.in_ok-next.ensures.named (returns-clause-clean c) q (subst (λ (t : Rows). Names t c.args.id q) (sym c.move_search.ensures.table) n)
 
 pub returns-clause-dead : goal.returns-clause-dead
-returns-clause-dead c = dead_tagged c.step.new.cache.store.table c.in_ok-next.next (λ q. c.low-2.ensures.low c.in_ok-next.next q) c.low-2.ensures.small
+returns-clause-dead c = dead_tagged c.step.new.cache.store.table c.in_ok-next.next (λ q. c.see_ids-2.ensures.low c.in_ok-next.next q) c.see_ids-2.ensures.small
 
 pub returns-then-is_quit-clause-errors : goal.returns-then-is_quit-clause-errors
 returns-then-is_quit-clause-errors c = λ q n.
     subst (IsStepRefusal c.args.self.now c.end_search.new.self.store q _ c.args.at c.args.at) (sym c.quit.ensures) (
       refl,
       quits c.args.self.now c.move_search.new.self.store.table c.step.new.cache.store.table c.args.id c.in_ok-next.next c.args.byte q
-          c.low-2.ensures.small (λ p. c.low-2.ensures.low c.in_ok-next.next p) (c.if-is_quit.ensures.0 refl) c.in_ok-next.ensures.named
+          c.see_ids-2.ensures.small (λ p. c.see_ids-2.ensures.low c.in_ok-next.next p) (c.if-is_quit.ensures.0 refl) c.in_ok-next.ensures.named
           (subst (λ (t : Rows). Names t c.args.id q) (sym c.move_search.ensures.table) n),
       refl,
     )

@@ -6,7 +6,7 @@ use Rattle.automata_hybrid.proofs.dfa.DFA.step.Goals as goal
 
 pub returns-in-Ok-clause-quit : goal.returns-in-Ok-clause-quit
 returns-in-Ok-clause-quit c = λ e.
-    ok_one (c.in-Ok.ensures.quit (c.low.ensures.low c.args.id c.requires.valid.0 c.requires.valid.1) e)
+    ok_one (c.in-Ok.ensures.quit (c.see_ids.ensures.low c.args.id c.requires.valid.0 c.requires.valid.1) e)
 
 pub returns-in-Err-clause-errors : goal.returns-in-Err-clause-errors
 returns-in-Err-clause-errors c = λ q n.

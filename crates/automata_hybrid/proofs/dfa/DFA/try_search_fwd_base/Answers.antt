@@ -18,5 +18,5 @@ returns-clause-answer c = λ acyclic.
 pub returns-clause-answers : goal.returns-clause-answers
 returns-clause-answers c = λ reach mode free.
     IfErr-weaker c.search_fwd-found.result _ _ (λ e r.
-    refused_memory Forward c.args.self.now c.search_fwd-found.new.cache.store c.args.input.now e c.haystack-haystack.ensures.within.1 (c.bounds.ensures ∙ ap settings_of c.search_fwd-found.ensures.of) reach mode free r)
+    refused_memory Forward c.args.self.now c.search_fwd-found.new.cache.store c.args.input.now e c.haystack-haystack.ensures.within.1 (c.see_settings.ensures ∙ ap settings_of c.search_fwd-found.ensures.of) reach mode free r)
     c.search_fwd-found.ensures.errors

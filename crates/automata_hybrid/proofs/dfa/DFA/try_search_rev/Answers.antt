@@ -21,5 +21,5 @@ returns-clause-answer c = λ acyclic.
 pub returns-clause-answers : goal.returns-clause-answers
 returns-clause-answers c = λ reach mode free.
     IfErr-weaker c.search_rev-found.result _ _ (λ e r.
-    refused_memory Backward c.args.self.now c.search_rev-found.new.cache.store c.args.input.now e c.haystack-haystack.ensures.within.1 (c.bounds.ensures ∙ ap settings_of c.search_rev-found.ensures.of) reach mode free r)
+    refused_memory Backward c.args.self.now c.search_rev-found.new.cache.store c.args.input.now e c.haystack-haystack.ensures.within.1 (c.see_settings.ensures ∙ ap settings_of c.search_rev-found.ensures.of) reach mode free r)
     c.search_rev-found.ensures.errors

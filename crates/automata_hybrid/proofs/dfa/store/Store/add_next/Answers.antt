@@ -7,7 +7,7 @@ use Rattle.automata_base.specs.Powerset.{cost}
 use Rattle.automata_hybrid.proofs.dfa.store.Store.add_next.Goals as goal
 
 pub add_row-requires-2-clause-fits : goal.add_row-requires-2-clause-fits
-add_row-requires-2-clause-fits c = c.has_room.ensures.fits (cost c.args.state) (rw (c.in_ok-from.ensures.of, c.in_ok-fresh.ensures.of) c.requires.cost)
+add_row-requires-2-clause-fits c = c.see_room.ensures.fits (cost c.args.state) (rw (c.in_ok-from.ensures.of, c.in_ok-fresh.ensures.of) c.requires.cost)
 
 pub add_row-requires-2-clause-cost : goal.add_row-requires-2-clause-cost
 add_row-requires-2-clause-cost c = rw (c.in_ok-from.ensures.of, c.in_ok-fresh.ensures.of) c.requires.cost

@@ -1,7 +1,7 @@
 use Rattle.std.proofs.Common.{subst}
 use Rattle.automata_hybrid.specs.Bounds.{Stored, IsCache}
 use Rattle.automata_hybrid.proofs.Bounding.{Fits-few}
-use Rattle.automata_hybrid.proofs.dfa.store.Store.has_room.Goals as goal
+use Rattle.automata_hybrid.proofs.dfa.store.Store.see_room.Goals as goal
 
 pub returns : goal.returns
 returns c =

@@ -1,6 +1,6 @@
 use Rattle.std.proofs.Common.{◌≡◌, length, subst}
 use Rattle.automata_hybrid.specs.Bounds.{Stored}
-use Rattle.automata_hybrid.proofs.dfa.store.Store.slot_count.Goals as goal
+use Rattle.automata_hybrid.proofs.dfa.store.Store.see_slots.Goals as goal
 
 pub returns : goal.returns
 returns c = subst (λ (v : Stored). length v.starts ≡ v.table.of.slots) c.self.view_is c.self.invariant.slots

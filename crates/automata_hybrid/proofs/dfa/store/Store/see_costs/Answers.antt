@@ -2,7 +2,7 @@ use Rattle.std.proofs.Common.{◌≤◌, subst, arith}
 use Rattle.automata_hybrid.specs.Machine.{greatest}
 use Rattle.automata_hybrid.specs.Bounds.{Stored, IsCache}
 use Rattle.automata_hybrid.proofs.Bounding.{small_cost}
-use Rattle.automata_hybrid.proofs.dfa.store.Store.cheap.Goals as goal
+use Rattle.automata_hybrid.proofs.dfa.store.Store.see_costs.Goals as goal
 
 pub returns : goal.returns
 returns c =
