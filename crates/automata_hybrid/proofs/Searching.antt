@@ -19,7 +19,8 @@ use Rattle.std.specs.Result.{IsErrAnd}
 use Rattle.automata_config.specs.declared.error.SearchError.{SearchError}
 use Rattle.automata_hybrid.specs.Bounds.{Stored}
 use Rattle.automata_hybrid.specs.Machine.{Machine}
-use Rattle.automata_hybrid.specs.Searches.{IsStepRefusal, IsPassRefusal, unit_offset, given_up_offset, tape_in, state_in, told_in, half_of, half_at, found_over, IsAt, Reads, MeetsNoQuit}
+use Rattle.automata_hybrid.specs.Passing.{half_of, half_at, found_over, IsAt}
+use Rattle.automata_hybrid.specs.Searches.{IsStepRefusal, IsPassRefusal, unit_offset, given_up_offset, tape_in, state_in, told_in, Reads, MeetsNoQuit}
 use Rattle.automata_hybrid.specs.Starting.{quit_behind}
 use Rattle.automata_base.proofs.Paths.Orders.{some_inj}
 use Rattle.automata_hybrid.specs.Ids.{quit_id}

@@ -11,7 +11,8 @@ use Rattle.automata_base.proofs.Determinizing.Told.{turn_answers}
 use Rattle.automata_config.specs.declared.error.SearchError.{SearchError}
 use Rattle.automata_hybrid.specs.Bounds.{Stored}
 use Rattle.automata_hybrid.specs.Machine.{Machine}
-use Rattle.automata_hybrid.specs.Searches.{half_of, found_over, Finds, Skips, IsFound, IsRefused, IsPassRefusal, MeetsNoQuit, with_base}
+use Rattle.automata_hybrid.specs.Passing.{half_of, found_over}
+use Rattle.automata_hybrid.specs.Searches.{Finds, Skips, IsFound, IsRefused, IsPassRefusal, MeetsNoQuit, with_base}
 use Rattle.automata_hybrid.proofs.Searching.{half_none}
 
 -- the pair that a half match stands for

@@ -5,7 +5,8 @@ use Rattle.automata_hybrid.specs.Table.{Rows, IsCell, IsValid, Leads, Names}
 use Rattle.automata_hybrid.specs.Ids.{quit_id}
 use Rattle.automata_hybrid.specs.Caches.{HasRow}
 use Rattle.automata_hybrid.specs.Bounds.{Stored, IsNext, IsCacheError, GivesUp}
-use Rattle.automata_hybrid.specs.Searches.{IsDeadTagged, IsStepRefusal, step_refusal}
+use Rattle.automata_hybrid.specs.Passing.{IsDeadTagged, step_refusal}
+use Rattle.automata_hybrid.specs.Searches.{IsStepRefusal}
 use Rattle.automata_config.specs.declared.error.StepError.{StepError}
 use Rattle.automata_config.specs.declared.error.StepError.TheVariants.{Cache, OutOfMemory}
 use Rattle.std.specs.Prelude.{IsBitSet, length, ◌↔◌, Result, Ok}

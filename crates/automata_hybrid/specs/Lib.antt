@@ -12,4 +12,5 @@ pub mod Starting
 pub mod Slots
 pub mod Founds
 pub mod Searches
+pub mod Passing
 pub mod Agreeing

@@ -1,5 +1,5 @@
 -- A pass of a search over the span of an input, unit by unit, and what a search answers.
-use Rattle.std.specs.Prelude.{ℕ, ◌≡◌, ◌<◌, ◌≤◌, ◌+◌, ◌-◌, ◌⊎◌, max, option_map, IsBitSet, List, [], ◌∷◌, length, true, false, Option, Some, None}
+use Rattle.std.specs.Prelude.{ℕ, ◌≡◌, ◌<◌, ◌≤◌, ◌+◌, ◌-◌, ◌⊎◌, max, option_map, length, true, false, Option, Some, None}
 use Rattle.automata_base.specs.Answers.{Answers, Half, Tries, later, offset_in}
 use Rattle.automata_base.specs.Classes.{is_quit}
 use Rattle.automata_base.specs.Engines.{IsSkipping, engine_of}
@@ -14,14 +14,11 @@ use Rattle.automata_base.specs.Telling.{state_after, told_upto}
 use Rattle.automata_base.specs.Told.{told_over}
 use Rattle.automata_base.specs.Steps.{successor}
 use Rattle.automata_base.specs.declared.util.search.MatchErrorKind.TheVariants.{Quit as QuitAt, GaveUp, UnsupportedAnchored as UnsupportedMode}
-use Rattle.automata_config.specs.declared.error.StepError.{StepError}
-use Rattle.automata_config.specs.declared.error.StepError.TheVariants as step
 use Rattle.automata_config.specs.declared.error.SearchError.{SearchError}
 use Rattle.automata_config.specs.declared.error.SearchError.TheVariants as search
 use Rattle.automata_hybrid.specs.Bounds.{Stored, GivesUp}
 use Rattle.automata_hybrid.specs.Machine.{Machine}
 use Rattle.automata_hybrid.specs.Starting.{IsSearchRefusal, quit_behind}
-use Rattle.automata_hybrid.specs.Table.{Rows, Names, Leads}
 
 -- the tape that the span of an input is in a direction
 abbrev pub tape_in : Direction → Input → Tape
@@ -46,36 +43,6 @@ abbrev pub MeetsNoQuit : Direction → Machine → Input → Type 0
 MeetsNoQuit way m input =
     (quit_behind m (tape_in way input).before ≡ None)
     × ((k byte : ℕ) → Reads way m input k → next (tape_in way input) k ≡ Some byte → is_quit m.quits byte ≡ false)
-
--- a pair of a pass as a half match: its place is an offset
-abbrev pub half_of : Direction → Input → Option Pair → Option HalfMatch
-half_of way input None = None
-half_of way input (Some pair) = Some (record { pattern = pair.pattern; offset = offset_in way input pair.place })
-
--- what was found last, once these patterns are told at an offset
-abbrev pub half_at : List ℕ → ℕ → Option HalfMatch → Option HalfMatch
-half_at [] at found = found
-half_at (pattern ∷ patterns) at found = Some (record { pattern = pattern; offset = at })
-
--- what a pass over the span of an input finds
-abbrev pub found_over : Direction → Machine → Input → Option HalfMatch
-found_over way m input = half_of way input (told_over way m.nfa m.kind input)
-
--- a pass has read `k` units, none a quit byte: the ID names its state there, and this was found
-pub record IsAt (way : Direction) (m : Machine) (t : Rows) (input : Input) (k id : ℕ) (found : Option HalfMatch) : Type 0 where
-  pub named : Names t id (state_in way m input k)
-  pub told : found ≡ half_of way input (told_in way m input k)
-  pub nothing : input.earliest ≡ true → found ≡ None
-  pub clean : (j byte : ℕ) → j < k → next (tape_in way input) j ≡ Some byte → is_quit m.quits byte ≡ false
-
--- the dead tag of an ID tells whether it leads to the dead state, which no row has
-abbrev pub IsDeadTagged : Rows → ℕ → Type 0
-IsDeadTagged t id = (q : Powerset) → Leads t id q → (IsBitSet id 30 → q ≡ dead) × ((IsBitSet id 30 → ⊥) → Names t id q)
-
--- a refused step, as a search tells it at an offset
-abbrev pub step_refusal : StepError → (at : ℕ) → SearchError
-step_refusal (step.Cache err) at = search.Match (GaveUp at)
-step_refusal step.OutOfMemory at = search.OutOfMemory
 
 -- why a step from a state on a unit is refused: at a quit byte, or where the state that it leads to isn't there, doesn't
 -- fit, and the clear rule refuses; each is told at an offset

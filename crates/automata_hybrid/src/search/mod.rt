@@ -6,7 +6,8 @@ ghost use Rattle.automata_base.specs.Steps.{successor};
 ghost use Rattle.automata_hybrid.specs.Caches.{IsCacheOf};
 ghost use Rattle.automata_hybrid.specs.Ids.{quit_id};
 ghost use Rattle.automata_base.specs.Tapes.{is_split};
-ghost use Rattle.automata_hybrid.specs.Searches.{IsDeadTagged, Skips, IsStepRefusal, half_at, step_refusal};
+ghost use Rattle.automata_hybrid.specs.Passing.{IsDeadTagged, half_at, step_refusal};
+ghost use Rattle.automata_hybrid.specs.Searches.{Skips, IsStepRefusal};
 ghost use Rattle.automata_base.specs.declared.util.search.MatchErrorKind.TheVariants.{Quit as QuitAt};
 ghost use Rattle.automata_hybrid.specs.Table.{IsValid, Leads, Names};
 

@@ -3,7 +3,8 @@ use Rattle.automata_base.specs.Classes.{is_quit}
 use Rattle.automata_base.specs.Paths.{next}
 use Rattle.automata_base.specs.Tapes.{Forward}
 use Rattle.automata_base.proofs.Paths.Orders.{some_inj, none_some}
-use Rattle.automata_hybrid.specs.Searches.{IsAt, tape_in}
+use Rattle.automata_hybrid.specs.Passing.{IsAt}
+use Rattle.automata_hybrid.specs.Searches.{tape_in}
 use Rattle.automata_hybrid.specs.Table.{Rows, Leads}
 use Rattle.automata_hybrid.proofs.Searching.{more_last, clean_last, step_refuses, if_err}
 use Rattle.automata_hybrid.proofs.Units.{forward_read, forward_end, forward_units}

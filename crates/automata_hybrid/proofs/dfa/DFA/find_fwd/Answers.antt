@@ -3,7 +3,8 @@ use Rattle.automata_base.specs.Classes.{is_quit}
 use Rattle.automata_base.specs.Paths.{next}
 use Rattle.automata_base.specs.Tapes.{Forward}
 use Rattle.automata_base.proofs.Paths.Orders.{some_inj}
-use Rattle.automata_hybrid.specs.Searches.{IsAt, tape_in}
+use Rattle.automata_hybrid.specs.Passing.{IsAt}
+use Rattle.automata_hybrid.specs.Searches.{tape_in}
 use Rattle.automata_hybrid.proofs.Searching.{more_leads, more_at, more_dead, clean_dead, more_ends, clean_ends, starts_at, step_refuses, if_err, false_true, some_is, none_is}
 use Rattle.automata_hybrid.proofs.Units.{forward_read, forward_units}
 use Rattle.automata_hybrid.proofs.dfa.DFA.find_fwd.Goals as goal

@@ -1,7 +1,8 @@
 use Rattle.std.proofs.Common.{ℕ, ◌≡◌, ◌∙◌, ◌-◌, ◌<◌, ◌≤◌, true, length, Some, None, refl, sym, subst, arith}
 use Rattle.automata_base.specs.Paths.{next}
 use Rattle.automata_base.specs.Tapes.{Backward}
-use Rattle.automata_hybrid.specs.Searches.{IsAt, tape_in}
+use Rattle.automata_hybrid.specs.Passing.{IsAt}
+use Rattle.automata_hybrid.specs.Searches.{tape_in}
 use Rattle.automata_hybrid.specs.Table.{Rows}
 use Rattle.automata_hybrid.proofs.Searching.{more_leads, more_at, more_dead, clean_dead, more_ends, clean_ends, starts_at, step_refuses, if_err, false_true, some_is, none_is}
 use Rattle.automata_hybrid.proofs.Backward.{span_place, span_unit_offset, span_given_up_offset, span_more, span_few, span_read, quit_free}

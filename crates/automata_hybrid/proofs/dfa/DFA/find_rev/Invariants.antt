@@ -1,7 +1,7 @@
 use Rattle.std.proofs.Common.{◌≤◌, ◌+◌, ◌-◌}
 use Rattle.automata_base.specs.Tapes.{Backward}
 use Rattle.automata_hybrid.specs.Caches.{IsCacheOf}
-use Rattle.automata_hybrid.specs.Searches.{IsAt}
+use Rattle.automata_hybrid.specs.Passing.{IsAt}
 use Rattle.automata_hybrid.proofs.dfa.DFA.find_rev.Given as goal
 
 abbrev pub invariant-loop-at : goal.invariant-loop-at

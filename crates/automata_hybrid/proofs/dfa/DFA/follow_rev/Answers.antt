@@ -1,7 +1,7 @@
 use Rattle.std.proofs.Common.{◌≡◌, ◌-◌, ◌<◌, ◌≤◌, ◌^◌, suc, subst, arith}
 use Rattle.std.proofs.lemmas.Grind.{common_steps}
 use Rattle.automata_base.specs.Tapes.{Backward}
-use Rattle.automata_hybrid.specs.Searches.{IsAt}
+use Rattle.automata_hybrid.specs.Passing.{IsAt}
 use Rattle.automata_hybrid.proofs.Searching.{more_untagged}
 use Rattle.automata_hybrid.proofs.Stepping.{HasRow-valid}
 use Rattle.automata_hybrid.proofs.Units.{backward_read}

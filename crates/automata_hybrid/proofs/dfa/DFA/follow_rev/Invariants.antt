@@ -2,7 +2,7 @@ use Rattle.std.proofs.Common.{◌≤◌, ◌-◌, Option}
 use Rattle.automata_base.specs.Matches.{HalfMatch}
 use Rattle.automata_base.specs.Tapes.{Backward}
 use Rattle.automata_hybrid.specs.Table.{IsValid}
-use Rattle.automata_hybrid.specs.Searches.{IsAt}
+use Rattle.automata_hybrid.specs.Passing.{IsAt}
 use Rattle.automata_hybrid.proofs.dfa.DFA.follow_rev.Given as goal
 
 abbrev pub invariant-loop-at : goal.invariant-loop-at

@@ -1,0 +1,49 @@
+-- A pass under way: what the functions of a search keep from unit to unit.
+use Rattle.std.specs.Prelude.{ℕ, ◌≡◌, ◌<◌, IsBitSet, List, [], ◌∷◌, true, false, Option, Some, None}
+use Rattle.automata_base.specs.Answers.{offset_in}
+use Rattle.automata_base.specs.Classes.{is_quit}
+use Rattle.automata_base.specs.Input.{Input}
+use Rattle.automata_base.specs.Matches.{HalfMatch}
+use Rattle.automata_base.specs.Paths.{next}
+use Rattle.automata_base.specs.Powerset.{Powerset, dead}
+use Rattle.automata_base.specs.Selections.{Pair}
+use Rattle.automata_base.specs.Tapes.{Direction}
+use Rattle.automata_base.specs.Told.{told_over}
+use Rattle.automata_base.specs.declared.util.search.MatchErrorKind.TheVariants.{GaveUp}
+use Rattle.automata_config.specs.declared.error.StepError.{StepError}
+use Rattle.automata_config.specs.declared.error.StepError.TheVariants as step
+use Rattle.automata_config.specs.declared.error.SearchError.{SearchError}
+use Rattle.automata_config.specs.declared.error.SearchError.TheVariants as search
+use Rattle.automata_hybrid.specs.Machine.{Machine}
+use Rattle.automata_hybrid.specs.Table.{Rows, Names, Leads}
+use Rattle.automata_hybrid.specs.Searches.{tape_in, state_in, told_in}
+
+-- a pair of a pass as a half match: its place is an offset
+abbrev pub half_of : Direction → Input → Option Pair → Option HalfMatch
+half_of way input None = None
+half_of way input (Some pair) = Some (record { pattern = pair.pattern; offset = offset_in way input pair.place })
+
+-- what was found last, once these patterns are told at an offset
+abbrev pub half_at : List ℕ → ℕ → Option HalfMatch → Option HalfMatch
+half_at [] at found = found
+half_at (pattern ∷ patterns) at found = Some (record { pattern = pattern; offset = at })
+
+-- what a pass over the span of an input finds
+abbrev pub found_over : Direction → Machine → Input → Option HalfMatch
+found_over way m input = half_of way input (told_over way m.nfa m.kind input)
+
+-- a pass has read `k` units, none a quit byte: the ID names its state there, and this was found
+pub record IsAt (way : Direction) (m : Machine) (t : Rows) (input : Input) (k id : ℕ) (found : Option HalfMatch) : Type 0 where
+  pub named : Names t id (state_in way m input k)
+  pub told : found ≡ half_of way input (told_in way m input k)
+  pub nothing : input.earliest ≡ true → found ≡ None
+  pub clean : (j byte : ℕ) → j < k → next (tape_in way input) j ≡ Some byte → is_quit m.quits byte ≡ false
+
+-- the dead tag of an ID tells whether it leads to the dead state, which no row has
+abbrev pub IsDeadTagged : Rows → ℕ → Type 0
+IsDeadTagged t id = (q : Powerset) → Leads t id q → (IsBitSet id 30 → q ≡ dead) × ((IsBitSet id 30 → ⊥) → Names t id q)
+
+-- a refused step, as a search tells it at an offset
+abbrev pub step_refusal : StepError → (at : ℕ) → SearchError
+step_refusal (step.Cache err) at = search.Match (GaveUp at)
+step_refusal step.OutOfMemory at = search.OutOfMemory
