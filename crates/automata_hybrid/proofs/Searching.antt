@@ -155,7 +155,7 @@ found_first way m input k l e some =
     (sym (told_stays m.kind input.earliest m.nfa input.anchored (tape_in way input) k
     (suc (length (tape_in way input).bytes)) (told_in way m input k) l e refl (λ f. some (ap (half_of way input) f))))
 
-lt_or_le : (j k : ℕ) → (j < k) ⊎ (k ≤ j)
+pub lt_or_le : (j k : ℕ) → (j < k) ⊎ (k ≤ j)
 lt_or_le j k = grind arith
 
 -- a pass has met no quit byte if it hasn't up to a place, and reads nothing from there on
@@ -178,6 +178,12 @@ pub at_reads :
     → ((q : Powerset) → Names t id q → q ≡ dead → ⊥) → Reads way m input k
 at_reads way m t input k id found at l alive =
     (l, alive (state_in way m input k) at.named, λ e. half_none way input (told_in way m input k) (sym at.told ∙ at.nothing e))
+
+-- nothing is read behind the last unit
+pub stops_last :
+    (way : Direction) (m : Machine) (input : Input) (k : ℕ)
+    → k ≡ length (tape_in way input).bytes → (j : ℕ) → suc k ≤ j → Reads way m input j → ⊥
+stops_last way m input k l j less r = let f : j ≤ length (tape_in way input).bytes = r.0 in absurd (omega (arith, l, less, f))
 
 -- a pass that stands at a place reads one unit more, which is no quit byte
 module _ (way : Direction) (m : Machine) (t t' : Rows) (input : Input) (k id id' : ℕ) (u : Option ℕ)
@@ -227,11 +233,15 @@ module _ (way : Direction) (m : Machine) (t t' : Rows) (input : Input) (k id id'
       → found ≡ found_over way m input
   more_dead dies l = at.told ∙ found_dead way m input k l (dies more_leads)
 
+  pub stops_dead :
+      (Leads t' id' (state_in way m input (suc k)) → state_in way m input (suc k) ≡ dead)
+      → (j : ℕ) → suc k ≤ j → Reads way m input j → ⊥
+  stops_dead dies j l r = r.1 (dead_more way m input (suc k) j l (dies more_leads))
+
   pub clean_dead :
       (Leads t' id' (state_in way m input (suc k)) → state_in way m input (suc k) ≡ dead)
       → quit_behind m (tape_in way input).before ≡ None → MeetsNoQuit way m input
-  clean_dead dies behind =
-      clean_all way m input (suc k) behind more_clean (λ j l r. r.1 (dead_more way m input (suc k) j l (dies more_leads)))
+  clean_dead dies behind = clean_all way m input (suc k) behind more_clean (stops_dead dies)
 
   -- or an earliest pass ends
   pub more_ends :
@@ -241,14 +251,17 @@ module _ (way : Direction) (m : Machine) (t t' : Rows) (input : Input) (k id id'
       more_found tells
       ∙ found_first way m input (suc k) (omega (arith, l)) e (λ f. some (more_found tells ∙ f))
 
+  pub stops_ends :
+      Tells → input.earliest ≡ true → (found' ≡ None → ⊥) → (j : ℕ) → suc k ≤ j → Reads way m input j → ⊥
+  stops_ends tells e some j l r =
+      some (more_found tells ∙ ap (half_of way input)
+      (sym (told_stays m.kind input.earliest m.nfa input.anchored (tape_in way input) (suc k) j (told_in way m input (suc k)) l e refl
+      (λ f. some (more_found tells ∙ ap (half_of way input) f))) ∙ r.2 e))
+
   pub clean_ends :
       Tells
       → input.earliest ≡ true → (found' ≡ None → ⊥) → quit_behind m (tape_in way input).before ≡ None → MeetsNoQuit way m input
-  clean_ends tells e some behind =
-      clean_all way m input (suc k) behind more_clean (λ j l r.
-      some (more_found tells ∙ ap (half_of way input)
-      (sym (told_stays m.kind input.earliest m.nfa input.anchored (tape_in way input) (suc k) j (told_in way m input (suc k)) l e refl
-      (λ f. some (more_found tells ∙ ap (half_of way input) f))) ∙ r.2 e)))
+  clean_ends tells e some behind = clean_all way m input (suc k) behind more_clean (stops_ends tells e some)
 
   -- or it was the last unit
   pub more_last :
@@ -257,8 +270,7 @@ module _ (way : Direction) (m : Machine) (t t' : Rows) (input : Input) (k id id'
   more_last tells l = more_found tells ∙ ap (λ i. half_of way input (told_in way m input (suc i))) l
 
   pub clean_last : k ≡ length (tape_in way input).bytes → quit_behind m (tape_in way input).before ≡ None → MeetsNoQuit way m input
-  clean_last l behind =
-      clean_all way m input (suc k) behind more_clean (λ j less r. let f : j ≤ length (tape_in way input).bytes = r.0 in absurd (omega (arith, l, less, f)))
+  clean_last l behind = clean_all way m input (suc k) behind more_clean (stops_last way m input k l)
 
 -- a known transition between untagged IDs
 pub more_untagged :
@@ -299,11 +311,16 @@ starts_dead way m input d =
       go true = refl
       go false = refl
 
+pub stops_start :
+    (way : Direction) (m : Machine) (input : Input)
+    → state_in way m input 0 ≡ dead → (j : ℕ) → 0 ≤ j → Reads way m input j → ⊥
+stops_start way m input d j l r = r.1 (dead_more way m input 0 j l d)
+
 pub clean_start :
     (way : Direction) (m : Machine) (input : Input)
     → state_in way m input 0 ≡ dead → quit_behind m (tape_in way input).before ≡ None → MeetsNoQuit way m input
 clean_start way m input d behind =
-    clean_all way m input 0 behind (λ j byte l e. absurd (omega (arith, l))) (λ j l r. r.1 (dead_more way m input 0 j l d))
+    clean_all way m input 0 behind (λ j byte l e. absurd (omega (arith, l))) (stops_start way m input d)
 
 -- a refused step refuses the pass
 pub step_refuses :

@@ -12,5 +12,7 @@ pub mod Starting
 pub mod Slots
 pub mod Founds
 pub mod Searches
+pub mod Growing
+pub mod Knowing
 pub mod Passing
 pub mod Agreeing

@@ -16,7 +16,9 @@ use Rattle.automata_config.specs.declared.error.SearchError.{SearchError}
 use Rattle.automata_config.specs.declared.error.SearchError.TheVariants as search
 use Rattle.automata_hybrid.specs.Machine.{Machine}
 use Rattle.automata_hybrid.specs.Table.{Rows, Names, Leads}
-use Rattle.automata_hybrid.specs.Searches.{tape_in, state_in, told_in}
+use Rattle.automata_hybrid.specs.Searches.{HasReadNoQuit, Reads, tape_in, state_in, told_in}
+use Rattle.automata_hybrid.specs.Bounds.{Stored}
+use Rattle.automata_hybrid.specs.Knowing.{KnowsBegin, KnowsUnit, unit_class}
 
 -- a pair of a pass as a half match: its place is an offset
 abbrev pub half_of : Direction → Input → Option Pair → Option HalfMatch
@@ -37,7 +39,7 @@ pub record IsAt (way : Direction) (m : Machine) (t : Rows) (input : Input) (k id
   pub named : Names t id (state_in way m input k)
   pub told : found ≡ half_of way input (told_in way m input k)
   pub nothing : input.earliest ≡ true → found ≡ None
-  pub clean : (j byte : ℕ) → j < k → next (tape_in way input) j ≡ Some byte → is_quit m.quits byte ≡ false
+  pub clean : HasReadNoQuit way m input k
 
 -- the dead tag of an ID tells whether it leads to the dead state, which no row has
 abbrev pub IsDeadTagged : Rows → ℕ → Type 0
@@ -47,3 +49,16 @@ IsDeadTagged t id = (q : Powerset) → Leads t id q → (IsBitSet id 30 → q �
 abbrev pub step_refusal : StepError → (at : ℕ) → SearchError
 step_refusal (step.Cache err) at = search.Match (GaveUp at)
 step_refusal step.OutOfMemory at = search.OutOfMemory
+
+-- the transition on the unit at place `k` is known, at a class that rows have
+abbrev pub HasLearnedUnit : Direction → Machine → Stored → Input → ℕ → Type 0
+HasLearnedUnit way m c input k = KnowsUnit way m c input k × (unit_class m (next (tape_in way input) k) < c.table.of.stride)
+
+-- so is each transition that a pass took on its first `k` units
+abbrev pub HasLearned : Direction → Machine → Stored → Input → ℕ → Type 0
+HasLearned way m c input k = (j : ℕ) → j < k → Reads way m input j → HasLearnedUnit way m c input j
+
+-- and its start, and all of them
+abbrev pub HasLearnedAll : Direction → Machine → Stored → Input → Type 0
+HasLearnedAll way m c input =
+    KnowsBegin way m c input × ((k : ℕ) → Reads way m input k → HasLearnedUnit way m c input k)

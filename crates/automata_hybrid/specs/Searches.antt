@@ -38,6 +38,11 @@ Reads way m input k =
     (k ≤ length (tape_in way input).bytes) × (state_in way m input k ≡ dead → ⊥)
     × (input.earliest ≡ true → told_in way m input k ≡ None)
 
+-- none of the first `k` units of a pass is a quit byte
+abbrev pub HasReadNoQuit : Direction → Machine → Input → ℕ → Type 0
+HasReadNoQuit way m input k =
+    (j byte : ℕ) → j < k → next (tape_in way input) j ≡ Some byte → is_quit m.quits byte ≡ false
+
 -- no unit that a pass reads is a quit byte, nor is the byte behind its start
 abbrev pub MeetsNoQuit : Direction → Machine → Input → Type 0
 MeetsNoQuit way m input =
@@ -74,7 +79,7 @@ abbrev pub IsPassRefusal : Direction → Machine → Stored → Input → Search
 IsPassRefusal way m c input e =
     IsSearchRefusal m c input.anchored (tape_in way input).before (behind_offset way input) (offset_in way input 0) e
     ⊎ ((k : ℕ) × (quit_behind m (tape_in way input).before ≡ None) × Reads way m input k
-    × ((j byte : ℕ) → j < k → next (tape_in way input) j ≡ Some byte → is_quit m.quits byte ≡ false)
+    × HasReadNoQuit way m input k
     × IsStepRefusal m c (state_in way m input k) (next (tape_in way input) k) (unit_offset way input k) (given_up_offset way input k) e)
 
 -- a pass over the span of an input tells this, and meets no quit byte

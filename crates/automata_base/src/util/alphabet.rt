@@ -57,6 +57,7 @@ impl ByteClasses {
     pub fn alphabet_len(&self) -> usize
         ensures number { result ≡ alphabet_length self.now }
         ensures many { 2 ≤ result }
+        ensures above { (byte : ℕ) → byte < 256 → class_in self.now byte + 1 < result }
         ensures few { result ≤ 257 }
     {
         usize::from(self.map[255]) + 2
@@ -66,6 +67,7 @@ impl ByteClasses {
     pub fn eoi(&self) -> usize
         ensures class { result ≡ eoi_class self.now }
         ensures below { result < stride_of self.now }
+        ensures above { (byte : ℕ) → byte < 256 → class_in self.now byte < result }
     {
         self.alphabet_len() - 1
     }

@@ -1,0 +1,96 @@
+-- What steps and searches make of a cache, one after another.
+use Rattle.std.proofs.Common.{ℕ, ◌≡◌, ◌∙◌, ◌+◌, ◌-◌, ◌*◌, ◌^◌, ◌<◌, ◌≤◌, ◌⊎◌, inl, inr, length, refl, sym, ap, subst, arith}
+use Rattle.std.proofs.Math.Nat.{mul-le-mul_right}
+use Rattle.automata_hybrid.specs.declared.dfa.progress.Searched.{Searched}
+use Rattle.automata_hybrid.specs.Bounds.{Stored, usage, with_searched}
+use Rattle.automata_hybrid.specs.Caches.{CacheView, with_store}
+use Rattle.automata_hybrid.specs.Growing.{Keeps, ClearedNothing, HasRoom, IsGrown}
+use Rattle.automata_hybrid.specs.Machine.{Machine, greatest}
+
+pub keeps_refl : (c : Stored) → Keeps c c
+keeps_refl c = record { rows = λ id q n. n; starts = λ slot k. refl; cells = λ id class v l k. refl }
+
+pub keeps_trans : (a b c : Stored) → b.table.of ≡ a.table.of → Keeps a b → Keeps b c → Keeps a c
+keeps_trans a b c of f g =
+    record {
+      rows = λ id q n. g.rows id q (f.rows id q n);
+      starts = λ slot k. g.starts slot (subst (λ n. n < 2 ^ 31) (sym (f.starts slot k)) k) ∙ f.starts slot k;
+      cells = λ id class v l k.
+          g.cells id class (v.0, f.rows id v.0 v.1) (subst (λ (m : Machine). class < m.stride) (sym of) l)
+          (subst (λ n. n < 2 ^ 31) (sym (f.cells id class v l k)) k) ∙ f.cells id class v l k;
+    }
+
+-- room for fewer states
+pub room_less : (c : Stored) (n k : ℕ) → k ≤ n → HasRoom c n → HasRoom c k
+room_less c n k l r =
+    record {
+      capacity =
+          (let times : k * (4 * c.table.of.stride + 36 + greatest c.table.of) ≤ n * (4 * c.table.of.stride + 36 + greatest c.table.of) =
+          mul-le-mul_right (4 * c.table.of.stride + 36 + greatest c.table.of) l in
+          below (usage c) _ _ c.settings.capacity times r.capacity);
+      offsets = λ i h. r.offsets i (omega (arith, l, h));
+    } where
+      below : (u a b most : ℕ) → a ≤ b → u + b ≤ most → u + a ≤ most
+      below u a b most l h = omega (arith, l, h)
+
+-- a cache that stays, but for the progress of searches
+pub grown_searched : (c : CacheView) (s : Searched) → IsGrown c (with_store c (with_searched c.store s))
+grown_searched c s =
+    record {
+      of = refl;
+      counted = omega arith;
+      clears = omega arith;
+      idle = λ e. refl;
+      kept = λ e. record { rows = λ id q n. n; starts = λ slot k. refl; cells = λ id class v l k. refl };
+      roomy = λ states r.
+          (let l : HasRoom c.store states = room_less c.store (states + (c.count - c.count)) states (omega arith) r in
+          record { capacity = l.capacity; offsets = l.offsets }, refl);
+    }
+
+pub grown_same : (old new : CacheView) → new ≡ old → IsGrown old new
+grown_same old new e = subst (IsGrown old) (sym e) (grown_searched old old.store.searched)
+
+pub grown_moved : (old new : CacheView) (s : Searched) → new ≡ with_store old (with_searched old.store s) → IsGrown old new
+grown_moved old new s e = subst (IsGrown old) (sym e) (grown_searched old s)
+
+-- one determinisation
+pub grown_one :
+    (old new : CacheView)
+    → new.store.table.of ≡ old.store.table.of
+    → new.count ≡ old.count + 1
+    → old.store.clears ≤ new.store.clears
+    → (ClearedNothing old.store new.store → Keeps old.store new.store)
+    → ((states : ℕ) → HasRoom old.store (states + 1) → HasRoom new.store states × (new.store.clears ≡ old.store.clears))
+    → IsGrown old new
+grown_one old new of count clears kept roomy =
+    record {
+      of = of;
+      counted = omega (arith, count);
+      clears = clears;
+      idle = λ e. absurd (omega (arith, count, e));
+      kept = kept;
+      roomy = λ states r. roomy states (room_less old.store (states + (new.count - old.count)) (states + 1) (omega (arith, count)) r);
+    }
+
+-- one after another
+pub grown_trans : (a b c : CacheView) → IsGrown a b → IsGrown b c → IsGrown a c
+grown_trans a b c f g =
+    record {
+      of = g.of ∙ f.of;
+      counted = omega (arith, f.counted, g.counted);
+      clears = omega (arith, f.clears, g.clears);
+      idle = λ e.
+          (let first : b.count ≡ a.count = omega (arith, e, f.counted, g.counted) in
+          let second : c.count ≡ b.count = omega (arith, e, f.counted, g.counted) in
+          g.idle second ∙ ap (λ (s : Stored). with_searched s c.store.searched) (f.idle first));
+      kept = λ e.
+          (let first : b.store.clears ≡ a.store.clears = omega (arith, e.0, f.clears, g.clears) in
+          let second : c.store.clears ≡ b.store.clears = omega (arith, e.0, f.clears, g.clears) in
+          keeps_trans a.store b.store c.store f.of (f.kept (first, e.1)) (g.kept (second, omega (arith, first, e.1))));
+      roomy = λ states r.
+          (let sum : states + (c.count - a.count) ≡ states + (c.count - b.count) + (b.count - a.count) = omega (arith, f.counted, g.counted) in
+          let first : HasRoom b.store (states + (c.count - b.count)) × (b.store.clears ≡ a.store.clears) =
+          f.roomy (states + (c.count - b.count)) (subst (HasRoom a.store) sum r) in
+          let second : HasRoom c.store states × (c.store.clears ≡ b.store.clears) = g.roomy states first.0 in
+          (second.0, second.1 ∙ first.1));
+    }

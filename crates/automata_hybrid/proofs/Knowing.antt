@@ -1,0 +1,90 @@
+-- Searches whose start and transitions are all known.
+use Rattle.std.proofs.Common.{ℕ, suc, ◌≡◌, ◌∙◌, ◌+◌, ◌^◌, ◌<◌, ◌≤◌, ◌⊎◌, inl, inr, true, length, Option, Some, None, refl, sym, ap, subst, arith}
+use Rattle.automata_base.specs.Input.{Input}
+use Rattle.automata_base.specs.Matches.{HalfMatch}
+use Rattle.automata_base.specs.Paths.{next}
+use Rattle.automata_base.specs.Powerset.{Powerset, dead}
+use Rattle.automata_base.specs.Tapes.{Direction}
+use Rattle.automata_base.proofs.Paths.Orders.{some_inj}
+use Rattle.automata_hybrid.specs.Bounds.{Stored, IsKnownTransition, with_searched}
+use Rattle.automata_hybrid.specs.Caches.{CacheView}
+use Rattle.automata_hybrid.specs.Growing.{Keeps, IsGrown}
+use Rattle.automata_hybrid.specs.Knowing.{KnowsBegin, KnowsPass, KnowsUnit, unit_class}
+use Rattle.automata_hybrid.specs.Machine.{Machine}
+use Rattle.automata_hybrid.specs.Passing.{HasLearned, HasLearnedAll, HasLearnedUnit, IsAt}
+use Rattle.automata_hybrid.specs.Searches.{Reads, state_in, tape_in}
+use Rattle.automata_hybrid.specs.Starting.{MayStart}
+use Rattle.automata_hybrid.specs.Table.{Names, Rows}
+use Rattle.automata_hybrid.proofs.Searching.{at_reads, lt_or_le}
+
+-- a state has one ID
+pub one_id : (t : Rows) (a b : ℕ) (q : Powerset) → Names t a q → Names t b q → a ≡ b
+one_id t a b q f g = some_inj (sym f ∙ g)
+
+-- where nothing is determinised, what a pass knows it still knows
+pub knows_still :
+    (way : Direction) (m : Machine) (input : Input) (old new : CacheView)
+    → IsGrown old new → new.count ≡ old.count → KnowsPass way m old.store input → KnowsPass way m new.store input
+knows_still way m input old new g same h = subst (λ (c : Stored). KnowsPass way m c input) (sym (g.idle same)) h
+
+-- the transition that a pass takes where it stands is known
+pub knows_here :
+    (way : Direction) (m : Machine) (c : Stored) (input : Input) (k id : ℕ) (found : Option HalfMatch) (u : Option ℕ)
+    → KnowsPass way m c input → MayStart m input.anchored (tape_in way input).before
+    → IsAt way m c.table input k id found → k ≤ length (tape_in way input).bytes
+    → ((q : Powerset) → Names c.table id q → q ≡ dead → ⊥)
+    → next (tape_in way input) k ≡ u → IsKnownTransition c id (unit_class m u)
+knows_here way m c input k id found u knows may at few alive unit =
+    let here : KnowsUnit way m c input k = (knows may).1 k (at_reads way m c.table input k id found at few alive) at.clean in
+    let same : here.0 ≡ id = one_id c.table here.0 id (state_in way m input k) here.1 at.named in
+    subst (λ v. IsKnownTransition c id (unit_class m v)) unit
+    (subst (λ i. IsKnownTransition c i (unit_class m (next (tape_in way input) k))) same here.2)
+
+-- at its start a pass has taken no transition
+pub learned_none : (way : Direction) (m : Machine) (c : Stored) (input : Input) → HasLearned way m c input 0
+learned_none way m c input = λ j l. absurd (omega (arith, l))
+
+-- where nothing is lost, what was learned is known
+module _ (way : Direction) (m : Machine) (old new : Stored) (input : Input) (of : new.table.of ≡ old.table.of) (keeps : Keeps old new) where
+  pub unit_still : (j : ℕ) → HasLearnedUnit way m old input j → HasLearnedUnit way m new input j
+  unit_still j had =
+      let unit : KnowsUnit way m old input j = had.0 in
+      let below : unit_class m (next (tape_in way input) j) < old.table.of.stride = had.1 in
+      let row : Names new.table unit.0 (state_in way m input j) = keeps.rows unit.0 (state_in way m input j) unit.1 in
+      let cell = keeps.cells unit.0 (unit_class m (next (tape_in way input) j)) (state_in way m input j, unit.1) below unit.2 in
+      ((unit.0, row, subst (λ n. n < 2 ^ 31) (sym cell) unit.2), subst (λ (n : Machine). unit_class m (next (tape_in way input) j) < n.stride) (sym of) below)
+
+  pub learned_still : (k : ℕ) → HasLearned way m old input k → HasLearned way m new input k
+  learned_still k learned = λ j l reads. unit_still j (learned j l reads)
+
+  pub begin_still : KnowsBegin way m old input → KnowsBegin way m new input
+  begin_still begin = λ l. subst (λ n. n < 2 ^ 31) (sym (keeps.starts _ (begin l))) (begin l)
+
+  pub all_still : HasLearnedAll way m old input → HasLearnedAll way m new input
+  all_still all = (begin_still all.0, λ j reads. unit_still j (all.1 j reads))
+
+-- one unit more
+pub learned_more :
+    (way : Direction) (m : Machine) (c : Stored) (input : Input) (k id : ℕ) (u : Option ℕ)
+    → HasLearned way m c input k → Names c.table id (state_in way m input k) → next (tape_in way input) k ≡ u
+    → IsKnownTransition c id (unit_class m u) → unit_class m u < c.table.of.stride → HasLearned way m c input (suc k)
+learned_more way m c input k id u learned named unit known below = λ j l reads. go j reads (lt_or_le j k) l where
+  go : (j : ℕ) → Reads way m input j → (j < k) ⊎ (k ≤ j) → j < suc k → HasLearnedUnit way m c input j
+  go j reads (inl less) l = learned j less reads
+  go j reads (inr more) l =
+      let same : k ≡ j = omega (arith, more, l) in
+      subst (HasLearnedUnit way m c input) same
+      ((id, named, subst (λ v. IsKnownTransition c id (unit_class m v)) (sym unit) known), subst (λ v. unit_class m v < c.table.of.stride) (sym unit) below)
+
+-- a pass that reads nothing more has learned all
+pub learned_all :
+    (way : Direction) (m : Machine) (c : Stored) (input : Input) (k : ℕ)
+    → KnowsBegin way m c input → HasLearned way m c input k → ((j : ℕ) → k ≤ j → Reads way m input j → ⊥) → HasLearnedAll way m c input
+learned_all way m c input k begin learned stops = (begin, λ j reads. go j reads (lt_or_le j k)) where
+  go : (j : ℕ) → Reads way m input j → (j < k) ⊎ (k ≤ j) → HasLearnedUnit way m c input j
+  go j reads (inl less) = learned j less reads
+  go j reads (inr more) = absurd (stops j more reads)
+
+-- what a pass has learned it knows
+pub learned_knows : (way : Direction) (m : Machine) (c : Stored) (input : Input) → HasLearnedAll way m c input → KnowsPass way m c input
+learned_knows way m c input all = λ may. (all.0, λ k reads clean. (all.1 k reads).0)

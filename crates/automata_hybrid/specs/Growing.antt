@@ -1,0 +1,38 @@
+-- What steps and searches make of a cache, and a reset doesn't.
+use Rattle.std.specs.Prelude.{◌≡◌, ℕ, ◌+◌, ◌-◌, ◌*◌, ◌^◌, ◌<◌, ◌≤◌, length, slice_index}
+use Rattle.automata_base.specs.Powerset.{Powerset}
+use Rattle.automata_hybrid.specs.Bounds.{Stored, IsKnownStart, IsKnownTransition, cell_of, usage, with_searched}
+use Rattle.automata_hybrid.specs.Caches.{CacheView}
+use Rattle.automata_hybrid.specs.Ids.{offset_limit}
+use Rattle.automata_hybrid.specs.Machine.{greatest}
+use Rattle.automata_hybrid.specs.Table.{Names, IsValid}
+
+-- nothing is lost: each row, each known start and each known transition is as it was
+pub record Keeps (old new : Stored) : Type 0 where
+  pub rows : (id : ℕ) (q : Powerset) → Names old.table id q → Names new.table id q
+  pub starts : (slot : ℕ) → IsKnownStart old slot → slice_index new.starts slot ≡ slice_index old.starts slot
+  pub cells : (id class : ℕ) → IsValid old.table id → class < old.table.of.stride → IsKnownTransition old id class → cell_of new id class ≡ cell_of old id class
+
+-- nothing was cleared between: the count of clears is the same, and below the greatest number, where it would stay
+abbrev pub ClearedNothing : Stored → Stored → Type 0
+ClearedNothing old new = (new.clears ≡ old.clears) × (old.clears + 1 < 2 ^ 64)
+
+-- there is room for so many more states, whatever they cost
+pub record HasRoom (c : Stored) (states : ℕ) : Type 0 where
+  pub capacity : usage c + states * (4 * c.table.of.stride + 36 + greatest c.table.of) ≤ c.settings.capacity
+  pub offsets : (k : ℕ) → k < states → length c.table.cells + k * c.table.of.stride < offset_limit
+
+-- a cache after steps and searches, by what it was before
+pub record IsGrown (old new : CacheView) : Type 0 where
+  pub of : new.store.table.of ≡ old.store.table.of
+  pub counted : old.count ≤ new.count
+  pub clears : old.store.clears ≤ new.store.clears
+
+  -- with nothing determinised nothing has changed but the progress of searches
+  pub idle : new.count ≡ old.count → new.store ≡ with_searched old.store new.store.searched
+
+  -- with nothing cleared nothing is lost
+  pub kept : ClearedNothing old.store new.store → Keeps old.store new.store
+
+  -- and nothing is cleared where there is room for as many states as are determinised
+  pub roomy : (states : ℕ) → HasRoom old.store (states + (new.count - old.count)) → HasRoom new.store states × (new.store.clears ≡ old.store.clears)

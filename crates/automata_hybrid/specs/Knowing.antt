@@ -1,0 +1,51 @@
+-- Searches whose start and transitions are all known.
+use Rattle.std.specs.Prelude.{◌≡◌, ℕ, ◌+◌, ◌<◌, ◌≤◌, length, Option, None, Some}
+use Rattle.automata_base.specs.Answers.{Tries, later}
+use Rattle.automata_base.specs.Classes.{class_in, eoi_class}
+use Rattle.automata_base.specs.Input.{Input}
+use Rattle.automata_base.specs.Paths.{next}
+use Rattle.automata_base.specs.Tapes.{Direction}
+use Rattle.automata_base.specs.declared.util.search.MatchErrorKind.TheVariants.{GaveUp}
+use Rattle.automata_config.specs.declared.error.SearchError.{SearchError}
+use Rattle.automata_config.specs.declared.error.SearchError.TheVariants as search
+use Rattle.automata_hybrid.specs.Bounds.{Stored, IsKnownStart, IsKnownTransition}
+use Rattle.automata_hybrid.specs.Machine.{Machine}
+use Rattle.automata_hybrid.specs.Searches.{Finds, HasReadNoQuit, Reads, Skips, state_in, tape_in}
+use Rattle.automata_hybrid.specs.Slots.{slot_behind}
+use Rattle.automata_hybrid.specs.Starting.{MayStart}
+use Rattle.automata_hybrid.specs.Table.{Names}
+
+-- the class of a byte or of the end
+abbrev pub unit_class : Machine → Option ℕ → ℕ
+unit_class m None = eoi_class m.classes
+unit_class m (Some byte) = class_in m.classes byte
+
+-- the transition that a pass takes on its unit at place `k` is known
+abbrev pub KnowsUnit : Direction → Machine → Stored → Input → ℕ → Type 0
+KnowsUnit way m c input k =
+    (id : ℕ) × Names c.table id (state_in way m input k) × IsKnownTransition c id (unit_class m (next (tape_in way input) k))
+
+-- the start of a pass is known, where it has a slot: there is none for a pattern past the last
+abbrev pub KnowsBegin : Direction → Machine → Stored → Input → Type 0
+KnowsBegin way m c input =
+    slot_behind m input.anchored (tape_in way input).before < m.slots
+    → IsKnownStart c (slot_behind m input.anchored (tape_in way input).before)
+
+-- all that a pass uses is known: its start, and the transition on each unit that it reads, up to a quit byte
+abbrev pub KnowsPass : Direction → Machine → Stored → Input → Type 0
+KnowsPass way m c input =
+    MayStart m input.anchored (tape_in way input).before
+    → KnowsBegin way m c input
+    × ((k : ℕ) → Reads way m input k → HasReadNoQuit way m input k → KnowsUnit way m c input k)
+
+-- all that a search uses is known: what each of its passes uses
+abbrev pub Knows : Direction → Machine → Stored → Input → Type 0
+Knows way m c input =
+    (k : ℕ) → Tries (Finds way m) (Skips m) way input k → input.start + k ≤ input.end → KnowsPass way m c (later way k input)
+
+-- a search is refused for what it was given, and not for want of room
+abbrev pub IsOfInput : SearchError → Type 0
+IsOfInput (search.Match (GaveUp offset)) = ⊥
+IsOfInput (search.Match kind) = Unit {0}
+IsOfInput search.OutOfMemory = ⊥
+IsOfInput search.NotAPair = ⊥
