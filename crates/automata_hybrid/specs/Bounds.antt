@@ -8,7 +8,7 @@ use Rattle.automata_config.specs.declared.error.StepError.{StepError}
 use Rattle.automata_config.specs.declared.error.StepError.TheVariants.{Cache, OutOfMemory}
 use Rattle.automata_hybrid.specs.Ids.{quit_id, unknown_id, offset_limit}
 use Rattle.automata_hybrid.specs.Machine.{Machine, next_of, greatest, template_of}
-use Rattle.automata_hybrid.specs.Table.{Rows, row_cost, Leads, with_row, with_cell, cell_at, fresh, id_of, Names}
+use Rattle.automata_hybrid.specs.Table.{Rows, row_cost, Leads, Lacks, with_row, with_cell, cell_at, fresh, Names}
 use Rattle.automata_hybrid.specs.Clears.{AllStarts, kept, put, row_of}
 use Rattle.automata_hybrid.specs.Progressing.{saturated, total_len, progress_cleared}
 
@@ -114,15 +114,27 @@ abbrev pub IsAdded : Stored → ℕ → Row → Stored → Type 0
 IsAdded old from r new =
     (Fits old (cost r.state) × (new ≡ grown old r)) ⊎ ((Fits old (cost r.state) → ⊥) × (new ≡ grown (cleared_saving old from) r))
 
--- the whole effect of computing a transition to a state: it is written, at the row as it is after an addition
-abbrev pub IsComputed : Stored → ℕ → ℕ → Powerset → Stored → ℕ → Type 0
-IsComputed old id class q new next =
-    (new ≡ with_next old id class next)
-    ⊎ ((id_of old.table (next_of old.table.of q class) ≡ None) × (from : ℕ) × (between : Stored) × IsAdded old id (record { state = next_of old.table.of q class; started = false }) between × Names between.table from q × (new ≡ with_next between from class next))
+-- the whole effect of computing a transition from a state to a target: it is written, at the row as it is after the target
+-- was added, if no row had it
+abbrev pub IsComputed : Stored → (id class : ℕ) → (q target : Powerset) → Stored → ℕ → Type 0
+IsComputed old id class q target new next =
+    (Leads old.table next target × (new ≡ with_next old id class next))
+    ⊎ (Lacks old.table target × (from : ℕ) × (between : Stored) × IsAdded old id (record { state = target; started = false }) between × Names between.table from q × (new ≡ with_next between from class next))
+
+-- what adding a start state that is absent does: it grows where the state fits, and else clears first
+abbrev pub IsAddedStart : Stored → Row → Stored → Type 0
+IsAddedStart old r new =
+    (Fits old (cost r.state) × (new ≡ grown old r)) ⊎ ((Fits old (cost r.state) → ⊥) × (new ≡ grown (cleared old) r))
+
+-- the whole effect of computing a start: it is written, after its row was added, if no row had the state
+abbrev pub IsStarted : Stored → (slot : ℕ) → Row → Stored → ℕ → Type 0
+IsStarted old slot r new id =
+    (Leads old.table id r.state × (new ≡ with_start old slot id))
+    ⊎ (Lacks old.table r.state × (between : Stored) × IsAddedStart old r between × (new ≡ with_start between slot id))
 
 -- why a state is refused: it isn't there, it doesn't fit, and the clear rule refuses
 abbrev pub GivesUp : Stored → Powerset → Type 0
-GivesUp c q = (id_of c.table q ≡ None) × (Fits c (cost q) → ⊥) × (refuses_to_clear c ≡ true)
+GivesUp c q = Lacks c.table q × (Fits c (cost q) → ⊥) × (refuses_to_clear c ≡ true)
 
 abbrev pub with_searched : Stored → Searched → Stored
 with_searched c s = record { table = c.table; starts = c.starts; settings = c.settings; clears = c.clears; searched = s }

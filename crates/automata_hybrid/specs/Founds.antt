@@ -1,10 +1,10 @@
-use Rattle.std.specs.Prelude.{◌≡◌, None}
-use Rattle.automata_base.specs.Powerset.{Powerset, dead}
-use Rattle.automata_hybrid.specs.Table.{Rows, id_of, Leads}
+use Rattle.std.specs.Prelude.{◌≡◌}
+use Rattle.automata_base.specs.Powerset.{Powerset}
+use Rattle.automata_hybrid.specs.Table.{Rows, Leads, Lacks}
 use Rattle.automata_hybrid.specs.declared.dfa.cache.Found.{Found}
 use Rattle.automata_hybrid.specs.declared.dfa.cache.Found.TheVariants.{Known, New}
 
 -- what a look-up of a state gives: an ID that leads to it, or the state itself, which no row has
 abbrev pub IsFound : Rows → Powerset → Found → Type 0
 IsFound t q (Known id) = Leads t id q
-IsFound t q (New state) = (state ≡ q) × (id_of t q ≡ None) × (q ≡ dead → ⊥)
+IsFound t q (New state) = (state ≡ q) × Lacks t q

@@ -6,6 +6,7 @@ pub mod Table
 pub mod Clears
 pub mod Progressing
 pub mod Bounds
+pub mod Kept
 pub mod Builds
 pub mod Caches
 pub mod Starting

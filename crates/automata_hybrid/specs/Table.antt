@@ -36,6 +36,10 @@ find_id s at q (r ∷ rs) = cond (powerset_eq q r.state) (Some (row_id at r)) (f
 abbrev pub id_of : Rows → Powerset → Option ℕ
 id_of t q = find_id t.of.stride (3 * t.of.stride) q t.rows
 
+-- a state that isn't dead, and that no row has
+abbrev pub Lacks : Rows → Powerset → Type 0
+Lacks t q = (id_of t q ≡ None) × (q ≡ dead → ⊥)
+
 -- this ID, tags included, is that of the row of this state
 abbrev pub Names : Rows → ℕ → Powerset → Type 0
 Names t id q = id_of t q ≡ Some id
@@ -103,6 +107,10 @@ HasState t k q = (r : Row) × (slice_get t.rows k ≡ Some r) × (r.state ≡ q)
 -- the place of a cell
 abbrev pub cell_at : ℕ → ℕ → ℕ
 cell_at id class = id % offset_limit + class
+
+-- each row has a cell for each class
+abbrev pub HasCells : Rows → Type 0
+HasCells t = (id class : ℕ) → IsValid t id → class < t.of.stride → cell_at id class < length t.cells
 
 abbrev pub with_cell : Rows → ℕ → ℕ → ℕ → Rows
 with_cell t id class next = record { of = t.of; cells = slice_set t.cells (cell_at id class) next; rows = t.rows }

@@ -1,11 +1,11 @@
-ghost use Rattle.std.specs.Prelude.{ℕ, ◌≡◌, ◌+◌, ◌*◌, ◌<◌, ◌≤◌, None, Some, IfOk, IfErr, OnOk, OnErr, slice_index, length, is_some, IsSome, IsTrue, ◌↔◌, true, false, IsBitSet};
+ghost use Rattle.std.specs.Prelude.{ℕ, ◌≡◌, ◌+◌, ◌*◌, ◌^◌, ◌<◌, ◌≤◌, None, Some, IfOk, IfErr, OnOk, OnErr, slice_index, length, is_some, IsSome, IsTrue, ◌↔◌, true, false, IsBitSet};
 ghost use Rattle.automata_base.specs.Powerset.{Powerset, cost};
 ghost use Rattle.automata_base.specs.Powerset.{dead};
 ghost use Rattle.automata_base.specs.Steps.{successor, start_state_of};
 ghost use Rattle.automata_hybrid.specs.Owned.{IsOwn};
 ghost use Rattle.automata_hybrid.specs.Machine.{Machine, next_of, start_of, greatest, template_of};
 ghost use Rattle.automata_hybrid.specs.Ids.{dead_id, unknown_id, fixed_from, offset_limit};
-ghost use Rattle.automata_hybrid.specs.Table.{id_of, Names, IsValid, Leads, MayLead, IsCell};
+ghost use Rattle.automata_hybrid.specs.Table.{id_of, Names, IsValid, Leads, MayLead, IsCell, HasCells};
 ghost use Rattle.automata_hybrid.specs.Bounds.{Fits, refuses_to_clear, IsCacheError, KeepsStarts, IsAdded, cell_of, with_next, with_start, with_searched, grown, cleared, usage, settings_of};
 ghost use Rattle.automata_hybrid.specs.Caches.{IsRow, IsCacheOf, fresh_cache, counted, with_store};
 ghost use Rattle.automata_hybrid.specs.Progressing.{started, updated, finished, total_len};
@@ -83,6 +83,7 @@ impl Cache {
         requires valid { IsValid self.old.store.table id }
         requires alike { (q : Powerset) → IsOwn dfa.now.nfa q → successor dfa.now.nfa dfa.now.kind q unit ≡ next_of dfa.now q class }
         ensures value { IfOk result (λ k. (q : Powerset) → Names self.old.store.table id q → k ≡ next_of dfa.now q class) }
+        ensures successor { IfOk result (λ k. (q : Powerset) → Names self.old.store.table id q → k ≡ successor dfa.now.nfa dfa.now.kind q unit) }
         ensures cost { IfOk result (λ k. cost k ≤ greatest dfa.now) }
         ensures is_of { IfOk result (λ k. IsOwn dfa.now.nfa k) }
         ensures counted { self.new ≡ counted self.old }
@@ -259,6 +260,15 @@ impl Cache {
         ensures { self.now.store.settings ≡ settings_of self.now.store.table.of }
     {
         self.store.see_settings();
+    }
+
+    /// Rows are of one width, and each has a cell for each class; the count of clears is a number of 64 bits.
+    pub(crate) fn see_cells(&self)
+        ensures wide { length (template_of self.now.store.table.of) ≡ self.now.store.table.of.stride }
+        ensures cells { HasCells self.now.store.table }
+        ensures clears { self.now.store.clears < 2 ^ 64 }
+    {
+        self.store.see_cells();
     }
 
     /// IDs of rows have no high tag, and the match tag exactly where their state has patterns; no row has the dead state.

@@ -2,9 +2,10 @@ ghost use Rattle.std.specs.Prelude.{ℕ, ◌≡◌, ◌+◌, ◌*◌, ◌<◌, �
 ghost use Rattle.automata_base.specs.Powerset.{Powerset, cost};
 ghost use Rattle.automata_base.specs.Steps.{successor};
 ghost use Rattle.automata_hybrid.specs.Owned.{IsOwn};
-ghost use Rattle.automata_hybrid.specs.Machine.{next_of, start_of, template_of};
+ghost use Rattle.automata_hybrid.specs.Machine.{next_of, start_of, template_of, greatest};
 ghost use Rattle.automata_hybrid.specs.Table.{id_of, Names, IsValid, Leads};
 ghost use Rattle.automata_hybrid.specs.Bounds.{GivesUp, Fits, refuses_to_clear, IsCacheError, IsKnownTransition, cell_of, IsNext, KeepsStarts, IsComputed};
+ghost use Rattle.automata_hybrid.specs.Kept.{Keeps, ClearedNothing, HasRoom};
 ghost use Rattle.automata_hybrid.specs.Caches.{IsCacheOf, HasRow, counted};
 ghost use Rattle.automata_hybrid.specs.Ids.{quit_id, unknown_id, fixed_from, offset_limit};
 ghost use Rattle.automata_base.specs.Classes.{class_in, eoi_class, is_quit};
@@ -33,17 +34,24 @@ impl Cache {
         ensures unchanged { IsKnownTransition self.old.store id class → self.new ≡ self.old }
         ensures quit { slice_index (template_of dfa.now) class ≡ quit_id dfa.now.stride → (result ≡ Ok (quit_id dfa.now.stride)) × (self.new ≡ self.old) }
         ensures named { IfOk result (λ n. (q : Powerset) → Names self.old.store.table id q → IsNext self.new.store.table q class n) }
-        ensures effect { (IsKnownTransition self.old.store id class → ⊥) → IfOk result (λ n. (q : Powerset) → Names self.old.store.table id q → IsComputed self.old.store id class q self.new.store n) }
+        ensures effect { (IsKnownTransition self.old.store id class → ⊥) → IfOk result (λ n. (q : Powerset) → Names self.old.store.table id q → IsComputed self.old.store id class q (successor dfa.now.nfa dfa.now.kind q unit) self.new.store n) }
         ensures counted { (IsKnownTransition self.old.store id class → ⊥) → self.new.count ≡ self.old.count + 1 }
         ensures starts { KeepsStarts self.old.store.starts self.new.store.starts }
-        ensures gives_up { IfErr result (λ e. IsCacheError e → (q : Powerset) → Names self.old.store.table id q → (id_of self.old.store.table (next_of dfa.now q class) ≡ None) × (Fits self.old.store (cost (next_of dfa.now q class)) → ⊥) × (refuses_to_clear self.old.store ≡ true)) }
+        ensures gives_up { IfErr result (λ e. IsCacheError e → (q : Powerset) → Names self.old.store.table id q → GivesUp self.old.store (successor dfa.now.nfa dfa.now.kind q unit)) }
         ensures err { OnErr result (self.new ≡ counted self.old) }
+        ensures kept { ClearedNothing self.old.store self.new.store → Keeps self.old.store self.new.store }
+        ensures learned { ClearedNothing self.old.store self.new.store → IfOk result (λ n. IsKnownTransition self.new.store id class) }
+        ensures written { ClearedNothing self.old.store self.new.store → IfOk result (λ n. cell_of self.new.store id class ≡ n) }
+        ensures roomy { (states : ℕ) → HasRoom self.old.store (states + 1) → HasRoom self.new.store states × (self.new.store.clears ≡ self.old.store.clears) }
+        ensures clears_more { self.old.store.clears ≤ self.new.store.clears }
     {
+        self.see_cells();
         let cell = self.cell(id, class);
         if !cell.is_unknown() {
             return Ok(cell);
         }
         let next = self.compute_next(dfa, id, class, unit)?;
+        self.see_ids();
         Ok(next)
     }
 
@@ -63,10 +71,11 @@ impl Cache {
         requires alike { (q : Powerset) → IsOwn dfa.now.nfa q → successor dfa.now.nfa dfa.now.kind q unit ≡ next_of dfa.now q class }
         ensures of { IsCacheOf self.new dfa.now }
         ensures named { IfOk result (λ n. (q : Powerset) → Names self.old.store.table id q → Leads self.new.store.table n (next_of dfa.now q class)) }
-        ensures effect { IfOk result (λ n. (q : Powerset) → Names self.old.store.table id q → IsComputed self.old.store id class q self.new.store n) }
+        ensures effect { IfOk result (λ n. (q : Powerset) → Names self.old.store.table id q → IsComputed self.old.store id class q (successor dfa.now.nfa dfa.now.kind q unit) self.new.store n) }
+        ensures cheap { OnOk result ((q : Powerset) → Names self.old.store.table id q → cost (successor dfa.now.nfa dfa.now.kind q unit) ≤ greatest dfa.now) }
         ensures counted { self.new.count ≡ self.old.count + 1 }
         ensures starts { OnOk result (KeepsStarts self.old.store.starts self.new.store.starts) }
-        ensures gives_up { IfErr result (λ e. IsCacheError e → (q : Powerset) → Names self.old.store.table id q → (id_of self.old.store.table (next_of dfa.now q class) ≡ None) × (Fits self.old.store (cost (next_of dfa.now q class)) → ⊥) × (refuses_to_clear self.old.store ≡ true)) }
+        ensures gives_up { IfErr result (λ e. IsCacheError e → (q : Powerset) → Names self.old.store.table id q → GivesUp self.old.store (successor dfa.now.nfa dfa.now.kind q unit)) }
         ensures err { OnErr result (self.new ≡ counted self.old) }
     {
         let key = self.determinise(dfa, id, class, unit)?;
@@ -113,6 +122,15 @@ impl DFA {
         ensures starts { KeepsStarts cache.old.store.starts cache.new.store.starts }
         ensures gives_up { IfErr result (λ e. IsCacheError e → (q : Powerset) → Names cache.old.store.table id q → GivesUp cache.old.store (successor self.now.nfa self.now.kind q (Some byte))) }
         ensures err { OnErr result (cache.new ≡ counted cache.old) }
+
+        // Until the next clear nothing is lost, and the transition is known.
+        ensures kept { ClearedNothing cache.old.store cache.new.store → Keeps cache.old.store cache.new.store }
+        ensures learned { id < fixed_from → ClearedNothing cache.old.store cache.new.store → IfOk result (λ n. IsKnownTransition cache.new.store id (class_in self.now.classes byte)) }
+        ensures written { id < fixed_from → ClearedNothing cache.old.store cache.new.store → IfOk result (λ n. cell_of cache.new.store id (class_in self.now.classes byte) ≡ n) }
+
+        // Where there is room for one more state, nothing is cleared, and the room for the others is left.
+        ensures roomy { (states : ℕ) → HasRoom cache.old.store (states + 1) → HasRoom cache.new.store states × (cache.new.store.clears ≡ cache.old.store.clears) }
+        ensures clears_more { cache.old.store.clears ≤ cache.new.store.clears }
     {
         cache.see_ids();
         if id.is_fixed() {
@@ -147,6 +165,15 @@ impl DFA {
         ensures starts { KeepsStarts cache.old.store.starts cache.new.store.starts }
         ensures gives_up { IfErr result (λ e. IsCacheError e → (q : Powerset) → Names cache.old.store.table id q → GivesUp cache.old.store (successor self.now.nfa self.now.kind q None)) }
         ensures err { OnErr result (cache.new ≡ counted cache.old) }
+
+        // Until the next clear nothing is lost, and the transition is known.
+        ensures kept { ClearedNothing cache.old.store cache.new.store → Keeps cache.old.store cache.new.store }
+        ensures learned { id < fixed_from → ClearedNothing cache.old.store cache.new.store → IfOk result (λ n. IsKnownTransition cache.new.store id (eoi_class self.now.classes)) }
+        ensures written { id < fixed_from → ClearedNothing cache.old.store cache.new.store → IfOk result (λ n. cell_of cache.new.store id (eoi_class self.now.classes) ≡ n) }
+
+        // Where there is room for one more state, nothing is cleared, and the room for the others is left.
+        ensures roomy { (states : ℕ) → HasRoom cache.old.store (states + 1) → HasRoom cache.new.store states × (cache.new.store.clears ≡ cache.old.store.clears) }
+        ensures clears_more { cache.old.store.clears ≤ cache.new.store.clears }
     {
         cache.see_ids();
         if id.is_fixed() {

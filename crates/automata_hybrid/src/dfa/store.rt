@@ -5,7 +5,7 @@ ghost use Rattle.automata_base.specs.Accounting.{minimum_capacity};
 ghost use Rattle.automata_hybrid.specs.Owned.{IsOwn};
 ghost use Rattle.automata_hybrid.specs.Ids.{dead_id, unknown_id, fixed_from, offset_limit};
 ghost use Rattle.automata_hybrid.specs.Machine.{next_of, start_of, greatest, template_of, IsTemplate};
-ghost use Rattle.automata_hybrid.specs.Table.{id_of, Names, IsValid, with_row, with_cell, Leads, MayLead, IsCell};
+ghost use Rattle.automata_hybrid.specs.Table.{id_of, Names, IsValid, with_row, with_cell, Leads, MayLead, IsCell, HasCells};
 ghost use Rattle.automata_hybrid.specs.Clears.{IsPut, row_of};
 ghost use Rattle.automata_hybrid.specs.Bounds.{usage, Fits, refuses_to_clear, cleared, with_table, grown, put_found, cleared_saving, IsCacheError, cell_of, with_next, fresh_store, settings_of, with_start, IsAdded, KeepsStarts};
 ghost use Rattle.automata_hybrid.specs.Caches.{IsRow};
@@ -181,6 +181,16 @@ impl Store {
         ensures alive { (id : ℕ) (q : Powerset) → Names self.now.table id q → q ≡ dead → ⊥ }
     {
         let _ = self.table.len();
+    }
+
+    /// Rows are of one width, and each has a cell for each class; the count of clears is a number of 64 bits.
+    pub fn see_cells(&self)
+        ensures wide { length (template_of self.now.table.of) ≡ self.now.table.of.stride }
+        ensures cells { HasCells self.now.table }
+        ensures clears { self.now.clears < 2 ^ 64 }
+    {
+        let _clears = self.clears;
+        self.table.see_cells();
     }
 
     /// No state of the automaton costs more than fits.

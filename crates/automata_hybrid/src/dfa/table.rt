@@ -5,7 +5,7 @@ ghost use Rattle.automata_base.specs.Powerset.{dead};
 ghost use Rattle.automata_hybrid.specs.Owned.{IsOwn};
 ghost use Rattle.automata_hybrid.specs.Ids.{dead_id, quit_id, unknown_id, fixed_from, offset_limit};
 ghost use Rattle.automata_hybrid.specs.Machine.{next_of, greatest, template_of, IsTemplate, marked};
-ghost use Rattle.automata_hybrid.specs.Table.{id_of, with_row, fresh, Names, Leads, row_id, row_cost, IsValid, HasState, IsCell, cell_at, with_cell};
+ghost use Rattle.automata_hybrid.specs.Table.{id_of, with_row, fresh, Names, Leads, row_id, row_cost, IsValid, HasState, IsCell, cell_at, with_cell, HasCells};
 ghost use Rattle.automata_hybrid.specs.Clears.{AllStarts};
 ghost use Rattle.automata_hybrid.specs.declared.dfa.row.Row.{Row as ARow};
 
@@ -70,6 +70,14 @@ impl Table {
         ensures alive { (id : ℕ) (q : Powerset) → Names self.now id q → q ≡ dead → ⊥ }
     {
         self.rows.len()
+    }
+
+    /// Rows are of one width, and each has a cell for each class.
+    pub fn see_cells(&self)
+        ensures wide { length (template_of self.now.of) ≡ self.now.of.stride }
+        ensures cells { HasCells self.now }
+    {
+        let _ = self.rows.len();
     }
 
     pub fn stride(&self) -> usize

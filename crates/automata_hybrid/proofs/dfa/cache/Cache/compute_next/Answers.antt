@@ -1,7 +1,7 @@
-use Rattle.std.proofs.Common.{◌≡◌, ◌∙◌, ap, sym, subst, inr, false, None}
+use Rattle.std.proofs.Common.{◌≡◌, ◌∙◌, ap, sym, subst, inr, false}
 use Rattle.automata_base.specs.Powerset.{Powerset}
-use Rattle.automata_hybrid.specs.Machine.{Machine, next_of}
-use Rattle.automata_hybrid.specs.Table.{Names, id_of}
+use Rattle.automata_base.specs.Steps.{successor}
+use Rattle.automata_hybrid.specs.Table.{Names, Lacks}
 use Rattle.automata_hybrid.specs.Bounds.{Stored, IsAdded}
 use Rattle.automata_hybrid.specs.Caches.{CacheView}
 use Rattle.automata_hybrid.specs.Founds.{IsFound}
@@ -12,14 +12,13 @@ use Rattle.automata_hybrid.proofs.dfa.cache.Cache.compute_next.Goals as goal
 pub returns-in_ok-from-in-New-clause-effect : goal.returns-in_ok-from-in-New-clause-effect
 returns-in_ok-from-in-New-clause-effect c = λ q n.
     let old : Stored = c.args.self.now.store in
+    let target : Powerset = successor c.args.dfa.now.nfa c.args.dfa.now.kind q c.args.unit in
     let s : c.resolve.new.self.store ≡ old = ap (λ (v : CacheView). v.store) (c.resolve.ensures.same ∙ c.determinise.ensures.counted) in
     let d : c.determinise.new.self.store ≡ old = ap (λ (v : CacheView). v.store) c.determinise.ensures.counted in
     let found : IsFound c.determinise.new.self.store.table c.in_ok-key.key (New c.in-New.state) = subst (λ (f : Found). IsFound c.determinise.new.self.store.table c.in_ok-key.key f) c.in-New.is c.in_ok-to.ensures.found in
-    let m : c.args.dfa.now ≡ old.table.of = sym c.requires.of in
-    let key : c.in_ok-key.key ≡ next_of old.table.of q c.args.class = c.in_ok-key.ensures.value q n ∙ ap (λ (u : Machine). next_of u q c.args.class) m in
-    let state : c.in-New.state ≡ next_of old.table.of q c.args.class = found.0 ∙ key in
-    let none : id_of old.table (next_of old.table.of q c.args.class) ≡ None = subst (λ (v : Stored). id_of v.table (next_of old.table.of q c.args.class) ≡ None) d (subst (λ (p : Powerset). id_of c.determinise.new.self.store.table p ≡ None) key found.1) in
+    let key : c.in_ok-key.key ≡ target = c.in_ok-key.ensures.successor q n in
+    let lacks : Lacks old.table target = subst (λ (v : Stored). Lacks v.table target) d (subst (λ (p : Powerset). Lacks c.determinise.new.self.store.table p) key found.1) in
     let before : IsAdded old c.args.id (record { state = c.in-New.state; started = false }) c.add_next.new.self.store = subst (λ (v : Stored). IsAdded v c.args.id (record { state = c.in-New.state; started = false }) c.add_next.new.self.store) s c.in_ok-from-in-New.ensures.effect in
-    let added : IsAdded old c.args.id (record { state = next_of old.table.of q c.args.class; started = false }) c.add_next.new.self.store = subst (λ (p : Powerset). IsAdded old c.args.id (record { state = p; started = false }) c.add_next.new.self.store) state before in
+    let added : IsAdded old c.args.id (record { state = target; started = false }) c.add_next.new.self.store = subst (λ (p : Powerset). IsAdded old c.args.id (record { state = p; started = false }) c.add_next.new.self.store) (found.0 ∙ key) before in
     let named : Names c.add_next.new.self.store.table c.in_ok-from-in-New.from q = c.in_ok-from-in-New.ensures.from q (subst (λ (v : Stored). Names v.table c.args.id q) (sym s) n) in
-    inr (none, c.in_ok-from-in-New.from, c.add_next.new.self.store, added, named, ap (λ (v : CacheView). v.store) c.set_next-in-New.ensures)
+    inr (lacks, c.in_ok-from-in-New.from, c.add_next.new.self.store, added, named, ap (λ (v : CacheView). v.store) c.set_next-in-New.ensures)

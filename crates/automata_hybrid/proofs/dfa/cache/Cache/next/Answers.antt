@@ -1,11 +1,62 @@
-use Rattle.std.proofs.Common.{◌≡◌, ◌^◌, ◌≤◌, arith, subst}
+use Rattle.std.proofs.Common.{◌≡◌, ◌^◌, ◌<◌, ◌≤◌, arith, subst, sym, inr}
 use Rattle.std.proofs.lemmas.Grind.{common_steps}
 use Rattle.std.specs.Prelude.{slice_index}
-use Rattle.automata_hybrid.specs.Machine.{Machine, template_of}
+use Rattle.automata_base.specs.Powerset.{Powerset, cost}
+use Rattle.automata_base.specs.Steps.{successor}
+use Rattle.automata_hybrid.specs.Machine.{Machine, template_of, greatest, next_of}
+use Rattle.automata_hybrid.specs.Table.{Leads}
+use Rattle.automata_hybrid.specs.Bounds.{IsKnownTransition, IsComputed, cell_of}
+use Rattle.automata_hybrid.specs.Kept.{ClearedNothing}
+use Rattle.automata_hybrid.proofs.Bounding.{Leads-known}
+use Rattle.automata_hybrid.proofs.Effects.{Keeps-computed, written-computed, roomy-computed}
 use Rattle.automata_hybrid.proofs.Stepping.{unknown_free}
+use Rattle.automata_hybrid.proofs.dfa.cache.Cache.next.Goals.{After-see_ids}
 use Rattle.automata_hybrid.proofs.dfa.cache.Cache.next.Goals as goal
 
 pub compute_next-requires-clause-free : goal.compute_next-requires-clause-free
 compute_next-requires-clause-free c =
     let l : 2 ^ 31 ≤ c.cell-cell.result = grind (arith, common_steps, c.if-not-is_unknown.ensures.size) in
     subst (λ (m : Machine). slice_index (template_of m) c.args.class ≡ 2 ^ 31) c.requires.of (unknown_free c.args.self.now.store.table c.requires.valid.0 c.args.class c.cell-cell.result (c.cell-cell.ensures.named c.requires.valid.0 c.requires.valid.1) c.cell-cell.ensures.stride l)
+
+unknown : (c : After-see_ids) → IsKnownTransition c.args.self.now.store c.args.id c.args.class → ⊥
+unknown c k =
+    let l : 2 ^ 31 ≤ c.cell-cell.result = grind (arith, common_steps, c.if-not-is_unknown.ensures.size) in
+    absurd (omega (arith, k, l, c.cell-cell.ensures.value))
+
+abbrev target : After-see_ids → Powerset
+target c = successor c.args.dfa.now.nfa c.args.dfa.now.kind c.requires.valid.0 c.args.unit
+
+done : (c : After-see_ids) → IsComputed c.args.self.now.store c.args.id c.args.class c.requires.valid.0 (target c) c.compute_next.new.self.store c.in_ok-next.next
+done c = c.in_ok-next.ensures.effect c.requires.valid.0 c.requires.valid.1
+
+below : (c : After-see_ids) → c.args.class < c.args.self.now.store.table.of.stride
+below c = subst (λ (m : Machine). c.args.class < m.stride) (sym c.requires.of) c.requires.class
+
+written : (c : After-see_ids) → ClearedNothing c.args.self.now.store c.compute_next.new.self.store → cell_of c.compute_next.new.self.store c.args.id c.args.class ≡ c.in_ok-next.next
+written c nothing =
+    written-computed c.args.self.now.store c.compute_next.new.self.store c.args.id c.args.class c.in_ok-next.next c.requires.valid.0 (target c) c.see_cells.ensures.cells c.requires.valid.1 (below c) (unknown c) (done c) nothing
+
+pub returns-clause-named : goal.returns-clause-named
+returns-clause-named c = λ q n.
+    let of = sym c.in_ok-next.ensures.of in
+    let l : 2 ^ 31 ≤ c.cell-cell.result = grind (arith, common_steps, c.if-not-is_unknown.ensures.size) in
+    let free : slice_index (template_of c.args.dfa.now) c.args.class ≡ 2 ^ 31 = subst (λ (m : Machine). slice_index (template_of m) c.args.class ≡ 2 ^ 31) c.requires.of (unknown_free c.args.self.now.store.table c.requires.valid.0 c.args.class c.cell-cell.result (c.cell-cell.ensures.named c.requires.valid.0 c.requires.valid.1) c.cell-cell.ensures.stride l) in
+    inr (subst (λ (m : Machine). slice_index (template_of m) c.args.class ≡ 2 ^ 31) of free, subst (λ (m : Machine). Leads c.compute_next.new.self.store.table c.in_ok-next.next (next_of m q c.args.class)) of (c.in_ok-next.ensures.named q n))
+
+pub returns-clause-kept : goal.returns-clause-kept
+returns-clause-kept c = λ nothing.
+    Keeps-computed c.args.self.now.store c.compute_next.new.self.store c.args.id c.args.class c.in_ok-next.next c.requires.valid.0 (target c) c.see_cells.ensures.cells c.requires.valid.1 (below c) (unknown c) (done c) nothing
+
+pub returns-clause-written : goal.returns-clause-written
+returns-clause-written c = λ nothing. written c nothing
+
+pub returns-clause-learned : goal.returns-clause-learned
+returns-clause-learned c = λ nothing.
+    let leads = c.in_ok-next.ensures.named c.requires.valid.0 c.requires.valid.1 in
+    let known : c.in_ok-next.next < 2 ^ 31 = Leads-known c.compute_next.new.self.store.table c.in_ok-next.next (next_of c.args.dfa.now c.requires.valid.0 c.args.class) c.see_ids.ensures.low c.see_ids.ensures.small leads in
+    subst (λ n. n < 2 ^ 31) (sym (written c nothing)) known
+
+pub returns-clause-roomy : goal.returns-clause-roomy
+returns-clause-roomy c = λ states room.
+    let little : cost (target c) ≤ greatest c.args.self.now.store.table.of = subst (λ (m : Machine). cost (target c) ≤ greatest m) (sym c.requires.of) (c.in_ok-next.ensures.cheap c.requires.valid.0 c.requires.valid.1) in
+    roomy-computed c.args.self.now.store c.compute_next.new.self.store c.args.id c.args.class c.in_ok-next.next c.requires.valid.0 (target c) states c.see_cells.ensures.wide little (done c) room

@@ -1,0 +1,157 @@
+-- What a step or a start does to a cache, from its whole effect.
+use Rattle.std.proofs.Common.{◌≡◌, ℕ, ◌+◌, ◌-◌, ◌*◌, ◌^◌, ◌<◌, ◌≤◌, [], ◌∷◌, ◌++◌, length, get_or, set, Option, Some, false, refl, sym, ap, ◌∙◌, subst, inl, inr, arith, length-append, length-set}
+use Rattle.std.specs.List.{sum_by}
+use Rattle.std.proofs.lemmas.List.{get_or-set_same, get_or-set_other, get_or_append_left}
+use Rattle.std.proofs.lemmas.List.Sums.{sum_by_push}
+use Rattle.automata_base.specs.Powerset.{Powerset, cost}
+use Rattle.automata_hybrid.specs.declared.dfa.row.Row.{Row}
+use Rattle.automata_hybrid.specs.Machine.{Machine, greatest, template_of}
+use Rattle.automata_hybrid.specs.Table.{Rows, Names, HasCells, row_cost, cell_at}
+use Rattle.automata_hybrid.specs.Bounds.{Stored, usage, Fits, grown, cell_of, with_next, with_start, IsKnownTransition, IsKnownStart, IsComputed}
+use Rattle.automata_hybrid.specs.Kept.{Keeps, ClearedNothing, HasRoom}
+use Rattle.automata_hybrid.specs.Progressing.{saturated}
+use Rattle.automata_hybrid.proofs.Rows.{Names-more}
+
+some_id : (a b : ℕ) → ◌≡◌ {A = Option ℕ} (Some a) (Some b) → a ≡ b
+some_id a b e = cc
+
+one_id : (t : Rows) (a b : ℕ) (q : Powerset) → Names t a q → Names t b q → a ≡ b
+one_id t a b q f g = some_id a b (sym f ∙ g)
+
+-- a clear shows in the count
+counts_up : (n m : ℕ) → m ≡ saturated (n + 1) → m ≡ n → n < 2 ^ 64 - 1 → ⊥
+counts_up n m e same l = omega (arith, e, same, l)
+
+rises : (n : ℕ) → n < 2 ^ 64 → n ≤ saturated (n + 1)
+rises n l = omega (arith, l)
+
+pub Keeps-same : (old new : Stored) → new ≡ old → Keeps old new
+Keeps-same old new e = subst (λ (s : Stored). Keeps old s) (sym e) (record { rows = λ id q h. h; starts = λ slot l k. refl; cells = λ id class v l k. refl })
+
+-- a cell that wasn't known is written
+Keeps-next : (old : Stored) (id class next : ℕ) → (IsKnownTransition old id class → ⊥) → Keeps old (with_next old id class next)
+Keeps-next old id class next free = record {
+  rows = λ i q h. h;
+  starts = λ slot l k. refl;
+  cells = λ i d v l k. get_or-set_other old.table.cells (cell_at id class) (cell_at i d) next 0 (λ e. free (subst (λ n. get_or old.table.cells n 0 < 2 ^ 31) e k));
+}
+
+-- a start that wasn't known is written
+Keeps-start : (old : Stored) (slot id : ℕ) → (IsKnownStart old slot → ⊥) → Keeps old (with_start old slot id)
+Keeps-start old slot id free = record {
+  rows = λ i q h. h;
+  starts = λ s l k. get_or-set_other old.starts slot s id 0 (λ e. free (subst (λ n. get_or old.starts n 0 < 2 ^ 31) e k));
+  cells = λ i d v l k. refl;
+}
+
+Keeps-grown : (old : Stored) (r : Row) → HasCells old.table → Keeps old (grown old r)
+Keeps-grown old r has = record {
+  rows = λ i q h. Names-more old.table r i q h;
+  starts = λ slot l k. refl;
+  cells = λ i d v l k. get_or_append_left old.table.cells (template_of old.table.of) 0 (cell_at i d) (has i d v l);
+}
+
+Keeps-trans : (a b c : Stored) → b.table.of ≡ a.table.of → length b.starts ≡ length a.starts → Keeps a b → Keeps b c → Keeps a c
+Keeps-trans a b c of len f g = record {
+  rows = λ i q h. g.rows i q (f.rows i q h);
+  starts = λ slot l k. (let e = f.starts slot l k in g.starts slot (subst (λ n. slot < n) (sym len) l) (subst (λ n. n < 2 ^ 31) (sym e) k) ∙ e);
+  cells = λ i d v l k. (let e = f.cells i d v l k in g.cells i d (v.0, f.rows i v.0 v.1) (subst (λ (m : Machine). d < m.stride) (sym of) l) (subst (λ n. n < 2 ^ 31) (sym e) k) ∙ e);
+}
+
+module _ (old new : Stored) (id class next : ℕ) (q target : Powerset) (has : HasCells old.table) (named : Names old.table id q)
+    (below : class < old.table.of.stride) (free : IsKnownTransition old id class → ⊥) (done : IsComputed old id class q target new next) where
+  pub Keeps-computed : ClearedNothing old new → Keeps old new
+  Keeps-computed nothing = go done where
+    go : IsComputed old id class q target new next → Keeps old new
+    go (inl (leads, e)) = subst (λ (s : Stored). Keeps old s) (sym e) (Keeps-next old id class next free)
+    go (inr (lacks, from, between, inl (fits, g), n, e)) =
+        let r : Row = record { state = target; started = false } in
+        let at : from ≡ id = one_id (grown old r).table from id q (subst (λ (s : Stored). Names s.table from q) g n) (Names-more old.table r id q named) in
+        let read : cell_of (grown old r) id class ≡ cell_of old id class = get_or_append_left old.table.cells (template_of old.table.of) 0 (cell_at id class) (has id class (q, named) below) in
+        let still : IsKnownTransition (grown old r) id class → ⊥ = λ k. free (subst (λ v. v < 2 ^ 31) read k) in
+        let k : Keeps old (with_next (grown old r) id class next) = Keeps-trans old (grown old r) (with_next (grown old r) id class next) refl refl (Keeps-grown old r has) (Keeps-next (grown old r) id class next still) in
+        let same : new ≡ with_next (grown old r) id class next = e ∙ (λ i. with_next (g i) (at i) class next) in
+        subst (λ (s : Stored). Keeps old s) (sym same) k
+    go (inr (lacks, from, between, inr (fits, g), n, e)) =
+        let count : new.clears ≡ saturated (old.clears + 1) = ap (λ (s : Stored). s.clears) e ∙ ap (λ (s : Stored). s.clears) g in
+        absurd (counts_up old.clears new.clears count nothing.0 nothing.1)
+
+  pub written-computed : ClearedNothing old new → cell_of new id class ≡ next
+  written-computed nothing = go done where
+    go : IsComputed old id class q target new next → cell_of new id class ≡ next
+    go (inl (leads, e)) = ap (λ (s : Stored). cell_of s id class) e ∙ get_or-set_same old.table.cells (cell_at id class) next 0 (has id class (q, named) below)
+    go (inr (lacks, from, between, inl (fits, g), n, e)) =
+        let r : Row = record { state = target; started = false } in
+        let at : from ≡ id = one_id (grown old r).table from id q (subst (λ (s : Stored). Names s.table from q) g n) (Names-more old.table r id q named) in
+        let within : cell_at id class < length (old.table.cells ++ template_of old.table.of) = omega (arith, length-append old.table.cells (template_of old.table.of), has id class (q, named) below) in
+        let same : new ≡ with_next (grown old r) id class next = e ∙ (λ i. with_next (g i) (at i) class next) in
+        ap (λ (s : Stored). cell_of s id class) same ∙ get_or-set_same (old.table.cells ++ template_of old.table.of) (cell_at id class) next 0 within
+    go (inr (lacks, from, between, inr (fits, g), n, e)) =
+        let count : new.clears ≡ saturated (old.clears + 1) = ap (λ (s : Stored). s.clears) e ∙ ap (λ (s : Stored). s.clears) g in
+        absurd (counts_up old.clears new.clears count nothing.0 nothing.1)
+
+-- room for one more is room for so many
+more_room : (used n each capacity : ℕ) → used + (n + 1) * each ≤ capacity → used + n * each ≤ capacity
+more_room used n each capacity l = let e : (n + 1) * each ≡ n * each + each = omega arith in omega (arith, l, e)
+
+one_room : (used n stride most extra capacity : ℕ) → extra ≤ most → used + (n + 1) * (4 * stride + 36 + most) ≤ capacity → used + 4 * stride + 36 + extra ≤ capacity
+one_room used n stride most extra capacity little l = let e : (n + 1) * (4 * stride + 36 + most) ≡ n * (4 * stride + 36 + most) + (4 * stride + 36 + most) = omega arith in omega (arith, l, e, little)
+
+rest_room : (used n stride most extra capacity : ℕ) → extra ≤ most → used + (n + 1) * (4 * stride + 36 + most) ≤ capacity → used + 4 * stride + 36 + extra + n * (4 * stride + 36 + most) ≤ capacity
+rest_room used n stride most extra capacity little l = let e : (n + 1) * (4 * stride + 36 + most) ≡ n * (4 * stride + 36 + most) + (4 * stride + 36 + most) = omega arith in omega (arith, l, e, little)
+
+HasRoom-less : (c : Stored) (states : ℕ) → HasRoom c (states + 1) → HasRoom c states
+HasRoom-less c states room = record {
+  capacity = more_room (usage c) states (4 * c.table.of.stride + 36 + greatest c.table.of) c.settings.capacity room.capacity;
+  offsets = λ k l. room.offsets k (omega (arith, l));
+}
+
+pub HasRoom-Fits : (c : Stored) (states extra : ℕ) → extra ≤ greatest c.table.of → HasRoom c (states + 1) → Fits c extra
+HasRoom-Fits c states extra little room =
+    let first : length c.table.cells + 0 * c.table.of.stride < 2 ^ 27 = room.offsets 0 (omega arith) in
+    (one_room (usage c) states c.table.of.stride (greatest c.table.of) extra c.settings.capacity little room.capacity, omega (arith, first))
+
+HasRoom-grown : (c : Stored) (r : Row) (states : ℕ) → length (template_of c.table.of) ≡ c.table.of.stride → cost r.state ≤ greatest c.table.of → HasRoom c (states + 1) → HasRoom (grown c r) states
+HasRoom-grown c r states wide little room =
+    let cells : length (c.table.cells ++ template_of c.table.of) ≡ length c.table.cells + c.table.of.stride = length-append c.table.cells (template_of c.table.of) ∙ ap (λ n. length c.table.cells + n) wide in
+    let rows : length (c.table.rows ++ r ∷ []) ≡ length c.table.rows + 1 = length-append c.table.rows (r ∷ []) in
+    let costs : sum_by row_cost (c.table.rows ++ r ∷ []) ≡ sum_by row_cost c.table.rows + cost r.state = sum_by_push row_cost c.table.rows r in
+    let used : usage (grown c r) ≡ usage c + 4 * c.table.of.stride + 36 + cost r.state = omega (arith, cells, rows, costs) in
+    record {
+      capacity = rw used (rest_room (usage c) states c.table.of.stride (greatest c.table.of) (cost r.state) c.settings.capacity little room.capacity);
+      offsets = λ k l. (let e : (k + 1) * c.table.of.stride ≡ k * c.table.of.stride + c.table.of.stride = omega arith in omega (arith, cells, e, room.offsets (k + 1) (omega (arith, l))));
+    }
+
+HasRoom-next : (c : Stored) (id class next states : ℕ) → HasRoom c states → HasRoom (with_next c id class next) states
+HasRoom-next c id class next states room =
+    let n : length c.table.cells ≡ length (set c.table.cells (cell_at id class) next) = sym (length-set c.table.cells (cell_at id class) next) in
+    record { capacity = omega (arith, n, room.capacity); offsets = λ k l. omega (arith, n, room.offsets k l) }
+
+HasRoom-start : (c : Stored) (slot id states : ℕ) → HasRoom c states → HasRoom (with_start c slot id) states
+HasRoom-start c slot id states room =
+    let n : length c.starts ≡ length (set c.starts slot id) = sym (length-set c.starts slot id) in
+    record { capacity = omega (arith, n, room.capacity); offsets = room.offsets }
+
+pub roomy-same : (old new : Stored) (states : ℕ) → new ≡ old → HasRoom old (states + 1) → HasRoom new states × (new.clears ≡ old.clears)
+roomy-same old new states e room = (subst (λ (s : Stored). HasRoom s states) (sym e) (HasRoom-less old states room), ap (λ (s : Stored). s.clears) e)
+
+pub rises-same : (old new : Stored) → new ≡ old → old.clears ≤ new.clears
+rises-same old new e = let n : new.clears ≡ old.clears = ap (λ (s : Stored). s.clears) e in omega (arith, n)
+
+pub roomy-computed :
+    (old new : Stored) (id class next : ℕ) (q target : Powerset) (states : ℕ) → length (template_of old.table.of) ≡ old.table.of.stride → cost target ≤ greatest old.table.of
+    → IsComputed old id class q target new next → HasRoom old (states + 1) → HasRoom new states × (new.clears ≡ old.clears)
+roomy-computed old new id class next q target states wide little (inl (leads, e)) room =
+    (subst (λ (s : Stored). HasRoom s states) (sym e) (HasRoom-next old id class next states (HasRoom-less old states room)), ap (λ (s : Stored). s.clears) e)
+roomy-computed old new id class next q target states wide little (inr (lacks, from, between, inl (fits, g), n, e)) room =
+    let r : Row = record { state = target; started = false } in
+    let same : new ≡ with_next (grown old r) from class next = e ∙ ap (λ (s : Stored). with_next s from class next) g in
+    (subst (λ (s : Stored). HasRoom s states) (sym same) (HasRoom-next (grown old r) from class next states (HasRoom-grown old r states wide little room)), ap (λ (s : Stored). s.clears) same)
+roomy-computed old new id class next q target states wide little (inr (lacks, from, between, inr (full, g), n, e)) room = absurd (full (HasRoom-Fits old states (cost target) little room))
+
+pub rises-computed : (old new : Stored) (id class next : ℕ) (q target : Powerset) → old.clears < 2 ^ 64 → IsComputed old id class q target new next → old.clears ≤ new.clears
+rises-computed old new id class next q target l (inl (leads, e)) = let n : new.clears ≡ old.clears = ap (λ (s : Stored). s.clears) e in omega (arith, n)
+rises-computed old new id class next q target l (inr (lacks, from, between, inl (fits, g), n, e)) =
+    let m : new.clears ≡ old.clears = ap (λ (s : Stored). s.clears) e ∙ ap (λ (s : Stored). s.clears) g in omega (arith, m)
+rises-computed old new id class next q target l (inr (lacks, from, between, inr (full, g), n, e)) =
+    let m : new.clears ≡ saturated (old.clears + 1) = ap (λ (s : Stored). s.clears) e ∙ ap (λ (s : Stored). s.clears) g in subst (λ k. old.clears ≤ k) (sym m) (rises old.clears l)
