@@ -8,7 +8,8 @@ use Rattle.automata_base.specs.Tapes.{Direction}
 use Rattle.automata_base.proofs.Paths.Orders.{some_inj}
 use Rattle.automata_hybrid.specs.Bounds.{Stored, IsKnownTransition, with_searched}
 use Rattle.automata_hybrid.specs.Caches.{CacheView}
-use Rattle.automata_hybrid.specs.Growing.{Keeps, IsGrown}
+use Rattle.automata_hybrid.specs.Growing.{IsGrown}
+use Rattle.automata_hybrid.specs.Kept.{Keeps}
 use Rattle.automata_hybrid.specs.Knowing.{KnowsBegin, KnowsPass, KnowsUnit, unit_class}
 use Rattle.automata_hybrid.specs.Machine.{Machine}
 use Rattle.automata_hybrid.specs.Passing.{HasLearned, HasLearnedAll, HasLearnedUnit, IsAt}
@@ -45,7 +46,8 @@ pub learned_none : (way : Direction) (m : Machine) (c : Stored) (input : Input) 
 learned_none way m c input = λ j l. absurd (omega (arith, l))
 
 -- where nothing is lost, what was learned is known
-module _ (way : Direction) (m : Machine) (old new : Stored) (input : Input) (of : new.table.of ≡ old.table.of) (keeps : Keeps old new) where
+module _ (way : Direction) (m : Machine) (old new : Stored) (input : Input) (of : new.table.of ≡ old.table.of)
+    (slots : length old.starts ≡ m.slots) (keeps : Keeps old new) where
   pub unit_still : (j : ℕ) → HasLearnedUnit way m old input j → HasLearnedUnit way m new input j
   unit_still j had =
       let unit : KnowsUnit way m old input j = had.0 in
@@ -58,7 +60,7 @@ module _ (way : Direction) (m : Machine) (old new : Stored) (input : Input) (of 
   learned_still k learned = λ j l reads. unit_still j (learned j l reads)
 
   pub begin_still : KnowsBegin way m old input → KnowsBegin way m new input
-  begin_still begin = λ l. subst (λ n. n < 2 ^ 31) (sym (keeps.starts _ (begin l))) (begin l)
+  begin_still begin = λ l. subst (λ n. n < 2 ^ 31) (sym (keeps.starts _ (omega (arith, l, slots)) (begin l))) (begin l)
 
   pub all_still : HasLearnedAll way m old input → HasLearnedAll way m new input
   all_still all = (begin_still all.0, λ j reads. unit_still j (all.1 j reads))

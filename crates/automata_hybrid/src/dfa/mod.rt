@@ -1,4 +1,4 @@
-ghost use Rattle.std.specs.Prelude.{◌≡◌, ◌<◌, ◌≤◌, ◌^◌, IfOk, OnOk, OnErr, Some, None, true, false, slice_index, length};
+ghost use Rattle.std.specs.Prelude.{ℕ, ◌≡◌, ◌<◌, ◌≤◌, ◌^◌, IfOk, OnOk, OnErr, Some, None, true, false, slice_index, length};
 ghost use Rattle.automata_base.specs.Powerset.{Powerset};
 ghost use Rattle.automata_base.specs.Classes.{class_in, eoi_class, is_quit};
 ghost use Rattle.automata_base.specs.Steps.{successor};
@@ -213,6 +213,15 @@ impl DFA {
         ensures alike { (q : Powerset) → IsOwn self.now.nfa q → successor self.now.nfa self.now.kind q None ≡ next_of self.now q result }
     {
         self.classes.eoi()
+    }
+
+    /// Each byte and the end have a class of their own row.
+    pub(crate) fn see_classes(&self)
+        ensures bytes { (byte : ℕ) → byte < 256 → class_in self.now.classes byte < self.now.stride }
+        ensures end { eoi_class self.now.classes < self.now.stride }
+    {
+        let _ = self.end_class();
+        let _ = self.classes.eoi();
     }
 
     /// The start slots are as many as the modes give.

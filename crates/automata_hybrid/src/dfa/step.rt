@@ -6,6 +6,7 @@ ghost use Rattle.automata_hybrid.specs.Machine.{next_of, start_of, template_of, 
 ghost use Rattle.automata_hybrid.specs.Table.{id_of, Names, IsValid, Leads};
 ghost use Rattle.automata_hybrid.specs.Bounds.{GivesUp, Fits, refuses_to_clear, IsCacheError, IsKnownTransition, cell_of, IsNext, KeepsStarts, IsComputed};
 ghost use Rattle.automata_hybrid.specs.Kept.{Keeps, ClearedNothing, HasRoom};
+ghost use Rattle.automata_hybrid.specs.Growing.{IsGrown};
 ghost use Rattle.automata_hybrid.specs.Caches.{IsCacheOf, HasRow, counted};
 ghost use Rattle.automata_hybrid.specs.Ids.{quit_id, unknown_id, fixed_from, offset_limit};
 ghost use Rattle.automata_base.specs.Classes.{class_in, eoi_class, is_quit};
@@ -44,13 +45,16 @@ impl Cache {
         ensures written { ClearedNothing self.old.store self.new.store → IfOk result (λ n. cell_of self.new.store id class ≡ n) }
         ensures roomy { (states : ℕ) → HasRoom self.old.store (states + 1) → HasRoom self.new.store states × (self.new.store.clears ≡ self.old.store.clears) }
         ensures clears_more { self.old.store.clears ≤ self.new.store.clears }
+        ensures grown { IsGrown self.old self.new }
     {
         self.see_cells();
+        self.see_slots();
         let cell = self.cell(id, class);
         if !cell.is_unknown() {
             return Ok(cell);
         }
         let next = self.compute_next(dfa, id, class, unit)?;
+        self.see_slots();
         self.see_ids();
         Ok(next)
     }
@@ -131,6 +135,7 @@ impl DFA {
         // Where there is room for one more state, nothing is cleared, and the room for the others is left.
         ensures roomy { (states : ℕ) → HasRoom cache.old.store (states + 1) → HasRoom cache.new.store states × (cache.new.store.clears ≡ cache.old.store.clears) }
         ensures clears_more { cache.old.store.clears ≤ cache.new.store.clears }
+        ensures grown { IsGrown cache.old cache.new }
     {
         cache.see_ids();
         if id.is_fixed() {
@@ -174,6 +179,7 @@ impl DFA {
         // Where there is room for one more state, nothing is cleared, and the room for the others is left.
         ensures roomy { (states : ℕ) → HasRoom cache.old.store (states + 1) → HasRoom cache.new.store states × (cache.new.store.clears ≡ cache.old.store.clears) }
         ensures clears_more { cache.old.store.clears ≤ cache.new.store.clears }
+        ensures grown { IsGrown cache.old cache.new }
     {
         cache.see_ids();
         if id.is_fixed() {

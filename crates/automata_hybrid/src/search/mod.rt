@@ -1,9 +1,13 @@
 ghost use Rattle.std.specs.Prelude.{ℕ, ◌≡◌, ◌+◌, ◌^◌, ◌<◌, ◌≤◌, ◌↔◌, ◌⊎◌, IfOk, IfErr, OnOk, IsTrue, Some, None, true, false};
-ghost use Rattle.automata_base.specs.Classes.{is_quit};
+ghost use Rattle.automata_base.specs.Classes.{class_in, eoi_class, is_quit};
 ghost use Rattle.automata_base.specs.Input.{Allows};
 ghost use Rattle.automata_base.specs.Powerset.{Powerset, dead};
 ghost use Rattle.automata_base.specs.Steps.{successor};
+ghost use Rattle.automata_hybrid.specs.Bounds.{IsKnownTransition};
 ghost use Rattle.automata_hybrid.specs.Caches.{IsCacheOf};
+ghost use Rattle.automata_hybrid.specs.Growing.{IsGrown};
+ghost use Rattle.automata_hybrid.specs.Kept.{ClearedNothing};
+ghost use Rattle.automata_hybrid.specs.Knowing.{IsOfInput};
 ghost use Rattle.automata_hybrid.specs.Ids.{quit_id};
 ghost use Rattle.automata_base.specs.Tapes.{is_split};
 ghost use Rattle.automata_hybrid.specs.Passing.{IsDeadTagged, half_at, step_refusal};
@@ -104,6 +108,9 @@ impl DFA {
         requires valid { IsValid cache.old.store.table id }
         ensures of { IsCacheOf cache.new self.now }
         ensures counted { cache.new.count ≤ cache.old.count + 1 }
+        ensures grown { IsGrown cache.old cache.new }
+        ensures idle { IsKnownTransition cache.old.store id (class_in self.now.classes byte) → (cache.new ≡ cache.old) × IfErr result (λ e. ⊥) }
+        ensures learned { ClearedNothing cache.old.store cache.new.store → OnOk result (IsKnownTransition cache.new.store id (class_in self.now.classes byte)) }
         ensures quit { IfOk result (λ n. is_quit self.now.quits byte ≡ true → n ≡ quit_id self.now.stride) }
         ensures named { IfOk result (λ n. is_quit self.now.quits byte ≡ false → (q : Powerset) → Names cache.old.store.table id q → Leads cache.new.store.table n (successor self.now.nfa self.now.kind q (Some byte))) }
         ensures errors { IfErr result (λ e. (q : Powerset) → Names cache.old.store.table id q → IsStepRefusal self.now cache.new.store q (Some byte) at at e) }
@@ -133,7 +140,12 @@ impl DFA {
         ensures alive { (q : Powerset) → Names cache.old.store.table id q → q ≡ dead → ⊥ }
         ensures clean { OnOk result (is_quit self.now.quits byte ≡ false) }
         ensures errors { IfErr result (λ e. (q : Powerset) → Names cache.old.store.table id q → IsStepRefusal self.now cache.new.store q (Some byte) at at e) }
+        ensures grown { IsGrown cache.old cache.new }
+        ensures idle { IsKnownTransition cache.old.store id (class_in self.now.classes byte) → (cache.new.count ≡ cache.old.count) × IfErr result IsOfInput }
+        ensures learned { ClearedNothing cache.old.store cache.new.store → OnOk result (IsKnownTransition cache.new.store id (class_in self.now.classes byte)) }
+        ensures below { class_in self.now.classes byte < self.now.stride }
     {
+        self.see_classes();
         cache.see_ids();
         cache.move_search(at);
         let next = self.step(cache, id, byte, at)?;
@@ -159,7 +171,12 @@ impl DFA {
         ensures named { IfOk result (λ n. (q : Powerset) → Names cache.old.store.table id q → Leads cache.new.store.table n (successor self.now.nfa self.now.kind q None)) }
         ensures alive { (q : Powerset) → Names cache.old.store.table id q → q ≡ dead → ⊥ }
         ensures errors { IfErr result (λ e. (q : Powerset) → Names cache.old.store.table id q → IsStepRefusal self.now cache.new.store q None at at e) }
+        ensures grown { IsGrown cache.old cache.new }
+        ensures idle { IsKnownTransition cache.old.store id (eoi_class self.now.classes) → (cache.new.count ≡ cache.old.count) × IfErr result IsOfInput }
+        ensures learned { ClearedNothing cache.old.store cache.new.store → OnOk result (IsKnownTransition cache.new.store id (eoi_class self.now.classes)) }
+        ensures below { eoi_class self.now.classes < self.now.stride }
     {
+        self.see_classes();
         cache.see_ids();
         match self.next_eoi_state(cache, id) {
             Ok(next) => Ok(next),

@@ -2,6 +2,7 @@ use Rattle.std.proofs.Common.{refl, sym, subst}
 use Rattle.automata_hybrid.specs.Searches.{IsStepRefusal}
 use Rattle.automata_hybrid.specs.Table.{Rows, Names}
 use Rattle.automata_hybrid.proofs.Searching.{false_true}
+use Rattle.automata_hybrid.proofs.Growing.{grown_moved, grown_trans}
 use Rattle.automata_hybrid.proofs.Stepping.{dead_tagged, unquit, quits}
 use Rattle.automata_hybrid.proofs.dfa.DFA.read.Goals as goal
 
@@ -26,3 +27,17 @@ returns-then-is_quit-clause-errors c = λ q n.
           (subst (λ (t : Rows). Names t c.args.id q) (sym c.move_search.ensures.table) n),
       refl,
     )
+
+pub returns-in_err-next-clause-grown : goal.returns-in_err-next-clause-grown
+returns-in_err-next-clause-grown c =
+    grown_trans c.args.cache.now c.move_search.new.self c.step.new.cache (grown_moved c.args.cache.now c.move_search.new.self c.move_search.ensures.value) c.in_err-next.ensures.grown
+
+pub returns-then-is_quit-clause-grown : goal.returns-then-is_quit-clause-grown
+returns-then-is_quit-clause-grown c =
+    grown_trans c.args.cache.now c.step.new.cache c.end_search.new.self
+    (grown_trans c.args.cache.now c.move_search.new.self c.step.new.cache (grown_moved c.args.cache.now c.move_search.new.self c.move_search.ensures.value) c.in_ok-next.ensures.grown)
+    (grown_moved c.step.new.cache c.end_search.new.self c.end_search.ensures.value)
+
+pub returns-clause-grown : goal.returns-clause-grown
+returns-clause-grown c =
+    grown_trans c.args.cache.now c.move_search.new.self c.step.new.cache (grown_moved c.args.cache.now c.move_search.new.self c.move_search.ensures.value) c.in_ok-next.ensures.grown

@@ -11,3 +11,7 @@ returns-in-Err-clause-errors c = λ q n.
 
 pub returns-in-Err-clause-alive : goal.returns-in-Err-clause-alive
 returns-in-Err-clause-alive c = λ q n. c.see_ids.ensures.alive c.args.id q n
+
+pub returns-in-Ok-clause-learned : goal.returns-in-Ok-clause-learned
+returns-in-Ok-clause-learned c = λ nothing.
+    c.in-Ok.ensures.learned (c.see_ids.ensures.low c.args.id c.requires.valid.0 c.requires.valid.1) nothing
