@@ -7,7 +7,7 @@ use Rattle.automata_base.specs.Powerset.{Powerset, cost}
 use Rattle.automata_hybrid.specs.declared.dfa.row.Row.{Row}
 use Rattle.automata_hybrid.specs.Machine.{Machine, greatest, template_of}
 use Rattle.automata_hybrid.specs.Table.{Rows, Names, HasCells, row_cost, cell_at}
-use Rattle.automata_hybrid.specs.Bounds.{Stored, usage, Fits, grown, cell_of, with_next, with_start, IsKnownTransition, IsKnownStart, IsComputed}
+use Rattle.automata_hybrid.specs.Bounds.{Stored, usage, Fits, grown, cell_of, with_next, with_start, IsKnownTransition, IsKnownStart, IsComputed, IsStarted}
 use Rattle.automata_hybrid.specs.Kept.{Keeps, ClearedNothing, HasRoom}
 use Rattle.automata_hybrid.specs.Progressing.{saturated}
 use Rattle.automata_hybrid.proofs.Rows.{Names-more}
@@ -21,12 +21,6 @@ one_id t a b q f g = some_id a b (sym f ∙ g)
 -- a clear shows in the count
 counts_up : (n m : ℕ) → m ≡ saturated (n + 1) → m ≡ n → n < 2 ^ 64 - 1 → ⊥
 counts_up n m e same l = omega (arith, e, same, l)
-
-rises : (n : ℕ) → n < 2 ^ 64 → n ≤ saturated (n + 1)
-rises n l = omega (arith, l)
-
-pub Keeps-same : (old new : Stored) → new ≡ old → Keeps old new
-Keeps-same old new e = subst (λ (s : Stored). Keeps old s) (sym e) (record { rows = λ id q h. h; starts = λ slot l k. refl; cells = λ id class v l k. refl })
 
 -- a cell that wasn't known is written
 Keeps-next : (old : Stored) (id class next : ℕ) → (IsKnownTransition old id class → ⊥) → Keeps old (with_next old id class next)
@@ -51,7 +45,7 @@ Keeps-grown old r has = record {
   cells = λ i d v l k. get_or_append_left old.table.cells (template_of old.table.of) 0 (cell_at i d) (has i d v l);
 }
 
-Keeps-trans : (a b c : Stored) → b.table.of ≡ a.table.of → length b.starts ≡ length a.starts → Keeps a b → Keeps b c → Keeps a c
+pub Keeps-trans : (a b c : Stored) → b.table.of ≡ a.table.of → length b.starts ≡ length a.starts → Keeps a b → Keeps b c → Keeps a c
 Keeps-trans a b c of len f g = record {
   rows = λ i q h. g.rows i q (f.rows i q h);
   starts = λ slot l k. (let e = f.starts slot l k in g.starts slot (subst (λ n. slot < n) (sym len) l) (subst (λ n. n < 2 ^ 31) (sym e) k) ∙ e);
@@ -100,7 +94,7 @@ one_room used n stride most extra capacity little l = let e : (n + 1) * (4 * str
 rest_room : (used n stride most extra capacity : ℕ) → extra ≤ most → used + (n + 1) * (4 * stride + 36 + most) ≤ capacity → used + 4 * stride + 36 + extra + n * (4 * stride + 36 + most) ≤ capacity
 rest_room used n stride most extra capacity little l = let e : (n + 1) * (4 * stride + 36 + most) ≡ n * (4 * stride + 36 + most) + (4 * stride + 36 + most) = omega arith in omega (arith, l, e, little)
 
-HasRoom-less : (c : Stored) (states : ℕ) → HasRoom c (states + 1) → HasRoom c states
+pub HasRoom-less : (c : Stored) (states : ℕ) → HasRoom c (states + 1) → HasRoom c states
 HasRoom-less c states room = record {
   capacity = more_room (usage c) states (4 * c.table.of.stride + 36 + greatest c.table.of) c.settings.capacity room.capacity;
   offsets = λ k l. room.offsets k (omega (arith, l));
@@ -132,12 +126,6 @@ HasRoom-start c slot id states room =
     let n : length c.starts ≡ length (set c.starts slot id) = sym (length-set c.starts slot id) in
     record { capacity = omega (arith, n, room.capacity); offsets = room.offsets }
 
-pub roomy-same : (old new : Stored) (states : ℕ) → new ≡ old → HasRoom old (states + 1) → HasRoom new states × (new.clears ≡ old.clears)
-roomy-same old new states e room = (subst (λ (s : Stored). HasRoom s states) (sym e) (HasRoom-less old states room), ap (λ (s : Stored). s.clears) e)
-
-pub rises-same : (old new : Stored) → new ≡ old → old.clears ≤ new.clears
-rises-same old new e = let n : new.clears ≡ old.clears = ap (λ (s : Stored). s.clears) e in omega (arith, n)
-
 pub roomy-computed :
     (old new : Stored) (id class next : ℕ) (q target : Powerset) (states : ℕ) → length (template_of old.table.of) ≡ old.table.of.stride → cost target ≤ greatest old.table.of
     → IsComputed old id class q target new next → HasRoom old (states + 1) → HasRoom new states × (new.clears ≡ old.clears)
@@ -149,9 +137,26 @@ roomy-computed old new id class next q target states wide little (inr (lacks, fr
     (subst (λ (s : Stored). HasRoom s states) (sym same) (HasRoom-next (grown old r) from class next states (HasRoom-grown old r states wide little room)), ap (λ (s : Stored). s.clears) same)
 roomy-computed old new id class next q target states wide little (inr (lacks, from, between, inr (full, g), n, e)) room = absurd (full (HasRoom-Fits old states (cost target) little room))
 
-pub rises-computed : (old new : Stored) (id class next : ℕ) (q target : Powerset) → old.clears < 2 ^ 64 → IsComputed old id class q target new next → old.clears ≤ new.clears
-rises-computed old new id class next q target l (inl (leads, e)) = let n : new.clears ≡ old.clears = ap (λ (s : Stored). s.clears) e in omega (arith, n)
-rises-computed old new id class next q target l (inr (lacks, from, between, inl (fits, g), n, e)) =
-    let m : new.clears ≡ old.clears = ap (λ (s : Stored). s.clears) e ∙ ap (λ (s : Stored). s.clears) g in omega (arith, m)
-rises-computed old new id class next q target l (inr (lacks, from, between, inr (full, g), n, e)) =
-    let m : new.clears ≡ saturated (old.clears + 1) = ap (λ (s : Stored). s.clears) e ∙ ap (λ (s : Stored). s.clears) g in subst (λ k. old.clears ≤ k) (sym m) (rises old.clears l)
+module _ (old new : Stored) (slot id : ℕ) (r : Row) (done : IsStarted old slot r new id) where
+  pub Keeps-started : HasCells old.table → (IsKnownStart old slot → ⊥) → ClearedNothing old new → Keeps old new
+  Keeps-started has free nothing = go done where
+    go : IsStarted old slot r new id → Keeps old new
+    go (inl (leads, e)) = subst (λ (s : Stored). Keeps old s) (sym e) (Keeps-start old slot id free)
+    go (inr (lacks, between, inl (fits, g), e)) =
+        let k : Keeps old (with_start (grown old r) slot id) = Keeps-trans old (grown old r) (with_start (grown old r) slot id) refl refl (Keeps-grown old r has) (Keeps-start (grown old r) slot id free) in
+        subst (λ (s : Stored). Keeps old s) (sym (e ∙ ap (λ (s : Stored). with_start s slot id) g)) k
+    go (inr (lacks, between, inr (full, g), e)) =
+        let count : new.clears ≡ saturated (old.clears + 1) = ap (λ (s : Stored). s.clears) e ∙ ap (λ (s : Stored). s.clears) g in
+        absurd (counts_up old.clears new.clears count nothing.0 nothing.1)
+
+  pub roomy-started :
+      (states : ℕ) → length (template_of old.table.of) ≡ old.table.of.stride → cost r.state ≤ greatest old.table.of
+      → HasRoom old (states + 1) → HasRoom new states × (new.clears ≡ old.clears)
+  roomy-started states wide little room = go done where
+    go : IsStarted old slot r new id → HasRoom new states × (new.clears ≡ old.clears)
+    go (inl (leads, e)) =
+        (subst (λ (s : Stored). HasRoom s states) (sym e) (HasRoom-start old slot id states (HasRoom-less old states room)), ap (λ (s : Stored). s.clears) e)
+    go (inr (lacks, between, inl (fits, g), e)) =
+        let same : new ≡ with_start (grown old r) slot id = e ∙ ap (λ (s : Stored). with_start s slot id) g in
+        (subst (λ (s : Stored). HasRoom s states) (sym same) (HasRoom-start (grown old r) slot id states (HasRoom-grown old r states wide little room)), ap (λ (s : Stored). s.clears) same)
+    go (inr (lacks, between, inr (full, g), e)) = absurd (full (HasRoom-Fits old states (cost r.state) little room))

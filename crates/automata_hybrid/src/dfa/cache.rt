@@ -6,7 +6,7 @@ ghost use Rattle.automata_hybrid.specs.Owned.{IsOwn};
 ghost use Rattle.automata_hybrid.specs.Machine.{Machine, next_of, start_of, greatest, template_of};
 ghost use Rattle.automata_hybrid.specs.Ids.{dead_id, unknown_id, fixed_from, offset_limit};
 ghost use Rattle.automata_hybrid.specs.Table.{id_of, Names, IsValid, Leads, MayLead, IsCell, HasCells};
-ghost use Rattle.automata_hybrid.specs.Bounds.{Fits, refuses_to_clear, IsCacheError, KeepsStarts, IsAdded, cell_of, with_next, with_start, with_searched, grown, cleared, usage, settings_of};
+ghost use Rattle.automata_hybrid.specs.Bounds.{Fits, refuses_to_clear, IsCacheError, KeepsStarts, IsAdded, IsAddedStart, cell_of, with_next, with_start, with_searched, grown, cleared, usage, settings_of};
 ghost use Rattle.automata_hybrid.specs.Caches.{IsRow, IsCacheOf, fresh_cache, counted, with_store};
 ghost use Rattle.automata_hybrid.specs.Progressing.{started, updated, finished, total_len};
 
@@ -211,6 +211,7 @@ impl Cache {
         requires slot { slot < length self.old.store.starts }
         requires leads { Leads self.old.store.table id (start_of self.old.store.table.of slot) }
         ensures value { self.new ≡ with_store self.old (with_start self.old.store slot id) }
+        ensures written { slice_index self.new.store.starts slot ≡ id }
         ensures found { slice_index self.new.store.starts slot < unknown_id }
     {
         self.store.set_start(slot, id);
@@ -230,6 +231,7 @@ impl Cache {
         requires of { IsOwn dfa.now.nfa state }
         ensures fits { Fits self.old.store (cost state) → OnOk result (self.new ≡ with_store self.old (grown self.old.store (record { state = state; started = started }))) }
         ensures clears { (Fits self.old.store (cost state) → ⊥) → OnOk result (self.new ≡ with_store self.old (grown (cleared self.old.store) (record { state = state; started = started }))) }
+        ensures effect { OnOk result (IsAddedStart self.old.store (record { state = state; started = started }) self.new.store) }
         ensures named { IfOk result (λ id. Names self.new.store.table id state) }
         ensures slots { OnOk result (length self.new.store.starts ≡ length self.old.store.starts) }
         ensures starts { OnOk result (KeepsStarts self.old.store.starts self.new.store.starts) }

@@ -8,9 +8,10 @@ ghost use Rattle.automata_base.specs.Tapes.{byte_before};
 ghost use Rattle.automata_base.specs.Lists.{nth};
 ghost use Rattle.automata_base.specs.declared.util.search.MatchErrorKind.TheVariants.{Quit as QuitAt, UnsupportedAnchored as UnsupportedMode};
 ghost use Rattle.automata_hybrid.specs.Starting.{quit_behind, start_refusal, search_refusal, KnowsStart, known_start, MayStart, IsStartRefusal, IsSearchRefusal};
-ghost use Rattle.automata_hybrid.specs.Slots.{supports, slot_of};
+ghost use Rattle.automata_hybrid.specs.Slots.{supports, slot_of, slot_behind};
 ghost use Rattle.automata_hybrid.specs.Table.{id_of, Names, IsValid, Leads};
-ghost use Rattle.automata_hybrid.specs.Bounds.{Fits, refuses_to_clear, IsCacheError, IsKnownStart, KeepsStarts, GivesUp};
+ghost use Rattle.automata_hybrid.specs.Bounds.{Fits, refuses_to_clear, IsCacheError, IsKnownStart, IsStarted, KeepsStarts, GivesUp};
+ghost use Rattle.automata_hybrid.specs.Kept.{Keeps, ClearedNothing, HasRoom};
 ghost use Rattle.automata_hybrid.specs.Caches.{IsCacheOf, counted, HasRow};
 
 use crate::dfa::DFA;
@@ -39,9 +40,15 @@ impl Cache {
         ensures counted { self.new.count ≤ self.old.count + 1 }
         ensures starts { KeepsStarts self.old.store.starts self.new.store.starts }
         ensures found { OnOk result (IsKnownStart self.new.store slot) }
+        ensures written { IfOk result (λ n. slice_index self.new.store.starts slot ≡ n) }
+        ensures effect { (IsKnownStart self.old.store slot → ⊥) → IfOk result (λ n. IsStarted self.old.store slot (record { state = start_state_of dfa.now.nfa mode prev; started = dfa.now.specialized }) self.new.store n) }
         ensures gives_up { IfErr result (λ e. IsCacheError e → GivesUp self.old.store (start_state_of dfa.now.nfa mode prev)) }
         ensures err { OnErr result (self.new ≡ counted self.old) }
+        ensures kept { ClearedNothing self.old.store self.new.store → Keeps self.old.store self.new.store }
+        ensures roomy { (states : ℕ) → HasRoom self.old.store (states + 1) → HasRoom self.new.store states × (self.new.store.clears ≡ self.old.store.clears) }
+        ensures clears_more { self.old.store.clears ≤ self.new.store.clears }
     {
+        self.see_cells();
         let found = self.start_slot(slot);
         if !found.is_unknown() {
             return Ok(found);
@@ -67,6 +74,9 @@ impl Cache {
         ensures counted { self.new.count ≡ self.old.count + 1 }
         ensures starts { OnOk result (KeepsStarts self.old.store.starts self.new.store.starts) }
         ensures found { OnOk result (IsKnownStart self.new.store slot) }
+        ensures written { IfOk result (λ n. slice_index self.new.store.starts slot ≡ n) }
+        ensures effect { IfOk result (λ n. IsStarted self.old.store slot (record { state = start_state_of dfa.now.nfa mode prev; started = dfa.now.specialized }) self.new.store n) }
+        ensures cheap { OnOk result (cost (start_state_of dfa.now.nfa mode prev) ≤ greatest dfa.now) }
         ensures gives_up { IfErr result (λ e. IsCacheError e → GivesUp self.old.store (start_state_of dfa.now.nfa mode prev)) }
         ensures err { OnErr result (self.new ≡ counted self.old) }
     {
@@ -202,6 +212,15 @@ impl DFA {
         // A known start takes no memory, and changes nothing.
         ensures known { KnowsStart self.now cache.old.store config.now.anchored config.now.look_behind → result ≡ Ok (known_start self.now cache.old.store config.now.anchored config.now.look_behind) }
         ensures unchanged { KnowsStart self.now cache.old.store config.now.anchored config.now.look_behind → cache.new ≡ cache.old }
+
+        // Until the next clear nothing is lost. A start is known from now on, also where the cache was cleared.
+        ensures kept { ClearedNothing cache.old.store cache.new.store → Keeps cache.old.store cache.new.store }
+        ensures learned { slot_behind self.now config.now.anchored config.now.look_behind < self.now.slots → OnOk result (KnowsStart self.now cache.new.store config.now.anchored config.now.look_behind) }
+        ensures written { slot_behind self.now config.now.anchored config.now.look_behind < self.now.slots → IfOk result (λ n. known_start self.now cache.new.store config.now.anchored config.now.look_behind ≡ n) }
+
+        // Where there is room for one more state, nothing is cleared, and the room for the others is left.
+        ensures roomy { (states : ℕ) → HasRoom cache.old.store (states + 1) → HasRoom cache.new.store states × (cache.new.store.clears ≡ cache.old.store.clears) }
+        ensures clears_more { cache.old.store.clears ≤ cache.new.store.clears }
     {
         if let Some(byte) = self.quits_behind(config.get_look_behind()) {
             return Err(StartError::Quit { byte });
@@ -212,7 +231,9 @@ impl DFA {
             Some(slot) => {
                 let mode = config.get_anchored();
                 let prev = config.get_look_behind();
-                self.start_at(cache, slot, mode, prev)
+                let id = self.start_at(cache, slot, mode, prev)?;
+                cache.see_slots();
+                Ok(id)
             }
         }
     }
@@ -236,6 +257,11 @@ impl DFA {
         ensures known { IsKnownStart cache.old.store slot → result ≡ Ok (slice_index cache.old.store.starts slot) }
         ensures unchanged { IsKnownStart cache.old.store slot → cache.new ≡ cache.old }
         ensures errors { MayStart self.now mode prev → IfErr result (IsStartRefusal self.now cache.old.store mode prev) }
+        ensures kept { ClearedNothing cache.old.store cache.new.store → Keeps cache.old.store cache.new.store }
+        ensures found { OnOk result (IsKnownStart cache.new.store slot) }
+        ensures written { IfOk result (λ n. slice_index cache.new.store.starts slot ≡ n) }
+        ensures roomy { (states : ℕ) → HasRoom cache.old.store (states + 1) → HasRoom cache.new.store states × (cache.new.store.clears ≡ cache.old.store.clears) }
+        ensures clears_more { cache.old.store.clears ≤ cache.new.store.clears }
         ensures err { OnErr result (cache.new ≡ counted cache.old) }
     {
         cache.see_slots();
@@ -270,6 +296,15 @@ impl DFA {
         // A known start takes no memory, and changes nothing.
         ensures known { KnowsStart self.now cache.old.store input.now.anchored (byte_before input.now.haystack input.now.start) → result ≡ Ok (known_start self.now cache.old.store input.now.anchored (byte_before input.now.haystack input.now.start)) }
         ensures unchanged { KnowsStart self.now cache.old.store input.now.anchored (byte_before input.now.haystack input.now.start) → cache.new ≡ cache.old }
+
+        // Until the next clear nothing is lost. A start is known from now on, also where the cache was cleared.
+        ensures kept { ClearedNothing cache.old.store cache.new.store → Keeps cache.old.store cache.new.store }
+        ensures learned { slot_behind self.now input.now.anchored (byte_before input.now.haystack input.now.start) < self.now.slots → OnOk result (KnowsStart self.now cache.new.store input.now.anchored (byte_before input.now.haystack input.now.start)) }
+        ensures written { slot_behind self.now input.now.anchored (byte_before input.now.haystack input.now.start) < self.now.slots → IfOk result (λ n. known_start self.now cache.new.store input.now.anchored (byte_before input.now.haystack input.now.start) ≡ n) }
+
+        // Where there is room for one more state, nothing is cleared, and the room for the others is left.
+        ensures roomy { (states : ℕ) → HasRoom cache.old.store (states + 1) → HasRoom cache.new.store states × (cache.new.store.clears ≡ cache.old.store.clears) }
+        ensures clears_more { cache.old.store.clears ≤ cache.new.store.clears }
     {
         let config = start::Config::from_input_forward(input);
         match self.start_state(cache, &config) {
@@ -306,6 +341,15 @@ impl DFA {
         // A known start takes no memory, and changes nothing.
         ensures known { KnowsStart self.now cache.old.store input.now.anchored (nth input.now.haystack input.now.end) → result ≡ Ok (known_start self.now cache.old.store input.now.anchored (nth input.now.haystack input.now.end)) }
         ensures unchanged { KnowsStart self.now cache.old.store input.now.anchored (nth input.now.haystack input.now.end) → cache.new ≡ cache.old }
+
+        // Until the next clear nothing is lost. A start is known from now on, also where the cache was cleared.
+        ensures kept { ClearedNothing cache.old.store cache.new.store → Keeps cache.old.store cache.new.store }
+        ensures learned { slot_behind self.now input.now.anchored (nth input.now.haystack input.now.end) < self.now.slots → OnOk result (KnowsStart self.now cache.new.store input.now.anchored (nth input.now.haystack input.now.end)) }
+        ensures written { slot_behind self.now input.now.anchored (nth input.now.haystack input.now.end) < self.now.slots → IfOk result (λ n. known_start self.now cache.new.store input.now.anchored (nth input.now.haystack input.now.end) ≡ n) }
+
+        // Where there is room for one more state, nothing is cleared, and the room for the others is left.
+        ensures roomy { (states : ℕ) → HasRoom cache.old.store (states + 1) → HasRoom cache.new.store states × (cache.new.store.clears ≡ cache.old.store.clears) }
+        ensures clears_more { cache.old.store.clears ≤ cache.new.store.clears }
     {
         let config = start::Config::from_input_reverse(input);
         match self.start_state(cache, &config) {

@@ -7,7 +7,7 @@ ghost use Rattle.automata_hybrid.specs.Ids.{dead_id, unknown_id, fixed_from, off
 ghost use Rattle.automata_hybrid.specs.Machine.{next_of, start_of, greatest, template_of, IsTemplate};
 ghost use Rattle.automata_hybrid.specs.Table.{id_of, Names, IsValid, with_row, with_cell, Leads, MayLead, IsCell, HasCells};
 ghost use Rattle.automata_hybrid.specs.Clears.{IsPut, row_of};
-ghost use Rattle.automata_hybrid.specs.Bounds.{usage, Fits, refuses_to_clear, cleared, with_table, grown, put_found, cleared_saving, IsCacheError, cell_of, with_next, fresh_store, settings_of, with_start, IsAdded, KeepsStarts};
+ghost use Rattle.automata_hybrid.specs.Bounds.{usage, Fits, refuses_to_clear, cleared, with_table, grown, put_found, cleared_saving, IsCacheError, cell_of, with_next, fresh_store, settings_of, with_start, IsAdded, IsAddedStart, KeepsStarts};
 ghost use Rattle.automata_hybrid.specs.Caches.{IsRow};
 ghost use Rattle.automata_hybrid.specs.Progressing.{started, updated, finished, total_len};
 
@@ -127,6 +127,7 @@ impl Store {
         requires slot { slot < length self.old.starts }
         requires leads { Leads self.old.table id (start_of self.old.table.of slot) }
         ensures value { self.new ≡ with_start self.old slot id }
+        ensures written { slice_index self.new.starts slot ≡ id }
         ensures found { slice_index self.new.starts slot < unknown_id }
     {
         let _ = self.table.len();
@@ -407,6 +408,7 @@ impl Store {
         requires of { IsOwn self.old.table.of.nfa state }
         ensures fits { Fits self.old (cost state) → OnOk result (self.new ≡ grown self.old (record { state = state; started = started })) }
         ensures clears { (Fits self.old (cost state) → ⊥) → OnOk result (self.new ≡ grown (cleared self.old) (record { state = state; started = started })) }
+        ensures effect { OnOk result (IsAddedStart self.old (record { state = state; started = started }) self.new) }
         ensures named { IfOk result (λ id. Names self.new.table id state) }
         ensures slots { OnOk result (length self.new.starts ≡ length self.old.starts) }
         ensures of { OnOk result (self.new.table.of ≡ self.old.table.of) }

@@ -1,0 +1,24 @@
+use Rattle.std.proofs.Common.{◌≡◌, ◌∙◌, ap, subst, inr, Bool}
+use Rattle.automata_base.specs.Powerset.{Powerset}
+use Rattle.automata_base.specs.Steps.{start_state_of}
+use Rattle.automata_hybrid.specs.Table.{Lacks}
+use Rattle.automata_hybrid.specs.Bounds.{Stored, IsAddedStart}
+use Rattle.automata_hybrid.specs.Caches.{CacheView}
+use Rattle.automata_hybrid.specs.Founds.{IsFound}
+use Rattle.automata_hybrid.specs.declared.dfa.cache.Found.{Found}
+use Rattle.automata_hybrid.specs.declared.dfa.cache.Found.TheVariants.{New}
+use Rattle.automata_hybrid.proofs.dfa.cache.Cache.compute_start.Goals as goal
+
+pub returns-in_ok-id-in-New-clause-effect : goal.returns-in_ok-id-in-New-clause-effect
+returns-in_ok-id-in-New-clause-effect c =
+    let old : Stored = c.args.self.now.store in
+    let target : Powerset = start_state_of c.args.dfa.now.nfa c.args.mode c.args.prev in
+    let s : c.resolve.new.self.store ≡ old = ap (λ (v : CacheView). v.store) (c.resolve.ensures.same ∙ c.determinise_start.ensures.counted) in
+    let d : c.determinise_start.new.self.store ≡ old = ap (λ (v : CacheView). v.store) c.determinise_start.ensures.counted in
+    let found : IsFound c.determinise_start.new.self.store.table c.in_ok-key.key (New c.in-New.state) = subst (λ (f : Found). IsFound c.determinise_start.new.self.store.table c.in_ok-key.key f) c.in-New.is c.in_ok-id.ensures.found in
+    let key : c.in_ok-key.key ≡ target = c.in_ok-key.ensures.value in
+    let lacks : Lacks old.table target = subst (λ (v : Stored). Lacks v.table target) d (subst (λ (p : Powerset). Lacks c.determinise_start.new.self.store.table p) key found.1) in
+    let before : IsAddedStart old (record { state = c.in-New.state; started = c.specializes.result }) c.add_start.new.self.store = subst (λ (v : Stored). IsAddedStart v (record { state = c.in-New.state; started = c.specializes.result }) c.add_start.new.self.store) s c.in_ok-id-in-New.ensures.effect in
+    let marked : IsAddedStart old (record { state = c.in-New.state; started = c.args.dfa.now.specialized }) c.add_start.new.self.store = subst (λ (b : Bool). IsAddedStart old (record { state = c.in-New.state; started = b }) c.add_start.new.self.store) c.specializes.ensures before in
+    let added : IsAddedStart old (record { state = target; started = c.args.dfa.now.specialized }) c.add_start.new.self.store = subst (λ (p : Powerset). IsAddedStart old (record { state = p; started = c.args.dfa.now.specialized }) c.add_start.new.self.store) (found.0 ∙ key) marked in
+    inr (lacks, c.add_start.new.self.store, added, ap (λ (v : CacheView). v.store) c.set_start-in-New.ensures.value)

@@ -1,0 +1,22 @@
+use Rattle.std.proofs.Common.{◌^◌, ◌≤◌, arith, subst, sym}
+use Rattle.std.proofs.lemmas.Grind.{common_steps}
+use Rattle.automata_base.specs.Powerset.{cost}
+use Rattle.automata_base.specs.Steps.{start_state_of}
+use Rattle.automata_hybrid.specs.declared.dfa.row.Row.{Row}
+use Rattle.automata_hybrid.specs.Machine.{Machine, greatest}
+use Rattle.automata_hybrid.specs.Bounds.{IsKnownStart}
+use Rattle.automata_hybrid.proofs.Effects.{Keeps-started, roomy-started}
+use Rattle.automata_hybrid.proofs.dfa.cache.Cache.start.Goals as goal
+
+pub returns-clause-kept : goal.returns-clause-kept
+returns-clause-kept c =
+    let l : 2 ^ 31 ≤ c.start_slot-found.result = grind (arith, common_steps, c.if-not-is_unknown.ensures.size) in
+    let unknown : IsKnownStart c.args.self.now.store c.args.slot → ⊥ = λ k. absurd (omega (arith, k, l, c.start_slot-found.ensures.value)) in
+    let r : Row = record { state = start_state_of c.args.dfa.now.nfa c.args.mode c.args.prev; started = c.args.dfa.now.specialized } in
+    Keeps-started c.args.self.now.store c.compute_start.new.self.store c.args.slot c.in_ok-id.id r c.in_ok-id.ensures.effect c.see_cells.ensures.cells unknown
+
+pub returns-clause-roomy : goal.returns-clause-roomy
+returns-clause-roomy c = λ states room.
+    let r : Row = record { state = start_state_of c.args.dfa.now.nfa c.args.mode c.args.prev; started = c.args.dfa.now.specialized } in
+    let little : cost r.state ≤ greatest c.args.self.now.store.table.of = subst (λ (m : Machine). cost r.state ≤ greatest m) (sym c.requires.of) c.in_ok-id.ensures.cheap in
+    roomy-started c.args.self.now.store c.compute_start.new.self.store c.args.slot c.in_ok-id.id r c.in_ok-id.ensures.effect states c.see_cells.ensures.wide little room
