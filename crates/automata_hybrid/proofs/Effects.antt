@@ -26,7 +26,7 @@ counts_up n m e same l = omega (arith, e, same, l)
 Keeps-next : (old : Stored) (id class next : ℕ) → (IsKnownTransition old id class → ⊥) → Keeps old (with_next old id class next)
 Keeps-next old id class next free = record {
   rows = λ i q h. h;
-  starts = λ slot l k. refl;
+  starts = λ slot k. refl;
   cells = λ i d v l k. get_or-set_other old.table.cells (cell_at id class) (cell_at i d) next 0 (λ e. free (subst (λ n. get_or old.table.cells n 0 < 2 ^ 31) e k));
 }
 
@@ -34,21 +34,21 @@ Keeps-next old id class next free = record {
 Keeps-start : (old : Stored) (slot id : ℕ) → (IsKnownStart old slot → ⊥) → Keeps old (with_start old slot id)
 Keeps-start old slot id free = record {
   rows = λ i q h. h;
-  starts = λ s l k. get_or-set_other old.starts slot s id 0 (λ e. free (subst (λ n. get_or old.starts n 0 < 2 ^ 31) e k));
+  starts = λ s k. get_or-set_other old.starts slot s id 0 (λ e. free (subst (λ n. get_or old.starts n 0 < 2 ^ 31) e k));
   cells = λ i d v l k. refl;
 }
 
 Keeps-grown : (old : Stored) (r : Row) → HasCells old.table → Keeps old (grown old r)
 Keeps-grown old r has = record {
   rows = λ i q h. Names-more old.table r i q h;
-  starts = λ slot l k. refl;
+  starts = λ slot k. refl;
   cells = λ i d v l k. get_or_append_left old.table.cells (template_of old.table.of) 0 (cell_at i d) (has i d v l);
 }
 
-pub Keeps-trans : (a b c : Stored) → b.table.of ≡ a.table.of → length b.starts ≡ length a.starts → Keeps a b → Keeps b c → Keeps a c
-Keeps-trans a b c of len f g = record {
+pub Keeps-trans : (a b c : Stored) → b.table.of ≡ a.table.of → Keeps a b → Keeps b c → Keeps a c
+Keeps-trans a b c of f g = record {
   rows = λ i q h. g.rows i q (f.rows i q h);
-  starts = λ slot l k. (let e = f.starts slot l k in g.starts slot (subst (λ n. slot < n) (sym len) l) (subst (λ n. n < 2 ^ 31) (sym e) k) ∙ e);
+  starts = λ slot k. (let e = f.starts slot k in g.starts slot (subst (λ n. n < 2 ^ 31) (sym e) k) ∙ e);
   cells = λ i d v l k. (let e = f.cells i d v l k in g.cells i d (v.0, f.rows i v.0 v.1) (subst (λ (m : Machine). d < m.stride) (sym of) l) (subst (λ n. n < 2 ^ 31) (sym e) k) ∙ e);
 }
 
@@ -63,7 +63,7 @@ module _ (old new : Stored) (id class next : ℕ) (q target : Powerset) (has : H
         let at : from ≡ id = one_id (grown old r).table from id q (subst (λ (s : Stored). Names s.table from q) g n) (Names-more old.table r id q named) in
         let read : cell_of (grown old r) id class ≡ cell_of old id class = get_or_append_left old.table.cells (template_of old.table.of) 0 (cell_at id class) (has id class (q, named) below) in
         let still : IsKnownTransition (grown old r) id class → ⊥ = λ k. free (subst (λ v. v < 2 ^ 31) read k) in
-        let k : Keeps old (with_next (grown old r) id class next) = Keeps-trans old (grown old r) (with_next (grown old r) id class next) refl refl (Keeps-grown old r has) (Keeps-next (grown old r) id class next still) in
+        let k : Keeps old (with_next (grown old r) id class next) = Keeps-trans old (grown old r) (with_next (grown old r) id class next) refl (Keeps-grown old r has) (Keeps-next (grown old r) id class next still) in
         let same : new ≡ with_next (grown old r) id class next = e ∙ (λ i. with_next (g i) (at i) class next) in
         subst (λ (s : Stored). Keeps old s) (sym same) k
     go (inr (lacks, from, between, inr (fits, g), n, e)) =
@@ -143,7 +143,7 @@ module _ (old new : Stored) (slot id : ℕ) (r : Row) (done : IsStarted old slot
     go : IsStarted old slot r new id → Keeps old new
     go (inl (leads, e)) = subst (λ (s : Stored). Keeps old s) (sym e) (Keeps-start old slot id free)
     go (inr (lacks, between, inl (fits, g), e)) =
-        let k : Keeps old (with_start (grown old r) slot id) = Keeps-trans old (grown old r) (with_start (grown old r) slot id) refl refl (Keeps-grown old r has) (Keeps-start (grown old r) slot id free) in
+        let k : Keeps old (with_start (grown old r) slot id) = Keeps-trans old (grown old r) (with_start (grown old r) slot id) refl (Keeps-grown old r has) (Keeps-start (grown old r) slot id free) in
         subst (λ (s : Stored). Keeps old s) (sym (e ∙ ap (λ (s : Stored). with_start s slot id) g)) k
     go (inr (lacks, between, inr (full, g), e)) =
         let count : new.clears ≡ saturated (old.clears + 1) = ap (λ (s : Stored). s.clears) e ∙ ap (λ (s : Stored). s.clears) g in

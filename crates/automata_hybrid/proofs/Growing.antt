@@ -6,17 +6,8 @@ use Rattle.automata_hybrid.specs.Bounds.{Stored, usage, with_searched}
 use Rattle.automata_hybrid.specs.Caches.{CacheView, counted, with_store}
 use Rattle.automata_hybrid.specs.Growing.{IsGrown}
 use Rattle.automata_hybrid.specs.Kept.{Keeps, ClearedNothing, HasRoom}
+use Rattle.automata_hybrid.proofs.Effects.{Keeps-trans}
 use Rattle.automata_hybrid.specs.Machine.{Machine, greatest}
-
-pub keeps_trans : (a b c : Stored) → b.table.of ≡ a.table.of → length b.starts ≡ length a.starts → Keeps a b → Keeps b c → Keeps a c
-keeps_trans a b c of slots f g =
-    record {
-      rows = λ id q n. g.rows id q (f.rows id q n);
-      starts = λ slot l k. g.starts slot (omega (arith, l, slots)) (subst (λ n. n < 2 ^ 31) (sym (f.starts slot l k)) k) ∙ f.starts slot l k;
-      cells = λ id class v l k.
-          g.cells id class (v.0, f.rows id v.0 v.1) (subst (λ (m : Machine). class < m.stride) (sym of) l)
-          (subst (λ n. n < 2 ^ 31) (sym (f.cells id class v l k)) k) ∙ f.cells id class v l k;
-    }
 
 -- room for fewer states
 pub room_less : (c : Stored) (n k : ℕ) → k ≤ n → HasRoom c n → HasRoom c k
@@ -36,11 +27,10 @@ pub grown_searched : (c : CacheView) (s : Searched) → IsGrown c (with_store c 
 grown_searched c s =
     record {
       of = refl;
-      slots = refl;
       counted = omega arith;
       clears = omega arith;
       idle = λ e. refl;
-      kept = λ e. record { rows = λ id q n. n; starts = λ slot l k. refl; cells = λ id class v l k. refl };
+      kept = λ e. record { rows = λ id q n. n; starts = λ slot k. refl; cells = λ id class v l k. refl };
       roomy = λ states r.
           (let l : HasRoom c.store states = room_less c.store (states + (c.count - c.count)) states (omega arith) r in
           record { capacity = l.capacity; offsets = l.offsets }, refl);
@@ -56,16 +46,14 @@ grown_moved old new {s} e = subst (IsGrown old) (sym e) (grown_searched old s)
 pub grown_one :
     (old new : CacheView)
     → new.store.table.of ≡ old.store.table.of
-    → length new.store.starts ≡ length old.store.starts
     → new.count ≡ old.count + 1
     → old.store.clears ≤ new.store.clears
     → (ClearedNothing old.store new.store → Keeps old.store new.store)
     → ((states : ℕ) → HasRoom old.store (states + 1) → HasRoom new.store states × (new.store.clears ≡ old.store.clears))
     → IsGrown old new
-grown_one old new of slots count clears kept roomy =
+grown_one old new of count clears kept roomy =
     record {
       of = of;
-      slots = slots;
       counted = omega (arith, count);
       clears = clears;
       idle = λ e. absurd (omega (arith, count, e));
@@ -77,16 +65,22 @@ grown_one old new of slots count clears kept roomy =
 pub grown_counted : (old new : CacheView) → new ≡ counted old → IsGrown old new
 grown_counted old new e =
     subst (IsGrown old) (sym e)
-    (grown_one old (counted old) refl refl refl (omega arith)
-    (λ nothing. record { rows = λ id q n. n; starts = λ slot l k. refl; cells = λ id class v l k. refl })
+    (grown_one old (counted old) refl refl (omega arith)
+    (λ nothing. record { rows = λ id q n. n; starts = λ slot k. refl; cells = λ id class v l k. refl })
     (λ states r. (room_less old.store (states + 1) states (omega arith) r, refl)))
+
+-- what cleared nothing in all cleared nothing in each part
+pub nothing_first : (a b c : CacheView) → IsGrown a b → IsGrown b c → ClearedNothing a.store c.store → ClearedNothing a.store b.store
+nothing_first a b c f g e = (omega (arith, e.0, f.clears, g.clears), e.1)
+
+pub nothing_second : (a b c : CacheView) → IsGrown a b → IsGrown b c → ClearedNothing a.store c.store → ClearedNothing b.store c.store
+nothing_second a b c f g e = (omega (arith, e.0, f.clears, g.clears), omega (arith, e.0, e.1, f.clears, g.clears))
 
 -- one after another
 pub grown_trans : (a b c : CacheView) → IsGrown a b → IsGrown b c → IsGrown a c
 grown_trans a b c f g =
     record {
       of = g.of ∙ f.of;
-      slots = g.slots ∙ f.slots;
       counted = omega (arith, f.counted, g.counted);
       clears = omega (arith, f.clears, g.clears);
       idle = λ e.
@@ -94,9 +88,7 @@ grown_trans a b c f g =
           let second : c.count ≡ b.count = omega (arith, e, f.counted, g.counted) in
           g.idle second ∙ ap (λ (s : Stored). with_searched s c.store.searched) (f.idle first));
       kept = λ e.
-          (let first : b.store.clears ≡ a.store.clears = omega (arith, e.0, f.clears, g.clears) in
-          let second : c.store.clears ≡ b.store.clears = omega (arith, e.0, f.clears, g.clears) in
-          keeps_trans a.store b.store c.store f.of f.slots (f.kept (first, e.1)) (g.kept (second, omega (arith, first, e.1))));
+          Keeps-trans a.store b.store c.store f.of (f.kept (nothing_first a b c f g e)) (g.kept (nothing_second a b c f g e));
       roomy = λ states r.
           (let sum : states + (c.count - a.count) ≡ states + (c.count - b.count) + (b.count - a.count) = omega (arith, f.counted, g.counted) in
           let first : HasRoom b.store (states + (c.count - b.count)) × (b.store.clears ≡ a.store.clears) =

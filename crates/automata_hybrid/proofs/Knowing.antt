@@ -6,10 +6,11 @@ use Rattle.automata_base.specs.Paths.{next}
 use Rattle.automata_base.specs.Powerset.{Powerset, dead}
 use Rattle.automata_base.specs.Tapes.{Direction}
 use Rattle.automata_base.proofs.Paths.Orders.{some_inj}
+use Rattle.automata_hybrid.specs.declared.dfa.progress.Searched.{Searched}
 use Rattle.automata_hybrid.specs.Bounds.{Stored, IsKnownTransition, with_searched}
-use Rattle.automata_hybrid.specs.Caches.{CacheView}
+use Rattle.automata_hybrid.specs.Caches.{CacheView, with_store}
 use Rattle.automata_hybrid.specs.Growing.{IsGrown}
-use Rattle.automata_hybrid.specs.Kept.{Keeps}
+use Rattle.automata_hybrid.specs.Kept.{ClearedNothing, Keeps}
 use Rattle.automata_hybrid.specs.Knowing.{KnowsBegin, KnowsPass, KnowsUnit, unit_class}
 use Rattle.automata_hybrid.specs.Machine.{Machine}
 use Rattle.automata_hybrid.specs.Passing.{HasLearned, HasLearnedAll, HasLearnedUnit, IsAt}
@@ -46,8 +47,7 @@ pub learned_none : (way : Direction) (m : Machine) (c : Stored) (input : Input) 
 learned_none way m c input = λ j l. absurd (omega (arith, l))
 
 -- where nothing is lost, what was learned is known
-module _ (way : Direction) (m : Machine) (old new : Stored) (input : Input) (of : new.table.of ≡ old.table.of)
-    (slots : length old.starts ≡ m.slots) (keeps : Keeps old new) where
+module _ (way : Direction) (m : Machine) (old new : Stored) (input : Input) (of : new.table.of ≡ old.table.of) (keeps : Keeps old new) where
   pub unit_still : (j : ℕ) → HasLearnedUnit way m old input j → HasLearnedUnit way m new input j
   unit_still j had =
       let unit : KnowsUnit way m old input j = had.0 in
@@ -60,7 +60,7 @@ module _ (way : Direction) (m : Machine) (old new : Stored) (input : Input) (of 
   learned_still k learned = λ j l reads. unit_still j (learned j l reads)
 
   pub begin_still : KnowsBegin way m old input → KnowsBegin way m new input
-  begin_still begin = λ l. subst (λ n. n < 2 ^ 31) (sym (keeps.starts _ (omega (arith, l, slots)) (begin l))) (begin l)
+  begin_still begin = λ l. subst (λ n. n < 2 ^ 31) (sym (keeps.starts _ (begin l))) (begin l)
 
   pub all_still : HasLearnedAll way m old input → HasLearnedAll way m new input
   all_still all = (begin_still all.0, λ j reads. unit_still j (all.1 j reads))
@@ -90,3 +90,41 @@ learned_all way m c input k begin learned stops = (begin, λ j reads. go j reads
 -- what a pass has learned it knows
 pub learned_knows : (way : Direction) (m : Machine) (c : Stored) (input : Input) → HasLearnedAll way m c input → KnowsPass way m c input
 learned_knows way m c input all = λ may. (all.0, λ k reads clean. (all.1 k reads).0)
+
+-- a pass that steps on learns the transition that it takes
+pub learned_step :
+    (way : Direction) (m : Machine) (old new : CacheView) (input : Input) (k id : ℕ) (u : Option ℕ)
+    → IsGrown old new → new.store.table.of ≡ m → ClearedNothing old.store new.store
+    → KnowsBegin way m old.store input → HasLearned way m old.store input k
+    → Names old.store.table id (state_in way m input k) → next (tape_in way input) k ≡ u
+    → IsKnownTransition new.store id (unit_class m u) → unit_class m u < m.stride
+    → KnowsBegin way m new.store input × HasLearned way m new.store input (suc k)
+learned_step way m old new input k id u g of nothing begin learned named unit known below =
+    let keeps : Keeps old.store new.store = g.kept nothing in (
+      begin_still way m old.store new.store input g.of keeps begin,
+      learned_more way m new.store input k id u (learned_still way m old.store new.store input g.of keeps k learned)
+          (keeps.rows id (state_in way m input k) named) unit known (subst (λ (n : Machine). unit_class m u < n.stride) (sym of) below),
+    )
+
+-- a pass that reads nothing behind this unit has learned all
+pub learned_ends :
+    (way : Direction) (m : Machine) (old new : CacheView) (input : Input) (k id : ℕ) (u : Option ℕ)
+    → IsGrown old new → new.store.table.of ≡ m
+    → Names old.store.table id (state_in way m input k) → next (tape_in way input) k ≡ u
+    → (ClearedNothing old.store new.store → IsKnownTransition new.store id (unit_class m u)) → unit_class m u < m.stride
+    → ((j : ℕ) → suc k ≤ j → Reads way m input j → ⊥)
+    → KnowsBegin way m old.store input → HasLearned way m old.store input k → ClearedNothing old.store new.store
+    → HasLearnedAll way m new.store input
+learned_ends way m old new input k id u g of named unit known below stops begin learned nothing =
+    let step : KnowsBegin way m new.store input × HasLearned way m new.store input (suc k) =
+    learned_step way m old new input k id u g of nothing begin learned named unit (known nothing) below in
+    learned_all way m new.store input (suc k) step.0 step.1 stops
+
+-- what was learned stays where a search moves on
+pub learned_moved :
+    (way : Direction) (m : Machine) (input : Input) (old between new : CacheView) {s : Searched}
+    → new ≡ with_store between (with_searched between.store s)
+    → (ClearedNothing old.store between.store → HasLearnedAll way m between.store input)
+    → ClearedNothing old.store new.store → HasLearnedAll way m new.store input
+learned_moved way m input old between new e f =
+    subst (λ (c : CacheView). ClearedNothing old.store c.store → HasLearnedAll way m c.store input) (sym e) f

@@ -87,11 +87,11 @@ ok_one e = cc
 
 -- a refused step, told at an offset
 pub refused :
-    (m : Machine) (c c' : Stored) (q : Powerset) (unit : Option ℕ) (at : ℕ) (e : StepError)
-    → c' ≡ c → (IsCacheError e → GivesUp c (successor m.nfa m.kind q unit)) → IsStepRefusal m c' q unit at at (step_refusal e at)
-refused m c c' q unit at (Cache err) same gives =
+    (m : Machine) (c c' : Stored) (q : Powerset) (unit : Option ℕ) (quit_at at : ℕ) (e : StepError)
+    → c' ≡ c → (IsCacheError e → GivesUp c (successor m.nfa m.kind q unit)) → IsStepRefusal m c' q unit quit_at at (step_refusal e at)
+refused m c c' q unit quit_at at (Cache err) same gives =
     (subst (λ (s : Stored). GivesUp s (successor m.nfa m.kind q unit)) (sym same) (gives tt), refl)
-refused m c c' q unit at OutOfMemory same gives = tt
+refused m c c' q unit quit_at at OutOfMemory same gives = tt
 
 pub quit_bit : (s : ℕ) → s ≤ 512 → IsBitSet (quit_id s) 29
 quit_bit s l =

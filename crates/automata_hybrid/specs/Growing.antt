@@ -7,7 +7,6 @@ use Rattle.automata_hybrid.specs.Kept.{ClearedNothing, HasRoom, Keeps}
 -- a cache after steps and searches, by what it was before
 pub record IsGrown (old new : CacheView) : Type 0 where
   pub of : new.store.table.of ≡ old.store.table.of
-  pub slots : length new.store.starts ≡ length old.store.starts
   pub counted : old.count ≤ new.count
   pub clears : old.store.clears ≤ new.store.clears
 

@@ -8,7 +8,7 @@ use Rattle.automata_hybrid.specs.Bounds.{Stored, usage, cell_of, IsKnownTransiti
 -- nothing is lost: each row, each known start and each known transition is as it was
 pub record Keeps (old new : Stored) : Type 0 where
   pub rows : (id : ℕ) (q : Powerset) → Names old.table id q → Names new.table id q
-  pub starts : (slot : ℕ) → slot < length old.starts → IsKnownStart old slot → slice_index new.starts slot ≡ slice_index old.starts slot
+  pub starts : (slot : ℕ) → IsKnownStart old slot → slice_index new.starts slot ≡ slice_index old.starts slot
   pub cells : (id class : ℕ) → IsValid old.table id → class < old.table.of.stride → IsKnownTransition old id class → cell_of new id class ≡ cell_of old id class
 
 -- nothing was cleared between: the count of clears is the same, and below the greatest number, where it would stay

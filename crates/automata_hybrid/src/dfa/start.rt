@@ -12,6 +12,8 @@ ghost use Rattle.automata_hybrid.specs.Slots.{supports, slot_of, slot_behind};
 ghost use Rattle.automata_hybrid.specs.Table.{id_of, Names, IsValid, Leads};
 ghost use Rattle.automata_hybrid.specs.Bounds.{Fits, refuses_to_clear, IsCacheError, IsKnownStart, IsStarted, KeepsStarts, GivesUp};
 ghost use Rattle.automata_hybrid.specs.Kept.{Keeps, ClearedNothing, HasRoom};
+ghost use Rattle.automata_hybrid.specs.Growing.{IsGrown};
+ghost use Rattle.automata_hybrid.specs.Ids.{dead_id};
 ghost use Rattle.automata_hybrid.specs.Caches.{IsCacheOf, counted, HasRow};
 
 use crate::dfa::DFA;
@@ -47,6 +49,7 @@ impl Cache {
         ensures kept { ClearedNothing self.old.store self.new.store → Keeps self.old.store self.new.store }
         ensures roomy { (states : ℕ) → HasRoom self.old.store (states + 1) → HasRoom self.new.store states × (self.new.store.clears ≡ self.old.store.clears) }
         ensures clears_more { self.old.store.clears ≤ self.new.store.clears }
+        ensures grown { IsGrown self.old self.new }
     {
         self.see_cells();
         let found = self.start_slot(slot);
@@ -213,6 +216,9 @@ impl DFA {
         ensures known { KnowsStart self.now cache.old.store config.now.anchored config.now.look_behind → result ≡ Ok (known_start self.now cache.old.store config.now.anchored config.now.look_behind) }
         ensures unchanged { KnowsStart self.now cache.old.store config.now.anchored config.now.look_behind → cache.new ≡ cache.old }
 
+        // Behind the last pattern there is no slot, and the start is dead.
+        ensures past { MayStart self.now config.now.anchored config.now.look_behind → self.now.slots ≤ slot_behind self.now config.now.anchored config.now.look_behind → (result ≡ Ok (dead_id self.now.stride)) × (cache.new ≡ cache.old) }
+
         // Until the next clear nothing is lost. A start is known from now on, also where the cache was cleared.
         ensures kept { ClearedNothing cache.old.store cache.new.store → Keeps cache.old.store cache.new.store }
         ensures learned { slot_behind self.now config.now.anchored config.now.look_behind < self.now.slots → OnOk result (KnowsStart self.now cache.new.store config.now.anchored config.now.look_behind) }
@@ -221,6 +227,7 @@ impl DFA {
         // Where there is room for one more state, nothing is cleared, and the room for the others is left.
         ensures roomy { (states : ℕ) → HasRoom cache.old.store (states + 1) → HasRoom cache.new.store states × (cache.new.store.clears ≡ cache.old.store.clears) }
         ensures clears_more { cache.old.store.clears ≤ cache.new.store.clears }
+        ensures grown { IsGrown cache.old cache.new }
     {
         if let Some(byte) = self.quits_behind(config.get_look_behind()) {
             return Err(StartError::Quit { byte });
@@ -262,6 +269,7 @@ impl DFA {
         ensures written { IfOk result (λ n. slice_index cache.new.store.starts slot ≡ n) }
         ensures roomy { (states : ℕ) → HasRoom cache.old.store (states + 1) → HasRoom cache.new.store states × (cache.new.store.clears ≡ cache.old.store.clears) }
         ensures clears_more { cache.old.store.clears ≤ cache.new.store.clears }
+        ensures grown { IsGrown cache.old cache.new }
         ensures err { OnErr result (cache.new ≡ counted cache.old) }
     {
         cache.see_slots();
@@ -297,6 +305,9 @@ impl DFA {
         ensures known { KnowsStart self.now cache.old.store input.now.anchored (byte_before input.now.haystack input.now.start) → result ≡ Ok (known_start self.now cache.old.store input.now.anchored (byte_before input.now.haystack input.now.start)) }
         ensures unchanged { KnowsStart self.now cache.old.store input.now.anchored (byte_before input.now.haystack input.now.start) → cache.new ≡ cache.old }
 
+        // Behind the last pattern there is no slot, and the start is dead.
+        ensures past { MayStart self.now input.now.anchored (byte_before input.now.haystack input.now.start) → self.now.slots ≤ slot_behind self.now input.now.anchored (byte_before input.now.haystack input.now.start) → (result ≡ Ok (dead_id self.now.stride)) × (cache.new ≡ cache.old) }
+
         // Until the next clear nothing is lost. A start is known from now on, also where the cache was cleared.
         ensures kept { ClearedNothing cache.old.store cache.new.store → Keeps cache.old.store cache.new.store }
         ensures learned { slot_behind self.now input.now.anchored (byte_before input.now.haystack input.now.start) < self.now.slots → OnOk result (KnowsStart self.now cache.new.store input.now.anchored (byte_before input.now.haystack input.now.start)) }
@@ -305,6 +316,7 @@ impl DFA {
         // Where there is room for one more state, nothing is cleared, and the room for the others is left.
         ensures roomy { (states : ℕ) → HasRoom cache.old.store (states + 1) → HasRoom cache.new.store states × (cache.new.store.clears ≡ cache.old.store.clears) }
         ensures clears_more { cache.old.store.clears ≤ cache.new.store.clears }
+        ensures grown { IsGrown cache.old cache.new }
     {
         let config = start::Config::from_input_forward(input);
         match self.start_state(cache, &config) {
@@ -342,6 +354,9 @@ impl DFA {
         ensures known { KnowsStart self.now cache.old.store input.now.anchored (nth input.now.haystack input.now.end) → result ≡ Ok (known_start self.now cache.old.store input.now.anchored (nth input.now.haystack input.now.end)) }
         ensures unchanged { KnowsStart self.now cache.old.store input.now.anchored (nth input.now.haystack input.now.end) → cache.new ≡ cache.old }
 
+        // Behind the last pattern there is no slot, and the start is dead.
+        ensures past { MayStart self.now input.now.anchored (nth input.now.haystack input.now.end) → self.now.slots ≤ slot_behind self.now input.now.anchored (nth input.now.haystack input.now.end) → (result ≡ Ok (dead_id self.now.stride)) × (cache.new ≡ cache.old) }
+
         // Until the next clear nothing is lost. A start is known from now on, also where the cache was cleared.
         ensures kept { ClearedNothing cache.old.store cache.new.store → Keeps cache.old.store cache.new.store }
         ensures learned { slot_behind self.now input.now.anchored (nth input.now.haystack input.now.end) < self.now.slots → OnOk result (KnowsStart self.now cache.new.store input.now.anchored (nth input.now.haystack input.now.end)) }
@@ -350,6 +365,7 @@ impl DFA {
         // Where there is room for one more state, nothing is cleared, and the room for the others is left.
         ensures roomy { (states : ℕ) → HasRoom cache.old.store (states + 1) → HasRoom cache.new.store states × (cache.new.store.clears ≡ cache.old.store.clears) }
         ensures clears_more { cache.old.store.clears ≤ cache.new.store.clears }
+        ensures grown { IsGrown cache.old cache.new }
     {
         let config = start::Config::from_input_reverse(input);
         match self.start_state(cache, &config) {

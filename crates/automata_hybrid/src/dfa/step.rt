@@ -48,13 +48,11 @@ impl Cache {
         ensures grown { IsGrown self.old self.new }
     {
         self.see_cells();
-        self.see_slots();
         let cell = self.cell(id, class);
         if !cell.is_unknown() {
             return Ok(cell);
         }
         let next = self.compute_next(dfa, id, class, unit)?;
-        self.see_slots();
         self.see_ids();
         Ok(next)
     }

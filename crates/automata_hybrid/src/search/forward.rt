@@ -7,10 +7,13 @@ ghost use Rattle.automata_base.specs.Paths.{IsLookAcyclic};
 ghost use Rattle.automata_base.specs.Tapes.{Forward, byte_before};
 ghost use Rattle.automata_base.specs.declared.util.search.MatchErrorKind.TheVariants.{UnsupportedAnchored as UnsupportedMode};
 ghost use Rattle.automata_hybrid.specs.Caches.{IsCacheOf};
-ghost use Rattle.automata_hybrid.specs.Passing.{IsAt, found_over};
+ghost use Rattle.automata_hybrid.specs.Growing.{IsGrown};
+ghost use Rattle.automata_hybrid.specs.Kept.{ClearedNothing};
+ghost use Rattle.automata_hybrid.specs.Knowing.{IsOfInput, KnowsBegin, KnowsPass, Knows};
+ghost use Rattle.automata_hybrid.specs.Passing.{HasLearned, HasLearnedAll, IsAt, found_over};
 ghost use Rattle.automata_hybrid.specs.Searches.{IsFound, IsPassRefusal, IsRefused, MeetsNoQuit, NoQuitInReach, Skips, WithoutBase, state_in, tape_in, with_base};
 ghost use Rattle.automata_hybrid.specs.Slots.{supports};
-ghost use Rattle.automata_hybrid.specs.Starting.{quit_behind};
+ghost use Rattle.automata_hybrid.specs.Starting.{MayStart, quit_behind};
 ghost use Rattle.automata_hybrid.specs.Table.{IsValid, Names};
 
 use crate::dfa::DFA;
@@ -120,6 +123,9 @@ impl DFA {
         ensures clean { OnOk result (MeetsNoQuit Forward self.now input.now) }
         ensures errors { IfErr result (IsPassRefusal Forward self.now cache.new.store input.now) }
         ensures counted { cache.new.count ≤ cache.old.count + (input.now.end - input.now.start + 2) }
+        ensures grown { IsGrown cache.old cache.new }
+        ensures idle { KnowsPass Forward self.now cache.old.store input.now → (cache.new.count ≡ cache.old.count) × IfErr result IsOfInput }
+        ensures learned { ClearedNothing cache.old.store cache.new.store → OnOk result (HasLearnedAll Forward self.now cache.new.store input.now) }
         ensures unsupported { quit_behind self.now (byte_before input.now.haystack input.now.start) ≡ None → supports self.now input.now.anchored ≡ false → result ≡ Err (SearchError.Match (UnsupportedMode input.now.anchored)) }
         ensures supported { OnOk result (supports self.now input.now.anchored ≡ true) }
     {
@@ -143,6 +149,7 @@ impl DFA {
         ensures from { start ≤ result.at }
         ensures within { result.at ≤ input.now.end }
         ensures at { (found : Option matches.HalfMatch) → IsAt Forward self.now cache.now.store.table input.now (start - input.now.start) from found → IsAt Forward self.now cache.now.store.table input.now (result.at - input.now.start) result.id found }
+        ensures learned { (found : Option matches.HalfMatch) → IsAt Forward self.now cache.now.store.table input.now (start - input.now.start) from found → HasLearned Forward self.now cache.now.store input.now (start - input.now.start) → HasLearned Forward self.now cache.now.store input.now (result.at - input.now.start) }
     {
         if from.is_tagged() {
             return Stop {
@@ -150,6 +157,7 @@ impl DFA {
                 id: from,
             };
         }
+        self.see_classes();
         let haystack = input.haystack();
         let end = input.end();
         let mut at = start;
@@ -174,13 +182,16 @@ impl DFA {
     ) -> Result<Option<HalfMatch>, SearchError>
         requires of { IsCacheOf cache.old self.now }
         requires named { Names cache.old.store.table start (state_in Forward self.now input.now 0) }
-        requires behind { quit_behind self.now (tape_in Forward input.now).before ≡ None }
+        requires may { MayStart self.now input.now.anchored (tape_in Forward input.now).before }
         requires open { input.now.start ≤ input.now.end }
         ensures of { IsCacheOf cache.new self.now }
         ensures found { IfOk result (λ o. o ≡ found_over Forward self.now input.now) }
         ensures clean { OnOk result (MeetsNoQuit Forward self.now input.now) }
         ensures errors { IfErr result (IsPassRefusal Forward self.now cache.new.store input.now) }
         ensures counted { cache.new.count ≤ cache.old.count + (input.now.end - input.now.start + 1) }
+        ensures grown { IsGrown cache.old cache.new }
+        ensures idle { KnowsPass Forward self.now cache.old.store input.now → (cache.new.count ≡ cache.old.count) × IfErr result IsOfInput }
+        ensures learned { KnowsBegin Forward self.now cache.old.store input.now → ClearedNothing cache.old.store cache.new.store → OnOk result (HasLearnedAll Forward self.now cache.new.store input.now) }
     {
         let mut at = input.start();
         let mut id = start;
@@ -216,13 +227,16 @@ impl DFA {
     ) -> Result<Option<HalfMatch>, SearchError>
         requires of { IsCacheOf cache.old self.now }
         requires open { input.now.start ≤ input.now.end }
-        requires behind { quit_behind self.now (tape_in Forward input.now).before ≡ None }
+        requires may { MayStart self.now input.now.anchored (tape_in Forward input.now).before }
         requires at { IsAt Forward self.now cache.old.store.table input.now (input.now.end - input.now.start) id found }
         ensures of { IsCacheOf cache.new self.now }
         ensures found { IfOk result (λ o. o ≡ found_over Forward self.now input.now) }
         ensures clean { OnOk result (MeetsNoQuit Forward self.now input.now) }
         ensures errors { IfErr result (IsPassRefusal Forward self.now cache.new.store input.now) }
         ensures counted { cache.new.count ≤ cache.old.count + 1 }
+        ensures grown { IsGrown cache.old cache.new }
+        ensures idle { KnowsPass Forward self.now cache.old.store input.now → (cache.new.count ≡ cache.old.count) × IfErr result IsOfInput }
+        ensures learned { KnowsBegin Forward self.now cache.old.store input.now → HasLearned Forward self.now cache.old.store input.now (input.now.end - input.now.start) → ClearedNothing cache.old.store cache.new.store → OnOk result (HasLearnedAll Forward self.now cache.new.store input.now) }
     {
         let end = input.end();
         if end < input.haystack().len() {

@@ -113,7 +113,7 @@ impl DFA {
         ensures learned { ClearedNothing cache.old.store cache.new.store → OnOk result (IsKnownTransition cache.new.store id (class_in self.now.classes byte)) }
         ensures quit { IfOk result (λ n. is_quit self.now.quits byte ≡ true → n ≡ quit_id self.now.stride) }
         ensures named { IfOk result (λ n. is_quit self.now.quits byte ≡ false → (q : Powerset) → Names cache.old.store.table id q → Leads cache.new.store.table n (successor self.now.nfa self.now.kind q (Some byte))) }
-        ensures errors { IfErr result (λ e. (q : Powerset) → Names cache.old.store.table id q → IsStepRefusal self.now cache.new.store q (Some byte) at at e) }
+        ensures errors { IfErr result (λ e. (q : Powerset) (quit_at : ℕ) → Names cache.old.store.table id q → IsStepRefusal self.now cache.new.store q (Some byte) quit_at at e) }
     {
         cache.see_ids();
         match self.next_state(cache, id, byte) {

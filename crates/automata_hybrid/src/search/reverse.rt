@@ -1,6 +1,6 @@
 ghost use Rattle.std.specs.Prelude.{ℕ, ◌≡◌, ◌+◌, ◌-◌, ◌^◌, ◌<◌, ◌≤◌, IfOk, IfErr, OnOk, Option, None, Some, true, false, length, Err};
 ghost use Rattle.automata_base.specs.Answers.{IsAnswer};
-ghost use Rattle.automata_base.specs.Classes.{is_quit};
+ghost use Rattle.automata_base.specs.Classes.{class_in, is_quit};
 ghost use Rattle.automata_base.specs.Engines.{engine_of};
 ghost use Rattle.automata_base.specs.Lists.{nth};
 ghost use Rattle.automata_base.specs.Matches as matches;
@@ -10,17 +10,21 @@ ghost use Rattle.automata_base.specs.Powerset.{Powerset, dead};
 ghost use Rattle.automata_base.specs.Steps.{successor};
 ghost use Rattle.automata_base.specs.Tapes.{Backward};
 ghost use Rattle.automata_base.specs.declared.util.search.MatchErrorKind.TheVariants.{UnsupportedAnchored as UnsupportedMode};
+ghost use Rattle.automata_hybrid.specs.Bounds.{IsKnownTransition};
 ghost use Rattle.automata_hybrid.specs.Caches.{IsCacheOf};
-ghost use Rattle.automata_hybrid.specs.Passing.{IsAt, found_over};
+ghost use Rattle.automata_hybrid.specs.Growing.{IsGrown};
+ghost use Rattle.automata_hybrid.specs.Kept.{ClearedNothing};
+ghost use Rattle.automata_hybrid.specs.Knowing.{IsOfInput, KnowsBegin, KnowsPass, Knows};
+ghost use Rattle.automata_hybrid.specs.Passing.{HasLearned, HasLearnedAll, IsAt, found_over};
 ghost use Rattle.automata_hybrid.specs.Searches.{IsFound, IsPassRefusal, IsRefused, IsStepRefusal, MeetsNoQuit, NoQuitInReach, Skips, WithoutBase, state_in, tape_in};
 ghost use Rattle.automata_hybrid.specs.Slots.{supports};
-ghost use Rattle.automata_hybrid.specs.Starting.{quit_behind};
+ghost use Rattle.automata_hybrid.specs.Starting.{MayStart, quit_behind};
 ghost use Rattle.automata_hybrid.specs.Table.{IsValid, Leads, Names};
 
 use crate::dfa::DFA;
 use crate::dfa::cache::Cache;
 use crate::id::LazyStateID;
-use crate::search::{Stop, is_anchored, quit, refusal, with_span};
+use crate::search::{Stop, is_anchored, quit, with_span};
 use automata_base::laws::told_is_right;
 use automata_base::util::search::{HalfMatch, Input};
 use automata_config::error::SearchError;
@@ -104,6 +108,9 @@ impl DFA {
         ensures clean { OnOk result (MeetsNoQuit Backward self.now input.now) }
         ensures errors { IfErr result (IsPassRefusal Backward self.now cache.new.store input.now) }
         ensures counted { cache.new.count ≤ cache.old.count + (input.now.end - input.now.start + 2) }
+        ensures grown { IsGrown cache.old cache.new }
+        ensures idle { KnowsPass Backward self.now cache.old.store input.now → (cache.new.count ≡ cache.old.count) × IfErr result IsOfInput }
+        ensures learned { ClearedNothing cache.old.store cache.new.store → OnOk result (HasLearnedAll Backward self.now cache.new.store input.now) }
         ensures unsupported { quit_behind self.now (nth input.now.haystack input.now.end) ≡ None → supports self.now input.now.anchored ≡ false → result ≡ Err (SearchError.Match (UnsupportedMode input.now.anchored)) }
         ensures supported { OnOk result (supports self.now input.now.anchored ≡ true) }
     {
@@ -133,6 +140,7 @@ impl DFA {
         ensures from { input.now.start ≤ result.at }
         ensures within { result.at ≤ start }
         ensures at { (found : Option matches.HalfMatch) → IsAt Backward self.now cache.now.store.table input.now (input.now.end - start) from found → IsAt Backward self.now cache.now.store.table input.now (input.now.end - result.at) result.id found }
+        ensures learned { (found : Option matches.HalfMatch) → IsAt Backward self.now cache.now.store.table input.now (input.now.end - start) from found → HasLearned Backward self.now cache.now.store input.now (input.now.end - start) → HasLearned Backward self.now cache.now.store input.now (input.now.end - result.at) }
     {
         if from.is_tagged() {
             return Stop {
@@ -140,6 +148,7 @@ impl DFA {
                 id: from,
             };
         }
+        self.see_classes();
         let haystack = input.haystack();
         let first = input.start();
         let mut at = start;
@@ -164,13 +173,16 @@ impl DFA {
     ) -> Result<Option<HalfMatch>, SearchError>
         requires of { IsCacheOf cache.old self.now }
         requires named { Names cache.old.store.table start (state_in Backward self.now input.now 0) }
-        requires behind { quit_behind self.now (tape_in Backward input.now).before ≡ None }
+        requires may { MayStart self.now input.now.anchored (tape_in Backward input.now).before }
         requires open { input.now.start ≤ input.now.end }
         ensures of { IsCacheOf cache.new self.now }
         ensures found { IfOk result (λ o. o ≡ found_over Backward self.now input.now) }
         ensures clean { OnOk result (MeetsNoQuit Backward self.now input.now) }
         ensures errors { IfErr result (IsPassRefusal Backward self.now cache.new.store input.now) }
         ensures counted { cache.new.count ≤ cache.old.count + (input.now.end - input.now.start + 1) }
+        ensures grown { IsGrown cache.old cache.new }
+        ensures idle { KnowsPass Backward self.now cache.old.store input.now → (cache.new.count ≡ cache.old.count) × IfErr result IsOfInput }
+        ensures learned { KnowsBegin Backward self.now cache.old.store input.now → ClearedNothing cache.old.store cache.new.store → OnOk result (HasLearnedAll Backward self.now cache.new.store input.now) }
     {
         let mut at = input.end();
         let mut id = start;
@@ -207,13 +219,16 @@ impl DFA {
     ) -> Result<Option<HalfMatch>, SearchError>
         requires of { IsCacheOf cache.old self.now }
         requires open { input.now.start ≤ input.now.end }
-        requires behind { quit_behind self.now (tape_in Backward input.now).before ≡ None }
+        requires may { MayStart self.now input.now.anchored (tape_in Backward input.now).before }
         requires at { IsAt Backward self.now cache.old.store.table input.now (input.now.end - input.now.start) id found }
         ensures of { IsCacheOf cache.new self.now }
         ensures found { IfOk result (λ o. o ≡ found_over Backward self.now input.now) }
         ensures clean { OnOk result (MeetsNoQuit Backward self.now input.now) }
         ensures errors { IfErr result (IsPassRefusal Backward self.now cache.new.store input.now) }
         ensures counted { cache.new.count ≤ cache.old.count + 1 }
+        ensures grown { IsGrown cache.old cache.new }
+        ensures idle { KnowsPass Backward self.now cache.old.store input.now → (cache.new.count ≡ cache.old.count) × IfErr result IsOfInput }
+        ensures learned { KnowsBegin Backward self.now cache.old.store input.now → HasLearned Backward self.now cache.old.store input.now (input.now.end - input.now.start) → ClearedNothing cache.old.store cache.new.store → OnOk result (HasLearnedAll Backward self.now cache.new.store input.now) }
     {
         let start = input.start();
         if start == 0 {
@@ -241,17 +256,18 @@ impl DFA {
         ensures alive { (q : Powerset) → Names cache.old.store.table id q → q ≡ dead → ⊥ }
         ensures clean { OnOk result (is_quit self.now.quits byte ≡ false) }
         ensures errors { IfErr result (λ e. (q : Powerset) → Names cache.old.store.table id q → IsStepRefusal self.now cache.new.store q (Some byte) (start - 1) start e) }
+        ensures grown { IsGrown cache.old cache.new }
+        ensures idle { IsKnownTransition cache.old.store id (class_in self.now.classes byte) → (cache.new.count ≡ cache.old.count) × IfErr result IsOfInput }
+        ensures learned { ClearedNothing cache.old.store cache.new.store → OnOk result (IsKnownTransition cache.new.store id (class_in self.now.classes byte)) }
+        ensures below { class_in self.now.classes byte < self.now.stride }
     {
+        self.see_classes();
         cache.see_ids();
-        match self.next_state(cache, id, byte) {
-            Ok(next) => {
-                cache.see_ids();
-                if next.is_quit() {
-                    return Err(quit(byte, start - 1));
-                }
-                Ok(next)
-            }
-            Err(error) => Err(refusal(error, start)),
+        let next = self.step(cache, id, byte, start)?;
+        cache.see_ids();
+        if next.is_quit() {
+            return Err(quit(byte, start - 1));
         }
+        Ok(next)
     }
 }

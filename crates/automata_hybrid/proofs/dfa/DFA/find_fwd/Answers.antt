@@ -3,9 +3,13 @@ use Rattle.automata_base.specs.Classes.{is_quit}
 use Rattle.automata_base.specs.Paths.{next}
 use Rattle.automata_base.specs.Tapes.{Forward}
 use Rattle.automata_base.proofs.Paths.Orders.{some_inj}
-use Rattle.automata_hybrid.specs.Passing.{IsAt}
+use Rattle.automata_hybrid.specs.Kept.{ClearedNothing}
+use Rattle.automata_hybrid.specs.Knowing.{KnowsPass}
+use Rattle.automata_hybrid.specs.Passing.{HasLearned, IsAt}
 use Rattle.automata_hybrid.specs.Searches.{tape_in}
-use Rattle.automata_hybrid.proofs.Searching.{more_leads, more_at, more_dead, clean_dead, more_ends, clean_ends, starts_at, step_refuses, if_err, false_true, some_is, none_is}
+use Rattle.automata_hybrid.proofs.Growing.{grown_moved, grown_same, grown_trans, nothing_first, nothing_second}
+use Rattle.automata_hybrid.proofs.Knowing.{knows_here, knows_still, learned_ends, learned_moved, learned_none, learned_step}
+use Rattle.automata_hybrid.proofs.Searching.{stops_dead, stops_ends, more_leads, more_at, more_dead, clean_dead, more_ends, clean_ends, starts_at, step_refuses, if_err, false_true, some_is, none_is}
 use Rattle.automata_hybrid.proofs.Units.{forward_read, forward_units}
 use Rattle.automata_hybrid.proofs.dfa.DFA.find_fwd.Goals as goal
 use Rattle.automata_hybrid.proofs.dfa.DFA.find_fwd.Goals.{else-get_earliest-via-then-get_earliest+else-is_some, else-get_earliest-via-else-get_earliest}
@@ -16,6 +20,9 @@ loop-at-init c =
     record {
       of = c.requires.of;
       counted = omega arith;
+      grown = grown_same c.args.cache.now c.args.cache.now refl;
+      idle = λ knows. refl;
+      learned = λ begin nothing. (begin, subst (HasLearned Forward c.args.self.now c.args.cache.now.store c.args.input.now) z (learned_none Forward c.args.self.now c.args.cache.now.store c.args.input.now));
       from = omega (arith, c.start-at.ensures.start);
       within = omega (arith, c.start-at.ensures.start, c.requires.open);
       at = subst (λ k. IsAt Forward c.args.self.now c.args.cache.now.store.table c.args.input.now k c.args.start None) z (starts_at Forward c.args.self.now c.args.cache.now.store.table c.args.input.now c.args.start c.requires.named);
@@ -37,7 +44,7 @@ returns-in_err-next-clause-errors c =
     let few : k ≤ length (tape_in Forward c.args.input.now).bytes = (let u : c.args.input.now.end - c.args.input.now.start ≡ length (tape_in Forward c.args.input.now).bytes = forward_units c.args.input.now c.requires.open c.end-in-loop-at.ensures.within.1 in omega (arith, u, inside)) in
     if_err c.from_residual.result _ _ c.from_residual.ensures.1
     (step_refuses Forward c.args.self.now c.loop-at.cache.store.table c.read.new.cache.store c.args.input.now k c.follow_fwd-stop.result.id c.follow_fwd-stop.result.at c.follow_fwd-stop.result.at _ c.loop-at.found c.in_err-next.field-0.0
-    at few c.in_err-next.ensures.alive read (sym place) (sym place) c.in_err-next.ensures.errors c.requires.behind)
+    at few c.in_err-next.ensures.alive read (sym place) (sym place) c.in_err-next.ensures.errors c.requires.may.0)
 
 pub returns-then-is_dead-clause-found : goal.returns-then-is_dead-clause-found
 returns-then-is_dead-clause-found c =
@@ -59,7 +66,7 @@ returns-then-is_dead-clause-clean c =
     let at : IsAt Forward c.args.self.now c.loop-at.cache.store.table c.args.input.now k c.follow_fwd-stop.result.id c.loop-at.found = c.follow_fwd-stop.ensures.at c.loop-at.found c.loop-at.invariant.at in
     let read : next (tape_in Forward c.args.input.now) k ≡ Some _ = forward_read c.args.input.now c.haystack.result.now c.follow_fwd-stop.result.at c.follow_fwd-stop.result.at from (omega (arith, inside)) c.end-in-loop-at.ensures.within.1 (omega (arith, inside, c.end-in-loop-at.ensures.within.1)) c.haystack.ensures.same refl in
     let few : k ≤ length (tape_in Forward c.args.input.now).bytes = (let u : c.args.input.now.end - c.args.input.now.start ≡ length (tape_in Forward c.args.input.now).bytes = forward_units c.args.input.now c.requires.open c.end-in-loop-at.ensures.within.1 in omega (arith, u, inside)) in
-    clean_dead Forward c.args.self.now c.loop-at.cache.store.table c.read.new.cache.store.table c.args.input.now k c.follow_fwd-stop.result.id c.in_ok-next.next _ c.loop-at.found None at read c.in_ok-next.ensures.named (λ byte e. subst (λ v. is_quit c.args.self.now.quits v ≡ false) (some_inj e) c.in_ok-next.ensures.clean) (λ l. (c.in_ok-next.ensures.dead _ l).0 (c.if-is_dead.ensures.0 refl)) c.requires.behind
+    clean_dead Forward c.args.self.now c.loop-at.cache.store.table c.read.new.cache.store.table c.args.input.now k c.follow_fwd-stop.result.id c.in_ok-next.next _ c.loop-at.found None at read c.in_ok-next.ensures.named (λ byte e. subst (λ v. is_quit c.args.self.now.quits v ≡ false) (some_inj e) c.in_ok-next.ensures.clean) (λ l. (c.in_ok-next.ensures.dead _ l).0 (c.if-is_dead.ensures.0 refl)) c.requires.may.0
 
 pub found_at-found-requires-clause-leads : goal.found_at-found-requires-clause-leads
 found_at-found-requires-clause-leads c =
@@ -92,7 +99,7 @@ returns-then-is_some-clause-clean c =
     let at : IsAt Forward c.args.self.now c.loop-at.cache.store.table c.args.input.now k c.follow_fwd-stop.result.id c.loop-at.found = c.follow_fwd-stop.ensures.at c.loop-at.found c.loop-at.invariant.at in
     let read : next (tape_in Forward c.args.input.now) k ≡ Some _ = forward_read c.args.input.now c.haystack.result.now c.follow_fwd-stop.result.at c.follow_fwd-stop.result.at from (omega (arith, inside)) c.end-in-loop-at.ensures.within.1 (omega (arith, inside, c.end-in-loop-at.ensures.within.1)) c.haystack.ensures.same refl in
     let few : k ≤ length (tape_in Forward c.args.input.now).bytes = (let u : c.args.input.now.end - c.args.input.now.start ≡ length (tape_in Forward c.args.input.now).bytes = forward_units c.args.input.now c.requires.open c.end-in-loop-at.ensures.within.1 in omega (arith, u, inside)) in
-    clean_ends Forward c.args.self.now c.loop-at.cache.store.table c.read.new.cache.store.table c.args.input.now k c.follow_fwd-stop.result.id c.in_ok-next.next _ c.loop-at.found c.found_at-found.result at read c.in_ok-next.ensures.named (λ byte e. subst (λ v. is_quit c.args.self.now.quits v ≡ false) (some_inj e) c.in_ok-next.ensures.clean) (c.follow_fwd-stop.result.at, place, c.found_at-found.ensures) (sym c.get_earliest.ensures ∙ c.if-get_earliest.true) (some_is c.found_at-found.result c.if-is_some.ensures) c.requires.behind
+    clean_ends Forward c.args.self.now c.loop-at.cache.store.table c.read.new.cache.store.table c.args.input.now k c.follow_fwd-stop.result.id c.in_ok-next.next _ c.loop-at.found c.found_at-found.result at read c.in_ok-next.ensures.named (λ byte e. subst (λ v. is_quit c.args.self.now.quits v ≡ false) (some_inj e) c.in_ok-next.ensures.clean) (c.follow_fwd-stop.result.at, place, c.found_at-found.ensures) (sym c.get_earliest.ensures ∙ c.if-get_earliest.true) (some_is c.found_at-found.result c.if-is_some.ensures) c.requires.may.0
 
 pub loop-at-preserved : goal.loop-at-preserved
 loop-at-preserved c =
@@ -112,7 +119,144 @@ loop-at-preserved c =
     record {
       of = c.in_ok-next.ensures.of;
       counted = omega (arith, c.in_ok-next.ensures.counted, c.loop-at.invariant.counted, from, c.follow_fwd-stop.ensures.from, c.loop-at.invariant.from);
+      grown = grown_trans c.args.cache.now c.loop-at.cache c.read.new.cache c.loop-at.invariant.grown c.in_ok-next.ensures.grown;
+      idle = λ knows. (
+          let still : KnowsPass Forward c.args.self.now c.loop-at.cache.store c.args.input.now = knows_still Forward c.args.self.now c.args.input.now c.args.cache.now c.loop-at.cache c.loop-at.invariant.grown (c.loop-at.invariant.idle knows) knows in
+          let idle = c.in_ok-next.ensures.idle (knows_here Forward c.args.self.now c.loop-at.cache.store c.args.input.now k c.follow_fwd-stop.result.id c.loop-at.found (Some _) still c.requires.may at few c.in_ok-next.ensures.alive read) in
+          idle.0 ∙ c.loop-at.invariant.idle knows);
+      learned = λ begin nothing. (
+          let before = c.loop-at.invariant.learned begin (nothing_first c.args.cache.now c.loop-at.cache c.read.new.cache c.loop-at.invariant.grown c.in_ok-next.ensures.grown nothing) in
+          let after : ClearedNothing c.loop-at.cache.store c.read.new.cache.store = nothing_second c.args.cache.now c.loop-at.cache c.read.new.cache c.loop-at.invariant.grown c.in_ok-next.ensures.grown nothing in
+          let step = learned_step Forward c.args.self.now c.loop-at.cache c.read.new.cache c.args.input.now k c.follow_fwd-stop.result.id (Some _) c.in_ok-next.ensures.grown c.in_ok-next.ensures.of after before.0
+          (c.follow_fwd-stop.ensures.learned c.loop-at.found c.loop-at.invariant.at before.1) at.named read (c.in_ok-next.ensures.learned after) c.in_ok-next.ensures.below in
+          (step.0, subst (HasLearned Forward c.args.self.now c.read.new.cache.store c.args.input.now) more step.1));
       from = omega (arith, from);
       within = omega (arith, inside);
       at = subst (λ n. IsAt Forward c.args.self.now c.read.new.cache.store.table c.args.input.now n c.in_ok-next.next c.found_at-found.result) more (more_at Forward c.args.self.now c.loop-at.cache.store.table c.read.new.cache.store.table c.args.input.now k c.follow_fwd-stop.result.id c.in_ok-next.next _ c.loop-at.found c.found_at-found.result at read c.in_ok-next.ensures.named (λ byte e. subst (λ v. is_quit c.args.self.now.quits v ≡ false) (some_inj e) c.in_ok-next.ensures.clean) (c.follow_fwd-stop.result.at, place, c.found_at-found.ensures) first (λ l. (c.in_ok-next.ensures.dead _ l).1 (λ b. false_true (c.if-is_dead.ensures.1 b))));
     }
+
+pub returns-then-is_dead-clause-grown : goal.returns-then-is_dead-clause-grown
+returns-then-is_dead-clause-grown c =
+    grown_trans c.args.cache.now c.read.new.cache c.end_search.new.self
+    (grown_trans c.args.cache.now c.loop-at.cache c.read.new.cache c.loop-at.invariant.grown c.in_ok-next.ensures.grown)
+    (grown_moved c.read.new.cache c.end_search.new.self c.end_search.ensures.value)
+
+pub returns-then-is_dead-clause-idle : goal.returns-then-is_dead-clause-idle
+returns-then-is_dead-clause-idle c = λ knows.
+    let from : c.args.input.now.start ≤ c.follow_fwd-stop.result.at = omega (arith, c.loop-at.invariant.from, c.follow_fwd-stop.ensures.from) in
+    let inside : c.follow_fwd-stop.result.at < c.args.input.now.end = omega (arith, c.if-stop-end.false, c.end-in-loop-at.ensures.end) in
+    let k : ℕ = c.follow_fwd-stop.result.at - c.args.input.now.start in
+    let place : c.follow_fwd-stop.result.at ≡ c.args.input.now.start + k = omega (arith, from) in
+    let at : IsAt Forward c.args.self.now c.loop-at.cache.store.table c.args.input.now k c.follow_fwd-stop.result.id c.loop-at.found = c.follow_fwd-stop.ensures.at c.loop-at.found c.loop-at.invariant.at in
+    let read : next (tape_in Forward c.args.input.now) k ≡ Some _ = forward_read c.args.input.now c.haystack.result.now c.follow_fwd-stop.result.at c.follow_fwd-stop.result.at from (omega (arith, inside)) c.end-in-loop-at.ensures.within.1 (omega (arith, inside, c.end-in-loop-at.ensures.within.1)) c.haystack.ensures.same refl in
+    let few : k ≤ length (tape_in Forward c.args.input.now).bytes = (let u : c.args.input.now.end - c.args.input.now.start ≡ length (tape_in Forward c.args.input.now).bytes = forward_units c.args.input.now c.requires.open c.end-in-loop-at.ensures.within.1 in omega (arith, u, inside)) in
+    let still : KnowsPass Forward c.args.self.now c.loop-at.cache.store c.args.input.now = knows_still Forward c.args.self.now c.args.input.now c.args.cache.now c.loop-at.cache c.loop-at.invariant.grown (c.loop-at.invariant.idle knows) knows in
+    let idle = c.in_ok-next.ensures.idle (knows_here Forward c.args.self.now c.loop-at.cache.store c.args.input.now k c.follow_fwd-stop.result.id c.loop-at.found (Some _) still c.requires.may at few c.in_ok-next.ensures.alive read) in
+    (c.end_search.ensures.count ∙ (idle.0 ∙ c.loop-at.invariant.idle knows), tt)
+
+pub returns-then-is_dead-clause-learned : goal.returns-then-is_dead-clause-learned
+returns-then-is_dead-clause-learned c = λ begin.
+    let from : c.args.input.now.start ≤ c.follow_fwd-stop.result.at = omega (arith, c.loop-at.invariant.from, c.follow_fwd-stop.ensures.from) in
+    let inside : c.follow_fwd-stop.result.at < c.args.input.now.end = omega (arith, c.if-stop-end.false, c.end-in-loop-at.ensures.end) in
+    let k : ℕ = c.follow_fwd-stop.result.at - c.args.input.now.start in
+    let place : c.follow_fwd-stop.result.at ≡ c.args.input.now.start + k = omega (arith, from) in
+    let at : IsAt Forward c.args.self.now c.loop-at.cache.store.table c.args.input.now k c.follow_fwd-stop.result.id c.loop-at.found = c.follow_fwd-stop.ensures.at c.loop-at.found c.loop-at.invariant.at in
+    let read : next (tape_in Forward c.args.input.now) k ≡ Some _ = forward_read c.args.input.now c.haystack.result.now c.follow_fwd-stop.result.at c.follow_fwd-stop.result.at from (omega (arith, inside)) c.end-in-loop-at.ensures.within.1 (omega (arith, inside, c.end-in-loop-at.ensures.within.1)) c.haystack.ensures.same refl in
+    let few : k ≤ length (tape_in Forward c.args.input.now).bytes = (let u : c.args.input.now.end - c.args.input.now.start ≡ length (tape_in Forward c.args.input.now).bytes = forward_units c.args.input.now c.requires.open c.end-in-loop-at.ensures.within.1 in omega (arith, u, inside)) in
+    learned_moved Forward c.args.self.now c.args.input.now c.args.cache.now c.read.new.cache c.end_search.new.self c.end_search.ensures.value (λ nothing.
+    let before = c.loop-at.invariant.learned begin (nothing_first c.args.cache.now c.loop-at.cache c.read.new.cache c.loop-at.invariant.grown c.in_ok-next.ensures.grown nothing) in
+    learned_ends Forward c.args.self.now c.loop-at.cache c.read.new.cache c.args.input.now k c.follow_fwd-stop.result.id (Some _) c.in_ok-next.ensures.grown c.in_ok-next.ensures.of at.named read
+    c.in_ok-next.ensures.learned c.in_ok-next.ensures.below
+    (stops_dead Forward c.args.self.now c.loop-at.cache.store.table c.read.new.cache.store.table c.args.input.now k c.follow_fwd-stop.result.id c.in_ok-next.next _ c.loop-at.found None at read c.in_ok-next.ensures.named (λ byte e. subst (λ v. is_quit c.args.self.now.quits v ≡ false) (some_inj e) c.in_ok-next.ensures.clean) (λ l. (c.in_ok-next.ensures.dead _ l).0 (c.if-is_dead.ensures.0 refl)))
+    before.0 (c.follow_fwd-stop.ensures.learned c.loop-at.found c.loop-at.invariant.at before.1)
+    (nothing_second c.args.cache.now c.loop-at.cache c.read.new.cache c.loop-at.invariant.grown c.in_ok-next.ensures.grown nothing))
+
+pub returns-then-is_some-clause-grown : goal.returns-then-is_some-clause-grown
+returns-then-is_some-clause-grown c =
+    grown_trans c.args.cache.now c.read.new.cache c.end_search-then-is_some.new.self
+    (grown_trans c.args.cache.now c.loop-at.cache c.read.new.cache c.loop-at.invariant.grown c.in_ok-next.ensures.grown)
+    (grown_moved c.read.new.cache c.end_search-then-is_some.new.self c.end_search-then-is_some.ensures.value)
+
+pub returns-then-is_some-clause-idle : goal.returns-then-is_some-clause-idle
+returns-then-is_some-clause-idle c = λ knows.
+    let from : c.args.input.now.start ≤ c.follow_fwd-stop.result.at = omega (arith, c.loop-at.invariant.from, c.follow_fwd-stop.ensures.from) in
+    let inside : c.follow_fwd-stop.result.at < c.args.input.now.end = omega (arith, c.if-stop-end.false, c.end-in-loop-at.ensures.end) in
+    let k : ℕ = c.follow_fwd-stop.result.at - c.args.input.now.start in
+    let place : c.follow_fwd-stop.result.at ≡ c.args.input.now.start + k = omega (arith, from) in
+    let at : IsAt Forward c.args.self.now c.loop-at.cache.store.table c.args.input.now k c.follow_fwd-stop.result.id c.loop-at.found = c.follow_fwd-stop.ensures.at c.loop-at.found c.loop-at.invariant.at in
+    let read : next (tape_in Forward c.args.input.now) k ≡ Some _ = forward_read c.args.input.now c.haystack.result.now c.follow_fwd-stop.result.at c.follow_fwd-stop.result.at from (omega (arith, inside)) c.end-in-loop-at.ensures.within.1 (omega (arith, inside, c.end-in-loop-at.ensures.within.1)) c.haystack.ensures.same refl in
+    let few : k ≤ length (tape_in Forward c.args.input.now).bytes = (let u : c.args.input.now.end - c.args.input.now.start ≡ length (tape_in Forward c.args.input.now).bytes = forward_units c.args.input.now c.requires.open c.end-in-loop-at.ensures.within.1 in omega (arith, u, inside)) in
+    let still : KnowsPass Forward c.args.self.now c.loop-at.cache.store c.args.input.now = knows_still Forward c.args.self.now c.args.input.now c.args.cache.now c.loop-at.cache c.loop-at.invariant.grown (c.loop-at.invariant.idle knows) knows in
+    let idle = c.in_ok-next.ensures.idle (knows_here Forward c.args.self.now c.loop-at.cache.store c.args.input.now k c.follow_fwd-stop.result.id c.loop-at.found (Some _) still c.requires.may at few c.in_ok-next.ensures.alive read) in
+    (c.end_search-then-is_some.ensures.count ∙ (idle.0 ∙ c.loop-at.invariant.idle knows), tt)
+
+pub returns-then-is_some-clause-learned : goal.returns-then-is_some-clause-learned
+returns-then-is_some-clause-learned c = λ begin.
+    let from : c.args.input.now.start ≤ c.follow_fwd-stop.result.at = omega (arith, c.loop-at.invariant.from, c.follow_fwd-stop.ensures.from) in
+    let inside : c.follow_fwd-stop.result.at < c.args.input.now.end = omega (arith, c.if-stop-end.false, c.end-in-loop-at.ensures.end) in
+    let k : ℕ = c.follow_fwd-stop.result.at - c.args.input.now.start in
+    let place : c.follow_fwd-stop.result.at ≡ c.args.input.now.start + k = omega (arith, from) in
+    let at : IsAt Forward c.args.self.now c.loop-at.cache.store.table c.args.input.now k c.follow_fwd-stop.result.id c.loop-at.found = c.follow_fwd-stop.ensures.at c.loop-at.found c.loop-at.invariant.at in
+    let read : next (tape_in Forward c.args.input.now) k ≡ Some _ = forward_read c.args.input.now c.haystack.result.now c.follow_fwd-stop.result.at c.follow_fwd-stop.result.at from (omega (arith, inside)) c.end-in-loop-at.ensures.within.1 (omega (arith, inside, c.end-in-loop-at.ensures.within.1)) c.haystack.ensures.same refl in
+    let few : k ≤ length (tape_in Forward c.args.input.now).bytes = (let u : c.args.input.now.end - c.args.input.now.start ≡ length (tape_in Forward c.args.input.now).bytes = forward_units c.args.input.now c.requires.open c.end-in-loop-at.ensures.within.1 in omega (arith, u, inside)) in
+    learned_moved Forward c.args.self.now c.args.input.now c.args.cache.now c.read.new.cache c.end_search-then-is_some.new.self c.end_search-then-is_some.ensures.value (λ nothing.
+    let before = c.loop-at.invariant.learned begin (nothing_first c.args.cache.now c.loop-at.cache c.read.new.cache c.loop-at.invariant.grown c.in_ok-next.ensures.grown nothing) in
+    learned_ends Forward c.args.self.now c.loop-at.cache c.read.new.cache c.args.input.now k c.follow_fwd-stop.result.id (Some _) c.in_ok-next.ensures.grown c.in_ok-next.ensures.of at.named read
+    c.in_ok-next.ensures.learned c.in_ok-next.ensures.below
+    (stops_ends Forward c.args.self.now c.loop-at.cache.store.table c.read.new.cache.store.table c.args.input.now k c.follow_fwd-stop.result.id c.in_ok-next.next _ c.loop-at.found c.found_at-found.result at read c.in_ok-next.ensures.named (λ byte e. subst (λ v. is_quit c.args.self.now.quits v ≡ false) (some_inj e) c.in_ok-next.ensures.clean) (c.follow_fwd-stop.result.at, place, c.found_at-found.ensures) (sym c.get_earliest.ensures ∙ c.if-get_earliest.true) (some_is c.found_at-found.result c.if-is_some.ensures))
+    before.0 (c.follow_fwd-stop.ensures.learned c.loop-at.found c.loop-at.invariant.at before.1)
+    (nothing_second c.args.cache.now c.loop-at.cache c.read.new.cache c.loop-at.invariant.grown c.in_ok-next.ensures.grown nothing))
+
+pub returns-in_err-next-clause-grown : goal.returns-in_err-next-clause-grown
+returns-in_err-next-clause-grown c = grown_trans c.args.cache.now c.loop-at.cache c.read.new.cache c.loop-at.invariant.grown c.in_err-next.ensures.grown
+
+pub returns-in_err-next-clause-idle : goal.returns-in_err-next-clause-idle
+returns-in_err-next-clause-idle c = λ knows.
+    let from : c.args.input.now.start ≤ c.follow_fwd-stop.result.at = omega (arith, c.loop-at.invariant.from, c.follow_fwd-stop.ensures.from) in
+    let inside : c.follow_fwd-stop.result.at < c.args.input.now.end = omega (arith, c.if-stop-end.false, c.end-in-loop-at.ensures.end) in
+    let k : ℕ = c.follow_fwd-stop.result.at - c.args.input.now.start in
+    let place : c.follow_fwd-stop.result.at ≡ c.args.input.now.start + k = omega (arith, from) in
+    let at : IsAt Forward c.args.self.now c.loop-at.cache.store.table c.args.input.now k c.follow_fwd-stop.result.id c.loop-at.found = c.follow_fwd-stop.ensures.at c.loop-at.found c.loop-at.invariant.at in
+    let read : next (tape_in Forward c.args.input.now) k ≡ Some _ = forward_read c.args.input.now c.haystack.result.now c.follow_fwd-stop.result.at c.follow_fwd-stop.result.at from (omega (arith, inside)) c.end-in-loop-at.ensures.within.1 (omega (arith, inside, c.end-in-loop-at.ensures.within.1)) c.haystack.ensures.same refl in
+    let few : k ≤ length (tape_in Forward c.args.input.now).bytes = (let u : c.args.input.now.end - c.args.input.now.start ≡ length (tape_in Forward c.args.input.now).bytes = forward_units c.args.input.now c.requires.open c.end-in-loop-at.ensures.within.1 in omega (arith, u, inside)) in
+    let still : KnowsPass Forward c.args.self.now c.loop-at.cache.store c.args.input.now = knows_still Forward c.args.self.now c.args.input.now c.args.cache.now c.loop-at.cache c.loop-at.invariant.grown (c.loop-at.invariant.idle knows) knows in
+    let idle = c.in_err-next.ensures.idle (knows_here Forward c.args.self.now c.loop-at.cache.store c.args.input.now k c.follow_fwd-stop.result.id c.loop-at.found (Some _) still c.requires.may at few c.in_err-next.ensures.alive read) in
+    (idle.0 ∙ c.loop-at.invariant.idle knows, if_err c.from_residual.result _ _ c.from_residual.ensures.1 idle.1)
+
+pub read-requires-clause-valid : goal.read-requires-clause-valid
+read-requires-clause-valid c =
+    let at : IsAt Forward c.args.self.now c.loop-at.cache.store.table c.args.input.now (c.follow_fwd-stop.result.at - c.args.input.now.start) c.follow_fwd-stop.result.id c.loop-at.found = c.follow_fwd-stop.ensures.at c.loop-at.found c.loop-at.invariant.at in
+    (_, at.named)
+
+pub returns-then-stop-end-clause-grown : goal.returns-then-stop-end-clause-grown
+returns-then-stop-end-clause-grown c = grown_trans c.args.cache.now c.loop-at.cache c.find_end_fwd.new.cache c.loop-at.invariant.grown c.find_end_fwd.ensures.grown
+
+pub returns-then-stop-end-clause-idle : goal.returns-then-stop-end-clause-idle
+returns-then-stop-end-clause-idle c = λ knows.
+    let still : KnowsPass Forward c.args.self.now c.loop-at.cache.store c.args.input.now = knows_still Forward c.args.self.now c.args.input.now c.args.cache.now c.loop-at.cache c.loop-at.invariant.grown (c.loop-at.invariant.idle knows) knows in
+    let idle = c.find_end_fwd.ensures.idle still in
+    (idle.0 ∙ c.loop-at.invariant.idle knows, idle.1)
+
+pub returns-then-stop-end-clause-learned : goal.returns-then-stop-end-clause-learned
+returns-then-stop-end-clause-learned c = λ begin nothing.
+    let same : c.follow_fwd-stop.result.at - c.args.input.now.start ≡ c.args.input.now.end - c.args.input.now.start = omega (arith, c.if-stop-end.true, c.follow_fwd-stop.ensures.within, c.end-in-loop-at.ensures.end) in
+    let before = c.loop-at.invariant.learned begin (nothing_first c.args.cache.now c.loop-at.cache c.find_end_fwd.new.cache c.loop-at.invariant.grown c.find_end_fwd.ensures.grown nothing) in
+    c.find_end_fwd.ensures.learned before.0
+    (subst (HasLearned Forward c.args.self.now c.loop-at.cache.store c.args.input.now) same (c.follow_fwd-stop.ensures.learned c.loop-at.found c.loop-at.invariant.at before.1))
+    (nothing_second c.args.cache.now c.loop-at.cache c.find_end_fwd.new.cache c.loop-at.invariant.grown c.find_end_fwd.ensures.grown nothing)
+
+pub returns-clause-grown : goal.returns-clause-grown
+returns-clause-grown c = grown_trans c.args.cache.now c.loop-at.cache c.find_end_fwd-2.new.cache c.loop-at.invariant.grown c.find_end_fwd-2.ensures.grown
+
+pub returns-clause-idle : goal.returns-clause-idle
+returns-clause-idle c = λ knows.
+    let still : KnowsPass Forward c.args.self.now c.loop-at.cache.store c.args.input.now = knows_still Forward c.args.self.now c.args.input.now c.args.cache.now c.loop-at.cache c.loop-at.invariant.grown (c.loop-at.invariant.idle knows) knows in
+    let idle = c.find_end_fwd-2.ensures.idle still in
+    (idle.0 ∙ c.loop-at.invariant.idle knows, idle.1)
+
+pub returns-clause-learned : goal.returns-clause-learned
+returns-clause-learned c = λ begin nothing.
+    let same : c.loop-at.at - c.args.input.now.start ≡ c.args.input.now.end - c.args.input.now.start = omega (arith, c.loop-at-test.false, c.loop-at.invariant.within, c.end.ensures.end) in
+    let before = c.loop-at.invariant.learned begin (nothing_first c.args.cache.now c.loop-at.cache c.find_end_fwd-2.new.cache c.loop-at.invariant.grown c.find_end_fwd-2.ensures.grown nothing) in
+    c.find_end_fwd-2.ensures.learned before.0 (subst (HasLearned Forward c.args.self.now c.loop-at.cache.store c.args.input.now) same before.1)
+    (nothing_second c.args.cache.now c.loop-at.cache c.find_end_fwd-2.new.cache c.loop-at.invariant.grown c.find_end_fwd-2.ensures.grown nothing)

@@ -38,7 +38,7 @@ returns-in_err-id-clause-errors c =
     if_err c.from_residual.result _ _ c.from_residual.ensures.1
     (step_refuses Backward c.args.self.now c.loop-at.cache.store.table c.read.new.cache.store c.args.input.now k c.follow_rev-stop.result.id (c.follow_rev-stop.result.at - 1) (c.follow_rev-stop.result.at - 1) _ c.loop-at.found c.in_err-id.field-0.0
     at few c.in_err-id.ensures.alive read
-    (span_unit_offset c.args.input.now c.follow_rev-stop.result.at above below) (span_given_up_offset c.args.input.now c.follow_rev-stop.result.at above below) c.in_err-id.ensures.errors c.requires.behind)
+    (span_unit_offset c.args.input.now c.follow_rev-stop.result.at above below) (span_given_up_offset c.args.input.now c.follow_rev-stop.result.at above below) c.in_err-id.ensures.errors c.requires.may.0)
 
 pub returns-then-is_dead-clause-found : goal.returns-then-is_dead-clause-found
 returns-then-is_dead-clause-found c =
@@ -61,7 +61,7 @@ returns-then-is_dead-clause-clean c =
     let read : next (tape_in Backward c.args.input.now) k ≡ Some _ = span_read c.args.input.now c.follow_rev-stop.result.at above below c.haystack.result.now c.haystack.ensures.within.1 c.haystack.ensures.same in
     clean_dead Backward c.args.self.now c.loop-at.cache.store.table c.read.new.cache.store.table c.args.input.now k c.follow_rev-stop.result.id c.in_ok-id.id _ c.loop-at.found None
     at read c.in_ok-id.ensures.named (quit_free c.args.self.now _ c.in_ok-id.ensures.clean)
-    (λ l. (c.in_ok-id.ensures.dead _ l).0 (c.if-is_dead.ensures.0 refl)) c.requires.behind
+    (λ l. (c.in_ok-id.ensures.dead _ l).0 (c.if-is_dead.ensures.0 refl)) c.requires.may.0
 
 pub found_at-found-requires-clause-leads : goal.found_at-found-requires-clause-leads
 found_at-found-requires-clause-leads c =
@@ -96,7 +96,7 @@ returns-then-is_some-clause-clean c =
     let read : next (tape_in Backward c.args.input.now) k ≡ Some _ = span_read c.args.input.now c.follow_rev-stop.result.at above below c.haystack.result.now c.haystack.ensures.within.1 c.haystack.ensures.same in
     clean_ends Backward c.args.self.now c.loop-at.cache.store.table c.read.new.cache.store.table c.args.input.now k c.follow_rev-stop.result.id c.in_ok-id.id _ c.loop-at.found c.found_at-found.result
     at read c.in_ok-id.ensures.named (quit_free c.args.self.now _ c.in_ok-id.ensures.clean)
-    (c.follow_rev-stop.result.at, span_place c.args.input.now c.follow_rev-stop.result.at above below, c.found_at-found.ensures) (sym c.get_earliest.ensures ∙ c.if-get_earliest.true) (some_is c.found_at-found.result c.if-is_some.ensures) c.requires.behind
+    (c.follow_rev-stop.result.at, span_place c.args.input.now c.follow_rev-stop.result.at above below, c.found_at-found.ensures) (sym c.get_earliest.ensures ∙ c.if-get_earliest.true) (some_is c.found_at-found.result c.if-is_some.ensures) c.requires.may.0
 
 pub loop-at-preserved : goal.loop-at-preserved
 loop-at-preserved c =

@@ -1,7 +1,14 @@
-use Rattle.std.proofs.Common.{◌≡◌, ◌∙◌, ◌-◌, ◌+◌, ◌<◌, ◌^◌, ℕ, suc, List, ap, get_or, subst, arith}
+use Rattle.std.proofs.Common.{◌≡◌, ◌∙◌, ◌-◌, ◌+◌, ◌<◌, ◌≤◌, ◌^◌, ℕ, suc, List, length, Some, ap, get_or, sym, subst, arith}
 use Rattle.std.proofs.lemmas.Grind.{common_steps}
+use Rattle.automata_base.specs.Classes.{class_in}
+use Rattle.automata_base.specs.Lists.{nth}
+use Rattle.automata_base.specs.Paths.{next}
 use Rattle.automata_base.specs.Tapes.{Forward}
-use Rattle.automata_hybrid.specs.Passing.{IsAt}
+use Rattle.automata_hybrid.specs.Bounds.{IsKnownTransition}
+use Rattle.automata_hybrid.specs.Machine.{Machine}
+use Rattle.automata_hybrid.specs.Passing.{HasLearned, IsAt}
+use Rattle.automata_hybrid.specs.Searches.{tape_in}
+use Rattle.automata_hybrid.proofs.Knowing.{learned_more}
 use Rattle.automata_hybrid.proofs.Searching.{more_untagged}
 use Rattle.automata_hybrid.proofs.Stepping.{HasRow-valid}
 use Rattle.automata_hybrid.proofs.Units.{forward_unit, nth_read}
@@ -11,11 +18,22 @@ pub loop-at-preserved : goal.loop-at-preserved
 loop-at-preserved c =
     let low : c.next_state_untagged-next.result < 2 ^ 27 = grind (arith, common_steps, c.if-is_tagged-2.ensures) in
     let here : c.loop-at.at < c.args.input.now.end = omega (arith, c.loop-at-test.true, c.end-end.ensures.end) in
-    let next_k : suc (c.loop-at.at - c.args.input.now.start) ≡ c.loop-at.at + 1 - c.args.input.now.start = omega (arith, c.requires.from, c.loop-at.invariant.from) in
+    let k : ℕ = c.loop-at.at - c.args.input.now.start in
+    let next_k : suc k ≡ c.loop-at.at + 1 - c.args.input.now.start = omega (arith, c.requires.from, c.loop-at.invariant.from) in
+    let read : ℕ = get_or c.haystack-haystack.result.now c.loop-at.at 0 in
+    let byte : nth c.args.input.now.haystack c.loop-at.at ≡ Some read = nth_read c.args.input.now.haystack c.loop-at.at _ 0 (omega (arith, here, c.end-end.ensures.within.1)) (ap (λ (h : List ℕ). get_or h c.loop-at.at 0) c.haystack-haystack.ensures.same) in
+    let unit : next (tape_in Forward c.args.input.now) k ≡ Some read = forward_unit c.args.input.now c.loop-at.at (omega (arith, c.requires.from, c.loop-at.invariant.from)) (omega (arith, here)) c.end-end.ensures.within.1 ∙ byte in
+    let known : IsKnownTransition c.args.cache.now.store c.loop-at.id (class_in c.args.self.now.classes read) = subst (λ n. n < 2 ^ 31) c.next_state_untagged-next.ensures.value (omega (arith, low)) in
+    let below : class_in c.args.self.now.classes read < c.args.self.now.stride = c.see_classes.ensures.bytes read (c.haystack-haystack.ensures.bytes _ _ byte) in
     record {
       valid = HasRow-valid c.args.cache.now.store.table c.next_state_untagged-next.result (c.next_state_untagged-next.ensures.row (omega (arith, low))) (omega (arith, low));
-      untagged = omega (arith, low);
+      untagged = low;
       from = omega (arith, c.loop-at.invariant.from);
       within = omega (arith, c.loop-at-test.true);
-      at = λ found h. subst (λ k. IsAt Forward c.args.self.now c.args.cache.now.store.table c.args.input.now k c.next_state_untagged-next.result found) next_k (more_untagged Forward c.args.self.now c.args.cache.now.store.table c.args.input.now (c.loop-at.at - c.args.input.now.start) c.loop-at.id c.next_state_untagged-next.result _ found low (forward_unit c.args.input.now c.loop-at.at (omega (arith, c.requires.from, c.loop-at.invariant.from)) (omega (arith, here)) c.end-end.ensures.within.1 ∙ nth_read c.args.input.now.haystack c.loop-at.at _ 0 (omega (arith, here, c.end-end.ensures.within.1)) (ap (λ (h : List ℕ). get_or h c.loop-at.at 0) c.haystack-haystack.ensures.same)) c.next_state_untagged-next.ensures.quit c.next_state_untagged-next.ensures.named (c.loop-at.invariant.at found h));
+      at = λ found h. subst (λ n. IsAt Forward c.args.self.now c.args.cache.now.store.table c.args.input.now n c.next_state_untagged-next.result found) next_k (more_untagged Forward c.args.self.now c.args.cache.now.store.table c.args.input.now k c.loop-at.id c.next_state_untagged-next.result _ found low unit c.next_state_untagged-next.ensures.quit c.next_state_untagged-next.ensures.named (c.loop-at.invariant.at found h));
+      learned = λ found h first. (
+          let at : IsAt Forward c.args.self.now c.args.cache.now.store.table c.args.input.now k c.loop-at.id found = c.loop-at.invariant.at found h in
+          subst (HasLearned Forward c.args.self.now c.args.cache.now.store c.args.input.now) next_k
+          (learned_more Forward c.args.self.now c.args.cache.now.store c.args.input.now k c.loop-at.id (Some read) (c.loop-at.invariant.learned found h first) at.named unit known
+          (subst (λ (m : Machine). class_in c.args.self.now.classes read < m.stride) (sym c.requires.of) below)));
     }

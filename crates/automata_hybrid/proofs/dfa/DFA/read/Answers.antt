@@ -1,7 +1,7 @@
 use Rattle.std.proofs.Common.{refl, sym, subst}
 use Rattle.automata_hybrid.specs.Searches.{IsStepRefusal}
 use Rattle.automata_hybrid.specs.Table.{Rows, Names}
-use Rattle.automata_hybrid.proofs.Searching.{false_true}
+use Rattle.automata_hybrid.proofs.Searching.{false_true, if_err}
 use Rattle.automata_hybrid.proofs.Growing.{grown_moved, grown_trans}
 use Rattle.automata_hybrid.proofs.Stepping.{dead_tagged, unquit, quits}
 use Rattle.automata_hybrid.proofs.dfa.DFA.read.Goals as goal
@@ -41,3 +41,8 @@ returns-then-is_quit-clause-grown c =
 pub returns-clause-grown : goal.returns-clause-grown
 returns-clause-grown c =
     grown_trans c.args.cache.now c.move_search.new.self c.step.new.cache (grown_moved c.args.cache.now c.move_search.new.self c.move_search.ensures.value) c.in_ok-next.ensures.grown
+
+pub returns-in_err-next-clause-errors : goal.returns-in_err-next-clause-errors
+returns-in_err-next-clause-errors c =
+    if_err c.from_residual.result _ _ c.from_residual.ensures.1
+    (λ q n. c.in_err-next.ensures.errors q c.args.at (subst (λ (t : Rows). Names t c.args.id q) (sym c.move_search.ensures.table) n))

@@ -9,9 +9,9 @@ returns-in-Ok-clause-quit c = λ e.
     ok_one (c.in-Ok.ensures.quit (c.see_ids.ensures.low c.args.id c.requires.valid.0 c.requires.valid.1) e)
 
 pub returns-in-Err-clause-errors : goal.returns-in-Err-clause-errors
-returns-in-Err-clause-errors c = λ q n.
-    subst (IsStepRefusal c.args.self.now c.next_state.new.cache.store q _ c.args.at c.args.at) (sym c.refusal.ensures)
-    (refused c.args.self.now c.args.cache.now.store c.next_state.new.cache.store q _ c.args.at c.in-Err.error (ap (λ (v : CacheView). v.store) c.in-Err.ensures.err) (λ e. c.in-Err.ensures.gives_up e q n))
+returns-in-Err-clause-errors c = λ q quit_at n.
+    subst (IsStepRefusal c.args.self.now c.next_state.new.cache.store q _ quit_at c.args.at) (sym c.refusal.ensures)
+    (refused c.args.self.now c.args.cache.now.store c.next_state.new.cache.store q _ quit_at c.args.at c.in-Err.error (ap (λ (v : CacheView). v.store) c.in-Err.ensures.err) (λ e. c.in-Err.ensures.gives_up e q n))
 
 pub returns-in-Ok-clause-learned : goal.returns-in-Ok-clause-learned
 returns-in-Ok-clause-learned c = λ nothing.

@@ -1,4 +1,4 @@
-use Rattle.std.proofs.Common.{◌≡◌, ◌^◌, ◌<◌, ◌≤◌, arith, ap, ◌∙◌, refl, subst, sym, inr}
+use Rattle.std.proofs.Common.{rules, ◌≡◌, ◌^◌, ◌<◌, ◌≤◌, arith, ap, ◌∙◌, refl, subst, sym, inr}
 use Rattle.std.proofs.lemmas.Grind.{common_steps}
 use Rattle.std.specs.Prelude.{slice_index}
 use Rattle.automata_base.specs.Powerset.{Powerset, cost}
@@ -8,7 +8,7 @@ use Rattle.automata_hybrid.specs.Table.{Leads}
 use Rattle.automata_hybrid.specs.Bounds.{IsKnownTransition, IsComputed, cell_of}
 use Rattle.automata_hybrid.specs.Kept.{ClearedNothing}
 use Rattle.automata_hybrid.proofs.Bounding.{Leads-known}
-use Rattle.automata_hybrid.proofs.Effects.{Keeps-computed, rises-computed, written-computed, roomy-computed}
+use Rattle.automata_hybrid.proofs.Effects.{Keeps-computed, written-computed, roomy-computed}
 use Rattle.automata_hybrid.proofs.Growing.{grown_counted, grown_one, grown_same}
 use Rattle.automata_hybrid.proofs.Stepping.{unknown_free}
 use Rattle.automata_hybrid.proofs.dfa.cache.Cache.next.Goals.{After-see_ids}
@@ -69,12 +69,11 @@ pub returns-in_err-next-clause-grown : goal.returns-in_err-next-clause-grown
 returns-in_err-next-clause-grown c = grown_counted c.args.self.now c.compute_next.new.self c.in_err-next.ensures.err
 
 pub returns-clause-clears_more : goal.returns-clause-clears_more
-returns-clause-clears_more c = rises-computed c.args.self.now.store c.compute_next.new.self.store c.args.id c.args.class c.in_ok-next.next c.requires.valid.0 (target c) c.see_cells.ensures.clears (done c)
+returns-clause-clears_more c = search rules
 
 pub returns-clause-grown : goal.returns-clause-grown
 returns-clause-grown c =
     let of : c.compute_next.new.self.store.table.of ≡ c.args.self.now.store.table.of = c.in_ok-next.ensures.of ∙ sym c.requires.of in
     grown_one c.args.self.now c.compute_next.new.self of
-    (c.see_slots-2.ensures ∙ (ap (λ (m : Machine). m.slots) of ∙ sym c.see_slots.ensures))
     c.in_ok-next.ensures.counted
     (returns-clause-clears_more c) (returns-clause-kept c) (returns-clause-roomy c)
