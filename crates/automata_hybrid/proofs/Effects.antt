@@ -1,16 +1,19 @@
 -- What a step or a start does to a cache, from its whole effect.
-use Rattle.std.proofs.Common.{◌≡◌, ℕ, ◌+◌, ◌-◌, ◌*◌, ◌^◌, ◌<◌, ◌≤◌, [], ◌∷◌, ◌++◌, length, get_or, set, Option, Some, false, refl, sym, ap, ◌∙◌, subst, inl, inr, arith, length-append, length-set}
+use Rattle.std.proofs.Common.{◌≡◌, ℕ, ◌+◌, ◌-◌, ◌*◌, ◌^◌, ◌<◌, ◌≤◌, None, [], ◌∷◌, ◌++◌, length, get_or, set, Option, Some, false, refl, sym, ap, ◌∙◌, subst, inl, inr, arith, length-append, length-set, true, ⊎_elim, ◌⊎◌}
 use Rattle.std.specs.List.{sum_by}
 use Rattle.std.proofs.lemmas.List.{get_or-set_same, get_or-set_other, get_or_append_left}
 use Rattle.std.proofs.lemmas.List.Sums.{sum_by_push}
 use Rattle.automata_base.specs.Powerset.{Powerset, cost}
 use Rattle.automata_hybrid.specs.declared.dfa.row.Row.{Row}
 use Rattle.automata_hybrid.specs.Machine.{Machine, greatest, template_of}
-use Rattle.automata_hybrid.specs.Table.{Rows, Names, HasCells, row_cost, cell_at}
+use Rattle.automata_hybrid.specs.Table.{id_of, Rows, Names, HasCells, row_cost, cell_at, with_row}
 use Rattle.automata_hybrid.specs.Bounds.{Stored, usage, Fits, grown, cell_of, with_next, with_start, IsKnownTransition, IsKnownStart, IsComputed, IsStarted}
-use Rattle.automata_hybrid.specs.Kept.{Keeps, ClearedNothing, HasRoom}
+use Rattle.automata_hybrid.specs.Kept.{Keeps, ClearedNothing, HasRoom, Has}
 use Rattle.automata_hybrid.specs.Progressing.{saturated}
-use Rattle.automata_hybrid.proofs.Rows.{Names-more}
+use Rattle.automata_base.specs.Equal.{powerset_eq, powerset_eq-Decides}
+use Rattle.automata_base.proofs.Paths.Orders.{none_some}
+use Rattle.std.proofs.lemmas.Bool.{cases_Bool}
+use Rattle.automata_hybrid.proofs.Rows.{Names-more, find_id-push_other}
 
 some_id : (a b : ℕ) → ◌≡◌ {A = Option ℕ} (Some a) (Some b) → a ≡ b
 some_id a b e = cc
@@ -66,7 +69,7 @@ module _ (old new : Stored) (id class next : ℕ) (q target : Powerset) (has : H
         let k : Keeps old (with_next (grown old r) id class next) = Keeps-trans old (grown old r) (with_next (grown old r) id class next) refl (Keeps-grown old r has) (Keeps-next (grown old r) id class next still) in
         let same : new ≡ with_next (grown old r) id class next = e ∙ (λ i. with_next (g i) (at i) class next) in
         subst (λ (s : Stored). Keeps old s) (sym same) k
-    go (inr (lacks, from, between, inr (fits, g), n, e)) =
+    go (inr (lacks, from, between, inr (full, may, g), n, e)) =
         let count : new.clears ≡ saturated (old.clears + 1) = ap (λ (s : Stored). s.clears) e ∙ ap (λ (s : Stored). s.clears) g in
         absurd (counts_up old.clears new.clears count nothing.0 nothing.1)
 
@@ -80,7 +83,7 @@ module _ (old new : Stored) (id class next : ℕ) (q target : Powerset) (has : H
         let within : cell_at id class < length (old.table.cells ++ template_of old.table.of) = omega (arith, length-append old.table.cells (template_of old.table.of), has id class (q, named) below) in
         let same : new ≡ with_next (grown old r) id class next = e ∙ (λ i. with_next (g i) (at i) class next) in
         ap (λ (s : Stored). cell_of s id class) same ∙ get_or-set_same (old.table.cells ++ template_of old.table.of) (cell_at id class) next 0 within
-    go (inr (lacks, from, between, inr (fits, g), n, e)) =
+    go (inr (lacks, from, between, inr (full, may, g), n, e)) =
         let count : new.clears ≡ saturated (old.clears + 1) = ap (λ (s : Stored). s.clears) e ∙ ap (λ (s : Stored). s.clears) g in
         absurd (counts_up old.clears new.clears count nothing.0 nothing.1)
 
@@ -135,7 +138,7 @@ roomy-computed old new id class next q target states wide little (inr (lacks, fr
     let r : Row = record { state = target; started = false } in
     let same : new ≡ with_next (grown old r) from class next = e ∙ ap (λ (s : Stored). with_next s from class next) g in
     (subst (λ (s : Stored). HasRoom s states) (sym same) (HasRoom-next (grown old r) from class next states (HasRoom-grown old r states wide little room)), ap (λ (s : Stored). s.clears) same)
-roomy-computed old new id class next q target states wide little (inr (lacks, from, between, inr (full, g), n, e)) room = absurd (full (HasRoom-Fits old states (cost target) little room))
+roomy-computed old new id class next q target states wide little (inr (lacks, from, between, inr (full, may, g), n, e)) room = absurd (full (HasRoom-Fits old states (cost target) little room))
 
 module _ (old new : Stored) (slot id : ℕ) (r : Row) (done : IsStarted old slot r new id) where
   pub Keeps-started : HasCells old.table → (IsKnownStart old slot → ⊥) → ClearedNothing old new → Keeps old new
@@ -145,7 +148,7 @@ module _ (old new : Stored) (slot id : ℕ) (r : Row) (done : IsStarted old slot
     go (inr (lacks, between, inl (fits, g), e)) =
         let k : Keeps old (with_start (grown old r) slot id) = Keeps-trans old (grown old r) (with_start (grown old r) slot id) refl (Keeps-grown old r has) (Keeps-start (grown old r) slot id free) in
         subst (λ (s : Stored). Keeps old s) (sym (e ∙ ap (λ (s : Stored). with_start s slot id) g)) k
-    go (inr (lacks, between, inr (full, g), e)) =
+    go (inr (lacks, between, inr (full, may, g), e)) =
         let count : new.clears ≡ saturated (old.clears + 1) = ap (λ (s : Stored). s.clears) e ∙ ap (λ (s : Stored). s.clears) g in
         absurd (counts_up old.clears new.clears count nothing.0 nothing.1)
 
@@ -159,4 +162,16 @@ module _ (old new : Stored) (slot id : ℕ) (r : Row) (done : IsStarted old slot
     go (inr (lacks, between, inl (fits, g), e)) =
         let same : new ≡ with_start (grown old r) slot id = e ∙ ap (λ (s : Stored). with_start s slot id) g in
         (subst (λ (s : Stored). HasRoom s states) (sym same) (HasRoom-start (grown old r) slot id states (HasRoom-grown old r states wide little room)), ap (λ (s : Stored). s.clears) same)
-    go (inr (lacks, between, inr (full, g), e)) = absurd (full (HasRoom-Fits old states (cost r.state) little room))
+    go (inr (lacks, between, inr (full, may, g), e)) = absurd (full (HasRoom-Fits old states (cost r.state) little room))
+
+-- the rows of a table that another has, and one more
+pub only-grown :
+    (old t : Rows) (r : Row) → ((q : Powerset) → id_of old q ≡ None → id_of t q ≡ None)
+    → (p : Powerset) → Has (with_row t r) p → Has old p ⊎ (p ≡ r.state)
+only-grown old t r absent p has = go (id_of old p) refl where
+  go : (o : Option ℕ) → id_of old p ≡ o → Has old p ⊎ (p ≡ r.state)
+  go (Some k) e = inl (record { id = k; named = e })
+  go None e = ⊎_elim
+      (λ (same : powerset_eq p r.state ≡ true). inr ((powerset_eq-Decides p r.state).0 same))
+      (λ (other : powerset_eq p r.state ≡ false). absurd (none_some (sym (absent p e) ∙ sym (find_id-push_other t.of.stride (3 * t.of.stride) p t.rows r other) ∙ has.named)))
+      (cases_Bool (powerset_eq p r.state))

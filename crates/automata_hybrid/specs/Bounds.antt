@@ -109,10 +109,11 @@ IsKnownStart c slot = slice_index c.starts slot < unknown_id
 abbrev pub KeepsStarts : List ℕ → List ℕ → Type 0
 KeepsStarts old new = (slot : ℕ) → slice_index old slot < unknown_id → slice_index new slot < unknown_id
 
--- what adding a state that is absent does: it grows where the state fits, and else clears first and saves a row
+-- what adding a state that is absent does: it grows where the state fits, and else clears first, which the clear rule
+-- allows, and saves a row
 abbrev pub IsAdded : Stored → ℕ → Row → Stored → Type 0
 IsAdded old from r new =
-    (Fits old (cost r.state) × (new ≡ grown old r)) ⊎ ((Fits old (cost r.state) → ⊥) × (new ≡ grown (cleared_saving old from) r))
+    (Fits old (cost r.state) × (new ≡ grown old r)) ⊎ ((Fits old (cost r.state) → ⊥) × (refuses_to_clear old ≡ false) × (new ≡ grown (cleared_saving old from) r))
 
 -- the whole effect of computing a transition from a state to a target: it is written, at the row as it is after the target
 -- was added, if no row had it
@@ -121,10 +122,10 @@ IsComputed old id class q target new next =
     (Leads old.table next target × (new ≡ with_next old id class next))
     ⊎ (Lacks old.table target × (from : ℕ) × (between : Stored) × IsAdded old id (record { state = target; started = false }) between × Names between.table from q × (new ≡ with_next between from class next))
 
--- what adding a start state that is absent does: it grows where the state fits, and else clears first
+-- what adding a start state that is absent does: it grows where the state fits, and else clears first, which the clear rule allows
 abbrev pub IsAddedStart : Stored → Row → Stored → Type 0
 IsAddedStart old r new =
-    (Fits old (cost r.state) × (new ≡ grown old r)) ⊎ ((Fits old (cost r.state) → ⊥) × (new ≡ grown (cleared old) r))
+    (Fits old (cost r.state) × (new ≡ grown old r)) ⊎ ((Fits old (cost r.state) → ⊥) × (refuses_to_clear old ≡ false) × (new ≡ grown (cleared old) r))
 
 -- the whole effect of computing a start: it is written, after its row was added, if no row had the state
 abbrev pub IsStarted : Stored → (slot : ℕ) → Row → Stored → ℕ → Type 0

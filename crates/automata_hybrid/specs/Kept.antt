@@ -21,5 +21,6 @@ pub record HasRoom (c : Stored) (states : ℕ) : Type 0 where
   pub offsets : (k : ℕ) → k < states → length c.table.cells + k * c.table.of.stride < offset_limit
 
 -- some row has this state
-abbrev pub Has : Rows → Powerset → Type 0
-Has t q = (id : ℕ) × Names t id q
+pub record Has (t : Rows) (q : Powerset) : Type 0 where
+  pub id : ℕ
+  pub named : Names t id q

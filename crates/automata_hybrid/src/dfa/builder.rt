@@ -39,9 +39,10 @@ impl Builder {
         }
     }
 
-    /// Sets what is set in these settings, and keeps the rest.
+    /// Sets what is set in these settings, and keeps the rest; the builder holds it from then on.
     pub fn configure(&mut self, config: Config) -> &mut Builder
-        ensures { result.now ≡ overwritten self.old config }
+        ensures same { result.ghost_name ≡ self.entry.ghost_name }
+        ensures value { result.now ≡ overwritten self.old config }
     {
         self.config = self.config.overwrite(config);
         self

@@ -1,4 +1,4 @@
-ghost use Rattle.std.specs.Prelude.{ℕ, ◌≡◌, ◌+◌, ◌*◌, ◌^◌, ◌<◌, ◌≤◌, None, Some, IfOk, IfErr, OnOk, OnErr, slice_index, length, is_some, IsSome, IsTrue, ◌↔◌, true, false, IsBitSet};
+ghost use Rattle.std.specs.Prelude.{ℕ, ◌≡◌, ◌+◌, ◌*◌, ◌^◌, ◌<◌, ◌≤◌, None, Some, IfOk, IfErr, OnOk, OnErr, slice_index, length, is_some, IsSome, IsTrue, ◌↔◌, ◌⊎◌, true, false, IsBitSet};
 ghost use Rattle.automata_base.specs.Powerset.{Powerset, cost};
 ghost use Rattle.automata_base.specs.Powerset.{dead};
 ghost use Rattle.automata_base.specs.Steps.{successor, start_state_of};
@@ -7,6 +7,7 @@ ghost use Rattle.automata_hybrid.specs.Machine.{Machine, next_of, start_of, grea
 ghost use Rattle.automata_hybrid.specs.Ids.{dead_id, unknown_id, fixed_from, offset_limit};
 ghost use Rattle.automata_hybrid.specs.Table.{id_of, Names, IsValid, Leads, MayLead, IsCell, HasCells};
 ghost use Rattle.automata_hybrid.specs.Bounds.{Fits, refuses_to_clear, IsCacheError, KeepsStarts, IsAdded, IsAddedStart, cell_of, with_next, with_start, with_searched, grown, cleared, usage, settings_of};
+ghost use Rattle.automata_hybrid.specs.Kept.{Has};
 ghost use Rattle.automata_hybrid.specs.Caches.{IsRow, IsCacheOf, fresh_cache, counted, with_store};
 ghost use Rattle.automata_hybrid.specs.Progressing.{started, updated, finished, total_len};
 
@@ -168,6 +169,7 @@ impl Cache {
         requires cost { cost state ≤ greatest dfa.now }
         requires of { IsOwn dfa.now.nfa state }
         ensures effect { OnOk result (IsAdded self.old.store from (record { state = state; started = false }) self.new.store) }
+        ensures only { OnOk result ((p : Powerset) → Has self.new.store.table p → Has self.old.store.table p ⊎ (p ≡ state)) }
         ensures starts { OnOk result (KeepsStarts self.old.store.starts self.new.store.starts) }
         ensures from { IfOk result (λ p. (q : Powerset) → Names self.old.store.table from q → Names self.new.store.table p.0 q) }
         ensures to { IfOk result (λ p. Names self.new.store.table p.1 state) }
@@ -234,6 +236,7 @@ impl Cache {
         ensures effect { OnOk result (IsAddedStart self.old.store (record { state = state; started = started }) self.new.store) }
         ensures named { IfOk result (λ id. Names self.new.store.table id state) }
         ensures slots { OnOk result (length self.new.store.starts ≡ length self.old.store.starts) }
+        ensures only { OnOk result ((p : Powerset) → Has self.new.store.table p → Has self.old.store.table p ⊎ (p ≡ state)) }
         ensures starts { OnOk result (KeepsStarts self.old.store.starts self.new.store.starts) }
         ensures of { IsCacheOf self.new dfa.now }
         ensures count { self.new.count ≡ self.old.count }

@@ -11,10 +11,10 @@ ghost use Rattle.automata_hybrid.specs.Starting.{quit_behind, start_refusal, sea
 ghost use Rattle.automata_hybrid.specs.Slots.{supports, slot_of, slot_behind};
 ghost use Rattle.automata_hybrid.specs.Table.{id_of, Names, IsValid, Leads};
 ghost use Rattle.automata_hybrid.specs.Bounds.{Fits, refuses_to_clear, IsCacheError, IsKnownStart, IsStarted, KeepsStarts, GivesUp};
-ghost use Rattle.automata_hybrid.specs.Kept.{Keeps, ClearedNothing, HasRoom};
 ghost use Rattle.automata_hybrid.specs.Growing.{IsGrown};
-ghost use Rattle.automata_hybrid.specs.Ids.{dead_id};
+ghost use Rattle.automata_hybrid.specs.Kept.{Keeps, ClearedNothing, HasRoom, Has};
 ghost use Rattle.automata_hybrid.specs.Caches.{IsCacheOf, counted, HasRow};
+ghost use Rattle.automata_hybrid.specs.Ids.{dead_id};
 
 use crate::dfa::DFA;
 use crate::dfa::cache::{Cache, Found};
@@ -48,6 +48,9 @@ impl Cache {
         ensures err { OnErr result (self.new ≡ counted self.old) }
         ensures kept { ClearedNothing self.old.store self.new.store → Keeps self.old.store self.new.store }
         ensures roomy { (states : ℕ) → HasRoom self.old.store (states + 1) → HasRoom self.new.store states × (self.new.store.clears ≡ self.old.store.clears) }
+        ensures only { (p : Powerset) → Has self.new.store.table p → Has self.old.store.table p ⊎ (p ≡ start_state_of dfa.now.nfa mode prev) }
+        ensures computed { (IsKnownStart self.old.store slot → ⊥) → self.new.count ≡ self.old.count + 1 }
+        ensures refused { (IsKnownStart self.old.store slot → ⊥) → GivesUp self.old.store (start_state_of dfa.now.nfa mode prev) → OnOk result ⊥ }
         ensures clears_more { self.old.store.clears ≤ self.new.store.clears }
         ensures grown { IsGrown self.old self.new }
     {
@@ -79,6 +82,7 @@ impl Cache {
         ensures found { OnOk result (IsKnownStart self.new.store slot) }
         ensures written { IfOk result (λ n. slice_index self.new.store.starts slot ≡ n) }
         ensures effect { IfOk result (λ n. IsStarted self.old.store slot (record { state = start_state_of dfa.now.nfa mode prev; started = dfa.now.specialized }) self.new.store n) }
+        ensures only { OnOk result ((p : Powerset) → Has self.new.store.table p → Has self.old.store.table p ⊎ (p ≡ start_state_of dfa.now.nfa mode prev)) }
         ensures cheap { OnOk result (cost (start_state_of dfa.now.nfa mode prev) ≤ greatest dfa.now) }
         ensures gives_up { IfErr result (λ e. IsCacheError e → GivesUp self.old.store (start_state_of dfa.now.nfa mode prev)) }
         ensures err { OnErr result (self.new ≡ counted self.old) }
@@ -216,18 +220,21 @@ impl DFA {
         ensures known { KnowsStart self.now cache.old.store config.now.anchored config.now.look_behind → result ≡ Ok (known_start self.now cache.old.store config.now.anchored config.now.look_behind) }
         ensures unchanged { KnowsStart self.now cache.old.store config.now.anchored config.now.look_behind → cache.new ≡ cache.old }
 
-        // Behind the last pattern there is no slot, and the start is dead.
-        ensures past { MayStart self.now config.now.anchored config.now.look_behind → self.now.slots ≤ slot_behind self.now config.now.anchored config.now.look_behind → (result ≡ Ok (dead_id self.now.stride)) × (cache.new ≡ cache.old) }
+        // What isn't known is determinised once, and this is all that it does to the cache.
+        ensures computed { MayStart self.now config.now.anchored config.now.look_behind → slot_behind self.now config.now.anchored config.now.look_behind < self.now.slots → (KnowsStart self.now cache.old.store config.now.anchored config.now.look_behind → ⊥) → cache.new.count ≡ cache.old.count + 1 }
+        ensures effect { slot_behind self.now config.now.anchored config.now.look_behind < self.now.slots → (KnowsStart self.now cache.old.store config.now.anchored config.now.look_behind → ⊥) → IfOk result (λ n. IsStarted cache.old.store (slot_behind self.now config.now.anchored config.now.look_behind) (record { state = start_state_of self.now.nfa config.now.anchored config.now.look_behind; started = self.now.specialized }) cache.new.store n) }
+        ensures full { (KnowsStart self.now cache.old.store config.now.anchored config.now.look_behind → ⊥) → GivesUp cache.old.store (start_state_of self.now.nfa config.now.anchored config.now.look_behind) → OnOk result ⊥ }
+        ensures only { (p : Powerset) → Has cache.new.store.table p → Has cache.old.store.table p ⊎ (p ≡ start_state_of self.now.nfa config.now.anchored config.now.look_behind) }
+
+        // Past the last pattern the start is dead, and nothing changes.
+        ensures past { MayStart self.now config.now.anchored config.now.look_behind → self.now.slots ≤ slot_behind self.now config.now.anchored config.now.look_behind → result ≡ Ok (dead_id self.now.stride) }
+        ensures past_unchanged { MayStart self.now config.now.anchored config.now.look_behind → self.now.slots ≤ slot_behind self.now config.now.anchored config.now.look_behind → cache.new ≡ cache.old }
 
         // Until the next clear nothing is lost. A start is known from now on, also where the cache was cleared.
-        ensures kept { ClearedNothing cache.old.store cache.new.store → Keeps cache.old.store cache.new.store }
+        ensures grown { IsGrown cache.old cache.new }
         ensures learned { slot_behind self.now config.now.anchored config.now.look_behind < self.now.slots → OnOk result (KnowsStart self.now cache.new.store config.now.anchored config.now.look_behind) }
         ensures written { slot_behind self.now config.now.anchored config.now.look_behind < self.now.slots → IfOk result (λ n. known_start self.now cache.new.store config.now.anchored config.now.look_behind ≡ n) }
 
-        // Where there is room for one more state, nothing is cleared, and the room for the others is left.
-        ensures roomy { (states : ℕ) → HasRoom cache.old.store (states + 1) → HasRoom cache.new.store states × (cache.new.store.clears ≡ cache.old.store.clears) }
-        ensures clears_more { cache.old.store.clears ≤ cache.new.store.clears }
-        ensures grown { IsGrown cache.old cache.new }
     {
         if let Some(byte) = self.quits_behind(config.get_look_behind()) {
             return Err(StartError::Quit { byte });
@@ -264,12 +271,13 @@ impl DFA {
         ensures known { IsKnownStart cache.old.store slot → result ≡ Ok (slice_index cache.old.store.starts slot) }
         ensures unchanged { IsKnownStart cache.old.store slot → cache.new ≡ cache.old }
         ensures errors { MayStart self.now mode prev → IfErr result (IsStartRefusal self.now cache.old.store mode prev) }
-        ensures kept { ClearedNothing cache.old.store cache.new.store → Keeps cache.old.store cache.new.store }
+        ensures computed { (IsKnownStart cache.old.store slot → ⊥) → cache.new.count ≡ cache.old.count + 1 }
+        ensures effect { (IsKnownStart cache.old.store slot → ⊥) → IfOk result (λ n. IsStarted cache.old.store slot (record { state = start_state_of self.now.nfa mode prev; started = self.now.specialized }) cache.new.store n) }
+        ensures full { (IsKnownStart cache.old.store slot → ⊥) → GivesUp cache.old.store (start_state_of self.now.nfa mode prev) → OnOk result ⊥ }
+        ensures only { (p : Powerset) → Has cache.new.store.table p → Has cache.old.store.table p ⊎ (p ≡ start_state_of self.now.nfa mode prev) }
+        ensures grown { IsGrown cache.old cache.new }
         ensures found { OnOk result (IsKnownStart cache.new.store slot) }
         ensures written { IfOk result (λ n. slice_index cache.new.store.starts slot ≡ n) }
-        ensures roomy { (states : ℕ) → HasRoom cache.old.store (states + 1) → HasRoom cache.new.store states × (cache.new.store.clears ≡ cache.old.store.clears) }
-        ensures clears_more { cache.old.store.clears ≤ cache.new.store.clears }
-        ensures grown { IsGrown cache.old cache.new }
         ensures err { OnErr result (cache.new ≡ counted cache.old) }
     {
         cache.see_slots();
@@ -305,18 +313,21 @@ impl DFA {
         ensures known { KnowsStart self.now cache.old.store input.now.anchored (byte_before input.now.haystack input.now.start) → result ≡ Ok (known_start self.now cache.old.store input.now.anchored (byte_before input.now.haystack input.now.start)) }
         ensures unchanged { KnowsStart self.now cache.old.store input.now.anchored (byte_before input.now.haystack input.now.start) → cache.new ≡ cache.old }
 
-        // Behind the last pattern there is no slot, and the start is dead.
-        ensures past { MayStart self.now input.now.anchored (byte_before input.now.haystack input.now.start) → self.now.slots ≤ slot_behind self.now input.now.anchored (byte_before input.now.haystack input.now.start) → (result ≡ Ok (dead_id self.now.stride)) × (cache.new ≡ cache.old) }
+        // What isn't known is determinised once, and this is all that it does to the cache.
+        ensures computed { MayStart self.now input.now.anchored (byte_before input.now.haystack input.now.start) → slot_behind self.now input.now.anchored (byte_before input.now.haystack input.now.start) < self.now.slots → (KnowsStart self.now cache.old.store input.now.anchored (byte_before input.now.haystack input.now.start) → ⊥) → cache.new.count ≡ cache.old.count + 1 }
+        ensures effect { slot_behind self.now input.now.anchored (byte_before input.now.haystack input.now.start) < self.now.slots → (KnowsStart self.now cache.old.store input.now.anchored (byte_before input.now.haystack input.now.start) → ⊥) → IfOk result (λ n. IsStarted cache.old.store (slot_behind self.now input.now.anchored (byte_before input.now.haystack input.now.start)) (record { state = start_state_of self.now.nfa input.now.anchored (byte_before input.now.haystack input.now.start); started = self.now.specialized }) cache.new.store n) }
+        ensures full { (KnowsStart self.now cache.old.store input.now.anchored (byte_before input.now.haystack input.now.start) → ⊥) → GivesUp cache.old.store (start_state_of self.now.nfa input.now.anchored (byte_before input.now.haystack input.now.start)) → OnOk result ⊥ }
+        ensures only { (p : Powerset) → Has cache.new.store.table p → Has cache.old.store.table p ⊎ (p ≡ start_state_of self.now.nfa input.now.anchored (byte_before input.now.haystack input.now.start)) }
+
+        // Past the last pattern the start is dead, and nothing changes.
+        ensures past { MayStart self.now input.now.anchored (byte_before input.now.haystack input.now.start) → self.now.slots ≤ slot_behind self.now input.now.anchored (byte_before input.now.haystack input.now.start) → result ≡ Ok (dead_id self.now.stride) }
+        ensures past_unchanged { MayStart self.now input.now.anchored (byte_before input.now.haystack input.now.start) → self.now.slots ≤ slot_behind self.now input.now.anchored (byte_before input.now.haystack input.now.start) → cache.new ≡ cache.old }
 
         // Until the next clear nothing is lost. A start is known from now on, also where the cache was cleared.
-        ensures kept { ClearedNothing cache.old.store cache.new.store → Keeps cache.old.store cache.new.store }
+        ensures grown { IsGrown cache.old cache.new }
         ensures learned { slot_behind self.now input.now.anchored (byte_before input.now.haystack input.now.start) < self.now.slots → OnOk result (KnowsStart self.now cache.new.store input.now.anchored (byte_before input.now.haystack input.now.start)) }
         ensures written { slot_behind self.now input.now.anchored (byte_before input.now.haystack input.now.start) < self.now.slots → IfOk result (λ n. known_start self.now cache.new.store input.now.anchored (byte_before input.now.haystack input.now.start) ≡ n) }
 
-        // Where there is room for one more state, nothing is cleared, and the room for the others is left.
-        ensures roomy { (states : ℕ) → HasRoom cache.old.store (states + 1) → HasRoom cache.new.store states × (cache.new.store.clears ≡ cache.old.store.clears) }
-        ensures clears_more { cache.old.store.clears ≤ cache.new.store.clears }
-        ensures grown { IsGrown cache.old cache.new }
     {
         let config = start::Config::from_input_forward(input);
         match self.start_state(cache, &config) {
@@ -354,18 +365,21 @@ impl DFA {
         ensures known { KnowsStart self.now cache.old.store input.now.anchored (nth input.now.haystack input.now.end) → result ≡ Ok (known_start self.now cache.old.store input.now.anchored (nth input.now.haystack input.now.end)) }
         ensures unchanged { KnowsStart self.now cache.old.store input.now.anchored (nth input.now.haystack input.now.end) → cache.new ≡ cache.old }
 
-        // Behind the last pattern there is no slot, and the start is dead.
-        ensures past { MayStart self.now input.now.anchored (nth input.now.haystack input.now.end) → self.now.slots ≤ slot_behind self.now input.now.anchored (nth input.now.haystack input.now.end) → (result ≡ Ok (dead_id self.now.stride)) × (cache.new ≡ cache.old) }
+        // What isn't known is determinised once, and this is all that it does to the cache.
+        ensures computed { MayStart self.now input.now.anchored (nth input.now.haystack input.now.end) → slot_behind self.now input.now.anchored (nth input.now.haystack input.now.end) < self.now.slots → (KnowsStart self.now cache.old.store input.now.anchored (nth input.now.haystack input.now.end) → ⊥) → cache.new.count ≡ cache.old.count + 1 }
+        ensures effect { slot_behind self.now input.now.anchored (nth input.now.haystack input.now.end) < self.now.slots → (KnowsStart self.now cache.old.store input.now.anchored (nth input.now.haystack input.now.end) → ⊥) → IfOk result (λ n. IsStarted cache.old.store (slot_behind self.now input.now.anchored (nth input.now.haystack input.now.end)) (record { state = start_state_of self.now.nfa input.now.anchored (nth input.now.haystack input.now.end); started = self.now.specialized }) cache.new.store n) }
+        ensures full { (KnowsStart self.now cache.old.store input.now.anchored (nth input.now.haystack input.now.end) → ⊥) → GivesUp cache.old.store (start_state_of self.now.nfa input.now.anchored (nth input.now.haystack input.now.end)) → OnOk result ⊥ }
+        ensures only { (p : Powerset) → Has cache.new.store.table p → Has cache.old.store.table p ⊎ (p ≡ start_state_of self.now.nfa input.now.anchored (nth input.now.haystack input.now.end)) }
+
+        // Past the last pattern the start is dead, and nothing changes.
+        ensures past { MayStart self.now input.now.anchored (nth input.now.haystack input.now.end) → self.now.slots ≤ slot_behind self.now input.now.anchored (nth input.now.haystack input.now.end) → result ≡ Ok (dead_id self.now.stride) }
+        ensures past_unchanged { MayStart self.now input.now.anchored (nth input.now.haystack input.now.end) → self.now.slots ≤ slot_behind self.now input.now.anchored (nth input.now.haystack input.now.end) → cache.new ≡ cache.old }
 
         // Until the next clear nothing is lost. A start is known from now on, also where the cache was cleared.
-        ensures kept { ClearedNothing cache.old.store cache.new.store → Keeps cache.old.store cache.new.store }
+        ensures grown { IsGrown cache.old cache.new }
         ensures learned { slot_behind self.now input.now.anchored (nth input.now.haystack input.now.end) < self.now.slots → OnOk result (KnowsStart self.now cache.new.store input.now.anchored (nth input.now.haystack input.now.end)) }
         ensures written { slot_behind self.now input.now.anchored (nth input.now.haystack input.now.end) < self.now.slots → IfOk result (λ n. known_start self.now cache.new.store input.now.anchored (nth input.now.haystack input.now.end) ≡ n) }
 
-        // Where there is room for one more state, nothing is cleared, and the room for the others is left.
-        ensures roomy { (states : ℕ) → HasRoom cache.old.store (states + 1) → HasRoom cache.new.store states × (cache.new.store.clears ≡ cache.old.store.clears) }
-        ensures clears_more { cache.old.store.clears ≤ cache.new.store.clears }
-        ensures grown { IsGrown cache.old cache.new }
     {
         let config = start::Config::from_input_reverse(input);
         match self.start_state(cache, &config) {

@@ -1,12 +1,12 @@
-ghost use Rattle.std.specs.Prelude.{ℕ, ◌≡◌, ◌+◌, ◌*◌, ◌<◌, ◌≤◌, None, Some, IfOk, IfErr, OnOk, OnErr, length, slice_index, Ok, true, false};
+ghost use Rattle.std.specs.Prelude.{ℕ, ◌≡◌, ◌+◌, ◌*◌, ◌<◌, ◌≤◌, None, Some, IfOk, IfErr, OnOk, OnErr, length, slice_index, Ok, true, false, ◌⊎◌};
 ghost use Rattle.automata_base.specs.Powerset.{Powerset, cost};
 ghost use Rattle.automata_base.specs.Steps.{successor};
 ghost use Rattle.automata_hybrid.specs.Owned.{IsOwn};
 ghost use Rattle.automata_hybrid.specs.Machine.{next_of, start_of, template_of, greatest};
 ghost use Rattle.automata_hybrid.specs.Table.{id_of, Names, IsValid, Leads};
 ghost use Rattle.automata_hybrid.specs.Bounds.{GivesUp, Fits, refuses_to_clear, IsCacheError, IsKnownTransition, cell_of, IsNext, KeepsStarts, IsComputed};
-ghost use Rattle.automata_hybrid.specs.Kept.{Keeps, ClearedNothing, HasRoom};
 ghost use Rattle.automata_hybrid.specs.Growing.{IsGrown};
+ghost use Rattle.automata_hybrid.specs.Kept.{Keeps, ClearedNothing, HasRoom, Has};
 ghost use Rattle.automata_hybrid.specs.Caches.{IsCacheOf, HasRow, counted};
 ghost use Rattle.automata_hybrid.specs.Ids.{quit_id, unknown_id, fixed_from, offset_limit};
 ghost use Rattle.automata_base.specs.Classes.{class_in, eoi_class, is_quit};
@@ -44,6 +44,8 @@ impl Cache {
         ensures learned { ClearedNothing self.old.store self.new.store → IfOk result (λ n. IsKnownTransition self.new.store id class) }
         ensures written { ClearedNothing self.old.store self.new.store → IfOk result (λ n. cell_of self.new.store id class ≡ n) }
         ensures roomy { (states : ℕ) → HasRoom self.old.store (states + 1) → HasRoom self.new.store states × (self.new.store.clears ≡ self.old.store.clears) }
+        ensures only { (q : Powerset) → Names self.old.store.table id q → (p : Powerset) → Has self.new.store.table p → Has self.old.store.table p ⊎ (p ≡ successor dfa.now.nfa dfa.now.kind q unit) }
+        ensures refused { (IsKnownTransition self.old.store id class → ⊥) → (q : Powerset) → Names self.old.store.table id q → GivesUp self.old.store (successor dfa.now.nfa dfa.now.kind q unit) → OnOk result ⊥ }
         ensures clears_more { self.old.store.clears ≤ self.new.store.clears }
         ensures grown { IsGrown self.old self.new }
     {
@@ -74,6 +76,7 @@ impl Cache {
         ensures of { IsCacheOf self.new dfa.now }
         ensures named { IfOk result (λ n. (q : Powerset) → Names self.old.store.table id q → Leads self.new.store.table n (next_of dfa.now q class)) }
         ensures effect { IfOk result (λ n. (q : Powerset) → Names self.old.store.table id q → IsComputed self.old.store id class q (successor dfa.now.nfa dfa.now.kind q unit) self.new.store n) }
+        ensures only { OnOk result ((q : Powerset) → Names self.old.store.table id q → (p : Powerset) → Has self.new.store.table p → Has self.old.store.table p ⊎ (p ≡ successor dfa.now.nfa dfa.now.kind q unit)) }
         ensures cheap { OnOk result ((q : Powerset) → Names self.old.store.table id q → cost (successor dfa.now.nfa dfa.now.kind q unit) ≤ greatest dfa.now) }
         ensures counted { self.new.count ≡ self.old.count + 1 }
         ensures starts { OnOk result (KeepsStarts self.old.store.starts self.new.store.starts) }
@@ -121,19 +124,21 @@ impl DFA {
 
         ensures known { id < fixed_from → IsKnownTransition cache.old.store id (class_in self.now.classes byte) → result ≡ Ok (cell_of cache.old.store id (class_in self.now.classes byte)) }
         ensures unchanged { IsKnownTransition cache.old.store id (class_in self.now.classes byte) → cache.new ≡ cache.old }
+
+        // What isn't known is determinised once, and this is all that it does to the cache.
+        ensures computed { id < fixed_from → (IsKnownTransition cache.old.store id (class_in self.now.classes byte) → ⊥) → cache.new.count ≡ cache.old.count + 1 }
+        ensures effect { id < fixed_from → (IsKnownTransition cache.old.store id (class_in self.now.classes byte) → ⊥) → IfOk result (λ n. (q : Powerset) → Names cache.old.store.table id q → IsComputed cache.old.store id (class_in self.now.classes byte) q (successor self.now.nfa self.now.kind q (Some byte)) cache.new.store n) }
+        ensures refused { (q : Powerset) → Names cache.old.store.table id q → (IsKnownTransition cache.old.store id (class_in self.now.classes byte) → ⊥) → GivesUp cache.old.store (successor self.now.nfa self.now.kind q (Some byte)) → OnOk result ⊥ }
+        ensures only { (q : Powerset) → Names cache.old.store.table id q → (p : Powerset) → Has cache.new.store.table p → Has cache.old.store.table p ⊎ (p ≡ successor self.now.nfa self.now.kind q (Some byte)) }
         ensures starts { KeepsStarts cache.old.store.starts cache.new.store.starts }
         ensures gives_up { IfErr result (λ e. IsCacheError e → (q : Powerset) → Names cache.old.store.table id q → GivesUp cache.old.store (successor self.now.nfa self.now.kind q (Some byte))) }
         ensures err { OnErr result (cache.new ≡ counted cache.old) }
 
         // Until the next clear nothing is lost, and the transition is known.
-        ensures kept { ClearedNothing cache.old.store cache.new.store → Keeps cache.old.store cache.new.store }
+        ensures grown { IsGrown cache.old cache.new }
         ensures learned { id < fixed_from → ClearedNothing cache.old.store cache.new.store → IfOk result (λ n. IsKnownTransition cache.new.store id (class_in self.now.classes byte)) }
         ensures written { id < fixed_from → ClearedNothing cache.old.store cache.new.store → IfOk result (λ n. cell_of cache.new.store id (class_in self.now.classes byte) ≡ n) }
 
-        // Where there is room for one more state, nothing is cleared, and the room for the others is left.
-        ensures roomy { (states : ℕ) → HasRoom cache.old.store (states + 1) → HasRoom cache.new.store states × (cache.new.store.clears ≡ cache.old.store.clears) }
-        ensures clears_more { cache.old.store.clears ≤ cache.new.store.clears }
-        ensures grown { IsGrown cache.old cache.new }
     {
         cache.see_ids();
         if id.is_fixed() {
@@ -165,19 +170,21 @@ impl DFA {
 
         ensures known { id < fixed_from → IsKnownTransition cache.old.store id (eoi_class self.now.classes) → result ≡ Ok (cell_of cache.old.store id (eoi_class self.now.classes)) }
         ensures unchanged { IsKnownTransition cache.old.store id (eoi_class self.now.classes) → cache.new ≡ cache.old }
+
+        // What isn't known is determinised once, and this is all that it does to the cache.
+        ensures computed { id < fixed_from → (IsKnownTransition cache.old.store id (eoi_class self.now.classes) → ⊥) → cache.new.count ≡ cache.old.count + 1 }
+        ensures effect { id < fixed_from → (IsKnownTransition cache.old.store id (eoi_class self.now.classes) → ⊥) → IfOk result (λ n. (q : Powerset) → Names cache.old.store.table id q → IsComputed cache.old.store id (eoi_class self.now.classes) q (successor self.now.nfa self.now.kind q None) cache.new.store n) }
+        ensures refused { (q : Powerset) → Names cache.old.store.table id q → (IsKnownTransition cache.old.store id (eoi_class self.now.classes) → ⊥) → GivesUp cache.old.store (successor self.now.nfa self.now.kind q None) → OnOk result ⊥ }
+        ensures only { (q : Powerset) → Names cache.old.store.table id q → (p : Powerset) → Has cache.new.store.table p → Has cache.old.store.table p ⊎ (p ≡ successor self.now.nfa self.now.kind q None) }
         ensures starts { KeepsStarts cache.old.store.starts cache.new.store.starts }
         ensures gives_up { IfErr result (λ e. IsCacheError e → (q : Powerset) → Names cache.old.store.table id q → GivesUp cache.old.store (successor self.now.nfa self.now.kind q None)) }
         ensures err { OnErr result (cache.new ≡ counted cache.old) }
 
         // Until the next clear nothing is lost, and the transition is known.
-        ensures kept { ClearedNothing cache.old.store cache.new.store → Keeps cache.old.store cache.new.store }
+        ensures grown { IsGrown cache.old cache.new }
         ensures learned { id < fixed_from → ClearedNothing cache.old.store cache.new.store → IfOk result (λ n. IsKnownTransition cache.new.store id (eoi_class self.now.classes)) }
         ensures written { id < fixed_from → ClearedNothing cache.old.store cache.new.store → IfOk result (λ n. cell_of cache.new.store id (eoi_class self.now.classes) ≡ n) }
 
-        // Where there is room for one more state, nothing is cleared, and the room for the others is left.
-        ensures roomy { (states : ℕ) → HasRoom cache.old.store (states + 1) → HasRoom cache.new.store states × (cache.new.store.clears ≡ cache.old.store.clears) }
-        ensures clears_more { cache.old.store.clears ≤ cache.new.store.clears }
-        ensures grown { IsGrown cache.old cache.new }
     {
         cache.see_ids();
         if id.is_fixed() {

@@ -1,4 +1,4 @@
-ghost use Rattle.std.specs.Prelude.{ℕ, ◌≡◌, ◌+◌, ◌-◌, ◌*◌, ◌/◌, ◌%◌, ◌^◌, ◌<◌, ◌≤◌, ◌↔◌, None, Some, IfOk, OnOk, OnErr, length, slice_index, slice_get, sum_by, IsTrue, IfErr, is_ok, is_some, true, false, IsBitSet};
+ghost use Rattle.std.specs.Prelude.{ℕ, ◌≡◌, ◌+◌, ◌-◌, ◌*◌, ◌/◌, ◌%◌, ◌^◌, ◌<◌, ◌≤◌, ◌↔◌, ◌⊎◌, None, Some, IfOk, OnOk, OnErr, length, slice_index, slice_get, sum_by, IsTrue, IfErr, is_ok, is_some, true, false, IsBitSet};
 ghost use Rattle.automata_base.specs.Powerset.{Powerset, cost};
 ghost use Rattle.automata_base.specs.Powerset.{dead};
 ghost use Rattle.automata_base.specs.Accounting.{minimum_capacity};
@@ -8,6 +8,7 @@ ghost use Rattle.automata_hybrid.specs.Machine.{next_of, start_of, greatest, tem
 ghost use Rattle.automata_hybrid.specs.Table.{id_of, Names, IsValid, with_row, with_cell, Leads, MayLead, IsCell, HasCells};
 ghost use Rattle.automata_hybrid.specs.Clears.{IsPut, row_of};
 ghost use Rattle.automata_hybrid.specs.Bounds.{usage, Fits, refuses_to_clear, cleared, with_table, grown, put_found, cleared_saving, IsCacheError, cell_of, with_next, fresh_store, settings_of, with_start, IsAdded, IsAddedStart, KeepsStarts};
+ghost use Rattle.automata_hybrid.specs.Kept.{Has};
 ghost use Rattle.automata_hybrid.specs.Caches.{IsRow};
 ghost use Rattle.automata_hybrid.specs.Progressing.{started, updated, finished, total_len};
 
@@ -370,6 +371,7 @@ impl Store {
         ensures fits { Fits self.old (cost state) → OnOk result (self.new ≡ grown self.old (record { state = state; started = false })) }
         ensures clears { (Fits self.old (cost state) → ⊥) → OnOk result (self.new ≡ grown (cleared_saving self.old from) (record { state = state; started = false })) }
         ensures effect { OnOk result (IsAdded self.old from (record { state = state; started = false }) self.new) }
+        ensures only { OnOk result ((p : Powerset) → Has self.new.table p → Has self.old.table p ⊎ (p ≡ state)) }
         ensures starts { OnOk result (KeepsStarts self.old.starts self.new.starts) }
         ensures from { IfOk result (λ p. (q : Powerset) → Names self.old.table from q → Names self.new.table p.0 q) }
         ensures to { IfOk result (λ p. Names self.new.table p.1 state) }
@@ -412,6 +414,7 @@ impl Store {
         ensures named { IfOk result (λ id. Names self.new.table id state) }
         ensures slots { OnOk result (length self.new.starts ≡ length self.old.starts) }
         ensures of { OnOk result (self.new.table.of ≡ self.old.table.of) }
+        ensures only { OnOk result ((p : Powerset) → Has self.new.table p → Has self.old.table p ⊎ (p ≡ state)) }
         ensures starts { OnOk result (KeepsStarts self.old.starts self.new.starts) }
         ensures gives_up { IfErr result (λ e. IsCacheError e → (Fits self.old (cost state) → ⊥) × (refuses_to_clear self.old ≡ true)) }
         ensures err { OnErr result (self.new ≡ self.old) }

@@ -1,5 +1,9 @@
-use Rattle.std.proofs.Common.{◌^◌, ◌<◌, ◌≤◌, arith}
+use Rattle.std.proofs.Common.{◌^◌, ◌<◌, ◌≤◌, arith, subst, None}
 use Rattle.std.proofs.lemmas.Grind.{common_steps}
+use Rattle.automata_base.specs.Powerset.{Powerset}
+use Rattle.automata_base.specs.Steps.{successor}
+use Rattle.automata_hybrid.specs.Table.{Names}
+use Rattle.automata_hybrid.specs.Bounds.{IsKnownTransition, IsComputed}
 use Rattle.automata_hybrid.proofs.dfa.DFA.next_eoi_state.Goals as goal
 
 pub returns-then-is_fixed-clause-named : goal.returns-then-is_fixed-clause-named
@@ -7,3 +11,7 @@ returns-then-is_fixed-clause-named c = λ q n.
     let low : c.args.id < 2 ^ 29 = c.see_ids.ensures.low c.args.id q n in
     let high : 2 ^ 29 ≤ c.args.id = grind (arith, common_steps, c.if-is_fixed.ensures) in
     absurd (omega (arith, low, high))
+
+pub returns-clause-effect : goal.returns-clause-effect
+returns-clause-effect c =
+    subst (λ k. c.args.id < 2 ^ 29 → (IsKnownTransition c.args.cache.now.store c.args.id k → ⊥) → (q : Powerset) → Names c.args.cache.now.store.table c.args.id q → IsComputed c.args.cache.now.store c.args.id k q (successor c.args.self.now.nfa c.args.self.now.kind q None) c.next.new.self.store c.in_ok-next.next) c.end_class-class.ensures.value (λ low free. c.in_ok-next.ensures.effect free)

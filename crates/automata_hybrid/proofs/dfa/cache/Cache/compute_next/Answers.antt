@@ -1,9 +1,10 @@
-use Rattle.std.proofs.Common.{◌≡◌, ◌∙◌, ap, sym, subst, inr, false}
+use Rattle.std.proofs.Common.{◌≡◌, ◌∙◌, ap, sym, subst, inr, false, ◌⊎◌}
 use Rattle.automata_base.specs.Powerset.{Powerset}
 use Rattle.automata_base.specs.Steps.{successor}
 use Rattle.automata_hybrid.specs.Table.{Names, Lacks}
 use Rattle.automata_hybrid.specs.Bounds.{Stored, IsAdded}
 use Rattle.automata_hybrid.specs.Caches.{CacheView}
+use Rattle.automata_hybrid.specs.Kept.{Has}
 use Rattle.automata_hybrid.specs.Founds.{IsFound}
 use Rattle.automata_hybrid.specs.declared.dfa.cache.Found.{Found}
 use Rattle.automata_hybrid.specs.declared.dfa.cache.Found.TheVariants.{New}
@@ -22,3 +23,12 @@ returns-in_ok-from-in-New-clause-effect c = λ q n.
     let added : IsAdded old c.args.id (record { state = target; started = false }) c.add_next.new.self.store = subst (λ (p : Powerset). IsAdded old c.args.id (record { state = p; started = false }) c.add_next.new.self.store) (found.0 ∙ key) before in
     let named : Names c.add_next.new.self.store.table c.in_ok-from-in-New.from q = c.in_ok-from-in-New.ensures.from q (subst (λ (v : Stored). Names v.table c.args.id q) (sym s) n) in
     inr (lacks, c.in_ok-from-in-New.from, c.add_next.new.self.store, added, named, ap (λ (v : CacheView). v.store) c.set_next-in-New.ensures)
+
+pub returns-in_ok-from-in-New-clause-only : goal.returns-in_ok-from-in-New-clause-only
+returns-in_ok-from-in-New-clause-only c = λ q n p has.
+    let target : Powerset = successor c.args.dfa.now.nfa c.args.dfa.now.kind q c.args.unit in
+    let s : c.resolve.new.self.store ≡ c.args.self.now.store = ap (λ (v : CacheView). v.store) (c.resolve.ensures.same ∙ c.determinise.ensures.counted) in
+    let found : IsFound c.determinise.new.self.store.table c.in_ok-key.key (New c.in-New.state) = subst (λ (f : Found). IsFound c.determinise.new.self.store.table c.in_ok-key.key f) c.in-New.is c.in_ok-to.ensures.found in
+    let written = subst (λ (v : CacheView). Has v.store.table p) c.set_next-in-New.ensures has in
+    let before = c.in_ok-from-in-New.ensures.only p (record { id = written.id; named = written.named }) in
+    subst (λ (v : Stored). Has v.table p ⊎ (p ≡ target)) s (subst (λ (x : Powerset). Has c.resolve.new.self.store.table p ⊎ (p ≡ x)) (found.0 ∙ c.in_ok-key.ensures.successor q n) before)

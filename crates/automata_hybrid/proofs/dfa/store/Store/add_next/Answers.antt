@@ -1,9 +1,15 @@
-use Rattle.std.proofs.Common.{◌≡◌, ◌∙◌, ap, sym, subst, ℕ, List, None}
+use Rattle.std.proofs.Common.{◌≡◌, ◌∙◌, ap, sym, subst, ℕ, List, None, false, inr, ◌⊎◌}
+use Rattle.automata_base.specs.Powerset.{Powerset, cost}
+use Rattle.automata_hybrid.specs.Clears.{row_of}
+use Rattle.automata_hybrid.specs.Kept.{Has}
+use Rattle.automata_hybrid.specs.declared.dfa.row.Row.{Row}
+use Rattle.automata_hybrid.proofs.Effects.{only-grown}
+use Rattle.automata_hybrid.proofs.Searching.{false_true}
+use Rattle.automata_hybrid.proofs.dfa.store.Store.add_next.Goals.{After-drop-self-inside-6}
 use Rattle.automata_hybrid.specs.Owned.{IsOwn}
 use Rattle.automata_hybrid.specs.Machine.{Machine}
 use Rattle.automata_hybrid.specs.Table.{Names, id_of}
-use Rattle.automata_hybrid.specs.Bounds.{Stored, KeepsStarts}
-use Rattle.automata_base.specs.Powerset.{cost}
+use Rattle.automata_hybrid.specs.Bounds.{Stored, Fits, KeepsStarts, grown, with_table, put_found, cleared_saving}
 use Rattle.automata_hybrid.proofs.dfa.store.Store.add_next.Goals as goal
 
 pub add_row-requires-2-clause-fits : goal.add_row-requires-2-clause-fits
@@ -33,3 +39,23 @@ returns-clause-starts c =
     let d : c.fresh-2.inside.starts.items ≡ c.add_row-2.new.self.starts = ap (λ (v : Stored). v.starts) c.fresh-2.view_is in
     let k : KeepsStarts c.args.self.now.starts c.in_ok-fresh.fresh.starts = c.in_ok-fresh.ensures.starts in
     subst (λ (xs : List ℕ). KeepsStarts c.args.self.now.starts xs) (sym (d ∙ a ∙ b)) k
+
+last : (c : After-drop-self-inside-6) → c.add_row-2.new.self ≡ grown (cleared_saving c.args.self.now c.args.from) (record { state = c.args.state; started = false })
+last c =
+    let r : Row = record { state = c.args.state; started = false } in
+    let saved : c.keep_saved.new.self ≡ cleared_saving c.args.self.now c.args.from = c.in_ok-from.ensures.row ∙ (λ i. with_table (c.in_ok-fresh.ensures.value i) (put_found (c.in_ok-fresh.ensures.value i).table (row_of (c.self.view_is i).table c.args.from))) in
+    c.in_ok-to-2.ensures.ok ∙ ap (λ (v : Stored). grown v r) saved
+
+pub returns-clause-effect : goal.returns-clause-effect
+returns-clause-effect c = inr (λ fits. false_true (c.if-fits.ensures.1 (subst (λ n. Fits c.args.self.now n) (sym c.cost.ensures) fits)), sym c.refuses.ensures ∙ c.if-refuses.false, c.fresh-2.view_is ∙ last c)
+
+pub returns-then-fits-clause-only : goal.returns-then-fits-clause-only
+returns-then-fits-clause-only c =
+    let r : Row = record { state = c.args.state; started = false } in
+    subst (λ (v : Stored). (p : Powerset) → Has v.table p → Has c.args.self.now.table p ⊎ (p ≡ c.args.state)) (sym c.in_ok-to.ensures.ok) (only-grown c.args.self.now.table c.args.self.now.table r (λ q none. none))
+
+pub returns-clause-only : goal.returns-clause-only
+returns-clause-only c =
+    let r : Row = record { state = c.args.state; started = false } in
+    let absent : (q : Powerset) → id_of c.args.self.now.table q ≡ None → id_of c.keep_saved.new.self.table q ≡ None = λ q none. c.in_ok-from.ensures.absent q (subst (λ (v : Stored). id_of v.table q ≡ None) (sym c.self.view_is) none) (c.in_ok-fresh.ensures.absent q none) in
+    subst (λ (v : Stored). (p : Powerset) → Has v.table p → Has c.args.self.now.table p ⊎ (p ≡ c.args.state)) (sym (c.fresh-2.view_is ∙ c.in_ok-to-2.ensures.ok)) (only-grown c.args.self.now.table c.keep_saved.new.self.table r absent)

@@ -1,5 +1,10 @@
-use Rattle.std.proofs.Common.{sym, subst}
-use Rattle.automata_base.specs.Powerset.{cost}
+use Rattle.std.proofs.Common.{◌≡◌, ◌∙◌, ap, sym, subst, inr, ◌⊎◌}
+use Rattle.automata_base.specs.Powerset.{Powerset, cost}
+use Rattle.automata_hybrid.specs.Bounds.{Stored, Fits, grown}
+use Rattle.automata_hybrid.specs.Kept.{Has}
+use Rattle.automata_hybrid.specs.declared.dfa.row.Row.{Row}
+use Rattle.automata_hybrid.proofs.Effects.{only-grown}
+use Rattle.automata_hybrid.proofs.Searching.{false_true}
 use Rattle.automata_hybrid.specs.Owned.{IsOwn}
 use Rattle.automata_hybrid.specs.Machine.{Machine}
 use Rattle.automata_hybrid.proofs.dfa.store.Store.add_start.Goals as goal
@@ -9,3 +14,18 @@ add_row-requires-2-clause-fits c = c.see_room.ensures.fits (cost c.args.state) (
 
 pub add_row-requires-2-clause-of : goal.add_row-requires-2-clause-of
 add_row-requires-2-clause-of c = subst (λ (m : Machine). IsOwn m.nfa c.args.state) (sym c.in_ok-fresh.ensures.of) c.requires.of
+
+pub returns-clause-effect : goal.returns-clause-effect
+returns-clause-effect c =
+    let r : Row = record { state = c.args.state; started = c.args.started } in
+    inr (λ fits. false_true (c.if-fits.ensures.1 (subst (λ n. Fits c.args.self.now n) (sym c.cost.ensures) fits)), sym c.refuses.ensures ∙ c.if-refuses.false, c.in_ok-id-2.ensures.ok ∙ ap (λ (v : Stored). grown v r) c.in_ok-fresh.ensures.value)
+
+pub returns-then-fits-clause-only : goal.returns-then-fits-clause-only
+returns-then-fits-clause-only c =
+    let r : Row = record { state = c.args.state; started = c.args.started } in
+    subst (λ (v : Stored). (p : Powerset) → Has v.table p → Has c.args.self.now.table p ⊎ (p ≡ c.args.state)) (sym c.in_ok-id.ensures.ok) (only-grown c.args.self.now.table c.args.self.now.table r (λ q none. none))
+
+pub returns-clause-only : goal.returns-clause-only
+returns-clause-only c =
+    let r : Row = record { state = c.args.state; started = c.args.started } in
+    subst (λ (v : Stored). (p : Powerset) → Has v.table p → Has c.args.self.now.table p ⊎ (p ≡ c.args.state)) (sym (c.in_ok-id-2.ensures.ok)) (only-grown c.args.self.now.table c.in_ok-fresh.fresh.table r c.in_ok-fresh.ensures.absent)

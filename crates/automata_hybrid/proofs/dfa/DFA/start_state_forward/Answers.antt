@@ -1,0 +1,14 @@
+use Rattle.std.proofs.Common.{◌<◌, subst}
+use Rattle.automata_base.specs.StartConfig.{StartConfig}
+use Rattle.automata_base.specs.Steps.{start_state_of}
+use Rattle.automata_hybrid.specs.Machine.{Machine}
+use Rattle.automata_hybrid.specs.Slots.{slot_behind}
+use Rattle.automata_hybrid.specs.Starting.{KnowsStart}
+use Rattle.automata_hybrid.specs.Bounds.{IsStarted}
+use Rattle.automata_hybrid.proofs.dfa.DFA.start_state_forward.Goals as goal
+
+pub returns-in-Ok-clause-effect : goal.returns-in-Ok-clause-effect
+returns-in-Ok-clause-effect c =
+    let m : Machine = c.args.self.now in
+    subst (λ (s : StartConfig). slot_behind m s.anchored s.look_behind < m.slots → (KnowsStart m c.args.cache.now.store s.anchored s.look_behind → ⊥)
+    → IsStarted c.args.cache.now.store (slot_behind m s.anchored s.look_behind) (record { state = start_state_of m.nfa s.anchored s.look_behind; started = m.specialized }) c.start_state.new.cache.store c.in-Ok.id) c.from_input_forward-config.ensures c.in-Ok.ensures.effect
