@@ -1,23 +1,30 @@
 -- Searches whose start and transitions are all known.
-use Rattle.std.proofs.Common.{ℕ, suc, ◌≡◌, ◌∙◌, ◌+◌, ◌^◌, ◌<◌, ◌≤◌, ◌⊎◌, inl, inr, true, length, Option, Some, None, refl, sym, ap, subst, arith}
+use Rattle.std.proofs.Common.{ℕ, suc, ◌≡◌, ◌∙◌, ◌+◌, ◌^◌, ◌<◌, ◌≤◌, ◌⊎◌, inl, inr, Bool, true, false, length, Option, Some, None, refl, sym, ap, subst, arith}
+use Rattle.std.specs.Prelude.{Result, Ok, Err, IfErr}
+use Rattle.std.proofs.lemmas.Result.{IfErr-weaker}
 use Rattle.automata_base.specs.Input.{Input}
 use Rattle.automata_base.specs.Matches.{HalfMatch}
 use Rattle.automata_base.specs.Paths.{next}
 use Rattle.automata_base.specs.Powerset.{Powerset, dead}
 use Rattle.automata_base.specs.Tapes.{Direction}
-use Rattle.automata_base.proofs.Paths.Orders.{some_inj}
+use Rattle.automata_base.specs.declared.util.search.Anchored.{Anchored}
+use Rattle.automata_base.specs.declared.util.search.MatchErrorKind.TheVariants.{Quit as QuitAt, GaveUp, UnsupportedAnchored as UnsupportedMode}
+use Rattle.automata_base.proofs.Paths.Orders.{none_some, some_inj}
+use Rattle.automata_config.specs.declared.error.SearchError.{SearchError}
+use Rattle.automata_config.specs.declared.error.SearchError.TheVariants as search
 use Rattle.automata_hybrid.specs.declared.dfa.progress.Searched.{Searched}
-use Rattle.automata_hybrid.specs.Bounds.{Stored, IsKnownTransition, with_searched}
+use Rattle.automata_hybrid.specs.Bounds.{Stored, IsKnownStart, IsKnownTransition, with_searched}
 use Rattle.automata_hybrid.specs.Caches.{CacheView, with_store}
 use Rattle.automata_hybrid.specs.Growing.{IsGrown}
 use Rattle.automata_hybrid.specs.Kept.{ClearedNothing, Keeps}
-use Rattle.automata_hybrid.specs.Knowing.{KnowsBegin, KnowsPass, KnowsUnit, unit_class}
+use Rattle.automata_hybrid.specs.Knowing.{IsOfInput, KnowsBegin, KnowsPass, KnowsUnit, unit_class}
 use Rattle.automata_hybrid.specs.Machine.{Machine}
 use Rattle.automata_hybrid.specs.Passing.{HasLearned, HasLearnedAll, HasLearnedUnit, IsAt}
 use Rattle.automata_hybrid.specs.Searches.{Reads, state_in, tape_in}
-use Rattle.automata_hybrid.specs.Starting.{MayStart}
+use Rattle.automata_hybrid.specs.Slots.{slot_behind, supports}
+use Rattle.automata_hybrid.specs.Starting.{IsSearchRefusal, KnowsStart, MayStart, known_start, quit_behind}
 use Rattle.automata_hybrid.specs.Table.{Names, Rows}
-use Rattle.automata_hybrid.proofs.Searching.{at_reads, lt_or_le}
+use Rattle.automata_hybrid.proofs.Searching.{at_reads, false_true, lt_or_le, none_behind}
 
 -- a state has one ID
 pub one_id : (t : Rows) (a b : ℕ) (q : Powerset) → Names t a q → Names t b q → a ≡ b
@@ -128,3 +135,60 @@ pub learned_moved :
     → ClearedNothing old.store new.store → HasLearnedAll way m new.store input
 learned_moved way m input old between new e f =
     subst (λ (c : CacheView). ClearedNothing old.store c.store → HasLearnedAll way m c.store input) (sym e) f
+
+-- a start that isn't refused was allowed
+pub may_start :
+    {E : Type 0} (m : Machine) (mode : Anchored) (behind : Option ℕ) (r : Result ℕ E) (f : ℕ → E) (g : E) (n : ℕ)
+    → ((byte : ℕ) → quit_behind m behind ≡ Some byte → r ≡ Err (f byte))
+    → (quit_behind m behind ≡ None → supports m mode ≡ false → r ≡ Err g)
+    → r ≡ Ok n → MayStart m mode behind
+may_start m mode behind r f g n quit unsupported ok = (clear, go (supports m mode) refl) where
+  clear : quit_behind m behind ≡ None
+  clear = none_behind (quit_behind m behind) r f n quit ok
+
+  go : (b : Bool) → supports m mode ≡ b → supports m mode ≡ true
+  go true e = e
+  go false e = absurd (ok_err (sym ok ∙ unsupported clear e)) where
+    ok_err : {A E : Type 0} {a : A} {b : E} → ◌≡◌ {A = Result A E} (Ok a) (Err b) → ⊥
+    ok_err h = cc
+
+-- a start that is known, where it may be asked for, changes nothing and isn't refused for want of room
+module _ (m : Machine) (old new : CacheView) (mode : Anchored) (behind : Option ℕ) (r : Result ℕ SearchError) (dead_at behind_at start_at : ℕ)
+    (slots : length old.store.starts ≡ m.slots)
+    (known : KnowsStart m old.store mode behind → r ≡ Ok (known_start m old.store mode behind))
+    (unchanged : KnowsStart m old.store mode behind → new ≡ old)
+    (past : MayStart m mode behind → m.slots ≤ slot_behind m mode behind → r ≡ Ok dead_at)
+    (past_unchanged : MayStart m mode behind → m.slots ≤ slot_behind m mode behind → new ≡ old)
+    (barred : (MayStart m mode behind → ⊥) → new ≡ old)
+    (errors : IfErr r (IsSearchRefusal m old.store mode behind behind_at start_at))
+    (begin : MayStart m mode behind → slot_behind m mode behind < m.slots → IsKnownStart old.store (slot_behind m mode behind)) where
+  abbrev Idle : Type 0
+  Idle = (new ≡ old) × IfErr r IsOfInput
+
+  of_ok : (n : ℕ) → r ≡ Ok n → IfErr r IsOfInput
+  of_ok n e = subst (λ v. IfErr v IsOfInput) (sym e) tt
+
+  may_idle : MayStart m mode behind → Idle
+  may_idle may = go (lt_or_le (slot_behind m mode behind) m.slots) where
+    go : (slot_behind m mode behind < m.slots) ⊎ (m.slots ≤ slot_behind m mode behind) → Idle
+    go (inl l) =
+        let knows : KnowsStart m old.store mode behind = (may, (omega (arith, l, slots), begin may l)) in
+        (unchanged knows, of_ok _ (known knows))
+    go (inr l) = (past_unchanged may l, of_ok _ (past may l))
+
+  barred_error : (MayStart m mode behind → ⊥) → (e : SearchError) → IsSearchRefusal m old.store mode behind behind_at start_at e → IsOfInput e
+  barred_error not (search.Match (QuitAt byte offset)) h = tt
+  barred_error not (search.Match (UnsupportedMode told)) h = tt
+  barred_error not (search.Match (GaveUp offset)) h = absurd (not h.0)
+  barred_error not search.OutOfMemory h = absurd (not h)
+  barred_error not search.NotAPair h = absurd h
+
+  barred_idle : (MayStart m mode behind → ⊥) → Idle
+  barred_idle not = (barred not, IfErr-weaker r _ _ (barred_error not) errors)
+
+  pub start_idle : Idle
+  start_idle = go (quit_behind m behind) refl (supports m mode) refl where
+    go : (o : Option ℕ) → quit_behind m behind ≡ o → (b : Bool) → supports m mode ≡ b → Idle
+    go None e true f = may_idle (e, f)
+    go None e false f = barred_idle (λ may. false_true (sym f ∙ may.1))
+    go (Some byte) e b f = barred_idle (λ may. none_some (sym may.0 ∙ e))

@@ -129,6 +129,7 @@ impl DFA {
         ensures unsupported { quit_behind self.now (byte_before input.now.haystack input.now.start) ≡ None → supports self.now input.now.anchored ≡ false → result ≡ Err (SearchError.Match (UnsupportedMode input.now.anchored)) }
         ensures supported { OnOk result (supports self.now input.now.anchored ≡ true) }
     {
+        cache.see_slots();
         let start = self.start_state_forward(cache, input)?;
         cache.see_ids();
         cache.search_start(input.start());
