@@ -2,6 +2,7 @@
 use Rattle.std.proofs.Common.{ℕ, suc, ◌≡◌, ◌∙◌, ◌+◌, ◌^◌, ◌<◌, ◌≤◌, ◌⊎◌, inl, inr, Bool, true, false, length, Option, Some, None, refl, sym, ap, subst, arith}
 use Rattle.std.specs.Prelude.{Result, Ok, Err, IfErr}
 use Rattle.std.proofs.lemmas.Result.{IfErr-weaker}
+use Rattle.automata_base.specs.Answers.{Tries, later}
 use Rattle.automata_base.specs.Input.{Input}
 use Rattle.automata_base.specs.Matches.{HalfMatch}
 use Rattle.automata_base.specs.Paths.{next}
@@ -17,10 +18,10 @@ use Rattle.automata_hybrid.specs.Bounds.{Stored, IsKnownStart, IsKnownTransition
 use Rattle.automata_hybrid.specs.Caches.{CacheView, with_store}
 use Rattle.automata_hybrid.specs.Growing.{IsGrown}
 use Rattle.automata_hybrid.specs.Kept.{ClearedNothing, Keeps}
-use Rattle.automata_hybrid.specs.Knowing.{IsOfInput, KnowsBegin, KnowsPass, KnowsUnit, unit_class}
+use Rattle.automata_hybrid.specs.Knowing.{IsOfInput, Knows, KnowsBegin, KnowsPass, KnowsUnit, unit_class}
 use Rattle.automata_hybrid.specs.Machine.{Machine}
 use Rattle.automata_hybrid.specs.Passing.{HasLearned, HasLearnedAll, HasLearnedUnit, IsAt}
-use Rattle.automata_hybrid.specs.Searches.{Reads, state_in, tape_in}
+use Rattle.automata_hybrid.specs.Searches.{Finds, Reads, Skips, state_in, tape_in}
 use Rattle.automata_hybrid.specs.Slots.{slot_behind, supports}
 use Rattle.automata_hybrid.specs.Starting.{IsSearchRefusal, KnowsStart, MayStart, known_start, quit_behind}
 use Rattle.automata_hybrid.specs.Table.{Names, Rows}
@@ -192,3 +193,38 @@ module _ (m : Machine) (old new : CacheView) (mode : Anchored) (behind : Option 
     go None e true f = may_idle (e, f)
     go None e false f = barred_idle (λ may. false_true (sym f ∙ may.1))
     go (Some byte) e b f = barred_idle (λ may. none_some (sym may.0 ∙ e))
+
+-- what a search has learned over the spans that it tried so far
+abbrev pub LearnedSpans : Direction → Machine → Stored → Input → ℕ → Type 0
+LearnedSpans way m c input k = (j : ℕ) → j < k → HasLearnedAll way m c (later way j input)
+
+pub spans_still :
+    (way : Direction) (m : Machine) (old new : Stored) (input : Input) (k : ℕ)
+    → new.table.of ≡ old.table.of → Keeps old new → LearnedSpans way m old input k → LearnedSpans way m new input k
+spans_still way m old new input k of keeps spans = λ j l. all_still way m old new (later way j input) of keeps (spans j l)
+
+pub spans_more :
+    (way : Direction) (m : Machine) (c : Stored) (input now : Input) (k : ℕ)
+    → now ≡ later way k input → LearnedSpans way m c input k → HasLearnedAll way m c now → LearnedSpans way m c input (suc k)
+spans_more way m c input now k same spans all = λ j l. go j (lt_or_le j k) l where
+  go : (j : ℕ) → (j < k) ⊎ (k ≤ j) → j < suc k → HasLearnedAll way m c (later way j input)
+  go j (inl less) l = spans j less
+  go j (inr more) l =
+      let here : k ≡ j = omega (arith, more, l) in
+      subst (λ i. HasLearnedAll way m c (later way i input)) here (subst (HasLearnedAll way m c) same all)
+
+-- a search that tries no other span knows all that it used
+pub spans_all :
+    (way : Direction) (m : Machine) (c : Stored) (input : Input) (k : ℕ)
+    → LearnedSpans way m c input k
+    → ((j : ℕ) → k ≤ j → Tries (Finds way m) (Skips m) way input j → input.start + j ≤ input.end → ⊥) → Knows way m c input
+spans_all way m c input k spans stops = λ j tries within. go j tries within (lt_or_le j k) where
+  go : (j : ℕ) → Tries (Finds way m) (Skips m) way input j → input.start + j ≤ input.end → (j < k) ⊎ (k ≤ j) → KnowsPass way m c (later way j input)
+  go j tries within (inl less) = learned_knows way m c (later way j input) (spans j less)
+  go j tries within (inr more) = absurd (stops j more tries within)
+
+-- where nothing is determinised, what a search knows it still knows
+pub search_still :
+    (way : Direction) (m : Machine) (input : Input) (old new : CacheView)
+    → IsGrown old new → new.count ≡ old.count → Knows way m old.store input → Knows way m new.store input
+search_still way m input old new g same h = subst (λ (c : Stored). Knows way m c input) (sym (g.idle same)) h

@@ -1,5 +1,6 @@
 -- Spans tried one after another.
-use Rattle.std.proofs.Common.{ℕ, suc, ◌≡◌, ◌<◌, ◌≤◌, ◌+◌, ◌⊎◌, inl, inr, true, Option, Some, None, false, refl, sym, ap, ap₂, ◌∙◌, subst, arith}
+use Rattle.std.proofs.Common.{ℕ, suc, ◌≡◌, ◌<◌, ◌≤◌, ◌+◌, ◌*◌, ◌⊎◌, inl, inr, true, Option, Some, None, false, refl, sym, ap, ap₂, ◌∙◌, subst, arith}
+use Rattle.std.proofs.Math.Nat.{mul-le-mul_right}
 use Rattle.automata_base.specs.Answers.{Half, later, offset_in, IsSplit, Tries}
 use Rattle.automata_base.specs.declared.util.search.Anchored.TheVariants.{No}
 use Rattle.automata_base.specs.Input.{Input}
@@ -13,7 +14,7 @@ use Rattle.automata_hybrid.specs.Bounds.{Stored}
 use Rattle.automata_hybrid.specs.Machine.{Machine}
 use Rattle.automata_hybrid.specs.Passing.{half_of, found_over}
 use Rattle.automata_hybrid.specs.Searches.{Finds, Skips, IsFound, IsRefused, IsPassRefusal, MeetsNoQuit, with_base}
-use Rattle.automata_hybrid.proofs.Searching.{half_none}
+use Rattle.automata_hybrid.proofs.Searching.{false_true, half_none}
 
 -- the pair that a half match stands for
 pub record Stands (way : Direction) (input : Input) (o : Option Pair) (half : HalfMatch) : Type 0 where
@@ -28,6 +29,27 @@ half_stands way input None half e = absurd (cc)
 half_stands way input (Some pair) half e =
     let h : half ≡ record { pattern = pair.pattern; offset = offset_in way input pair.place } = cc in
     record { pair = pair; told = refl; pattern = ap (λ (v : HalfMatch). v.pattern) h; offset = ap (λ (v : HalfMatch). v.offset) h }
+
+some_none : {A : Type 0} {a : A} → ◌≡◌ {A = Option A} (Some a) None → ⊥
+some_none e = cc
+
+some_eq : {A : Type 0} {a b : A} → ◌≡◌ {A = Option A} (Some a) (Some b) → a ≡ b
+some_eq e = cc
+
+-- the determinisations of passes over later and later spans of at most `m` units
+pub steps_more :
+    (k m units a b n : ℕ) → b ≤ a + k * (m + 2) → n ≤ b + (units + 2) → units ≤ m → n ≤ a + suc k * (m + 2)
+steps_more k m units a b n before pass few =
+    let one : suc k * (m + 2) ≡ k * (m + 2) + (m + 2) = grind arith in
+    omega (arith, one, before, pass, few)
+
+pub steps_all :
+    (k m units a b n : ℕ)
+    → b ≤ a + k * (m + 2) → n ≤ b + (units + 2) → units ≤ m → k ≤ m → n ≤ a + (m + 1) * (m + 2)
+steps_all k m units a b n before pass few l =
+    let more : n ≤ a + suc k * (m + 2) = steps_more k m units a b n before pass few in
+    let most : suc k * (m + 2) ≤ (m + 1) * (m + 2) = mul-le-mul_right (m + 2) (omega (arith, l)) in
+    omega (arith, more, most)
 
 module _ (T : Input → Option Pair → Type 0) (S : Type 0) (way : Direction) (input : Input) where
   pub tries_first : Tries T S way input 0
@@ -102,6 +124,36 @@ module _ (way : Direction) (m : Machine) (input now : Input) (k : ℕ) (same : n
       → is_split now.haystack half.offset ≡ true → input.anchored ≡ No → Tries (Finds way m) (Skips m) way input (suc k)
   tries_on half e c skips split free =
       tries_more (Finds way m) (Skips m) way input k tries skips free within (split_there half e c split)
+
+  -- behind it no other span is tried, where it found nothing
+  pub none_stops : None ≡ found_over way m now → (j : ℕ) → k < j → Tries (Finds way m) (Skips m) way input j → ⊥
+  none_stops e j less tried =
+      let split : IsSplit (Finds way m) way (later way k input) = (tried.1 k less).1 in
+      let none : told_over way m.nfa m.kind (later way k input) ≡ None = half_none way (later way k input) _ (sym (there None e)) in
+      some_none (split.1.0 ∙ none)
+
+  -- or what isn't left out
+  pub some_stops :
+      (half : HalfMatch) → Some half ≡ found_over way m now → (Skips m → is_split now.haystack half.offset ≡ false)
+      → (j : ℕ) → k < j → Tries (Finds way m) (Skips m) way input j → ⊥
+  some_stops half e keeps j less tried = go tried.0 where
+    go : (j ≡ 0) ⊎ (Skips m × (input.anchored ≡ No)) → ⊥
+    go (inl z) = omega (arith, z, less)
+    go (inr skips) =
+        let split : IsSplit (Finds way m) way (later way k input) = (tried.1 k less).1 in
+        let s : Stands way (later way k input) (told_over way m.nfa m.kind (later way k input)) half = stands half e in
+        let same : split.0 ≡ s.pair = some_eq (split.1.0 ∙ s.told) in
+        let place : is_split (later way k input).haystack (offset_in way (later way k input) s.pair.place) ≡ true =
+        subst (λ (p : Pair). is_split (later way k input).haystack (offset_in way (later way k input) p.place) ≡ true) same split.2 in
+        false_true
+        (sym (keeps skips.0) ∙ (split_at half s ∙ (ap (λ h. is_split h (offset_in way (later way k input) s.pair.place)) (sym (later_haystack way k input)) ∙ place)))
+
+  -- or where the search is anchored
+  pub anchored_stops : (input.anchored ≡ No → ⊥) → (j : ℕ) → k < j → Tries (Finds way m) (Skips m) way input j → ⊥
+  anchored_stops anchored j less tried = go tried.0 where
+    go : (j ≡ 0) ⊎ (Skips m × (input.anchored ≡ No)) → ⊥
+    go (inl z) = omega (arith, z, less)
+    go (inr skips) = anchored skips.1
 
   -- or it was refused
   pub refuses :

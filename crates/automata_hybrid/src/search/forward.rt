@@ -1,4 +1,4 @@
-ghost use Rattle.std.specs.Prelude.{ℕ, ◌≡◌, ◌+◌, ◌-◌, ◌^◌, ◌<◌, ◌≤◌, IfOk, IfErr, OnOk, Option, None, Err, true, false, length, option_map};
+ghost use Rattle.std.specs.Prelude.{ℕ, ◌≡◌, ◌+◌, ◌-◌, ◌*◌, ◌^◌, ◌<◌, ◌≤◌, IfOk, IfErr, OnOk, Option, None, Err, Ok, ◌*◌, true, false, length, option_map};
 ghost use Rattle.automata_base.specs.Answers.{IsAnswer};
 ghost use Rattle.automata_base.specs.Engines.{engine_of};
 ghost use Rattle.automata_base.specs.Matches as matches;
@@ -93,6 +93,11 @@ impl DFA {
         ensures errors { IfErr result (IsRefused Forward self.now cache.new.store input.now) }
         ensures bounded { (Skips self.now → ⊥) → cache.new.count ≤ cache.old.count + (input.now.end - input.now.start + 2) }
         ensures unsupported { input.now.start ≤ input.now.end → quit_behind self.now (byte_before input.now.haystack input.now.start) ≡ None → supports self.now input.now.anchored ≡ false → result ≡ Err (SearchError.Match (UnsupportedMode input.now.anchored)) }
+        ensures grown { IsGrown cache.old cache.new }
+        ensures known { Knows Forward self.now cache.old.store input.now → (cache.new.count ≡ cache.old.count) × IfErr result IsOfInput }
+        ensures learned { ClearedNothing cache.old.store cache.new.store → OnOk result (Knows Forward self.now cache.new.store input.now) }
+        ensures bounded_all { cache.new.count ≤ cache.old.count + (input.now.end - input.now.start + 1) * (input.now.end - input.now.start + 2) }
+        ensures done { input.now.end < input.now.start → (result ≡ Ok None) × (cache.new ≡ cache.old) }
     {
         let mut later = with_span(input, input.start(), input.end());
         while !later.is_done() {

@@ -1,9 +1,13 @@
-use Rattle.std.proofs.Common.{false, ◌≡◌, ◌≤◌, ◌+◌, ◌-◌}
+use Rattle.std.proofs.Common.{false, ◌≡◌, ◌≤◌, ◌+◌, ◌*◌, ◌-◌}
 use Rattle.automata_base.specs.Answers.{Tries}
 use Rattle.automata_base.specs.Tapes.{Forward}
 use Rattle.automata_hybrid.specs.Caches.{IsCacheOf}
+use Rattle.automata_hybrid.specs.Growing.{IsGrown}
+use Rattle.automata_hybrid.specs.Kept.{ClearedNothing}
+use Rattle.automata_hybrid.specs.Knowing.{Knows}
 use Rattle.automata_hybrid.specs.Searches.{Finds, Skips}
 use Rattle.automata_hybrid.specs.Slots.{supports}
+use Rattle.automata_hybrid.proofs.Knowing.{LearnedSpans}
 use Rattle.automata_hybrid.proofs.dfa.DFA.search_fwd.Given as goal
 
 abbrev pub invariant-loop-later : goal.invariant-loop-later
@@ -13,6 +17,11 @@ invariant-loop-later l = record {
   same : l.later ≡ record l.input { start = l.later.start };
   first : supports l.self l.input.anchored ≡ false → l.later.start ≡ l.input.start;
   whole : (Skips l.self → ⊥) → (l.later.start ≡ l.input.start) × (l.cache.count ≡ l.fn.cache.count);
+  grown : IsGrown l.fn.cache l.cache;
+  known : Knows Forward l.self l.fn.cache.store l.input → l.cache.count ≡ l.fn.cache.count;
+  learned : ClearedNothing l.fn.cache.store l.cache.store → LearnedSpans Forward l.self l.cache.store l.input (l.later.start - l.input.start);
+  bounded : l.cache.count ≤ l.fn.cache.count + (l.later.start - l.input.start) * (l.input.end - l.input.start + 2);
+  done : l.later.start ≡ l.input.start → l.cache ≡ l.fn.cache;
   tries : Tries (Finds Forward l.self) (Skips l.self) Forward l.input (l.later.start - l.input.start);
 }
 
