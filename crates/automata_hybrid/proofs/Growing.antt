@@ -29,7 +29,7 @@ grown_searched c s =
       of = refl;
       counted = omega arith;
       clears = omega arith;
-      idle = λ e. refl;
+      idle = λ e. (refl, refl);
       kept = λ e. record { rows = λ id q n. n; starts = λ slot k. refl; cells = λ id class v l k. refl };
       roomy = λ states r.
           (let l : HasRoom c.store states = room_less c.store (states + (c.count - c.count)) states (omega arith) r in
@@ -86,7 +86,7 @@ grown_trans a b c f g =
       idle = λ e.
           (let first : b.count ≡ a.count = omega (arith, e, f.counted, g.counted) in
           let second : c.count ≡ b.count = omega (arith, e, f.counted, g.counted) in
-          g.idle second ∙ ap (λ (s : Stored). with_searched s c.store.searched) (f.idle first));
+          (e, (g.idle second).1 ∙ ap (λ (s : Stored). with_searched s c.store.searched) (f.idle first).1));
       kept = λ e.
           Keeps-trans a.store b.store c.store f.of (f.kept (nothing_first a b c f g e)) (g.kept (nothing_second a b c f g e));
       roomy = λ states r.
@@ -96,3 +96,8 @@ grown_trans a b c f g =
           let second : HasRoom c.store states × (c.store.clears ≡ b.store.clears) = g.roomy states first.0 in
           (second.0, second.1 ∙ first.1));
     }
+
+-- nothing is cleared where there is room for all that is determinised
+pub clears_none :
+    (old new : CacheView) (n : ℕ) → IsGrown old new → new.count ≤ old.count + n → HasRoom old.store n → new.store.clears ≡ old.store.clears
+clears_none old new n g few room = (g.roomy 0 (room_less old.store n (0 + (new.count - old.count)) (omega (arith, few)) room)).1

@@ -35,7 +35,7 @@ one_id t a b q f g = some_inj (sym f ∙ g)
 pub knows_still :
     (way : Direction) (m : Machine) (input : Input) (old new : CacheView)
     → IsGrown old new → new.count ≡ old.count → KnowsPass way m old.store input → KnowsPass way m new.store input
-knows_still way m input old new g same h = subst (λ (c : Stored). KnowsPass way m c input) (sym (g.idle same)) h
+knows_still way m input old new g same h = subst (λ (c : Stored). KnowsPass way m c input) (sym (g.idle same).1) h
 
 -- the transition that a pass takes where it stands is known
 pub knows_here :
@@ -227,4 +227,4 @@ spans_all way m c input k spans stops = λ j tries within. go j tries within (lt
 pub search_still :
     (way : Direction) (m : Machine) (input : Input) (old new : CacheView)
     → IsGrown old new → new.count ≡ old.count → Knows way m old.store input → Knows way m new.store input
-search_still way m input old new g same h = subst (λ (c : Stored). Knows way m c input) (sym (g.idle same)) h
+search_still way m input old new g same h = subst (λ (c : Stored). Knows way m c input) (sym (g.idle same).1) h

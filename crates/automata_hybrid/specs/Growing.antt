@@ -4,6 +4,10 @@ use Rattle.automata_hybrid.specs.Bounds.{with_searched}
 use Rattle.automata_hybrid.specs.Caches.{CacheView}
 use Rattle.automata_hybrid.specs.Kept.{ClearedNothing, HasRoom, Keeps}
 
+-- nothing has changed but the progress of searches
+abbrev pub IsStill : CacheView → CacheView → Type 0
+IsStill old new = (new.count ≡ old.count) × (new.store ≡ with_searched old.store new.store.searched)
+
 -- a cache after steps and searches, by what it was before
 pub record IsGrown (old new : CacheView) : Type 0 where
   pub of : new.store.table.of ≡ old.store.table.of
@@ -11,7 +15,7 @@ pub record IsGrown (old new : CacheView) : Type 0 where
   pub clears : old.store.clears ≤ new.store.clears
 
   -- with nothing determinised nothing has changed but the progress of searches
-  pub idle : new.count ≡ old.count → new.store ≡ with_searched old.store new.store.searched
+  pub idle : new.count ≡ old.count → IsStill old new
 
   -- with nothing cleared nothing is lost
   pub kept : ClearedNothing old.store new.store → Keeps old.store new.store

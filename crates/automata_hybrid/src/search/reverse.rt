@@ -12,8 +12,8 @@ ghost use Rattle.automata_base.specs.Tapes.{Backward};
 ghost use Rattle.automata_base.specs.declared.util.search.MatchErrorKind.TheVariants.{UnsupportedAnchored as UnsupportedMode};
 ghost use Rattle.automata_hybrid.specs.Bounds.{IsKnownTransition};
 ghost use Rattle.automata_hybrid.specs.Caches.{IsCacheOf};
-ghost use Rattle.automata_hybrid.specs.Growing.{IsGrown};
-ghost use Rattle.automata_hybrid.specs.Kept.{ClearedNothing};
+ghost use Rattle.automata_hybrid.specs.Growing.{IsGrown, IsStill};
+ghost use Rattle.automata_hybrid.specs.Kept.{ClearedNothing, HasRoom};
 ghost use Rattle.automata_hybrid.specs.Knowing.{IsOfInput, KnowsBegin, KnowsPass, Knows};
 ghost use Rattle.automata_hybrid.specs.Passing.{HasLearned, HasLearnedAll, IsAt, found_over};
 ghost use Rattle.automata_hybrid.specs.Searches.{IsFound, IsPassRefusal, IsRefused, IsStepRefusal, MeetsNoQuit, NoQuitInReach, Skips, WithoutBase, state_in, tape_in};
@@ -50,11 +50,24 @@ impl DFA {
         ensures found { IfOk result (WithoutBase (IsFound Backward self.now input.now)) }
         ensures answer { IsLookAcyclic (nfa_of self.now.nfa) → IfOk result (WithoutBase (IsAnswer Backward (engine_of self.now.nfa self.now.kind) input.now)) }
         ensures errors { IfErr result (IsRefused Backward self.now cache.new.store input.now) }
-        ensures bounded { (Skips self.now → ⊥) → cache.new.count ≤ cache.old.count + (input.now.end - input.now.start + 2) }
         ensures unsupported { input.now.start ≤ input.now.end → quit_behind self.now (nth input.now.haystack input.now.end) ≡ None → supports self.now input.now.anchored ≡ false → result ≡ Err (SearchError.Match (UnsupportedMode input.now.anchored)) }
 
         // It does answer where no quit byte is in reach, the mode is supported, no clear limit is set, and memory is found.
         ensures answers { NoQuitInReach self.now input.now → supports self.now input.now.anchored ≡ true → self.now.minimum_clear_count ≡ None → IfErr result (λ e. e ≡ SearchError.OutOfMemory) }
+
+        // Over a span of m bytes it makes at most m + 2 determinisations, where no place is skipped, and clears nothing where
+        // there is room for as many states.
+        ensures bounded { (Skips self.now → ⊥) → cache.new.count ≤ cache.old.count + (input.now.end - input.now.start + 2) }
+        ensures bounded_all { cache.new.count ≤ cache.old.count + (input.now.end - input.now.start + 1) * (input.now.end - input.now.start + 2) }
+        ensures roomy { (Skips self.now → ⊥) → HasRoom cache.old.store (input.now.end - input.now.start + 2) → cache.new.store.clears ≡ cache.old.store.clears }
+        ensures roomy_all { HasRoom cache.old.store ((input.now.end - input.now.start + 1) * (input.now.end - input.now.start + 2)) → cache.new.store.clears ≡ cache.old.store.clears }
+
+        // Until the next clear nothing is lost, and what it used is known. With all that known it takes no memory, and changes
+        // nothing but the progress; with a span that is done, nothing at all.
+        ensures grown { IsGrown cache.old cache.new }
+        ensures learned { ClearedNothing cache.old.store cache.new.store → OnOk result (Knows Backward self.now cache.new.store input.now) }
+        ensures known { Knows Backward self.now cache.old.store input.now → IsStill cache.old cache.new × IfErr result IsOfInput }
+        ensures done { input.now.end < input.now.start → (result ≡ Ok None) × (cache.new ≡ cache.old) }
     {
         told_is_right(self.get_nfa());
         let _haystack = input.haystack();
