@@ -137,6 +137,14 @@ pub learned_moved :
 learned_moved way m input old between new e f =
     subst (λ (c : CacheView). ClearedNothing old.store c.store → HasLearnedAll way m c.store input) (sym e) f
 
+pub begun_moved :
+    (way : Direction) (m : Machine) (input : Input) (old between new : CacheView) (k : ℕ) {s : Searched}
+    → new ≡ with_store between (with_searched between.store s)
+    → (ClearedNothing old.store between.store → KnowsBegin way m between.store input × HasLearned way m between.store input k)
+    → ClearedNothing old.store new.store → KnowsBegin way m new.store input × HasLearned way m new.store input k
+begun_moved way m input old between new k e f =
+    subst (λ (c : CacheView). ClearedNothing old.store c.store → KnowsBegin way m c.store input × HasLearned way m c.store input k) (sym e) f
+
 -- a start that isn't refused was allowed
 pub may_start :
     {E : Type 0} (m : Machine) (mode : Anchored) (behind : Option ℕ) (r : Result ℕ E) (f : ℕ → E) (g : E) (n : ℕ)

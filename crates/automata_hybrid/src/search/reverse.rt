@@ -132,6 +132,7 @@ impl DFA {
         ensures unsupported { quit_behind self.now (nth input.now.haystack input.now.end) ≡ None → supports self.now input.now.anchored ≡ false → result ≡ Err (SearchError.Match (UnsupportedMode input.now.anchored)) }
         ensures supported { OnOk result (supports self.now input.now.anchored ≡ true) }
     {
+        cache.see_slots();
         let start = self.start_state_reverse(cache, input)?;
         cache.see_ids();
         if input.start() == input.end() {

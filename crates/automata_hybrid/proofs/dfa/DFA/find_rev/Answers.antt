@@ -1,10 +1,15 @@
 use Rattle.std.proofs.Common.{ℕ, ◌≡◌, ◌∙◌, ◌-◌, ◌<◌, ◌≤◌, true, length, Some, None, refl, sym, subst, arith}
 use Rattle.automata_base.specs.Paths.{next}
 use Rattle.automata_base.specs.Tapes.{Backward}
-use Rattle.automata_hybrid.specs.Passing.{IsAt}
+use Rattle.automata_hybrid.specs.Growing.{IsGrown}
+use Rattle.automata_hybrid.specs.Kept.{ClearedNothing}
+use Rattle.automata_hybrid.specs.Knowing.{KnowsPass}
+use Rattle.automata_hybrid.specs.Passing.{HasLearned, IsAt}
 use Rattle.automata_hybrid.specs.Searches.{tape_in}
 use Rattle.automata_hybrid.specs.Table.{Rows}
-use Rattle.automata_hybrid.proofs.Searching.{more_leads, more_at, more_dead, clean_dead, more_ends, clean_ends, starts_at, step_refuses, if_err, false_true, some_is, none_is}
+use Rattle.automata_hybrid.proofs.Growing.{grown_moved, grown_same, grown_trans, nothing_first, nothing_second}
+use Rattle.automata_hybrid.proofs.Knowing.{begun_moved, knows_here, knows_still, learned_ends, learned_moved, learned_none, learned_step}
+use Rattle.automata_hybrid.proofs.Searching.{stops_dead, stops_ends, more_leads, more_at, more_dead, clean_dead, more_ends, clean_ends, starts_at, step_refuses, if_err, false_true, some_is, none_is}
 use Rattle.automata_hybrid.proofs.Backward.{span_place, span_unit_offset, span_given_up_offset, span_more, span_few, span_read, quit_free}
 use Rattle.automata_hybrid.proofs.dfa.DFA.find_rev.Goals as goal
 use Rattle.automata_hybrid.proofs.dfa.DFA.find_rev.Goals.{else-get_earliest-via-then-get_earliest+else-is_some, else-get_earliest-via-else-get_earliest}
@@ -15,6 +20,9 @@ loop-at-init c =
     record {
       of = c.requires.of;
       counted = omega arith;
+      grown = grown_same c.args.cache.now c.args.cache.now refl;
+      idle = λ knows. refl;
+      learned = λ begin nothing. (begin, subst (HasLearned Backward c.args.self.now c.args.cache.now.store c.args.input.now) z (learned_none Backward c.args.self.now c.args.cache.now.store c.args.input.now));
       from = omega (arith, c.end-at.ensures.end, c.requires.open);
       within = omega (arith, c.end-at.ensures.end);
       at = subst (λ k. IsAt Backward c.args.self.now c.args.cache.now.store.table c.args.input.now k c.args.start None) z (starts_at Backward c.args.self.now c.args.cache.now.store.table c.args.input.now c.args.start c.requires.named);
@@ -105,6 +113,7 @@ loop-at-preserved c =
     let k : ℕ = c.args.input.now.end - c.follow_rev-stop.result.at in
     let at : IsAt Backward c.args.self.now c.loop-at.cache.store.table c.args.input.now k c.follow_rev-stop.result.id c.loop-at.found = c.follow_rev-stop.ensures.at c.loop-at.found c.loop-at.invariant.at in
     let read : next (tape_in Backward c.args.input.now) k ≡ Some _ = span_read c.args.input.now c.follow_rev-stop.result.at above below c.haystack.result.now c.haystack.ensures.within.1 c.haystack.ensures.same in
+    let few : k ≤ length (tape_in Backward c.args.input.now).bytes = span_few c.args.input.now c.follow_rev-stop.result.at above below c.haystack.ensures.within.1 in
     let first : c.args.input.now.earliest ≡ true → c.found_at-found.result ≡ None =
     elim c.else-get_earliest.branch [
       | else-get_earliest-via-then-get_earliest+else-is_some w ↦ λ e. none_is c.found_at-found.result (sym w.is_some.ensures ∙ w.if-is_some.false)
@@ -113,6 +122,17 @@ loop-at-preserved c =
     record {
       of = c.in_ok-id.ensures.of;
       counted = omega (arith, c.in_ok-id.ensures.counted, c.loop-at.invariant.counted, above, c.follow_rev-stop.ensures.within, c.loop-at.invariant.within);
+      grown = grown_trans c.args.cache.now c.loop-at.cache c.read.new.cache c.loop-at.invariant.grown c.in_ok-id.ensures.grown;
+      idle = λ knows. (
+          let still : KnowsPass Backward c.args.self.now c.loop-at.cache.store c.args.input.now = knows_still Backward c.args.self.now c.args.input.now c.args.cache.now c.loop-at.cache c.loop-at.invariant.grown (c.loop-at.invariant.idle knows) knows in
+          let idle = c.in_ok-id.ensures.idle (knows_here Backward c.args.self.now c.loop-at.cache.store c.args.input.now k c.follow_rev-stop.result.id c.loop-at.found (Some _) still c.requires.may at few c.in_ok-id.ensures.alive read) in
+          idle.0 ∙ c.loop-at.invariant.idle knows);
+      learned = λ begin nothing. (
+          let before = c.loop-at.invariant.learned begin (nothing_first c.args.cache.now c.loop-at.cache c.read.new.cache c.loop-at.invariant.grown c.in_ok-id.ensures.grown nothing) in
+          let after : ClearedNothing c.loop-at.cache.store c.read.new.cache.store = nothing_second c.args.cache.now c.loop-at.cache c.read.new.cache c.loop-at.invariant.grown c.in_ok-id.ensures.grown nothing in
+          let step = learned_step Backward c.args.self.now c.loop-at.cache c.read.new.cache c.args.input.now k c.follow_rev-stop.result.id (Some _) c.in_ok-id.ensures.grown c.in_ok-id.ensures.of after before.0
+          (c.follow_rev-stop.ensures.learned c.loop-at.found c.loop-at.invariant.at before.1) at.named read (c.in_ok-id.ensures.learned after) c.in_ok-id.ensures.below in
+          (step.0, subst (HasLearned Backward c.args.self.now c.read.new.cache.store c.args.input.now) (span_more c.args.input.now c.follow_rev-stop.result.at above below) step.1));
       from = omega (arith, above);
       within = omega (arith, below);
       at = subst (λ n. IsAt Backward c.args.self.now c.read.new.cache.store.table c.args.input.now n c.in_ok-id.id c.found_at-found.result) (span_more c.args.input.now c.follow_rev-stop.result.at above below)
@@ -120,3 +140,133 @@ loop-at-preserved c =
           at read c.in_ok-id.ensures.named (quit_free c.args.self.now _ c.in_ok-id.ensures.clean)
           (c.follow_rev-stop.result.at, span_place c.args.input.now c.follow_rev-stop.result.at above below, c.found_at-found.ensures) first (λ l. (c.in_ok-id.ensures.dead _ l).1 (λ b. false_true (c.if-is_dead.ensures.1 b))));
     }
+
+pub returns-then-is_dead-clause-grown : goal.returns-then-is_dead-clause-grown
+returns-then-is_dead-clause-grown c =
+    grown_trans c.args.cache.now c.read.new.cache c.end_search-then-is_dead.new.self
+    (grown_trans c.args.cache.now c.loop-at.cache c.read.new.cache c.loop-at.invariant.grown c.in_ok-id.ensures.grown)
+    (grown_moved c.read.new.cache c.end_search-then-is_dead.new.self c.end_search-then-is_dead.ensures.value)
+
+pub returns-then-is_dead-clause-idle : goal.returns-then-is_dead-clause-idle
+returns-then-is_dead-clause-idle c = λ knows.
+    let above : c.args.input.now.start < c.follow_rev-stop.result.at = omega (arith, c.if-stop-start.false, c.start-in-loop-at.ensures.start) in
+    let below : c.follow_rev-stop.result.at ≤ c.args.input.now.end = omega (arith, c.follow_rev-stop.ensures.within, c.loop-at.invariant.within) in
+    let k : ℕ = c.args.input.now.end - c.follow_rev-stop.result.at in
+    let at : IsAt Backward c.args.self.now c.loop-at.cache.store.table c.args.input.now k c.follow_rev-stop.result.id c.loop-at.found = c.follow_rev-stop.ensures.at c.loop-at.found c.loop-at.invariant.at in
+    let read : next (tape_in Backward c.args.input.now) k ≡ Some _ = span_read c.args.input.now c.follow_rev-stop.result.at above below c.haystack.result.now c.haystack.ensures.within.1 c.haystack.ensures.same in
+    let few : k ≤ length (tape_in Backward c.args.input.now).bytes = span_few c.args.input.now c.follow_rev-stop.result.at above below c.haystack.ensures.within.1 in
+    let still : KnowsPass Backward c.args.self.now c.loop-at.cache.store c.args.input.now = knows_still Backward c.args.self.now c.args.input.now c.args.cache.now c.loop-at.cache c.loop-at.invariant.grown (c.loop-at.invariant.idle knows) knows in
+    let idle = c.in_ok-id.ensures.idle (knows_here Backward c.args.self.now c.loop-at.cache.store c.args.input.now k c.follow_rev-stop.result.id c.loop-at.found (Some _) still c.requires.may at few c.in_ok-id.ensures.alive read) in
+    (c.end_search-then-is_dead.ensures.count ∙ (idle.0 ∙ c.loop-at.invariant.idle knows), tt)
+
+pub returns-then-is_dead-clause-learned : goal.returns-then-is_dead-clause-learned
+returns-then-is_dead-clause-learned c = λ begin.
+    let above : c.args.input.now.start < c.follow_rev-stop.result.at = omega (arith, c.if-stop-start.false, c.start-in-loop-at.ensures.start) in
+    let below : c.follow_rev-stop.result.at ≤ c.args.input.now.end = omega (arith, c.follow_rev-stop.ensures.within, c.loop-at.invariant.within) in
+    let k : ℕ = c.args.input.now.end - c.follow_rev-stop.result.at in
+    let at : IsAt Backward c.args.self.now c.loop-at.cache.store.table c.args.input.now k c.follow_rev-stop.result.id c.loop-at.found = c.follow_rev-stop.ensures.at c.loop-at.found c.loop-at.invariant.at in
+    let read : next (tape_in Backward c.args.input.now) k ≡ Some _ = span_read c.args.input.now c.follow_rev-stop.result.at above below c.haystack.result.now c.haystack.ensures.within.1 c.haystack.ensures.same in
+    let few : k ≤ length (tape_in Backward c.args.input.now).bytes = span_few c.args.input.now c.follow_rev-stop.result.at above below c.haystack.ensures.within.1 in
+    learned_moved Backward c.args.self.now c.args.input.now c.args.cache.now c.read.new.cache c.end_search-then-is_dead.new.self c.end_search-then-is_dead.ensures.value (λ nothing.
+    let before = c.loop-at.invariant.learned begin (nothing_first c.args.cache.now c.loop-at.cache c.read.new.cache c.loop-at.invariant.grown c.in_ok-id.ensures.grown nothing) in
+    learned_ends Backward c.args.self.now c.loop-at.cache c.read.new.cache c.args.input.now k c.follow_rev-stop.result.id (Some _) c.in_ok-id.ensures.grown c.in_ok-id.ensures.of at.named read
+    c.in_ok-id.ensures.learned c.in_ok-id.ensures.below
+    (stops_dead Backward c.args.self.now c.loop-at.cache.store.table c.read.new.cache.store.table c.args.input.now k c.follow_rev-stop.result.id c.in_ok-id.id _ c.loop-at.found None at read c.in_ok-id.ensures.named (quit_free c.args.self.now _ c.in_ok-id.ensures.clean) (λ l. (c.in_ok-id.ensures.dead _ l).0 (c.if-is_dead.ensures.0 refl)))
+    before.0 (c.follow_rev-stop.ensures.learned c.loop-at.found c.loop-at.invariant.at before.1)
+    (nothing_second c.args.cache.now c.loop-at.cache c.read.new.cache c.loop-at.invariant.grown c.in_ok-id.ensures.grown nothing))
+
+pub returns-then-is_some-clause-grown : goal.returns-then-is_some-clause-grown
+returns-then-is_some-clause-grown c =
+    grown_trans c.args.cache.now c.read.new.cache c.end_search-then-is_some.new.self
+    (grown_trans c.args.cache.now c.loop-at.cache c.read.new.cache c.loop-at.invariant.grown c.in_ok-id.ensures.grown)
+    (grown_moved c.read.new.cache c.end_search-then-is_some.new.self c.end_search-then-is_some.ensures.value)
+
+pub returns-then-is_some-clause-idle : goal.returns-then-is_some-clause-idle
+returns-then-is_some-clause-idle c = λ knows.
+    let above : c.args.input.now.start < c.follow_rev-stop.result.at = omega (arith, c.if-stop-start.false, c.start-in-loop-at.ensures.start) in
+    let below : c.follow_rev-stop.result.at ≤ c.args.input.now.end = omega (arith, c.follow_rev-stop.ensures.within, c.loop-at.invariant.within) in
+    let k : ℕ = c.args.input.now.end - c.follow_rev-stop.result.at in
+    let at : IsAt Backward c.args.self.now c.loop-at.cache.store.table c.args.input.now k c.follow_rev-stop.result.id c.loop-at.found = c.follow_rev-stop.ensures.at c.loop-at.found c.loop-at.invariant.at in
+    let read : next (tape_in Backward c.args.input.now) k ≡ Some _ = span_read c.args.input.now c.follow_rev-stop.result.at above below c.haystack.result.now c.haystack.ensures.within.1 c.haystack.ensures.same in
+    let few : k ≤ length (tape_in Backward c.args.input.now).bytes = span_few c.args.input.now c.follow_rev-stop.result.at above below c.haystack.ensures.within.1 in
+    let still : KnowsPass Backward c.args.self.now c.loop-at.cache.store c.args.input.now = knows_still Backward c.args.self.now c.args.input.now c.args.cache.now c.loop-at.cache c.loop-at.invariant.grown (c.loop-at.invariant.idle knows) knows in
+    let idle = c.in_ok-id.ensures.idle (knows_here Backward c.args.self.now c.loop-at.cache.store c.args.input.now k c.follow_rev-stop.result.id c.loop-at.found (Some _) still c.requires.may at few c.in_ok-id.ensures.alive read) in
+    (c.end_search-then-is_some.ensures.count ∙ (idle.0 ∙ c.loop-at.invariant.idle knows), tt)
+
+pub returns-then-is_some-clause-learned : goal.returns-then-is_some-clause-learned
+returns-then-is_some-clause-learned c = λ begin.
+    let above : c.args.input.now.start < c.follow_rev-stop.result.at = omega (arith, c.if-stop-start.false, c.start-in-loop-at.ensures.start) in
+    let below : c.follow_rev-stop.result.at ≤ c.args.input.now.end = omega (arith, c.follow_rev-stop.ensures.within, c.loop-at.invariant.within) in
+    let k : ℕ = c.args.input.now.end - c.follow_rev-stop.result.at in
+    let at : IsAt Backward c.args.self.now c.loop-at.cache.store.table c.args.input.now k c.follow_rev-stop.result.id c.loop-at.found = c.follow_rev-stop.ensures.at c.loop-at.found c.loop-at.invariant.at in
+    let read : next (tape_in Backward c.args.input.now) k ≡ Some _ = span_read c.args.input.now c.follow_rev-stop.result.at above below c.haystack.result.now c.haystack.ensures.within.1 c.haystack.ensures.same in
+    let few : k ≤ length (tape_in Backward c.args.input.now).bytes = span_few c.args.input.now c.follow_rev-stop.result.at above below c.haystack.ensures.within.1 in
+    learned_moved Backward c.args.self.now c.args.input.now c.args.cache.now c.read.new.cache c.end_search-then-is_some.new.self c.end_search-then-is_some.ensures.value (λ nothing.
+    let before = c.loop-at.invariant.learned begin (nothing_first c.args.cache.now c.loop-at.cache c.read.new.cache c.loop-at.invariant.grown c.in_ok-id.ensures.grown nothing) in
+    learned_ends Backward c.args.self.now c.loop-at.cache c.read.new.cache c.args.input.now k c.follow_rev-stop.result.id (Some _) c.in_ok-id.ensures.grown c.in_ok-id.ensures.of at.named read
+    c.in_ok-id.ensures.learned c.in_ok-id.ensures.below
+    (stops_ends Backward c.args.self.now c.loop-at.cache.store.table c.read.new.cache.store.table c.args.input.now k c.follow_rev-stop.result.id c.in_ok-id.id _ c.loop-at.found c.found_at-found.result at read c.in_ok-id.ensures.named (quit_free c.args.self.now _ c.in_ok-id.ensures.clean) (c.follow_rev-stop.result.at, span_place c.args.input.now c.follow_rev-stop.result.at above below, c.found_at-found.ensures) (sym c.get_earliest.ensures ∙ c.if-get_earliest.true) (some_is c.found_at-found.result c.if-is_some.ensures))
+    before.0 (c.follow_rev-stop.ensures.learned c.loop-at.found c.loop-at.invariant.at before.1)
+    (nothing_second c.args.cache.now c.loop-at.cache c.read.new.cache c.loop-at.invariant.grown c.in_ok-id.ensures.grown nothing))
+
+pub returns-in_err-id-clause-grown : goal.returns-in_err-id-clause-grown
+returns-in_err-id-clause-grown c = grown_trans c.args.cache.now c.loop-at.cache c.read.new.cache c.loop-at.invariant.grown c.in_err-id.ensures.grown
+
+pub returns-in_err-id-clause-idle : goal.returns-in_err-id-clause-idle
+returns-in_err-id-clause-idle c = λ knows.
+    let above : c.args.input.now.start < c.follow_rev-stop.result.at = omega (arith, c.if-stop-start.false, c.start-in-loop-at.ensures.start) in
+    let below : c.follow_rev-stop.result.at ≤ c.args.input.now.end = omega (arith, c.follow_rev-stop.ensures.within, c.loop-at.invariant.within) in
+    let k : ℕ = c.args.input.now.end - c.follow_rev-stop.result.at in
+    let at : IsAt Backward c.args.self.now c.loop-at.cache.store.table c.args.input.now k c.follow_rev-stop.result.id c.loop-at.found = c.follow_rev-stop.ensures.at c.loop-at.found c.loop-at.invariant.at in
+    let read : next (tape_in Backward c.args.input.now) k ≡ Some _ = span_read c.args.input.now c.follow_rev-stop.result.at above below c.haystack.result.now c.haystack.ensures.within.1 c.haystack.ensures.same in
+    let few : k ≤ length (tape_in Backward c.args.input.now).bytes = span_few c.args.input.now c.follow_rev-stop.result.at above below c.haystack.ensures.within.1 in
+    let still : KnowsPass Backward c.args.self.now c.loop-at.cache.store c.args.input.now = knows_still Backward c.args.self.now c.args.input.now c.args.cache.now c.loop-at.cache c.loop-at.invariant.grown (c.loop-at.invariant.idle knows) knows in
+    let idle = c.in_err-id.ensures.idle (knows_here Backward c.args.self.now c.loop-at.cache.store c.args.input.now k c.follow_rev-stop.result.id c.loop-at.found (Some _) still c.requires.may at few c.in_err-id.ensures.alive read) in
+    (idle.0 ∙ c.loop-at.invariant.idle knows, if_err c.from_residual.result _ _ c.from_residual.ensures.1 idle.1)
+
+pub returns-then-stop-start-clause-grown : goal.returns-then-stop-start-clause-grown
+returns-then-stop-start-clause-grown c =
+    let moved : IsGrown c.args.cache.now c.end_search.new.self = grown_trans c.args.cache.now c.loop-at.cache c.end_search.new.self c.loop-at.invariant.grown (grown_moved c.loop-at.cache c.end_search.new.self c.end_search.ensures.value) in
+    grown_trans c.args.cache.now c.end_search.new.self c.find_end_rev.new.cache moved c.find_end_rev.ensures.grown
+
+pub returns-then-stop-start-clause-idle : goal.returns-then-stop-start-clause-idle
+returns-then-stop-start-clause-idle c = λ knows.
+    let moved : IsGrown c.args.cache.now c.end_search.new.self = grown_trans c.args.cache.now c.loop-at.cache c.end_search.new.self c.loop-at.invariant.grown (grown_moved c.loop-at.cache c.end_search.new.self c.end_search.ensures.value) in
+    let count : c.end_search.new.self.count ≡ c.args.cache.now.count = c.end_search.ensures.count ∙ c.loop-at.invariant.idle knows in
+    let idle = c.find_end_rev.ensures.idle (knows_still Backward c.args.self.now c.args.input.now c.args.cache.now c.end_search.new.self moved count knows) in
+    (idle.0 ∙ count, idle.1)
+
+pub returns-then-stop-start-clause-learned : goal.returns-then-stop-start-clause-learned
+returns-then-stop-start-clause-learned c = λ begin nothing.
+    let moved : IsGrown c.args.cache.now c.end_search.new.self = grown_trans c.args.cache.now c.loop-at.cache c.end_search.new.self c.loop-at.invariant.grown (grown_moved c.loop-at.cache c.end_search.new.self c.end_search.ensures.value) in
+    let first : ClearedNothing c.args.cache.now.store c.end_search.new.self.store = nothing_first c.args.cache.now c.end_search.new.self c.find_end_rev.new.cache moved c.find_end_rev.ensures.grown nothing in
+    let same : c.args.input.now.end - c.follow_rev-stop.result.at ≡ c.args.input.now.end - c.args.input.now.start = omega (arith, c.if-stop-start.true, c.follow_rev-stop.ensures.from, c.start-in-loop-at.ensures.start) in
+    let before = begun_moved Backward c.args.self.now c.args.input.now c.args.cache.now c.loop-at.cache c.end_search.new.self _ c.end_search.ensures.value (λ nothing. let had = c.loop-at.invariant.learned begin nothing in (had.0, subst (HasLearned Backward c.args.self.now c.loop-at.cache.store c.args.input.now) same (c.follow_rev-stop.ensures.learned c.loop-at.found c.loop-at.invariant.at had.1))) first in
+    c.find_end_rev.ensures.learned before.0 before.1
+    (nothing_second c.args.cache.now c.end_search.new.self c.find_end_rev.new.cache moved c.find_end_rev.ensures.grown nothing)
+
+pub returns-clause-grown : goal.returns-clause-grown
+returns-clause-grown c =
+    let moved : IsGrown c.args.cache.now c.end_search-2.new.self = grown_trans c.args.cache.now c.loop-at.cache c.end_search-2.new.self c.loop-at.invariant.grown (grown_moved c.loop-at.cache c.end_search-2.new.self c.end_search-2.ensures.value) in
+    grown_trans c.args.cache.now c.end_search-2.new.self c.find_end_rev-2.new.cache moved c.find_end_rev-2.ensures.grown
+
+pub returns-clause-idle : goal.returns-clause-idle
+returns-clause-idle c = λ knows.
+    let moved : IsGrown c.args.cache.now c.end_search-2.new.self = grown_trans c.args.cache.now c.loop-at.cache c.end_search-2.new.self c.loop-at.invariant.grown (grown_moved c.loop-at.cache c.end_search-2.new.self c.end_search-2.ensures.value) in
+    let count : c.end_search-2.new.self.count ≡ c.args.cache.now.count = c.end_search-2.ensures.count ∙ c.loop-at.invariant.idle knows in
+    let idle = c.find_end_rev-2.ensures.idle (knows_still Backward c.args.self.now c.args.input.now c.args.cache.now c.end_search-2.new.self moved count knows) in
+    (idle.0 ∙ count, idle.1)
+
+pub returns-clause-learned : goal.returns-clause-learned
+returns-clause-learned c = λ begin nothing.
+    let moved : IsGrown c.args.cache.now c.end_search-2.new.self = grown_trans c.args.cache.now c.loop-at.cache c.end_search-2.new.self c.loop-at.invariant.grown (grown_moved c.loop-at.cache c.end_search-2.new.self c.end_search-2.ensures.value) in
+    let first : ClearedNothing c.args.cache.now.store c.end_search-2.new.self.store = nothing_first c.args.cache.now c.end_search-2.new.self c.find_end_rev-2.new.cache moved c.find_end_rev-2.ensures.grown nothing in
+    let same : c.args.input.now.end - c.loop-at.at ≡ c.args.input.now.end - c.args.input.now.start = omega (arith, c.loop-at-test.false, c.loop-at.invariant.from, c.start.ensures.start) in
+    let before = begun_moved Backward c.args.self.now c.args.input.now c.args.cache.now c.loop-at.cache c.end_search-2.new.self _ c.end_search-2.ensures.value (λ nothing. let had = c.loop-at.invariant.learned begin nothing in (had.0, subst (HasLearned Backward c.args.self.now c.loop-at.cache.store c.args.input.now) same (had.1))) first in
+    c.find_end_rev-2.ensures.learned before.0 before.1
+    (nothing_second c.args.cache.now c.end_search-2.new.self c.find_end_rev-2.new.cache moved c.find_end_rev-2.ensures.grown nothing)
+
+pub read-requires-clause-valid : goal.read-requires-clause-valid
+read-requires-clause-valid c =
+    let at : IsAt Backward c.args.self.now c.loop-at.cache.store.table c.args.input.now (c.args.input.now.end - c.follow_rev-stop.result.at) c.follow_rev-stop.result.id c.loop-at.found = c.follow_rev-stop.ensures.at c.loop-at.found c.loop-at.invariant.at in
+    (_, at.named)

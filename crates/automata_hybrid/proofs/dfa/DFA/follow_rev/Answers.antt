@@ -1,10 +1,16 @@
-use Rattle.std.proofs.Common.{◌≡◌, ◌-◌, ◌<◌, ◌≤◌, ◌^◌, suc, subst, arith}
+use Rattle.std.proofs.Common.{ℕ, ◌≡◌, ◌-◌, ◌<◌, ◌≤◌, ◌^◌, suc, Some, get_or, sym, subst, arith}
 use Rattle.std.proofs.lemmas.Grind.{common_steps}
+use Rattle.automata_base.specs.Classes.{class_in}
+use Rattle.automata_base.specs.Paths.{next}
 use Rattle.automata_base.specs.Tapes.{Backward}
-use Rattle.automata_hybrid.specs.Passing.{IsAt}
+use Rattle.automata_hybrid.specs.Bounds.{IsKnownTransition}
+use Rattle.automata_hybrid.specs.Machine.{Machine}
+use Rattle.automata_hybrid.specs.Passing.{HasLearned, IsAt}
+use Rattle.automata_hybrid.specs.Searches.{tape_in}
+use Rattle.automata_hybrid.proofs.Knowing.{learned_more}
 use Rattle.automata_hybrid.proofs.Searching.{more_untagged}
 use Rattle.automata_hybrid.proofs.Stepping.{HasRow-valid}
-use Rattle.automata_hybrid.proofs.Units.{backward_read}
+use Rattle.automata_hybrid.proofs.Units.{backward_byte, backward_read}
 use Rattle.automata_hybrid.proofs.dfa.DFA.follow_rev.Goals as goal
 
 pub loop-at-preserved : goal.loop-at-preserved
@@ -13,14 +19,24 @@ loop-at-preserved c =
     let from : c.args.input.now.start ≤ c.loop-at.at = omega (arith, c.start-first.ensures.start, c.loop-at.invariant.from) in
     let some : suc (c.loop-at.at - 1) ≡ c.loop-at.at = omega (arith, c.loop-at-test.true) in
     let within : c.loop-at.at ≤ c.args.input.now.end = omega (arith, c.loop-at.invariant.within, c.requires.within) in
-    let next_k : suc (c.args.input.now.end - c.loop-at.at) ≡ c.args.input.now.end - (c.loop-at.at - 1) = omega (arith, within, some) in
+    let k : ℕ = c.args.input.now.end - c.loop-at.at in
+    let next_k : suc k ≡ c.args.input.now.end - (c.loop-at.at - 1) = omega (arith, within, some) in
+    let read : ℕ = get_or c.haystack-haystack.result.now (c.loop-at.at - 1) 0 in
+    let unit : next (tape_in Backward c.args.input.now) k ≡ Some read = backward_read c.args.input.now c.haystack-haystack.result.now c.loop-at.at (c.loop-at.at - 1) from within c.haystack-haystack.ensures.within.1 c.haystack-haystack.ensures.same some in
+    let byte : read < 256 = backward_byte c.args.input.now c.haystack-haystack.result.now c.loop-at.at (c.loop-at.at - 1) within c.haystack-haystack.ensures.within.1 c.haystack-haystack.ensures.same some c.haystack-haystack.ensures.bytes in
+    let known : IsKnownTransition c.args.cache.now.store c.loop-at.id (class_in c.args.self.now.classes read) = subst (λ n. n < 2 ^ 31) c.next_state_untagged-next.ensures.value (omega (arith, low)) in
+    let below : class_in c.args.self.now.classes read < c.args.self.now.stride = c.see_classes.ensures.bytes read byte in
     record {
       valid = HasRow-valid c.args.cache.now.store.table c.next_state_untagged-next.result (c.next_state_untagged-next.ensures.row (omega (arith, low))) (omega (arith, low));
-      untagged = omega (arith, low);
+      untagged = low;
       from = omega (arith, c.loop-at-test.true);
       within = omega (arith, c.loop-at.invariant.within);
-      at = λ found h. subst (λ k. IsAt Backward c.args.self.now c.args.cache.now.store.table c.args.input.now k c.next_state_untagged-next.result found) next_k
-          (more_untagged Backward c.args.self.now c.args.cache.now.store.table c.args.input.now (c.args.input.now.end - c.loop-at.at) c.loop-at.id c.next_state_untagged-next.result _ found low
-          (backward_read c.args.input.now c.haystack-haystack.result.now c.loop-at.at (c.loop-at.at - 1) from within c.haystack-haystack.ensures.within.1 c.haystack-haystack.ensures.same some)
+      at = λ found h. subst (λ n. IsAt Backward c.args.self.now c.args.cache.now.store.table c.args.input.now n c.next_state_untagged-next.result found) next_k
+          (more_untagged Backward c.args.self.now c.args.cache.now.store.table c.args.input.now k c.loop-at.id c.next_state_untagged-next.result _ found low unit
           c.next_state_untagged-next.ensures.quit c.next_state_untagged-next.ensures.named (c.loop-at.invariant.at found h));
+      learned = λ found h first. (
+          let at : IsAt Backward c.args.self.now c.args.cache.now.store.table c.args.input.now k c.loop-at.id found = c.loop-at.invariant.at found h in
+          subst (HasLearned Backward c.args.self.now c.args.cache.now.store c.args.input.now) next_k
+          (learned_more Backward c.args.self.now c.args.cache.now.store c.args.input.now k c.loop-at.id (Some read) (c.loop-at.invariant.learned found h first) at.named unit known
+          (subst (λ (m : Machine). class_in c.args.self.now.classes read < m.stride) (sym c.requires.of) below)));
     }
