@@ -1,9 +1,13 @@
-use Rattle.std.proofs.Common.{false, ◌≡◌, ◌≤◌, ◌-◌}
+use Rattle.std.proofs.Common.{false, ◌≡◌, ◌≤◌, ◌+◌, ◌*◌, ◌-◌}
 use Rattle.automata_base.specs.Answers.{Tries}
 use Rattle.automata_base.specs.Tapes.{Backward}
 use Rattle.automata_hybrid.specs.Caches.{IsCacheOf}
+use Rattle.automata_hybrid.specs.Growing.{IsGrown}
+use Rattle.automata_hybrid.specs.Kept.{ClearedNothing}
+use Rattle.automata_hybrid.specs.Knowing.{Knows}
 use Rattle.automata_hybrid.specs.Searches.{Finds, Skips}
 use Rattle.automata_hybrid.specs.Slots.{supports}
+use Rattle.automata_hybrid.proofs.Knowing.{LearnedSpans}
 use Rattle.automata_hybrid.proofs.dfa.DFA.search_rev.Given as goal
 
 abbrev pub invariant-loop-later : goal.invariant-loop-later
@@ -13,6 +17,11 @@ invariant-loop-later l = record {
   same : l.later ≡ record l.input { end = l.later.end };
   first : supports l.self l.input.anchored ≡ false → l.later.end ≡ l.input.end;
   whole : (Skips l.self → ⊥) → (l.later.end ≡ l.input.end) × (l.cache.count ≡ l.fn.cache.count);
+  grown : IsGrown l.fn.cache l.cache;
+  known : Knows Backward l.self l.fn.cache.store l.input → l.cache.count ≡ l.fn.cache.count;
+  learned : ClearedNothing l.fn.cache.store l.cache.store → LearnedSpans Backward l.self l.cache.store l.input (l.input.end - l.later.end);
+  bounded : l.cache.count ≤ l.fn.cache.count + (l.input.end - l.later.end) * (l.input.end - l.input.start + 2);
+  done : l.later.end ≡ l.input.end → l.cache ≡ l.fn.cache;
   tries : Tries (Finds Backward l.self) (Skips l.self) Backward l.input (l.input.end - l.later.end);
 }
 
