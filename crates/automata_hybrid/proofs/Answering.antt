@@ -9,6 +9,7 @@ use Rattle.automata_base.specs.Powerset.{Powerset}
 use Rattle.automata_base.specs.Tapes.{Direction, Forward, Backward, byte_before}
 use Rattle.automata_base.specs.declared.util.search.MatchErrorKind.TheVariants.{Quit as QuitAt, GaveUp, UnsupportedAnchored as UnsupportedMode}
 use Rattle.automata_base.proofs.Paths.Orders.{some_inj, none_some}
+use Rattle.automata_config.specs.declared.error.StartError.TheVariants as start
 use Rattle.automata_config.specs.declared.error.SearchError.{SearchError}
 use Rattle.automata_config.specs.declared.error.SearchError.TheVariants as search
 use Rattle.automata_hybrid.specs.declared.dfa.settings.Settings.{Settings}
@@ -16,7 +17,7 @@ use Rattle.automata_hybrid.specs.Bounds.{Stored, GivesUp, refuses_at, settings_o
 use Rattle.automata_hybrid.specs.Machine.{Machine}
 use Rattle.automata_hybrid.specs.Searches.{tape_in, NoQuitInReach, IsRefused, IsPassRefusal, IsStepRefusal}
 use Rattle.automata_hybrid.specs.Slots.{supports}
-use Rattle.automata_hybrid.specs.Starting.{quit_behind, IsSearchRefusal}
+use Rattle.automata_hybrid.specs.Starting.{quit_behind, IsStartRefusalAt}
 use Rattle.automata_hybrid.proofs.Searching.{false_true}
 use Rattle.automata_hybrid.proofs.Units.{forward_unit, forward_units, backward_unit, backward_units}
 
@@ -94,17 +95,16 @@ module _ (way : Direction) (m : Machine) (c : Stored) (input : Input) (k : ℕ) 
 
   start_memory :
       (behind_at start_at : ℕ) (e : SearchError)
-      → IsSearchRefusal m c (later way k input).anchored (tape_in way (later way k input)).before behind_at start_at e
+      → IsStartRefusalAt m c (later way k input).anchored (tape_in way (later way k input)).before behind_at start_at e
       → e ≡ search.OutOfMemory
-  start_memory behind_at start_at (search.Match (QuitAt byte offset)) r =
+  start_memory behind_at start_at e (start.Quit byte, r, told) =
       let b : ((tape_in way (later way k input)).before ≡ Some byte) × (is_quit m.quits byte ≡ true) =
-      is_behind m (tape_in way (later way k input)).before byte r.0 in
+      is_behind m (tape_in way (later way k input)).before byte r in
       absurd (unquit byte (behind_reach way (later way k input) byte ahead.0 b.0) b.1)
-  start_memory behind_at start_at (search.Match (UnsupportedMode told)) r =
+  start_memory behind_at start_at e (start.UnsupportedAnchored mode', r, told) =
       absurd (false_true (sym r.1 ∙ (ap (supports m) (later_mode way k input) ∙ mode)))
-  start_memory behind_at start_at (search.Match (GaveUp offset)) r = absurd (no_limit m c _ same free r.1)
-  start_memory behind_at start_at search.OutOfMemory r = refl
-  start_memory behind_at start_at search.NotAPair r = absurd r
+  start_memory behind_at start_at e (start.Cache err, r, told) = absurd (no_limit m c _ same free r.1)
+  start_memory behind_at start_at e (start.OutOfMemory, r, told) = told
 
   step_memory :
       (j quit_at given_up_at : ℕ) (q : Powerset) (e : SearchError)

@@ -9,10 +9,10 @@ use Rattle.automata_base.specs.Paths.{next}
 use Rattle.automata_base.specs.Powerset.{Powerset, dead}
 use Rattle.automata_base.specs.Tapes.{Direction}
 use Rattle.automata_base.specs.declared.util.search.Anchored.{Anchored}
-use Rattle.automata_base.specs.declared.util.search.MatchErrorKind.TheVariants.{Quit as QuitAt, GaveUp, UnsupportedAnchored as UnsupportedMode}
 use Rattle.automata_base.proofs.Paths.Orders.{none_some, some_inj}
+use Rattle.automata_config.specs.declared.error.StartError.{StartError}
+use Rattle.automata_config.specs.declared.error.StartError.TheVariants as start
 use Rattle.automata_config.specs.declared.error.SearchError.{SearchError}
-use Rattle.automata_config.specs.declared.error.SearchError.TheVariants as search
 use Rattle.automata_hybrid.specs.declared.dfa.progress.Searched.{Searched}
 use Rattle.automata_hybrid.specs.Bounds.{Stored, IsKnownStart, IsKnownTransition, with_searched}
 use Rattle.automata_hybrid.specs.Caches.{CacheView, with_store}
@@ -23,7 +23,7 @@ use Rattle.automata_hybrid.specs.Machine.{Machine}
 use Rattle.automata_hybrid.specs.Passing.{HasLearned, HasLearnedAll, HasLearnedUnit, IsAt}
 use Rattle.automata_hybrid.specs.Searches.{Finds, Reads, Skips, state_in, tape_in}
 use Rattle.automata_hybrid.specs.Slots.{slot_behind, supports}
-use Rattle.automata_hybrid.specs.Starting.{IsSearchRefusal, KnowsStart, MayStart, known_start, quit_behind}
+use Rattle.automata_hybrid.specs.Starting.{IsStartRefusal, IsStartRefusalAt, KnowsStart, MayStart, known_start, quit_behind, search_refusal}
 use Rattle.automata_hybrid.specs.Table.{Names, Rows}
 use Rattle.automata_hybrid.proofs.Searching.{at_reads, false_true, lt_or_le, none_behind}
 
@@ -169,7 +169,7 @@ module _ (m : Machine) (old new : CacheView) (mode : Anchored) (behind : Option 
     (past : MayStart m mode behind → m.slots ≤ slot_behind m mode behind → r ≡ Ok dead_at)
     (past_unchanged : MayStart m mode behind → m.slots ≤ slot_behind m mode behind → new ≡ old)
     (barred : (MayStart m mode behind → ⊥) → new ≡ old)
-    (errors : IfErr r (IsSearchRefusal m old.store mode behind behind_at start_at))
+    (errors : IfErr r (IsStartRefusalAt m old.store mode behind behind_at start_at))
     (begin : MayStart m mode behind → slot_behind m mode behind < m.slots → IsKnownStart old.store (slot_behind m mode behind)) where
   abbrev Idle : Type 0
   Idle = (new ≡ old) × IfErr r IsOfInput
@@ -185,12 +185,13 @@ module _ (m : Machine) (old new : CacheView) (mode : Anchored) (behind : Option 
         (unchanged knows, of_ok _ (known knows))
     go (inr l) = (past_unchanged may l, of_ok _ (past may l))
 
-  barred_error : (MayStart m mode behind → ⊥) → (e : SearchError) → IsSearchRefusal m old.store mode behind behind_at start_at e → IsOfInput e
-  barred_error not (search.Match (QuitAt byte offset)) h = tt
-  barred_error not (search.Match (UnsupportedMode told)) h = tt
-  barred_error not (search.Match (GaveUp offset)) h = absurd (not h.0)
-  barred_error not search.OutOfMemory h = absurd (not h)
-  barred_error not search.NotAPair h = absurd h
+  barred_error : (MayStart m mode behind → ⊥) → (e : SearchError) → IsStartRefusalAt m old.store mode behind behind_at start_at e → IsOfInput e
+  barred_error not e (error, h, told) = subst IsOfInput (sym told) (go error h) where
+    go : (error : StartError) → IsStartRefusal m old.store mode behind error → IsOfInput (search_refusal error behind_at start_at)
+    go (start.Quit byte) h = tt
+    go (start.UnsupportedAnchored told) h = tt
+    go (start.Cache err) h = absurd (not h.0)
+    go start.OutOfMemory h = absurd (not h)
 
   barred_idle : (MayStart m mode behind → ⊥) → Idle
   barred_idle not = (barred not, IfErr-weaker r _ _ (barred_error not) errors)

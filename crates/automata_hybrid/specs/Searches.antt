@@ -18,7 +18,7 @@ use Rattle.automata_config.specs.declared.error.SearchError.{SearchError}
 use Rattle.automata_config.specs.declared.error.SearchError.TheVariants as search
 use Rattle.automata_hybrid.specs.Bounds.{Stored, GivesUp}
 use Rattle.automata_hybrid.specs.Machine.{Machine}
-use Rattle.automata_hybrid.specs.Starting.{IsSearchRefusal, quit_behind}
+use Rattle.automata_hybrid.specs.Starting.{IsStartRefusalAt, quit_behind}
 
 -- the tape that the span of an input is in a direction
 abbrev pub tape_in : Direction → Input → Tape
@@ -77,7 +77,7 @@ behind_offset Backward input = input.end
 -- why a pass is refused: its start is, or the step on a unit that it reads, no quit byte having been met before
 abbrev pub IsPassRefusal : Direction → Machine → Stored → Input → SearchError → Type 0
 IsPassRefusal way m c input e =
-    IsSearchRefusal m c input.anchored (tape_in way input).before (behind_offset way input) (offset_in way input 0) e
+    IsStartRefusalAt m c input.anchored (tape_in way input).before (behind_offset way input) (offset_in way input 0) e
     ⊎ ((k : ℕ) × (quit_behind m (tape_in way input).before ≡ None) × Reads way m input k
     × HasReadNoQuit way m input k
     × IsStepRefusal m c (state_in way m input k) (next (tape_in way input) k) (unit_offset way input k) (given_up_offset way input k) e)

@@ -40,14 +40,6 @@ IsStartRefusal m c mode behind (start.UnsupportedAnchored told) = (quit_behind m
 IsStartRefusal m c mode behind (start.Cache err) = MayStart m mode behind × GivesUp c (start_state_of m.nfa mode behind)
 IsStartRefusal m c mode behind start.OutOfMemory = MayStart m mode behind
 
--- why a search has no start state: the same, with the offset of the quit byte or of the start, where it gives up
-abbrev pub IsSearchRefusal : Machine → Stored → Anchored → Option ℕ → (behind_at start_at : ℕ) → SearchError → Type 0
-IsSearchRefusal m c mode behind behind_at start_at (search.Match (QuitAt byte offset)) = (quit_behind m behind ≡ Some byte) × (offset ≡ behind_at)
-IsSearchRefusal m c mode behind behind_at start_at (search.Match (UnsupportedMode told)) = (quit_behind m behind ≡ None) × (supports m mode ≡ false) × (told ≡ mode)
-IsSearchRefusal m c mode behind behind_at start_at (search.Match (GaveUp offset)) = MayStart m mode behind × GivesUp c (start_state_of m.nfa mode behind) × (offset ≡ start_at)
-IsSearchRefusal m c mode behind behind_at start_at search.OutOfMemory = MayStart m mode behind
-IsSearchRefusal m c mode behind behind_at start_at search.NotAPair = ⊥
-
 -- a refused step, as a start tells it
 abbrev pub start_refusal : StepError → StartError
 start_refusal (step.Cache err) = start.Cache err
@@ -59,3 +51,8 @@ search_refusal (start.Cache err) behind at = search.Match (GaveUp at)
 search_refusal (start.Quit byte) behind at = search.Match (QuitAt byte behind)
 search_refusal (start.UnsupportedAnchored mode) behind at = search.Match (UnsupportedMode mode)
 search_refusal start.OutOfMemory behind at = search.OutOfMemory
+
+-- why a search has no start state: why there is none, told with the offset of the byte behind or of the start
+abbrev pub IsStartRefusalAt : Machine → Stored → Anchored → Option ℕ → (behind_at start_at : ℕ) → SearchError → Type 0
+IsStartRefusalAt m c mode behind behind_at start_at e =
+    (error : StartError) × IsStartRefusal m c mode behind error × (e ≡ search_refusal error behind_at start_at)

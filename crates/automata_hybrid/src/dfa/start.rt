@@ -7,7 +7,7 @@ ghost use Rattle.automata_hybrid.specs.Machine.{start_of, greatest};
 ghost use Rattle.automata_base.specs.Tapes.{byte_before};
 ghost use Rattle.automata_base.specs.Lists.{nth};
 ghost use Rattle.automata_base.specs.declared.util.search.MatchErrorKind.TheVariants.{Quit as QuitAt, UnsupportedAnchored as UnsupportedMode};
-ghost use Rattle.automata_hybrid.specs.Starting.{quit_behind, start_refusal, search_refusal, KnowsStart, known_start, MayStart, IsStartRefusal, IsSearchRefusal};
+ghost use Rattle.automata_hybrid.specs.Starting.{quit_behind, start_refusal, search_refusal, KnowsStart, known_start, MayStart, IsStartRefusal, IsStartRefusalAt};
 ghost use Rattle.automata_hybrid.specs.Slots.{supports, slot_of, slot_behind};
 ghost use Rattle.automata_hybrid.specs.Table.{id_of, Names, IsValid, Leads};
 ghost use Rattle.automata_hybrid.specs.Bounds.{Fits, refuses_to_clear, IsCacheError, IsKnownStart, IsStarted, KeepsStarts, GivesUp};
@@ -302,7 +302,7 @@ impl DFA {
         // The byte behind is the one before the span.
         ensures quit { (byte : ℕ) → quit_behind self.now (byte_before input.now.haystack input.now.start) ≡ Some byte → result ≡ Err (SearchError.Match (QuitAt byte (input.now.start - 1))) }
         ensures unsupported { quit_behind self.now (byte_before input.now.haystack input.now.start) ≡ None → supports self.now input.now.anchored ≡ false → result ≡ Err (SearchError.Match (UnsupportedMode input.now.anchored)) }
-        ensures errors { IfErr result (IsSearchRefusal self.now cache.old.store input.now.anchored (byte_before input.now.haystack input.now.start) (input.now.start - 1) input.now.start) }
+        ensures errors { IfErr result (IsStartRefusalAt self.now cache.old.store input.now.anchored (byte_before input.now.haystack input.now.start) (input.now.start - 1) input.now.start) }
         ensures refused { OnErr result ((cache.new ≡ cache.old) ⊎ (cache.new ≡ counted cache.old)) }
         ensures barred { (MayStart self.now input.now.anchored (byte_before input.now.haystack input.now.start) → ⊥) → cache.new ≡ cache.old }
 
@@ -354,7 +354,7 @@ impl DFA {
         // The byte behind is the one at the span's end.
         ensures quit { (byte : ℕ) → quit_behind self.now (nth input.now.haystack input.now.end) ≡ Some byte → result ≡ Err (SearchError.Match (QuitAt byte input.now.end)) }
         ensures unsupported { quit_behind self.now (nth input.now.haystack input.now.end) ≡ None → supports self.now input.now.anchored ≡ false → result ≡ Err (SearchError.Match (UnsupportedMode input.now.anchored)) }
-        ensures errors { IfErr result (IsSearchRefusal self.now cache.old.store input.now.anchored (nth input.now.haystack input.now.end) input.now.end input.now.end) }
+        ensures errors { IfErr result (IsStartRefusalAt self.now cache.old.store input.now.anchored (nth input.now.haystack input.now.end) input.now.end input.now.end) }
         ensures refused { OnErr result ((cache.new ≡ cache.old) ⊎ (cache.new ≡ counted cache.old)) }
         ensures barred { (MayStart self.now input.now.anchored (nth input.now.haystack input.now.end) → ⊥) → cache.new ≡ cache.old }
 
