@@ -18,11 +18,11 @@ fn pattern(number: u8) -> PatternID {
     PatternID::new(usize::from(number)).unwrap()
 }
 
-fn byte(byte: u8, next: u8) -> State {
+pub fn byte(byte: u8, next: u8) -> State {
     range(byte, byte, next)
 }
 
-fn range(lo: u8, hi: u8, next: u8) -> State {
+pub fn range(lo: u8, hi: u8, next: u8) -> State {
     State::ByteRange {
         lo,
         hi,

@@ -8,7 +8,8 @@ use regex_automata::hybrid::dfa::{Cache, Config};
 use regex_automata::hybrid::{CacheError, SearchError, StartError, StepError};
 use regex_automata::nfa::thompson::{NFA, State, Transition};
 use regex_automata::util::look::Look;
-use regex_automata::util::search::{Anchored, Input, MatchError, MatchKind};
+use regex_automata::util::primitives::PatternID;
+use regex_automata::util::search::{Anchored, HalfMatch, Input, MatchError, MatchKind};
 use std::alloc::Global;
 use std::process::Abort;
 use std::test::Fail;
@@ -236,6 +237,40 @@ fn word(alloc: Global) -> Result<NFA, Fail> {
             next: id(1),
         },
     )
+}
+
+/// A clear keeps the starts in the order of the bytes behind them, a word byte before none, and no
+/// longer in the order in which they came.
+#[test]
+fn keeps_each_start(rt: HostRuntime) -> Result<(), Fail> {
+    let config = Config::new().byte_classes(false).cache_capacity(37645);
+    let mut hand = Hand::new(word(rt.alloc())?, config)?;
+    let first = hand.at;
+    hand.start(Anchored::No, Some(b'a'))?;
+    let second = hand.at;
+    counts(&rt, &hand.cache, 0, 10965, 0);
+    hand.start(Anchored::No, None)?;
+    hand.steps("aaaaaaaaaaaaa")?;
+    counts(&rt, &hand.cache, 1, 15169, 0);
+    hand.start(Anchored::No, None)?;
+    assert_eq!(rt; hand.at, second);
+    hand.start(Anchored::No, Some(b'a'))?;
+    assert_eq!(rt; hand.at, first);
+    counts(&rt, &hand.cache, 1, 15169, 0);
+    Ok(())
+}
+
+/// All states fit into as much as they take, and not into a byte less.
+#[test]
+fn fills_the_capacity(rt: HostRuntime) -> Result<(), Fail> {
+    for (capacity, clears, memory, searched) in [(44512, 0, 44512, 16), (44511, 1, 12982, 0)] {
+        let config = tight().cache_capacity(capacity);
+        let mut searcher = Searcher::new(Entry::A16.forward(rt.alloc())?, config)?;
+        let found = searcher.find(&Input::new(b"aaaaaaaaaaaaaaaa"))?;
+        assert_eq!(rt; found, Some(HalfMatch::new(PatternID::ZERO, 16)));
+        counts(&rt, &searcher.cache, clears, memory, searched);
+    }
+    Ok(())
 }
 
 /// The cache has no room for a start, and may not be cleared.

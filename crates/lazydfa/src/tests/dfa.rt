@@ -57,6 +57,30 @@ pub fn counts<R: Abort>(rt: &R, cache: &Cache, memory: usize, searched: usize) {
     assert!(rt; !cache.in_progress());
 }
 
+/// Ten thousand dates, each found from the end of the one before.
+#[test]
+fn finds_date_after_date(rt: HostRuntime) -> Result<(), Fail> {
+    let mut haystack = Vec::new(rt.alloc());
+    for _ in 0..10_000u32 {
+        haystack.extend_from_slice(b"2018-12-24 ")?;
+    }
+    let mut searcher = Searcher::new(Entry::Date.forward(rt.alloc())?, Config::new())?;
+    find_dates(&rt, &mut searcher, haystack.as_slice())?;
+    counts(&rt, &searcher.cache, 1745, 119_999);
+    Ok(())
+}
+
+fn find_dates<R: Abort>(rt: &R, searcher: &mut Searcher, dates: &[u8]) -> Result<(), Fail> {
+    let mut end = 0usize;
+    for number in 0..10_000usize {
+        let start = end.min(dates.len());
+        let found = searcher.find(&Input::new(dates).range(start..dates.len()))?;
+        end = 11 * number + 10;
+        assert_eq!(rt; found, Some(HalfMatch::new(PatternID::ZERO, end)));
+    }
+    Ok(())
+}
+
 /// At its minimum capacity, and where a smaller one is raised to it, this automaton needs no
 /// clear.
 #[test]
@@ -67,12 +91,16 @@ fn stays_within_the_minimum(rt: HostRuntime) -> Result<(), Fail> {
         .minimum_cache_clear_count(Some(0));
     for config in [Config::new().cache_capacity(1735), skipping] {
         let nfa = Entry::Ab.forward(rt.alloc())?;
-        let mut searcher = Searcher::new(nfa, config)?;
-        for searched in [2, 4] {
-            let found = searcher.find(&Input::new(b"ab"))?;
-            assert_eq!(rt; found, Some(HalfMatch::new(PatternID::ZERO, 2)));
-            counts(&rt, &searcher.cache, 678, searched);
-        }
+        find_twice(&rt, Searcher::new(nfa, config)?)?;
+    }
+    Ok(())
+}
+
+fn find_twice<R: Abort>(rt: &R, mut searcher: Searcher) -> Result<(), Fail> {
+    for searched in [2, 4] {
+        let found = searcher.find(&Input::new(b"ab"))?;
+        assert_eq!(rt; found, Some(HalfMatch::new(PatternID::ZERO, 2)));
+        counts(rt, &searcher.cache, 678, searched);
     }
     Ok(())
 }
@@ -80,20 +108,14 @@ fn stays_within_the_minimum(rt: HostRuntime) -> Result<(), Fail> {
 /// A cache of one automaton serves another once it is reset to it.
 #[test]
 fn resets_to_another(rt: HostRuntime) -> Result<(), Fail> {
-    let date = built(rt.alloc(), Entry::Date, Config::new())?;
-    let ab = built(rt.alloc(), Entry::Ab, Config::new().cache_capacity(1735))?;
-    let mut cache = date.create_cache()?;
-    let found = date.try_search_fwd(&mut cache, &Input::new(b"2018-12-24 2016-10-08"))?;
+    let date = Entry::Date.forward(rt.alloc())?;
+    let mut searcher = Searcher::new(date, Config::new())?;
+    let found = searcher.find(&Input::new(b"2018-12-24 2016-10-08"))?;
     assert_eq!(rt; found, Some(HalfMatch::new(PatternID::ZERO, 10)));
-    ab.reset_cache(&mut cache)?;
-    counts(&rt, &cache, 335, 0);
-    let mut searcher = Searcher { dfa: ab, cache };
-    for searched in [2, 4] {
-        let found = searcher.find(&Input::new(b"ab"))?;
-        assert_eq!(rt; found, Some(HalfMatch::new(PatternID::ZERO, 2)));
-        counts(&rt, &searcher.cache, 678, searched);
-    }
-    Ok(())
+    let ab = built(rt.alloc(), Entry::Ab, Config::new().cache_capacity(1735))?;
+    let searcher = searcher.reset_to(ab)?;
+    counts(&rt, &searcher.cache, 335, 0);
+    find_twice(&rt, searcher)
 }
 
 #[test]
@@ -232,24 +254,27 @@ fn answers_the_example(rt: HostRuntime) -> Result<(), Fail> {
     Ok(())
 }
 
+/// Searches a haystack of three bytes from the first place to the second.
+fn find_inside(dfa: DFA) -> Result<Option<HalfMatch>, Fail> {
+    let cache = dfa.create_cache()?;
+    let mut searcher = Searcher { dfa, cache };
+    Ok(searcher.find(&Input::new(b"abc").range(1..2))?)
+}
+
 #[test]
 fn matches_always(rt: HostRuntime) -> Result<(), Fail> {
     let dfa = DFA::always_match(rt.alloc())?;
-    let mut cache = dfa.create_cache()?;
-    let input = Input::new(b"abc").range(1..2);
-    let found = dfa.try_search_fwd(&mut cache, &input)?;
-    assert_eq!(rt; found, Some(HalfMatch::new(PatternID::ZERO, 1)));
     assert_eq!(rt; (dfa.pattern_len(), dfa.memory_usage()), (1, 0));
+    let found = find_inside(dfa)?;
+    assert_eq!(rt; found, Some(HalfMatch::new(PatternID::ZERO, 1)));
     Ok(())
 }
 
 #[test]
 fn matches_never(rt: HostRuntime) -> Result<(), Fail> {
     let dfa = DFA::never_match(rt.alloc())?;
-    let mut cache = dfa.create_cache()?;
-    let input = Input::new(b"abc").range(1..2);
-    let found = dfa.try_search_fwd(&mut cache, &input)?;
-    assert_eq!(rt; found, None);
     assert_eq!(rt; (dfa.pattern_len(), dfa.memory_usage()), (0, 0));
+    let found = find_inside(dfa)?;
+    assert_eq!(rt; found, None);
     Ok(())
 }

@@ -1,6 +1,6 @@
 //! Steps by hand.
 
-ghost use Rattle.std.specs.Prelude.{◌<◌, ◌^◌, IsTrue};
+ghost use Rattle.std.specs.Prelude.{◌≡◌, ◌<◌, ◌^◌, IsTrue};
 ghost use Rattle.regex_automata.specs.Caches.{IsCacheOf, HasRow};
 
 use super::automata::{accept, door, either};
@@ -11,7 +11,8 @@ use regex_automata::nfa::thompson::NFA;
 use regex_automata::util::primitives::PatternID;
 use regex_automata::util::search::{Anchored, MatchKind};
 use regex_automata::util::start;
-use std::alloc::Global;
+use std::alloc::{AllocError, Global};
+use std::fmt::Write;
 use std::test::Fail;
 
 /// A lazy automaton with a cache of its own, and the state that was stepped to.
@@ -28,10 +29,22 @@ impl Hand {
     pub fn new(nfa: NFA, config: Config) -> Result<Hand, Fail> {
         let dfa = DFA::builder().configure(config).build_from_nfa(nfa)?;
         let cache = Cache::new(&dfa)?;
-        let at = LazyStateID::default();
-        let mut hand = Hand { dfa, cache, at };
+        let mut hand = Hand::at_no_state(dfa, cache);
         hand.start(Anchored::No, None)?;
         Ok(hand)
+    }
+
+    /// Before any start.
+    pub fn at_no_state(dfa: DFA, cache: Cache) -> Hand
+        requires { IsCacheOf cache dfa }
+        ensures { result.cache ≡ cache }
+    {
+        let at = LazyStateID::default();
+        Hand { dfa, cache, at }
+    }
+
+    pub fn reset(&mut self) -> Result<(), AllocError> {
+        self.dfa.reset_cache(&mut self.cache)
     }
 
     pub fn start(&mut self, mode: Anchored, behind: Option<u8>) -> Result<(), StartError> {
@@ -70,12 +83,44 @@ impl Hand {
         Ok(())
     }
 
+    /// Notes the start, each step and the end.
+    fn walk(&mut self, bytes: &str, text: &mut String) -> Result<(), Fail> {
+        self.note(text)?;
+        for byte in bytes.as_bytes() {
+            self.step(*byte)?;
+            self.note(text)?;
+        }
+        self.end()?;
+        self.note(text)
+    }
+
     /// What is known of the step on a byte, from a state that is there and has no tag.
     pub fn known(&self, byte: u8) -> Option<LazyStateID> {
         if self.at.is_tagged() || !self.has_state() {
             return None;
         }
         Some(self.dfa.next_state_untagged(&self.cache, self.at, byte))
+    }
+
+    /// How often the cache was cleared, and its memory.
+    pub fn counts(&self) -> (usize, usize) {
+        (self.cache.clear_count(), self.cache.memory_usage())
+    }
+
+    /// Writes the memory, and a letter where the state is dead, quit or a match.
+    fn note(&self, text: &mut String) -> Result<(), Fail> {
+        let letter = if self.at.is_dead() {
+            "d"
+        } else if self.at.is_quit() {
+            "q"
+        } else if self.at.is_match() {
+            "m"
+        } else {
+            ""
+        };
+        let memory = self.cache.memory_usage();
+        write!(text, "{memory}{letter} ")?;
+        Ok(())
     }
 
     /// How many patterns match, and the last of them.
@@ -93,22 +138,85 @@ impl Hand {
 }
 
 #[test]
-fn steps_by_hand(rt: HostRuntime) -> Result<(), Fail> {
+fn steps_to_a_match(rt: HostRuntime) -> Result<(), Fail> {
     let mut hand = Hand::new(Entry::Ab.forward(rt.alloc())?, Config::new())?;
-    let start = hand.at;
-    assert!(rt; !start.is_tagged());
-    hand.step(b'a')?;
-    assert!(rt; hand.known(b'b').is_some_and(|id| id.is_unknown()));
-    let one = hand.at;
-    hand.step(b'b')?;
-    assert!(rt; !hand.at.is_tagged() && hand.at != one);
+    hand.steps("ab")?;
     hand.end()?;
-    assert!(rt; hand.at.is_match());
     assert_eq!(rt; hand.matched(), (1, Some(PatternID::ZERO)));
-    assert_eq!(rt; hand.cache.memory_usage(), 678);
+    Ok(())
+}
+
+/// A step is known once it was made.
+#[test]
+fn learns_a_step(rt: HostRuntime) -> Result<(), Fail> {
+    let mut hand = Hand::new(Entry::Ab.forward(rt.alloc())?, Config::new())?;
+    assert!(rt; hand.known(b'a').is_some_and(|id| id.is_unknown()));
+    let start = hand.at;
+    hand.step(b'a')?;
+    let one = hand.at;
     hand.start(Anchored::No, None)?;
-    assert_eq!(rt; hand.at, start);
-    assert_eq!(rt; hand.known(b'a'), Some(one));
+    assert_eq!(rt; (hand.at, hand.known(b'a')), (start, Some(one)));
+    Ok(())
+}
+
+/// An automaton, a kind, bytes, and what the start, each byte and the end lead to.
+type Steps = (Entry, MatchKind, &'static str, &'static str);
+
+const STEPS: [Steps; 8] = [
+    (
+        Entry::Ab,
+        MatchKind::LeftmostFirst,
+        "axb",
+        "421 507 507d 507d 507d ",
+    ),
+    (
+        Entry::Words,
+        MatchKind::LeftmostFirst,
+        "@foo bar",
+        "705 838 965m 965m 965m 1082m 1082d 1082d 1082d 1082d ",
+    ),
+    (
+        Entry::Words,
+        MatchKind::All,
+        "@foo b",
+        "705 838 980m 1126m 1126m 1262m 1400 1521m ",
+    ),
+    (Entry::Aa, MatchKind::All, "aab", "527 633 747m 851m 851d "),
+    (
+        Entry::Crlf,
+        MatchKind::All,
+        "\r\n\n",
+        "451 546m 546 641m 726m ",
+    ),
+    (
+        Entry::Snow,
+        MatchKind::LeftmostFirst,
+        "a\u{2603}x",
+        "970 1167 1364 1550m 1732 1914 2095m ",
+    ),
+    (
+        Entry::Date,
+        MatchKind::LeftmostFirst,
+        "2018-12-24",
+        "640 736 837 943 1054 1150 1251 1357 1453 1554 1660 1745m ",
+    ),
+    (
+        Entry::Runs,
+        MatchKind::LeftmostFirst,
+        "a1!b",
+        "577 678 763m 763q 763q 763q ",
+    ),
+];
+
+#[test]
+fn counts_each_step(rt: HostRuntime) -> Result<(), Fail> {
+    for (entry, kind, bytes, want) in STEPS {
+        let config = Config::new().match_kind(kind).quit(b'!', true);
+        let mut hand = Hand::new(entry.forward(rt.alloc())?, config)?;
+        let mut text = String::new(rt.alloc());
+        hand.walk(bytes, &mut text)?;
+        assert_eq!(rt; text.as_str(), want, "{entry:?} {kind:?}");
+    }
     Ok(())
 }
 

@@ -14,6 +14,7 @@ use std::io::{Read, Write};
 use std::test::Fail;
 
 mod automata;
+mod classes;
 mod clears;
 mod config;
 mod dfa;
@@ -26,6 +27,7 @@ mod reverse;
 mod rows;
 mod scripts;
 mod sets;
+mod states;
 mod texts;
 
 /// A reader over memory that takes few bytes a call and fails at a chosen call, counted from 1.
@@ -124,6 +126,15 @@ impl Searcher {
         self.dfa.try_search_rev(&mut self.cache, input)
     }
 
+    /// In the direction of the automaton.
+    fn search(&mut self, input: &Input<'_>) -> Result<Option<HalfMatch>, SearchError> {
+        if self.dfa.get_nfa().is_reverse() {
+            self.find_reverse(input)
+        } else {
+            self.find(input)
+        }
+    }
+
     fn start(&mut self, input: &Input<'_>) -> Result<LazyStateID, SearchError> {
         self.dfa.start_state_forward(&mut self.cache, input)
     }
@@ -134,6 +145,13 @@ impl Searcher {
 
     fn reset(&mut self) -> Result<(), AllocError> {
         self.dfa.reset_cache(&mut self.cache)
+    }
+
+    /// Another automaton, with the same cache.
+    fn reset_to(self, dfa: DFA) -> Result<Searcher, AllocError> {
+        let mut cache = self.cache;
+        dfa.reset_cache(&mut cache)?;
+        Ok(Searcher { dfa, cache })
     }
 }
 

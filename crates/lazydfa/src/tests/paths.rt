@@ -206,7 +206,8 @@ fn is_word(byte: Option<u8>) -> bool {
     byte.is_some_and(|byte| byte.is_ascii_alphanumeric() || byte == b'_')
 }
 
-/// An entry, and three pieces to make haystacks of.
+/// An entry, and three pieces to make haystacks of. The first two are of different classes, where
+/// not all bytes are of one.
 type Row = (Entry, [&'static [u8]; 3]);
 
 /// All entries, with single bytes.
@@ -219,30 +220,30 @@ const COMPARED: [Row; 17] = [
     (Entry::Abc, [b"a", b"b", b"c"]),
     (Entry::Aa, [b"a", b"b", b"x"]),
     (Entry::Bnum, [b"1", b"a", b" "]),
-    (Entry::Wordend, [b"a", b"_", b" "]),
-    (Entry::Empty, [b"a", b"\xE2", b"\x98"]),
+    (Entry::Wordend, [b"a", b" ", b"_"]),
+    (Entry::Empty, [b"a", b"\x98", b"\xE2"]),
     (Entry::Snow, [b"a", b"\x98", b" "]),
     (Entry::Snowx, [b"x", b"\x98", b" "]),
-    (Entry::Bound, [b"a", b"_", b" "]),
-    (Entry::Crlf, [b"a", b"\r", b"\n"]),
-    (Entry::Any, [b"a", b"\xE2", b"\x98"]),
+    (Entry::Bound, [b"a", b" ", b"_"]),
+    (Entry::Crlf, [b"\r", b"\n", b"a"]),
+    (Entry::Any, [b"a", b"\x98", b"\xE2"]),
     (Entry::Runs, [b"a", b"1", b" "]),
     (Entry::A16, [b"a", b"b", b"x"]),
 ];
 
 /// The entries in UTF-8 mode, with whole characters.
 const CHARACTERS: [Row; 4] = [
-    (Entry::Empty, [b"a", b"\xC3\xA9", b"\xE2\x98\x83"]),
-    (Entry::Snow, [b"a", b"x", b"\xE2\x98\x83"]),
-    (Entry::Snowx, [b"a", b"x", b"\xE2\x98\x83"]),
-    (Entry::Any, [b"a", b"\xC3\xA9", b"\xE2\x98\x83"]),
+    (Entry::Empty, [b"a", b"\xE2\x98\x83", b"\xC3\xA9"]),
+    (Entry::Snow, [b"a", b"\xE2\x98\x83", b"x"]),
+    (Entry::Snowx, [b"x", b"\xE2\x98\x83", b"a"]),
+    (Entry::Any, [b"a", b"\xE2\x98\x83", b"\xC3\xA9"]),
 ];
 
 #[test]
 fn finds_the_first_path(rt: HostRuntime) -> Result<(), Fail> {
     for row in COMPARED {
         let nfa = row.0.forward(rt.alloc())?;
-        compare(&rt, nfa, MatchKind::LeftmostFirst, row, 6)?;
+        compare(&rt, nfa, MatchKind::LeftmostFirst, row)?;
     }
     Ok(())
 }
@@ -251,7 +252,7 @@ fn finds_the_first_path(rt: HostRuntime) -> Result<(), Fail> {
 fn finds_the_farthest_end(rt: HostRuntime) -> Result<(), Fail> {
     for row in COMPARED {
         let nfa = row.0.forward(rt.alloc())?;
-        compare(&rt, nfa, MatchKind::All, row, 6)?;
+        compare(&rt, nfa, MatchKind::All, row)?;
     }
     Ok(())
 }
@@ -260,7 +261,7 @@ fn finds_the_farthest_end(rt: HostRuntime) -> Result<(), Fail> {
 fn finds_the_first_path_in_reverse(rt: HostRuntime) -> Result<(), Fail> {
     for row in COMPARED {
         let nfa = row.0.reverse(rt.alloc())?;
-        compare(&rt, nfa, MatchKind::LeftmostFirst, row, 6)?;
+        compare(&rt, nfa, MatchKind::LeftmostFirst, row)?;
     }
     Ok(())
 }
@@ -269,7 +270,7 @@ fn finds_the_first_path_in_reverse(rt: HostRuntime) -> Result<(), Fail> {
 fn finds_the_farthest_start(rt: HostRuntime) -> Result<(), Fail> {
     for row in COMPARED {
         let nfa = row.0.reverse(rt.alloc())?;
-        compare(&rt, nfa, MatchKind::All, row, 6)?;
+        compare(&rt, nfa, MatchKind::All, row)?;
     }
     Ok(())
 }
@@ -278,84 +279,95 @@ fn finds_the_farthest_start(rt: HostRuntime) -> Result<(), Fail> {
 fn passes_split_places(rt: HostRuntime) -> Result<(), Fail> {
     for row in CHARACTERS {
         for kind in [MatchKind::LeftmostFirst, MatchKind::All] {
-            compare(&rt, row.0.forward(rt.alloc())?, kind, row, 5)?;
-            compare(&rt, row.0.reverse(rt.alloc())?, kind, row, 5)?;
+            compare(&rt, row.0.forward(rt.alloc())?, kind, row)?;
+            compare(&rt, row.0.reverse(rt.alloc())?, kind, row)?;
         }
     }
     Ok(())
 }
 
-/// All haystacks of fewer pieces than this, over one cache.
+/// All haystacks of up to six of the first two pieces, and of up to four of all three, that have no
+/// more than eight bytes, over one cache of the least capacity and one of an ample capacity.
 fn compare<R: Abort + AllocGlobal>(
     rt: &R,
     nfa: NFA,
     kind: MatchKind,
     row: Row,
-    lengths: usize,
 ) -> Result<(), Fail> {
     let (entry, pieces) = row;
-    let config = Config::new()
-        .match_kind(kind)
-        .starts_for_each_pattern(true)
-        .unicode_word_boundary(true);
-    let mut searcher = Searcher::new(nfa, config)?;
-    let mut count = 1usize;
-    for length in 0..lengths {
-        for number in 0..count {
-            let haystack = spell(rt.alloc(), number, length, pieces)?;
-            compare_one(rt, &mut searcher, entry, kind, haystack.as_slice())?;
+    let config = Config::new().match_kind(kind).unicode_word_boundary(true);
+    let least = config.cache_capacity(0).skip_cache_capacity_check(true);
+    let mut tight = Searcher::new(nfa.clone()?, least)?;
+    let mut ample = Searcher::new(nfa, config.starts_for_each_pattern(true))?;
+    for (choices, lengths) in [(2usize, 7usize), (3, 5)] {
+        let mut count = 1usize;
+        for length in 0..lengths {
+            for number in 0..count {
+                let haystack = spell(rt.alloc(), number, length, &pieces[..choices])?;
+                if haystack.len() <= 8 {
+                    compare_one(rt, entry, &mut tight, &mut ample, haystack.as_slice())?;
+                }
+            }
+            count = count.saturating_mul(choices);
         }
-        count = count.saturating_mul(3);
     }
     Ok(())
 }
 
+/// Every span of a haystack, and the whole of it in each other mode.
 fn compare_one<R: Abort>(
     rt: &R,
-    searcher: &mut Searcher,
     entry: Entry,
-    kind: MatchKind,
+    tight: &mut Searcher,
+    ample: &mut Searcher,
     haystack: &[u8],
 ) -> Result<(), Fail> {
-    for input in inputs(haystack) {
-        let want = answer(searcher.dfa.get_nfa(), kind, &input)?;
-        let found = if searcher.dfa.get_nfa().is_reverse() {
-            searcher.find_reverse(&input)
-        } else {
-            searcher.find(&input)
-        };
+    let kind = ample.dfa.get_config().get_match_kind();
+    for end in 0..haystack.len() + 1 {
+        for start in 0..end + 1 {
+            let input = Input::new(haystack).range(start..end);
+            let want = answer(ample.dfa.get_nfa(), kind, &input)?;
+            let found = ample.search(&input);
+            assert_eq!(rt; found, Ok(want), "{entry:?} {kind:?} {input:?}");
+            let again = tight.search(&input);
+            assert_eq!(rt; again, found, "{entry:?} {kind:?} {input:?}");
+        }
+    }
+    for input in modes(haystack) {
+        let want = answer(ample.dfa.get_nfa(), kind, &input)?;
+        let found = ample.search(&input);
         assert_eq!(rt; found, Ok(want), "{entry:?} {kind:?} {input:?}");
     }
     Ok(())
 }
 
-/// The pieces that the digits of a number to the base 3 stand for, the last digit first.
+/// The pieces that the digits of a number to the base of their count stand for, the last digit
+/// first.
 fn spell(
     alloc: Global,
     number: usize,
     length: usize,
-    pieces: [&[u8]; 3],
+    pieces: &[&[u8]],
 ) -> Result<Vec<u8>, AllocError> {
     let mut haystack = Vec::new(alloc);
+    let base = pieces.len();
+    if base == 0 {
+        return Ok(haystack);
+    }
     let mut rest = number;
     for _ in 0..length {
-        haystack.extend_from_slice(pieces[rest % 3])?;
-        rest /= 3;
+        haystack.extend_from_slice(pieces[rest % base])?;
+        rest /= base;
     }
     Ok(haystack)
 }
 
-/// The whole haystack in each mode, earliest or not, and without its first or its last byte.
-fn inputs(haystack: &[u8]) -> [Input<'_>; 8] {
-    let end = haystack.len();
+/// The whole haystack, anchored or earliest or both.
+fn modes(haystack: &[u8]) -> [Input<'_>; 4] {
     [
-        Input::new(haystack),
         Input::new(haystack).earliest(true),
         Input::new(haystack).anchored(Anchored::Yes),
         Input::new(haystack).anchored(Anchored::Yes).earliest(true),
         Input::new(haystack).anchored(Anchored::Pattern(PatternID::ZERO)),
-        Input::new(haystack).range(end.min(1)..end),
-        Input::new(haystack).range(0..end.saturating_sub(1)),
-        Input::new(haystack).range(end..end),
     ]
 }

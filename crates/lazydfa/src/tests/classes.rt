@@ -1,0 +1,66 @@
+//! Classes of bytes.
+
+use super::automata::{accept, door, id};
+use regex_automata::nfa::thompson::{NFA, State, Transition};
+use regex_automata::util::alphabet::ByteClasses;
+use regex_automata::util::look::Look;
+use std::alloc::Global;
+use std::test::Fail;
+
+/// The bytes at which a class begins, but for the first.
+fn bounds(alloc: Global, nfa: &NFA, quit: &[u8]) -> Result<Vec<u8>, Fail> {
+    let mut quits = [false; 256];
+    for byte in quit {
+        quits[usize::from(*byte)] = true;
+    }
+    let classes = ByteClasses::of(nfa, &quits, true);
+    let mut found = Vec::new(alloc);
+    for byte in 1..=255u8 {
+        if classes.get(byte) != classes.get(byte.wrapping_sub(1)) {
+            found.push(byte)?;
+        }
+    }
+    Ok(found)
+}
+
+#[test]
+fn parts_bytes_by_looks(rt: HostRuntime) -> Result<(), Fail> {
+    let alloc = rt.alloc();
+    for (look, want) in [
+        (Look::Start, ""),
+        (Look::StartLF, "\n\u{b}"),
+        (Look::EndCRLF, "\n\u{b}\r\u{e}"),
+        (Look::WordAscii, "0:A[_`a{"),
+    ] {
+        let next = id(1);
+        let nfa = door(vec![in alloc; State::Look { look, next }, accept(0)]?, 0, 1)?;
+        let found = bounds(alloc, &nfa, b"")?;
+        assert_eq!(rt; found.as_slice(), want.as_bytes(), "{look:?}");
+    }
+    Ok(())
+}
+
+#[test]
+fn parts_bytes_by_edges(rt: HostRuntime) -> Result<(), Fail> {
+    let alloc = rt.alloc();
+    let mut targets = [id(0); 256];
+    for (byte, next) in [(b'a', 1), (b'b', 1), (b'c', 1), (b'd', 2)] {
+        targets[usize::from(byte)] = id(next);
+    }
+    let dense = State::Dense(targets);
+    let dense = door(vec![in alloc; dense, accept(0), accept(0)]?, 0, 1)?;
+    let found = bounds(alloc, &dense, b"")?;
+    assert_eq!(rt; found.as_slice(), "ade".as_bytes());
+    let mut transitions = Vec::new(alloc);
+    for (lo, hi) in [(b'0', b'9'), (b':', b'<')] {
+        let next = id(1);
+        transitions.push(Transition { lo, hi, next })?;
+    }
+    let sparse = door(vec![in alloc; State::Sparse(transitions), accept(0)]?, 0, 1)?;
+    let found = bounds(alloc, &sparse, b"")?;
+    assert_eq!(rt; found.as_slice(), "0:=".as_bytes());
+    let plain = door(vec![in alloc; accept(0)]?, 0, 1)?;
+    let found = bounds(alloc, &plain, b"abd")?;
+    assert_eq!(rt; found.as_slice(), "acde".as_bytes());
+    Ok(())
+}
