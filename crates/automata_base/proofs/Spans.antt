@@ -5,6 +5,7 @@ pub mod Chosen
 pub mod Computed
 pub mod Empties
 pub mod Loops
+pub mod Answered
 pub mod Once
 pub mod Right
 pub mod Rising

@@ -28,3 +28,9 @@ ToldIsRight a =
     (way : Direction) (kind : MatchKind) (input : Input) (answer : Option Half)
     → IsLookAcyclic (nfa_of a) → IsInput input → IsTold way a kind input answer
     → IsAnswer way (engine_of a kind) input answer
+
+-- passes tell one answer
+abbrev pub ToldIsOne : Type 0
+ToldIsOne =
+    (way : Direction) (a : Automaton) (kind : MatchKind) (input : Input) (first second : Option Half)
+    → IsTold way a kind input first → IsTold way a kind input second → first ≡ second

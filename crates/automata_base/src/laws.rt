@@ -2,7 +2,7 @@
 ghost use Rattle.automata_base.specs.LateIsRight.{SearchesAreRight, WalksAreRight, NearestEndsAreRight, EndsAreRight, PairsAreRight};
 ghost use Rattle.automata_base.specs.StartIsRight.{StartsAreRight, SpansAreFound, SpansAreOne, AnswersAreOne, IterationsAreRight, IterationsAreOne, EndsRise, FoundEndsRise, MatchIffFound, BackMeetsNone};
 ghost use Rattle.automata_base.specs.StepLaws.{ClassesStepAlike, ClassesQuitAlike, StartsAreAlike, DeadStaysDead, PassesSelect, PassesFindNearest, PassesFindFarthest};
-ghost use Rattle.automata_base.specs.Told.{ToldIsRight};
+ghost use Rattle.automata_base.specs.Told.{ToldIsOne, ToldIsRight};
 
 use crate::nfa::thompson::NFA;
 
@@ -39,11 +39,13 @@ pub fn steps_are_alike()
     ensures dead { DeadStaysDead }
 {}
 
-/// What a pass tells, unit by unit, is what the ordered paths through the tape select.
+/// What a pass tells, unit by unit, is what the ordered paths through the tape select; and
+/// with split places skipped they tell one answer.
 pub fn passes_tell_paths()
     ensures selects { PassesSelect }
     ensures nearest { PassesFindNearest }
     ensures farthest { PassesFindFarthest }
+    ensures one { ToldIsOne }
 {}
 
 /// What passes tell is the answer of the ordered paths, split places skipped as by these.

@@ -15,7 +15,7 @@ use Rattle.automata_base.specs.Matches.{Match}
 use Rattle.automata_base.proofs.Spans.Backs.{end_inside}
 use Rattle.automata_base.proofs.Spans.Empties.{is_skipping, skipping_tests}
 use Rattle.automata_base.proofs.Spans.Total.{tape_units, later_input}
-use Rattle.automata_base.proofs.Spans.Once.{haystack_later}
+use Rattle.automata_base.proofs.Spans.Answered.{haystack_later}
 use Rattle.automata_base.proofs.Spans.Starts.{yes_no, pattern_no, Answered, answered}
 
 abbrev pub sel_from_of : Engine → Bool → Tape → Option ℕ → Option Pair

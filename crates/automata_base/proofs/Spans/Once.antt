@@ -14,6 +14,7 @@ use Rattle.automata_base.specs.Tapes.{Direction, Forward, Backward, tape_of, for
 use Rattle.automata_base.specs.Engines.{Engine, Anchored, No, Yes, Pattern, first_state, IsSkipping}
 use Rattle.automata_base.specs.Answers.{Half, SelectsFrom, SelectsOver, later, offset_in, ComesTo, IsSplitAnswer, IsAnswer}
 use Rattle.automata_base.specs.Input.{Input}
+use Rattle.automata_base.proofs.Spans.Answered.{answers_once}
 use Rattle.automata_base.proofs.Spans.Starts.{no_pair}
 
 upto_once : (xs ys : List ℕ) → Upto xs ys → Upto ys xs → xs ≡ ys
@@ -75,98 +76,10 @@ sel_over_once :
 sel_over_once way d input a b s s' =
     sel_from_once d input.earliest (tape_of way input.haystack input.start input.end) (first_state d input.anchored) a b s s'
 
-same_pair : {x y : Pair} → ◌≡◌ {A = Option Pair} (Some x) (Some y) → x ≡ y
-same_pair e = cc
-
--- The same span, and the answer there, which ends the search.
-abbrev pub Ends : Direction → Engine → Input → Option Half → ℕ → Type 0
-Ends way d input None k =
-    (input.end < input.start + k)
-    ⊎ (SelectsOver way d (later way k input) None
-    ⊎ (IsSkipping d × (input.anchored ≡ No → ⊥) × IsSplitAnswer way d (later way k input)))
-Ends way d input (Some half) k =
-    (pair : Pair) × (input.start + k ≤ input.end) × SelectsOver way d (later way k input) (Some pair)
-    × (IsSkipping d → is_split input.haystack (offset_in way (later way k input) pair.place) ≡ false)
-    × (half.pattern ≡ pair.pattern) × (half.offset ≡ offset_in way (later way k input) pair.place)
-    × (half.base ≡ (later way k input).start)
-
-ends : (way : Direction) (d : Engine) (input : Input) (o : Option Half) → IsAnswer way d input o → (k : ℕ) × ComesTo way d input k × Ends way d input o k
-ends way d input None a = (a.0, a.1, a.2)
-ends way d input (Some half) a = (a.0, a.2, (a.1, a.3, a.4, a.5, a.6, a.7, a.8))
-
-pub haystack_later : (way : Direction) (k : ℕ) (input : Input) → (later way k input).haystack ≡ input.haystack
-haystack_later Forward k input = refl
-haystack_later Backward k input = refl
-
--- The search goes past no span that ends it.
-no_further :
-    (way : Direction) (d : Engine) (input : Input) (o : Option Half) (k k' : ℕ)
-    → Ends way d input o k → ComesTo way d input k' → k < k' → ⊥
-no_further way d input o k k' e c l = go o e (c.1 k l) (⊎_elim (λ (z : k' ≡ 0). absurd (omega (arith, z, l))) (λ (z : IsSkipping d × (input.anchored ≡ No)). z) c.0)
-  where
-    go :
-        (o : Option Half) → Ends way d input o k → (input.start + k ≤ input.end) × IsSplitAnswer way d (later way k input)
-        → IsSkipping d × (input.anchored ≡ No) → ⊥
-    go None (inl m) s z = omega (arith, m, s.0)
-    go None (inr (inl m)) s z = no_pair (sel_over_once way d (later way k input) (Some s.1.0) None s.1.1 m)
-    go None (inr (inr m)) s z = m.1 z.1
-    go (Some half) m s z =
-        let p = same_pair (sel_over_once way d (later way k input) (Some s.1.0) (Some m.0) s.1.1 m.2) in
-        true≢false
-        (sym s.1.2
-        ∙ (ap₂ (λ v w. is_split v (offset_in way (later way k input) w.place)) (haystack_later way k input) p ∙ m.3 z.0))
-
-same_ends :
-    (way : Direction) (d : Engine) (input : Input) (o o' : Option Half) (k : ℕ)
-    → Ends way d input o k → Ends way d input o' k → o ≡ o'
-same_ends way d input None None k e e' = refl
-same_ends way d input (Some a) None k e e' = sym (same_ends' e' e)
-  where
-    same_ends' : Ends way d input None k → Ends way d input (Some a) k → None ≡ Some a
-    same_ends' (inl m) s = absurd (omega (arith, m, s.1))
-    same_ends' (inr (inl m)) s = absurd (no_pair (sel_over_once way d (later way k input) (Some s.0) None s.2 m))
-    same_ends' (inr (inr m)) s =
-        let p = same_pair (sel_over_once way d (later way k input) (Some m.2.0) (Some s.0) m.2.1 s.2) in
-        absurd
-        (true≢false
-        (sym m.2.2
-        ∙ (ap₂ (λ v w. is_split v (offset_in way (later way k input) w.place)) (haystack_later way k input) p ∙ s.3 m.0)))
-same_ends way d input None (Some a) k (inl m) s = absurd (omega (arith, m, s.1))
-same_ends way d input None (Some a) k (inr (inl m)) s =
-    absurd (no_pair (sel_over_once way d (later way k input) (Some s.0) None s.2 m))
-same_ends way d input None (Some a) k (inr (inr m)) s =
-    let p = same_pair (sel_over_once way d (later way k input) (Some m.2.0) (Some s.0) m.2.1 s.2) in
-    absurd
-    (true≢false
-    (sym m.2.2
-    ∙ (ap₂ (λ v w. is_split v (offset_in way (later way k input) w.place)) (haystack_later way k input) p ∙ s.3 m.0)))
-same_ends way d input (Some a) (Some b) k e e' =
-    let p = same_pair (sel_over_once way d (later way k input) (Some e.0) (Some e'.0) e.2 e'.2) in
-    half_is a b (e.4 ∙ (ap (λ v. v.pattern) p ∙ sym e'.4))
-    (e.5 ∙ (ap (λ v. offset_in way (later way k input) v.place) p ∙ sym e'.5)) (e.6 ∙ sym e'.6)
-  where
-    half_is : (a b : Half) → a.pattern ≡ b.pattern → a.offset ≡ b.offset → a.base ≡ b.base → ◌≡◌ {A = Option Half} (Some a) (Some b)
-    half_is a b x y z = ap₂ (λ v w. v w) (ap₂ half_of x y) z
-      where
-        half_of : ℕ → ℕ → ℕ → Option Half
-        half_of p o b = Some (record { pattern = p; offset = o; base = b })
-
 -- A search has one answer.
 pub answer_once :
     (way : Direction) (d : Engine) (input : Input) (o o' : Option Half) → IsAnswer way d input o → IsAnswer way d input o' → o ≡ o'
-answer_once way d input o o' a a' = ⊎_elim
-    (λ (l : e.0 < e'.0). absurd (no_further way d input o e.0 e'.0 e.2 e'.1 l))
-    (λ (l : e'.0 ≤ e.0). ⊎_elim
-    (λ (c : e'.0 ≡ e.0). same_ends way d input o o' e.0 e.2 (subst (λ v. Ends way d input o' v) c e'.2))
-    (λ (m : e'.0 < e.0). absurd (no_further way d input o' e'.0 e.0 e'.2 e.1 m))
-    (eq-or-lt_of_le l))
-    (cases_lt e.0 e'.0)
-  where
-    e : (k : ℕ) × ComesTo way d input k × Ends way d input o k
-    e = ends way d input o a
-
-    e' : (k : ℕ) × ComesTo way d input k × Ends way d input o' k
-    e' = ends way d input o' a'
+answer_once way d input o o' = answers_once (SelectsOver way d) (IsSkipping d) way input (sel_over_once way d) o o'
 
 -- Two beginnings of one list.
 prefixes : (a b c d : List ℕ) → a ++ c ≡ b ++ d → (a ≡ b) ⊎ (Begins a b ⊎ Begins b a)

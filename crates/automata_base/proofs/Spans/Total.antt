@@ -19,7 +19,7 @@ use Rattle.automata_base.proofs.Spans.Backs.{end_inside, forward_bytes, nth_less
 use Rattle.automata_base.proofs.Spans.Starts.{mode_cases, Answered, answered}
 use Rattle.automata_base.proofs.Spans.Right.{span_right}
 use Rattle.automata_base.proofs.Spans.Empties.{skips_or_not}
-use Rattle.automata_base.proofs.Spans.Once.{haystack_later}
+use Rattle.automata_base.proofs.Spans.Answered.{haystack_later}
 
 unit_of : (o : Option ℕ) → ((u : ℕ) → o ≡ Some u → u < 256) → IsUnit o
 unit_of None f = tt

@@ -1,10 +1,10 @@
-ghost use Rattle.std.specs.Prelude.{ℕ, ◌≡◌, ◌+◌, ◌*◌, ◌<◌, ◌≤◌, None, Some, IfOk, IfErr, OnOk, OnErr, length, slice_index, Ok, true, false, ◌⊎◌};
+ghost use Rattle.std.specs.Prelude.{ℕ, ◌≡◌, ◌+◌, ◌<◌, ◌≤◌, None, Some, IfOk, IfErr, OnOk, OnErr, length, slice_index, Ok, true, false, ◌⊎◌};
 ghost use Rattle.automata_base.specs.Powerset.{Powerset, cost};
 ghost use Rattle.automata_base.specs.Steps.{successor};
 ghost use Rattle.automata_hybrid.specs.Owned.{IsOwn};
-ghost use Rattle.automata_hybrid.specs.Machine.{next_of, start_of, template_of, greatest};
-ghost use Rattle.automata_hybrid.specs.Table.{id_of, Names, IsValid, Leads};
-ghost use Rattle.automata_hybrid.specs.Bounds.{GivesUp, Fits, refuses_to_clear, IsCacheError, IsKnownTransition, cell_of, IsNext, KeepsStarts, IsComputed};
+ghost use Rattle.automata_hybrid.specs.Machine.{next_of, template_of, greatest};
+ghost use Rattle.automata_hybrid.specs.Table.{Names, IsValid, Leads};
+ghost use Rattle.automata_hybrid.specs.Bounds.{GivesUp, IsCacheError, IsKnownTransition, cell_of, IsNext, KeepsStarts, IsComputed};
 ghost use Rattle.automata_hybrid.specs.Growing.{IsGrown};
 ghost use Rattle.automata_hybrid.specs.Kept.{Keeps, ClearedNothing, HasRoom, Has};
 ghost use Rattle.automata_hybrid.specs.Caches.{IsCacheOf, HasRow, counted};
@@ -134,7 +134,7 @@ impl DFA {
         ensures gives_up { IfErr result (λ e. IsCacheError e → (q : Powerset) → Names cache.old.store.table id q → GivesUp cache.old.store (successor self.now.nfa self.now.kind q (Some byte))) }
         ensures err { OnErr result (cache.new ≡ counted cache.old) }
 
-        // Until the next clear nothing is lost, and the transition is known.
+        // Where the call clears nothing, nothing is lost, and the transition is known from then on.
         ensures grown { IsGrown cache.old cache.new }
         ensures learned { id < fixed_from → ClearedNothing cache.old.store cache.new.store → IfOk result (λ n. IsKnownTransition cache.new.store id (class_in self.now.classes byte)) }
         ensures written { id < fixed_from → ClearedNothing cache.old.store cache.new.store → IfOk result (λ n. cell_of cache.new.store id (class_in self.now.classes byte) ≡ n) }
@@ -180,7 +180,7 @@ impl DFA {
         ensures gives_up { IfErr result (λ e. IsCacheError e → (q : Powerset) → Names cache.old.store.table id q → GivesUp cache.old.store (successor self.now.nfa self.now.kind q None)) }
         ensures err { OnErr result (cache.new ≡ counted cache.old) }
 
-        // Until the next clear nothing is lost, and the transition is known.
+        // Where the call clears nothing, nothing is lost, and the transition is known from then on.
         ensures grown { IsGrown cache.old cache.new }
         ensures learned { id < fixed_from → ClearedNothing cache.old.store cache.new.store → IfOk result (λ n. IsKnownTransition cache.new.store id (eoi_class self.now.classes)) }
         ensures written { id < fixed_from → ClearedNothing cache.old.store cache.new.store → IfOk result (λ n. cell_of cache.new.store id (eoi_class self.now.classes) ≡ n) }

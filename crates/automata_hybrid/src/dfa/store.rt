@@ -1,12 +1,11 @@
-ghost use Rattle.std.specs.Prelude.{ℕ, ◌≡◌, ◌+◌, ◌-◌, ◌*◌, ◌/◌, ◌%◌, ◌^◌, ◌<◌, ◌≤◌, ◌↔◌, ◌⊎◌, None, Some, IfOk, OnOk, OnErr, length, slice_index, slice_get, sum_by, IsTrue, IfErr, is_ok, is_some, true, false, IsBitSet};
-ghost use Rattle.automata_base.specs.Powerset.{Powerset, cost};
-ghost use Rattle.automata_base.specs.Powerset.{dead};
+ghost use Rattle.std.specs.Prelude.{ℕ, ◌≡◌, ◌+◌, ◌-◌, ◌*◌, ◌/◌, ◌^◌, ◌<◌, ◌≤◌, ◌↔◌, ◌⊎◌, None, Some, IfOk, OnOk, OnErr, length, slice_index, IsTrue, IfErr, is_ok, is_some, true, false, IsBitSet};
+ghost use Rattle.automata_base.specs.Powerset.{Powerset, cost, dead};
 ghost use Rattle.automata_base.specs.Accounting.{minimum_capacity};
 ghost use Rattle.automata_hybrid.specs.Owned.{IsOwn};
 ghost use Rattle.automata_hybrid.specs.Ids.{dead_id, unknown_id, fixed_from, offset_limit};
 ghost use Rattle.automata_hybrid.specs.Machine.{next_of, start_of, greatest, template_of, IsTemplate};
-ghost use Rattle.automata_hybrid.specs.Table.{id_of, Names, IsValid, with_row, with_cell, Leads, MayLead, IsCell, HasCells};
-ghost use Rattle.automata_hybrid.specs.Clears.{IsPut, row_of};
+ghost use Rattle.automata_hybrid.specs.Table.{id_of, Names, IsValid, Leads, MayLead, IsCell, HasCells};
+ghost use Rattle.automata_hybrid.specs.Clears.{row_of};
 ghost use Rattle.automata_hybrid.specs.Bounds.{usage, Fits, refuses_to_clear, cleared, with_table, grown, put_found, cleared_saving, IsCacheError, cell_of, with_next, fresh_store, settings_of, with_start, IsAdded, IsAddedStart, KeepsStarts};
 ghost use Rattle.automata_hybrid.specs.Kept.{Has};
 ghost use Rattle.automata_hybrid.specs.Caches.{IsRow};

@@ -1,13 +1,12 @@
-ghost use Rattle.std.specs.Prelude.{ℕ, List, ◌≡◌, ◌+◌, ◌-◌, ◌*◌, ◌/◌, ◌%◌, ◌^◌, ◌<◌, ◌≤◌, ◌⊎◌, None, Some, IfOk, IsTrue, ◌↔◌, OnOk, OnErr, length, slice_index, slice_set, slice_get, sum_by, [], ◌++◌, ◌∷◌, false, cond, IsBitSet};
+ghost use Rattle.std.specs.Prelude.{ℕ, List, ◌≡◌, ◌+◌, ◌-◌, ◌*◌, ◌/◌, ◌%◌, ◌^◌, ◌<◌, ◌≤◌, None, Some, IfOk, IsTrue, ◌↔◌, OnOk, OnErr, length, slice_index, slice_set, slice_get, sum_by, false, cond, IsBitSet};
 ghost use Rattle.automata_base.specs.Powerset.{Powerset, cost};
 ghost use Rattle.automata_base.specs.Classes.{eoi_class};
 ghost use Rattle.automata_base.specs.Powerset.{dead};
 ghost use Rattle.automata_hybrid.specs.Owned.{IsOwn};
-ghost use Rattle.automata_hybrid.specs.Ids.{dead_id, quit_id, unknown_id, fixed_from, offset_limit};
+ghost use Rattle.automata_hybrid.specs.Ids.{unknown_id, fixed_from, offset_limit};
 ghost use Rattle.automata_hybrid.specs.Machine.{next_of, greatest, template_of, IsTemplate, marked};
-ghost use Rattle.automata_hybrid.specs.Table.{id_of, with_row, fresh, Names, Leads, row_id, row_cost, IsValid, HasState, IsCell, cell_at, with_cell, HasCells};
+ghost use Rattle.automata_hybrid.specs.Table.{id_of, with_row, fresh, Names, Leads, row_cost, IsValid, HasState, IsCell, cell_at, with_cell, HasCells};
 ghost use Rattle.automata_hybrid.specs.Clears.{AllStarts};
-ghost use Rattle.automata_hybrid.specs.declared.dfa.row.Row.{Row as ARow};
 
 use crate::dfa::row::Row;
 use crate::dfa::{DFA, row};

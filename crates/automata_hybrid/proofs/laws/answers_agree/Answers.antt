@@ -2,4 +2,4 @@ use Rattle.automata_hybrid.proofs.Agreeing.{answers_agree}
 use Rattle.automata_hybrid.proofs.laws.answers_agree.Goals as goal
 
 pub returns : goal.returns
-returns c = answers_agree
+returns c = answers_agree c.passes_tell_paths.ensures.one
