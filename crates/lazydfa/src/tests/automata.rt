@@ -1,6 +1,7 @@
 //! Automata that are in no catalogue: malformed ones, and odd ones that are searched all the same.
 
 use super::Searcher;
+use super::dfa::counts;
 use regex_automata::hybrid::dfa::Config;
 use regex_automata::nfa::thompson::{Flags, NFA, NfaError, State, Transition};
 use regex_automata::util::look::Look;
@@ -142,6 +143,18 @@ fn searches_odd_unions(rt: HostRuntime) -> Result<(), Fail> {
     finds(&rt, twice, MatchKind::LeftmostFirst, &[("", Some((0, 0)))])?;
     let both = door(vec![in alloc; either(1, 2), accept(0), accept(0)]?, 0, 1)?;
     finds(&rt, both, MatchKind::All, &[("", Some((0, 0)))])
+}
+
+/// A union of nothing adds no state to the cache.
+#[test]
+fn counts_an_empty_union(rt: HostRuntime) -> Result<(), Fail> {
+    let alternates = Vec::new(rt.alloc());
+    let nfa = door(vec![in rt.alloc(); State::Union { alternates }]?, 0, 0)?;
+    let mut searcher = Searcher::new(nfa, Config::new())?;
+    let found = searcher.find(&Input::new(b"ab"))?;
+    assert_eq!(rt; found, None);
+    counts(&rt, &searcher.cache, 217, 0);
+    Ok(())
 }
 
 #[test]

@@ -64,3 +64,13 @@ fn parts_bytes_by_edges(rt: HostRuntime) -> Result<(), Fail> {
     assert_eq!(rt; found.as_slice(), "acde".as_bytes());
     Ok(())
 }
+
+#[test]
+fn counts_the_classes_of_a_dense_state(rt: HostRuntime) -> Result<(), Fail> {
+    let mut targets = [id(0); 256];
+    targets[usize::from(b'a')] = id(1);
+    let nfa = door(vec![in rt.alloc(); State::Dense(targets), accept(0)]?, 0, 1)?;
+    let classes = ByteClasses::of(&nfa, &[false; 256], true);
+    assert_eq!(rt; (classes.alphabet_len(), classes.stride2()), (4, 2));
+    Ok(())
+}

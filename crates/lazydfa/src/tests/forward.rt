@@ -1,9 +1,9 @@
 //! Forward searches, by scripts of one request.
 
-use super::rows::{Row, answers};
+use super::rows::{Row, answer_all};
 use std::test::Fail;
 
-const PLAIN: [Row; 28] = [
+const PLAIN: &[Row] = &[
     ("a match", "ab", "ab", "", "half 0 2"),
     ("too short", "ab", "a", "", "none"),
     ("an empty haystack", "ab", "", "", "none"),
@@ -106,7 +106,7 @@ const PLAIN: [Row; 28] = [
     ),
 ];
 
-const LOOKS: [Row; 18] = [
+const LOOKS: &[Row] = &[
     ("before carriage return", "crlf", "a\r\n", "", "half 0 1"),
     (
         "the end of the haystack",
@@ -169,7 +169,7 @@ const LOOKS: [Row; 18] = [
     ),
 ];
 
-const MODES: [Row; 11] = [
+const MODES: &[Row] = &[
     (
         "a pattern without its starts",
         "ab",
@@ -243,7 +243,7 @@ const MODES: [Row; 11] = [
     ),
 ];
 
-const QUITS: [Row; 14] = [
+const QUITS: &[Row] = &[
     (
         "before the end is known",
         "ab quit=63",
@@ -315,7 +315,7 @@ const QUITS: [Row; 14] = [
 ];
 
 /// In UTF-8 mode an end that splits a character is passed.
-const CHARACTERS: [Row; 24] = [
+const CHARACTERS: &[Row] = &[
     (
         "an empty match before a character",
         "empty",
@@ -464,40 +464,25 @@ const CHARACTERS: [Row; 24] = [
 
 #[test]
 fn finds_plain_matches(rt: HostRuntime) -> Result<(), Fail> {
-    for row in PLAIN {
-        answers(&rt, "fwd", row)?;
-    }
-    Ok(())
+    answer_all(&rt, "fwd", PLAIN)
 }
 
 #[test]
 fn decides_looks(rt: HostRuntime) -> Result<(), Fail> {
-    for row in LOOKS {
-        answers(&rt, "fwd", row)?;
-    }
-    Ok(())
+    answer_all(&rt, "fwd", LOOKS)
 }
 
 #[test]
 fn starts_by_mode(rt: HostRuntime) -> Result<(), Fail> {
-    for row in MODES {
-        answers(&rt, "fwd", row)?;
-    }
-    Ok(())
+    answer_all(&rt, "fwd", MODES)
 }
 
 #[test]
 fn stops_at_quit_bytes(rt: HostRuntime) -> Result<(), Fail> {
-    for row in QUITS {
-        answers(&rt, "fwd", row)?;
-    }
-    Ok(())
+    answer_all(&rt, "fwd", QUITS)
 }
 
 #[test]
 fn passes_places_that_split_characters(rt: HostRuntime) -> Result<(), Fail> {
-    for row in CHARACTERS {
-        answers(&rt, "fwd", row)?;
-    }
-    Ok(())
+    answer_all(&rt, "fwd", CHARACTERS)
 }

@@ -1,14 +1,18 @@
 //! Refused growths. Each test is a process of its own, so it may use up all memory for good.
 
+use super::hand::Hand;
 use super::{Searcher, Sink, Source};
 use crate::catalogue::Entry;
 use crate::error::RunError;
 use crate::run::run;
-use regex_automata::hybrid::dfa::Config;
+use regex_automata::hybrid::dfa::{Config, DFA};
+use regex_automata::hybrid::{SearchError, StartError, StepError};
+use regex_automata::nfa::thompson::{NFA, NfaError};
 use regex_automata::util::primitives::PatternID;
-use regex_automata::util::search::{HalfMatch, Input};
-use std::alloc::Global;
+use regex_automata::util::search::{Anchored, HalfMatch, Input, PatternSet};
+use std::alloc::{AllocError, Global};
 use std::mem;
+use std::process::Abort;
 use std::test::Fail;
 
 /// Takes all memory that is left, and keeps it: from here on each growth is refused.
@@ -28,17 +32,86 @@ fn exhaust(alloc: Global) {
 /// A search over known transitions grows nothing.
 #[test]
 fn repeats_a_search_without_memory(rt: HostRuntime) -> Result<(), Fail> {
-    let alloc = rt.alloc();
+    repeat(&rt, Entry::Ab.forward(rt.alloc())?, 2)
+}
+
+#[test]
+fn repeats_a_reverse_search_without_memory(rt: HostRuntime) -> Result<(), Fail> {
+    repeat(&rt, Entry::Ab.reverse(rt.alloc())?, 0)
+}
+
+/// Searches `ab` with memory, and again with none.
+fn repeat<R: Abort + AllocGlobal>(rt: &R, nfa: NFA, offset: usize) -> Result<(), Fail> {
     let config = Config::new().minimum_cache_clear_count(Some(0));
-    let mut searcher = Searcher::new(Entry::Ab.forward(alloc)?, config)?;
-    let first = searcher.find(&Input::new(b"ab"))?;
-    exhaust(alloc);
-    let second = searcher.find(&Input::new(b"ab"))?;
-    let grown = Vec::<u8>::with_capacity(alloc, 1);
+    let mut searcher = Searcher::new(nfa, config)?;
+    let input = Input::new(b"ab");
+    let first = searcher.search(&input)?;
+    exhaust(rt.alloc());
+    let second = searcher.search(&input)?;
+    let grown = Vec::<u8>::with_capacity(rt.alloc(), 1);
     assert!(rt; grown.is_err());
-    assert_eq!(rt; first, Some(HalfMatch::new(PatternID::ZERO, 2)));
+    let want = Some(HalfMatch::new(PatternID::ZERO, offset));
+    assert_eq!(rt; first, want);
     assert_eq!(rt; second, first);
-    assert_eq!(rt; searcher.cache.clear_count(), 0);
+    Ok(())
+}
+
+/// A search over no span takes no memory, though nothing is known yet.
+#[test]
+fn ends_at_once_without_memory(rt: HostRuntime) -> Result<(), Fail> {
+    let mut searcher = Searcher::new(Entry::Always.forward(rt.alloc())?, Config::new())?;
+    exhaust(rt.alloc());
+    let found = searcher.search(&Input::new(b"ab").range(2..1));
+    assert_eq!(rt; found, Ok(None));
+    let refused = searcher.search(&Input::new(b"ab"));
+    assert_eq!(rt; refused, Err(SearchError::OutOfMemory));
+    Ok(())
+}
+
+/// Steps that are known take no memory, and others are refused.
+#[test]
+fn steps_without_memory(rt: HostRuntime) -> Result<(), Fail> {
+    let mut hand = Hand::new(Entry::Ab.forward(rt.alloc())?, Config::new())?;
+    hand.steps("ab")?;
+    hand.end()?;
+    let end = hand.at;
+    exhaust(rt.alloc());
+    hand.start(Anchored::No, None)?;
+    hand.steps("ab")?;
+    hand.end()?;
+    assert_eq!(rt; hand.at, end);
+    hand.start(Anchored::No, None)?;
+    let refused = hand.step(b'x');
+    assert_eq!(rt; refused, Err(StepError::OutOfMemory));
+    Ok(())
+}
+
+/// Settings and builders take no memory.
+#[test]
+fn builds_without_memory(rt: HostRuntime) -> Result<(), Fail> {
+    let nfa = Entry::Bound.forward(rt.alloc())?;
+    exhaust(rt.alloc());
+    let config = Config::new().unicode_word_boundary(true).quit(b'x', true);
+    let minimum = config.get_minimum_cache_capacity(&nfa)?;
+    let capacity = config.settle(&nfa)?.capacity();
+    let dfa = DFA::builder().configure(config).build_from_nfa(nfa)?;
+    let refused = dfa.create_cache().is_err();
+    let classes = dfa.byte_classes().alphabet_len();
+    assert_eq!(rt;
+        (minimum, capacity, classes, refused),
+        (2374, 2097152, 13, true)
+    );
+    Ok(())
+}
+
+/// A pattern is put into a set that has room without memory.
+#[test]
+fn inserts_without_memory(rt: HostRuntime) -> Result<(), Fail> {
+    let mut set = PatternSet::new(rt.alloc(), 1)?;
+    exhaust(rt.alloc());
+    let inserted = set.try_insert(PatternID::ZERO)?;
+    let refused = PatternSet::new(rt.alloc(), 1).is_err();
+    assert!(rt; inserted && set.is_full() && refused);
     Ok(())
 }
 
@@ -130,4 +203,227 @@ fn tells_each_refused_growth(rt: HostRuntime) -> Result<(), Fail> {
 #[test]
 fn tells_each_refused_growth_in_reverse(rt: HostRuntime) -> Result<(), Fail> {
     refuse_each_growth(rt.alloc(), "regex ab\nrev 6162\n", "regex 0\nhalf 0 0\n")
+}
+
+/// A call that can be refused memory.
+#[derive(Clone, Copy, PartialEq, Eq)]
+enum Call {
+    Door,
+    Create,
+    Start,
+    Step,
+    Clear,
+    Search,
+    Reset,
+}
+
+/// All memory but what a turn lends, in blocks, and which calls were refused in the turns so far.
+#[derive(Drop)]
+struct Turns {
+    blocks: Vec<Vec<u8>>,
+    lent: usize,
+    refused: Vec<Call>,
+}
+
+impl Turns {
+    /// Takes all memory, and then lends some.
+    fn lend(&mut self, alloc: Global) -> Result<(), AllocError> {
+        self.blocks.clear();
+        let lent = Vec::<u8>::with_capacity(alloc, self.lent)?;
+        let mut size = ROOM;
+        for _ in 0..12u32 {
+            self.take(alloc, size);
+            size /= 2;
+        }
+        for count in 0..65usize {
+            self.take(alloc, 1032 - 16 * count.min(64));
+        }
+        drop(lent);
+        Ok(())
+    }
+
+    /// Takes blocks of a size while there are any.
+    fn take(&mut self, alloc: Global, size: usize) {
+        for _ in 0..u64::MAX {
+            let Ok(block) = Vec::with_capacity(alloc, size) else {
+                return;
+            };
+            if self.blocks.push(block).is_err() {
+                return;
+            }
+        }
+    }
+
+    /// A call is refused: from here on there is memory.
+    fn refuse(&mut self, call: Call) -> Result<(), AllocError> {
+        self.blocks.clear();
+        if !self.refused.contains(&call) {
+            self.refused.push(call)?;
+        }
+        Ok(())
+    }
+}
+
+/// Where memory is refused.
+#[derive(Clone, Copy)]
+enum Work {
+    Search,
+    ReverseSearch,
+    Steps,
+}
+
+impl Work {
+    fn nfa(self, alloc: Global) -> Result<NFA, NfaError> {
+        match self {
+            Work::Search => Entry::Words.forward(alloc),
+            Work::ReverseSearch => Entry::Words.reverse(alloc),
+            Work::Steps => Entry::A16.forward(alloc),
+        }
+    }
+
+    /// One turn, over an automaton and a cache of its own.
+    fn run(self, alloc: Global, turns: &mut Turns) -> Result<(), Fail> {
+        let nfa = match self.nfa(alloc) {
+            Err(NfaError::OutOfMemory) => {
+                turns.refuse(Call::Door)?;
+                self.nfa(alloc)?
+            }
+            built => built?,
+        };
+        let config = match self {
+            Work::Steps => Config::new().byte_classes(false).cache_capacity(37281),
+            _ => Config::new(),
+        };
+        let dfa = DFA::builder().configure(config).build_from_nfa(nfa)?;
+        let cache = match dfa.create_cache() {
+            Ok(cache) => cache,
+            Err(AllocError) => {
+                turns.refuse(Call::Create)?;
+                dfa.create_cache()?
+            }
+        };
+        match self {
+            Work::Search => search_short(Searcher { dfa, cache }, (1, 4, 1082), turns),
+            Work::ReverseSearch => search_short(Searcher { dfa, cache }, (0, 5, 1087), turns),
+            Work::Steps => steps_short(alloc, Hand::at_no_state(dfa, cache), turns),
+        }
+    }
+}
+
+/// A search of words. Where it is refused, it is answered over the same cache once there is
+/// memory. Wanted are the pattern, the offset and the memory.
+fn search_short(
+    mut searcher: Searcher,
+    want: (usize, usize, usize),
+    turns: &mut Turns,
+) -> Result<(), Fail> {
+    let input = Input::new(b"@foo bar");
+    let mut found = searcher.search(&input);
+    if found == Err(SearchError::OutOfMemory) {
+        turns.refuse(Call::Search)?;
+        found = searcher.search(&input);
+    }
+    let pattern = PatternID::new(want.0).ok_or("a pattern")?;
+    let is_right = found == Ok(Some(HalfMatch::new(pattern, want.1)));
+    check(is_right && searcher.cache.memory_usage() == want.2)
+}
+
+fn check(is_right: bool) -> Result<(), Fail> {
+    if is_right {
+        Ok(())
+    } else {
+        Err(Fail::from("another answer"))
+    }
+}
+
+/// A start, a reset, a start, and sixteen steps, of which one clears. That one is lent memory anew.
+fn steps_short(alloc: Global, mut hand: Hand, turns: &mut Turns) -> Result<(), Fail> {
+    start_short(&mut hand, turns)?;
+    reset_short(&mut hand, turns)?;
+    start_short(&mut hand, turns)?;
+    for step in 0..16u32 {
+        if step == 13 {
+            turns.lend(alloc)?;
+        }
+        step_short(&mut hand, turns)?;
+    }
+    check(hand.counts() == (1, 17187))
+}
+
+/// A reset. Where it is refused, nothing has changed, and it is answered once there is memory.
+fn reset_short(hand: &mut Hand, turns: &mut Turns) -> Result<(), Fail> {
+    let before = hand.counts();
+    if hand.reset().is_err() {
+        check(hand.counts() == before)?;
+        turns.refuse(Call::Reset)?;
+        hand.reset()?;
+    }
+    Ok(())
+}
+
+fn start_short(hand: &mut Hand, turns: &mut Turns) -> Result<(), Fail> {
+    if hand.start(Anchored::No, None) == Err(StartError::OutOfMemory) {
+        check(hand.counts() == (0, 6677))?;
+        turns.refuse(Call::Start)?;
+        hand.start(Anchored::No, None)?;
+    }
+    Ok(())
+}
+
+fn step_short(hand: &mut Hand, turns: &mut Turns) -> Result<(), Fail> {
+    let before = hand.counts();
+    if hand.step(b'a') == Err(StepError::OutOfMemory) {
+        check(hand.counts() == before)?;
+        let is_full = before == (0, 36105);
+        turns.refuse(if is_full { Call::Clear } else { Call::Step })?;
+        hand.step(b'a')?;
+    }
+    Ok(())
+}
+
+/// Works while what is lent of memory rises by sixteen bytes a turn, so that each growth is the
+/// refused one in some turn, and looks whether all of these calls were refused.
+fn refuse_in_turn(alloc: Global, work: Work, most: usize, calls: &[Call]) -> Result<(), Fail> {
+    let mut turns = Turns {
+        blocks: Vec::with_capacity(alloc, 1 << 14)?,
+        lent: 1040,
+        refused: Vec::with_capacity(alloc, 8)?,
+    };
+    for _ in 0..512u32 {
+        turns.blocks.push(Vec::with_capacity(alloc, ROOM)?)?;
+    }
+    exhaust(alloc);
+    for _ in 0..most / 16 {
+        turns.lend(alloc)?;
+        work.run(alloc, &mut turns)?;
+        turns.lent = turns.lent.saturating_add(16);
+    }
+    for call in calls {
+        check(turns.refused.contains(call))?;
+    }
+    Ok(())
+}
+
+#[test]
+fn searches_after_each_refused_growth(rt: HostRuntime) -> Result<(), Fail> {
+    let calls = [Call::Create, Call::Search];
+    refuse_in_turn(rt.alloc(), Work::Search, 1 << 15, &calls)
+}
+
+#[test]
+fn searches_in_reverse_after_each_refused_growth(rt: HostRuntime) -> Result<(), Fail> {
+    let calls = [Call::Create, Call::Search];
+    refuse_in_turn(rt.alloc(), Work::ReverseSearch, 1 << 15, &calls)
+}
+
+#[test]
+fn steps_after_each_refused_growth(rt: HostRuntime) -> Result<(), Fail> {
+    let calls = [
+        Call::Create,
+        Call::Reset,
+        Call::Start,
+        Call::Step,
+        Call::Clear,
+    ];
+    refuse_in_turn(rt.alloc(), Work::Steps, 1 << 17, &calls)
 }

@@ -2,14 +2,14 @@
 
 use super::Searcher;
 use super::dfa::counts;
-use super::rows::{Row, answers};
+use super::rows::{Row, answer_all};
 use crate::catalogue::Entry;
 use regex_automata::hybrid::dfa::Config;
 use regex_automata::util::primitives::PatternID;
 use regex_automata::util::search::{HalfMatch, Input, MatchKind};
 use std::test::Fail;
 
-const PLAIN: [Row; 32] = [
+const PLAIN: &[Row] = &[
     ("a match", "ab", "ab", "", "half 0 0"),
     ("too short", "ab", "b", "", "none"),
     ("an empty haystack", "ab", "", "", "none"),
@@ -140,7 +140,7 @@ const PLAIN: [Row; 32] = [
     ),
 ];
 
-const LOOKS: [Row; 18] = [
+const LOOKS: &[Row] = &[
     (
         "the least start of a line's end",
         "crlf",
@@ -215,7 +215,7 @@ const LOOKS: [Row; 18] = [
     ),
 ];
 
-const MODES: [Row; 8] = [
+const MODES: &[Row] = &[
     (
         "a pattern without its starts",
         "ab",
@@ -268,7 +268,7 @@ const MODES: [Row; 8] = [
     ),
 ];
 
-const QUITS: [Row; 13] = [
+const QUITS: &[Row] = &[
     (
         "before the start is known",
         "wordend quit=78",
@@ -351,7 +351,7 @@ const QUITS: [Row; 13] = [
 ];
 
 /// In UTF-8 mode a start that splits a character is passed.
-const CHARACTERS: [Row; 18] = [
+const CHARACTERS: &[Row] = &[
     (
         "an empty match behind a character",
         "empty",
@@ -476,42 +476,27 @@ const CHARACTERS: [Row; 18] = [
 
 #[test]
 fn finds_plain_matches(rt: HostRuntime) -> Result<(), Fail> {
-    for row in PLAIN {
-        answers(&rt, "rev", row)?;
-    }
-    Ok(())
+    answer_all(&rt, "rev", PLAIN)
 }
 
 #[test]
 fn decides_looks(rt: HostRuntime) -> Result<(), Fail> {
-    for row in LOOKS {
-        answers(&rt, "rev", row)?;
-    }
-    Ok(())
+    answer_all(&rt, "rev", LOOKS)
 }
 
 #[test]
 fn starts_by_mode(rt: HostRuntime) -> Result<(), Fail> {
-    for row in MODES {
-        answers(&rt, "rev", row)?;
-    }
-    Ok(())
+    answer_all(&rt, "rev", MODES)
 }
 
 #[test]
 fn stops_at_quit_bytes(rt: HostRuntime) -> Result<(), Fail> {
-    for row in QUITS {
-        answers(&rt, "rev", row)?;
-    }
-    Ok(())
+    answer_all(&rt, "rev", QUITS)
 }
 
 #[test]
 fn passes_places_that_split_characters(rt: HostRuntime) -> Result<(), Fail> {
-    for row in CHARACTERS {
-        answers(&rt, "rev", row)?;
-    }
-    Ok(())
+    answer_all(&rt, "rev", CHARACTERS)
 }
 
 /// The farthest start under kind all, the nearest with an earliest input, and the first path's

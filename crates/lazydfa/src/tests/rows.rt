@@ -16,8 +16,15 @@ pub type Row = (
     &'static str,
 );
 
-/// Runs a row as a request of this word.
-pub fn answers<R: Abort + AllocGlobal>(rt: &R, request: &str, row: Row) -> Result<(), Fail> {
+/// Runs each row as a request of this word.
+pub fn answer_all<R: Abort + AllocGlobal>(rt: &R, request: &str, rows: &[Row]) -> Result<(), Fail> {
+    for row in rows {
+        answers(rt, request, *row)?;
+    }
+    Ok(())
+}
+
+fn answers<R: Abort + AllocGlobal>(rt: &R, request: &str, row: Row) -> Result<(), Fail> {
     let (shows, regex, haystack, how, reply) = row;
     let text = script(rt.alloc(), regex, request, haystack, how)?;
     let want = format!(in rt.alloc(); "regex 0\n{reply}\n")?;
