@@ -22,3 +22,8 @@ AreSmall set = (pattern : ℕ) → has set pattern ≡ true → IsId pattern
 pub record IsCounted (set : List Bool) (len : ℕ) : Type 0 where
   pub counted : len ≡ length (members set)
   pub small : AreSmall set
+
+-- A pattern that a set has no place for, and how many places the set has.
+pub record Misfit : Type 0 where
+  pub attempted : ℕ
+  pub capacity : ℕ

@@ -11,6 +11,16 @@ pub struct PatternSetInsertError {
     capacity: usize,
 }
 
+impl Model for PatternSetInsertError {
+    ghost use Rattle.automata_base.specs.PatternSet.{Misfit};
+
+    ghost Value = { Misfit };
+
+    ghost view = { λ e. record { attempted = e.attempted; capacity = e.capacity } };
+
+    ghost inverse = { λ v. record { attempted = v.attempted; capacity = v.capacity } };
+}
+
 /// A set of the patterns below a fixed capacity.
 #[derive(Debug, Drop)]
 pub struct PatternSet {
@@ -30,7 +40,7 @@ impl Model for PatternSet {
 }
 
 impl PatternSet {
-    ghost use Rattle.std.specs.Prelude.{◌≡◌, ◌<◌, ◌≤◌, ◌↔◌, [], false, true, not, length, IfOk, OnErr, IsErr, IsTrue, replicate, slice_set};
+    ghost use Rattle.std.specs.Prelude.{◌≡◌, ◌<◌, ◌≤◌, ◌↔◌, [], false, true, not, length, IfOk, IfErr, OnErr, IsErr, IsTrue, replicate, slice_set};
     ghost use Rattle.automata_base.specs.PatternSet.{has, members, AreSmall};
 
     /// The empty set.
@@ -45,6 +55,7 @@ impl PatternSet {
     /// Whether the pattern is new. A pattern that isn't below the capacity is refused, and the set stays as it is.
     pub fn try_insert(&mut self, pattern: PatternID) -> Result<bool, PatternSetInsertError>
         ensures refused { IsErr result ↔ (length self.old ≤ pattern) }
+        ensures error { IfErr result (λ e. e ≡ record { attempted = pattern; capacity = length self.old }) }
         ensures is_new { IfOk result (λ new. new ≡ not (has self.old pattern)) }
         ensures inserted { self.new ≡ slice_set self.old pattern true }
         ensures unchanged { OnErr result (self.new ≡ self.old) }

@@ -127,6 +127,11 @@ pub enum Anchored {
 }
 
 impl fmt::Display for Anchored {
+    ghost use Rattle.std.specs.Prelude.{Some};
+    ghost use Rattle.automata_base.specs.Input.{mode_text};
+
+    ghost output = { λ mode. Some (mode_text mode) };
+
     fn fmt<W: fmt::Write>(&self, f: &mut fmt::Formatter<W>) -> fmt::Result {
         match self {
             Anchored::No => write!(f, "unanchored searches"),
