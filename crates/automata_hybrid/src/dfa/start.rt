@@ -9,14 +9,9 @@ ghost use Rattle.automata_base.specs.Lists.{nth};
 ghost use Rattle.automata_base.specs.declared.util.search.MatchErrorKind.TheVariants.{Quit as QuitAt, UnsupportedAnchored as UnsupportedMode};
 ghost use Rattle.automata_hybrid.specs.Starting.{quit_behind, start_refusal, search_refusal, KnowsStart, known_start, MayStart, IsStartRefusal, IsStartRefusalAt};
 ghost use Rattle.automata_hybrid.specs.Slots.{supports, slot_of, slot_behind};
-<<<<<<< HEAD
-ghost use Rattle.automata_hybrid.specs.Table.{id_of, Names, IsValid, Leads};
-ghost use Rattle.automata_hybrid.specs.Bounds.{Fits, refuses_to_clear, IsCacheError, IsKnownStart, IsStarted, KeepsStarts, GivesUp};
-ghost use Rattle.automata_hybrid.specs.Growing.{IsGrown};
-=======
 ghost use Rattle.automata_hybrid.specs.Table.{Leads};
 ghost use Rattle.automata_hybrid.specs.Bounds.{IsCacheError, IsKnownStart, IsStarted, KeepsStarts, GivesUp};
->>>>>>> steps
+ghost use Rattle.automata_hybrid.specs.Growing.{IsGrown};
 ghost use Rattle.automata_hybrid.specs.Kept.{Keeps, ClearedNothing, HasRoom, Has};
 ghost use Rattle.automata_hybrid.specs.Caches.{IsCacheOf, counted, HasRow};
 ghost use Rattle.automata_hybrid.specs.Ids.{dead_id};
@@ -235,11 +230,8 @@ impl DFA {
         ensures past { MayStart self.now config.now.anchored config.now.look_behind → self.now.slots ≤ slot_behind self.now config.now.anchored config.now.look_behind → result ≡ Ok (dead_id self.now.stride) }
         ensures past_unchanged { MayStart self.now config.now.anchored config.now.look_behind → self.now.slots ≤ slot_behind self.now config.now.anchored config.now.look_behind → cache.new ≡ cache.old }
 
-<<<<<<< HEAD
-=======
         // Where the call clears nothing, nothing is lost. The start is known from then on, also where it cleared.
         ensures grown { IsGrown cache.old cache.new }
->>>>>>> steps
         ensures learned { slot_behind self.now config.now.anchored config.now.look_behind < self.now.slots → OnOk result (KnowsStart self.now cache.new.store config.now.anchored config.now.look_behind) }
         ensures written { slot_behind self.now config.now.anchored config.now.look_behind < self.now.slots → IfOk result (λ n. known_start self.now cache.new.store config.now.anchored config.now.look_behind ≡ n) }
 
@@ -331,11 +323,8 @@ impl DFA {
         ensures past { MayStart self.now input.now.anchored (byte_before input.now.haystack input.now.start) → self.now.slots ≤ slot_behind self.now input.now.anchored (byte_before input.now.haystack input.now.start) → result ≡ Ok (dead_id self.now.stride) }
         ensures past_unchanged { MayStart self.now input.now.anchored (byte_before input.now.haystack input.now.start) → self.now.slots ≤ slot_behind self.now input.now.anchored (byte_before input.now.haystack input.now.start) → cache.new ≡ cache.old }
 
-<<<<<<< HEAD
-=======
         // Where the call clears nothing, nothing is lost. The start is known from then on, also where it cleared.
         ensures grown { IsGrown cache.old cache.new }
->>>>>>> steps
         ensures learned { slot_behind self.now input.now.anchored (byte_before input.now.haystack input.now.start) < self.now.slots → OnOk result (KnowsStart self.now cache.new.store input.now.anchored (byte_before input.now.haystack input.now.start)) }
         ensures written { slot_behind self.now input.now.anchored (byte_before input.now.haystack input.now.start) < self.now.slots → IfOk result (λ n. known_start self.now cache.new.store input.now.anchored (byte_before input.now.haystack input.now.start) ≡ n) }
 
@@ -386,11 +375,8 @@ impl DFA {
         ensures past { MayStart self.now input.now.anchored (nth input.now.haystack input.now.end) → self.now.slots ≤ slot_behind self.now input.now.anchored (nth input.now.haystack input.now.end) → result ≡ Ok (dead_id self.now.stride) }
         ensures past_unchanged { MayStart self.now input.now.anchored (nth input.now.haystack input.now.end) → self.now.slots ≤ slot_behind self.now input.now.anchored (nth input.now.haystack input.now.end) → cache.new ≡ cache.old }
 
-<<<<<<< HEAD
-=======
         // Where the call clears nothing, nothing is lost. The start is known from then on, also where it cleared.
         ensures grown { IsGrown cache.old cache.new }
->>>>>>> steps
         ensures learned { slot_behind self.now input.now.anchored (nth input.now.haystack input.now.end) < self.now.slots → OnOk result (KnowsStart self.now cache.new.store input.now.anchored (nth input.now.haystack input.now.end)) }
         ensures written { slot_behind self.now input.now.anchored (nth input.now.haystack input.now.end) < self.now.slots → IfOk result (λ n. known_start self.now cache.new.store input.now.anchored (nth input.now.haystack input.now.end) ≡ n) }
 
