@@ -1,5 +1,5 @@
 -- The bytes from 0x80 on in a quit set.
-use Rattle.std.proofs.Common.{ℕ, zero, suc, ◌≡◌, ◌+◌, ◌-◌, ◌<◌, ◌≤◌, ◌&&◌, Bool, true, false, List, refl, sym, ap, ◌∙◌, arith}
+use Rattle.std.proofs.Common.{ℕ, suc, ◌≡◌, ◌+◌, ◌-◌, ◌<◌, ◌≤◌, ◌&&◌, Bool, true, List, refl, ap, ◌∙◌, arith}
 use Rattle.automata_base.specs.Classes.{is_quit}
 use Rattle.automata_config.specs.Settling.{are_quits}
 

@@ -1,6 +1,6 @@
 -- When a configuration is refused, and what it settles otherwise.
-use Rattle.std.proofs.Common.{ℕ, ◌≡◌, ◌<◌, ◌≤◌, ◌&&◌, ◌||◌, Bool, true, false, not, cond, leb, ltb, List, [], ◌∷◌, length, get_or, map, Option, Some, None, refl, sym, ap, ◌∙◌, arith}
-use Rattle.std.specs.List.{list_any, range_with_len}
+use Rattle.std.proofs.Common.{ℕ, ◌≡◌, ◌<◌, ◌≤◌, ◌&&◌, ◌||◌, Bool, true, false, cond, leb, ltb, List, [], ◌∷◌, length, get_or, Some, None, refl, sym, ap, ◌∙◌}
+use Rattle.std.specs.List.{list_any}
 use Rattle.std.proofs.lemmas.Bool.{le-ltb, lt-ltb}
 use Rattle.std.proofs.lemmas.List.FromFn.{fill_by_all}
 use Rattle.automata_base.specs.Classes.{is_quit}
@@ -8,7 +8,7 @@ use Rattle.automata_base.specs.Nodes.{Automaton}
 use Rattle.automata_config.specs.Options.{Options, quits_of, unicode_word_boundary_of}
 use Rattle.automata_config.specs.Settling.{has_unicode_word, settled_quits, is_unsupported, is_too_small, greatest_offset, refusal}
 use Rattle.automata_config.specs.declared.error.BuildError.{BuildError}
-use Rattle.automata_config.specs.declared.error.BuildError.TheVariants.{Unsupported, InsufficientStateIDCapacity}
+use Rattle.automata_config.specs.declared.error.BuildError.TheVariants.{InsufficientStateIDCapacity}
 
 pub list_any-same : {X : Type 0} (f g : X → Bool) (xs : List X) → ((x : X) → f x ≡ g x) → list_any f xs ≡ list_any g xs
 list_any-same f g [] same = refl

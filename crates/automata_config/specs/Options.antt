@@ -1,5 +1,5 @@
 -- What contracts see of a configuration: each option as it was set, if it was; and what each stands for.
-use Rattle.std.specs.Prelude.{ℕ, Bool, true, false, not, ◌&&◌, nat_le, List, Option, Some, None, unwrap_or, replicate}
+use Rattle.std.specs.Prelude.{ℕ, Bool, true, false, not, ◌&&◌, nat_le, List, Option, None, unwrap_or, replicate}
 use Rattle.std.specs.Option.{option_or}
 use Rattle.automata_base.specs.declared.util.search.MatchKind.{MatchKind}
 use Rattle.automata_base.specs.declared.util.search.MatchKind.TheVariants.{LeftmostFirst}

@@ -1,5 +1,5 @@
 -- What a configuration makes of an automaton: a quit set, classes, a capacity; or a refusal.
-use Rattle.std.specs.Prelude.{ℕ, ◌≡◌, ◌+◌, ◌*◌, ◌<◌, ◌≤◌, Bool, true, false, not, ◌&&◌, ◌||◌, nat_le, nat_lt, eqb, if◌then◌else◌, List, [], ◌∷◌, map, Option, Some, None}
+use Rattle.std.specs.Prelude.{ℕ, ◌≡◌, ◌+◌, ◌*◌, ◌<◌, ◌≤◌, Bool, not, ◌&&◌, ◌||◌, nat_le, nat_lt, eqb, if◌then◌else◌, List, [], ◌∷◌, map, Option, Some, None}
 use Rattle.std.specs.List.{list_all, list_any, range_with_len}
 use Rattle.automata_base.specs.Accounting.{start_slots, max_cost, fixed_cost, minimum_capacity, effective_capacity}
 use Rattle.automata_base.specs.Classes.{is_quit, class_of, class_in, stride_for}

@@ -1,5 +1,5 @@
 -- What steps and searches make of a cache, one after another.
-use Rattle.std.proofs.Common.{ℕ, ◌≡◌, ◌∙◌, ◌+◌, ◌-◌, ◌*◌, ◌^◌, ◌<◌, ◌≤◌, ◌⊎◌, inl, inr, length, refl, sym, ap, subst, arith}
+use Rattle.std.proofs.Common.{ℕ, ◌≡◌, ◌∙◌, ◌+◌, ◌-◌, ◌*◌, ◌≤◌, refl, sym, ap, subst, arith}
 use Rattle.std.proofs.Math.Nat.{mul-le-mul_right}
 use Rattle.automata_hybrid.specs.declared.dfa.progress.Searched.{Searched}
 use Rattle.automata_hybrid.specs.Bounds.{Stored, usage, with_searched}
@@ -7,7 +7,7 @@ use Rattle.automata_hybrid.specs.Caches.{CacheView, counted, with_store}
 use Rattle.automata_hybrid.specs.Growing.{IsGrown}
 use Rattle.automata_hybrid.specs.Kept.{Keeps, ClearedNothing, HasRoom}
 use Rattle.automata_hybrid.proofs.Effects.{Keeps-trans}
-use Rattle.automata_hybrid.specs.Machine.{Machine, greatest}
+use Rattle.automata_hybrid.specs.Machine.{greatest}
 
 -- room for fewer states
 pub room_less : (c : Stored) (n k : ℕ) → k ≤ n → HasRoom c n → HasRoom c k
@@ -31,9 +31,11 @@ grown_searched c s =
       clears = omega arith;
       idle = λ e. (refl, refl);
       kept = λ e. record { rows = λ id q n. n; starts = λ slot k. refl; cells = λ id class v l k. refl };
-      roomy = λ states r.
-          (let l : HasRoom c.store states = room_less c.store (states + (c.count - c.count)) states (omega arith) r in
-          record { capacity = l.capacity; offsets = l.offsets }, refl);
+      roomy = λ states r. (
+        let l : HasRoom c.store states = room_less c.store (states + (c.count - c.count)) states (omega arith) r in
+            record { capacity = l.capacity; offsets = l.offsets },
+        refl,
+      );
     }
 
 pub grown_same : (old new : CacheView) → new ≡ old → IsGrown old new

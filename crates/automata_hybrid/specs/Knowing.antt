@@ -1,5 +1,5 @@
 -- Searches whose start and transitions are all known.
-use Rattle.std.specs.Prelude.{◌≡◌, ℕ, ◌+◌, ◌<◌, ◌≤◌, length, Option, None, Some}
+use Rattle.std.specs.Prelude.{ℕ, ◌+◌, ◌<◌, ◌≤◌, Option, None, Some}
 use Rattle.automata_base.specs.Answers.{Tries, later}
 use Rattle.automata_base.specs.Classes.{class_in, eoi_class}
 use Rattle.automata_base.specs.Input.{Input}

@@ -1,7 +1,6 @@
 -- A pass under way: what the functions of a search keep from unit to unit.
-use Rattle.std.specs.Prelude.{ℕ, ◌≡◌, ◌<◌, IsBitSet, List, [], ◌∷◌, true, false, Option, Some, None}
+use Rattle.std.specs.Prelude.{ℕ, ◌≡◌, ◌<◌, IsBitSet, List, [], ◌∷◌, true, Option, Some, None}
 use Rattle.automata_base.specs.Answers.{offset_in}
-use Rattle.automata_base.specs.Classes.{is_quit}
 use Rattle.automata_base.specs.Input.{Input}
 use Rattle.automata_base.specs.Matches.{HalfMatch}
 use Rattle.automata_base.specs.Paths.{next}

@@ -1,6 +1,5 @@
 -- Searches have one answer, and spans have one start.
-use Rattle.std.proofs.Common.{ℕ, suc, ◌≡◌, ◌<◌, ◌≤◌, ◌+◌, Bool, true, false, List, [], ◌∷◌, ◌++◌, ◌⊎◌, Option, Some, None, is_some, inl, inr, refl, sym, ap, ap₂, ◌∙◌, subst, arith, ⊎_elim, true≢false, eq-or-lt_of_le}
-use Rattle.std.proofs.lemmas.Bool.{cases_lt}
+use Rattle.std.proofs.Common.{ℕ, suc, ◌≡◌, ◌<◌, ◌+◌, Bool, true, false, List, [], ◌∷◌, ◌++◌, ◌⊎◌, Option, Some, None, is_some, inl, inr, refl, sym, ap, ap₂, ◌∙◌, subst, arith, ⊎_elim}
 use Rattle.automata_base.specs.Order.{Upto, Begins}
 use Rattle.automata_base.specs.Nfa.{Nfa, accepts}
 use Rattle.automata_base.specs.Paths.{Tape, IsPath}
@@ -10,9 +9,9 @@ use Rattle.automata_base.proofs.Paths.Orders.{some_inj, before_irrefl, before_tr
 use Rattle.automata_base.specs.Spans.{IsPathStart, Chooses, IsSpan, in_full, IsMatch, from, IsEmptyAt, IsNext, AreMatches, AreSpans}
 use Rattle.automata_base.specs.Matches.{Match}
 use Rattle.automata_base.proofs.Paths.Places.{path_end}
-use Rattle.automata_base.specs.Tapes.{Direction, Forward, Backward, tape_of, forward_tape, is_split}
+use Rattle.automata_base.specs.Tapes.{Direction, Forward, tape_of, forward_tape}
 use Rattle.automata_base.specs.Engines.{Engine, Anchored, No, Yes, Pattern, first_state, IsSkipping}
-use Rattle.automata_base.specs.Answers.{Half, SelectsFrom, SelectsOver, later, offset_in, ComesTo, IsSplitAnswer, IsAnswer}
+use Rattle.automata_base.specs.Answers.{Half, SelectsFrom, SelectsOver, later, ComesTo, IsSplitAnswer, IsAnswer}
 use Rattle.automata_base.specs.Input.{Input}
 use Rattle.automata_base.proofs.Spans.Answered.{answers_once}
 use Rattle.automata_base.proofs.Spans.Starts.{no_pair}

@@ -234,7 +234,6 @@ impl DFA {
         ensures grown { IsGrown cache.old cache.new }
         ensures learned { slot_behind self.now config.now.anchored config.now.look_behind < self.now.slots → OnOk result (KnowsStart self.now cache.new.store config.now.anchored config.now.look_behind) }
         ensures written { slot_behind self.now config.now.anchored config.now.look_behind < self.now.slots → IfOk result (λ n. known_start self.now cache.new.store config.now.anchored config.now.look_behind ≡ n) }
-
     {
         if let Some(byte) = self.quits_behind(config.get_look_behind()) {
             return Err(StartError::Quit { byte });
@@ -327,7 +326,6 @@ impl DFA {
         ensures grown { IsGrown cache.old cache.new }
         ensures learned { slot_behind self.now input.now.anchored (byte_before input.now.haystack input.now.start) < self.now.slots → OnOk result (KnowsStart self.now cache.new.store input.now.anchored (byte_before input.now.haystack input.now.start)) }
         ensures written { slot_behind self.now input.now.anchored (byte_before input.now.haystack input.now.start) < self.now.slots → IfOk result (λ n. known_start self.now cache.new.store input.now.anchored (byte_before input.now.haystack input.now.start) ≡ n) }
-
     {
         let config = start::Config::from_input_forward(input);
         match self.start_state(cache, &config) {
@@ -379,7 +377,6 @@ impl DFA {
         ensures grown { IsGrown cache.old cache.new }
         ensures learned { slot_behind self.now input.now.anchored (nth input.now.haystack input.now.end) < self.now.slots → OnOk result (KnowsStart self.now cache.new.store input.now.anchored (nth input.now.haystack input.now.end)) }
         ensures written { slot_behind self.now input.now.anchored (nth input.now.haystack input.now.end) < self.now.slots → IfOk result (λ n. known_start self.now cache.new.store input.now.anchored (nth input.now.haystack input.now.end) ≡ n) }
-
     {
         let config = start::Config::from_input_reverse(input);
         match self.start_state(cache, &config) {

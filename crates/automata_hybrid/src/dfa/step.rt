@@ -138,7 +138,6 @@ impl DFA {
         ensures grown { IsGrown cache.old cache.new }
         ensures learned { id < fixed_from → ClearedNothing cache.old.store cache.new.store → IfOk result (λ n. IsKnownTransition cache.new.store id (class_in self.now.classes byte)) }
         ensures written { id < fixed_from → ClearedNothing cache.old.store cache.new.store → IfOk result (λ n. cell_of cache.new.store id (class_in self.now.classes byte) ≡ n) }
-
     {
         cache.see_ids();
         if id.is_fixed() {
@@ -184,7 +183,6 @@ impl DFA {
         ensures grown { IsGrown cache.old cache.new }
         ensures learned { id < fixed_from → ClearedNothing cache.old.store cache.new.store → IfOk result (λ n. IsKnownTransition cache.new.store id (eoi_class self.now.classes)) }
         ensures written { id < fixed_from → ClearedNothing cache.old.store cache.new.store → IfOk result (λ n. cell_of cache.new.store id (eoi_class self.now.classes) ≡ n) }
-
     {
         cache.see_ids();
         if id.is_fixed() {

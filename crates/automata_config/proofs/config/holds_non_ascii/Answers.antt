@@ -1,4 +1,4 @@
-use Rattle.std.proofs.Common.{◌≡◌, ◌&&◌, ◌-◌, ◌+◌, refl, sym, ap, ◌∙◌, arith}
+use Rattle.std.proofs.Common.{◌&&◌, ◌-◌, ◌+◌, refl, sym, ap, ◌∙◌}
 use Rattle.automata_config.specs.Settling.{are_quits}
 use Rattle.automata_config.proofs.NonAscii.{are_quits-more, are_quits-all}
 use Rattle.automata_config.proofs.config.holds_non_ascii.Goals as goal

@@ -1,7 +1,7 @@
 use Rattle.std.proofs.Common.{◌≡◌, ◌&&◌, false, not, nat_lt, sym, ap, ◌∙◌, arith, Some, max}
 use Rattle.automata_base.specs.Classes.{class_of}
 use Rattle.automata_config.specs.Options.{cache_capacity_of, skip_cache_capacity_check_of}
-use Rattle.automata_config.specs.Settling.{settled_minimum, is_unsupported, is_too_small}
+use Rattle.automata_config.specs.Settling.{is_unsupported, is_too_small}
 use Rattle.automata_config.specs.declared.error.BuildError.TheVariants.{Unsupported, InsufficientStateIDCapacity}
 use Rattle.automata_config.proofs.Refusing.{supported, refusal-offset, refusal-none}
 use Rattle.automata_config.proofs.config.Config.settle.Goals as goal

@@ -113,7 +113,7 @@ returns-in_err-last-2-clause-idle c = λ knows.
     let past : next (tape_in Forward c.args.input.now) k ≡ None = forward_end c.args.input.now c.requires.open c.end-end.ensures.within.1 (let h : length c.haystack.result.now ≡ length c.args.input.now.haystack = ap (λ (x : List ℕ). length x) c.haystack.ensures.same in omega (arith, h, c.if-end-haystack.false, c.end-end.ensures.end)) in
     let units : k ≡ length (tape_in Forward c.args.input.now).bytes = forward_units c.args.input.now c.requires.open c.end-end.ensures.within.1 in
     let known : IsKnownTransition c.args.cache.now.store c.args.id (unit_class c.args.self.now None) = knows_here Forward c.args.self.now c.args.cache.now.store c.args.input.now k c.args.id c.args.found None knows c.requires.may c.requires.at (omega (arith, units))
-        (λ q n. c.in_err-last-2.ensures.alive q (subst (λ (t : Rows). Names t c.args.id q) (sym c.move_search.ensures.table) n)) past in
+    (λ q n. c.in_err-last-2.ensures.alive q (subst (λ (t : Rows). Names t c.args.id q) (sym c.move_search.ensures.table) n)) past in
     let idle = c.in_err-last-2.ensures.idle (subst (λ (v : CacheView). IsKnownTransition v.store c.args.id (unit_class c.args.self.now None)) (sym c.move_search.ensures.value) known) in
     (idle.0 ∙ c.move_search.ensures.count, if_err c.from_residual-in_err-last-2.result _ _ c.from_residual-in_err-last-2.ensures.1 idle.1)
 
@@ -129,7 +129,7 @@ returns-clause-idle c = λ knows.
     let past : next (tape_in Forward c.args.input.now) k ≡ None = forward_end c.args.input.now c.requires.open c.end-end.ensures.within.1 (let h : length c.haystack.result.now ≡ length c.args.input.now.haystack = ap (λ (x : List ℕ). length x) c.haystack.ensures.same in omega (arith, h, c.if-end-haystack.false, c.end-end.ensures.end)) in
     let units : k ≡ length (tape_in Forward c.args.input.now).bytes = forward_units c.args.input.now c.requires.open c.end-end.ensures.within.1 in
     let known : IsKnownTransition c.args.cache.now.store c.args.id (unit_class c.args.self.now None) = knows_here Forward c.args.self.now c.args.cache.now.store c.args.input.now k c.args.id c.args.found None knows c.requires.may c.requires.at (omega (arith, units))
-        (λ q n. c.in_ok-last-2.ensures.alive q (subst (λ (t : Rows). Names t c.args.id q) (sym c.move_search.ensures.table) n)) past in
+    (λ q n. c.in_ok-last-2.ensures.alive q (subst (λ (t : Rows). Names t c.args.id q) (sym c.move_search.ensures.table) n)) past in
     let idle = c.in_ok-last-2.ensures.idle (subst (λ (v : CacheView). IsKnownTransition v.store c.args.id (unit_class c.args.self.now None)) (sym c.move_search.ensures.value) known) in
     (c.end_search-2.ensures.count ∙ (idle.0 ∙ c.move_search.ensures.count), tt)
 

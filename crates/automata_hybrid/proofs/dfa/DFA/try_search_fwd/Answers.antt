@@ -1,4 +1,4 @@
-use Rattle.std.proofs.Common.{rules, ap, sym, Some, ◌∙◌}
+use Rattle.std.proofs.Common.{rules, ap, sym, ◌∙◌}
 use Rattle.std.specs.Prelude.{option_map}
 use Rattle.automata_hybrid.specs.Searches.{with_base, without_base}
 use Rattle.automata_hybrid.proofs.Searching.{if_err}
