@@ -1,6 +1,6 @@
 // Keys of a map from states: a state is looked up by its bytes before it is shared.
-ghost use Rattle.std.specs.Prelude.{◌≡◌, IfOk};
-ghost use Rattle.automata_base.specs.Code.{decoded, IsCode};
+ghost use Rattle.std.specs.Prelude.{◌≡◌, ◌⊎◌, [], IfOk};
+ghost use Rattle.automata_base.specs.Code.{code, decoded, IsCode};
 
 use crate::util::determinize::state::State;
 use std::alloc::{AllocError, Global};
@@ -110,7 +110,9 @@ impl Key {
     }
 
     /// The vector of a key that holds one, to be used again, and else an empty one.
-    pub fn into_vec(self, alloc: Global) -> Vec<u8> {
+    pub fn into_vec(self, alloc: Global) -> Vec<u8>
+        ensures { (result.items ≡ code self) ⊎ (result.items ≡ []) }
+    {
         match self.bytes {
             Bytes::Shared(_) => Vec::new(alloc),
             Bytes::Own(bytes) => bytes,
