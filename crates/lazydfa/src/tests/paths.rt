@@ -206,33 +206,97 @@ fn is_word(byte: Option<u8>) -> bool {
     byte.is_some_and(|byte| byte.is_ascii_alphanumeric() || byte == b'_')
 }
 
-/// An entry, and three pieces to make haystacks of. The first two are of different classes, where
-/// not all bytes are of one.
-type Row = (Entry, [&'static [u8]; 3]);
+/// Three pieces to make haystacks of. The first two are of different classes, where not all bytes are
+/// of one.
+type Pieces = [&'static [u8]; 3];
 
-/// All entries, with single bytes.
-const COMPARED: [Row; 17] = [
-    (Entry::Ab, [b"a", b"b", b"x"]),
-    (Entry::Always, [b"a", b"b", b"x"]),
-    (Entry::Never, [b"a", b"b", b"x"]),
-    (Entry::Date, [b"0", b"-", b"x"]),
-    (Entry::Words, [b"a", b"!", b" "]),
-    (Entry::Abc, [b"a", b"b", b"c"]),
-    (Entry::Aa, [b"a", b"b", b"x"]),
-    (Entry::Bnum, [b"1", b"a", b" "]),
-    (Entry::Wordend, [b"a", b" ", b"_"]),
-    (Entry::Empty, [b"a", b"\x98", b"\xE2"]),
-    (Entry::Snow, [b"a", b"\x98", b" "]),
-    (Entry::Snowx, [b"x", b"\x98", b" "]),
-    (Entry::Bound, [b"a", b" ", b"_"]),
-    (Entry::Crlf, [b"\r", b"\n", b"a"]),
-    (Entry::Any, [b"a", b"\x98", b"\xE2"]),
-    (Entry::Runs, [b"a", b"1", b" "]),
-    (Entry::A16, [b"a", b"b", b"x"]),
-];
+#[test]
+fn ab_finds_its_paths(rt: HostRuntime) -> Result<(), Fail> {
+    agree(&rt, Entry::Ab, [b"a", b"b", b"x"])
+}
+
+#[test]
+fn always_finds_its_paths(rt: HostRuntime) -> Result<(), Fail> {
+    agree(&rt, Entry::Always, [b"a", b"b", b"x"])
+}
+
+#[test]
+fn never_finds_its_paths(rt: HostRuntime) -> Result<(), Fail> {
+    agree(&rt, Entry::Never, [b"a", b"b", b"x"])
+}
+
+#[test]
+fn date_finds_its_paths(rt: HostRuntime) -> Result<(), Fail> {
+    agree(&rt, Entry::Date, [b"0", b"-", b"x"])
+}
+
+#[test]
+fn words_finds_its_paths(rt: HostRuntime) -> Result<(), Fail> {
+    agree(&rt, Entry::Words, [b"a", b"!", b" "])
+}
+
+#[test]
+fn abc_finds_its_paths(rt: HostRuntime) -> Result<(), Fail> {
+    agree(&rt, Entry::Abc, [b"a", b"b", b"c"])
+}
+
+#[test]
+fn aa_finds_its_paths(rt: HostRuntime) -> Result<(), Fail> {
+    agree(&rt, Entry::Aa, [b"a", b"b", b"x"])
+}
+
+#[test]
+fn bnum_finds_its_paths(rt: HostRuntime) -> Result<(), Fail> {
+    agree(&rt, Entry::Bnum, [b"1", b"a", b" "])
+}
+
+#[test]
+fn wordend_finds_its_paths(rt: HostRuntime) -> Result<(), Fail> {
+    agree(&rt, Entry::Wordend, [b"a", b" ", b"_"])
+}
+
+#[test]
+fn empty_finds_its_paths(rt: HostRuntime) -> Result<(), Fail> {
+    agree(&rt, Entry::Empty, [b"a", b"\x98", b"\xE2"])
+}
+
+#[test]
+fn snow_finds_its_paths(rt: HostRuntime) -> Result<(), Fail> {
+    agree(&rt, Entry::Snow, [b"a", b"\x98", b" "])
+}
+
+#[test]
+fn snowx_finds_its_paths(rt: HostRuntime) -> Result<(), Fail> {
+    agree(&rt, Entry::Snowx, [b"x", b"\x98", b" "])
+}
+
+#[test]
+fn bound_finds_its_paths(rt: HostRuntime) -> Result<(), Fail> {
+    agree(&rt, Entry::Bound, [b"a", b" ", b"_"])
+}
+
+#[test]
+fn crlf_finds_its_paths(rt: HostRuntime) -> Result<(), Fail> {
+    agree(&rt, Entry::Crlf, [b"\r", b"\n", b"a"])
+}
+
+#[test]
+fn any_finds_its_paths(rt: HostRuntime) -> Result<(), Fail> {
+    agree(&rt, Entry::Any, [b"a", b"\x98", b"\xE2"])
+}
+
+#[test]
+fn runs_finds_its_paths(rt: HostRuntime) -> Result<(), Fail> {
+    agree(&rt, Entry::Runs, [b"a", b"1", b" "])
+}
+
+#[test]
+fn a16_finds_its_paths(rt: HostRuntime) -> Result<(), Fail> {
+    agree(&rt, Entry::A16, [b"a", b"b", b"x"])
+}
 
 /// The entries in UTF-8 mode, with whole characters.
-const CHARACTERS: [Row; 4] = [
+const CHARACTERS: [(Entry, Pieces); 4] = [
     (Entry::Empty, [b"a", b"\xE2\x98\x83", b"\xC3\xA9"]),
     (Entry::Snow, [b"a", b"\xE2\x98\x83", b"x"]),
     (Entry::Snowx, [b"x", b"\xE2\x98\x83", b"a"]),
@@ -240,48 +304,18 @@ const CHARACTERS: [Row; 4] = [
 ];
 
 #[test]
-fn finds_the_first_path(rt: HostRuntime) -> Result<(), Fail> {
-    for row in COMPARED {
-        let nfa = row.0.forward(rt.alloc())?;
-        compare(&rt, nfa, MatchKind::LeftmostFirst, row)?;
-    }
-    Ok(())
-}
-
-#[test]
-fn finds_the_farthest_end(rt: HostRuntime) -> Result<(), Fail> {
-    for row in COMPARED {
-        let nfa = row.0.forward(rt.alloc())?;
-        compare(&rt, nfa, MatchKind::All, row)?;
-    }
-    Ok(())
-}
-
-#[test]
-fn finds_the_first_path_in_reverse(rt: HostRuntime) -> Result<(), Fail> {
-    for row in COMPARED {
-        let nfa = row.0.reverse(rt.alloc())?;
-        compare(&rt, nfa, MatchKind::LeftmostFirst, row)?;
-    }
-    Ok(())
-}
-
-#[test]
-fn finds_the_farthest_start(rt: HostRuntime) -> Result<(), Fail> {
-    for row in COMPARED {
-        let nfa = row.0.reverse(rt.alloc())?;
-        compare(&rt, nfa, MatchKind::All, row)?;
-    }
-    Ok(())
-}
-
-#[test]
 fn passes_split_places(rt: HostRuntime) -> Result<(), Fail> {
-    for row in CHARACTERS {
-        for kind in [MatchKind::LeftmostFirst, MatchKind::All] {
-            compare(&rt, row.0.forward(rt.alloc())?, kind, row)?;
-            compare(&rt, row.0.reverse(rt.alloc())?, kind, row)?;
-        }
+    for (entry, pieces) in CHARACTERS {
+        agree(&rt, entry, pieces)?;
+    }
+    Ok(())
+}
+
+/// Searches of both kinds in both directions find what the listed paths of an entry say.
+fn agree<R: Abort + AllocGlobal>(rt: &R, entry: Entry, pieces: Pieces) -> Result<(), Fail> {
+    for kind in [MatchKind::LeftmostFirst, MatchKind::All] {
+        compare(rt, entry.forward(rt.alloc())?, kind, (entry, pieces))?;
+        compare(rt, entry.reverse(rt.alloc())?, kind, (entry, pieces))?;
     }
     Ok(())
 }
@@ -292,7 +326,7 @@ fn compare<R: Abort + AllocGlobal>(
     rt: &R,
     nfa: NFA,
     kind: MatchKind,
-    row: Row,
+    row: (Entry, Pieces),
 ) -> Result<(), Fail> {
     let (entry, pieces) = row;
     let config = Config::new().match_kind(kind).unicode_word_boundary(true);
