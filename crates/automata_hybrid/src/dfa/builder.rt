@@ -1,4 +1,5 @@
-ghost use Rattle.std.specs.Prelude.{◌≡◌, IfOk, [], ◌∷◌};
+ghost use Rattle.std.specs.Prelude.{◌≡◌, IfOk, IfErr, None, [], ◌∷◌};
+ghost use Rattle.automata_base.specs.Nodes.{Automaton};
 ghost use Rattle.automata_config.specs.Options.{unset, overwritten};
 ghost use Rattle.automata_config.specs.Settling.{refusal};
 ghost use Rattle.automata_hybrid.specs.Builds.{Builds};
@@ -61,6 +62,8 @@ impl Builder {
 
 /// The DFA of an automaton of one state, by the default settings. It is refused for want of memory alone.
 fn of_state(alloc: Global, state: State, starts: Vec<StateID>) -> Result<DFA, BuildError>
+    requires { (a : Automaton) → a.states ≡ state ∷ [] → a.start_pattern ≡ starts.items → refusal unset a ≡ None }
+    ensures refused { IfErr result (λ e. e ≡ BuildError.OutOfMemory) }
     ensures built { IfOk result (λ m. Builds unset m.nfa m) }
     ensures states { IfOk result (λ m. m.nfa.states ≡ state ∷ []) }
     ensures starts { IfOk result (λ m. m.nfa.start_pattern ≡ starts.items) }
@@ -84,6 +87,7 @@ fn of_state(alloc: Global, state: State, starts: Vec<StateID>) -> Result<DFA, Bu
 impl DFA {
     /// A DFA of one pattern, which matches everywhere.
     pub fn always_match(alloc: Global) -> Result<DFA, BuildError>
+        ensures refused { IfErr result (λ e. e ≡ BuildError.OutOfMemory) }
         ensures built { IfOk result (λ m. Builds unset m.nfa m) }
         ensures states { IfOk result (λ m. m.nfa.states ≡ State.Match 0 ∷ []) }
         ensures starts { IfOk result (λ m. m.nfa.start_pattern ≡ 0 ∷ []) }
@@ -102,6 +106,7 @@ impl DFA {
 
     /// A DFA of no pattern, which matches nowhere.
     pub fn never_match(alloc: Global) -> Result<DFA, BuildError>
+        ensures refused { IfErr result (λ e. e ≡ BuildError.OutOfMemory) }
         ensures built { IfOk result (λ m. Builds unset m.nfa m) }
         ensures states { IfOk result (λ m. m.nfa.states ≡ State.Fail ∷ []) }
         ensures starts { IfOk result (λ m. m.nfa.start_pattern ≡ []) }
