@@ -1,12 +1,13 @@
 -- What a search answers by what its passes tell, for every automaton.
-use Rattle.std.specs.Prelude.{◌≡◌, Option}
+use Rattle.std.specs.Prelude.{ℕ, ◌≡◌, true, false, Option, None, Some}
 use Rattle.automata_base.specs.Answers.{Answers, Half, IsAnswer, IsInput}
-use Rattle.automata_base.specs.Cuts.{MatchKind}
-use Rattle.automata_base.specs.Engines.{IsSkipping, engine_of}
+use Rattle.automata_base.specs.Cuts.{MatchKind, All}
+use Rattle.automata_base.specs.Engines.{Engine, IsSkipping, engine_of, first_state}
 use Rattle.automata_base.specs.Input.{Input}
 use Rattle.automata_base.specs.Nodes.{Automaton, nfa_of}
-use Rattle.automata_base.specs.Paths.{IsLookAcyclic}
-use Rattle.automata_base.specs.Selections.{Pair}
+use Rattle.automata_base.specs.Nfa.{Nfa}
+use Rattle.automata_base.specs.Paths.{Tape, IsLookAcyclic}
+use Rattle.automata_base.specs.Selections.{Pair, IsFarthest, IsNearest}
 use Rattle.automata_base.specs.Tapes.{Direction, tape_of}
 use Rattle.automata_base.specs.Telling.{told_by}
 
@@ -34,3 +35,27 @@ abbrev pub ToldIsOne : Type 0
 ToldIsOne =
     (way : Direction) (a : Automaton) (kind : MatchKind) (input : Input) (first second : Option Half)
     → IsTold way a kind input first → IsTold way a kind input second → first ≡ second
+
+-- what a rule of ends says over the span of an input, which is not done
+abbrev pub EndsFrom : (Rule : Nfa → Tape → ℕ → Option Pair → Type 0) → Engine → Tape → Option ℕ → Option Pair → Type 0
+EndsFrom Rule d t None answer = answer ≡ None
+EndsFrom Rule d t (Some q) answer = Rule d.nfa t q answer
+
+abbrev pub EndsOver : (Rule : Nfa → Tape → ℕ → Option Pair → Type 0) → Direction → Engine → Input → Option Pair → Type 0
+EndsOver Rule way d input answer =
+    EndsFrom Rule d (tape_of way input.haystack input.start input.end) (first_state d input.anchored) answer
+
+-- a search answers the nearest end, or the farthest one, over the first span where that is nothing or not split
+abbrev pub IsNearestAnswer : Direction → Engine → Input → Option Half → Type 0
+IsNearestAnswer way d input answer = Answers (EndsOver IsNearest way d) (IsSkipping d) way input answer
+
+abbrev pub IsFarthestAnswer : Direction → Engine → Input → Option Half → Type 0
+IsFarthestAnswer way d input answer = Answers (EndsOver IsFarthest way d) (IsSkipping d) way input answer
+
+-- for every automaton it is the nearest end in an earliest search, and under kind all the farthest end in another
+abbrev pub ToldEndsAreRight : Automaton → Type 0
+ToldEndsAreRight a =
+    (way : Direction) (kind : MatchKind) (input : Input) (answer : Option Half)
+    → IsInput input → IsTold way a kind input answer
+    → (input.earliest ≡ true → IsNearestAnswer way (engine_of a kind) input answer)
+    × (input.earliest ≡ false → kind ≡ All → IsFarthestAnswer way (engine_of a kind) input answer)

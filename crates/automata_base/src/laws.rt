@@ -2,7 +2,7 @@
 ghost use Rattle.automata_base.specs.LateIsRight.{SearchesAreRight, WalksAreRight, NearestEndsAreRight, EndsAreRight, PairsAreRight};
 ghost use Rattle.automata_base.specs.StartIsRight.{StartsAreRight, SpansAreFound, SpansAreOne, AnswersAreOne, IterationsAreRight, IterationsAreOne, EndsRise, FoundEndsRise, MatchIffFound, BackMeetsNone};
 ghost use Rattle.automata_base.specs.StepLaws.{ClassesStepAlike, ClassesQuitAlike, StartsAreAlike, DeadStaysDead, PassesSelect, PassesFindNearest, PassesFindFarthest};
-ghost use Rattle.automata_base.specs.Told.{ToldIsOne, ToldIsRight};
+ghost use Rattle.automata_base.specs.Told.{ToldEndsAreRight, ToldIsOne, ToldIsRight};
 
 use crate::nfa::thompson::NFA;
 
@@ -48,9 +48,11 @@ pub fn passes_tell_paths()
     ensures one { ToldIsOne }
 {}
 
-/// What passes tell is the answer of the ordered paths, split places skipped as by these.
+/// What passes tell is the answer of the ordered paths, split places skipped as by these; and for every automaton the
+/// nearest end, or under kind all the farthest one.
 pub fn told_is_right(nfa: &NFA)
-    ensures { ToldIsRight nfa.now }
+    ensures answer { ToldIsRight nfa.now }
+    ensures ends { ToldEndsAreRight nfa.now }
 {
     let _states = nfa.states();
 }

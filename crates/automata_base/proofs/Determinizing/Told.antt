@@ -2,8 +2,8 @@
 use Rattle.std.proofs.Common.{ℕ, zero, suc, ◌≡◌, ◌<◌, ◌≤◌, ◌+◌, ◌⊎◌, inl, inr, Bool, true, false, List, [], ◌∷◌, length, Option, Some, None, refl, sym, ap, ◌∙◌, subst, arith}
 use Rattle.std.specs.Prelude.{slice_get, All}
 use Rattle.automata_base.specs.Answers.{Half, SelectsFrom, SelectsOver, later, IsSplit, Tries, Answers, IsInput}
-use Rattle.automata_base.specs.Computed.{pair_at, earlier_or}
-use Rattle.automata_base.specs.Cuts.{MatchKind}
+use Rattle.automata_base.specs.Computed.{IsInRange, pair_at, earlier_or}
+use Rattle.automata_base.specs.Cuts.{MatchKind, All as KindAll}
 use Rattle.automata_base.specs.Door.{IsDoor}
 use Rattle.automata_base.specs.Engines.{Anchored, No, Yes, Pattern, IsSkipping, engine_of, first_state}
 use Rattle.automata_base.specs.Input.{Input}
@@ -12,14 +12,15 @@ use Rattle.automata_base.specs.Nodes.{Automaton, nfa_of, nodes_of}
 use Rattle.automata_base.specs.Paths.{Tape, next, IsLookAcyclic}
 use Rattle.automata_base.specs.Passes.{IsTape}
 use Rattle.automata_base.specs.Powerset.{Powerset, dead}
-use Rattle.automata_base.specs.Selections.{Pair}
+use Rattle.automata_base.specs.Nfa.{Nfa}
+use Rattle.automata_base.specs.Selections.{Pair, IsFarthest, IsNearest}
 use Rattle.automata_base.specs.Starts.{mode_start}
 use Rattle.automata_base.specs.Steps.{start_or_dead, start_state_of, successor}
-use Rattle.automata_base.specs.Tapes.{Direction, tape_of}
+use Rattle.automata_base.specs.Tapes.{Direction, Forward, Backward, tape_of}
 use Rattle.automata_base.specs.Telling.{state_after, told_at, last_told, first_told, told_by}
-use Rattle.automata_base.specs.Told.{TellsOver, ToldIsRight}
+use Rattle.automata_base.specs.Told.{EndsFrom, EndsOver, IsFarthestAnswer, IsTold, TellsOver, ToldEndsAreRight, ToldIsRight}
 use Rattle.automata_base.proofs.Determinizing.Alike.{dead_stays}
-use Rattle.automata_base.proofs.Determinizing.Telling.{told_selects}
+use Rattle.automata_base.proofs.Determinizing.Telling.{told_farthest, told_nearest, told_selects}
 use Rattle.automata_base.proofs.Spans.Total.{tape_units, later_input}
 use Rattle.automata_base.proofs.Paths.Orders.{some_inj}
 use Rattle.std.proofs.lemmas.Option.{slice_get_within, get_or_from_slice_get}
@@ -144,3 +145,48 @@ told_right a d way kind input answer free i =
     let n : IsInput (later way k input) × ((later way k input).start ≤ (later way k input).end) = later_input way k input i l in
     told_over_selects a kind way (later way k input) o d free n.0 n.1 h)
     answer
+
+module _ (Rule : Nfa → Tape → ℕ → Option Pair → Type 0) (a : Automaton) (kind : MatchKind) (earliest : Bool) (d : IsDoor a)
+    (rule : (mode : Anchored) (t : Tape) (start : ℕ)
+    → mode_start a mode ≡ Some start → IsInRange (nfa_of a) → start < length (nodes_of a.states) → IsTape t
+    → Rule (nfa_of a) t start (told_by kind earliest a mode t)) where
+  ends_from :
+      (mode : Anchored) (t : Tape) (o : Option ℕ)
+      → IsTape t → mode_start a mode ≡ o → EndsFrom Rule (engine_of a kind) t o (told_by kind earliest a mode t)
+  ends_from mode t None tape e = none_told kind earliest a mode t e
+  ends_from mode t (Some q) tape e = rule mode t q e d.range (start_below a mode q d e) tape
+
+  ends_over :
+      (way : Direction) (input : Input) (o : Option Pair)
+      → input.earliest ≡ earliest → IsInput input → input.start ≤ input.end
+      → TellsOver way a kind input o → EndsOver Rule way (engine_of a kind) input o
+  ends_over way input o same i l h =
+      let t : Tape = tape_of way input.haystack input.start input.end in
+      let s : EndsFrom Rule (engine_of a kind) t (mode_start a input.anchored) (told_by kind earliest a input.anchored t) =
+      ends_from input.anchored t (mode_start a input.anchored) (tape_units way input.haystack input.start input.end i.0 l i.1) refl in
+      subst (λ r. EndsOver Rule way (engine_of a kind) input r)
+      (sym (h ∙ ap (λ e. told_by kind e a input.anchored t) same))
+      (subst (λ (q : Option ℕ). EndsFrom Rule (engine_of a kind) t q (told_by kind earliest a input.anchored t)) (sym (first_is a kind input.anchored)) s)
+
+  later_earliest : (way : Direction) (k : ℕ) (input : Input) → (later way k input).earliest ≡ input.earliest
+  later_earliest Forward k input = refl
+  later_earliest Backward k input = refl
+
+  ends_right :
+      (way : Direction) (input : Input) (answer : Option Half)
+      → input.earliest ≡ earliest → IsInput input → IsTold way a kind input answer
+      → Answers (EndsOver Rule way (engine_of a kind)) (IsSkipping (engine_of a kind)) way input answer
+  ends_right way input answer same i told =
+      turn_answers (TellsOver way a kind) (EndsOver Rule way (engine_of a kind)) (IsSkipping (engine_of a kind)) way input
+      (λ k o l h.
+      let n : IsInput (later way k input) × ((later way k input).start ≤ (later way k input).end) = later_input way k input i l in
+      ends_over way (later way k input) o (later_earliest way k input ∙ same) n.0 n.1 h)
+      answer told
+
+pub told_ends_right : (a : Automaton) → IsDoor a → ToldEndsAreRight a
+told_ends_right a d way kind input answer i told = (
+  λ e. ends_right IsNearest a kind true d (told_nearest kind a) way input answer e i told,
+  λ e all.
+      subst (λ (k : MatchKind). IsFarthestAnswer way (engine_of a k) input answer) (sym all)
+      (ends_right IsFarthest a KindAll false d (told_farthest a) way input answer e i (subst (λ (k : MatchKind). IsTold way a k input answer) all told)),
+)

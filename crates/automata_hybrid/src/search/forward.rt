@@ -1,6 +1,8 @@
 ghost use Rattle.std.specs.Prelude.{ℕ, ◌≡◌, ◌+◌, ◌-◌, ◌*◌, ◌^◌, ◌<◌, ◌≤◌, IfOk, IfErr, OnOk, Option, None, Err, Ok, ◌*◌, true, false, length, option_map};
 ghost use Rattle.automata_base.specs.Answers.{IsAnswer};
+ghost use Rattle.automata_base.specs.declared.util.search.MatchKind.TheVariants.{All as KindAll};
 ghost use Rattle.automata_base.specs.Engines.{engine_of};
+ghost use Rattle.automata_base.specs.Told.{IsFarthestAnswer, IsNearestAnswer};
 ghost use Rattle.automata_base.specs.Matches as matches;
 ghost use Rattle.automata_base.specs.Nodes.{nfa_of};
 ghost use Rattle.automata_base.specs.Paths.{IsLookAcyclic};
@@ -38,9 +40,12 @@ impl DFA {
         requires { IsCacheOf cache.old self.now }
         ensures of { IsCacheOf cache.new self.now }
 
-        // What the passes tell, for every automaton; and where no cycle passes a look, the answer of the ordered paths.
+        // What the passes tell, for every automaton; and where no cycle passes a look, the answer of the ordered paths. Without
+        // that, the nearest end in an earliest search, and under kind all the farthest one.
         ensures found { IfOk result (WithoutBase (IsFound Forward self.now input.now)) }
         ensures answer { IsLookAcyclic (nfa_of self.now.nfa) → IfOk result (WithoutBase (IsAnswer Forward (engine_of self.now.nfa self.now.kind) input.now)) }
+        ensures nearest { input.now.earliest ≡ true → IfOk result (WithoutBase (IsNearestAnswer Forward (engine_of self.now.nfa self.now.kind) input.now)) }
+        ensures farthest { input.now.earliest ≡ false → self.now.kind ≡ KindAll → IfOk result (WithoutBase (IsFarthestAnswer Forward (engine_of self.now.nfa self.now.kind) input.now)) }
         ensures errors { IfErr result (IsRefused Forward self.now cache.new.store input.now) }
         ensures unsupported { input.now.start ≤ input.now.end → quit_behind self.now (byte_before input.now.haystack input.now.start) ≡ None → supports self.now input.now.anchored ≡ false → result ≡ Err (SearchError.Match (UnsupportedMode input.now.anchored)) }
 
@@ -77,9 +82,12 @@ impl DFA {
         requires { IsCacheOf cache.old self.now }
         ensures of { IsCacheOf cache.new self.now }
 
-        // What the passes tell, for every automaton; and where no cycle passes a look, the answer of the ordered paths.
+        // What the passes tell, for every automaton; and where no cycle passes a look, the answer of the ordered paths. Without
+        // that, the nearest end in an earliest search, and under kind all the farthest one.
         ensures found { IfOk result (λ o. IsFound Forward self.now input.now (option_map (λ p. with_base p.0 p.1) o)) }
         ensures answer { IsLookAcyclic (nfa_of self.now.nfa) → IfOk result (λ o. IsAnswer Forward (engine_of self.now.nfa self.now.kind) input.now (option_map (λ p. with_base p.0 p.1) o)) }
+        ensures nearest { input.now.earliest ≡ true → IfOk result (λ o. IsNearestAnswer Forward (engine_of self.now.nfa self.now.kind) input.now (option_map (λ p. with_base p.0 p.1) o)) }
+        ensures farthest { input.now.earliest ≡ false → self.now.kind ≡ KindAll → IfOk result (λ o. IsFarthestAnswer Forward (engine_of self.now.nfa self.now.kind) input.now (option_map (λ p. with_base p.0 p.1) o)) }
         ensures errors { IfErr result (IsRefused Forward self.now cache.new.store input.now) }
         ensures unsupported { input.now.start ≤ input.now.end → quit_behind self.now (byte_before input.now.haystack input.now.start) ≡ None → supports self.now input.now.anchored ≡ false → result ≡ Err (SearchError.Match (UnsupportedMode input.now.anchored)) }
 

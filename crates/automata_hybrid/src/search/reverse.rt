@@ -1,7 +1,9 @@
 ghost use Rattle.std.specs.Prelude.{ℕ, ◌≡◌, ◌+◌, ◌-◌, ◌*◌, ◌^◌, ◌<◌, ◌≤◌, IfOk, IfErr, OnOk, Option, None, Some, true, false, length, Err, Ok};
 ghost use Rattle.automata_base.specs.Answers.{IsAnswer};
 ghost use Rattle.automata_base.specs.Classes.{class_in, is_quit};
+ghost use Rattle.automata_base.specs.declared.util.search.MatchKind.TheVariants.{All as KindAll};
 ghost use Rattle.automata_base.specs.Engines.{engine_of};
+ghost use Rattle.automata_base.specs.Told.{IsFarthestAnswer, IsNearestAnswer};
 ghost use Rattle.automata_base.specs.Lists.{nth};
 ghost use Rattle.automata_base.specs.Matches as matches;
 ghost use Rattle.automata_base.specs.Nodes.{nfa_of};
@@ -46,9 +48,12 @@ impl DFA {
         requires { IsCacheOf cache.old self.now }
         ensures of { IsCacheOf cache.new self.now }
 
-        // What the passes tell, for every automaton; and where no cycle passes a look, the answer of the ordered paths.
+        // What the passes tell, for every automaton; and where no cycle passes a look, the answer of the ordered paths. Without
+        // that, the nearest end in an earliest search, and under kind all the farthest one.
         ensures found { IfOk result (WithoutBase (IsFound Backward self.now input.now)) }
         ensures answer { IsLookAcyclic (nfa_of self.now.nfa) → IfOk result (WithoutBase (IsAnswer Backward (engine_of self.now.nfa self.now.kind) input.now)) }
+        ensures nearest { input.now.earliest ≡ true → IfOk result (WithoutBase (IsNearestAnswer Backward (engine_of self.now.nfa self.now.kind) input.now)) }
+        ensures farthest { input.now.earliest ≡ false → self.now.kind ≡ KindAll → IfOk result (WithoutBase (IsFarthestAnswer Backward (engine_of self.now.nfa self.now.kind) input.now)) }
         ensures errors { IfErr result (IsRefused Backward self.now cache.new.store input.now) }
         ensures unsupported { input.now.start ≤ input.now.end → quit_behind self.now (nth input.now.haystack input.now.end) ≡ None → supports self.now input.now.anchored ≡ false → result ≡ Err (SearchError.Match (UnsupportedMode input.now.anchored)) }
 

@@ -15,3 +15,19 @@ returns-in-Some-clause-answer c = λ acyclic.
 pub returns-in-None-clause-answer : goal.returns-in-None-clause-answer
 returns-in-None-clause-answer c = λ acyclic.
     (_, c.in_ok-half.ensures.answer acyclic, ap (λ o. option_map without_base (option_map (λ p. with_base p.0 p.1) o)) (sym c.in-None.is))
+
+pub returns-in-Some-clause-nearest : goal.returns-in-Some-clause-nearest
+returns-in-Some-clause-nearest c = λ early.
+    (_, c.in_ok-half.ensures.nearest early, (search rules) ∙ ap (λ o. option_map without_base (option_map (λ p. with_base p.0 p.1) o)) (sym c.in-Some.is))
+
+pub returns-in-None-clause-nearest : goal.returns-in-None-clause-nearest
+returns-in-None-clause-nearest c = λ early.
+    (_, c.in_ok-half.ensures.nearest early, ap (λ o. option_map without_base (option_map (λ p. with_base p.0 p.1) o)) (sym c.in-None.is))
+
+pub returns-in-Some-clause-farthest : goal.returns-in-Some-clause-farthest
+returns-in-Some-clause-farthest c = λ late all.
+    (_, c.in_ok-half.ensures.farthest late all, (search rules) ∙ ap (λ o. option_map without_base (option_map (λ p. with_base p.0 p.1) o)) (sym c.in-Some.is))
+
+pub returns-in-None-clause-farthest : goal.returns-in-None-clause-farthest
+returns-in-None-clause-farthest c = λ late all.
+    (_, c.in_ok-half.ensures.farthest late all, ap (λ o. option_map without_base (option_map (λ p. with_base p.0 p.1) o)) (sym c.in-None.is))

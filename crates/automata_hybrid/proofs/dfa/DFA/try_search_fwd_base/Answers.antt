@@ -2,7 +2,7 @@ use Rattle.std.proofs.Common.{◌∙◌, ap, subst}
 use Rattle.std.proofs.lemmas.Result.{IfErr-weaker, IfOk-weaker}
 use Rattle.automata_base.specs.Nodes.{Automaton}
 use Rattle.automata_base.specs.Tapes.{Forward}
-use Rattle.automata_base.specs.Told.{ToldIsRight}
+use Rattle.automata_base.specs.Told.{ToldEndsAreRight, ToldIsRight}
 use Rattle.automata_hybrid.specs.Bounds.{settings_of}
 use Rattle.automata_hybrid.proofs.Answering.{refused_memory}
 use Rattle.automata_hybrid.proofs.Growing.{clears_none}
@@ -12,7 +12,7 @@ use Rattle.automata_hybrid.proofs.dfa.DFA.try_search_fwd_base.Goals as goal
 pub returns-clause-answer : goal.returns-clause-answer
 returns-clause-answer c = λ acyclic.
     IfOk-weaker c.search_fwd-found.result _ _ (λ o found.
-    subst (λ (a : Automaton). ToldIsRight a) c.get_nfa.ensures c.told_is_right.ensures Forward c.args.self.now.kind c.args.input.now _ acyclic (c.haystack-haystack.ensures.bytes, c.haystack-haystack.ensures.within.1)
+    subst (λ (a : Automaton). ToldIsRight a) c.get_nfa.ensures c.told_is_right.ensures.answer Forward c.args.self.now.kind c.args.input.now _ acyclic (c.haystack-haystack.ensures.bytes, c.haystack-haystack.ensures.within.1)
     (found_told Forward c.args.self.now c.args.input.now _ found))
     c.search_fwd-found.ensures.found
 
@@ -29,3 +29,11 @@ returns-clause-roomy c = λ whole room.
 pub returns-clause-roomy_all : goal.returns-clause-roomy_all
 returns-clause-roomy_all c = λ room.
     clears_none c.args.cache.now c.search_fwd-found.new.cache _ c.search_fwd-found.ensures.grown c.search_fwd-found.ensures.bounded_all room
+
+pub returns-clause-nearest : goal.returns-clause-nearest
+returns-clause-nearest c = λ early.
+    IfOk-weaker c.search_fwd-found.result _ _ (λ o found. (subst (λ (a : Automaton). ToldEndsAreRight a) c.get_nfa.ensures c.told_is_right.ensures.ends Forward c.args.self.now.kind c.args.input.now _ (c.haystack-haystack.ensures.bytes, c.haystack-haystack.ensures.within.1) (found_told Forward c.args.self.now c.args.input.now _ found)).0 early) c.search_fwd-found.ensures.found
+
+pub returns-clause-farthest : goal.returns-clause-farthest
+returns-clause-farthest c = λ late all.
+    IfOk-weaker c.search_fwd-found.result _ _ (λ o found. (subst (λ (a : Automaton). ToldEndsAreRight a) c.get_nfa.ensures c.told_is_right.ensures.ends Forward c.args.self.now.kind c.args.input.now _ (c.haystack-haystack.ensures.bytes, c.haystack-haystack.ensures.within.1) (found_told Forward c.args.self.now c.args.input.now _ found)).1 late all) c.search_fwd-found.ensures.found

@@ -2,7 +2,7 @@ use Rattle.std.proofs.Common.{◌∙◌, ap, subst}
 use Rattle.std.proofs.lemmas.Result.{IfErr-weaker, IfOk-weaker}
 use Rattle.automata_base.specs.Nodes.{Automaton}
 use Rattle.automata_base.specs.Tapes.{Backward}
-use Rattle.automata_base.specs.Told.{ToldIsRight}
+use Rattle.automata_base.specs.Told.{ToldEndsAreRight, ToldIsRight}
 use Rattle.automata_hybrid.specs.Bounds.{settings_of}
 use Rattle.automata_hybrid.proofs.Answering.{refused_memory}
 use Rattle.automata_hybrid.proofs.Growing.{clears_none}
@@ -13,7 +13,7 @@ pub returns-clause-answer : goal.returns-clause-answer
 returns-clause-answer c = λ acyclic.
     IfOk-weaker c.search_rev-found.result _ _ (λ o found. (
       found.0,
-      subst (λ (a : Automaton). ToldIsRight a) c.get_nfa.ensures c.told_is_right.ensures Backward c.args.self.now.kind c.args.input.now _ acyclic (c.haystack-haystack.ensures.bytes, c.haystack-haystack.ensures.within.1)
+      subst (λ (a : Automaton). ToldIsRight a) c.get_nfa.ensures c.told_is_right.ensures.answer Backward c.args.self.now.kind c.args.input.now _ acyclic (c.haystack-haystack.ensures.bytes, c.haystack-haystack.ensures.within.1)
           (found_told Backward c.args.self.now c.args.input.now _ found.1),
       found.2,
     ))
@@ -32,3 +32,11 @@ returns-clause-roomy c = λ whole room.
 pub returns-clause-roomy_all : goal.returns-clause-roomy_all
 returns-clause-roomy_all c = λ room.
     clears_none c.args.cache.now c.search_rev-found.new.cache _ c.search_rev-found.ensures.grown c.search_rev-found.ensures.bounded_all room
+
+pub returns-clause-nearest : goal.returns-clause-nearest
+returns-clause-nearest c = λ early.
+    IfOk-weaker c.search_rev-found.result _ _ (λ o found. (found.0, (subst (λ (a : Automaton). ToldEndsAreRight a) c.get_nfa.ensures c.told_is_right.ensures.ends Backward c.args.self.now.kind c.args.input.now _ (c.haystack-haystack.ensures.bytes, c.haystack-haystack.ensures.within.1) (found_told Backward c.args.self.now c.args.input.now _ found.1)).0 early, found.2)) c.search_rev-found.ensures.found
+
+pub returns-clause-farthest : goal.returns-clause-farthest
+returns-clause-farthest c = λ late all.
+    IfOk-weaker c.search_rev-found.result _ _ (λ o found. (found.0, (subst (λ (a : Automaton). ToldEndsAreRight a) c.get_nfa.ensures c.told_is_right.ensures.ends Backward c.args.self.now.kind c.args.input.now _ (c.haystack-haystack.ensures.bytes, c.haystack-haystack.ensures.within.1) (found_told Backward c.args.self.now c.args.input.now _ found.1)).1 late all, found.2)) c.search_rev-found.ensures.found
