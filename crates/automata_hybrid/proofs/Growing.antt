@@ -4,8 +4,7 @@ use Rattle.std.proofs.Math.Nat.{mul-le-mul_right}
 use Rattle.automata_hybrid.specs.declared.dfa.progress.Searched.{Searched}
 use Rattle.automata_hybrid.specs.Bounds.{Stored, usage, with_searched}
 use Rattle.automata_hybrid.specs.Caches.{CacheView, counted, with_store}
-use Rattle.automata_hybrid.specs.Growing.{IsGrown}
-use Rattle.automata_hybrid.specs.Kept.{Keeps, ClearedNothing, HasRoom}
+use Rattle.automata_hybrid.specs.Growing.{IsGrown, Keeps, ClearedNothing, HasRoom}
 use Rattle.automata_hybrid.proofs.Effects.{Keeps-trans}
 use Rattle.automata_hybrid.specs.Machine.{greatest}
 

@@ -16,9 +16,8 @@ use Rattle.automata_config.specs.declared.error.SearchError.{SearchError}
 use Rattle.automata_hybrid.specs.declared.dfa.progress.Searched.{Searched}
 use Rattle.automata_hybrid.specs.Bounds.{Stored, IsKnownStart, IsKnownTransition, with_searched}
 use Rattle.automata_hybrid.specs.Caches.{CacheView, with_store}
-use Rattle.automata_hybrid.specs.Growing.{IsGrown}
-use Rattle.automata_hybrid.specs.Kept.{ClearedNothing, Keeps}
-use Rattle.automata_hybrid.specs.Knowing.{IsOfInput, Knows, KnowsBegin, KnowsPass, KnowsUnit, unit_class}
+use Rattle.automata_hybrid.specs.Growing.{IsGrown, ClearedNothing, Keeps}
+use Rattle.automata_hybrid.specs.Knowing.{IsOfInput, Knows, KnowsItsStart, KnowsPass, KnowsUnit, unit_class}
 use Rattle.automata_hybrid.specs.Machine.{Machine}
 use Rattle.automata_hybrid.specs.Passing.{HasLearned, HasLearnedAll, HasLearnedUnit, IsAt}
 use Rattle.automata_hybrid.specs.Searches.{Finds, Reads, Skips, state_in, tape_in}
@@ -67,7 +66,7 @@ module _ (way : Direction) (m : Machine) (old new : Stored) (input : Input) (of 
   pub learned_still : (k : ℕ) → HasLearned way m old input k → HasLearned way m new input k
   learned_still k learned = λ j l reads. unit_still j (learned j l reads)
 
-  pub begin_still : KnowsBegin way m old input → KnowsBegin way m new input
+  pub begin_still : KnowsItsStart way m old input → KnowsItsStart way m new input
   begin_still begin = λ l. subst (λ n. n < 2 ^ 31) (sym (keeps.starts _ (begin l))) (begin l)
 
   pub all_still : HasLearnedAll way m old input → HasLearnedAll way m new input
@@ -89,7 +88,7 @@ learned_more way m c input k id u learned named unit known below = λ j l reads.
 -- a pass that reads nothing more has learned all
 pub learned_all :
     (way : Direction) (m : Machine) (c : Stored) (input : Input) (k : ℕ)
-    → KnowsBegin way m c input → HasLearned way m c input k → ((j : ℕ) → k ≤ j → Reads way m input j → ⊥) → HasLearnedAll way m c input
+    → KnowsItsStart way m c input → HasLearned way m c input k → ((j : ℕ) → k ≤ j → Reads way m input j → ⊥) → HasLearnedAll way m c input
 learned_all way m c input k begin learned stops = (begin, λ j reads. go j reads (lt_or_le j k)) where
   go : (j : ℕ) → Reads way m input j → (j < k) ⊎ (k ≤ j) → HasLearnedUnit way m c input j
   go j reads (inl less) = learned j less reads
@@ -103,10 +102,10 @@ learned_knows way m c input all = λ may. (all.0, λ k reads clean. (all.1 k rea
 pub learned_step :
     (way : Direction) (m : Machine) (old new : CacheView) (input : Input) (k id : ℕ) (u : Option ℕ)
     → IsGrown old new → new.store.table.of ≡ m → ClearedNothing old.store new.store
-    → KnowsBegin way m old.store input → HasLearned way m old.store input k
+    → KnowsItsStart way m old.store input → HasLearned way m old.store input k
     → Names old.store.table id (state_in way m input k) → next (tape_in way input) k ≡ u
     → IsKnownTransition new.store id (unit_class m u) → unit_class m u < m.stride
-    → KnowsBegin way m new.store input × HasLearned way m new.store input (suc k)
+    → KnowsItsStart way m new.store input × HasLearned way m new.store input (suc k)
 learned_step way m old new input k id u g of nothing begin learned named unit known below =
     let keeps : Keeps old.store new.store = g.kept nothing in (
       begin_still way m old.store new.store input g.of keeps begin,
@@ -121,10 +120,10 @@ pub learned_ends :
     → Names old.store.table id (state_in way m input k) → next (tape_in way input) k ≡ u
     → (ClearedNothing old.store new.store → IsKnownTransition new.store id (unit_class m u)) → unit_class m u < m.stride
     → ((j : ℕ) → suc k ≤ j → Reads way m input j → ⊥)
-    → KnowsBegin way m old.store input → HasLearned way m old.store input k → ClearedNothing old.store new.store
+    → KnowsItsStart way m old.store input → HasLearned way m old.store input k → ClearedNothing old.store new.store
     → HasLearnedAll way m new.store input
 learned_ends way m old new input k id u g of named unit known below stops begin learned nothing =
-    let step : KnowsBegin way m new.store input × HasLearned way m new.store input (suc k) =
+    let step : KnowsItsStart way m new.store input × HasLearned way m new.store input (suc k) =
     learned_step way m old new input k id u g of nothing begin learned named unit (known nothing) below in
     learned_all way m new.store input (suc k) step.0 step.1 stops
 
@@ -140,10 +139,10 @@ learned_moved way m input old between new e f =
 pub begun_moved :
     (way : Direction) (m : Machine) (input : Input) (old between new : CacheView) (k : ℕ) {s : Searched}
     → new ≡ with_store between (with_searched between.store s)
-    → (ClearedNothing old.store between.store → KnowsBegin way m between.store input × HasLearned way m between.store input k)
-    → ClearedNothing old.store new.store → KnowsBegin way m new.store input × HasLearned way m new.store input k
+    → (ClearedNothing old.store between.store → KnowsItsStart way m between.store input × HasLearned way m between.store input k)
+    → ClearedNothing old.store new.store → KnowsItsStart way m new.store input × HasLearned way m new.store input k
 begun_moved way m input old between new k e f =
-    subst (λ (c : CacheView). ClearedNothing old.store c.store → KnowsBegin way m c.store input × HasLearned way m c.store input k) (sym e) f
+    subst (λ (c : CacheView). ClearedNothing old.store c.store → KnowsItsStart way m c.store input × HasLearned way m c.store input k) (sym e) f
 
 -- a start that isn't refused was allowed
 pub may_start :

@@ -26,8 +26,8 @@ KnowsUnit way m c input k =
     (id : ℕ) × Names c.table id (state_in way m input k) × IsKnownTransition c id (unit_class m (next (tape_in way input) k))
 
 -- the start of a pass is known, where it has a slot: there is none for a pattern past the last
-abbrev pub KnowsBegin : Direction → Machine → Stored → Input → Type 0
-KnowsBegin way m c input =
+abbrev pub KnowsItsStart : Direction → Machine → Stored → Input → Type 0
+KnowsItsStart way m c input =
     slot_behind m input.anchored (tape_in way input).before < m.slots
     → IsKnownStart c (slot_behind m input.anchored (tape_in way input).before)
 
@@ -35,7 +35,7 @@ KnowsBegin way m c input =
 abbrev pub KnowsPass : Direction → Machine → Stored → Input → Type 0
 KnowsPass way m c input =
     MayStart m input.anchored (tape_in way input).before
-    → KnowsBegin way m c input
+    → KnowsItsStart way m c input
     × ((k : ℕ) → Reads way m input k → HasReadNoQuit way m input k → KnowsUnit way m c input k)
 
 -- all that a search uses is known: what each of its passes uses

@@ -6,14 +6,13 @@ pub mod Table
 pub mod Clears
 pub mod Progressing
 pub mod Bounds
-pub mod Kept
 pub mod Builds
 pub mod Caches
+pub mod Growing
 pub mod Starting
 pub mod Slots
 pub mod Founds
 pub mod Searches
-pub mod Growing
 pub mod Knowing
 pub mod Passing
 pub mod Agreeing

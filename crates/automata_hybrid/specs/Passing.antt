@@ -17,7 +17,7 @@ use Rattle.automata_hybrid.specs.Machine.{Machine}
 use Rattle.automata_hybrid.specs.Table.{Rows, Names, Leads}
 use Rattle.automata_hybrid.specs.Searches.{HasReadNoQuit, Reads, tape_in, state_in, told_in}
 use Rattle.automata_hybrid.specs.Bounds.{Stored}
-use Rattle.automata_hybrid.specs.Knowing.{KnowsBegin, KnowsUnit, unit_class}
+use Rattle.automata_hybrid.specs.Knowing.{KnowsItsStart, KnowsUnit, unit_class}
 
 -- a pair of a pass as a half match: its place is an offset
 abbrev pub half_of : Direction → Input → Option Pair → Option HalfMatch
@@ -60,4 +60,4 @@ HasLearned way m c input k = (j : ℕ) → j < k → Reads way m input j → Has
 -- and its start, and all of them
 abbrev pub HasLearnedAll : Direction → Machine → Stored → Input → Type 0
 HasLearnedAll way m c input =
-    KnowsBegin way m c input × ((k : ℕ) → Reads way m input k → HasLearnedUnit way m c input k)
+    KnowsItsStart way m c input × ((k : ℕ) → Reads way m input k → HasLearnedUnit way m c input k)

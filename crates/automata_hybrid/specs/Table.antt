@@ -44,6 +44,11 @@ Lacks t q = (id_of t q ≡ None) × (q ≡ dead → ⊥)
 abbrev pub Names : Rows → ℕ → Powerset → Type 0
 Names t id q = id_of t q ≡ Some id
 
+-- some row has this state
+pub record Has (t : Rows) (q : Powerset) : Type 0 where
+  pub id : ℕ
+  pub named : Names t id q
+
 -- the dead ID for the dead state, and else a row's
 abbrev pub Leads : Rows → ℕ → Powerset → Type 0
 Leads t id q = ((id ≡ dead_id t.of.stride) × (q ≡ dead)) ⊎ Names t id q

@@ -9,10 +9,9 @@ ghost use Rattle.automata_base.specs.Lists.{nth};
 ghost use Rattle.automata_base.specs.declared.util.search.MatchErrorKind.TheVariants.{Quit as QuitAt, UnsupportedAnchored as UnsupportedMode};
 ghost use Rattle.automata_hybrid.specs.Starting.{quit_behind, start_refusal, search_refusal, KnowsStart, known_start, MayStart, IsStartRefusal, IsStartRefusalAt};
 ghost use Rattle.automata_hybrid.specs.Slots.{supports, slot_of, slot_behind};
-ghost use Rattle.automata_hybrid.specs.Table.{Leads};
+ghost use Rattle.automata_hybrid.specs.Table.{Leads, Has};
 ghost use Rattle.automata_hybrid.specs.Bounds.{IsCacheError, IsKnownStart, IsStarted, KeepsStarts, GivesUp};
-ghost use Rattle.automata_hybrid.specs.Growing.{IsGrown};
-ghost use Rattle.automata_hybrid.specs.Kept.{Keeps, ClearedNothing, HasRoom, Has};
+ghost use Rattle.automata_hybrid.specs.Growing.{IsGrown, Keeps, ClearedNothing, HasRoom};
 ghost use Rattle.automata_hybrid.specs.Caches.{IsCacheOf, counted, HasRow};
 ghost use Rattle.automata_hybrid.specs.Ids.{dead_id};
 
@@ -46,12 +45,9 @@ impl Cache {
         ensures effect { (IsKnownStart self.old.store slot → ⊥) → IfOk result (λ n. IsStarted self.old.store slot (record { state = start_state_of dfa.now.nfa mode prev; started = dfa.now.specialized }) self.new.store n) }
         ensures gives_up { IfErr result (λ e. IsCacheError e → GivesUp self.old.store (start_state_of dfa.now.nfa mode prev)) }
         ensures err { OnErr result (self.new ≡ counted self.old) }
-        ensures kept { ClearedNothing self.old.store self.new.store → Keeps self.old.store self.new.store }
-        ensures roomy { (states : ℕ) → HasRoom self.old.store (states + 1) → HasRoom self.new.store states × (self.new.store.clears ≡ self.old.store.clears) }
         ensures only { (p : Powerset) → Has self.new.store.table p → Has self.old.store.table p ⊎ (p ≡ start_state_of dfa.now.nfa mode prev) }
         ensures computed { (IsKnownStart self.old.store slot → ⊥) → self.new.count ≡ self.old.count + 1 }
         ensures refused { (IsKnownStart self.old.store slot → ⊥) → GivesUp self.old.store (start_state_of dfa.now.nfa mode prev) → OnOk result ⊥ }
-        ensures clears_more { self.old.store.clears ≤ self.new.store.clears }
         ensures grown { IsGrown self.old self.new }
     {
         self.see_cells();

@@ -3,10 +3,9 @@ ghost use Rattle.automata_base.specs.Powerset.{Powerset, cost};
 ghost use Rattle.automata_base.specs.Steps.{successor};
 ghost use Rattle.automata_hybrid.specs.Owned.{IsOwn};
 ghost use Rattle.automata_hybrid.specs.Machine.{next_of, template_of, greatest};
-ghost use Rattle.automata_hybrid.specs.Table.{Names, IsValid, Leads};
+ghost use Rattle.automata_hybrid.specs.Table.{Names, IsValid, Leads, Has};
 ghost use Rattle.automata_hybrid.specs.Bounds.{GivesUp, IsCacheError, IsKnownTransition, cell_of, IsNext, KeepsStarts, IsComputed};
-ghost use Rattle.automata_hybrid.specs.Growing.{IsGrown};
-ghost use Rattle.automata_hybrid.specs.Kept.{Keeps, ClearedNothing, HasRoom, Has};
+ghost use Rattle.automata_hybrid.specs.Growing.{IsGrown, Keeps, ClearedNothing, HasRoom};
 ghost use Rattle.automata_hybrid.specs.Caches.{IsCacheOf, HasRow, counted};
 ghost use Rattle.automata_hybrid.specs.Ids.{quit_id, unknown_id, fixed_from, offset_limit};
 ghost use Rattle.automata_base.specs.Classes.{class_in, eoi_class, is_quit};
@@ -40,13 +39,10 @@ impl Cache {
         ensures starts { KeepsStarts self.old.store.starts self.new.store.starts }
         ensures gives_up { IfErr result (λ e. IsCacheError e → (q : Powerset) → Names self.old.store.table id q → GivesUp self.old.store (successor dfa.now.nfa dfa.now.kind q unit)) }
         ensures err { OnErr result (self.new ≡ counted self.old) }
-        ensures kept { ClearedNothing self.old.store self.new.store → Keeps self.old.store self.new.store }
         ensures learned { ClearedNothing self.old.store self.new.store → IfOk result (λ n. IsKnownTransition self.new.store id class) }
         ensures written { ClearedNothing self.old.store self.new.store → IfOk result (λ n. cell_of self.new.store id class ≡ n) }
-        ensures roomy { (states : ℕ) → HasRoom self.old.store (states + 1) → HasRoom self.new.store states × (self.new.store.clears ≡ self.old.store.clears) }
         ensures only { (q : Powerset) → Names self.old.store.table id q → (p : Powerset) → Has self.new.store.table p → Has self.old.store.table p ⊎ (p ≡ successor dfa.now.nfa dfa.now.kind q unit) }
         ensures refused { (IsKnownTransition self.old.store id class → ⊥) → (q : Powerset) → Names self.old.store.table id q → GivesUp self.old.store (successor dfa.now.nfa dfa.now.kind q unit) → OnOk result ⊥ }
-        ensures clears_more { self.old.store.clears ≤ self.new.store.clears }
         ensures grown { IsGrown self.old self.new }
     {
         self.see_cells();

@@ -14,9 +14,8 @@ ghost use Rattle.automata_base.specs.Tapes.{Backward};
 ghost use Rattle.automata_base.specs.declared.util.search.MatchErrorKind.TheVariants.{UnsupportedAnchored as UnsupportedMode};
 ghost use Rattle.automata_hybrid.specs.Bounds.{IsKnownTransition};
 ghost use Rattle.automata_hybrid.specs.Caches.{IsCacheOf};
-ghost use Rattle.automata_hybrid.specs.Growing.{IsGrown, IsStill};
-ghost use Rattle.automata_hybrid.specs.Kept.{ClearedNothing, HasRoom};
-ghost use Rattle.automata_hybrid.specs.Knowing.{IsOfInput, KnowsBegin, KnowsPass, Knows};
+ghost use Rattle.automata_hybrid.specs.Growing.{IsGrown, IsStill, ClearedNothing, HasRoom};
+ghost use Rattle.automata_hybrid.specs.Knowing.{IsOfInput, KnowsItsStart, KnowsPass, Knows};
 ghost use Rattle.automata_hybrid.specs.Passing.{HasLearned, HasLearnedAll, IsAt, found_over};
 ghost use Rattle.automata_hybrid.specs.Searches.{IsFound, IsPassRefusal, IsRefused, IsStepRefusal, MeetsNoQuit, NoQuitInReach, Skips, WithoutBase, state_in, tape_in};
 ghost use Rattle.automata_hybrid.specs.Slots.{supports};
@@ -206,7 +205,7 @@ impl DFA {
         ensures counted { cache.new.count ≤ cache.old.count + (input.now.end - input.now.start + 1) }
         ensures grown { IsGrown cache.old cache.new }
         ensures idle { KnowsPass Backward self.now cache.old.store input.now → (cache.new.count ≡ cache.old.count) × IfErr result IsOfInput }
-        ensures learned { KnowsBegin Backward self.now cache.old.store input.now → ClearedNothing cache.old.store cache.new.store → OnOk result (HasLearnedAll Backward self.now cache.new.store input.now) }
+        ensures learned { KnowsItsStart Backward self.now cache.old.store input.now → ClearedNothing cache.old.store cache.new.store → OnOk result (HasLearnedAll Backward self.now cache.new.store input.now) }
     {
         let mut at = input.end();
         let mut id = start;
@@ -252,7 +251,7 @@ impl DFA {
         ensures counted { cache.new.count ≤ cache.old.count + 1 }
         ensures grown { IsGrown cache.old cache.new }
         ensures idle { KnowsPass Backward self.now cache.old.store input.now → (cache.new.count ≡ cache.old.count) × IfErr result IsOfInput }
-        ensures learned { KnowsBegin Backward self.now cache.old.store input.now → HasLearned Backward self.now cache.old.store input.now (input.now.end - input.now.start) → ClearedNothing cache.old.store cache.new.store → OnOk result (HasLearnedAll Backward self.now cache.new.store input.now) }
+        ensures learned { KnowsItsStart Backward self.now cache.old.store input.now → HasLearned Backward self.now cache.old.store input.now (input.now.end - input.now.start) → ClearedNothing cache.old.store cache.new.store → OnOk result (HasLearnedAll Backward self.now cache.new.store input.now) }
     {
         let start = input.start();
         if start == 0 {

@@ -10,117 +10,42 @@ use regex_automata::nfa::thompson::{NFA, State, Transition};
 use regex_automata::util::look::Look;
 use regex_automata::util::primitives::PatternID;
 use regex_automata::util::search::{Anchored, HalfMatch, Input, MatchError, MatchKind};
-use std::alloc::Global;
+use std::alloc::{AllocError, Global};
 use std::process::Abort;
 use std::test::Fail;
 
-/// What the row shows, the options of the regex, the requests, and the replies. In the requests A
-/// stands for sixteen bytes `a`, for which the cache at its minimum has too little room.
-type Row = (&'static str, &'static str, &'static str, &'static str);
+/// What the row shows, the options of the regex, the requests, and the replies, with semicolons
+/// between them. In the requests A stands for sixteen bytes `a`, for which the cache at its minimum
+/// has too little room.
+type Row = &'static str;
 
-const FULL: [Row; 16] = [
-    (
-        "each search clears",
-        "",
-        "fwd A\nfwd A",
-        "half 0 16\nhalf 0 16",
-    ),
-    (
-        "one clear is free",
-        " limit=1",
-        "fwd A\nfwd A",
-        "half 0 16\ngaveup 8",
-    ),
-    (
-        "two are",
-        " limit=2",
-        "fwd A\nfwd A\nfwd A",
-        "half 0 16\nhalf 0 16\ngaveup 3",
-    ),
-    (
-        "none is",
-        " limit=0",
-        "fwd A\nfwd A",
-        "gaveup 13\ngaveup 13",
-    ),
-    (
-        "too few bytes for each state",
-        " limit=0 perstate=1",
-        "fwd A",
-        "gaveup 13",
-    ),
-    (
-        "no byte for each state",
-        " limit=0 perstate=0",
-        "fwd A\nfwd A",
-        "half 0 16\nhalf 0 16",
-    ),
-    (
-        "a byte for each state but one",
-        " limit=0 perstate=1",
-        "fwd 61616162\nfwd A",
-        "none\ngaveup 13",
-    ),
-    (
-        "a byte for each state",
-        " limit=0 perstate=1",
-        "fwd 6161616162\nfwd A",
-        "none\nhalf 0 16",
-    ),
-    (
-        "the bytes before giving up count",
-        " limit=0 perstate=1",
-        "fwd A\nfwd A",
-        "gaveup 13\nhalf 0 16",
-    ),
-    (
-        "each reverse search clears",
-        "",
-        "rev A\nrev A",
-        "half 0 0\nhalf 0 0",
-    ),
-    (
-        "in reverse one clear is free",
-        " limit=1",
-        "rev A\nrev A",
-        "half 0 0\ngaveup 7",
-    ),
-    (
-        "in reverse none is",
-        " limit=0",
-        "rev A\nrev A",
-        "gaveup 2\ngaveup 2",
-    ),
-    (
-        "in reverse no byte for each state",
-        " limit=0 perstate=0",
-        "rev A\nrev A",
-        "half 0 0\nhalf 0 0",
-    ),
-    (
-        "in reverse a byte for each state but one",
-        " limit=0 perstate=1",
-        "rev 62616161\nrev A",
-        "none\ngaveup 2",
-    ),
-    (
-        "in reverse a byte for each state",
-        " limit=0 perstate=1",
-        "rev 6261616161\nrev A",
-        "none\nhalf 0 0",
-    ),
-    (
-        "each direction has a cache",
-        " limit=1",
-        "fwd A\nrev A\nfwd A\nrev A",
-        "half 0 16\nhalf 0 0\ngaveup 8\ngaveup 7",
-    ),
+const FULL: &[Row] = &[
+    "each search clears;;fwd A,fwd A;half 0 16,half 0 16",
+    "one clear is free; limit=1;fwd A,fwd A;half 0 16,gaveup 8",
+    "two are; limit=2;fwd A,fwd A,fwd A;half 0 16,half 0 16,gaveup 3",
+    "none is; limit=0;fwd A,fwd A;gaveup 13,gaveup 13",
+    "too few bytes for each state; limit=0 perstate=1;fwd A;gaveup 13",
+    "no byte for each state; limit=0 perstate=0;fwd A,fwd A;half 0 16,half 0 16",
+    "a byte for each state but one; limit=0 perstate=1;fwd 61616162,fwd A;none,gaveup 13",
+    "a byte for each state; limit=0 perstate=1;fwd 6161616162,fwd A;none,half 0 16",
+    "the bytes before giving up count; limit=0 perstate=1;fwd A,fwd A;gaveup 13,half 0 16",
+    "each reverse search clears;;rev A,rev A;half 0 0,half 0 0",
+    "in reverse one clear is free; limit=1;rev A,rev A;half 0 0,gaveup 7",
+    "in reverse none is; limit=0;rev A,rev A;gaveup 2,gaveup 2",
+    "in reverse no byte for each state; limit=0 perstate=0;rev A,rev A;half 0 0,half 0 0",
+    "in reverse a byte for each state but one; limit=0 perstate=1;rev 62616161,rev A;none,gaveup 2",
+    "in reverse a byte for each state; limit=0 perstate=1;rev 6261616161,rev A;none,half 0 0",
+    "one cache a direction; limit=1;fwd A,rev A,fwd A,rev A;half 0 16,half 0 0,gaveup 8,gaveup 7",
 ];
 
 #[test]
 fn gives_up_by_the_clear_rule(rt: HostRuntime) -> Result<(), Fail> {
-    for (shows, options, requests, replies) in FULL {
-        let requests = requests.replace(rt.alloc(), 'A', "61616161616161616161616161616161")?;
+    for row in FULL {
+        let (shows, rest) = row.split_once(';').ok_or("options")?;
+        let (options, rest) = rest.split_once(';').ok_or("requests")?;
+        let (requests, replies) = rest.split_once(';').ok_or("replies")?;
+        let requests = lines(rt.alloc(), requests)?;
+        let replies = lines(rt.alloc(), replies)?;
         let regex = "regex a16 noclasses capacity=37281";
         let script = format!(in rt.alloc(); "{regex}{options}\n{requests}\n")?;
         let want = format!(in rt.alloc(); "regex 0\n{replies}\n")?;
@@ -129,6 +54,12 @@ fn gives_up_by_the_clear_rule(rt: HostRuntime) -> Result<(), Fail> {
         assert_eq!(rt; text.as_str(), want.as_str(), "{shows}");
     }
     Ok(())
+}
+
+/// Each part on a line of its own, the sixteen bytes written out.
+fn lines(alloc: Global, parts: &str) -> Result<String, AllocError> {
+    let text = parts.replace(alloc, 'A', "61616161616161616161616161616161")?;
+    text.replace(alloc, ',', "\n")
 }
 
 /// Sixteen bytes `a`, one class for each byte, and no more capacity than has to be.

@@ -7,26 +7,46 @@ use std::process::Abort;
 use std::test::Fail;
 
 /// What the row shows, the regex with its options, the haystack, the options of the search, and
-/// the reply.
-pub type Row = (
-    &'static str,
-    &'static str,
-    &'static str,
-    &'static str,
-    &'static str,
-);
+/// the reply, with semicolons between them.
+pub type Row = &'static str;
+
+/// A row, taken apart.
+#[derive(Clone, Copy)]
+struct Parts<'a> {
+    shows: &'a str,
+    regex: &'a str,
+    haystack: &'a str,
+    how: &'a str,
+    reply: &'a str,
+}
 
 /// Runs each row as a request of this word.
 pub fn answer_all<R: Abort + AllocGlobal>(rt: &R, request: &str, rows: &[Row]) -> Result<(), Fail> {
     for row in rows {
-        answers(rt, request, *row)?;
+        let parts = parts_of(row).ok_or("a row of five parts")?;
+        answers(rt, request, parts)?;
     }
     Ok(())
 }
 
-fn answers<R: Abort + AllocGlobal>(rt: &R, request: &str, row: Row) -> Result<(), Fail> {
-    let (shows, regex, haystack, how, reply) = row;
-    let text = script(rt.alloc(), regex, request, haystack, how)?;
+fn parts_of(row: &str) -> Option<Parts<'_>> {
+    let (shows, rest) = row.split_once(';')?;
+    let (regex, rest) = rest.split_once(';')?;
+    let (haystack, rest) = rest.split_once(';')?;
+    let (how, reply) = rest.split_once(';')?;
+    Some(Parts {
+        shows,
+        regex,
+        haystack,
+        how,
+        reply,
+    })
+}
+
+fn answers<R: Abort + AllocGlobal>(rt: &R, request: &str, row: Parts<'_>) -> Result<(), Fail> {
+    let shows = row.shows;
+    let reply = row.reply;
+    let text = script(rt.alloc(), request, row)?;
     let want = format!(in rt.alloc(); "regex 0\n{reply}\n")?;
     let (text, fault) = printed(rt.alloc(), text.as_str())?;
     assert_eq!(rt; fault, None, "{shows}");
@@ -35,18 +55,14 @@ fn answers<R: Abort + AllocGlobal>(rt: &R, request: &str, row: Row) -> Result<()
 }
 
 /// The script that searches one haystack.
-fn script(
-    alloc: Global,
-    regex: &str,
-    request: &str,
-    haystack: &str,
-    how: &str,
-) -> Result<String, AllocError> {
+fn script(alloc: Global, request: &str, row: Parts<'_>) -> Result<String, AllocError> {
+    let regex = row.regex;
+    let how = row.how;
     let mut text = format!(in alloc; "regex {regex}\n{request} ")?;
-    if haystack.is_empty() {
+    if row.haystack.is_empty() {
         text.push_str("-")?;
     }
-    for byte in haystack.as_bytes() {
+    for byte in row.haystack.as_bytes() {
         write!(text, "{byte:02x}")?;
     }
     if !how.is_empty() {

@@ -180,10 +180,7 @@ fn tells_failed_reads(rt: HostRuntime) {
 #[test]
 fn tells_failed_writes(rt: HostRuntime) {
     for call in 1..7usize {
-        let mut input = Source::new(
-            b"regex ab
-fwd 6162",
-        );
+        let mut input = Source::new(b"regex ab\nfwd 6162");
         let mut output = Sink::new(rt.alloc());
         output.fails_at = call;
         let fault = run(rt.alloc(), &mut input, &mut output).err();
@@ -201,16 +198,10 @@ fwd 6162",
 fn tells_faults_in_order(rt: HostRuntime) {
     let mut output = Sink::new(rt.alloc());
     output.fails_at = 1;
-    let mut input = Source::new(
-        b"bad
-",
-    );
+    let mut input = Source::new(b"bad\n");
     let fault = run(rt.alloc(), &mut input, &mut output).err();
     assert_eq!(rt; fault, Some(RunError::BadLine(1)));
-    let mut input = Source::new(
-        b"bad
-",
-    );
+    let mut input = Source::new(b"bad\n");
     input.fails_at = 2;
     let fault = run(rt.alloc(), &mut input, &mut output).err();
     assert_eq!(rt; fault, Some(RunError::Failed));
@@ -220,21 +211,12 @@ fn tells_faults_in_order(rt: HostRuntime) {
 /// One line of a mebibyte of haystack.
 #[test]
 fn answers_a_long_script(rt: HostRuntime) -> Result<(), Fail> {
-    let mut script = String::from_str(
-        rt.alloc(),
-        "regex runs all
-fwd ",
-    )?;
+    let mut script = String::from_str(rt.alloc(), "regex runs all\nfwd ")?;
     for _ in 0..1 << 20 {
         script.push_str("61")?;
     }
     let (text, fault) = printed(rt.alloc(), script.as_str())?;
     assert_eq!(rt; fault, None);
-    assert_eq!(rt;
-        text.as_str(),
-        "regex 0
-half 0 1048576
-"
-    );
+    assert_eq!(rt; text.as_str(), "regex 0\nhalf 0 1048576\n");
     Ok(())
 }

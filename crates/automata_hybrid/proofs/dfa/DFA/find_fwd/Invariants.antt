@@ -1,9 +1,8 @@
 use Rattle.std.proofs.Common.{◌≡◌, ◌≤◌, ◌+◌, ◌-◌}
 use Rattle.automata_base.specs.Tapes.{Forward}
 use Rattle.automata_hybrid.specs.Caches.{IsCacheOf}
-use Rattle.automata_hybrid.specs.Growing.{IsGrown}
-use Rattle.automata_hybrid.specs.Kept.{ClearedNothing}
-use Rattle.automata_hybrid.specs.Knowing.{KnowsBegin, KnowsPass}
+use Rattle.automata_hybrid.specs.Growing.{IsGrown, ClearedNothing}
+use Rattle.automata_hybrid.specs.Knowing.{KnowsItsStart, KnowsPass}
 use Rattle.automata_hybrid.specs.Passing.{HasLearned, IsAt}
 use Rattle.automata_hybrid.proofs.dfa.DFA.find_fwd.Given as goal
 
@@ -15,7 +14,7 @@ invariant-loop-at l = record {
   within : l.at ≤ l.input.end;
   grown : IsGrown l.fn.cache l.cache;
   idle : KnowsPass Forward l.self l.fn.cache.store l.input → l.cache.count ≡ l.fn.cache.count;
-  learned : KnowsBegin Forward l.self l.fn.cache.store l.input → ClearedNothing l.fn.cache.store l.cache.store → KnowsBegin Forward l.self l.cache.store l.input × HasLearned Forward l.self l.cache.store l.input (l.at - l.input.start);
+  learned : KnowsItsStart Forward l.self l.fn.cache.store l.input → ClearedNothing l.fn.cache.store l.cache.store → KnowsItsStart Forward l.self l.cache.store l.input × HasLearned Forward l.self l.cache.store l.input (l.at - l.input.start);
   at : IsAt Forward l.self l.cache.store.table l.input (l.at - l.input.start) l.id l.found;
 }
 

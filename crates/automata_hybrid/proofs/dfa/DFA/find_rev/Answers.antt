@@ -1,8 +1,7 @@
 use Rattle.std.proofs.Common.{ℕ, ◌≡◌, ◌∙◌, ◌-◌, ◌<◌, ◌≤◌, true, length, Some, None, refl, sym, subst, arith}
 use Rattle.automata_base.specs.Paths.{next}
 use Rattle.automata_base.specs.Tapes.{Backward}
-use Rattle.automata_hybrid.specs.Growing.{IsGrown}
-use Rattle.automata_hybrid.specs.Kept.{ClearedNothing}
+use Rattle.automata_hybrid.specs.Growing.{IsGrown, ClearedNothing}
 use Rattle.automata_hybrid.specs.Knowing.{KnowsPass}
 use Rattle.automata_hybrid.specs.Passing.{HasLearned, IsAt}
 use Rattle.automata_hybrid.specs.Searches.{tape_in}

@@ -1,9 +1,8 @@
 use Rattle.std.proofs.Common.{◌≡◌, ◌≤◌, ◌+◌, ◌-◌}
 use Rattle.automata_base.specs.Tapes.{Backward}
 use Rattle.automata_hybrid.specs.Caches.{IsCacheOf}
-use Rattle.automata_hybrid.specs.Growing.{IsGrown}
-use Rattle.automata_hybrid.specs.Kept.{ClearedNothing}
-use Rattle.automata_hybrid.specs.Knowing.{KnowsBegin, KnowsPass}
+use Rattle.automata_hybrid.specs.Growing.{IsGrown, ClearedNothing}
+use Rattle.automata_hybrid.specs.Knowing.{KnowsItsStart, KnowsPass}
 use Rattle.automata_hybrid.specs.Passing.{HasLearned, IsAt}
 use Rattle.automata_hybrid.proofs.dfa.DFA.find_rev.Given as goal
 
@@ -15,7 +14,7 @@ invariant-loop-at l = record {
   within : l.at ≤ l.input.end;
   grown : IsGrown l.fn.cache l.cache;
   idle : KnowsPass Backward l.self l.fn.cache.store l.input → l.cache.count ≡ l.fn.cache.count;
-  learned : KnowsBegin Backward l.self l.fn.cache.store l.input → ClearedNothing l.fn.cache.store l.cache.store → KnowsBegin Backward l.self l.cache.store l.input × HasLearned Backward l.self l.cache.store l.input (l.input.end - l.at);
+  learned : KnowsItsStart Backward l.self l.fn.cache.store l.input → ClearedNothing l.fn.cache.store l.cache.store → KnowsItsStart Backward l.self l.cache.store l.input × HasLearned Backward l.self l.cache.store l.input (l.input.end - l.at);
   at : IsAt Backward l.self l.cache.store.table l.input (l.input.end - l.at) l.id l.found;
 }
 

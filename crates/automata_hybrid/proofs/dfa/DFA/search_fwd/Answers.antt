@@ -6,7 +6,7 @@ use Rattle.automata_base.specs.declared.util.search.Anchored.TheVariants.{No}
 use Rattle.automata_base.specs.Tapes.{Forward, is_split}
 use Rattle.automata_hybrid.specs.Searches.{Finds, IsFound, Skips, with_base}
 use Rattle.automata_hybrid.specs.Slots.{supports}
-use Rattle.automata_hybrid.specs.Kept.{ClearedNothing}
+use Rattle.automata_hybrid.specs.Growing.{ClearedNothing}
 use Rattle.automata_hybrid.specs.Knowing.{Knows, KnowsPass}
 use Rattle.automata_hybrid.proofs.Growing.{grown_trans, nothing_first, nothing_second}
 use Rattle.automata_hybrid.proofs.Knowing.{LearnedSpans, search_still, spans_all, spans_more, spans_still}

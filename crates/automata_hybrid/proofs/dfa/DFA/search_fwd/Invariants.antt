@@ -2,8 +2,7 @@ use Rattle.std.proofs.Common.{false, ◌≡◌, ◌≤◌, ◌+◌, ◌*◌, ◌
 use Rattle.automata_base.specs.Answers.{Tries}
 use Rattle.automata_base.specs.Tapes.{Forward}
 use Rattle.automata_hybrid.specs.Caches.{IsCacheOf}
-use Rattle.automata_hybrid.specs.Growing.{IsGrown}
-use Rattle.automata_hybrid.specs.Kept.{ClearedNothing}
+use Rattle.automata_hybrid.specs.Growing.{IsGrown, ClearedNothing}
 use Rattle.automata_hybrid.specs.Knowing.{Knows}
 use Rattle.automata_hybrid.specs.Searches.{Finds, Skips}
 use Rattle.automata_hybrid.specs.Slots.{supports}

@@ -7,7 +7,7 @@ use Rattle.automata_base.specs.Tapes.{Backward, is_split}
 use Rattle.automata_hybrid.specs.Searches.{Finds, Skips, with_base}
 use Rattle.automata_hybrid.proofs.Backward.{ended, ended_start, ended_within}
 use Rattle.automata_hybrid.specs.Slots.{supports}
-use Rattle.automata_hybrid.specs.Kept.{ClearedNothing}
+use Rattle.automata_hybrid.specs.Growing.{ClearedNothing}
 use Rattle.automata_hybrid.specs.Knowing.{Knows, KnowsPass}
 use Rattle.automata_hybrid.proofs.Growing.{grown_trans, nothing_first, nothing_second}
 use Rattle.automata_hybrid.proofs.Knowing.{LearnedSpans, search_still, spans_all, spans_more, spans_still}

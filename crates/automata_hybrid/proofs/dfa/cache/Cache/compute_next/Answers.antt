@@ -1,10 +1,9 @@
 use Rattle.std.proofs.Common.{◌≡◌, ◌∙◌, ap, sym, subst, inr, false, ◌⊎◌}
 use Rattle.automata_base.specs.Powerset.{Powerset}
 use Rattle.automata_base.specs.Steps.{successor}
-use Rattle.automata_hybrid.specs.Table.{Names, Lacks}
+use Rattle.automata_hybrid.specs.Table.{Names, Lacks, Has}
 use Rattle.automata_hybrid.specs.Bounds.{Stored, IsAdded}
 use Rattle.automata_hybrid.specs.Caches.{CacheView}
-use Rattle.automata_hybrid.specs.Kept.{Has}
 use Rattle.automata_hybrid.specs.Founds.{IsFound}
 use Rattle.automata_hybrid.specs.declared.dfa.cache.Found.{Found}
 use Rattle.automata_hybrid.specs.declared.dfa.cache.Found.TheVariants.{New}

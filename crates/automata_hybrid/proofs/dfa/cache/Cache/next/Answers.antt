@@ -1,4 +1,4 @@
-use Rattle.std.proofs.Common.{rules, ◌≡◌, ◌^◌, ◌<◌, ◌≤◌, arith, ◌∙◌, refl, subst, sym, inr}
+use Rattle.std.proofs.Common.{rules, ◌≡◌, ◌^◌, ◌<◌, ◌≤◌, arith, ◌∙◌, ◌+◌, ℕ, refl, subst, sym, inr}
 use Rattle.std.proofs.lemmas.Grind.{common_steps}
 use Rattle.std.specs.Prelude.{slice_index}
 use Rattle.automata_base.specs.Powerset.{Powerset, cost}
@@ -6,7 +6,7 @@ use Rattle.automata_base.specs.Steps.{successor}
 use Rattle.automata_hybrid.specs.Machine.{Machine, template_of, greatest, next_of}
 use Rattle.automata_hybrid.specs.Table.{Leads}
 use Rattle.automata_hybrid.specs.Bounds.{IsKnownTransition, IsComputed, cell_of}
-use Rattle.automata_hybrid.specs.Kept.{ClearedNothing}
+use Rattle.automata_hybrid.specs.Growing.{ClearedNothing, HasRoom, Keeps}
 use Rattle.automata_hybrid.proofs.Bounding.{Leads-known}
 use Rattle.automata_hybrid.proofs.Effects.{Keeps-computed, written-computed, roomy-computed}
 use Rattle.automata_hybrid.proofs.Growing.{grown_counted, grown_one, grown_same}
@@ -44,8 +44,8 @@ returns-clause-named c = λ q n.
     let free : slice_index (template_of c.args.dfa.now) c.args.class ≡ 2 ^ 31 = subst (λ (m : Machine). slice_index (template_of m) c.args.class ≡ 2 ^ 31) c.requires.of (unknown_free c.args.self.now.store.table c.requires.valid.0 c.args.class c.cell-cell.result (c.cell-cell.ensures.named c.requires.valid.0 c.requires.valid.1) c.cell-cell.ensures.stride l) in
     inr (subst (λ (m : Machine). slice_index (template_of m) c.args.class ≡ 2 ^ 31) of free, subst (λ (m : Machine). Leads c.compute_next.new.self.store.table c.in_ok-next.next (next_of m q c.args.class)) of (c.in_ok-next.ensures.named q n))
 
-pub returns-clause-kept : goal.returns-clause-kept
-returns-clause-kept c = λ nothing.
+kept : (c : After-see_ids) → ClearedNothing c.args.self.now.store c.compute_next.new.self.store → Keeps c.args.self.now.store c.compute_next.new.self.store
+kept c nothing =
     Keeps-computed c.args.self.now.store c.compute_next.new.self.store c.args.id c.args.class c.in_ok-next.next c.requires.valid.0 (target c) c.see_cells.ensures.cells c.requires.valid.1 (below c) (unknown c) (done c) nothing
 
 pub returns-clause-written : goal.returns-clause-written
@@ -57,8 +57,8 @@ returns-clause-learned c = λ nothing.
     let known : c.in_ok-next.next < 2 ^ 31 = Leads-known c.compute_next.new.self.store.table c.in_ok-next.next (next_of c.args.dfa.now c.requires.valid.0 c.args.class) c.see_ids.ensures.low c.see_ids.ensures.small leads in
     subst (λ n. n < 2 ^ 31) (sym (written c nothing)) known
 
-pub returns-clause-roomy : goal.returns-clause-roomy
-returns-clause-roomy c = λ states room.
+roomy : (c : After-see_ids) (states : ℕ) → HasRoom c.args.self.now.store (states + 1) → HasRoom c.compute_next.new.self.store states × (c.compute_next.new.self.store.clears ≡ c.args.self.now.store.clears)
+roomy c states room =
     let little : cost (target c) ≤ greatest c.args.self.now.store.table.of = subst (λ (m : Machine). cost (target c) ≤ greatest m) (sym c.requires.of) (c.in_ok-next.ensures.cheap c.requires.valid.0 c.requires.valid.1) in
     roomy-computed c.args.self.now.store c.compute_next.new.self.store c.args.id c.args.class c.in_ok-next.next c.requires.valid.0 (target c) states c.see_cells.ensures.wide little (done c) room
 
@@ -68,12 +68,12 @@ returns-then-not-is_unknown-clause-grown c = grown_same c.args.self.now c.args.s
 pub returns-in_err-next-clause-grown : goal.returns-in_err-next-clause-grown
 returns-in_err-next-clause-grown c = grown_counted c.args.self.now c.compute_next.new.self c.in_err-next.ensures.err
 
-pub returns-clause-clears_more : goal.returns-clause-clears_more
-returns-clause-clears_more c = search rules
+clears_more : (c : After-see_ids) → c.args.self.now.store.clears ≤ c.compute_next.new.self.store.clears
+clears_more c = search rules
 
 pub returns-clause-grown : goal.returns-clause-grown
 returns-clause-grown c =
     let of : c.compute_next.new.self.store.table.of ≡ c.args.self.now.store.table.of = c.in_ok-next.ensures.of ∙ sym c.requires.of in
     grown_one c.args.self.now c.compute_next.new.self of
     c.in_ok-next.ensures.counted
-    (returns-clause-clears_more c) (returns-clause-kept c) (returns-clause-roomy c)
+    (clears_more c) (kept c) (roomy c)

@@ -1,23 +1,25 @@
-use Rattle.std.proofs.Common.{◌^◌, ◌≤◌, arith, refl, rules, subst, sym, ◌≡◌, ◌∙◌}
+use Rattle.std.proofs.Common.{◌^◌, ◌≤◌, arith, refl, rules, subst, sym, ◌≡◌, ◌∙◌, ◌+◌, ℕ}
 use Rattle.std.proofs.lemmas.Grind.{common_steps}
 use Rattle.automata_base.specs.Powerset.{cost}
 use Rattle.automata_base.specs.Steps.{start_state_of}
 use Rattle.automata_hybrid.specs.declared.dfa.row.Row.{Row}
 use Rattle.automata_hybrid.specs.Machine.{Machine, greatest}
 use Rattle.automata_hybrid.specs.Bounds.{IsKnownStart}
+use Rattle.automata_hybrid.specs.Growing.{ClearedNothing, HasRoom, Keeps}
 use Rattle.automata_hybrid.proofs.Effects.{Keeps-started, roomy-started}
 use Rattle.automata_hybrid.proofs.Growing.{grown_counted, grown_one, grown_same}
+use Rattle.automata_hybrid.proofs.dfa.cache.Cache.start.Goals.{In_ok-id}
 use Rattle.automata_hybrid.proofs.dfa.cache.Cache.start.Goals as goal
 
-pub returns-clause-kept : goal.returns-clause-kept
-returns-clause-kept c =
+kept : (c : In_ok-id) → ClearedNothing c.args.self.now.store c.compute_start.new.self.store → Keeps c.args.self.now.store c.compute_start.new.self.store
+kept c =
     let l : 2 ^ 31 ≤ c.start_slot-found.result = grind (arith, common_steps, c.if-not-is_unknown.ensures.size) in
     let unknown : IsKnownStart c.args.self.now.store c.args.slot → ⊥ = λ k. absurd (omega (arith, k, l, c.start_slot-found.ensures.value)) in
     let r : Row = record { state = start_state_of c.args.dfa.now.nfa c.args.mode c.args.prev; started = c.args.dfa.now.specialized } in
     Keeps-started c.args.self.now.store c.compute_start.new.self.store c.args.slot c.in_ok-id.id r c.in_ok-id.ensures.effect c.see_cells.ensures.cells unknown
 
-pub returns-clause-roomy : goal.returns-clause-roomy
-returns-clause-roomy c = λ states room.
+roomy : (c : In_ok-id) (states : ℕ) → HasRoom c.args.self.now.store (states + 1) → HasRoom c.compute_start.new.self.store states × (c.compute_start.new.self.store.clears ≡ c.args.self.now.store.clears)
+roomy c states room =
     let r : Row = record { state = start_state_of c.args.dfa.now.nfa c.args.mode c.args.prev; started = c.args.dfa.now.specialized } in
     let little : cost r.state ≤ greatest c.args.self.now.store.table.of = subst (λ (m : Machine). cost r.state ≤ greatest m) (sym c.requires.of) c.in_ok-id.ensures.cheap in
     roomy-started c.args.self.now.store c.compute_start.new.self.store c.args.slot c.in_ok-id.id r c.in_ok-id.ensures.effect states c.see_cells.ensures.wide little room
@@ -28,12 +30,12 @@ returns-then-not-is_unknown-clause-grown c = grown_same c.args.self.now c.args.s
 pub returns-in_err-id-clause-grown : goal.returns-in_err-id-clause-grown
 returns-in_err-id-clause-grown c = grown_counted c.args.self.now c.compute_start.new.self c.in_err-id.ensures.err
 
-pub returns-clause-clears_more : goal.returns-clause-clears_more
-returns-clause-clears_more c = search rules
+clears_more : (c : In_ok-id) → c.args.self.now.store.clears ≤ c.compute_start.new.self.store.clears
+clears_more c = search rules
 
 pub returns-clause-grown : goal.returns-clause-grown
 returns-clause-grown c =
     let of : c.compute_start.new.self.store.table.of ≡ c.args.self.now.store.table.of = c.in_ok-id.ensures.of ∙ sym c.requires.of in
     grown_one c.args.self.now c.compute_start.new.self of
     c.in_ok-id.ensures.counted
-    (returns-clause-clears_more c) (returns-clause-kept c) (returns-clause-roomy c)
+    (clears_more c) (kept c) (roomy c)

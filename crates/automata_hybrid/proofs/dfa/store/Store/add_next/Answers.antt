@@ -1,14 +1,13 @@
 use Rattle.std.proofs.Common.{◌≡◌, ◌∙◌, ap, sym, subst, ℕ, List, None, false, inr, ◌⊎◌}
 use Rattle.automata_base.specs.Powerset.{Powerset, cost}
 use Rattle.automata_hybrid.specs.Clears.{row_of}
-use Rattle.automata_hybrid.specs.Kept.{Has}
+use Rattle.automata_hybrid.specs.Table.{Has, Names, id_of}
 use Rattle.automata_hybrid.specs.declared.dfa.row.Row.{Row}
 use Rattle.automata_hybrid.proofs.Effects.{only-grown}
 use Rattle.automata_hybrid.proofs.Searching.{false_true}
 use Rattle.automata_hybrid.proofs.dfa.store.Store.add_next.Goals.{After-drop-self-inside-6}
 use Rattle.automata_hybrid.specs.Owned.{IsOwn}
 use Rattle.automata_hybrid.specs.Machine.{Machine}
-use Rattle.automata_hybrid.specs.Table.{Names, id_of}
 use Rattle.automata_hybrid.specs.Bounds.{Stored, Fits, KeepsStarts, grown, with_table, put_found, cleared_saving}
 use Rattle.automata_hybrid.proofs.dfa.store.Store.add_next.Goals as goal
 

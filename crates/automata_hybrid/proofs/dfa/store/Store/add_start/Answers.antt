@@ -1,7 +1,7 @@
 use Rattle.std.proofs.Common.{◌≡◌, ◌∙◌, ap, sym, subst, inr, ◌⊎◌}
 use Rattle.automata_base.specs.Powerset.{Powerset, cost}
 use Rattle.automata_hybrid.specs.Bounds.{Stored, Fits, grown}
-use Rattle.automata_hybrid.specs.Kept.{Has}
+use Rattle.automata_hybrid.specs.Table.{Has}
 use Rattle.automata_hybrid.specs.declared.dfa.row.Row.{Row}
 use Rattle.automata_hybrid.proofs.Effects.{only-grown}
 use Rattle.automata_hybrid.proofs.Searching.{false_true}
