@@ -57,13 +57,13 @@ pub fn keep_slot(
     ensures front { OnOk result ((j : ℕ) → j < length slots.old.items → slice_index slots.new.items j ≡ slice_index slots.old.items j) }
     ensures last { OnOk result (id < unknown_id → slice_index slots.new.items (length slots.old.items) < unknown_id) }
 {
-    let _ = old.len();
+    old.see_rows();
     if id.is_fixed() {
         slots.push(id)?;
         return Ok(());
     }
     let new = keep_row(kept, old, id)?;
-    let _ = kept.len();
+    kept.see_rows();
     slots.push(new)?;
     Ok(())
 }
@@ -90,7 +90,7 @@ pub fn keep_starts(
     let mut table = old.emptied(dfa)?;
     let mut slots = Vec::new(dfa.alloc());
     for id in starts {
-        let _ = table.len();
+        table.see_rows();
         keep_slot(&mut table, &mut slots, old, *id)?;
     }
     Ok((table, slots))

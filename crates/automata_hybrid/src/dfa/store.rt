@@ -129,7 +129,7 @@ impl Store {
         ensures written { slice_index self.new.starts slot ≡ id }
         ensures found { slice_index self.new.starts slot < unknown_id }
     {
-        let _ = self.table.len();
+        self.table.see_rows();
         self.starts[slot] = id;
     }
 
@@ -138,6 +138,7 @@ impl Store {
         ensures usage { result ≡ usage self.now }
         ensures within { result ≤ self.now.settings.capacity }
     {
+        self.table.see_rows();
         let states = self.table.len();
         4 * self.table.cell_count()
             + 4 * self.starts.len()
@@ -153,7 +154,7 @@ impl Store {
         requires { extra ≤ greatest self.now.table.of }
         ensures { IsTrue result ↔ Fits self.now extra }
     {
-        let _ = self.table.len();
+        self.table.see_rows();
         let used = self.memory_usage();
         let room = self.settings.capacity - used;
         4 * self.table.stride() + 36 + extra <= room && self.table.cell_count() < 134217728
@@ -180,7 +181,7 @@ impl Store {
         ensures small { self.now.table.of.stride ≤ 512 }
         ensures alive { (id : ℕ) (q : Powerset) → Names self.now.table id q → q ≡ dead → ⊥ }
     {
-        let _ = self.table.len();
+        self.table.see_rows();
     }
 
     /// Rows are of one width, and each has a cell for each class; the count of clears is a number of 64 bits.
@@ -213,6 +214,7 @@ impl Store {
         let Some(bytes) = self.settings.minimum_bytes_per_state else {
             return true;
         };
+        self.table.see_rows();
         self.searched.total_len() < bytes.saturating_mul(self.table.len() + 3)
     }
 
@@ -226,9 +228,9 @@ impl Store {
         ensures absent { IfOk result (λ c. (q : Powerset) → id_of self.now.table q ≡ None → id_of c.table q ≡ None) }
         ensures of { IfOk result (λ c. c.table.of ≡ self.now.table.of) }
     {
-        let _ = self.table.len();
+        self.table.see_rows();
         let (table, starts) = keep_starts(dfa, &self.table, self.starts.as_slice())?;
-        let _ = table.len();
+        table.see_rows();
         Ok(Store {
             table,
             starts,
@@ -249,7 +251,7 @@ impl Store {
     pub fn is_valid(&self, id: LazyStateID) -> bool
         ensures { IsTrue result ↔ IsRow self.now.table id }
     {
-        let _ = self.table.len();
+        self.table.see_rows();
         let stride = self.table.stride() as u32;
         id == LazyStateID::UNKNOWN
             || id == LazyStateID::dead(stride)
@@ -260,7 +262,7 @@ impl Store {
     pub fn dead(&self) -> LazyStateID
         ensures { result ≡ dead_id self.now.table.of.stride }
     {
-        let _ = self.table.len();
+        self.table.see_rows();
         LazyStateID::dead(self.table.stride() as u32)
     }
 
@@ -313,7 +315,7 @@ impl Store {
         requires { length self.now.table.rows ≤ length self.now.starts + 1 }
         ensures fits { (extra : ℕ) → extra ≤ greatest self.now.table.of → Fits self.now extra }
     {
-        let _ = self.table.len();
+        self.table.see_rows();
         let _ = self.starts.len();
     }
 
@@ -330,7 +332,7 @@ impl Store {
         ensures of { OnOk result (self.new.table.of ≡ self.old.table.of) }
         ensures err { OnErr result (self.new ≡ self.old) }
     {
-        let _ = self.table.len();
+        self.table.see_rows();
         let added = self.table.add(state, started)?;
         Ok(added)
     }
@@ -346,9 +348,9 @@ impl Store {
         ensures absent { OnOk result ((q : Powerset) → id_of old.now q ≡ None → id_of self.old.table q ≡ None → id_of self.new.table q ≡ None) }
         ensures of { OnOk result (self.new.table.of ≡ self.old.table.of) }
     {
-        let _ = self.table.len();
+        self.table.see_rows();
         let kept = keep_row(&mut self.table, old, id)?;
-        let _ = self.table.len();
+        self.table.see_rows();
         Ok(kept)
     }
 

@@ -60,7 +60,13 @@ impl Table {
     }
 
     pub fn len(&self) -> usize
-        ensures value { result ≡ length self.now.rows }
+        ensures { result ≡ length self.now.rows }
+    {
+        self.rows.len()
+    }
+
+    /// There is a row's worth of cells for each row and the three fixed ones, and no row is dead.
+    pub fn see_rows(&self)
         ensures whole { length self.now.cells ≡ (length self.now.rows + 3) * self.now.of.stride }
         ensures template { IsTemplate self.now.of.stride (template_of self.now.of) }
         ensures costs { sum_by row_cost self.now.rows ≤ length self.now.rows * greatest self.now.of }
@@ -68,7 +74,7 @@ impl Table {
         ensures tagged { (id : ℕ) (q : Powerset) → Names self.now id q → IsBitSet id 27 ↔ (0 < length q.patterns) }
         ensures alive { (id : ℕ) (q : Powerset) → Names self.now id q → q ≡ dead → ⊥ }
     {
-        self.rows.len()
+        let _rows = &self.rows;
     }
 
     /// Rows are of one width, and each has a cell for each class.

@@ -1,7 +1,7 @@
 use Rattle.std.proofs.Common.{subst}
 use Rattle.automata_hybrid.proofs.Places.{Names-Placed, Names-tagged, Names-alive, IsTable-costs}
 use Rattle.automata_hybrid.specs.Table.{Rows, IsTable}
-use Rattle.automata_hybrid.proofs.dfa.table.Table.len.Goals as goal
+use Rattle.automata_hybrid.proofs.dfa.table.Table.see_rows.Goals as goal
 
 pub returns-clause-costs : goal.returns-clause-costs
 returns-clause-costs c =
