@@ -3,7 +3,6 @@ pub mod AlikeClasses
 pub mod AlikeUnits
 pub mod Belows
 pub mod Bits_of_looks
-pub mod Deciding
 pub mod Dense
 pub mod Distinct
 pub mod Holding

@@ -141,6 +141,12 @@ impl LookSet {
         self.bits
     }
 
+    pub fn is_empty(self) -> bool
+        ensures { result ≡ eqb self 0 }
+    {
+        self.bits == 0
+    }
+
     pub fn contains(self, look: Look) -> bool
         ensures { result ≡ truth_of self look }
     {

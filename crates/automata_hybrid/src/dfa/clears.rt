@@ -88,7 +88,7 @@ pub fn keep_starts(
     ensures of { IfOk result (λ p. p.0.of ≡ old.now.of) }
 {
     let mut table = old.emptied(dfa)?;
-    let mut slots = Vec::new(dfa.alloc());
+    let mut slots = Vec::with_capacity(dfa.alloc(), starts.len())?;
     for id in starts {
         table.see_rows();
         keep_slot(&mut table, &mut slots, old, *id)?;

@@ -61,7 +61,7 @@ impl Store {
         ensures { IfOk result (λ c. c ≡ fresh_store dfa.now settings) }
     {
         let _capacity = settings.capacity;
-        let table = Table::fresh(dfa, stride, template)?;
+        let table = Table::fresh(dfa, stride, template, 0)?;
         let mut starts = Vec::new(dfa.alloc());
         starts.resize(slots, LazyStateID::UNKNOWN)?;
         Ok(Store {

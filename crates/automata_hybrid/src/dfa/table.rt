@@ -148,15 +148,21 @@ impl Table {
         Ok(id)
     }
 
-    /// The fixed rows alone.
-    pub fn fresh(dfa: &DFA, stride: usize, template: Vec<LazyStateID>) -> Result<Table, AllocError>
+    /// The fixed rows alone, with room for so many rows more.
+    pub fn fresh(
+        dfa: &DFA,
+        stride: usize,
+        template: Vec<LazyStateID>,
+        room: usize,
+    ) -> Result<Table, AllocError>
         requires whole { IsTemplate stride template.items }
         requires stride { stride ≡ dfa.now.stride }
         requires template { template.items ≡ template_of dfa.now }
+        requires room { (room + 3) * stride < 2 ^ 64 }
         ensures { IfOk result (λ t. t ≡ fresh dfa.now) }
     {
         let alloc = dfa.alloc();
-        let mut cells = Vec::new(alloc);
+        let mut cells = Vec::with_capacity(alloc, (room + 3) * stride)?;
         cells.resize(stride, LazyStateID::UNKNOWN)?;
         cells.resize(2 * stride, LazyStateID::dead(stride as u32))?;
         cells.resize(3 * stride, LazyStateID::quit(stride as u32))?;
@@ -165,19 +171,22 @@ impl Table {
             stride,
             template,
             cells,
-            rows: Vec::new(alloc),
-            map: HashMap::new(alloc),
+            rows: Vec::with_capacity(alloc, room)?,
+            map: HashMap::with_capacity(alloc, room)?,
             costs: 0,
         })
     }
 
-    /// A table of the same shape, with the fixed rows alone.
+    /// A table of the same shape, with the fixed rows alone, and with room for as many rows as are here: a cache that
+    /// clears often doesn't grow again each time.
     pub fn emptied(&self, dfa: &DFA) -> Result<Table, AllocError>
         requires { dfa.now ≡ self.now.of }
         ensures { IfOk result (λ t. t ≡ fresh self.now.of) }
     {
         let template = Vec::from_slice(dfa.alloc(), &self.template)?;
-        Table::fresh(dfa, self.stride, template)
+        self.see_rows();
+        let _cells = self.cells.len();
+        Table::fresh(dfa, self.stride, template, self.rows.len())
     }
 
     /// The place of the row that has this ID.

@@ -18,7 +18,7 @@ use crate::nfa::thompson::NFA;
 use crate::nfa::thompson::reading::{pattern_of, target};
 use crate::util::determinize::closure::{close, close_one};
 use crate::util::determinize::deciding::{
-    first_of, has_news, is_unit, is_word_unit, known_behind, looks_true,
+    first_of, has_news, is_unit, is_word_unit, known_behind, news,
 };
 use crate::util::determinize::lists::{cut_length, has_pattern, keep_states};
 use crate::util::determinize::sparse_set::SparseSet;
@@ -380,13 +380,11 @@ pub fn next_into(
     ensures room { vec_capacity parts.old.nfa ≤ vec_capacity parts.new.nfa }
     ensures slots { vec_capacity parts.old.patterns ≤ vec_capacity parts.new.patterns }
 {
-    let known = LookSet::from_bits(from.known());
-    let needed = LookSet::from_bits(from.needed());
-    let truth = looks_true(nfa, known, from.word(), from.half(), unit);
-    if has_news(needed, truth, known) {
-        close(nfa, list, truth, stack, one);
-        advance(nfa, kind, one.as_slice(), unit, stack, two, parts)
-    } else {
-        advance(nfa, kind, list, unit, stack, two, parts)
+    match news(nfa, from, unit) {
+        Some(truth) => {
+            close(nfa, list, truth, stack, one);
+            advance(nfa, kind, one.as_slice(), unit, stack, two, parts)
+        }
+        None => advance(nfa, kind, list, unit, stack, two, parts),
     }
 }

@@ -1,12 +1,13 @@
-ghost use Rattle.std.specs.Prelude.{◌≡◌, ◌<◌, ◌&&◌, ◌||◌, not, cond, true, false, eqb, IsTrue, IsFalse, ℕ};
+ghost use Rattle.std.specs.Prelude.{◌≡◌, ◌<◌, ◌&&◌, ◌||◌, not, cond, true, false, eqb, IsTrue, IsFalse, IfSome, OnSome, None, ℕ};
 ghost use Rattle.automata_base.specs.Looks.{is_word_byte, is_word, is_absent, is_byte, differ, first_half, second_half};
-ghost use Rattle.automata_base.specs.Passes.{decided};
+ghost use Rattle.automata_base.specs.Passes.{decided, true_looks, IsNews};
 ghost use Rattle.automata_base.specs.Computed.{always, known_looks, any_node};
 ghost use Rattle.automata_base.specs.Looks.{look_index};
 ghost use Rattle.automata_base.specs.Truths.{truth_of, nth_look};
 ghost use Rattle.automata_base.specs.Nodes.{nfa_of};
 
 use crate::nfa::thompson::NFA;
+use crate::util::determinize::state::State;
 use crate::util::look::{Look, LookSet};
 
 pub fn is_word_u8(u: u8) -> bool
@@ -126,6 +127,9 @@ pub fn known_behind(nfa: &NFA, prev: Option<u8>) -> LookSet
     ensures { (look : Look) → truth_of result look ≡ known_looks (nfa_of nfa.now) prev look }
 {
     let mut set = LookSet::empty();
+    if nfa.look_set_any().is_empty() {
+        return set;
+    }
     for index in 0..18 {
         let look = Look::from_index(index);
         let passes = is_known(nfa, look, prev);
@@ -134,8 +138,8 @@ pub fn known_behind(nfa: &NFA, prev: Option<u8>) -> LookSet
     set
 }
 
-/// The looks that are known or that the unit decides.
-pub fn looks_true(nfa: &NFA, known: LookSet, word: bool, half: bool, unit: Option<u8>) -> LookSet
+// The looks that are known or that the unit decides.
+fn looks_true(nfa: &NFA, known: LookSet, word: bool, half: bool, unit: Option<u8>) -> LookSet
     ensures { (look : Look) → truth_of result look ≡ (truth_of known look || decided nfa.now.flags.line_terminator nfa.now.flags.reverse word half look unit) }
 {
     let flags = nfa.flags();
@@ -160,10 +164,32 @@ pub fn has_news(needed: LookSet, truth: LookSet, known: LookSet) -> bool
     ensures news { IsTrue result → (look : Look) × (truth_of needed look ≡ true) × (truth_of truth look ≡ true) × (truth_of known look ≡ false) }
     ensures none { IsFalse result → (look : Look) → truth_of needed look ≡ true → truth_of truth look ≡ true → truth_of known look ≡ false → ⊥ }
 {
+    if needed.is_empty() {
+        return false;
+    }
     for index in 0..18 {
         if is_news(needed, truth, known, Look::from_index(index)) {
             return true;
         }
     }
     false
+}
+
+/// The looks that are true at the unit, where one of them is needed and was not known.
+pub fn news(nfa: &NFA, from: &State, unit: Option<u8>) -> Option<LookSet>
+    ensures truth { IfSome result (λ truth. (look : Look) → truth_of truth look ≡ true_looks (nfa_of nfa.now) from.now unit look) }
+    ensures news { OnSome result (IsNews (nfa_of nfa.now) from.now unit) }
+    ensures none { result ≡ None → IsNews (nfa_of nfa.now) from.now unit → ⊥ }
+{
+    let needed = LookSet::from_bits(from.needed());
+    if needed.is_empty() {
+        return None;
+    }
+    let known = LookSet::from_bits(from.known());
+    let truth = looks_true(nfa, known, from.word(), from.half(), unit);
+    if has_news(needed, truth, known) {
+        Some(truth)
+    } else {
+        None
+    }
 }

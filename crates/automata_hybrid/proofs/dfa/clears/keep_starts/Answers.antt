@@ -1,10 +1,12 @@
-use Rattle.std.proofs.Common.{◌≡◌, ◌∙◌, sym, ap, ℕ, [], ◌+◌, ◌^◌, ◌<◌, ◌≤◌, length, take, get_or, arith, subst, refl, Some, slice_get, below_more, ⊎_elim, lit<}
+use Rattle.std.proofs.Common.{◌≡◌, ◌∙◌, sym, ap, ℕ, [], ◌+◌, ◌*◌, ◌^◌, ◌<◌, ◌≤◌, length, take, get_or, arith, subst, refl, Some, slice_get, below_more, ⊎_elim, lit<}
 use Rattle.std.proofs.lemmas.Grind.{get_or_default_zero}
 use Rattle.std.proofs.lemmas.Option.{slice_get_read}
 use Rattle.std.proofs.lemmas.List.{get_or_past}
 use Rattle.std.proofs.lemmas.Bool.{cases_lt}
-use Rattle.automata_hybrid.specs.Machine.{start_of}
-use Rattle.automata_hybrid.specs.Table.{Rows, fresh, MayLead}
+use Rattle.std.proofs.Math.Nat.{mul-le-mul_right}
+use Rattle.std.specs.Prelude.{sum_by}
+use Rattle.automata_hybrid.specs.Machine.{Machine, start_of, greatest}
+use Rattle.automata_hybrid.specs.Table.{Rows, fresh, MayLead, row_cost}
 use Rattle.automata_hybrid.specs.Clears.{keep_slot, keep_slots, Kept}
 use Rattle.automata_hybrid.proofs.Keeping.{kept_step, AllStarts-none}
 use Rattle.automata_hybrid.proofs.dfa.clears.keep_starts.Goals as goal
@@ -15,10 +17,10 @@ loop-id-init c =
     let e = c.in_ok-table.ensures in
     record {
       kept = e;
-      slots = c.new-slots.ensures.items;
+      slots = c.in_ok-slots.ensures.items;
       few = rw e (omega arith);
-      length = rw c.new-slots.ensures.items refl;
-      named = AllStarts-none c.in_ok-table.table c.new-slots.result.items c.new-slots.ensures.items;
+      length = rw c.in_ok-slots.ensures.items refl;
+      named = AllStarts-none c.in_ok-table.table c.in_ok-slots.slots.items c.in_ok-slots.ensures.items;
       known = λ j h k. absurd (omega (arith, h));
       absent = λ q h. rw e refl;
       of = ap (λ (r : Rows). r.of) e;
@@ -59,3 +61,17 @@ returns-clause-known c = λ slot h.
     (λ (l : slot < length c.args.starts.now). i.known slot (rw all l) h)
     (λ (g : length c.args.starts.now ≤ slot). (let past : length c.loop-id.slots.items ≤ slot = omega (arith, i.length, all, g) in rw (get_or_past c.loop-id.slots.items slot 0 past) (lit< tt)))
     (cases_lt slot (length c.args.starts.now))
+
+pub keep_slot-requires-clause-fits : goal.keep_slot-requires-clause-fits
+keep_slot-requires-clause-fits c =
+    let few : length c.loop-id.table.rows + 3 ≤ length c.args.starts.now + 3 = omega (arith, c.loop-id.invariant.few, c.loop-id-test.true) in
+    let most = mul-le-mul_right c.args.old.now.of.stride few in
+    let whole = subst (λ (m : Machine). length c.loop-id.table.cells ≡ (length c.loop-id.table.rows + 3) * m.stride) c.loop-id.invariant.of c.see_rows.ensures.whole in
+    omega (arith, whole, most, c.requires.offsets)
+
+pub keep_slot-requires-clause-costs : goal.keep_slot-requires-clause-costs
+keep_slot-requires-clause-costs c =
+    let few : length c.loop-id.table.rows + 1 ≤ length c.args.starts.now + 1 = omega (arith, c.loop-id.invariant.few, c.loop-id-test.true) in
+    let most = mul-le-mul_right (greatest c.args.old.now.of) few in
+    let costs = subst (λ (m : Machine). sum_by row_cost c.loop-id.table.rows ≤ length c.loop-id.table.rows * greatest m) c.loop-id.invariant.of c.see_rows.ensures.costs in
+    omega (arith, costs, most, c.requires.costs)
