@@ -18,32 +18,31 @@ pub advance-requires-clause-below : goal.advance-requires-clause-below
 advance-requires-clause-below c = λ q i.
     subst (λ z. q < z) (c.close.ensures.whole ∙ c.requires.whole) (c.as_slice.ensures.below q (subst (λ z. In q z) c.as_slice.ensures.items i))
 
-
 pub advance-requires-in-None-clause-below : goal.advance-requires-in-None-clause-below
 advance-requires-in-None-clause-below c = λ q i. c.requires.is_of q (subst (λ z. In q z) c.requires.list i)
 
 pub returns-in-Some-clause-succ : goal.returns-in-Some-clause-succ
 returns-in-Some-clause-succ c = (
-      c.close.new.set.items,
-      c.advance.new.parts.patterns.items,
-      inl (
-        c.in-Some.ensures.news,
-        subst (λ xs. IsClosure (nfa_of c.args.nfa.now) (true_looks (nfa_of c.args.nfa.now) c.args.from.now c.args.unit) xs c.close.new.set.items) c.requires.list
-            (subst (λ A. IsClosure (nfa_of c.args.nfa.now) A c.args.list.now c.close.new.set.items) (λ i look. c.in-Some.ensures.truth look i) c.close.ensures.closure),
-      ),
-      subst (λ xs. IsOnce (pick (accepts (nfa_of c.args.nfa.now)) (cut_for c.args.kind (nfa_of c.args.nfa.now) xs)) c.advance.new.parts.patterns.items)
-          c.as_slice.ensures.items c.advance.ensures.once,
-      subst (λ xs. IsArrival (nfa_of c.args.nfa.now) c.advance.new.parts.patterns.items (targets (nfa_of c.args.nfa.now) c.args.unit (cut_for c.args.kind (nfa_of c.args.nfa.now) xs)) c.args.unit (powerset_of c.advance.new.parts))
-          c.as_slice.ensures.items c.advance.ensures.arrival,
-    )
+  c.close.new.set.items,
+  c.advance.new.parts.patterns.items,
+  inl (
+    c.in-Some.ensures.news,
+    subst (λ xs. IsClosure (nfa_of c.args.nfa.now) (true_looks (nfa_of c.args.nfa.now) c.args.from.now c.args.unit) xs c.close.new.set.items) c.requires.list
+        (subst (λ A. IsClosure (nfa_of c.args.nfa.now) A c.args.list.now c.close.new.set.items) (λ i look. c.in-Some.ensures.truth look i) c.close.ensures.closure),
+  ),
+  subst (λ xs. IsOnce (pick (accepts (nfa_of c.args.nfa.now)) (cut_for c.args.kind (nfa_of c.args.nfa.now) xs)) c.advance.new.parts.patterns.items)
+      c.as_slice.ensures.items c.advance.ensures.once,
+  subst (λ xs. IsArrival (nfa_of c.args.nfa.now) c.advance.new.parts.patterns.items (targets (nfa_of c.args.nfa.now) c.args.unit (cut_for c.args.kind (nfa_of c.args.nfa.now) xs)) c.args.unit (powerset_of c.advance.new.parts))
+      c.as_slice.ensures.items c.advance.ensures.arrival,
+)
 
 pub returns-in-None-clause-succ : goal.returns-in-None-clause-succ
 returns-in-None-clause-succ c = (
-      c.args.from.now.nfa,
-      c.advance-in-None.new.parts.patterns.items,
-      inr (c.in-None.ensures.none refl, refl),
-      subst (λ xs. IsOnce (pick (accepts (nfa_of c.args.nfa.now)) (cut_for c.args.kind (nfa_of c.args.nfa.now) xs)) c.advance-in-None.new.parts.patterns.items)
-          c.requires.list c.advance-in-None.ensures.once,
-      subst (λ xs. IsArrival (nfa_of c.args.nfa.now) c.advance-in-None.new.parts.patterns.items (targets (nfa_of c.args.nfa.now) c.args.unit (cut_for c.args.kind (nfa_of c.args.nfa.now) xs)) c.args.unit (powerset_of c.advance-in-None.new.parts))
-          c.requires.list c.advance-in-None.ensures.arrival,
-    )
+  c.args.from.now.nfa,
+  c.advance-in-None.new.parts.patterns.items,
+  inr (c.in-None.ensures.none refl, refl),
+  subst (λ xs. IsOnce (pick (accepts (nfa_of c.args.nfa.now)) (cut_for c.args.kind (nfa_of c.args.nfa.now) xs)) c.advance-in-None.new.parts.patterns.items)
+      c.requires.list c.advance-in-None.ensures.once,
+  subst (λ xs. IsArrival (nfa_of c.args.nfa.now) c.advance-in-None.new.parts.patterns.items (targets (nfa_of c.args.nfa.now) c.args.unit (cut_for c.args.kind (nfa_of c.args.nfa.now) xs)) c.args.unit (powerset_of c.advance-in-None.new.parts))
+      c.requires.list c.advance-in-None.ensures.arrival,
+)
