@@ -1,7 +1,7 @@
 //! Automata that are in no catalogue: malformed ones, and odd ones that are searched all the same.
 
-use super::Searcher;
 use super::dfa::counts;
+use super::{Searcher, same, same_of};
 use regex_automata::hybrid::dfa::Config;
 use regex_automata::nfa::thompson::{Flags, NFA, NfaError, State, Transition};
 use regex_automata::util::look::Look;
@@ -70,9 +70,7 @@ pub fn chain(alloc: Global, first: State) -> Result<NFA, Fail> {
 /// Each test of the door, the ones before it being passed, and those behind it not.
 #[test]
 fn refuses_malformed_automata(rt: HostRuntime) -> Result<(), Fail> {
-    let alloc = rt.alloc();
-    let none = door(Vec::new(alloc), 0, 1);
-    assert_eq!(rt; none.err(), Some(NfaError::StartRange));
+    refuses(&rt, Vec::new(rt.alloc()), 0, Some(NfaError::StartRange));
     for (lo, hi, next, start, want) in [
         (b'b', b'a', 9, 5, Some(NfaError::StartRange)),
         (b'b', b'a', 9, 0, Some(NfaError::StateRange)),
@@ -80,18 +78,24 @@ fn refuses_malformed_automata(rt: HostRuntime) -> Result<(), Fail> {
         (b'a', b'b', 0, 0, None),
         (b'a', b'a', 1, 0, Some(NfaError::StateRange)),
     ] {
-        let states = vec![in alloc; range(lo, hi, next)]?;
-        assert_eq!(rt;
-            door(states, start, 1).err(),
-            want,
-            "{lo} {hi} {next} {start}"
-        );
+        let states = vec![in rt.alloc(); range(lo, hi, next)]?;
+        refuses(&rt, states, start, want);
     }
-    let states = vec![in alloc; accept(3)]?;
-    assert_eq!(rt; door(states, 0, 1).err(), Some(NfaError::PatternRange));
-    let states = vec![in alloc; accept(3), range(b'b', b'a', 0)]?;
-    assert_eq!(rt; door(states, 0, 1).err(), Some(NfaError::Ranges));
     Ok(())
+}
+
+/// Patterns are looked at before ranges.
+#[test]
+fn refuses_patterns_out_of_range(rt: HostRuntime) -> Result<(), Fail> {
+    let states = vec![in rt.alloc(); accept(3)]?;
+    refuses(&rt, states, 0, Some(NfaError::PatternRange));
+    let states = vec![in rt.alloc(); accept(3), range(b'b', b'a', 0)]?;
+    refuses(&rt, states, 0, Some(NfaError::Ranges));
+    Ok(())
+}
+
+fn refuses<R: Abort>(rt: &R, states: Vec<State>, start: u8, want: Option<NfaError>) {
+    same_of(rt, &door(states, start, 1).err(), &want, &start);
 }
 
 #[test]
@@ -109,7 +113,7 @@ fn refuses_sparse_ranges_out_of_order(rt: HostRuntime) -> Result<(), Fail> {
             transitions.push(Transition { lo, hi, next })?;
         }
         let states = vec![in alloc; State::Sparse(transitions)]?;
-        assert_eq!(rt; door(states, 0, 1).err(), want, "{first:?} {second:?}");
+        refuses(&rt, states, 0, want);
     }
     Ok(())
 }
@@ -124,25 +128,50 @@ fn finds<R: Abort + AllocGlobal>(
     let config = Config::new().match_kind(kind);
     let mut searcher = Searcher::new(nfa, config)?;
     for (haystack, want) in rows.iter().copied() {
-        let input = Input::new(haystack.as_bytes());
-        let found = searcher.find(&input)?;
-        let want = want.map(|(number, end)| HalfMatch::new(pattern(number), end));
-        assert_eq!(rt; found, want, "{haystack}");
+        find_from(rt, &mut searcher, haystack, 0, want);
     }
     Ok(())
 }
 
+/// Searches a haystack from a place to its end.
+fn find_from<R: Abort>(
+    rt: &R,
+    searcher: &mut Searcher,
+    haystack: &str,
+    start: usize,
+    want: Option<(u8, usize)>,
+) {
+    let bytes = haystack.as_bytes();
+    let found = searcher.find(&Input::new(bytes).range(start.min(bytes.len())..bytes.len()));
+    let want = want.map(|(number, end)| HalfMatch::new(pattern(number), end));
+    same_of(rt, &found, &Ok(want), &haystack);
+}
+
 #[test]
-fn searches_odd_unions(rt: HostRuntime) -> Result<(), Fail> {
-    let alloc = rt.alloc();
-    let alternates = Vec::new(alloc);
-    let empty = door(vec![in alloc; State::Union { alternates }]?, 0, 0)?;
-    assert_eq!(rt; Config::new().get_minimum_cache_capacity(&empty), Ok(1085));
-    finds(&rt, empty, MatchKind::All, &[("ab", None)])?;
-    let twice = door(vec![in alloc; either(1, 1), accept(0)]?, 0, 1)?;
-    finds(&rt, twice, MatchKind::LeftmostFirst, &[("", Some((0, 0)))])?;
-    let both = door(vec![in alloc; either(1, 2), accept(0), accept(0)]?, 0, 1)?;
-    finds(&rt, both, MatchKind::All, &[("", Some((0, 0)))])
+fn searches_a_union_of_nothing(rt: HostRuntime) -> Result<(), Fail> {
+    let alternates = Vec::new(rt.alloc());
+    let states = vec![in rt.alloc(); State::Union { alternates }]?;
+    let nfa = door(states, 0, 0)?;
+    same(
+        &rt,
+        &Config::new().get_minimum_cache_capacity(&nfa),
+        &Ok(1085),
+    );
+    finds(&rt, nfa, MatchKind::All, &[("ab", None)])
+}
+
+#[test]
+fn searches_a_union_of_one_state_twice(rt: HostRuntime) -> Result<(), Fail> {
+    let states = vec![in rt.alloc(); either(1, 1), accept(0)]?;
+    let nfa = door(states, 0, 1)?;
+    finds(&rt, nfa, MatchKind::LeftmostFirst, &[("", Some((0, 0)))])
+}
+
+#[test]
+fn searches_a_union_of_one_pattern_twice(rt: HostRuntime) -> Result<(), Fail> {
+    let states = vec![in rt.alloc(); either(1, 2), accept(0), accept(0)]?;
+    let nfa = door(states, 0, 1)?;
+    finds(&rt, nfa, MatchKind::All, &[("", Some((0, 0)))])
 }
 
 /// A union of nothing adds no state to the cache.
@@ -151,37 +180,32 @@ fn counts_an_empty_union(rt: HostRuntime) -> Result<(), Fail> {
     let alternates = Vec::new(rt.alloc());
     let nfa = door(vec![in rt.alloc(); State::Union { alternates }]?, 0, 0)?;
     let mut searcher = Searcher::new(nfa, Config::new())?;
-    let found = searcher.find(&Input::new(b"ab"))?;
-    assert_eq!(rt; found, None);
+    find_from(&rt, &mut searcher, "ab", 0, None);
     counts(&rt, &searcher.cache, 217, 0);
     Ok(())
 }
 
+/// Byte `a`, and no other.
+const AN_A: &[(&str, Option<(u8, usize)>)] = &[("a", Some((0, 1))), ("b", None)];
+
 #[test]
-fn searches_dense_states_and_captures(rt: HostRuntime) -> Result<(), Fail> {
-    let alloc = rt.alloc();
+fn searches_dense_states(rt: HostRuntime) -> Result<(), Fail> {
     let mut targets = [id(0); 256];
     targets[usize::from(b'a')] = id(1);
-    let dense = door(vec![in alloc; State::Dense(targets), accept(0)]?, 0, 1)?;
-    finds(
-        &rt,
-        dense,
-        MatchKind::LeftmostFirst,
-        &[("a", Some((0, 1))), ("b", None)],
-    )?;
+    let states = vec![in rt.alloc(); State::Dense(targets), accept(0)]?;
+    finds(&rt, door(states, 0, 1)?, MatchKind::LeftmostFirst, AN_A)
+}
+
+#[test]
+fn searches_captures(rt: HostRuntime) -> Result<(), Fail> {
     let capture = State::Capture {
         next: id(1),
         pattern_id: pattern(0),
         group_index: 0,
         slot: 0,
     };
-    let captured = door(vec![in alloc; capture, byte(b'a', 2), accept(0)]?, 0, 1)?;
-    finds(
-        &rt,
-        captured,
-        MatchKind::LeftmostFirst,
-        &[("a", Some((0, 1))), ("b", None)],
-    )
+    let states = vec![in rt.alloc(); capture, byte(b'a', 2), accept(0)]?;
+    finds(&rt, door(states, 0, 1)?, MatchKind::LeftmostFirst, AN_A)
 }
 
 /// A cycle of epsilon edges that passes a look.
@@ -216,13 +240,9 @@ fn searches_a_look_cycle(rt: HostRuntime) -> Result<(), Fail> {
         ("c", 0, Some((2, 1))),
         ("xc", 1, None),
     ] {
-        let end = haystack.len();
-        let input = Input::new(haystack.as_bytes()).range(start..end);
-        let found = searcher.find(&input)?;
-        let want = want.map(|(number, end)| HalfMatch::new(pattern(number), end));
-        assert_eq!(rt; found, want, "{haystack}");
+        find_from(&rt, &mut searcher, haystack, start, want);
     }
-    assert_eq!(rt; searcher.cache.memory_usage(), 1559);
+    same(&rt, &searcher.cache.memory_usage(), &1559);
     Ok(())
 }
 
@@ -240,9 +260,9 @@ fn searches_a_long_chain(rt: HostRuntime) -> Result<(), Fail> {
     }
     states.push(accept(0))?;
     let mut searcher = Searcher::new(door(states, 0, 1)?, Config::new())?;
-    let found = searcher.find(&Input::new(haystack.as_slice()))?;
-    assert_eq!(rt; found, Some(HalfMatch::new(pattern(0), 3000)));
-    assert_eq!(rt; searcher.cache.clear_count(), 0);
-    assert_eq!(rt; searcher.cache.memory_usage(), 273384);
+    let found = searcher.find(&Input::new(haystack.as_slice()));
+    same(&rt, &found, &Ok(Some(HalfMatch::new(pattern(0), 3000))));
+    let counts = (searcher.cache.clear_count(), searcher.cache.memory_usage());
+    same(&rt, &counts, &(0, 273384));
     Ok(())
 }

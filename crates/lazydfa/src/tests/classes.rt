@@ -1,10 +1,12 @@
 //! Classes of bytes.
 
 use super::automata::{accept, door, id};
+use super::{same, same_of};
 use regex_automata::nfa::thompson::{NFA, State, Transition};
 use regex_automata::util::alphabet::ByteClasses;
 use regex_automata::util::look::Look;
 use std::alloc::Global;
+use std::process::Abort;
 use std::test::Fail;
 
 /// The bytes at which a class begins, but for the first.
@@ -35,33 +37,47 @@ fn parts_bytes_by_looks(rt: HostRuntime) -> Result<(), Fail> {
         let next = id(1);
         let nfa = door(vec![in alloc; State::Look { look, next }, accept(0)]?, 0, 1)?;
         let found = bounds(alloc, &nfa, b"")?;
-        assert_eq!(rt; found.as_slice(), want.as_bytes(), "{look:?}");
+        same_of(&rt, &found.as_slice(), &want.as_bytes(), &look);
     }
     Ok(())
 }
 
 #[test]
-fn parts_bytes_by_edges(rt: HostRuntime) -> Result<(), Fail> {
-    let alloc = rt.alloc();
+fn parts_bytes_by_the_edges_of_a_dense_state(rt: HostRuntime) -> Result<(), Fail> {
     let mut targets = [id(0); 256];
     for (byte, next) in [(b'a', 1), (b'b', 1), (b'c', 1), (b'd', 2)] {
         targets[usize::from(byte)] = id(next);
     }
-    let dense = State::Dense(targets);
-    let dense = door(vec![in alloc; dense, accept(0), accept(0)]?, 0, 1)?;
-    let found = bounds(alloc, &dense, b"")?;
-    assert_eq!(rt; found.as_slice(), "ade".as_bytes());
-    let mut transitions = Vec::new(alloc);
+    let states = vec![in rt.alloc(); State::Dense(targets), accept(0), accept(0)]?;
+    begin_at(&rt, door(states, 0, 1)?, b"", b"ade")
+}
+
+#[test]
+fn parts_bytes_by_the_edges_of_a_sparse_state(rt: HostRuntime) -> Result<(), Fail> {
+    let mut transitions = Vec::new(rt.alloc());
     for (lo, hi) in [(b'0', b'9'), (b':', b'<')] {
         let next = id(1);
         transitions.push(Transition { lo, hi, next })?;
     }
-    let sparse = door(vec![in alloc; State::Sparse(transitions), accept(0)]?, 0, 1)?;
-    let found = bounds(alloc, &sparse, b"")?;
-    assert_eq!(rt; found.as_slice(), "0:=".as_bytes());
-    let plain = door(vec![in alloc; accept(0)]?, 0, 1)?;
-    let found = bounds(alloc, &plain, b"abd")?;
-    assert_eq!(rt; found.as_slice(), "acde".as_bytes());
+    let states = vec![in rt.alloc(); State::Sparse(transitions), accept(0)]?;
+    begin_at(&rt, door(states, 0, 1)?, b"", b"0:=")
+}
+
+#[test]
+fn parts_bytes_by_quit_bytes(rt: HostRuntime) -> Result<(), Fail> {
+    let states = vec![in rt.alloc(); accept(0)]?;
+    begin_at(&rt, door(states, 0, 1)?, b"abd", b"acde")
+}
+
+/// The bytes at which classes begin.
+fn begin_at<R: Abort + AllocGlobal>(
+    rt: &R,
+    nfa: NFA,
+    quit: &[u8],
+    want: &[u8],
+) -> Result<(), Fail> {
+    let found = bounds(rt.alloc(), &nfa, quit)?;
+    same(rt, &found.as_slice(), &want);
     Ok(())
 }
 
@@ -71,6 +87,6 @@ fn counts_the_classes_of_a_dense_state(rt: HostRuntime) -> Result<(), Fail> {
     targets[usize::from(b'a')] = id(1);
     let nfa = door(vec![in rt.alloc(); State::Dense(targets), accept(0)]?, 0, 1)?;
     let classes = ByteClasses::of(&nfa, &[false; 256], true);
-    assert_eq!(rt; (classes.alphabet_len(), classes.stride2()), (4, 2));
+    same(&rt, &(classes.alphabet_len(), classes.stride2()), &(4, 2));
     Ok(())
 }

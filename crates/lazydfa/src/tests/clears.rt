@@ -2,7 +2,7 @@
 
 use super::automata::{chain, id};
 use super::hand::Hand;
-use super::{Searcher, printed};
+use super::{Searcher, printed, same, same_of, same_text};
 use crate::catalogue::Entry;
 use regex_automata::hybrid::dfa::{Cache, Config};
 use regex_automata::hybrid::{CacheError, SearchError, StartError, StepError};
@@ -49,10 +49,20 @@ fn gives_up_by_the_clear_rule(rt: HostRuntime) -> Result<(), Fail> {
         let regex = "regex a16 noclasses capacity=37281";
         let script = format!(in rt.alloc(); "{regex}{options}\n{requests}\n")?;
         let want = format!(in rt.alloc(); "regex 0\n{replies}\n")?;
-        let (text, fault) = printed(rt.alloc(), script.as_str())?;
-        assert_eq!(rt; fault, None, "{shows}");
-        assert_eq!(rt; text.as_str(), want.as_str(), "{shows}");
+        prints(&rt, script.as_str(), want.as_str(), shows)?;
     }
+    Ok(())
+}
+
+fn prints<R: Abort + AllocGlobal>(
+    rt: &R,
+    script: &str,
+    want: &str,
+    shows: &str,
+) -> Result<(), Fail> {
+    let (text, fault) = printed(rt.alloc(), script)?;
+    same_of(rt, &fault, &None, &shows);
+    same_text(rt, text.as_str(), want, shows);
     Ok(())
 }
 
@@ -68,32 +78,39 @@ fn tight() -> Config {
 }
 
 fn counts<R: Abort>(rt: &R, cache: &Cache, clears: usize, memory: usize, searched: usize) {
-    assert_eq!(rt; cache.clear_count(), clears);
-    assert_eq!(rt; cache.memory_usage(), memory);
-    assert_eq!(rt; cache.search_total_len(), searched);
+    let found = (
+        cache.clear_count(),
+        cache.memory_usage(),
+        cache.search_total_len(),
+    );
+    same(rt, &found, &(clears, memory, searched));
 }
 
 #[test]
 fn counts_clears(rt: HostRuntime) -> Result<(), Fail> {
     let mut searcher = Searcher::new(Entry::A16.forward(rt.alloc())?, tight())?;
-    let input = Input::new(b"aaaaaaaaaaaaaaaa");
-    counts(&rt, &searcher.cache, 0, 6677, 0);
-    searcher.find(&input)?;
-    counts(&rt, &searcher.cache, 1, 19288, 3);
-    searcher.find(&input)?;
-    counts(&rt, &searcher.cache, 2, 29798, 8);
-    Ok(())
+    count_clears(&rt, &mut searcher, (3, 8))
 }
 
 #[test]
 fn counts_clears_in_reverse(rt: HostRuntime) -> Result<(), Fail> {
     let config = tight().match_kind(MatchKind::All);
     let mut searcher = Searcher::new(Entry::A16.reverse(rt.alloc())?, config)?;
+    count_clears(&rt, &mut searcher, (2, 7))
+}
+
+/// Two searches, and the bytes searched after each.
+fn count_clears<R: Abort>(
+    rt: &R,
+    searcher: &mut Searcher,
+    (first, second): (usize, usize),
+) -> Result<(), Fail> {
     let input = Input::new(b"aaaaaaaaaaaaaaaa");
-    searcher.find_reverse(&input)?;
-    counts(&rt, &searcher.cache, 1, 19288, 2);
-    searcher.find_reverse(&input)?;
-    counts(&rt, &searcher.cache, 2, 29798, 7);
+    counts(rt, &searcher.cache, 0, 6677, 0);
+    searcher.search(&input)?;
+    counts(rt, &searcher.cache, 1, 19288, first);
+    searcher.search(&input)?;
+    counts(rt, &searcher.cache, 2, 29798, second);
     Ok(())
 }
 
@@ -102,12 +119,16 @@ fn counts_clears_in_reverse(rt: HostRuntime) -> Result<(), Fail> {
 fn gives_up_in_progress(rt: HostRuntime) -> Result<(), Fail> {
     let config = tight().minimum_cache_clear_count(Some(0));
     let mut searcher = Searcher::new(Entry::A16.forward(rt.alloc())?, config)?;
+    give_up_in_progress(&rt, &mut searcher);
+    Ok(())
+}
+
+fn give_up_in_progress<R: Abort>(rt: &R, searcher: &mut Searcher) {
     let found = searcher.find(&Input::new(b"aaaaaaaaaaaaaaaa"));
     let gave_up = MatchError::gave_up(13);
-    assert_eq!(rt; found, Err(SearchError::Match(gave_up)));
-    counts(&rt, &searcher.cache, 0, 36105, 13);
-    assert!(rt; searcher.cache.in_progress());
-    Ok(())
+    same(rt, &found, &Err(SearchError::Match(gave_up)));
+    counts(rt, &searcher.cache, 0, 36105, 13);
+    same(rt, &searcher.cache.in_progress(), &true);
 }
 
 /// A start state outlives a clear, with its tag.
@@ -115,14 +136,18 @@ fn gives_up_in_progress(rt: HostRuntime) -> Result<(), Fail> {
 fn keeps_the_start(rt: HostRuntime) -> Result<(), Fail> {
     let config = tight().specialize_start_states(true);
     let mut hand = Hand::new(Entry::A16.forward(rt.alloc())?, config)?;
+    keep_the_start(&rt, &mut hand)
+}
+
+fn keep_the_start<R: Abort>(rt: &R, hand: &mut Hand) -> Result<(), Fail> {
     let start = hand.at;
     hand.steps("aaaaaaaaaaaaaaaa")?;
     hand.end()?;
-    assert!(rt; start.is_start() && hand.at.is_match());
-    counts(&rt, &hand.cache, 1, 19288, 0);
+    same(rt, &(start.is_start(), hand.at.is_match()), &(true, true));
+    counts(rt, &hand.cache, 1, 19288, 0);
     hand.start(Anchored::No, None)?;
-    assert_eq!(rt; hand.at, start);
-    counts(&rt, &hand.cache, 1, 19288, 0);
+    same(rt, &hand.at, &start);
+    counts(rt, &hand.cache, 1, 19288, 0);
     Ok(())
 }
 
@@ -145,17 +170,25 @@ fn fork(alloc: Global) -> Result<NFA, Fail> {
 fn clears_in_a_step_from_the_start(rt: HostRuntime) -> Result<(), Fail> {
     let config = Config::new().byte_classes(false).cache_capacity(37645);
     let mut hand = Hand::new(fork(rt.alloc())?, config)?;
+    clear_in_a_step_from_the_start(&rt, &mut hand)
+}
+
+fn clear_in_a_step_from_the_start<R: Abort>(rt: &R, hand: &mut Hand) -> Result<(), Fail> {
     let start = hand.at;
     hand.steps("aaaaaaaaaaaaa")?;
-    counts(&rt, &hand.cache, 0, 36189, 0);
+    counts(rt, &hand.cache, 0, 36189, 0);
     hand.start(Anchored::No, None)?;
     hand.step(b'b')?;
-    counts(&rt, &hand.cache, 1, 10965, 0);
+    counts(rt, &hand.cache, 1, 10965, 0);
     let stepped = hand.at;
     hand.start(Anchored::No, None)?;
-    assert_eq!(rt; hand.at, start);
-    assert_eq!(rt; hand.known(b'b'), Some(stepped));
-    assert!(rt; hand.known(b'a').is_some_and(|id| id.is_unknown()));
+    same(rt, &hand.at, &start);
+    same(rt, &hand.known(b'b'), &Some(stepped));
+    same(
+        rt,
+        &hand.known(b'a').is_some_and(|id| id.is_unknown()),
+        &true,
+    );
     Ok(())
 }
 
@@ -176,18 +209,22 @@ fn word(alloc: Global) -> Result<NFA, Fail> {
 fn keeps_each_start(rt: HostRuntime) -> Result<(), Fail> {
     let config = Config::new().byte_classes(false).cache_capacity(37645);
     let mut hand = Hand::new(word(rt.alloc())?, config)?;
+    keep_each_start(&rt, &mut hand)
+}
+
+fn keep_each_start<R: Abort>(rt: &R, hand: &mut Hand) -> Result<(), Fail> {
     let first = hand.at;
     hand.start(Anchored::No, Some(b'a'))?;
     let second = hand.at;
-    counts(&rt, &hand.cache, 0, 10965, 0);
+    counts(rt, &hand.cache, 0, 10965, 0);
     hand.start(Anchored::No, None)?;
     hand.steps("aaaaaaaaaaaaa")?;
-    counts(&rt, &hand.cache, 1, 15169, 0);
+    counts(rt, &hand.cache, 1, 15169, 0);
     hand.start(Anchored::No, None)?;
-    assert_eq!(rt; hand.at, second);
+    same(rt, &hand.at, &second);
     hand.start(Anchored::No, Some(b'a'))?;
-    assert_eq!(rt; hand.at, first);
-    counts(&rt, &hand.cache, 1, 15169, 0);
+    same(rt, &hand.at, &first);
+    counts(rt, &hand.cache, 1, 15169, 0);
     Ok(())
 }
 
@@ -197,8 +234,8 @@ fn fills_the_capacity(rt: HostRuntime) -> Result<(), Fail> {
     for (capacity, clears, memory, searched) in [(44512, 0, 44512, 16), (44511, 1, 12982, 0)] {
         let config = tight().cache_capacity(capacity);
         let mut searcher = Searcher::new(Entry::A16.forward(rt.alloc())?, config)?;
-        let found = searcher.find(&Input::new(b"aaaaaaaaaaaaaaaa"))?;
-        assert_eq!(rt; found, Some(HalfMatch::new(PatternID::ZERO, 16)));
+        let found = searcher.find(&Input::new(b"aaaaaaaaaaaaaaaa"));
+        same(&rt, &found, &Ok(Some(HalfMatch::new(PatternID::ZERO, 16))));
         counts(&rt, &searcher.cache, clears, memory, searched);
     }
     Ok(())
@@ -212,12 +249,16 @@ fn refuses_a_start_without_room(rt: HostRuntime) -> Result<(), Fail> {
         .cache_capacity(37645)
         .minimum_cache_clear_count(Some(0));
     let mut hand = Hand::new(word(rt.alloc())?, config)?;
+    refuse_a_start_without_room(&rt, &mut hand)
+}
+
+fn refuse_a_start_without_room<R: Abort>(rt: &R, hand: &mut Hand) -> Result<(), Fail> {
     hand.steps("aaaaaaaaaaaaa")?;
     let refused = hand.step(b'a');
-    assert_eq!(rt; refused, Err(StepError::Cache(CacheError)));
+    same(rt, &refused, &Err(StepError::Cache(CacheError)));
     let refused = hand.start(Anchored::No, Some(b'a'));
     let err = CacheError;
-    assert_eq!(rt; refused, Err(StartError::Cache { err }));
-    counts(&rt, &hand.cache, 0, 36189, 0);
+    same(rt, &refused, &Err(StartError::Cache { err }));
+    counts(rt, &hand.cache, 0, 36189, 0);
     Ok(())
 }

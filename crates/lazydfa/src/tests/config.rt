@@ -1,8 +1,11 @@
 //! The settings, and what they settle for an automaton.
 
+use super::{same, same_of};
 use crate::catalogue::Entry;
 use regex_automata::hybrid::dfa::Config;
+use regex_automata::nfa::thompson::NFA;
 use regex_automata::util::search::MatchKind;
+use std::process::Abort;
 use std::test::Fail;
 
 #[test]
@@ -27,11 +30,8 @@ fn tells_the_minimum(rt: HostRuntime) -> Result<(), Fail> {
         (Entry::A16, Config::new().byte_classes(false), 37281),
     ] {
         let nfa = entry.forward(rt.alloc())?;
-        assert_eq!(rt;
-            config.get_minimum_cache_capacity(&nfa),
-            Ok(minimum),
-            "{entry:?}"
-        );
+        let found = config.get_minimum_cache_capacity(&nfa);
+        same_of(&rt, &found, &Ok(minimum), &entry);
     }
     Ok(())
 }
@@ -43,11 +43,12 @@ fn joins_settings(rt: HostRuntime) {
     let old = Config::new().quit(b'a', true).cache_capacity(7);
     let new = Config::new().quit(b'b', true).byte_classes(false);
     let joined = old.overwrite(new);
-    assert_eq!(rt; joined.get_cache_capacity(), 7);
-    assert!(rt; !joined.get_byte_classes());
-    assert!(rt; joined.get_quit(b'b') && !joined.get_quit(b'a'));
-    assert!(rt; old.overwrite(Config::new()).get_quit(b'a'));
-    assert_eq!(rt; Config::new().get_cache_capacity(), 2097152);
+    let options = (joined.get_cache_capacity(), joined.get_byte_classes());
+    same(&rt, &options, &(7, false));
+    let quits = (joined.get_quit(b'b'), joined.get_quit(b'a'));
+    same(&rt, &quits, &(true, false));
+    same(&rt, &old.overwrite(Config::new()).get_quit(b'a'), &true);
+    same(&rt, &Config::new().get_cache_capacity(), &2097152);
 }
 
 #[test]
@@ -58,17 +59,21 @@ fn settles_settings(rt: HostRuntime) -> Result<(), Fail> {
         (0x41, false, true),
         (0x80, true, true),
     ] {
-        assert_eq!(rt; heuristic.allows_quit(byte, yes), want, "{byte} {yes}");
+        same_of(&rt, &heuristic.allows_quit(byte, yes), &want, &(byte, yes));
     }
     let nfa = Entry::Bound.forward(rt.alloc())?;
-    let settled = heuristic.settle(&nfa)?;
-    assert!(rt; settled.quits(0xB2));
-    assert!(rt; !settled.quits(b'a'));
-    assert!(rt; !heuristic.get_quit(0xB2));
-    assert_eq!(rt; settled.capacity(), 2097152);
-    assert_eq!(rt; settled.classes().alphabet_len(), 11);
+    settle_a_word_boundary(&rt, heuristic, &nfa)
+}
+
+fn settle_a_word_boundary<R: Abort>(rt: &R, heuristic: Config, nfa: &NFA) -> Result<(), Fail> {
+    let settled = heuristic.settle(nfa)?;
+    let quits = (settled.quits(0xB2), settled.quits(b'a'));
+    same(rt, &quits, &(true, false));
+    same(rt, &heuristic.get_quit(0xB2), &false);
+    let found = (settled.capacity(), settled.classes().alphabet_len());
+    same(rt, &found, &(2097152, 11));
     let skipping = heuristic.cache_capacity(0).skip_cache_capacity_check(true);
-    let settled = skipping.settle(&nfa)?;
-    assert_eq!(rt; settled.capacity(), 2374);
+    let settled = skipping.settle(nfa)?;
+    same(rt, &settled.capacity(), &2374);
     Ok(())
 }

@@ -1,7 +1,7 @@
 //! The calls of the lazy automaton, each once with ample memory, and what they count.
 
-use super::Searcher;
 use super::automata::accept;
+use super::{Searcher, same, same_of};
 use crate::catalogue::Entry;
 use regex_automata::hybrid::BuildError;
 use regex_automata::hybrid::dfa::{Cache, Config, DFA};
@@ -19,7 +19,7 @@ fn built(alloc: Global, entry: Entry, config: Config) -> Result<DFA, Fail> {
 
 /// An entry, a haystack, and what is counted: the memory of a fresh cache, after one search, and
 /// the bytes searched by one search.
-const COUNTED: [(Entry, &str, usize, usize, usize); 7] = [
+const COUNTED: &[(Entry, &str, usize, usize, usize)] = &[
     (Entry::Ab, "ab", 335, 678, 2),
     (Entry::Always, "", 221, 344, 0),
     (Entry::Never, "abc", 217, 217, 0),
@@ -31,30 +31,40 @@ const COUNTED: [(Entry, &str, usize, usize, usize); 7] = [
 
 #[test]
 fn counts_memory_and_searched_bytes(rt: HostRuntime) -> Result<(), Fail> {
-    for (entry, haystack, fresh, used, searched) in COUNTED {
-        let nfa = entry.forward(rt.alloc())?;
-        let mut searcher = Searcher::new(nfa, Config::new())?;
-        let input = Input::new(haystack.as_bytes());
-        counts(&rt, &searcher.cache, fresh, 0);
-        let first = searcher.find(&input)?;
-        counts(&rt, &searcher.cache, used, searched);
-        let second = searcher.find(&input)?;
-        counts(&rt, &searcher.cache, used, searched.saturating_mul(2));
-        assert_eq!(rt; first, second, "{entry:?}");
-        searcher.reset()?;
-        counts(&rt, &searcher.cache, fresh, 0);
-        let third = searcher.find(&input)?;
-        counts(&rt, &searcher.cache, used, searched);
-        assert_eq!(rt; first, third, "{entry:?}");
+    for (entry, haystack, fresh, used, searched) in COUNTED.iter().copied() {
+        let mut searcher = Searcher::new(entry.forward(rt.alloc())?, Config::new())?;
+        let counts = (fresh, used, searched);
+        count(&rt, &mut searcher, &Input::new(haystack.as_bytes()), counts)?;
     }
     Ok(())
 }
 
+/// Searches twice, and once more after a reset.
+pub fn count<R: Abort>(
+    rt: &R,
+    searcher: &mut Searcher,
+    input: &Input<'_>,
+    (fresh, used, searched): (usize, usize, usize),
+) -> Result<(), Fail> {
+    counts(rt, &searcher.cache, fresh, 0);
+    let first = searcher.search(input)?;
+    counts(rt, &searcher.cache, used, searched);
+    let second = searcher.search(input)?;
+    counts(rt, &searcher.cache, used, searched.saturating_mul(2));
+    searcher.reset()?;
+    counts(rt, &searcher.cache, fresh, 0);
+    let third = searcher.search(input)?;
+    counts(rt, &searcher.cache, used, searched);
+    same(rt, &second, &first);
+    same(rt, &third, &first);
+    Ok(())
+}
+
+/// The memory, the bytes searched, the clears, and that no search is in progress.
 pub fn counts<R: Abort>(rt: &R, cache: &Cache, memory: usize, searched: usize) {
-    assert_eq!(rt; cache.memory_usage(), memory);
-    assert_eq!(rt; cache.search_total_len(), searched);
-    assert_eq!(rt; cache.clear_count(), 0);
-    assert!(rt; !cache.in_progress());
+    let clears = (cache.clear_count(), cache.in_progress());
+    let found = (cache.memory_usage(), cache.search_total_len(), clears);
+    same(rt, &found, &(memory, searched, (0, false)));
 }
 
 /// Ten thousand dates, each found from the end of the one before.
@@ -65,9 +75,7 @@ fn finds_date_after_date(rt: HostRuntime) -> Result<(), Fail> {
         haystack.extend_from_slice(b"2018-12-24 ")?;
     }
     let mut searcher = Searcher::new(Entry::Date.forward(rt.alloc())?, Config::new())?;
-    find_dates(&rt, &mut searcher, haystack.as_slice())?;
-    counts(&rt, &searcher.cache, 1745, 119_999);
-    Ok(())
+    find_dates(&rt, &mut searcher, haystack.as_slice())
 }
 
 fn find_dates<R: Abort>(rt: &R, searcher: &mut Searcher, dates: &[u8]) -> Result<(), Fail> {
@@ -76,8 +84,9 @@ fn find_dates<R: Abort>(rt: &R, searcher: &mut Searcher, dates: &[u8]) -> Result
         let start = end.min(dates.len());
         let found = searcher.find(&Input::new(dates).range(start..dates.len()))?;
         end = 11 * number + 10;
-        assert_eq!(rt; found, Some(HalfMatch::new(PatternID::ZERO, end)));
+        same(rt, &found, &Some(HalfMatch::new(PatternID::ZERO, end)));
     }
+    counts(rt, &searcher.cache, 1745, 119_999);
     Ok(())
 }
 
@@ -90,16 +99,16 @@ fn stays_within_the_minimum(rt: HostRuntime) -> Result<(), Fail> {
         .skip_cache_capacity_check(true)
         .minimum_cache_clear_count(Some(0));
     for config in [Config::new().cache_capacity(1735), skipping] {
-        let nfa = Entry::Ab.forward(rt.alloc())?;
-        find_twice(&rt, Searcher::new(nfa, config)?)?;
+        let mut searcher = Searcher::new(Entry::Ab.forward(rt.alloc())?, config)?;
+        find_twice(&rt, &mut searcher)?;
     }
     Ok(())
 }
 
-fn find_twice<R: Abort>(rt: &R, mut searcher: Searcher) -> Result<(), Fail> {
+fn find_twice<R: Abort>(rt: &R, searcher: &mut Searcher) -> Result<(), Fail> {
     for searched in [2, 4] {
         let found = searcher.find(&Input::new(b"ab"))?;
-        assert_eq!(rt; found, Some(HalfMatch::new(PatternID::ZERO, 2)));
+        same(rt, &found, &Some(HalfMatch::new(PatternID::ZERO, 2)));
         counts(rt, &searcher.cache, 678, searched);
     }
     Ok(())
@@ -110,12 +119,12 @@ fn find_twice<R: Abort>(rt: &R, mut searcher: Searcher) -> Result<(), Fail> {
 fn resets_to_another(rt: HostRuntime) -> Result<(), Fail> {
     let date = Entry::Date.forward(rt.alloc())?;
     let mut searcher = Searcher::new(date, Config::new())?;
-    let found = searcher.find(&Input::new(b"2018-12-24 2016-10-08"))?;
-    assert_eq!(rt; found, Some(HalfMatch::new(PatternID::ZERO, 10)));
+    let found = searcher.find(&Input::new(b"2018-12-24 2016-10-08"));
+    same(&rt, &found, &Ok(Some(HalfMatch::new(PatternID::ZERO, 10))));
     let ab = built(rt.alloc(), Entry::Ab, Config::new().cache_capacity(1735))?;
-    let searcher = searcher.reset_to(ab)?;
+    let mut searcher = searcher.reset_to(ab)?;
     counts(&rt, &searcher.cache, 335, 0);
-    find_twice(&rt, searcher)
+    find_twice(&rt, &mut searcher)
 }
 
 #[test]
@@ -139,7 +148,7 @@ fn counts_classes(rt: HostRuntime) -> Result<(), Fail> {
         (Entry::Snow, Config::new(), 19),
     ] {
         let dfa = built(rt.alloc(), entry, config)?;
-        assert_eq!(rt; dfa.byte_classes().alphabet_len(), classes, "{entry:?}");
+        same_of(&rt, &dfa.byte_classes().alphabet_len(), &classes, &entry);
     }
     Ok(())
 }
@@ -158,7 +167,7 @@ fn refuses_to_build(rt: HostRuntime) -> Result<(), Fail> {
         let config = Config::new().cache_capacity(capacity);
         let nfa = entry.forward(rt.alloc())?;
         let refused = DFA::builder().configure(config).build_from_nfa(nfa).err();
-        assert_eq!(rt; refused, Some(want), "{entry:?}");
+        same_of(&rt, &refused, &Some(want), &entry);
     }
     Ok(())
 }
@@ -183,29 +192,42 @@ fn refuses_too_many_starts(rt: HostRuntime) -> Result<(), Fail> {
     for (patterns, want) in [(43687, None), (43688, Some(too_many))] {
         let nfa = crowd(rt.alloc(), patterns)?;
         let refused = DFA::builder().configure(config).build_from_nfa(nfa).err();
-        assert_eq!(rt; refused, want, "{patterns}");
+        same_of(&rt, &refused, &want, &patterns);
     }
     Ok(())
 }
 
 #[test]
 fn keeps_a_progress(rt: HostRuntime) -> Result<(), Fail> {
-    let dfa = built(rt.alloc(), Entry::Ab, Config::new())?;
-    let mut cache = dfa.create_cache()?;
-    cache.search_start(3);
-    assert!(rt; cache.in_progress());
-    assert_eq!(rt; cache.search_total_len(), 0);
-    cache.search_update(7);
-    assert!(rt; cache.in_progress());
-    assert_eq!(rt; cache.search_total_len(), 4);
+    let mut searcher = Searcher::new(Entry::Ab.forward(rt.alloc())?, Config::new())?;
+    keep_a_progress(&rt, &mut searcher.cache);
     Ok(())
+}
+
+fn keep_a_progress<R: Abort>(rt: &R, cache: &mut Cache) {
+    cache.search_start(3);
+    same(
+        rt,
+        &(cache.in_progress(), cache.search_total_len()),
+        &(true, 0),
+    );
+    cache.search_update(7);
+    same(
+        rt,
+        &(cache.in_progress(), cache.search_total_len()),
+        &(true, 4),
+    );
 }
 
 /// One search after another, each from a place to a place, and the bytes searched by then.
 #[test]
 fn adds_up_searched_bytes(rt: HostRuntime) -> Result<(), Fail> {
-    let dfa = built(rt.alloc(), Entry::Ab, Config::new())?;
-    let mut cache = dfa.create_cache()?;
+    let mut searcher = Searcher::new(Entry::Ab.forward(rt.alloc())?, Config::new())?;
+    add_up_searched_bytes(&rt, &mut searcher.cache);
+    Ok(())
+}
+
+fn add_up_searched_bytes<R: Abort>(rt: &R, cache: &mut Cache) {
     for (start, end, searched) in [
         (3, 7, 4),
         (10, 2, 12),
@@ -215,9 +237,8 @@ fn adds_up_searched_bytes(rt: HostRuntime) -> Result<(), Fail> {
     ] {
         cache.search_start(start);
         cache.search_finish(end);
-        counts(&rt, &cache, 335, searched);
+        counts(rt, cache, 335, searched);
     }
-    Ok(())
 }
 
 /// The automaton of the README's example.
@@ -246,35 +267,44 @@ fn example(alloc: Global) -> Result<NFA, Fail> {
 fn answers_the_example(rt: HostRuntime) -> Result<(), Fail> {
     let config = Config::new().cache_capacity(1 << 16);
     let mut searcher = Searcher::new(example(rt.alloc())?, config)?;
-    let found = searcher.find(&Input::new(b"abc"))?;
-    assert_eq!(rt; found, Some(HalfMatch::new(PatternID::ZERO, 2)));
-    let input = Input::new(b"cab").range(1..3).anchored(Anchored::Yes);
-    let again = searcher.find(&input)?;
-    assert_eq!(rt; again, Some(HalfMatch::new(PatternID::ZERO, 3)));
+    find_in_the_example(&rt, &mut searcher);
     Ok(())
 }
 
-/// Searches a haystack of three bytes from the first place to the second.
-fn find_inside(dfa: DFA) -> Result<Option<HalfMatch>, Fail> {
+fn find_in_the_example<R: Abort>(rt: &R, searcher: &mut Searcher) {
+    let found = searcher.find(&Input::new(b"abc"));
+    same(rt, &found, &Ok(Some(HalfMatch::new(PatternID::ZERO, 2))));
+    let input = Input::new(b"cab").range(1..3).anchored(Anchored::Yes);
+    let again = searcher.find(&input);
+    same(rt, &again, &Ok(Some(HalfMatch::new(PatternID::ZERO, 3))));
+}
+
+/// How many patterns there are, the memory, and what a search from the first place to the second
+/// answers.
+fn matches<R: Abort>(
+    rt: &R,
+    dfa: DFA,
+    pattern_len: usize,
+    want: Option<HalfMatch>,
+) -> Result<(), Fail> {
+    same(
+        rt,
+        &(dfa.pattern_len(), dfa.memory_usage()),
+        &(pattern_len, 0),
+    );
     let cache = dfa.create_cache()?;
-    let mut searcher = Searcher { dfa, cache };
-    Ok(searcher.find(&Input::new(b"abc").range(1..2))?)
+    let found = Searcher { dfa, cache }.find(&Input::new(b"abc").range(1..2));
+    same(rt, &found, &Ok(want));
+    Ok(())
 }
 
 #[test]
 fn matches_always(rt: HostRuntime) -> Result<(), Fail> {
-    let dfa = DFA::always_match(rt.alloc())?;
-    assert_eq!(rt; (dfa.pattern_len(), dfa.memory_usage()), (1, 0));
-    let found = find_inside(dfa)?;
-    assert_eq!(rt; found, Some(HalfMatch::new(PatternID::ZERO, 1)));
-    Ok(())
+    let want = Some(HalfMatch::new(PatternID::ZERO, 1));
+    matches(&rt, DFA::always_match(rt.alloc())?, 1, want)
 }
 
 #[test]
 fn matches_never(rt: HostRuntime) -> Result<(), Fail> {
-    let dfa = DFA::never_match(rt.alloc())?;
-    assert_eq!(rt; (dfa.pattern_len(), dfa.memory_usage()), (0, 0));
-    let found = find_inside(dfa)?;
-    assert_eq!(rt; found, None);
-    Ok(())
+    matches(&rt, DFA::never_match(rt.alloc())?, 0, None)
 }

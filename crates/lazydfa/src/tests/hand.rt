@@ -4,6 +4,7 @@ ghost use Rattle.std.specs.Prelude.{◌≡◌, ◌<◌, ◌^◌, IsTrue};
 ghost use Rattle.regex_automata.specs.Caches.{IsCacheOf, HasRow};
 
 use super::automata::{accept, door, either};
+use super::{same, same_of, same_text};
 use crate::catalogue::Entry;
 use regex_automata::hybrid::dfa::{Cache, Config, DFA};
 use regex_automata::hybrid::{LazyStateID, StartError, StepError};
@@ -13,6 +14,7 @@ use regex_automata::util::search::{Anchored, MatchKind};
 use regex_automata::util::start;
 use std::alloc::{AllocError, Global};
 use std::fmt::Write;
+use std::process::Abort;
 use std::test::Fail;
 
 /// A lazy automaton with a cache of its own, and the state that was stepped to.
@@ -140,9 +142,18 @@ impl Hand {
 #[test]
 fn steps_to_a_match(rt: HostRuntime) -> Result<(), Fail> {
     let mut hand = Hand::new(Entry::Ab.forward(rt.alloc())?, Config::new())?;
-    hand.steps("ab")?;
+    match_at_the_end(&rt, &mut hand, "ab", (1, Some(PatternID::ZERO)))
+}
+
+fn match_at_the_end<R: Abort>(
+    rt: &R,
+    hand: &mut Hand,
+    bytes: &str,
+    matched: (usize, Option<PatternID>),
+) -> Result<(), Fail> {
+    hand.steps(bytes)?;
     hand.end()?;
-    assert_eq!(rt; hand.matched(), (1, Some(PatternID::ZERO)));
+    same(rt, &hand.matched(), &matched);
     Ok(())
 }
 
@@ -150,19 +161,27 @@ fn steps_to_a_match(rt: HostRuntime) -> Result<(), Fail> {
 #[test]
 fn learns_a_step(rt: HostRuntime) -> Result<(), Fail> {
     let mut hand = Hand::new(Entry::Ab.forward(rt.alloc())?, Config::new())?;
-    assert!(rt; hand.known(b'a').is_some_and(|id| id.is_unknown()));
+    learn_a_step(&rt, &mut hand)
+}
+
+fn learn_a_step<R: Abort>(rt: &R, hand: &mut Hand) -> Result<(), Fail> {
+    same(
+        rt,
+        &hand.known(b'a').is_some_and(|id| id.is_unknown()),
+        &true,
+    );
     let start = hand.at;
     hand.step(b'a')?;
     let one = hand.at;
     hand.start(Anchored::No, None)?;
-    assert_eq!(rt; (hand.at, hand.known(b'a')), (start, Some(one)));
+    same(rt, &(hand.at, hand.known(b'a')), &(start, Some(one)));
     Ok(())
 }
 
 /// An automaton, a kind, bytes, and what the start, each byte and the end lead to.
 type Steps = (Entry, MatchKind, &'static str, &'static str);
 
-const STEPS: [Steps; 8] = [
+const STEPS: &[Steps] = &[
     (
         Entry::Ab,
         MatchKind::LeftmostFirst,
@@ -210,13 +229,23 @@ const STEPS: [Steps; 8] = [
 
 #[test]
 fn counts_each_step(rt: HostRuntime) -> Result<(), Fail> {
-    for (entry, kind, bytes, want) in STEPS {
+    for (entry, kind, bytes, want) in STEPS.iter().copied() {
         let config = Config::new().match_kind(kind).quit(b'!', true);
         let mut hand = Hand::new(entry.forward(rt.alloc())?, config)?;
-        let mut text = String::new(rt.alloc());
-        hand.walk(bytes, &mut text)?;
-        assert_eq!(rt; text.as_str(), want, "{entry:?} {kind:?}");
+        count_each_step(&rt, &mut hand, bytes, want)?;
     }
+    Ok(())
+}
+
+fn count_each_step<R: Abort + AllocGlobal>(
+    rt: &R,
+    hand: &mut Hand,
+    bytes: &str,
+    want: &str,
+) -> Result<(), Fail> {
+    let mut text = String::new(rt.alloc());
+    hand.walk(bytes, &mut text)?;
+    same_text(rt, text.as_str(), want, bytes);
     Ok(())
 }
 
@@ -224,13 +253,16 @@ fn counts_each_step(rt: HostRuntime) -> Result<(), Fail> {
 #[test]
 fn stays_dead(rt: HostRuntime) -> Result<(), Fail> {
     let mut hand = Hand::new(Entry::Ab.forward(rt.alloc())?, Config::new())?;
+    stay_dead(&rt, &mut hand)
+}
+
+fn stay_dead<R: Abort>(rt: &R, hand: &mut Hand) -> Result<(), Fail> {
     hand.step(b'x')?;
-    assert!(rt; hand.at.is_dead());
     let dead = hand.at;
     hand.steps("ab")?;
     hand.end()?;
-    assert_eq!(rt; hand.at, dead);
-    assert_eq!(rt; hand.cache.memory_usage(), 421);
+    same(rt, &(hand.at, dead.is_dead()), &(dead, true));
+    same(rt, &hand.cache.memory_usage(), &421);
     Ok(())
 }
 
@@ -239,11 +271,15 @@ fn stays_dead(rt: HostRuntime) -> Result<(), Fail> {
 fn stays_at_quit(rt: HostRuntime) -> Result<(), Fail> {
     let config = Config::new().quit(b'c', true);
     let mut hand = Hand::new(Entry::Ab.forward(rt.alloc())?, config)?;
-    assert!(rt; hand.known(b'c').is_some_and(|id| id.is_quit()));
+    stay_at_quit(&rt, &mut hand)
+}
+
+fn stay_at_quit<R: Abort>(rt: &R, hand: &mut Hand) -> Result<(), Fail> {
+    same(rt, &hand.known(b'c').is_some_and(|id| id.is_quit()), &true);
     hand.step(b'c')?;
-    assert!(rt; hand.at.is_quit());
+    let quit = hand.at;
     hand.step(b'a')?;
-    assert!(rt; hand.at.is_quit());
+    same(rt, &(hand.at, quit.is_quit()), &(quit, true));
     Ok(())
 }
 
@@ -251,10 +287,7 @@ fn stays_at_quit(rt: HostRuntime) -> Result<(), Fail> {
 fn lists_the_patterns_of_a_match(rt: HostRuntime) -> Result<(), Fail> {
     let config = Config::new().match_kind(MatchKind::All);
     let mut hand = Hand::new(Entry::Aa.forward(rt.alloc())?, config)?;
-    hand.steps("aa")?;
-    assert!(rt; hand.at.is_match());
-    assert_eq!(rt; hand.matched(), (2, PatternID::new(1)));
-    Ok(())
+    match_at_the_end(&rt, &mut hand, "aa", (2, PatternID::new(1)))
 }
 
 /// Two ways to one pattern match once.
@@ -263,9 +296,7 @@ fn lists_a_pattern_once(rt: HostRuntime) -> Result<(), Fail> {
     let states = vec![in rt.alloc(); either(1, 2), accept(0), accept(0)]?;
     let config = Config::new().match_kind(MatchKind::All);
     let mut hand = Hand::new(door(states, 0, 1)?, config)?;
-    hand.end()?;
-    assert_eq!(rt; hand.matched(), (1, Some(PatternID::ZERO)));
-    Ok(())
+    match_at_the_end(&rt, &mut hand, "", (1, Some(PatternID::ZERO)))
 }
 
 #[test]
@@ -273,22 +304,31 @@ fn tags_starts_where_asked(rt: HostRuntime) -> Result<(), Fail> {
     for tags in [false, true] {
         let config = Config::new().specialize_start_states(tags);
         let hand = Hand::new(Entry::Ab.forward(rt.alloc())?, config)?;
-        assert_eq!(rt; hand.at.is_start(), tags);
+        same(&rt, &hand.at.is_start(), &tags);
     }
     Ok(())
 }
 
+const FIRST: Anchored = Anchored::Pattern(PatternID::ZERO);
+
 /// The byte behind is looked at first, and then the mode.
 #[test]
 fn refuses_starts_in_order(rt: HostRuntime) -> Result<(), Fail> {
-    let mode = Anchored::Pattern(PatternID::ZERO);
     let config = Config::new().quit(b'c', true);
     let mut hand = Hand::new(Entry::Ab.forward(rt.alloc())?, config)?;
-    let refused = hand.start(mode, None);
-    assert_eq!(rt; refused, Err(StartError::UnsupportedAnchored { mode }));
-    let refused = hand.start(mode, Some(b'c'));
-    assert_eq!(rt; refused, Err(StartError::Quit { byte: b'c' }));
+    refuse_starts_in_order(&rt, &mut hand);
     Ok(())
+}
+
+fn refuse_starts_in_order<R: Abort>(rt: &R, hand: &mut Hand) {
+    let first = hand.start(FIRST, None);
+    let second = hand.start(FIRST, Some(b'c'));
+    same(
+        rt,
+        &first,
+        &Err(StartError::UnsupportedAnchored { mode: FIRST }),
+    );
+    same(rt, &second, &Err(StartError::Quit { byte: b'c' }));
 }
 
 /// Whether the start of a pattern of `words` is dead.
@@ -304,7 +344,7 @@ fn starts_dead(alloc: Global, number: usize) -> Result<bool, Fail> {
 fn starts_dead_past_the_last_pattern(rt: HostRuntime) -> Result<(), Fail> {
     for (number, dead) in [(0, false), (1, false), (2, true), (7, true)] {
         let found = starts_dead(rt.alloc(), number)?;
-        assert_eq!(rt; found, dead, "{number}");
+        same_of(&rt, &found, &dead, &number);
     }
     Ok(())
 }

@@ -1,7 +1,7 @@
 //! Refused growths. Each test is a process of its own, so it may use up all memory for good.
 
 use super::hand::Hand;
-use super::{Searcher, Sink, Source};
+use super::{Searcher, Sink, Source, same};
 use crate::catalogue::Entry;
 use crate::error::RunError;
 use crate::run::run;
@@ -44,16 +44,23 @@ fn repeats_a_reverse_search_without_memory(rt: HostRuntime) -> Result<(), Fail> 
 fn repeat<R: Abort + AllocGlobal>(rt: &R, nfa: NFA, offset: usize) -> Result<(), Fail> {
     let config = Config::new().minimum_cache_clear_count(Some(0));
     let mut searcher = Searcher::new(nfa, config)?;
-    let input = Input::new(b"ab");
-    let first = searcher.search(&input)?;
-    exhaust(rt.alloc());
-    let second = searcher.search(&input)?;
-    let grown = Vec::<u8>::with_capacity(rt.alloc(), 1);
-    assert!(rt; grown.is_err());
-    let want = Some(HalfMatch::new(PatternID::ZERO, offset));
-    assert_eq!(rt; first, want);
-    assert_eq!(rt; second, first);
+    search_twice(rt, &mut searcher, offset);
     Ok(())
+}
+
+fn search_twice<R: Abort + AllocGlobal>(rt: &R, searcher: &mut Searcher, offset: usize) {
+    let input = Input::new(b"ab");
+    let first = searcher.search(&input);
+    exhaust(rt.alloc());
+    let second = searcher.search(&input);
+    let is_exhausted = Vec::<u8>::with_capacity(rt.alloc(), 1).is_err();
+    same(rt, &is_exhausted, &true);
+    same(
+        rt,
+        &first,
+        &Ok(Some(HalfMatch::new(PatternID::ZERO, offset))),
+    );
+    same(rt, &second, &first);
 }
 
 /// A search over no span takes no memory, though nothing is known yet.
@@ -62,9 +69,9 @@ fn ends_at_once_without_memory(rt: HostRuntime) -> Result<(), Fail> {
     let mut searcher = Searcher::new(Entry::Always.forward(rt.alloc())?, Config::new())?;
     exhaust(rt.alloc());
     let found = searcher.search(&Input::new(b"ab").range(2..1));
-    assert_eq!(rt; found, Ok(None));
+    same(&rt, &found, &Ok(None));
     let refused = searcher.search(&Input::new(b"ab"));
-    assert_eq!(rt; refused, Err(SearchError::OutOfMemory));
+    same(&rt, &refused, &Err(SearchError::OutOfMemory));
     Ok(())
 }
 
@@ -72,6 +79,10 @@ fn ends_at_once_without_memory(rt: HostRuntime) -> Result<(), Fail> {
 #[test]
 fn steps_without_memory(rt: HostRuntime) -> Result<(), Fail> {
     let mut hand = Hand::new(Entry::Ab.forward(rt.alloc())?, Config::new())?;
+    step_without_memory(&rt, &mut hand)
+}
+
+fn step_without_memory<R: Abort + AllocGlobal>(rt: &R, hand: &mut Hand) -> Result<(), Fail> {
     hand.steps("ab")?;
     hand.end()?;
     let end = hand.at;
@@ -79,10 +90,10 @@ fn steps_without_memory(rt: HostRuntime) -> Result<(), Fail> {
     hand.start(Anchored::No, None)?;
     hand.steps("ab")?;
     hand.end()?;
-    assert_eq!(rt; hand.at, end);
+    same(rt, &hand.at, &end);
     hand.start(Anchored::No, None)?;
     let refused = hand.step(b'x');
-    assert_eq!(rt; refused, Err(StepError::OutOfMemory));
+    same(rt, &refused, &Err(StepError::OutOfMemory));
     Ok(())
 }
 
@@ -97,10 +108,8 @@ fn builds_without_memory(rt: HostRuntime) -> Result<(), Fail> {
     let dfa = DFA::builder().configure(config).build_from_nfa(nfa)?;
     let refused = dfa.create_cache().is_err();
     let classes = dfa.byte_classes().alphabet_len();
-    assert_eq!(rt;
-        (minimum, capacity, classes, refused),
-        (2374, 2097152, 13, true)
-    );
+    same(&rt, &(minimum, capacity), &(2374, 2097152));
+    same(&rt, &(classes, refused), &(13, true));
     Ok(())
 }
 
@@ -109,9 +118,10 @@ fn builds_without_memory(rt: HostRuntime) -> Result<(), Fail> {
 fn inserts_without_memory(rt: HostRuntime) -> Result<(), Fail> {
     let mut set = PatternSet::new(rt.alloc(), 1)?;
     exhaust(rt.alloc());
-    let inserted = set.try_insert(PatternID::ZERO)?;
+    let inserted = set.try_insert(PatternID::ZERO);
     let refused = PatternSet::new(rt.alloc(), 1).is_err();
-    assert!(rt; inserted && set.is_full() && refused);
+    same(&rt, &(set.is_full(), refused), &(true, true));
+    same(&rt, &inserted, &Ok(true));
     Ok(())
 }
 
@@ -121,13 +131,19 @@ fn starts_without_memory(rt: HostRuntime) -> Result<(), Fail> {
     let alloc = rt.alloc();
     let config = Config::new().byte_classes(false).cache_capacity(37281);
     let mut searcher = Searcher::new(Entry::A16.forward(alloc)?, config)?;
+    start_without_memory(&rt, &mut searcher)
+}
+
+fn start_without_memory<R: Abort + AllocGlobal>(
+    rt: &R,
+    searcher: &mut Searcher,
+) -> Result<(), Fail> {
     let input = Input::new(b"aaaaaaaaaaaaaaaa");
     searcher.find(&input)?;
-    exhaust(alloc);
-    let start = searcher.start(&input);
-    assert!(rt; start.is_ok());
-    assert_eq!(rt; searcher.cache.memory_usage(), 19288);
-    assert_eq!(rt; searcher.cache.clear_count(), 1);
+    exhaust(rt.alloc());
+    same(rt, &searcher.start(&input).is_ok(), &true);
+    same(rt, &searcher.cache.memory_usage(), &19288);
+    same(rt, &searcher.cache.clear_count(), &1);
     Ok(())
 }
 
@@ -135,7 +151,7 @@ fn starts_without_memory(rt: HostRuntime) -> Result<(), Fail> {
 const ROOM: usize = 1 << 16;
 
 /// What was refused memory in a run of a script of one request, if anything was.
-#[derive(Clone, Copy, PartialEq, Eq)]
+#[derive(Clone, Copy)]
 enum Refused {
     Run,
     Regex,
@@ -143,31 +159,17 @@ enum Refused {
     Nothing,
 }
 
-/// Runs a script, its output in a given room.
-fn run_in(
-    alloc: Global,
-    script: &str,
-    answer: &str,
-    room: Vec<u8>,
-) -> Result<(Vec<u8>, Refused), Fail> {
-    let mut output = Sink {
-        bytes: room,
-        most: 1 << 10,
-        calls: 0,
-        fails_at: 0,
-    };
-    let mut input = Source::new(script.as_bytes());
-    let result = run(alloc, &mut input, &mut output);
-    let mut printed = output.bytes;
-    let refused = match (result, printed.as_slice()) {
-        (Err(RunError::OutOfMemory), []) => Refused::Run,
-        (Ok(()), b"refused out of memory\nbad regex\n") => Refused::Regex,
-        (Ok(()), b"regex 0\nmemory\n") => Refused::Request,
-        (Ok(()), text) if text == answer.as_bytes() => Refused::Nothing,
-        _ => return Err(Fail::from("an answer that is none of these")),
-    };
-    printed.clear();
-    Ok((printed, refused))
+/// Runs a script, its output in the room that is there.
+fn run_in(alloc: Global, script: &str, answer: &str, output: &mut Sink) -> Result<Refused, Fail> {
+    output.bytes.clear();
+    let result = run(alloc, &mut Source::new(script.as_bytes()), output);
+    match (result, output.bytes.as_slice()) {
+        (Err(RunError::OutOfMemory), []) => Ok(Refused::Run),
+        (Ok(()), b"refused out of memory\nbad regex\n") => Ok(Refused::Regex),
+        (Ok(()), b"regex 0\nmemory\n") => Ok(Refused::Request),
+        (Ok(()), text) if text == answer.as_bytes() => Ok(Refused::Nothing),
+        _ => Err(Fail::from("an answer that is none of these")),
+    }
 }
 
 /// Runs a script while what is left of memory rises by sixteen bytes a turn, so that each growth
@@ -175,24 +177,22 @@ fn run_in(
 /// it was refused says so; no other answer changes.
 fn refuse_each_growth(alloc: Global, script: &str, answer: &str) -> Result<(), Fail> {
     let room = Vec::<u8>::with_capacity(alloc, ROOM)?;
-    let mut printed = Vec::with_capacity(alloc, 1 << 10)?;
-    let mut seen = Vec::with_capacity(alloc, 4)?;
+    let mut output = Sink {
+        bytes: Vec::with_capacity(alloc, 1 << 10)?,
+        most: 1 << 10,
+        calls: 0,
+        fails_at: 0,
+    };
+    let mut seen = [false; 4];
     exhaust(alloc);
     drop(room);
     for step in 0..4000usize {
         let filler = Vec::<u8>::with_capacity(alloc, ROOM - 16 * step)?;
-        let (cleared, refused) = run_in(alloc, script, answer, printed)?;
-        printed = cleared;
-        if !seen.contains(&refused) {
-            seen.push(refused)?;
-        }
+        let refused = run_in(alloc, script, answer, &mut output)?;
+        seen[refused as usize] = true;
         drop(filler);
     }
-    if seen.len() == 4 {
-        Ok(())
-    } else {
-        Err(Fail::from("a refusal that no turn met"))
-    }
+    check(seen == [true; 4])
 }
 
 #[test]
@@ -303,9 +303,9 @@ impl Work {
             }
         };
         match self {
-            Work::Search => search_short(Searcher { dfa, cache }, (1, 4, 1082), turns),
-            Work::ReverseSearch => search_short(Searcher { dfa, cache }, (0, 5, 1087), turns),
-            Work::Steps => steps_short(alloc, Hand::at_no_state(dfa, cache), turns),
+            Work::Search => search_short(&mut Searcher { dfa, cache }, (1, 4, 1082), turns),
+            Work::ReverseSearch => search_short(&mut Searcher { dfa, cache }, (0, 5, 1087), turns),
+            Work::Steps => steps_short(alloc, &mut Hand::at_no_state(dfa, cache), turns),
         }
     }
 }
@@ -313,7 +313,7 @@ impl Work {
 /// A search of words. Where it is refused, it is answered over the same cache once there is
 /// memory. Wanted are the pattern, the offset and the memory.
 fn search_short(
-    mut searcher: Searcher,
+    searcher: &mut Searcher,
     want: (usize, usize, usize),
     turns: &mut Turns,
 ) -> Result<(), Fail> {
@@ -337,15 +337,15 @@ fn check(is_right: bool) -> Result<(), Fail> {
 }
 
 /// A start, a reset, a start, and sixteen steps, of which one clears. That one is lent memory anew.
-fn steps_short(alloc: Global, mut hand: Hand, turns: &mut Turns) -> Result<(), Fail> {
-    start_short(&mut hand, turns)?;
-    reset_short(&mut hand, turns)?;
-    start_short(&mut hand, turns)?;
+fn steps_short(alloc: Global, hand: &mut Hand, turns: &mut Turns) -> Result<(), Fail> {
+    start_short(hand, turns)?;
+    reset_short(hand, turns)?;
+    start_short(hand, turns)?;
     for step in 0..16u32 {
         if step == 13 {
             turns.lend(alloc)?;
         }
-        step_short(&mut hand, turns)?;
+        step_short(hand, turns)?;
     }
     check(hand.counts() == (1, 17187))
 }

@@ -9,8 +9,10 @@ use regex_automata::hybrid::{LazyStateID, SearchError};
 use regex_automata::nfa::thompson::NFA;
 use regex_automata::util::search::{HalfMatch, Input};
 use std::alloc::{AllocError, Global};
+use std::fmt::Debug;
 use std::io;
 use std::io::{Read, Write};
+use std::process::Abort;
 use std::test::Fail;
 
 mod automata;
@@ -153,6 +155,21 @@ impl Searcher {
         dfa.reset_cache(&mut cache)?;
         Ok(Searcher { dfa, cache })
     }
+}
+
+/// Stops the test unless what was found is what is wanted.
+fn same<T: PartialEq + Debug, R: Abort>(rt: &R, found: &T, want: &T) {
+    assert_eq!(rt; found, want);
+}
+
+/// As `same`, with what the values belong to.
+fn same_of<T: PartialEq + Debug, D: Debug, R: Abort>(rt: &R, found: &T, want: &T, of: &D) {
+    assert_eq!(rt; found, want, "{of:?}");
+}
+
+/// As `same_of`, of texts.
+fn same_text<R: Abort>(rt: &R, found: &str, want: &str, of: &str) {
+    assert_eq!(rt; found, want, "{of}");
 }
 
 /// What a script prints, and its fault.

@@ -1,11 +1,24 @@
 //! What automata say of themselves.
 
 use super::automata::{accept, byte, either, id, range};
+use super::{same, same_of};
 use crate::catalogue::Entry;
-use regex_automata::nfa::thompson::{Flags, NFA, State};
+use regex_automata::nfa::thompson::{Flags, NFA};
 use regex_automata::util::look::Look;
-use regex_automata::util::primitives::{PatternID, StateID};
+use regex_automata::util::primitives::PatternID;
+use std::process::Abort;
 use std::test::Fail;
+
+/// The entries that have an empty match.
+const EMPTY: &[Entry] = &[
+    Entry::Always,
+    Entry::Empty,
+    Entry::Snow,
+    Entry::Snowx,
+    Entry::Bound,
+    Entry::Crlf,
+    Entry::Any,
+];
 
 /// What an automaton of the catalogue says of itself.
 #[test]
@@ -13,29 +26,25 @@ fn describes_the_catalogue(rt: HostRuntime) -> Result<(), Fail> {
     for entry in Entry::ALL {
         let forward = entry.forward(rt.alloc())?;
         let reverse = entry.reverse(rt.alloc())?;
-        let empty = [
-            Entry::Always,
-            Entry::Empty,
-            Entry::Snow,
-            Entry::Snowx,
-            Entry::Bound,
-            Entry::Crlf,
-            Entry::Any,
-        ];
-        assert_eq!(rt; forward.has_empty(), empty.contains(&entry), "{entry:?}");
-        assert!(rt; forward.skips_lazily(), "{entry:?}");
-        assert!(rt; !forward.is_reverse() && reverse.is_reverse(), "{entry:?}");
-        assert_eq!(rt; forward.is_utf8(), reverse.is_utf8(), "{entry:?}");
-        assert_eq!(rt; forward.pattern_len(), reverse.pattern_len(), "{entry:?}");
+        describes(&rt, entry, &forward, &reverse);
     }
     Ok(())
+}
+
+fn describes<R: Abort>(rt: &R, entry: Entry, forward: &NFA, reverse: &NFA) {
+    same_of(rt, &forward.has_empty(), &EMPTY.contains(&entry), &entry);
+    same_of(rt, &forward.skips_lazily(), &true, &entry);
+    let directions = (forward.is_reverse(), reverse.is_reverse());
+    same_of(rt, &directions, &(false, true), &entry);
+    same_of(rt, &forward.is_utf8(), &reverse.is_utf8(), &entry);
+    same_of(rt, &forward.pattern_len(), &reverse.pattern_len(), &entry);
 }
 
 /// What the row shows, where byte `a` leads, the alternates of the union, the last byte and the
 /// target of the range, the unanchored start, and whether the automaton skips lazily.
 type Skip = (&'static str, u8, (u8, u8), (u8, u8), u8, bool);
 
-const SKIPS: [Skip; 7] = [
+const SKIPS: &[Skip] = &[
     (
         "the anchored start or any byte",
         1,
@@ -75,7 +84,7 @@ const SKIPS: [Skip; 7] = [
 
 #[test]
 fn tells_lazy_skipping(rt: HostRuntime) -> Result<(), Fail> {
-    for (shows, next, (first, second), (last, target), start, want) in SKIPS {
+    for (shows, next, (first, second), (last, target), start, want) in SKIPS.iter().copied() {
         let states = vec![in rt.alloc();
             byte(b'a', next),
             accept(0),
@@ -85,7 +94,7 @@ fn tells_lazy_skipping(rt: HostRuntime) -> Result<(), Fail> {
         let starts = vec![in rt.alloc(); id(0)]?;
         let flags = Flags::default();
         let nfa = NFA::from_states(rt.alloc(), states, id(0), id(start), starts, flags)?;
-        assert_eq!(rt; nfa.skips_lazily(), want, "{shows}");
+        same_of(&rt, &nfa.skips_lazily(), &want, &shows);
     }
     Ok(())
 }
@@ -93,43 +102,24 @@ fn tells_lazy_skipping(rt: HostRuntime) -> Result<(), Fail> {
 /// An automaton whose starts part behind the anchored one.
 #[test]
 fn tells_eager_skipping(rt: HostRuntime) -> Result<(), Fail> {
-    let alloc = rt.alloc();
-    let mut ids = Vec::new(alloc);
-    for number in 0..5usize {
-        ids.push(StateID::new(number).ok_or("a state")?)?;
-    }
-    let &[zero, one, two, three, four] = ids.as_slice() else {
-        return Err(Fail::from("five"));
-    };
-    let states = vec![in alloc;
-        State::ByteRange {
-            lo: b'a',
-            hi: b'a',
-            next: one
-        },
-        State::BinaryUnion {
-            alt1: two,
-            alt2: three
-        },
-        State::Match {
-            pattern: PatternID::ZERO
-        },
-        State::BinaryUnion {
-            alt1: zero,
-            alt2: four
-        },
-        State::ByteRange {
-            lo: 0x00,
-            hi: 0xFF,
-            next: three
-        },
+    let states = vec![in rt.alloc();
+        byte(b'a', 1),
+        either(2, 3),
+        accept(0),
+        either(0, 4),
+        range(0x00, 0xFF, 3),
     ]?;
-    let starts = vec![in alloc; zero]?;
-    let nfa = NFA::from_states(alloc, states, zero, three, starts, Flags::default())?;
-    assert!(rt; !nfa.skips_lazily());
-    assert!(rt; !nfa.has_empty());
-    assert!(rt; !nfa.is_always_start_anchored());
-    assert_eq!(rt; nfa.start_pattern(PatternID::ZERO), Some(zero));
-    assert!(rt; !nfa.look_set_any().contains(Look::Start));
+    let starts = vec![in rt.alloc(); id(0)]?;
+    let flags = Flags::default();
+    let nfa = NFA::from_states(rt.alloc(), states, id(0), id(3), starts, flags)?;
+    skips_eagerly(&rt, &nfa);
     Ok(())
+}
+
+fn skips_eagerly<R: Abort>(rt: &R, nfa: &NFA) {
+    let said = (nfa.skips_lazily(), nfa.has_empty());
+    same(rt, &said, &(false, false));
+    same(rt, &nfa.is_always_start_anchored(), &false);
+    same(rt, &nfa.start_pattern(PatternID::ZERO), &Some(id(0)));
+    same(rt, &nfa.look_set_any().contains(Look::Start), &false);
 }

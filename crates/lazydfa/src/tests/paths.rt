@@ -1,7 +1,7 @@
 //! A slow search that lists the paths of an automaton one by one, beside the search of the lazy
 //! automaton. An automaton for reverse searches is walked from the span's end to its start.
 
-use super::Searcher;
+use super::{Searcher, same_of};
 use crate::catalogue::Entry;
 use regex_automata::hybrid::dfa::Config;
 use regex_automata::nfa::thompson::{NFA, State};
@@ -296,7 +296,7 @@ fn a16_finds_its_paths(rt: HostRuntime) -> Result<(), Fail> {
 }
 
 /// The entries in UTF-8 mode, with whole characters.
-const CHARACTERS: [(Entry, Pieces); 4] = [
+const CHARACTERS: &[(Entry, Pieces)] = &[
     (Entry::Empty, [b"a", b"\xE2\x98\x83", b"\xC3\xA9"]),
     (Entry::Snow, [b"a", b"\xE2\x98\x83", b"x"]),
     (Entry::Snowx, [b"x", b"\xE2\x98\x83", b"a"]),
@@ -305,7 +305,7 @@ const CHARACTERS: [(Entry, Pieces); 4] = [
 
 #[test]
 fn passes_split_places(rt: HostRuntime) -> Result<(), Fail> {
-    for (entry, pieces) in CHARACTERS {
+    for (entry, pieces) in CHARACTERS.iter().copied() {
         agree(&rt, entry, pieces)?;
     }
     Ok(())
@@ -320,26 +320,35 @@ fn agree<R: Abort + AllocGlobal>(rt: &R, entry: Entry, pieces: Pieces) -> Result
     Ok(())
 }
 
-/// All haystacks of up to six of the first two pieces, and of up to four of all three, that have no
-/// more than eight bytes, over one cache of the least capacity and one of an ample capacity.
+/// Compares over one cache of the least capacity and one of an ample capacity.
 fn compare<R: Abort + AllocGlobal>(
     rt: &R,
     nfa: NFA,
     kind: MatchKind,
     row: (Entry, Pieces),
 ) -> Result<(), Fail> {
-    let (entry, pieces) = row;
     let config = Config::new().match_kind(kind).unicode_word_boundary(true);
     let least = config.cache_capacity(0).skip_cache_capacity_check(true);
     let mut tight = Searcher::new(nfa.clone()?, least)?;
     let mut ample = Searcher::new(nfa, config.starts_for_each_pattern(true))?;
+    compare_all(rt, row, &mut tight, &mut ample)
+}
+
+/// All haystacks of up to six of the first two pieces, and of up to four of all three, that have no
+/// more than eight bytes.
+fn compare_all<R: Abort + AllocGlobal>(
+    rt: &R,
+    (entry, pieces): (Entry, Pieces),
+    tight: &mut Searcher,
+    ample: &mut Searcher,
+) -> Result<(), Fail> {
     for (choices, lengths) in [(2usize, 7usize), (3, 5)] {
         let mut count = 1usize;
         for length in 0..lengths {
             for number in 0..count {
                 let haystack = spell(rt.alloc(), number, length, &pieces[..choices])?;
                 if haystack.len() <= 8 {
-                    compare_one(rt, entry, &mut tight, &mut ample, haystack.as_slice())?;
+                    compare_one(rt, entry, tight, ample, haystack.as_slice())?;
                 }
             }
             count = count.saturating_mul(choices);
@@ -362,15 +371,15 @@ fn compare_one<R: Abort>(
             let input = Input::new(haystack).range(start..end);
             let want = answer(ample.dfa.get_nfa(), kind, &input)?;
             let found = ample.search(&input);
-            assert_eq!(rt; found, Ok(want), "{entry:?} {kind:?} {input:?}");
+            same_of(rt, &found, &Ok(want), &(entry, kind, &input));
             let again = tight.search(&input);
-            assert_eq!(rt; again, found, "{entry:?} {kind:?} {input:?}");
+            same_of(rt, &again, &found, &(entry, kind, &input));
         }
     }
     for input in modes(haystack) {
         let want = answer(ample.dfa.get_nfa(), kind, &input)?;
         let found = ample.search(&input);
-        assert_eq!(rt; found, Ok(want), "{entry:?} {kind:?} {input:?}");
+        same_of(rt, &found, &Ok(want), &(entry, kind, &input));
     }
     Ok(())
 }

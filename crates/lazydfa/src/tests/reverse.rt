@@ -1,12 +1,13 @@
 //! Reverse searches, by scripts of one request, and what they count.
 
-use super::Searcher;
-use super::dfa::counts;
+use super::dfa::{count, counts};
 use super::rows::{Row, answer_all};
+use super::{Searcher, same, same_of};
 use crate::catalogue::Entry;
 use regex_automata::hybrid::dfa::Config;
 use regex_automata::util::primitives::PatternID;
 use regex_automata::util::search::{HalfMatch, Input, MatchKind};
+use std::process::Abort;
 use std::test::Fail;
 
 const PLAIN: &[Row] = &[
@@ -151,17 +152,16 @@ fn selects_by_kind(rt: HostRuntime) -> Result<(), Fail> {
     ] {
         let nfa = Entry::Crlf.reverse(rt.alloc())?;
         let mut searcher = Searcher::new(nfa, Config::new().match_kind(kind))?;
-        let input = Input::new(b"a\r\n").earliest(earliest);
-        let found = searcher.find_reverse(&input)?;
-        let want = HalfMatch::new(PatternID::ZERO, start);
-        assert_eq!(rt; found, Some(want), "{kind:?} {earliest}");
+        let found = searcher.find_reverse(&Input::new(b"a\r\n").earliest(earliest));
+        let want = Ok(Some(HalfMatch::new(PatternID::ZERO, start)));
+        same_of(&rt, &found, &want, &(kind, earliest));
     }
     Ok(())
 }
 
 /// An entry, a haystack, and what is counted: the memory of a fresh cache, after one search, and
 /// the bytes searched by one search.
-const COUNTED: [(Entry, &str, usize, usize, usize); 9] = [
+const COUNTED: &[(Entry, &str, usize, usize, usize)] = &[
     (Entry::Ab, "ab", 335, 678, 1),
     (Entry::Ab, "", 335, 421, 0),
     (Entry::Always, "abc", 221, 344, 1),
@@ -176,16 +176,10 @@ const COUNTED: [(Entry, &str, usize, usize, usize); 9] = [
 #[test]
 fn counts_memory_and_searched_bytes(rt: HostRuntime) -> Result<(), Fail> {
     let config = Config::new().match_kind(MatchKind::All);
-    for (entry, haystack, fresh, used, searched) in COUNTED {
-        let nfa = entry.reverse(rt.alloc())?;
-        let mut searcher = Searcher::new(nfa, config)?;
-        let input = Input::new(haystack.as_bytes());
-        counts(&rt, &searcher.cache, fresh, 0);
-        let first = searcher.find_reverse(&input)?;
-        counts(&rt, &searcher.cache, used, searched);
-        let second = searcher.find_reverse(&input)?;
-        counts(&rt, &searcher.cache, used, searched.saturating_mul(2));
-        assert_eq!(rt; first, second, "{entry:?}");
+    for (entry, haystack, fresh, used, searched) in COUNTED.iter().copied() {
+        let mut searcher = Searcher::new(entry.reverse(rt.alloc())?, config)?;
+        let counts = (fresh, used, searched);
+        count(&rt, &mut searcher, &Input::new(haystack.as_bytes()), counts)?;
     }
     Ok(())
 }
@@ -196,12 +190,16 @@ fn starts_over_no_bytes(rt: HostRuntime) -> Result<(), Fail> {
     let nfa = Entry::Ab.reverse(rt.alloc())?;
     let config = Config::new().match_kind(MatchKind::All);
     let mut searcher = Searcher::new(nfa, config)?;
+    start_over_no_bytes(&rt, &mut searcher);
+    Ok(())
+}
+
+fn start_over_no_bytes<R: Abort>(rt: &R, searcher: &mut Searcher) {
     let input = Input::new(b"");
     let start = searcher.start_reverse(&input);
-    assert!(rt; start.is_ok_and(|id| !id.is_tagged()));
-    counts(&rt, &searcher.cache, 421, 0);
-    let found = searcher.find_reverse(&input)?;
-    assert_eq!(rt; found, None);
-    counts(&rt, &searcher.cache, 421, 0);
-    Ok(())
+    same(rt, &start.is_ok_and(|id| !id.is_tagged()), &true);
+    counts(rt, &searcher.cache, 421, 0);
+    let found = searcher.find_reverse(&input);
+    same(rt, &found, &Ok(None));
+    counts(rt, &searcher.cache, 421, 0);
 }

@@ -1,6 +1,6 @@
 //! Rows of searches, each a script of one request.
 
-use super::printed;
+use super::{printed, same_of, same_text};
 use std::alloc::{AllocError, Global};
 use std::fmt::Write;
 use std::process::Abort;
@@ -44,13 +44,12 @@ fn parts_of(row: &str) -> Option<Parts<'_>> {
 }
 
 fn answers<R: Abort + AllocGlobal>(rt: &R, request: &str, row: Parts<'_>) -> Result<(), Fail> {
-    let shows = row.shows;
     let reply = row.reply;
     let text = script(rt.alloc(), request, row)?;
     let want = format!(in rt.alloc(); "regex 0\n{reply}\n")?;
     let (text, fault) = printed(rt.alloc(), text.as_str())?;
-    assert_eq!(rt; fault, None, "{shows}");
-    assert_eq!(rt; text.as_str(), want.as_str(), "{shows}");
+    same_of(rt, &fault, &None, &row.shows);
+    same_text(rt, text.as_str(), want.as_str(), row.shows);
     Ok(())
 }
 

@@ -1,11 +1,11 @@
 //! Scripts, from bytes to bytes.
 
-use super::{Sink, Source, printed};
+use super::{Sink, Source, printed, same, same_of, same_text};
 use crate::error::RunError;
 use crate::run::run;
 use std::test::Fail;
 
-const ANSWERED: [(&str, &str); 18] = [
+const ANSWERED: &[(&str, &str)] = &[
     ("regex ab\nfwd 6162\n", "regex 0\nhalf 0 2\n"),
     ("regex ab\nfwd 6162", "regex 0\nhalf 0 2\n"),
     ("", ""),
@@ -52,16 +52,16 @@ const BOUND_REFUSED: &str =
 
 #[test]
 fn answers_scripts(rt: HostRuntime) -> Result<(), Fail> {
-    for (script, want) in ANSWERED {
+    for (script, want) in ANSWERED.iter().copied() {
         let (text, fault) = printed(rt.alloc(), script)?;
-        assert_eq!(rt; fault, None, "{script}");
-        assert_eq!(rt; text.as_str(), want, "{script}");
+        same_of(&rt, &fault, &None, &script);
+        same_text(&rt, text.as_str(), want, script);
     }
     Ok(())
 }
 
 /// A script, and its first bad line.
-const BAD: [(&str, usize); 61] = [
+const BAD: &[(&str, usize)] = &[
     ("regex ab\nfwd 616", 2),
     ("regex ab\n\n# comment\nfwd 6\n", 4),
     ("triple", 1),
@@ -127,16 +127,16 @@ const BAD: [(&str, usize); 61] = [
 
 #[test]
 fn tells_the_first_bad_line(rt: HostRuntime) -> Result<(), Fail> {
-    for (script, line) in BAD {
+    for (script, line) in BAD.iter().copied() {
         let (text, fault) = printed(rt.alloc(), script)?;
-        assert_eq!(rt; fault, Some(RunError::BadLine(line)), "{script}");
-        assert!(rt; text.is_empty(), "{script}");
+        same_of(&rt, &fault, &Some(RunError::BadLine(line)), &script);
+        same_text(&rt, text.as_str(), "", script);
     }
     Ok(())
 }
 
 /// Lines at the edge of what is allowed.
-const ALLOWED: [&str; 12] = [
+const ALLOWED: &[&str] = &[
     "regex ab capacity=18446744073709551615",
     "regex ab capacity=00000000000000001735",
     "regex ab quit=78 quit=7A quit=7a",
@@ -153,9 +153,9 @@ const ALLOWED: [&str; 12] = [
 
 #[test]
 fn takes_lines_at_the_edge(rt: HostRuntime) -> Result<(), Fail> {
-    for script in ALLOWED {
+    for script in ALLOWED.iter().copied() {
         let (_, fault) = printed(rt.alloc(), script)?;
-        assert_eq!(rt; fault, None, "{script}");
+        same_of(&rt, &fault, &None, &script);
     }
     Ok(())
 }
@@ -172,8 +172,8 @@ fn tells_failed_reads(rt: HostRuntime) {
         } else {
             None
         };
-        assert_eq!(rt; fault, want, "call {call}");
-        assert_eq!(rt; output.bytes.is_empty(), call < 5, "call {call}");
+        same_of(&rt, &fault, &want, &call);
+        same_of(&rt, &output.bytes.is_empty(), &(call < 5), &call);
     }
 }
 
@@ -189,7 +189,7 @@ fn tells_failed_writes(rt: HostRuntime) {
         } else {
             None
         };
-        assert_eq!(rt; fault, want, "call {call}");
+        same_of(&rt, &fault, &want, &call);
     }
 }
 
@@ -200,12 +200,12 @@ fn tells_faults_in_order(rt: HostRuntime) {
     output.fails_at = 1;
     let mut input = Source::new(b"bad\n");
     let fault = run(rt.alloc(), &mut input, &mut output).err();
-    assert_eq!(rt; fault, Some(RunError::BadLine(1)));
+    same(&rt, &fault, &Some(RunError::BadLine(1)));
     let mut input = Source::new(b"bad\n");
     input.fails_at = 2;
     let fault = run(rt.alloc(), &mut input, &mut output).err();
-    assert_eq!(rt; fault, Some(RunError::Failed));
-    assert!(rt; output.bytes.is_empty());
+    same(&rt, &fault, &Some(RunError::Failed));
+    same(&rt, &output.bytes.is_empty(), &true);
 }
 
 /// One line of a mebibyte of haystack.
@@ -216,7 +216,12 @@ fn answers_a_long_script(rt: HostRuntime) -> Result<(), Fail> {
         script.push_str("61")?;
     }
     let (text, fault) = printed(rt.alloc(), script.as_str())?;
-    assert_eq!(rt; fault, None);
-    assert_eq!(rt; text.as_str(), "regex 0\nhalf 0 1048576\n");
+    same(&rt, &fault, &None);
+    same_text(
+        &rt,
+        text.as_str(),
+        "regex 0\nhalf 0 1048576\n",
+        "a mebibyte",
+    );
     Ok(())
 }

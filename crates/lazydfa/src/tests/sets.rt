@@ -1,26 +1,34 @@
 //! Sets of patterns.
 
+use super::{same, same_of};
 use regex_automata::util::primitives::PatternID;
 use regex_automata::util::search::PatternSet;
+use std::process::Abort;
 use std::test::Fail;
 
-/// Three places: a pattern is new once, and one past the last place is refused.
 #[test]
 fn fills_a_set_of_patterns(rt: HostRuntime) -> Result<(), Fail> {
     let mut set = PatternSet::new(rt.alloc(), 3)?;
-    for (number, is_new) in [(2, true), (0, true), (2, false)] {
-        let pattern = PatternID::new(number).ok_or("a pattern")?;
-        let found = set.try_insert(pattern)?;
-        assert_eq!(rt; found, is_new, "{number}");
-    }
-    let past = PatternID::new(3).ok_or("a pattern")?;
-    let refused = set.try_insert(past).is_err();
-    assert!(rt; refused);
-    let (len, full, capacity) = (set.len(), set.is_full(), set.capacity());
-    assert_eq!(rt; (len, full, capacity), (2, false, 3));
+    fill(&rt, &mut set)?;
     let mut patterns = set.iter();
-    assert_eq!(rt; patterns.next().map(PatternID::as_usize), Some(0));
-    assert_eq!(rt; patterns.next().map(PatternID::as_usize), Some(2));
-    assert!(rt; patterns.next().is_none());
+    for want in [Some(0), Some(2), None] {
+        same(&rt, &patterns.next().map(PatternID::as_usize), &want);
+    }
+    Ok(())
+}
+
+/// Three places: a pattern is new once, and one past the last place is refused.
+fn fill<R: Abort>(rt: &R, set: &mut PatternSet) -> Result<(), Fail> {
+    for (number, is_new) in [
+        (2, Some(true)),
+        (0, Some(true)),
+        (2, Some(false)),
+        (3, None),
+    ] {
+        let pattern = PatternID::new(number).ok_or("a pattern")?;
+        same_of(rt, &set.try_insert(pattern).ok(), &is_new, &number);
+    }
+    let found = (set.len(), (set.is_full(), set.capacity()));
+    same(rt, &found, &(2, (false, 3)));
     Ok(())
 }

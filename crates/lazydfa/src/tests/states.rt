@@ -1,10 +1,12 @@
 //! Powerset states as bytes.
 
 use super::automata::id;
+use super::same_of;
 use crate::catalogue::Entry;
 use regex_automata::util::determinize::{Parts, State};
 use regex_automata::util::primitives::PatternID;
 use std::alloc::{AllocError, Global};
+use std::process::Abort;
 use std::test::Fail;
 
 /// What the row shows, the NFA states, the patterns, the looks needed, and the bytes.
@@ -16,7 +18,7 @@ type Row = (
     &'static [u8],
 );
 
-const CODED: [Row; 4] = [
+const CODED: &[Row] = &[
     (
         "pattern 0 alone",
         &[],
@@ -65,20 +67,28 @@ fn parts_of(alloc: Global, row: Row) -> Result<Parts, Fail> {
 
 #[test]
 fn codes_states(rt: HostRuntime) -> Result<(), Fail> {
-    for row in CODED {
+    for row in CODED.iter().copied() {
         let (shows, bytes) = (row.0, row.4);
         let parts = parts_of(rt.alloc(), row)?;
         if !parts.is_without_repeats() {
             return Err(Fail::from("a pattern twice"));
         }
         let state = State::encode(rt.alloc(), &parts)?;
-        assert_eq!(rt; state.as_bytes(), bytes, "{shows}");
-        let back = state.decode(rt.alloc())?;
-        assert_eq!(rt; back.nfa, parts.nfa, "{shows}");
-        assert_eq!(rt; back.patterns, parts.patterns, "{shows}");
-        let (looks, flags) = ((back.known, back.needed), (back.word, back.half));
-        assert_eq!(rt; looks, (0, row.3), "{shows}");
-        assert_eq!(rt; flags, (false, false), "{shows}");
+        same_of(&rt, &state.as_bytes(), &bytes, &shows);
+        same_parts(&rt, &state.decode(rt.alloc())?, &parts, shows);
     }
     Ok(())
+}
+
+fn same_parts<R: Abort>(rt: &R, found: &Parts, want: &Parts, shows: &str) {
+    same_of(rt, &found.nfa, &want.nfa, &shows);
+    same_of(rt, &found.patterns, &want.patterns, &shows);
+    let looks = (found.known, found.needed);
+    same_of(rt, &looks, &(want.known, want.needed), &shows);
+    same_of(
+        rt,
+        &(found.word, found.half),
+        &(want.word, want.half),
+        &shows,
+    );
 }

@@ -1,5 +1,6 @@
 //! The texts of errors.
 
+use super::same_text;
 use crate::error::RunError;
 use regex_automata::hybrid::{BuildError, CacheError, SearchError, StartError, StepError};
 use regex_automata::util::primitives::PatternID;
@@ -43,7 +44,7 @@ fn prints_refused_builds(rt: HostRuntime) -> Result<(), Fail> {
 }
 
 /// The byte of a quit start, as its text shows it.
-const SHOWN: [(u8, &str); 18] = [
+const SHOWN: &[(u8, &str)] = &[
     (0x20, "' '"),
     (0x09, "\\t"),
     (0x0A, "\\n"),
@@ -66,7 +67,7 @@ const SHOWN: [(u8, &str); 18] = [
 
 #[test]
 fn prints_quit_starts(rt: HostRuntime) -> Result<(), Fail> {
-    for (byte, shown) in SHOWN {
+    for (byte, shown) in SHOWN.iter().copied() {
         let text = format!(in rt.alloc();
             "error computing start state because the look-behind byte {shown} triggered a quit state"
         )?;
@@ -121,6 +122,6 @@ fn prints_faults_of_a_run(rt: HostRuntime) -> Result<(), Fail> {
 
 fn prints<R: Abort + AllocGlobal, E: Display>(rt: &R, error: &E, text: &str) -> Result<(), Fail> {
     let printed = error.to_string(rt.alloc())?;
-    assert_eq!(rt; printed.as_str(), text);
+    same_text(rt, printed.as_str(), text, "an error");
     Ok(())
 }
