@@ -46,11 +46,21 @@ fn replies_to(alloc: Global, script: &Script) -> Result<String, RunError> {
         return Ok(replies);
     };
     let mut searcher = Searcher::new(regex)?;
-    for request in script.requests.as_slice() {
+    answer_all(&mut searcher, script.requests.as_slice(), &mut replies)?;
+    Ok(replies)
+}
+
+/// Answers the requests in order, all over the same caches.
+fn answer_all(
+    searcher: &mut Searcher<'_>,
+    requests: &[Request],
+    replies: &mut String,
+) -> Result<(), RunError> {
+    for request in requests {
         let reply = searcher.answer(request);
         writeln!(replies, "{reply}")?;
     }
-    Ok(replies)
+    Ok(())
 }
 
 /// Builds the regexes in order. A refused one takes no number.

@@ -262,7 +262,6 @@ fn searches_a_long_chain(rt: HostRuntime) -> Result<(), Fail> {
     let mut searcher = Searcher::new(door(states, 0, 1)?, Config::new())?;
     let found = searcher.find(&Input::new(haystack.as_slice()));
     same(&rt, &found, &Ok(Some(HalfMatch::new(pattern(0), 3000))));
-    let counts = (searcher.cache.clear_count(), searcher.cache.memory_usage());
-    same(&rt, &counts, &(0, 273384));
+    counts(&rt, &searcher.cache, 273384, 3000);
     Ok(())
 }

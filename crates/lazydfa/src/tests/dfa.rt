@@ -7,7 +7,7 @@ use regex_automata::hybrid::BuildError;
 use regex_automata::hybrid::dfa::{Cache, Config, DFA};
 use regex_automata::nfa::thompson::{Flags, NFA, State};
 use regex_automata::util::primitives::{PatternID, StateID};
-use regex_automata::util::search::{Anchored, HalfMatch, Input};
+use regex_automata::util::search::{Anchored, HalfMatch, Input, MatchKind};
 use std::alloc::Global;
 use std::process::Abort;
 use std::test::Fail;
@@ -32,15 +32,34 @@ const COUNTED: &[(Entry, &str, usize, usize, usize)] = &[
 #[test]
 fn counts_memory_and_searched_bytes(rt: HostRuntime) -> Result<(), Fail> {
     for (entry, haystack, fresh, used, searched) in COUNTED.iter().copied() {
-        let mut searcher = Searcher::new(entry.forward(rt.alloc())?, Config::new())?;
-        let counts = (fresh, used, searched);
-        count(&rt, &mut searcher, &Input::new(haystack.as_bytes()), counts)?;
+        count(
+            &rt,
+            entry.forward(rt.alloc())?,
+            haystack,
+            (fresh, used, searched),
+        )?;
     }
     Ok(())
 }
 
-/// Searches twice, and once more after a reset.
+/// Searches a haystack by an automaton of kind all if it is one for reverse searches.
 pub fn count<R: Abort>(
+    rt: &R,
+    nfa: NFA,
+    haystack: &str,
+    want: (usize, usize, usize),
+) -> Result<(), Fail> {
+    let kind = if nfa.is_reverse() {
+        MatchKind::All
+    } else {
+        MatchKind::LeftmostFirst
+    };
+    let mut searcher = Searcher::new(nfa, Config::new().match_kind(kind))?;
+    count_searches(rt, &mut searcher, &Input::new(haystack.as_bytes()), want)
+}
+
+/// Searches twice, and once more after a reset.
+fn count_searches<R: Abort>(
     rt: &R,
     searcher: &mut Searcher,
     input: &Input<'_>,

@@ -163,13 +163,20 @@ enum Refused {
 fn run_in(alloc: Global, script: &str, answer: &str, output: &mut Sink) -> Result<Refused, Fail> {
     output.bytes.clear();
     let result = run(alloc, &mut Source::new(script.as_bytes()), output);
-    match (result, output.bytes.as_slice()) {
-        (Err(RunError::OutOfMemory), []) => Ok(Refused::Run),
-        (Ok(()), b"refused out of memory\nbad regex\n") => Ok(Refused::Regex),
-        (Ok(()), b"regex 0\nmemory\n") => Ok(Refused::Request),
-        (Ok(()), text) if text == answer.as_bytes() => Ok(Refused::Nothing),
-        _ => Err(Fail::from("an answer that is none of these")),
+    if result == Err(RunError::OutOfMemory) && output.bytes.is_empty() {
+        return Ok(Refused::Run);
     }
+    result?;
+    for (refused, text) in [
+        (Refused::Regex, "refused out of memory\nbad regex\n"),
+        (Refused::Request, "regex 0\nmemory\n"),
+        (Refused::Nothing, answer),
+    ] {
+        if output.bytes.as_slice() == text.as_bytes() {
+            return Ok(refused);
+        }
+    }
+    Err(Fail::from("an answer that is none of these"))
 }
 
 /// Runs a script while what is left of memory rises by sixteen bytes a turn, so that each growth

@@ -182,3 +182,16 @@ fn printed(alloc: Global, script: &str) -> Result<(String, Option<RunError>), Fa
     let text = String::from_utf8(output.bytes)?;
     Ok((text, result.err()))
 }
+
+/// Runs a script that has no fault.
+fn prints<R: Abort + AllocGlobal>(
+    rt: &R,
+    script: &str,
+    want: &str,
+    shows: &str,
+) -> Result<(), Fail> {
+    let (text, fault) = printed(rt.alloc(), script)?;
+    same_of(rt, &fault, &None, &shows);
+    same_text(rt, text.as_str(), want, shows);
+    Ok(())
+}

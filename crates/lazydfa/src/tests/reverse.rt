@@ -175,11 +175,13 @@ const COUNTED: &[(Entry, &str, usize, usize, usize)] = &[
 
 #[test]
 fn counts_memory_and_searched_bytes(rt: HostRuntime) -> Result<(), Fail> {
-    let config = Config::new().match_kind(MatchKind::All);
     for (entry, haystack, fresh, used, searched) in COUNTED.iter().copied() {
-        let mut searcher = Searcher::new(entry.reverse(rt.alloc())?, config)?;
-        let counts = (fresh, used, searched);
-        count(&rt, &mut searcher, &Input::new(haystack.as_bytes()), counts)?;
+        count(
+            &rt,
+            entry.reverse(rt.alloc())?,
+            haystack,
+            (fresh, used, searched),
+        )?;
     }
     Ok(())
 }

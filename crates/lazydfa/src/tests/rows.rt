@@ -1,6 +1,6 @@
 //! Rows of searches, each a script of one request.
 
-use super::{printed, same_of, same_text};
+use super::prints;
 use std::alloc::{AllocError, Global};
 use std::fmt::Write;
 use std::process::Abort;
@@ -47,10 +47,7 @@ fn answers<R: Abort + AllocGlobal>(rt: &R, request: &str, row: Parts<'_>) -> Res
     let reply = row.reply;
     let text = script(rt.alloc(), request, row)?;
     let want = format!(in rt.alloc(); "regex 0\n{reply}\n")?;
-    let (text, fault) = printed(rt.alloc(), text.as_str())?;
-    same_of(rt, &fault, &None, &row.shows);
-    same_text(rt, text.as_str(), want.as_str(), row.shows);
-    Ok(())
+    prints(rt, text.as_str(), want.as_str(), row.shows)
 }
 
 /// The script that searches one haystack.

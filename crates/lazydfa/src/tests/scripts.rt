@@ -1,6 +1,6 @@
 //! Scripts, from bytes to bytes.
 
-use super::{Sink, Source, printed, same, same_of, same_text};
+use super::{Sink, Source, printed, prints, same, same_of, same_text};
 use crate::error::RunError;
 use crate::run::run;
 use std::test::Fail;
@@ -53,9 +53,7 @@ const BOUND_REFUSED: &str =
 #[test]
 fn answers_scripts(rt: HostRuntime) -> Result<(), Fail> {
     for (script, want) in ANSWERED.iter().copied() {
-        let (text, fault) = printed(rt.alloc(), script)?;
-        same_of(&rt, &fault, &None, &script);
-        same_text(&rt, text.as_str(), want, script);
+        prints(&rt, script, want, script)?;
     }
     Ok(())
 }
@@ -215,13 +213,10 @@ fn answers_a_long_script(rt: HostRuntime) -> Result<(), Fail> {
     for _ in 0..1 << 20 {
         script.push_str("61")?;
     }
-    let (text, fault) = printed(rt.alloc(), script.as_str())?;
-    same(&rt, &fault, &None);
-    same_text(
+    prints(
         &rt,
-        text.as_str(),
+        script.as_str(),
         "regex 0\nhalf 0 1048576\n",
         "a mebibyte",
-    );
-    Ok(())
+    )
 }
