@@ -1,7 +1,7 @@
 //! Automata that are in no catalogue: malformed ones, and odd ones that are searched all the same.
 
 use super::dfa::counts;
-use super::{Searcher, same, same_of};
+use super::{Searcher, same, same_of, with_searcher};
 use regex_automata::hybrid::dfa::Config;
 use regex_automata::nfa::thompson::{Flags, NFA, NfaError, State, Transition};
 use regex_automata::util::look::Look;
@@ -126,11 +126,12 @@ fn finds<R: Abort + AllocGlobal>(
     rows: &[(&str, Option<(u8, usize)>)],
 ) -> Result<(), Fail> {
     let config = Config::new().match_kind(kind);
-    let mut searcher = Searcher::new(nfa, config)?;
-    for (haystack, want) in rows.iter().copied() {
-        find_from(rt, &mut searcher, haystack, 0, want);
-    }
-    Ok(())
+    with_searcher(rt, nfa, config, |rt, searcher| {
+        for (haystack, want) in rows.iter().copied() {
+            find_from(rt, searcher, haystack, 0, want);
+        }
+        Ok(())
+    })
 }
 
 /// Searches a haystack from a place to its end.
@@ -179,10 +180,11 @@ fn searches_a_union_of_one_pattern_twice(rt: HostRuntime) -> Result<(), Fail> {
 fn counts_an_empty_union(rt: HostRuntime) -> Result<(), Fail> {
     let alternates = Vec::new(rt.alloc());
     let nfa = door(vec![in rt.alloc(); State::Union { alternates }]?, 0, 0)?;
-    let mut searcher = Searcher::new(nfa, Config::new())?;
-    find_from(&rt, &mut searcher, "ab", 0, None);
-    counts(&rt, &searcher.cache, 217, 0);
-    Ok(())
+    with_searcher(&rt, nfa, Config::new(), |rt, searcher| {
+        find_from(rt, searcher, "ab", 0, None);
+        counts(rt, &searcher.cache, 217, 0);
+        Ok(())
+    })
 }
 
 /// Byte `a`, and no other.
@@ -233,16 +235,19 @@ fn look_cycle(alloc: Global) -> Result<NFA, Fail> {
 fn searches_a_look_cycle(rt: HostRuntime) -> Result<(), Fail> {
     let nfa = look_cycle(rt.alloc())?;
     let config = Config::new().match_kind(MatchKind::All);
-    let mut searcher = Searcher::new(nfa, config)?;
+    with_searcher(&rt, nfa, config, find_in_a_look_cycle)
+}
+
+fn find_in_a_look_cycle<R: Abort>(rt: &R, searcher: &mut Searcher) -> Result<(), Fail> {
     for (haystack, start, want) in [
         ("a", 0, Some((1, 1))),
         ("b", 0, Some((0, 1))),
         ("c", 0, Some((2, 1))),
         ("xc", 1, None),
     ] {
-        find_from(&rt, &mut searcher, haystack, start, want);
+        find_from(rt, searcher, haystack, start, want);
     }
-    same(&rt, &searcher.cache.memory_usage(), &1559);
+    same(rt, &searcher.cache.memory_usage(), &1559);
     Ok(())
 }
 
@@ -259,9 +264,10 @@ fn searches_a_long_chain(rt: HostRuntime) -> Result<(), Fail> {
         haystack.push(b'a')?;
     }
     states.push(accept(0))?;
-    let mut searcher = Searcher::new(door(states, 0, 1)?, Config::new())?;
-    let found = searcher.find(&Input::new(haystack.as_slice()));
-    same(&rt, &found, &Ok(Some(HalfMatch::new(pattern(0), 3000))));
-    counts(&rt, &searcher.cache, 273384, 3000);
-    Ok(())
+    with_searcher(&rt, door(states, 0, 1)?, Config::new(), |rt, searcher| {
+        let found = searcher.find(&Input::new(haystack.as_slice()));
+        same(rt, &found, &Ok(Some(HalfMatch::new(pattern(0), 3000))));
+        counts(rt, &searcher.cache, 273384, 3000);
+        Ok(())
+    })
 }

@@ -1,8 +1,8 @@
 //! Full caches: what a clear keeps, and when a search gives up in its place.
 
 use super::automata::{chain, id};
-use super::hand::Hand;
-use super::{Searcher, prints, same};
+use super::hand::{Hand, with_hand};
+use super::{Searcher, prints, same, with_searcher};
 use crate::catalogue::Entry;
 use regex_automata::hybrid::dfa::{Cache, Config};
 use regex_automata::hybrid::{CacheError, SearchError, StartError, StepError};
@@ -80,15 +80,19 @@ fn counts<R: Abort>(rt: &R, cache: &Cache, clears: usize, memory: usize, searche
 
 #[test]
 fn counts_clears(rt: HostRuntime) -> Result<(), Fail> {
-    let mut searcher = Searcher::new(Entry::A16.forward(rt.alloc())?, tight())?;
-    count_clears(&rt, &mut searcher, (3, 8))
+    let nfa = Entry::A16.forward(rt.alloc())?;
+    with_searcher(&rt, nfa, tight(), |rt, searcher| {
+        count_clears(rt, searcher, (3, 8))
+    })
 }
 
 #[test]
 fn counts_clears_in_reverse(rt: HostRuntime) -> Result<(), Fail> {
     let config = tight().match_kind(MatchKind::All);
-    let mut searcher = Searcher::new(Entry::A16.reverse(rt.alloc())?, config)?;
-    count_clears(&rt, &mut searcher, (2, 7))
+    let nfa = Entry::A16.reverse(rt.alloc())?;
+    with_searcher(&rt, nfa, config, |rt, searcher| {
+        count_clears(rt, searcher, (2, 7))
+    })
 }
 
 /// Two searches, and the bytes searched after each.
@@ -110,25 +114,24 @@ fn count_clears<R: Abort>(
 #[test]
 fn gives_up_in_progress(rt: HostRuntime) -> Result<(), Fail> {
     let config = tight().minimum_cache_clear_count(Some(0));
-    let mut searcher = Searcher::new(Entry::A16.forward(rt.alloc())?, config)?;
-    give_up_in_progress(&rt, &mut searcher);
-    Ok(())
+    let nfa = Entry::A16.forward(rt.alloc())?;
+    with_searcher(&rt, nfa, config, give_up_in_progress)
 }
 
-fn give_up_in_progress<R: Abort>(rt: &R, searcher: &mut Searcher) {
+fn give_up_in_progress<R: Abort>(rt: &R, searcher: &mut Searcher) -> Result<(), Fail> {
     let found = searcher.find(&Input::new(b"aaaaaaaaaaaaaaaa"));
     let gave_up = MatchError::gave_up(13);
     same(rt, &found, &Err(SearchError::Match(gave_up)));
     counts(rt, &searcher.cache, 0, 36105, 13);
     same(rt, &searcher.cache.in_progress(), &true);
+    Ok(())
 }
 
 /// A start state outlives a clear, with its tag.
 #[test]
 fn keeps_the_start(rt: HostRuntime) -> Result<(), Fail> {
     let config = tight().specialize_start_states(true);
-    let mut hand = Hand::new(Entry::A16.forward(rt.alloc())?, config)?;
-    keep_the_start(&rt, &mut hand)
+    with_hand(&rt, Entry::A16.forward(rt.alloc())?, config, keep_the_start)
 }
 
 fn keep_the_start<R: Abort>(rt: &R, hand: &mut Hand) -> Result<(), Fail> {
@@ -161,11 +164,10 @@ fn fork(alloc: Global) -> Result<NFA, Fail> {
 #[test]
 fn clears_in_a_step_from_the_start(rt: HostRuntime) -> Result<(), Fail> {
     let config = Config::new().byte_classes(false).cache_capacity(37645);
-    let mut hand = Hand::new(fork(rt.alloc())?, config)?;
-    clear_in_a_step_from_the_start(&rt, &mut hand)
+    with_hand(&rt, fork(rt.alloc())?, config, clear_in_a_step)
 }
 
-fn clear_in_a_step_from_the_start<R: Abort>(rt: &R, hand: &mut Hand) -> Result<(), Fail> {
+fn clear_in_a_step<R: Abort>(rt: &R, hand: &mut Hand) -> Result<(), Fail> {
     let start = hand.at;
     hand.steps("aaaaaaaaaaaaa")?;
     counts(rt, &hand.cache, 0, 36189, 0);
@@ -200,8 +202,7 @@ fn word(alloc: Global) -> Result<NFA, Fail> {
 #[test]
 fn keeps_each_start(rt: HostRuntime) -> Result<(), Fail> {
     let config = Config::new().byte_classes(false).cache_capacity(37645);
-    let mut hand = Hand::new(word(rt.alloc())?, config)?;
-    keep_each_start(&rt, &mut hand)
+    with_hand(&rt, word(rt.alloc())?, config, keep_each_start)
 }
 
 fn keep_each_start<R: Abort>(rt: &R, hand: &mut Hand) -> Result<(), Fail> {
@@ -225,10 +226,13 @@ fn keep_each_start<R: Abort>(rt: &R, hand: &mut Hand) -> Result<(), Fail> {
 fn fills_the_capacity(rt: HostRuntime) -> Result<(), Fail> {
     for (capacity, clears, memory, searched) in [(44512, 0, 44512, 16), (44511, 1, 12982, 0)] {
         let config = tight().cache_capacity(capacity);
-        let mut searcher = Searcher::new(Entry::A16.forward(rt.alloc())?, config)?;
-        let found = searcher.find(&Input::new(b"aaaaaaaaaaaaaaaa"));
-        same(&rt, &found, &Ok(Some(HalfMatch::new(PatternID::ZERO, 16))));
-        counts(&rt, &searcher.cache, clears, memory, searched);
+        let nfa = Entry::A16.forward(rt.alloc())?;
+        with_searcher(&rt, nfa, config, |rt, searcher| {
+            let found = searcher.find(&Input::new(b"aaaaaaaaaaaaaaaa"));
+            same(rt, &found, &Ok(Some(HalfMatch::new(PatternID::ZERO, 16))));
+            counts(rt, &searcher.cache, clears, memory, searched);
+            Ok(())
+        })?;
     }
     Ok(())
 }
@@ -240,11 +244,10 @@ fn refuses_a_start_without_room(rt: HostRuntime) -> Result<(), Fail> {
         .byte_classes(false)
         .cache_capacity(37645)
         .minimum_cache_clear_count(Some(0));
-    let mut hand = Hand::new(word(rt.alloc())?, config)?;
-    refuse_a_start_without_room(&rt, &mut hand)
+    with_hand(&rt, word(rt.alloc())?, config, refuse_a_start)
 }
 
-fn refuse_a_start_without_room<R: Abort>(rt: &R, hand: &mut Hand) -> Result<(), Fail> {
+fn refuse_a_start<R: Abort>(rt: &R, hand: &mut Hand) -> Result<(), Fail> {
     hand.steps("aaaaaaaaaaaaa")?;
     let refused = hand.step(b'a');
     same(rt, &refused, &Err(StepError::Cache(CacheError)));

@@ -1,7 +1,7 @@
 //! The calls of the lazy automaton, each once with ample memory, and what they count.
 
 use super::automata::accept;
-use super::{Searcher, same, same_of};
+use super::{Searcher, same, same_of, with_searcher};
 use crate::catalogue::Entry;
 use regex_automata::hybrid::BuildError;
 use regex_automata::hybrid::dfa::{Cache, Config, DFA};
@@ -54,8 +54,10 @@ pub fn count<R: Abort>(
     } else {
         MatchKind::LeftmostFirst
     };
-    let mut searcher = Searcher::new(nfa, Config::new().match_kind(kind))?;
-    count_searches(rt, &mut searcher, &Input::new(haystack.as_bytes()), want)
+    let config = Config::new().match_kind(kind);
+    with_searcher(rt, nfa, config, |rt, searcher| {
+        count_searches(rt, searcher, &Input::new(haystack.as_bytes()), want)
+    })
 }
 
 /// Searches twice, and once more after a reset.
@@ -93,8 +95,10 @@ fn finds_date_after_date(rt: HostRuntime) -> Result<(), Fail> {
     for _ in 0..10_000u32 {
         haystack.extend_from_slice(b"2018-12-24 ")?;
     }
-    let mut searcher = Searcher::new(Entry::Date.forward(rt.alloc())?, Config::new())?;
-    find_dates(&rt, &mut searcher, haystack.as_slice())
+    let nfa = Entry::Date.forward(rt.alloc())?;
+    with_searcher(&rt, nfa, Config::new(), |rt, searcher| {
+        find_dates(rt, searcher, haystack.as_slice())
+    })
 }
 
 fn find_dates<R: Abort>(rt: &R, searcher: &mut Searcher, dates: &[u8]) -> Result<(), Fail> {
@@ -118,8 +122,7 @@ fn stays_within_the_minimum(rt: HostRuntime) -> Result<(), Fail> {
         .skip_cache_capacity_check(true)
         .minimum_cache_clear_count(Some(0));
     for config in [Config::new().cache_capacity(1735), skipping] {
-        let mut searcher = Searcher::new(Entry::Ab.forward(rt.alloc())?, config)?;
-        find_twice(&rt, &mut searcher)?;
+        with_searcher(&rt, Entry::Ab.forward(rt.alloc())?, config, find_twice)?;
     }
     Ok(())
 }
@@ -218,8 +221,9 @@ fn refuses_too_many_starts(rt: HostRuntime) -> Result<(), Fail> {
 
 #[test]
 fn keeps_a_progress(rt: HostRuntime) -> Result<(), Fail> {
-    let mut searcher = Searcher::new(Entry::Ab.forward(rt.alloc())?, Config::new())?;
-    keep_a_progress(&rt, &mut searcher.cache);
+    let dfa = built(rt.alloc(), Entry::Ab, Config::new())?;
+    let mut cache = dfa.create_cache()?;
+    keep_a_progress(&rt, &mut cache);
     Ok(())
 }
 
@@ -241,8 +245,9 @@ fn keep_a_progress<R: Abort>(rt: &R, cache: &mut Cache) {
 /// One search after another, each from a place to a place, and the bytes searched by then.
 #[test]
 fn adds_up_searched_bytes(rt: HostRuntime) -> Result<(), Fail> {
-    let mut searcher = Searcher::new(Entry::Ab.forward(rt.alloc())?, Config::new())?;
-    add_up_searched_bytes(&rt, &mut searcher.cache);
+    let dfa = built(rt.alloc(), Entry::Ab, Config::new())?;
+    let mut cache = dfa.create_cache()?;
+    add_up_searched_bytes(&rt, &mut cache);
     Ok(())
 }
 
@@ -285,17 +290,16 @@ fn example(alloc: Global) -> Result<NFA, Fail> {
 #[test]
 fn answers_the_example(rt: HostRuntime) -> Result<(), Fail> {
     let config = Config::new().cache_capacity(1 << 16);
-    let mut searcher = Searcher::new(example(rt.alloc())?, config)?;
-    find_in_the_example(&rt, &mut searcher);
-    Ok(())
+    with_searcher(&rt, example(rt.alloc())?, config, find_in_the_example)
 }
 
-fn find_in_the_example<R: Abort>(rt: &R, searcher: &mut Searcher) {
+fn find_in_the_example<R: Abort>(rt: &R, searcher: &mut Searcher) -> Result<(), Fail> {
     let found = searcher.find(&Input::new(b"abc"));
     same(rt, &found, &Ok(Some(HalfMatch::new(PatternID::ZERO, 2))));
     let input = Input::new(b"cab").range(1..3).anchored(Anchored::Yes);
     let again = searcher.find(&input);
     same(rt, &again, &Ok(Some(HalfMatch::new(PatternID::ZERO, 3))));
+    Ok(())
 }
 
 /// How many patterns there are, the memory, and what a search from the first place to the second

@@ -139,10 +139,25 @@ impl Hand {
     }
 }
 
+/// Works by hand, from the start that isn't anchored, behind no byte.
+pub fn with_hand<R: Abort, W: FnOnce(&R, &mut Hand) -> Result<(), Fail>>(
+    rt: &R,
+    nfa: NFA,
+    config: Config,
+    work: W,
+) -> Result<(), Fail>
+    requires { W.IsAlwaysCallable work }
+{
+    let mut hand = Hand::new(nfa, config)?;
+    work(rt, &mut hand)
+}
+
 #[test]
 fn steps_to_a_match(rt: HostRuntime) -> Result<(), Fail> {
-    let mut hand = Hand::new(Entry::Ab.forward(rt.alloc())?, Config::new())?;
-    match_at_the_end(&rt, &mut hand, "ab", (1, Some(PatternID::ZERO)))
+    let nfa = Entry::Ab.forward(rt.alloc())?;
+    with_hand(&rt, nfa, Config::new(), |rt, hand| {
+        match_at_the_end(rt, hand, "ab", (1, Some(PatternID::ZERO)))
+    })
 }
 
 fn match_at_the_end<R: Abort>(
@@ -160,8 +175,8 @@ fn match_at_the_end<R: Abort>(
 /// A step is known once it was made.
 #[test]
 fn learns_a_step(rt: HostRuntime) -> Result<(), Fail> {
-    let mut hand = Hand::new(Entry::Ab.forward(rt.alloc())?, Config::new())?;
-    learn_a_step(&rt, &mut hand)
+    let nfa = Entry::Ab.forward(rt.alloc())?;
+    with_hand(&rt, nfa, Config::new(), learn_a_step)
 }
 
 fn learn_a_step<R: Abort>(rt: &R, hand: &mut Hand) -> Result<(), Fail> {
@@ -231,8 +246,9 @@ const STEPS: &[Steps] = &[
 fn counts_each_step(rt: HostRuntime) -> Result<(), Fail> {
     for (entry, kind, bytes, want) in STEPS.iter().copied() {
         let config = Config::new().match_kind(kind).quit(b'!', true);
-        let mut hand = Hand::new(entry.forward(rt.alloc())?, config)?;
-        count_each_step(&rt, &mut hand, bytes, want)?;
+        with_hand(&rt, entry.forward(rt.alloc())?, config, |rt, hand| {
+            count_each_step(rt, hand, bytes, want)
+        })?;
     }
     Ok(())
 }
@@ -252,8 +268,8 @@ fn count_each_step<R: Abort + AllocGlobal>(
 /// Dead leads to dead.
 #[test]
 fn stays_dead(rt: HostRuntime) -> Result<(), Fail> {
-    let mut hand = Hand::new(Entry::Ab.forward(rt.alloc())?, Config::new())?;
-    stay_dead(&rt, &mut hand)
+    let nfa = Entry::Ab.forward(rt.alloc())?;
+    with_hand(&rt, nfa, Config::new(), stay_dead)
 }
 
 fn stay_dead<R: Abort>(rt: &R, hand: &mut Hand) -> Result<(), Fail> {
@@ -270,8 +286,7 @@ fn stay_dead<R: Abort>(rt: &R, hand: &mut Hand) -> Result<(), Fail> {
 #[test]
 fn stays_at_quit(rt: HostRuntime) -> Result<(), Fail> {
     let config = Config::new().quit(b'c', true);
-    let mut hand = Hand::new(Entry::Ab.forward(rt.alloc())?, config)?;
-    stay_at_quit(&rt, &mut hand)
+    with_hand(&rt, Entry::Ab.forward(rt.alloc())?, config, stay_at_quit)
 }
 
 fn stay_at_quit<R: Abort>(rt: &R, hand: &mut Hand) -> Result<(), Fail> {
@@ -286,8 +301,10 @@ fn stay_at_quit<R: Abort>(rt: &R, hand: &mut Hand) -> Result<(), Fail> {
 #[test]
 fn lists_the_patterns_of_a_match(rt: HostRuntime) -> Result<(), Fail> {
     let config = Config::new().match_kind(MatchKind::All);
-    let mut hand = Hand::new(Entry::Aa.forward(rt.alloc())?, config)?;
-    match_at_the_end(&rt, &mut hand, "aa", (2, PatternID::new(1)))
+    let nfa = Entry::Aa.forward(rt.alloc())?;
+    with_hand(&rt, nfa, config, |rt, hand| {
+        match_at_the_end(rt, hand, "aa", (2, PatternID::new(1)))
+    })
 }
 
 /// Two ways to one pattern match once.
@@ -295,16 +312,19 @@ fn lists_the_patterns_of_a_match(rt: HostRuntime) -> Result<(), Fail> {
 fn lists_a_pattern_once(rt: HostRuntime) -> Result<(), Fail> {
     let states = vec![in rt.alloc(); either(1, 2), accept(0), accept(0)]?;
     let config = Config::new().match_kind(MatchKind::All);
-    let mut hand = Hand::new(door(states, 0, 1)?, config)?;
-    match_at_the_end(&rt, &mut hand, "", (1, Some(PatternID::ZERO)))
+    with_hand(&rt, door(states, 0, 1)?, config, |rt, hand| {
+        match_at_the_end(rt, hand, "", (1, Some(PatternID::ZERO)))
+    })
 }
 
 #[test]
 fn tags_starts_where_asked(rt: HostRuntime) -> Result<(), Fail> {
     for tags in [false, true] {
         let config = Config::new().specialize_start_states(tags);
-        let hand = Hand::new(Entry::Ab.forward(rt.alloc())?, config)?;
-        same(&rt, &hand.at.is_start(), &tags);
+        with_hand(&rt, Entry::Ab.forward(rt.alloc())?, config, |rt, hand| {
+            same(rt, &hand.at.is_start(), &tags);
+            Ok(())
+        })?;
     }
     Ok(())
 }
@@ -315,12 +335,11 @@ const FIRST: Anchored = Anchored::Pattern(PatternID::ZERO);
 #[test]
 fn refuses_starts_in_order(rt: HostRuntime) -> Result<(), Fail> {
     let config = Config::new().quit(b'c', true);
-    let mut hand = Hand::new(Entry::Ab.forward(rt.alloc())?, config)?;
-    refuse_starts_in_order(&rt, &mut hand);
-    Ok(())
+    let nfa = Entry::Ab.forward(rt.alloc())?;
+    with_hand(&rt, nfa, config, refuse_starts_in_order)
 }
 
-fn refuse_starts_in_order<R: Abort>(rt: &R, hand: &mut Hand) {
+fn refuse_starts_in_order<R: Abort>(rt: &R, hand: &mut Hand) -> Result<(), Fail> {
     let first = hand.start(FIRST, None);
     let second = hand.start(FIRST, Some(b'c'));
     same(
@@ -329,22 +348,20 @@ fn refuse_starts_in_order<R: Abort>(rt: &R, hand: &mut Hand) {
         &Err(StartError::UnsupportedAnchored { mode: FIRST }),
     );
     same(rt, &second, &Err(StartError::Quit { byte: b'c' }));
-}
-
-/// Whether the start of a pattern of `words` is dead.
-fn starts_dead(alloc: Global, number: usize) -> Result<bool, Fail> {
-    let config = Config::new().starts_for_each_pattern(true);
-    let mut hand = Hand::new(Entry::Words.forward(alloc)?, config)?;
-    let pattern = PatternID::new(number).ok_or("a pattern")?;
-    hand.start(Anchored::Pattern(pattern), None)?;
-    Ok(hand.at.is_dead())
+    Ok(())
 }
 
 #[test]
 fn starts_dead_past_the_last_pattern(rt: HostRuntime) -> Result<(), Fail> {
+    let config = Config::new().starts_for_each_pattern(true);
+    with_hand(&rt, Entry::Words.forward(rt.alloc())?, config, start_dead)
+}
+
+fn start_dead<R: Abort>(rt: &R, hand: &mut Hand) -> Result<(), Fail> {
     for (number, dead) in [(0, false), (1, false), (2, true), (7, true)] {
-        let found = starts_dead(rt.alloc(), number)?;
-        same_of(&rt, &found, &dead, &number);
+        let pattern = PatternID::new(number).ok_or("a pattern")?;
+        hand.start(Anchored::Pattern(pattern), None)?;
+        same_of(rt, &hand.at.is_dead(), &dead, &number);
     }
     Ok(())
 }

@@ -1,7 +1,7 @@
 //! Refused growths. Each test is a process of its own, so it may use up all memory for good.
 
-use super::hand::Hand;
-use super::{Searcher, Sink, Source, same};
+use super::hand::{Hand, with_hand};
+use super::{Searcher, Sink, Source, same, with_searcher};
 use crate::catalogue::Entry;
 use crate::error::RunError;
 use crate::run::run;
@@ -43,9 +43,10 @@ fn repeats_a_reverse_search_without_memory(rt: HostRuntime) -> Result<(), Fail> 
 /// Searches `ab` with memory, and again with none.
 fn repeat<R: Abort + AllocGlobal>(rt: &R, nfa: NFA, offset: usize) -> Result<(), Fail> {
     let config = Config::new().minimum_cache_clear_count(Some(0));
-    let mut searcher = Searcher::new(nfa, config)?;
-    search_twice(rt, &mut searcher, offset);
-    Ok(())
+    with_searcher(rt, nfa, config, |rt, searcher| {
+        search_twice(rt, searcher, offset);
+        Ok(())
+    })
 }
 
 fn search_twice<R: Abort + AllocGlobal>(rt: &R, searcher: &mut Searcher, offset: usize) {
@@ -66,20 +67,24 @@ fn search_twice<R: Abort + AllocGlobal>(rt: &R, searcher: &mut Searcher, offset:
 /// A search over no span takes no memory, though nothing is known yet.
 #[test]
 fn ends_at_once_without_memory(rt: HostRuntime) -> Result<(), Fail> {
-    let mut searcher = Searcher::new(Entry::Always.forward(rt.alloc())?, Config::new())?;
+    let nfa = Entry::Always.forward(rt.alloc())?;
+    with_searcher(&rt, nfa, Config::new(), end_at_once)
+}
+
+fn end_at_once<R: Abort + AllocGlobal>(rt: &R, searcher: &mut Searcher) -> Result<(), Fail> {
     exhaust(rt.alloc());
     let found = searcher.search(&Input::new(b"ab").range(2..1));
-    same(&rt, &found, &Ok(None));
+    same(rt, &found, &Ok(None));
     let refused = searcher.search(&Input::new(b"ab"));
-    same(&rt, &refused, &Err(SearchError::OutOfMemory));
+    same(rt, &refused, &Err(SearchError::OutOfMemory));
     Ok(())
 }
 
 /// Steps that are known take no memory, and others are refused.
 #[test]
 fn steps_without_memory(rt: HostRuntime) -> Result<(), Fail> {
-    let mut hand = Hand::new(Entry::Ab.forward(rt.alloc())?, Config::new())?;
-    step_without_memory(&rt, &mut hand)
+    let nfa = Entry::Ab.forward(rt.alloc())?;
+    with_hand(&rt, nfa, Config::new(), step_without_memory)
 }
 
 fn step_without_memory<R: Abort + AllocGlobal>(rt: &R, hand: &mut Hand) -> Result<(), Fail> {
@@ -128,10 +133,9 @@ fn inserts_without_memory(rt: HostRuntime) -> Result<(), Fail> {
 /// A start that is known takes no memory, though the cache is full.
 #[test]
 fn starts_without_memory(rt: HostRuntime) -> Result<(), Fail> {
-    let alloc = rt.alloc();
     let config = Config::new().byte_classes(false).cache_capacity(37281);
-    let mut searcher = Searcher::new(Entry::A16.forward(alloc)?, config)?;
-    start_without_memory(&rt, &mut searcher)
+    let nfa = Entry::A16.forward(rt.alloc())?;
+    with_searcher(&rt, nfa, config, start_without_memory)
 }
 
 fn start_without_memory<R: Abort + AllocGlobal>(

@@ -172,6 +172,19 @@ fn same_text<R: Abort>(rt: &R, found: &str, want: &str, of: &str) {
     assert_eq!(rt; found, want, "{of}");
 }
 
+/// Works with a lazy automaton and its cache.
+fn with_searcher<R: Abort, W: FnOnce(&R, &mut Searcher) -> Result<(), Fail>>(
+    rt: &R,
+    nfa: NFA,
+    config: Config,
+    work: W,
+) -> Result<(), Fail>
+    requires { W.IsAlwaysCallable work }
+{
+    let mut searcher = Searcher::new(nfa, config)?;
+    work(rt, &mut searcher)
+}
+
 /// What a script prints, and its fault.
 fn printed(alloc: Global, script: &str) -> Result<(String, Option<RunError>), Fail> {
     let mut output = Sink::new(alloc);

@@ -2,7 +2,7 @@
 
 use super::dfa::{count, counts};
 use super::rows::{Row, answer_all};
-use super::{Searcher, same, same_of};
+use super::{Searcher, same, same_of, with_searcher};
 use crate::catalogue::Entry;
 use regex_automata::hybrid::dfa::Config;
 use regex_automata::util::primitives::PatternID;
@@ -151,10 +151,13 @@ fn selects_by_kind(rt: HostRuntime) -> Result<(), Fail> {
         (MatchKind::LeftmostFirst, true, 3),
     ] {
         let nfa = Entry::Crlf.reverse(rt.alloc())?;
-        let mut searcher = Searcher::new(nfa, Config::new().match_kind(kind))?;
-        let found = searcher.find_reverse(&Input::new(b"a\r\n").earliest(earliest));
-        let want = Ok(Some(HalfMatch::new(PatternID::ZERO, start)));
-        same_of(&rt, &found, &want, &(kind, earliest));
+        let config = Config::new().match_kind(kind);
+        with_searcher(&rt, nfa, config, |rt, searcher| {
+            let found = searcher.find_reverse(&Input::new(b"a\r\n").earliest(earliest));
+            let want = Ok(Some(HalfMatch::new(PatternID::ZERO, start)));
+            same_of(rt, &found, &want, &(kind, earliest));
+            Ok(())
+        })?;
     }
     Ok(())
 }
@@ -191,12 +194,10 @@ fn counts_memory_and_searched_bytes(rt: HostRuntime) -> Result<(), Fail> {
 fn starts_over_no_bytes(rt: HostRuntime) -> Result<(), Fail> {
     let nfa = Entry::Ab.reverse(rt.alloc())?;
     let config = Config::new().match_kind(MatchKind::All);
-    let mut searcher = Searcher::new(nfa, config)?;
-    start_over_no_bytes(&rt, &mut searcher);
-    Ok(())
+    with_searcher(&rt, nfa, config, start_over_no_bytes)
 }
 
-fn start_over_no_bytes<R: Abort>(rt: &R, searcher: &mut Searcher) {
+fn start_over_no_bytes<R: Abort>(rt: &R, searcher: &mut Searcher) -> Result<(), Fail> {
     let input = Input::new(b"");
     let start = searcher.start_reverse(&input);
     same(rt, &start.is_ok_and(|id| !id.is_tagged()), &true);
@@ -204,4 +205,5 @@ fn start_over_no_bytes<R: Abort>(rt: &R, searcher: &mut Searcher) {
     let found = searcher.find_reverse(&input);
     same(rt, &found, &Ok(None));
     counts(rt, &searcher.cache, 421, 0);
+    Ok(())
 }
