@@ -301,10 +301,14 @@ fn stay_at_quit<R: Abort>(rt: &R, hand: &mut Hand) -> Result<(), Fail> {
 #[test]
 fn lists_the_patterns_of_a_match(rt: HostRuntime) -> Result<(), Fail> {
     let config = Config::new().match_kind(MatchKind::All);
-    let nfa = Entry::Aa.forward(rt.alloc())?;
-    with_hand(&rt, nfa, config, |rt, hand| {
-        match_at_the_end(rt, hand, "aa", (2, PatternID::new(1)))
-    })
+    with_hand(&rt, Entry::Aa.forward(rt.alloc())?, config, list_patterns)
+}
+
+fn list_patterns<R: Abort>(rt: &R, hand: &mut Hand) -> Result<(), Fail> {
+    hand.steps("aa")?;
+    same(rt, &hand.at.is_match(), &true);
+    same(rt, &hand.matched(), &(2, PatternID::new(1)));
+    Ok(())
 }
 
 /// Two ways to one pattern match once.

@@ -28,7 +28,7 @@ fn fill<R: Abort>(rt: &R, set: &mut PatternSet) -> Result<(), Fail> {
         let pattern = PatternID::new(number).ok_or("a pattern")?;
         same_of(rt, &set.try_insert(pattern).ok(), &is_new, &number);
     }
-    let found = (set.len(), (set.is_full(), set.capacity()));
-    same(rt, &found, &(2, (false, 3)));
+    same(rt, &(set.len(), set.capacity()), &(2, 3));
+    same(rt, &set.is_full(), &false);
     Ok(())
 }
