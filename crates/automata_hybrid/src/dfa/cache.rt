@@ -344,7 +344,7 @@ impl Cache {
         requires { IsSome self.old.store.searched.running }
         ensures { self.new ≡ with_store self.old (with_searched self.old.store (updated self.old.store.searched at)) }
     {
-        self.store.search_update(at);
+        self.move_search(at);
     }
 
     /// The open search ends at an offset.
@@ -352,7 +352,7 @@ impl Cache {
         requires { IsSome self.old.store.searched.running }
         ensures { self.new ≡ with_store self.old (with_searched self.old.store (finished self.old.store.searched at)) }
     {
-        self.store.search_finish(at);
+        self.end_search(at);
     }
 
     /// Moves the search to an offset, if one is open.

@@ -218,8 +218,8 @@ impl Store {
         self.searched.total_len() < bytes.saturating_mul(self.table.len() + 3)
     }
 
-    /// What a clear makes of the cache: it changes nothing here.
-    pub fn cleared(&self, dfa: &DFA) -> Result<Store, AllocError>
+    /// What a clear makes of the cache, unless the clear rule refuses one. It changes nothing here.
+    pub fn cleared(&self, dfa: &DFA) -> Result<Store, StepError>
         requires { dfa.now ≡ self.now.table.of }
         ensures value { IfOk result (λ c. c ≡ cleared self.now) }
         ensures few { IfOk result (λ c. length c.table.rows ≤ length c.starts) }
@@ -227,7 +227,13 @@ impl Store {
         ensures starts { IfOk result (λ c. KeepsStarts self.now.starts c.starts) }
         ensures absent { IfOk result (λ c. (q : Powerset) → id_of self.now.table q ≡ None → id_of c.table q ≡ None) }
         ensures of { IfOk result (λ c. c.table.of ≡ self.now.table.of) }
+        ensures allowed { OnOk result (refuses_to_clear self.now ≡ false) }
+        ensures gives_up { IfErr result (λ e. IsCacheError e → refuses_to_clear self.now ≡ true) }
+        ensures refused { refuses_to_clear self.now ≡ true → IfErr result IsCacheError }
     {
+        if self.refuses() {
+            return Err(StepError::Cache(CacheError));
+        }
         self.table.see_rows();
         let (table, starts) = keep_starts(dfa, &self.table, self.starts.as_slice())?;
         table.see_rows();
@@ -354,6 +360,31 @@ impl Store {
         Ok(kept)
     }
 
+    /// Puts what a clear made in place of the cache, with a row for a state. A refusal changes nothing.
+    fn replace(
+        &mut self,
+        fresh: Store,
+        state: State,
+        started: bool,
+    ) -> Result<LazyStateID, AllocError>
+        requires few { length fresh.table.rows ≤ length fresh.starts + 1 }
+        requires absent { id_of fresh.table state ≡ None }
+        requires alive { state ≡ dead → ⊥ }
+        requires cost { cost state ≤ greatest fresh.table.of }
+        requires of { IsOwn fresh.table.of.nfa state }
+        ensures ok { OnOk result (self.new ≡ grown fresh (record { state = state; started = started })) }
+        ensures named { IfOk result (λ id. Names self.new.table id state) }
+        ensures kept { OnOk result ((id : ℕ) (q : Powerset) → Names fresh.table id q → Names self.new.table id q) }
+        ensures of { OnOk result (self.new.table.of ≡ fresh.table.of) }
+        ensures err { OnErr result (self.new ≡ self.old) }
+    {
+        let mut fresh = fresh;
+        fresh.see_room();
+        let id = fresh.add_row(state, started)?;
+        *self = fresh;
+        Ok(id)
+    }
+
     /// Adds a state that the cache lacks, stepped to from a row; clears first where it doesn't fit. It answers the
     /// row's ID as it is now, and the new one. A refusal changes nothing.
     pub fn add_next(
@@ -385,14 +416,9 @@ impl Store {
             let to = self.add_row(state, false)?;
             return Ok((from, to));
         }
-        if self.refuses() {
-            return Err(StepError::Cache(CacheError));
-        }
         let mut fresh = self.cleared(dfa)?;
         let from = fresh.keep_saved(&self.table, from)?;
-        fresh.see_room();
-        let to = fresh.add_row(state, false)?;
-        *self = fresh;
+        let to = self.replace(fresh, state, false)?;
         Ok((from, to))
     }
 
@@ -424,13 +450,8 @@ impl Store {
             let id = self.add_row(state, started)?;
             return Ok(id);
         }
-        if self.refuses() {
-            return Err(StepError::Cache(CacheError));
-        }
-        let mut fresh = self.cleared(dfa)?;
-        fresh.see_room();
-        let id = fresh.add_row(state, started)?;
-        *self = fresh;
+        let fresh = self.cleared(dfa)?;
+        let id = self.replace(fresh, state, started)?;
         Ok(id)
     }
 }

@@ -1,0 +1,6 @@
+use Rattle.std.proofs.Common.{◌∙◌, ap, length}
+use Rattle.automata_hybrid.specs.Machine.{Machine}
+use Rattle.automata_hybrid.proofs.dfa.DFA.pattern_len.Goals as goal
+
+pub returns : goal.returns
+returns c = ap length c.pattern_starts.ensures ∙ ap (λ (m : Machine). length m.nfa.start_pattern) c.self.view_is

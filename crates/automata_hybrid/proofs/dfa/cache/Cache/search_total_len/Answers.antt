@@ -1,0 +1,7 @@
+use Rattle.std.proofs.Common.{◌∙◌, ap}
+use Rattle.automata_hybrid.specs.Caches.{CacheView}
+use Rattle.automata_hybrid.specs.Progressing.{total_len}
+use Rattle.automata_hybrid.proofs.dfa.cache.Cache.search_total_len.Goals as goal
+
+pub returns : goal.returns
+returns c = c.search_total_len.ensures ∙ ap (λ (v : CacheView). total_len v.store.searched) c.self.view_is
