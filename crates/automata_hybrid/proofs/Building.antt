@@ -4,14 +4,12 @@ use Rattle.std.proofs.lemmas.Bool.{cases_lt, cases_eq, eqb-true, eqb-false}
 use Rattle.std.proofs.lemmas.List.{length-replicate, get_or-replicate, get_or-set_same, get_or-set_other}
 use Rattle.automata_base.specs.Accounting.{fixed_cost, start_slots, minimum_capacity}
 use Rattle.automata_base.specs.Classes.{class_in, eoi_class, is_quit, is_boundary, boundary_count, class_of, stride_of, stride_for}
-use Rattle.automata_base.specs.Nodes.{Automaton}
 use Rattle.automata_base.specs.Powerset.{Powerset}
 use Rattle.automata_base.specs.Steps.{successor}
 use Rattle.automata_base.proofs.Determinizing.AlikeClasses.{class_step, class_quits}
 use Rattle.automata_config.specs.Options.{Options, starts_for_each_pattern_of, byte_classes_of}
 use Rattle.automata_config.specs.Settled.{Settled}
 use Rattle.automata_config.specs.Settling.{IsSettled, settled_minimum, greatest_offset}
-use Rattle.automata_hybrid.specs.Builds.{Builds}
 use Rattle.automata_hybrid.specs.Ids.{quit_id}
 use Rattle.automata_hybrid.specs.Owned.{IsOwn}
 use Rattle.automata_hybrid.specs.Machine.{Machine, IsMachine, marked, template_of, byte_of, next_of, greatest}
@@ -175,7 +173,3 @@ IsBuilt-IsMachine o s m i =
           let le : (4 + start_slots m.nfa (starts_for_each_pattern_of o)) * m.stride ≤ 134217727 = rw (same_stride, i.settled.quits) i.settled.offsets in
           let e : (m.slots + 4) * m.stride ≡ (4 + start_slots m.nfa (starts_for_each_pattern_of o)) * m.stride = rw i.slots (omega arith) in
           omega (arith, le, e)
-
--- what is built of an automaton is built of its own
-pub builds_own : (o : Options) (a : Automaton) (m : Machine) → Builds o a m → Builds o m.nfa m
-builds_own o a m h = subst (λ x. Builds o x m) (sym (ap (λ (x : Machine). x.nfa) h.2)) h

@@ -7,8 +7,7 @@ use Rattle.std.proofs.lemmas.Bool.{cases_Bool}
 use Rattle.automata_base.specs.Powerset.{Powerset}
 use Rattle.automata_base.specs.Equal.{powerset_eq, powerset_eq-Decides}
 use Rattle.automata_hybrid.specs.declared.dfa.row.Row.{Row}
-use Rattle.automata_hybrid.specs.Ids.{dead_id}
-use Rattle.automata_hybrid.specs.Machine.{Machine, start_of}
+use Rattle.automata_hybrid.specs.Machine.{start_of}
 use Rattle.automata_hybrid.specs.Table.{Rows, id_of, Names, MayLead, with_row}
 use Rattle.automata_hybrid.specs.Clears.{AllStarts, row_of, put_if, put, or_unknown, Kept, keep_found, keep_slot, keep_slots, IsPut}
 use Rattle.automata_hybrid.proofs.Rows.{Names-more, find_id-push_other}
@@ -17,17 +16,6 @@ pub keep_slots-push : (old : Rows) (k : Kept) (ids : List ℕ) (id : ℕ) → ke
 unfolding keep_slots
 keep_slots-push old k [] id = refl
 keep_slots-push old k (x ∷ ids) id = keep_slots-push old (keep_slot old k x) ids id
-
-pub keep_slots-none : (old : Rows) (k : Kept) → keep_slots old k [] ≡ k
-unfolding keep_slots
-keep_slots-none old k = refl
-
--- what a table names it names with a row more
-pub Names-put : (t : Rows) (r : Row) (id : ℕ) (q : Powerset) → Names t id q → Names (put t r) id q
-Names-put t r id q h = go (id_of t r.state) where
-  go : (o : Option ℕ) → Names (put_if o t r) id q
-  go None = Names-more t r id q h
-  go (Some n) = h
 
 pub put-of : (t : Rows) (r : Row) → (put t r).of ≡ t.of
 put-of t r = go (id_of t r.state) where
@@ -41,22 +29,11 @@ put-length t r = go (id_of t r.state) where
   go None = omega (arith, length-append t.rows (r ∷ []))
   go (Some n) = omega arith
 
-pub MayLead-put : (t : Rows) (r : Row) (id : ℕ) (q : Powerset) → MayLead t id q → MayLead (put t r) id q
-MayLead-put t r id q (inl e) = inl e
-MayLead-put t r id q (inr (inl (e, d))) = inr (inl (e ∙ ap (λ (m : Machine). dead_id m.stride) (sym (put-of t r)), d))
-MayLead-put t r id q (inr (inr h)) = inr (inr (Names-put t r id q h))
-
 -- a slot's ID without a high tag is that of a row
 pub MayLead-row : (t : Rows) (id : ℕ) (q : Powerset) → MayLead t id q → id < 2 ^ 29 → Names t id q
 MayLead-row t id q (inl e) l = absurd (omega (arith, e, l))
 MayLead-row t id q (inr (inl (e, d))) l = absurd (omega (arith, e, l))
 MayLead-row t id q (inr (inr h)) l = h
-
--- a slot's ID with one is unknown or dead in every table of this stride
-pub MayLead-fixed : (t u : Rows) (id : ℕ) (q : Powerset) → ((n : ℕ) (p : Powerset) → Names t n p → n < 2 ^ 29) → t.of.stride ≡ u.of.stride → MayLead t id q → 2 ^ 29 ≤ id → MayLead u id q
-MayLead-fixed t u id q low s (inl e) l = inl e
-MayLead-fixed t u id q low s (inr (inl (e, d))) l = inr (inl (e ∙ ap dead_id s, d))
-MayLead-fixed t u id q low s (inr (inr h)) l = absurd (omega (arith, low id q h, l))
 
 at_push : (xs : List ℕ) (y k x : ℕ) → slice_get (xs ++ y ∷ []) k ≡ Some x → (slice_get xs k ≡ Some x) ⊎ ((k ≡ length xs) × (y ≡ x))
 at_push [] y zero x h = inr (refl, cc)

@@ -47,9 +47,6 @@ mode_group No = refl
 mode_group Yes = refl
 mode_group (Pattern p) = refl
 
-pub few_kinds : (t : ℕ) (x : Option ℕ) → behind_of t x < 6
-few_kinds t x = (behind_sample t x).1
-
 -- the start of a slot is that of its mode behind each thing of its kind
 pub start_same : (m : Machine) (mode : Anchored) (x : Option ℕ) → start_state_of m.nfa mode x ≡ start_of m (slot_of mode (behind_of m.nfa.flags.line_terminator x))
 unfolding start_of

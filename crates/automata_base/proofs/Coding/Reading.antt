@@ -1,7 +1,7 @@
-use Rattle.std.proofs.Common.{◌≡◌, ℕ, zero, suc, List, [], ◌∷◌, ◌++◌, Bool, true, false, cond, ◌+◌, ◌*◌, ◌-◌, ◌^◌, ◌<◌, ◌≤◌, refl, ap, sym, ◌∙◌, arith, length, length-append, drop, take, get_or}
+use Rattle.std.proofs.Common.{◌≡◌, ℕ, zero, suc, List, ◌++◌, true, ◌+◌, ◌*◌, ◌-◌, ◌^◌, ◌<◌, ◌≤◌, refl, ap, sym, ◌∙◌, arith, length, length-append, drop, take, get_or}
 use Rattle.std.specs.List.{flat_map}
 use Rattle.std.specs.Int.{w32, from_le_bytes}
-use Rattle.std.proofs.lemmas.Bool.{cond-true, cond-false}
+use Rattle.std.proofs.lemmas.Bool.{cond-true}
 use Rattle.std.proofs.lemmas.List.{drop-drop, length-drop}
 use Rattle.std.proofs.Math.Seq.{take-length}
 use Rattle.std.proofs.lemmas.Nat.{from_le_bytes-to_le_bytes_4}
@@ -10,9 +10,6 @@ use Rattle.automata_base.proofs.Coding.Groups.{length-four_bytes}
 use Rattle.automata_base.proofs.Coding.Inverse.{flag_bits, count_fits, listed_has, ids_bytes-code}
 
 -- ---- what the bytes of a state have
-
-pub header : (bytes : List ℕ) → IsCode bytes → 9 ≤ length bytes
-header bytes h = omega (arith, ap length h.same)
 
 flags_are : (bytes : List ℕ) → IsCode bytes → (is_set 1 bytes ≡ has_any (patterns_of bytes)) × (is_set 2 bytes ≡ is_listed (patterns_of bytes))
 flags_are bytes h =
@@ -46,11 +43,6 @@ whole bytes h e =
 
 -- ---- patterns
 
-pub length-numbers_at : (n : ℕ) (bytes : List ℕ) → length (numbers_at n bytes) ≡ n
-unfolding numbers_at
-length-numbers_at zero bytes = refl
-length-numbers_at (suc n) bytes = omega (arith, length-numbers_at n (drop 4 bytes))
-
 pub get_or-numbers_at : (n : ℕ) (bytes : List ℕ) (i : ℕ) → i < n → get_or (numbers_at n bytes) i 0 ≡ from_le_bytes w32 (drop (4 * i) bytes)
 unfolding numbers_at
 get_or-numbers_at zero bytes i h = absurd (omega arith)
@@ -61,13 +53,6 @@ get_or-numbers_at (suc n) bytes (suc i) h = get_or-numbers_at n (drop 4 bytes) i
 pub ids_are : (bytes : List ℕ) → IsCode bytes → AreIds 0 (ids_bytes bytes)
 ids_are bytes h = record { first = omega arith; ids = h.state.nfa; same = sym (ids_bytes-code (decoded bytes) h.state) ∙ ap ids_bytes h.same }
 
--- how many patterns there are
-pub count-none : (bytes : List ℕ) → is_set 1 bytes ≡ false → patterns_of bytes ≡ []
-count-none bytes e = cond-false (is_set 1 bytes) _ _ e
-
-pub count-one : (bytes : List ℕ) → is_set 1 bytes ≡ true → is_set 2 bytes ≡ false → patterns_of bytes ≡ 0 ∷ []
-count-one bytes e f = cond-true (is_set 1 bytes) _ _ e ∙ cond-false (is_set 2 bytes) _ _ f
-
 pub count-listed : (bytes : List ℕ) → IsCode bytes → is_set 2 bytes ≡ true → patterns_of bytes ≡ numbers_at (number_at bytes 9) (drop 13 bytes)
 count-listed bytes h e = cond-true (is_set 1 bytes) _ _ (whole bytes h e).has ∙ cond-true (is_set 2 bytes) _ _ e
 
@@ -77,15 +62,6 @@ pattern-listed bytes i h e l =
     ap (λ (x : List ℕ). get_or x i 0) (count-listed bytes h e)
     ∙ get_or-numbers_at (number_at bytes 9) (drop 13 bytes) i (omega (arith, (whole bytes h e).count))
     ∙ ap (from_le_bytes w32) (drop-drop (4 * i) 13 bytes)
-
-unlisted_at : (has : Bool) (i : ℕ) (listed : Bool) (ns : List ℕ) → listed ≡ false → i < length (cond has (cond listed ns (0 ∷ [])) []) → get_or (cond has (cond listed ns (0 ∷ [])) []) i 0 ≡ 0
-unlisted_at has i true ns e l = cc
-unlisted_at true zero false ns e l = refl
-unlisted_at true (suc i) false ns e l = absurd (omega arith)
-unlisted_at false i false ns e l = absurd (omega arith)
-
-pub pattern-unlisted : (bytes : List ℕ) (i : ℕ) → is_set 2 bytes ≡ false → i < length (patterns_of bytes) → get_or (patterns_of bytes) i 0 ≡ 0
-pattern-unlisted bytes i e l = unlisted_at (is_set 1 bytes) i (is_set 2 bytes) (numbers_at (number_at bytes 9) (drop 13 bytes)) e l
 
 -- the bytes from a place on, as a range takes them
 pub ids_from : (bytes : List ℕ) (count : ℕ) → is_set 2 bytes ≡ true → count ≡ number_at bytes 9 → take (length bytes - (13 + 4 * count)) (drop (13 + 4 * count) bytes) ≡ ids_bytes bytes

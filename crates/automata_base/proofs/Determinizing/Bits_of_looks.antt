@@ -79,24 +79,12 @@ code_below l.WordEndHalfAscii = omega arith
 code_below l.WordStartHalfUnicode = omega arith
 code_below l.WordEndHalfUnicode = omega arith
 
-or_false : (a : Bool) → a || false ≡ a
-or_false true = refl
-or_false false = refl
-
-or_true : (a b : Bool) → b ≡ true → a || b ≡ true
-or_true true b e = refl
-or_true false b e = e
-
 ltb_next : (a k : ℕ) → (a ≡ k → ⊥) → ltb a (k + 1) ≡ ltb a k
 ltb_next a k ne = grind (arith, common_steps)
 
 -- What a loop over the looks has collected: what was there, and the looks before `k` that pass.
 abbrev pub Sofar : Truth → Truth → ℕ → ℕ → Type 0
 Sofar base f set k = (other : Look) → truth_of set other ≡ (base other || (ltb (look_index other) k && f other))
-
-pub sofar_start : (base f : Truth) (set : ℕ) → ((other : Look) → truth_of set other ≡ base other) → Sofar base f set 0
-sofar_start base f set h other =
-    h other ∙ sym (ap (λ b. base other || (b && f other)) (le-ltb (look_index other) 0 (omega arith)) ∙ or_false (base other))
 
 pub sofar_next :
     (base f : Truth) (set set' k : ℕ) (look : Look) (b : Bool)
@@ -134,10 +122,6 @@ sofar_next base f set set' k look b h is grown t so other = go (eqb_tells (look_
         grown other ∙ (ap (λ z. z && b || truth_of set other) w.0 ∙ (so other
         ∙ sym (ap (λ z. base other || (z && f other)) (ltb_next (look_index other) k (λ e. w.1 (e ∙ sym number))))))
 
-pub sofar_done : (base f : Truth) (set k : ℕ) → 18 ≤ k → Sofar base f set k → (other : Look) → truth_of set other ≡ (base other || f other)
-sofar_done base f set k h so other =
-    so other ∙ ap (λ b. base other || (b && f other)) (lt-ltb (look_index other) k (let w = code_below other in omega (arith, h, w)))
-
 or_and : (a b c : Bool) → a && b && not c ≡ false → a ≡ true → b ≡ true → c ≡ false → ⊥
 or_and true true true e f g h = true≢false h
 or_and true true false e f g h = true≢false e
@@ -147,9 +131,6 @@ or_and false b c e f g h = true≢false (sym f)
 -- No look before `k` is needed, true and new.
 abbrev pub Unnews : Truth → Truth → Truth → ℕ → Type 0
 Unnews N T K k = (look : Look) → look_index look < k → N look ≡ true → T look ≡ true → K look ≡ false → ⊥
-
-pub unnews_start : (N T K : Truth) → Unnews N T K 0
-unnews_start N T K look l = absurd (omega (arith, l))
 
 pub unnews_next : (N T K : Truth) (k : ℕ) (look : Look) → k < 18 → look ≡ nth_look k → N look && T look && not (K look) ≡ false → Unnews N T K k → Unnews N T K (k + 1)
 unnews_next N T K k look h is at so other less = go (eqb_tells (look_index other) (look_index look))
@@ -163,12 +144,3 @@ unnews_next N T K k look h is at so other less = go (eqb_tells (look_index other
         → N other ≡ true → T other ≡ true → K other ≡ false → ⊥
     go (inl w) = subst (λ z. N z ≡ true → T z ≡ true → K z ≡ false → ⊥) (sym (code_one other look w.0)) (or_and (N look) (T look) (K look) at)
     go (inr w) = so other (let ne : look_index other ≡ k → ⊥ = λ e. w.1 (e ∙ sym number) in omega (arith, less, ne))
-
-pub unnews_done : (N T K : Truth) (k : ℕ) → 18 ≤ k → Unnews N T K k → (look : Look) → N look ≡ true → T look ≡ true → K look ≡ false → ⊥
-unnews_done N T K k h so look = so look (let w = code_below look in omega (arith, h, w))
-
-pub news_there : (a b c : Bool) → a && b && not c ≡ true → (a ≡ true) × (b ≡ true) × (c ≡ false)
-news_there true true true e = absurd (true≢false (sym e))
-news_there true true false e = (refl, refl, refl)
-news_there true false c e = absurd (true≢false (sym e))
-news_there false b c e = absurd (true≢false (sym e))

@@ -2,13 +2,13 @@
 use Rattle.std.proofs.Common.{ℕ, zero, suc, ◌≡◌, ◌<◌, ◌≤◌, ◌+◌, ◌⊎◌, Bool, true, false, cond, List, [], ◌∷◌, ◌++◌, length, get_or, take, drop, inl, inr, refl, sym, ap, ◌∙◌, subst, arith, append_assoc, append-nil}
 use Rattle.std.specs.Prelude.{Contains, IsTrue, IsFalse, ltb}
 use Rattle.std.proofs.lemmas.Bool.{ltb-true}
-use Rattle.std.proofs.lemmas.List.{at_drop_more, drop_all, take-append-le}
+use Rattle.std.proofs.lemmas.List.{drop_all, take-append-le}
 use Rattle.automata_base.specs.declared.nfa.thompson.State.{State}
 use Rattle.automata_base.specs.declared.nfa.thompson.Transition.{Transition}
 use Rattle.automata_base.specs.Checks.{all_below}
 use Rattle.automata_base.specs.Computed.{is_in}
 use Rattle.automata_base.specs.Lists.{In}
-use Rattle.automata_base.specs.Nodes.{ranges_of, dense_from}
+use Rattle.automata_base.specs.Nodes.{dense_from}
 use Rattle.automata_base.specs.Once.{once_from}
 use Rattle.automata_base.specs.Reach.{nexts}
 use Rattle.automata_base.specs.Refusals.{transitions_below, state_below, states_below}
@@ -76,35 +76,11 @@ once_only q ys (x ∷ xs) i = go (once_only q (ys ++ cond (is_in x ys) [] (x ∷
     go (inl j) = from (is_in x ys) j
     go (inr j) = inr (inr j)
 
-pub once_then : (ys xs zs : List ℕ) → once_from (once_from ys xs) zs ≡ once_from ys (xs ++ zs)
-once_then ys [] zs = refl
-once_then ys (x ∷ xs) zs = once_then (ys ++ cond (is_in x ys) [] (x ∷ [])) xs zs
-
 pub once_take : (n : ℕ) (ys xs : List ℕ) → n ≤ length ys → take n (once_from ys xs) ≡ take n ys
 once_take n ys xs l = let w = once_more ys xs in ap (take n) w.1 ∙ take-append-le n ys w.0 l
 
--- The steps of the loops that add the states of a list.
-pub once_next :
-    (ys xs new w : List ℕ) (i x : ℕ) → i < length xs → x ≡ get_or xs i x → new ≡ once_from ys (x ∷ [])
-    → once_from ys (drop i xs) ≡ w → once_from new (drop (i + 1) xs) ≡ w
-once_next ys xs new w i x l e s h =
-    ap (λ z. once_from z (drop (i + 1) xs)) s ∙ (sym (ap (once_from ys) (next_drop xs i x l e)) ∙ h)
-
 pub once_done : (ys xs w : List ℕ) (i : ℕ) → length xs ≤ i → once_from ys (drop i xs) ≡ w → ys ≡ w
 once_done ys xs w i l h = sym (ap (once_from ys) (drop_all i xs l)) ∙ h
-
-pub nexts_next :
-    (ys new w : List ℕ) (xs : List Transition) (i : ℕ) (x : Transition) → i < length xs → x ≡ get_or xs i x
-    → new ≡ once_from ys (x.next ∷ [])
-    → once_from ys (nexts (ranges_of (drop i xs))) ≡ w → once_from new (nexts (ranges_of (drop (i + 1) xs))) ≡ w
-nexts_next ys new w xs i x l e s h =
-    ap (λ z. once_from z (nexts (ranges_of (drop (i + 1) xs)))) s
-    ∙ (ap (λ (z : Transition). once_from ys (z.next ∷ nexts (ranges_of (drop (i + 1) xs)))) e
-    ∙ (sym (at_drop_more (λ z. once_from ys (nexts (ranges_of z))) xs i x l) ∙ h))
-
-pub nexts_done :
-    (ys w : List ℕ) (xs : List Transition) (i : ℕ) → length xs ≤ i → once_from ys (nexts (ranges_of (drop i xs))) ≡ w → ys ≡ w
-nexts_done ys w xs i l h = sym (ap (λ z. once_from ys (nexts (ranges_of z))) (drop_all i xs l)) ∙ h
 
 nexts_alike : (j k : ℕ) (xs : List ℕ) → nexts (dense_from j xs) ≡ nexts (dense_from k xs)
 nexts_alike j k [] = refl
@@ -124,18 +100,6 @@ dense_next ys xs new w i x l e s h =
     ap (λ z. once_from z (nexts (dense_from 0 (drop (i + 1) xs)))) s
     ∙ (sym (dense_first ys x (drop (i + 1) xs))
     ∙ (sym (ap (λ z. once_from ys (nexts (dense_from 0 z))) (next_drop xs i x l e)) ∙ h))
-
-pub dense_done :
-    (ys xs w : List ℕ) (i : ℕ) → length xs ≤ i → once_from ys (nexts (dense_from 0 (drop i xs))) ≡ w → ys ≡ w
-dense_done ys xs w i l h = sym (ap (λ z. once_from ys (nexts (dense_from 0 z))) (drop_all i xs l)) ∙ h
-
-pub dense_none : (ys : List ℕ) (x : ℕ) → x ≡ 0 → ys ≡ once_from ys (nexts (dense_from 0 (x ∷ [])))
-dense_none ys x e = ap (λ z. once_from ys (nexts (dense_from 0 (z ∷ [])))) (sym e)
-
-pub dense_one :
-    (ys new : List ℕ) (x : ℕ) → (x ≡ 0 → ⊥) → new ≡ once_from ys (x ∷ []) → new ≡ once_from ys (nexts (dense_from 0 (x ∷ [])))
-dense_one ys new zero ne e = absurd (ne refl)
-dense_one ys new (suc m) ne e = e
 
 -- Each element of a list whose test passes is below the bound.
 pub id_below : (n : ℕ) (xs : List ℕ) (i x : ℕ) → all_below n xs ≡ true → i < length xs → x ≡ get_or xs i x → x < n

@@ -77,9 +77,6 @@ second_below states at s first skip h l e t =
     (node_fits (length states) s (state_at_below (length states) states at s h l e)))
     (inr (inl refl))
 
-pub skips_same : (states : List State) (anchored unanchored : ℕ) → unanchored ≡ anchored → IsTrue true ↔ SkipsFrom states anchored unanchored
-skips_same states anchored unanchored e = (λ _. inl e, λ _. refl)
-
 -- What the unanchored start and its second alternate are, and what the tests of them tell.
 module _ (states : List State) (anchored unanchored at : ℕ) (s : State) (other : unanchored ≡ anchored → ⊥) (same : at ≡ unanchored) (within : at < length states) (read : s ≡ get_or states at s) where
   start_is : node_in states unanchored ≡ node_of s

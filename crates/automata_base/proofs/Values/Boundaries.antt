@@ -116,10 +116,6 @@ pub stride_for-few : (len : ℕ) → stride_for len ≤ 512
 unfolding stride_for
 stride_for-few len = grind (arith, nat_tests)
 
-pub stride_for-many : (len : ℕ) → 2 ≤ stride_for len
-unfolding stride_for
-stride_for-many len = grind (arith, nat_tests)
-
 big_power : (r : ℕ) → 9 ≤ r → 512 ≤ 2 ^ r
 big_power r h = pow-le-pow_right {n = 2} (omega arith) {i = 9} {j = r} h
 

@@ -1,9 +1,8 @@
 -- How marks before bytes add up.
-use Rattle.std.proofs.Common.{ℕ, zero, suc, ◌≡◌, ◌+◌, ◌<◌, ◌≤◌, ◌⊎◌, ◌&&◌, ◌||◌, Bool, true, false, eqb, ltb, List, [], ◌∷◌, length, get_or, drop, refl, sym, ap, ◌∙◌, inl, inr, arith}
+use Rattle.std.proofs.Common.{ℕ, ◌≡◌, ◌+◌, ◌<◌, ◌⊎◌, ◌&&◌, ◌||◌, Bool, true, false, eqb, ltb, List, drop, refl, sym, ap, ◌∙◌, inl, inr, arith}
 use Rattle.std.proofs.lemmas.Bool.{lt-ltb, le-ltb}
 use Rattle.std.proofs.lemmas.Bool.Decides.{eqb_tells}
 use Rattle.std.proofs.lemmas.Grind.{common_steps}
-use Rattle.std.proofs.lemmas.List.{at_drop_more, drop_all}
 use Rattle.automata_base.specs.Classes.{bounds, look_bounds, states_bound, quits_bound, is_boundary}
 use Rattle.automata_base.specs.Looks.{Look, Start, End, StartLF, EndLF, StartCRLF, EndCRLF}
 use Rattle.automata_base.specs.Marks.{marked, Adds}
@@ -36,13 +35,6 @@ adds_like m n f g same x = record { marks = λ b l. x.marks b l ∙ ap (λ z. ma
 abbrev pub upto : ℕ → (ℕ → Bool) → ℕ → Bool
 upto k f b = ltb b k && f b
 
-pub runs_start : (m : List Bool) (f : ℕ → Bool) → f 0 ≡ false → Adds m m (upto 1 f)
-runs_start m f none = adds_none m (upto 1 f) go
-  where
-    go : (b : ℕ) → ltb b 1 && f b ≡ false
-    go zero = ap (λ z. ltb 0 1 && z) none
-    go (suc b) = ap (λ z. z && f (suc b)) (le-ltb (suc b) 1 (omega arith))
-
 pub runs_next :
     (m n o : List Bool) (f : ℕ → Bool) (k : ℕ) (is : Bool)
     → is ≡ f k → Adds m n (upto k f) → Adds n o (λ b. eqb b k && is) → Adds m o (upto (k + 1) f)
@@ -61,37 +53,9 @@ runs_next m n o f k is e x y = adds_both m n o (upto k f) (λ b. eqb b k && is) 
         next : (b : ℕ) → (b ≡ k → ⊥) → ltb b (k + 1) ≡ ltb b k
         next b ne = grind (arith, common_steps)
 
-pub runs_end : (m n : List Bool) (f : ℕ → Bool) (k : ℕ) → 256 ≤ k → Adds m n (upto k f) → Adds m n f
-runs_end m n f k h x = record {
-  marks = λ b l. x.marks b l ∙ ap (λ z. marked m b || (z && f b)) (lt-ltb b k (omega (arith, l, h)));
-}
-
 -- A loop over a list whose items each have their bytes.
 abbrev pub Left : {X : Type 0} → (List X → ℕ → Bool) → List Bool → List Bool → List X → ℕ → Type 0
 Left G m n xs i = (b : ℕ) → b < 256 → (marked n b || G (drop i xs) b) ≡ (marked m b || G xs b)
-
-pub left_start : {X : Type 0} (G : List X → ℕ → Bool) (m : List Bool) (xs : List X) → Left G m m xs 0
-left_start G m xs b l = refl
-
-pub left_next :
-    {X : Type 0} (G : List X → ℕ → Bool) (T : X → ℕ → Bool) (m n o : List Bool) (xs : List X) (i : ℕ) (x : X)
-    → ((y : X) (ys : List X) (b : ℕ) → G (y ∷ ys) b ≡ T y b || G ys b)
-    → i < length xs → x ≡ get_or xs i x → Adds n o (T x) → Left G m n xs i → Left G m o xs (i + 1)
-left_next G T m n o xs i x cons h e y left b l =
-    ap (λ z. z || G (drop (i + 1) xs) b) (y.marks b l)
-    ∙ (or-assoc (marked n b) (T x b) (G (drop (i + 1) xs) b)
-    ∙ (ap (λ z. marked n b || z) (ap (λ z. T z b || G (drop (i + 1) xs) b) e
-    ∙ (sym (cons (get_or xs i x) (drop (i + 1) xs) b) ∙ sym (at_drop_more (λ zs. G zs b) xs i x h)))
-    ∙ left b l))
-
-pub left_end :
-    {X : Type 0} (G : List X → ℕ → Bool) (m n : List Bool) (xs : List X) (i : ℕ)
-    → ((b : ℕ) → G [] b ≡ false) → length xs ≤ i → Left G m n xs i → Adds m n (G xs)
-left_end G m n xs i none h left = record {
-  marks = λ b l.
-      sym (or-false (marked n b))
-      ∙ (ap (λ z. marked n b || z) (sym (ap (λ zs. G zs b) (drop_all i xs h) ∙ none b)) ∙ left b l);
-}
 
 -- Looks and states.
 pub word_bounds :

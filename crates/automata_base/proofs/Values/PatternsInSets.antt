@@ -1,5 +1,5 @@
 -- Sets of patterns as flags: how their members change, and how they are gone through.
-use Rattle.std.proofs.Common.{ℕ, zero, suc, ◌≡◌, ◌+◌, ◌<◌, ◌≤◌, ◌⊎◌, Bool, true, false, eqb, List, [], ◌∷◌, length, get_or, drop, refl, sym, ap, ◌∙◌, inl, inr, subst, true≢false, arith, replicate, get_or-set_other, length-set, drop-cons, add-one}
+use Rattle.std.proofs.Common.{ℕ, zero, suc, ◌≡◌, ◌+◌, ◌<◌, ◌≤◌, ◌⊎◌, Bool, true, false, eqb, List, [], ◌∷◌, length, get_or, refl, sym, ap, ◌∙◌, inl, inr, subst, true≢false, arith, replicate, get_or-set_other, length-set}
 use Rattle.std.proofs.Math.ListN.{set}
 use Rattle.std.proofs.lemmas.Bool.Decides.{eqb_tells}
 use Rattle.automata_base.specs.Powerset.{IsId}
@@ -54,28 +54,3 @@ few_more xs i h e =
     let more = members-set xs i 0 h e in
     let few = members-few (set xs i true) 0 in
     omega (arith, more, few, length-set xs i true)
-
-drop_flag :
-    (xs : List Bool) (at : ℕ) (b : Bool) → at < length xs → get_or xs at false ≡ b → drop at xs ≡ b ∷ drop (at + 1) xs
-drop_flag xs at b h e = drop-cons xs at false h ∙ (ap (λ x. x ∷ drop (suc at) xs) e ∙ ap (λ n. b ∷ drop n xs) (sym (add-one at)))
-
-pub member_next :
-    (xs : List Bool) (at : ℕ) → at < length xs → get_or xs at false ≡ true
-    → members_from at (drop at xs) ≡ at ∷ members_from (at + 1) (drop (at + 1) xs)
-member_next xs at h e =
-    ap (members_from at) (drop_flag xs at true h e) ∙ ap (λ n. at ∷ members_from n (drop (at + 1) xs)) (sym (add-one at))
-
-pub member_skipped :
-    (xs : List Bool) (at : ℕ) → at < length xs → get_or xs at false ≡ false
-    → members_from at (drop at xs) ≡ members_from (at + 1) (drop (at + 1) xs)
-member_skipped xs at h e =
-    ap (members_from at) (drop_flag xs at false h e) ∙ ap (λ n. members_from n (drop (at + 1) xs)) (sym (add-one at))
-
-pub members_end : (xs : List Bool) (at : ℕ) → length xs ≤ at → members_from at (drop at xs) ≡ []
-members_end xs at h = grind (arith, drop_all)
-  where
-    drop_all : (ys : List Bool) (n : ℕ) → length ys ≤ n → drop n ys ≡ []
-    drop_all [] zero l = refl
-    drop_all [] (suc n) l = refl
-    drop_all (y ∷ ys) zero l = absurd (omega (arith, l))
-    drop_all (y ∷ ys) (suc n) l = drop_all ys n (omega (arith, l))
