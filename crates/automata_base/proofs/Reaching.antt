@@ -4,5 +4,4 @@ pub mod Looped
 pub mod Matched
 pub mod Occurring
 pub mod Refused
-pub mod Searched
 pub mod Walked

@@ -363,7 +363,7 @@ impl Store {
     /// Puts what a clear made in place of the cache, with a row for a state. A refusal changes nothing.
     fn replace(
         &mut self,
-        fresh: Store,
+        mut fresh: Store,
         state: State,
         started: bool,
     ) -> Result<LazyStateID, AllocError>
@@ -378,7 +378,6 @@ impl Store {
         ensures of { OnOk result (self.new.table.of ≡ fresh.table.of) }
         ensures err { OnErr result (self.new ≡ self.old) }
     {
-        let mut fresh = fresh;
         fresh.see_room();
         let id = fresh.add_row(state, started)?;
         *self = fresh;
