@@ -68,26 +68,8 @@ impl Entry {
 
     /// The entry that a script calls by this name.
     pub fn named(name: &[u8]) -> Option<Entry> {
-        match name {
-            b"ab" => Some(Entry::Ab),
-            b"always" => Some(Entry::Always),
-            b"never" => Some(Entry::Never),
-            b"date" => Some(Entry::Date),
-            b"words" => Some(Entry::Words),
-            b"abc" => Some(Entry::Abc),
-            b"aa" => Some(Entry::Aa),
-            b"bnum" => Some(Entry::Bnum),
-            b"wordend" => Some(Entry::Wordend),
-            b"empty" => Some(Entry::Empty),
-            b"snow" => Some(Entry::Snow),
-            b"snowx" => Some(Entry::Snowx),
-            b"bound" => Some(Entry::Bound),
-            b"crlf" => Some(Entry::Crlf),
-            b"any" => Some(Entry::Any),
-            b"runs" => Some(Entry::Runs),
-            b"a16" => Some(Entry::A16),
-            _ => None,
-        }
+        let (_, entry) = NAMES.iter().find(|(text, _)| *text == name)?;
+        Some(*entry)
     }
 
     /// The automaton for searching forward.
@@ -126,6 +108,26 @@ impl Entry {
         }
     }
 }
+
+const NAMES: [(&[u8], Entry); 17] = [
+    (b"ab", Entry::Ab),
+    (b"always", Entry::Always),
+    (b"never", Entry::Never),
+    (b"date", Entry::Date),
+    (b"words", Entry::Words),
+    (b"abc", Entry::Abc),
+    (b"aa", Entry::Aa),
+    (b"bnum", Entry::Bnum),
+    (b"wordend", Entry::Wordend),
+    (b"empty", Entry::Empty),
+    (b"snow", Entry::Snow),
+    (b"snowx", Entry::Snowx),
+    (b"bound", Entry::Bound),
+    (b"crlf", Entry::Crlf),
+    (b"any", Entry::Any),
+    (b"runs", Entry::Runs),
+    (b"a16", Entry::A16),
+];
 
 /// A state as the tables below write it. The last number names the state that comes next; of
 /// `Accept` it is the pattern.
@@ -415,14 +417,10 @@ impl Outline {
             reverse,
             line_terminator: b'\n',
         };
-        let states = states_of(alloc, lines).map_err(out_of_memory)?;
-        let patterns = ids_of(alloc, self.patterns).map_err(out_of_memory)?;
+        let states = states_of(alloc, lines)?;
+        let patterns = ids_of(alloc, self.patterns)?;
         NFA::from_states(alloc, states, id(0), id(self.unanchored), patterns, flags)
     }
-}
-
-fn out_of_memory(_error: AllocError) -> NfaError {
-    NfaError::OutOfMemory
 }
 
 fn states_of(alloc: Global, lines: &[Line]) -> Result<Vec<State>, AllocError> {

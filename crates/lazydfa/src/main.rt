@@ -8,6 +8,7 @@ use std::process::ExitCode;
 
 mod catalogue;
 mod error;
+mod keyword;
 mod reply;
 mod run;
 mod script;

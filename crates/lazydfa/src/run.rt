@@ -39,26 +39,18 @@ pub fn run<R: Read, W: io::Write>(
 fn replies_to(alloc: Global, script: &Script) -> Result<String, RunError> {
     let mut replies = String::new(alloc);
     let regexes = build_all(alloc, script.definitions.as_slice(), &mut replies)?;
-    let Some(regex) = regexes.first() else {
-        for _ in script.requests.as_slice() {
-            writeln!(replies, "{}", Reply::NoRegex)?;
-        }
-        return Ok(replies);
-    };
-    let mut searcher = Searcher::new(regex)?;
-    answer_all(&mut searcher, script.requests.as_slice(), &mut replies)?;
+    let requests = script.requests.as_slice();
+    match regexes.first() {
+        Some(regex) => Searcher::new(regex)?.answer_all(requests, &mut replies)?,
+        None => refuse_all(requests, &mut replies)?,
+    }
     Ok(replies)
 }
 
-/// Answers the requests in order, all over the same caches.
-fn answer_all(
-    searcher: &mut Searcher<'_>,
-    requests: &[Request],
-    replies: &mut String,
-) -> Result<(), RunError> {
-    for request in requests {
-        let reply = searcher.answer(request);
-        writeln!(replies, "{reply}")?;
+/// There is no regex to ask.
+fn refuse_all(requests: &[Request], replies: &mut String) -> Result<(), RunError> {
+    for _ in requests {
+        writeln!(replies, "{}", Reply::NoRegex)?;
     }
     Ok(())
 }
@@ -128,6 +120,15 @@ impl<'r> Searcher<'r> {
             forward,
             reverse,
         })
+    }
+
+    /// Answers the requests in order, all over the same caches.
+    fn answer_all(&mut self, requests: &[Request], replies: &mut String) -> Result<(), RunError> {
+        for request in requests {
+            let reply = self.answer(request);
+            writeln!(replies, "{reply}")?;
+        }
+        Ok(())
     }
 
     fn answer(&mut self, request: &Request) -> Reply {

@@ -4,6 +4,7 @@ ghost use Rattle.std.specs.Prelude.{◌+◌, ◌<◌, ◌≤◌, IfSome, length}
 
 use crate::catalogue::Entry;
 use crate::error::RunError;
+use crate::keyword::Keyword;
 use regex_automata::hybrid::dfa::Config;
 use regex_automata::util::primitives::PatternID;
 use regex_automata::util::search::{Anchored, Input, MatchKind, Span};
@@ -88,32 +89,40 @@ impl Script {
         if words.iter().any(|word| word.is_empty()) {
             return Err(LineError::Bad);
         }
-        match words.as_slice() {
-            [b"regex", name, options @ ..] if self.requests.is_empty() => {
-                let definition = Definition::parse(*name, options).ok_or(LineError::Bad)?;
-                self.definitions.push(definition).map_err(AllocError::from)?;
+        let [first, rest @ ..] = words.as_slice() else {
+            return Err(LineError::Bad);
+        };
+        match Keyword::spelled(*first) {
+            Some(Keyword::Regex) => self.add_definition(rest),
+            Some(Keyword::Forward) => {
+                let query = Query::parse(alloc, rest)?;
+                self.add_request(Request::Forward(query))
             }
-            [b"fwd", haystack, options @ ..] => {
-                let query = Query::parse(alloc, *haystack, options)?;
-                self.add_request(Request::Forward(query))?;
+            Some(Keyword::Reverse) => {
+                let query = Query::parse(alloc, rest)?;
+                self.add_request(Request::Reverse(query))
             }
-            [b"rev", haystack, options @ ..] => {
-                let query = Query::parse(alloc, *haystack, options)?;
-                self.add_request(Request::Reverse(query))?;
-            }
-            _ => return Err(LineError::Bad),
+            _ => Err(LineError::Bad),
         }
-        Ok(())
     }
 
-    fn add_request(&mut self, request: Request) -> Result<(), AllocError> {
-        self.requests.push(request).map_err(AllocError::from)
+    fn add_definition(&mut self, words: &[&[u8]]) -> Result<(), LineError> {
+        if !self.requests.is_empty() {
+            return Err(LineError::Bad);
+        }
+        let definition = Definition::parse(words).ok_or(LineError::Bad)?;
+        Ok(self.definitions.push(definition).map_err(AllocError::from)?)
+    }
+
+    fn add_request(&mut self, request: Request) -> Result<(), LineError> {
+        Ok(self.requests.push(request).map_err(AllocError::from)?)
     }
 }
 
 impl Definition {
-    fn parse(name: &[u8], options: &[&[u8]]) -> Option<Definition> {
-        let entry = Entry::named(name)?;
+    fn parse(words: &[&[u8]]) -> Option<Definition> {
+        let (name, options) = words.split_first()?;
+        let entry = Entry::named(*name)?;
         let mut config = Config::new();
         for option in options {
             config = configured(config, *option)?;
@@ -124,24 +133,22 @@ impl Definition {
 
 /// The settings with one more option.
 fn configured(config: Config, option: &[u8]) -> Option<Config> {
-    match option {
-        b"all" => Some(config.match_kind(MatchKind::All)),
-        b"starts" => Some(config.starts_for_each_pattern(true)),
-        b"noclasses" => Some(config.byte_classes(false)),
-        b"unicode" => Some(config.unicode_word_boundary(true)),
-        b"tags" => Some(config.specialize_start_states(true)),
-        b"skip" => Some(config.skip_cache_capacity_check(true)),
-        _ => configured_by_value(config, option),
-    }
-}
-
-fn configured_by_value(config: Config, option: &[u8]) -> Option<Config> {
-    let (name, value) = split_once(option, b'=')?;
-    match name {
-        b"quit" => Some(config.quit(hexadecimal_byte(value)?, true)),
-        b"capacity" => Some(config.cache_capacity(number(value)?)),
-        b"limit" => Some(config.minimum_cache_clear_count(Some(number(value)?))),
-        b"perstate" => Some(config.minimum_bytes_per_state(Some(number(value)?))),
+    let (keyword, value) = option_of(option)?;
+    match (keyword, value) {
+        (Keyword::All, None) => Some(config.match_kind(MatchKind::All)),
+        (Keyword::Starts, None) => Some(config.starts_for_each_pattern(true)),
+        (Keyword::NoClasses, None) => Some(config.byte_classes(false)),
+        (Keyword::Unicode, None) => Some(config.unicode_word_boundary(true)),
+        (Keyword::Tags, None) => Some(config.specialize_start_states(true)),
+        (Keyword::Skip, None) => Some(config.skip_cache_capacity_check(true)),
+        (Keyword::Quit, Some(value)) => Some(config.quit(hexadecimal_byte(value)?, true)),
+        (Keyword::Capacity, Some(value)) => Some(config.cache_capacity(number(value)?)),
+        (Keyword::Limit, Some(value)) => Some(config.minimum_cache_clear_count(Some(number(
+            value,
+        )?))),
+        (Keyword::PerState, Some(value)) => Some(config.minimum_bytes_per_state(Some(number(
+            value,
+        )?))),
         _ => None,
     }
 }
@@ -155,8 +162,9 @@ impl Query {
             .earliest(self.earliest)
     }
 
-    fn parse(alloc: Global, word: &[u8], options: &[&[u8]]) -> Result<Query, LineError> {
-        let haystack = haystack_of(alloc, word)?;
+    fn parse(alloc: Global, words: &[&[u8]]) -> Result<Query, LineError> {
+        let (word, options) = words.split_first().ok_or(LineError::Bad)?;
+        let haystack = haystack_of(alloc, *word)?;
         let span = Span {
             start: 0,
             end: haystack.len(),
@@ -174,20 +182,15 @@ impl Query {
     }
 
     fn set(&mut self, option: &[u8]) -> Option<()> {
-        match option {
-            b"anchored" => self.anchored = Anchored::Yes,
-            b"earliest" => self.earliest = true,
-            _ => {
-                let (name, value) = split_once(option, b'=')?;
-                match name {
-                    b"span" => self.set_span(value)?,
-                    b"pattern" => {
-                        let pattern = PatternID::new(number(value)?)?;
-                        self.anchored = Anchored::Pattern(pattern);
-                    }
-                    _ => return None,
-                }
+        match option_of(option)? {
+            (Keyword::Anchored, None) => self.anchored = Anchored::Yes,
+            (Keyword::Earliest, None) => self.earliest = true,
+            (Keyword::Span, Some(value)) => self.set_span(value)?,
+            (Keyword::Pattern, Some(value)) => {
+                let pattern = PatternID::new(number(value)?)?;
+                self.anchored = Anchored::Pattern(pattern);
             }
+            _ => return None,
         }
         Some(())
     }
@@ -220,6 +223,14 @@ fn haystack_of(alloc: Global, word: &[u8]) -> Result<Vec<u8>, LineError> {
         haystack.push(byte).map_err(AllocError::from)?;
     }
     Ok(haystack)
+}
+
+/// The keyword of an option, and its value if it has one.
+fn option_of(option: &[u8]) -> Option<(Keyword, Option<&[u8]>)> {
+    let Some((name, value)) = split_once(option, b'=') else {
+        return Some((Keyword::spelled(option)?, None));
+    };
+    Some((Keyword::spelled(name)?, Some(value)))
 }
 
 /// What stands before and behind the first such byte.

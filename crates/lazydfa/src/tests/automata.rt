@@ -121,7 +121,7 @@ fn refuses_sparse_ranges_out_of_order(rt: HostRuntime) -> Result<(), Fail> {
 /// Searches each haystack over one cache.
 fn finds<R: Abort + AllocGlobal>(
     rt: &R,
-    nfa: NFA,
+    nfa: Result<NFA, NfaError>,
     kind: MatchKind,
     rows: &[(&str, Option<(u8, usize)>)],
 ) -> Result<(), Fail> {
@@ -158,20 +158,20 @@ fn searches_a_union_of_nothing(rt: HostRuntime) -> Result<(), Fail> {
         &Config::new().get_minimum_cache_capacity(&nfa),
         &Ok(1085),
     );
-    finds(&rt, nfa, MatchKind::All, &[("ab", None)])
+    finds(&rt, Ok(nfa), MatchKind::All, &[("ab", None)])
 }
 
 #[test]
 fn searches_a_union_of_one_state_twice(rt: HostRuntime) -> Result<(), Fail> {
     let states = vec![in rt.alloc(); either(1, 1), accept(0)]?;
-    let nfa = door(states, 0, 1)?;
+    let nfa = door(states, 0, 1);
     finds(&rt, nfa, MatchKind::LeftmostFirst, &[("", Some((0, 0)))])
 }
 
 #[test]
 fn searches_a_union_of_one_pattern_twice(rt: HostRuntime) -> Result<(), Fail> {
     let states = vec![in rt.alloc(); either(1, 2), accept(0), accept(0)]?;
-    let nfa = door(states, 0, 1)?;
+    let nfa = door(states, 0, 1);
     finds(&rt, nfa, MatchKind::All, &[("", Some((0, 0)))])
 }
 
@@ -179,7 +179,7 @@ fn searches_a_union_of_one_pattern_twice(rt: HostRuntime) -> Result<(), Fail> {
 #[test]
 fn counts_an_empty_union(rt: HostRuntime) -> Result<(), Fail> {
     let alternates = Vec::new(rt.alloc());
-    let nfa = door(vec![in rt.alloc(); State::Union { alternates }]?, 0, 0)?;
+    let nfa = door(vec![in rt.alloc(); State::Union { alternates }]?, 0, 0);
     with_searcher(&rt, nfa, Config::new(), |rt, searcher| {
         find_from(rt, searcher, "ab", 0, None);
         counts(rt, &searcher.cache, 217, 0);
@@ -195,7 +195,7 @@ fn searches_dense_states(rt: HostRuntime) -> Result<(), Fail> {
     let mut targets = [id(0); 256];
     targets[usize::from(b'a')] = id(1);
     let states = vec![in rt.alloc(); State::Dense(targets), accept(0)]?;
-    finds(&rt, door(states, 0, 1)?, MatchKind::LeftmostFirst, AN_A)
+    finds(&rt, door(states, 0, 1), MatchKind::LeftmostFirst, AN_A)
 }
 
 #[test]
@@ -207,7 +207,7 @@ fn searches_captures(rt: HostRuntime) -> Result<(), Fail> {
         slot: 0,
     };
     let states = vec![in rt.alloc(); capture, byte(b'a', 2), accept(0)]?;
-    finds(&rt, door(states, 0, 1)?, MatchKind::LeftmostFirst, AN_A)
+    finds(&rt, door(states, 0, 1), MatchKind::LeftmostFirst, AN_A)
 }
 
 /// A cycle of epsilon edges that passes a look.
@@ -235,7 +235,7 @@ fn look_cycle(alloc: Global) -> Result<NFA, Fail> {
 fn searches_a_look_cycle(rt: HostRuntime) -> Result<(), Fail> {
     let nfa = look_cycle(rt.alloc())?;
     let config = Config::new().match_kind(MatchKind::All);
-    with_searcher(&rt, nfa, config, find_in_a_look_cycle)
+    with_searcher(&rt, Ok(nfa), config, find_in_a_look_cycle)
 }
 
 fn find_in_a_look_cycle<R: Abort>(rt: &R, searcher: &mut Searcher) -> Result<(), Fail> {
@@ -264,7 +264,7 @@ fn searches_a_long_chain(rt: HostRuntime) -> Result<(), Fail> {
         haystack.push(b'a')?;
     }
     states.push(accept(0))?;
-    with_searcher(&rt, door(states, 0, 1)?, Config::new(), |rt, searcher| {
+    with_searcher(&rt, door(states, 0, 1), Config::new(), |rt, searcher| {
         let found = searcher.find(&Input::new(haystack.as_slice()));
         same(rt, &found, &Ok(Some(HalfMatch::new(pattern(0), 3000))));
         counts(rt, &searcher.cache, 273384, 3000);

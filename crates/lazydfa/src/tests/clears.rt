@@ -47,15 +47,20 @@ fn gives_up_by_the_clear_rule(rt: HostRuntime) -> Result<(), Fail> {
 }
 
 fn answers<R: Abort + AllocGlobal>(rt: &R, row: Row) -> Result<(), Fail> {
-    let (shows, rest) = row.split_once(';').ok_or("options")?;
-    let (options, rest) = rest.split_once(';').ok_or("requests")?;
-    let (requests, replies) = rest.split_once(';').ok_or("replies")?;
+    let (shows, options, requests, replies) = parts(row).ok_or("four parts")?;
     let requests = lines(rt.alloc(), requests)?;
     let replies = lines(rt.alloc(), replies)?;
     let regex = "regex a16 noclasses capacity=37281";
     let script = format!(in rt.alloc(); "{regex}{options}\n{requests}\n")?;
     let want = format!(in rt.alloc(); "regex 0\n{replies}\n")?;
     prints(rt, script.as_str(), want.as_str(), shows)
+}
+
+fn parts(row: Row) -> Option<(&'static str, &'static str, &'static str, &'static str)> {
+    let (shows, rest) = row.split_once(';')?;
+    let (options, rest) = rest.split_once(';')?;
+    let (requests, replies) = rest.split_once(';')?;
+    Some((shows, options, requests, replies))
 }
 
 /// Each part on a line of its own, the sixteen bytes written out.
@@ -80,7 +85,7 @@ fn counts<R: Abort>(rt: &R, cache: &Cache, clears: usize, memory: usize, searche
 
 #[test]
 fn counts_clears(rt: HostRuntime) -> Result<(), Fail> {
-    let nfa = Entry::A16.forward(rt.alloc())?;
+    let nfa = Entry::A16.forward(rt.alloc());
     with_searcher(&rt, nfa, tight(), |rt, searcher| {
         count_clears(rt, searcher, (3, 8))
     })
@@ -89,7 +94,7 @@ fn counts_clears(rt: HostRuntime) -> Result<(), Fail> {
 #[test]
 fn counts_clears_in_reverse(rt: HostRuntime) -> Result<(), Fail> {
     let config = tight().match_kind(MatchKind::All);
-    let nfa = Entry::A16.reverse(rt.alloc())?;
+    let nfa = Entry::A16.reverse(rt.alloc());
     with_searcher(&rt, nfa, config, |rt, searcher| {
         count_clears(rt, searcher, (2, 7))
     })
@@ -114,7 +119,7 @@ fn count_clears<R: Abort>(
 #[test]
 fn gives_up_in_progress(rt: HostRuntime) -> Result<(), Fail> {
     let config = tight().minimum_cache_clear_count(Some(0));
-    let nfa = Entry::A16.forward(rt.alloc())?;
+    let nfa = Entry::A16.forward(rt.alloc());
     with_searcher(&rt, nfa, config, give_up_in_progress)
 }
 
@@ -131,7 +136,7 @@ fn give_up_in_progress<R: Abort>(rt: &R, searcher: &mut Searcher) -> Result<(), 
 #[test]
 fn keeps_the_start(rt: HostRuntime) -> Result<(), Fail> {
     let config = tight().specialize_start_states(true);
-    with_hand(&rt, Entry::A16.forward(rt.alloc())?, config, keep_the_start)
+    with_hand(&rt, Entry::A16.forward(rt.alloc()), config, keep_the_start)
 }
 
 fn keep_the_start<R: Abort>(rt: &R, hand: &mut Hand) -> Result<(), Fail> {
@@ -164,7 +169,7 @@ fn fork(alloc: Global) -> Result<NFA, Fail> {
 #[test]
 fn clears_in_a_step_from_the_start(rt: HostRuntime) -> Result<(), Fail> {
     let config = Config::new().byte_classes(false).cache_capacity(37645);
-    with_hand(&rt, fork(rt.alloc())?, config, clear_in_a_step)
+    with_hand(&rt, Ok(fork(rt.alloc())?), config, clear_in_a_step)
 }
 
 fn clear_in_a_step<R: Abort>(rt: &R, hand: &mut Hand) -> Result<(), Fail> {
@@ -202,7 +207,7 @@ fn word(alloc: Global) -> Result<NFA, Fail> {
 #[test]
 fn keeps_each_start(rt: HostRuntime) -> Result<(), Fail> {
     let config = Config::new().byte_classes(false).cache_capacity(37645);
-    with_hand(&rt, word(rt.alloc())?, config, keep_each_start)
+    with_hand(&rt, Ok(word(rt.alloc())?), config, keep_each_start)
 }
 
 fn keep_each_start<R: Abort>(rt: &R, hand: &mut Hand) -> Result<(), Fail> {
@@ -226,7 +231,7 @@ fn keep_each_start<R: Abort>(rt: &R, hand: &mut Hand) -> Result<(), Fail> {
 fn fills_the_capacity(rt: HostRuntime) -> Result<(), Fail> {
     for (capacity, clears, memory, searched) in [(44512, 0, 44512, 16), (44511, 1, 12982, 0)] {
         let config = tight().cache_capacity(capacity);
-        let nfa = Entry::A16.forward(rt.alloc())?;
+        let nfa = Entry::A16.forward(rt.alloc());
         with_searcher(&rt, nfa, config, |rt, searcher| {
             let found = searcher.find(&Input::new(b"aaaaaaaaaaaaaaaa"));
             same(rt, &found, &Ok(Some(HalfMatch::new(PatternID::ZERO, 16))));
@@ -244,7 +249,7 @@ fn refuses_a_start_without_room(rt: HostRuntime) -> Result<(), Fail> {
         .byte_classes(false)
         .cache_capacity(37645)
         .minimum_cache_clear_count(Some(0));
-    with_hand(&rt, word(rt.alloc())?, config, refuse_a_start)
+    with_hand(&rt, Ok(word(rt.alloc())?), config, refuse_a_start)
 }
 
 fn refuse_a_start<R: Abort>(rt: &R, hand: &mut Hand) -> Result<(), Fail> {

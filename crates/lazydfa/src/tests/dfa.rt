@@ -55,7 +55,7 @@ pub fn count<R: Abort>(
         MatchKind::LeftmostFirst
     };
     let config = Config::new().match_kind(kind);
-    with_searcher(rt, nfa, config, |rt, searcher| {
+    with_searcher(rt, Ok(nfa), config, |rt, searcher| {
         count_searches(rt, searcher, &Input::new(haystack.as_bytes()), want)
     })
 }
@@ -95,7 +95,7 @@ fn finds_date_after_date(rt: HostRuntime) -> Result<(), Fail> {
     for _ in 0..10_000u32 {
         haystack.extend_from_slice(b"2018-12-24 ")?;
     }
-    let nfa = Entry::Date.forward(rt.alloc())?;
+    let nfa = Entry::Date.forward(rt.alloc());
     with_searcher(&rt, nfa, Config::new(), |rt, searcher| {
         find_dates(rt, searcher, haystack.as_slice())
     })
@@ -122,7 +122,7 @@ fn stays_within_the_minimum(rt: HostRuntime) -> Result<(), Fail> {
         .skip_cache_capacity_check(true)
         .minimum_cache_clear_count(Some(0));
     for config in [Config::new().cache_capacity(1735), skipping] {
-        with_searcher(&rt, Entry::Ab.forward(rt.alloc())?, config, find_twice)?;
+        with_searcher(&rt, Entry::Ab.forward(rt.alloc()), config, find_twice)?;
     }
     Ok(())
 }
@@ -290,7 +290,7 @@ fn example(alloc: Global) -> Result<NFA, Fail> {
 #[test]
 fn answers_the_example(rt: HostRuntime) -> Result<(), Fail> {
     let config = Config::new().cache_capacity(1 << 16);
-    with_searcher(&rt, example(rt.alloc())?, config, find_in_the_example)
+    with_searcher(&rt, Ok(example(rt.alloc())?), config, find_in_the_example)
 }
 
 fn find_in_the_example<R: Abort>(rt: &R, searcher: &mut Searcher) -> Result<(), Fail> {

@@ -8,7 +8,7 @@ use super::{same, same_of, same_text};
 use crate::catalogue::Entry;
 use regex_automata::hybrid::dfa::{Cache, Config, DFA};
 use regex_automata::hybrid::{LazyStateID, StartError, StepError};
-use regex_automata::nfa::thompson::NFA;
+use regex_automata::nfa::thompson::{NFA, NfaError};
 use regex_automata::util::primitives::PatternID;
 use regex_automata::util::search::{Anchored, MatchKind};
 use regex_automata::util::start;
@@ -142,19 +142,19 @@ impl Hand {
 /// Works by hand, from the start that isn't anchored, behind no byte.
 pub fn with_hand<R: Abort, W: FnOnce(&R, &mut Hand) -> Result<(), Fail>>(
     rt: &R,
-    nfa: NFA,
+    nfa: Result<NFA, NfaError>,
     config: Config,
     work: W,
 ) -> Result<(), Fail>
     requires { W.IsAlwaysCallable work }
 {
-    let mut hand = Hand::new(nfa, config)?;
+    let mut hand = Hand::new(nfa?, config)?;
     work(rt, &mut hand)
 }
 
 #[test]
 fn steps_to_a_match(rt: HostRuntime) -> Result<(), Fail> {
-    let nfa = Entry::Ab.forward(rt.alloc())?;
+    let nfa = Entry::Ab.forward(rt.alloc());
     with_hand(&rt, nfa, Config::new(), |rt, hand| {
         match_at_the_end(rt, hand, "ab", (1, Some(PatternID::ZERO)))
     })
@@ -175,7 +175,7 @@ fn match_at_the_end<R: Abort>(
 /// A step is known once it was made.
 #[test]
 fn learns_a_step(rt: HostRuntime) -> Result<(), Fail> {
-    let nfa = Entry::Ab.forward(rt.alloc())?;
+    let nfa = Entry::Ab.forward(rt.alloc());
     with_hand(&rt, nfa, Config::new(), learn_a_step)
 }
 
@@ -246,7 +246,7 @@ const STEPS: &[Steps] = &[
 fn counts_each_step(rt: HostRuntime) -> Result<(), Fail> {
     for (entry, kind, bytes, want) in STEPS.iter().copied() {
         let config = Config::new().match_kind(kind).quit(b'!', true);
-        with_hand(&rt, entry.forward(rt.alloc())?, config, |rt, hand| {
+        with_hand(&rt, entry.forward(rt.alloc()), config, |rt, hand| {
             count_each_step(rt, hand, bytes, want)
         })?;
     }
@@ -268,7 +268,7 @@ fn count_each_step<R: Abort + AllocGlobal>(
 /// Dead leads to dead.
 #[test]
 fn stays_dead(rt: HostRuntime) -> Result<(), Fail> {
-    let nfa = Entry::Ab.forward(rt.alloc())?;
+    let nfa = Entry::Ab.forward(rt.alloc());
     with_hand(&rt, nfa, Config::new(), stay_dead)
 }
 
@@ -286,7 +286,7 @@ fn stay_dead<R: Abort>(rt: &R, hand: &mut Hand) -> Result<(), Fail> {
 #[test]
 fn stays_at_quit(rt: HostRuntime) -> Result<(), Fail> {
     let config = Config::new().quit(b'c', true);
-    with_hand(&rt, Entry::Ab.forward(rt.alloc())?, config, stay_at_quit)
+    with_hand(&rt, Entry::Ab.forward(rt.alloc()), config, stay_at_quit)
 }
 
 fn stay_at_quit<R: Abort>(rt: &R, hand: &mut Hand) -> Result<(), Fail> {
@@ -301,7 +301,7 @@ fn stay_at_quit<R: Abort>(rt: &R, hand: &mut Hand) -> Result<(), Fail> {
 #[test]
 fn lists_the_patterns_of_a_match(rt: HostRuntime) -> Result<(), Fail> {
     let config = Config::new().match_kind(MatchKind::All);
-    with_hand(&rt, Entry::Aa.forward(rt.alloc())?, config, list_patterns)
+    with_hand(&rt, Entry::Aa.forward(rt.alloc()), config, list_patterns)
 }
 
 fn list_patterns<R: Abort>(rt: &R, hand: &mut Hand) -> Result<(), Fail> {
@@ -316,7 +316,7 @@ fn list_patterns<R: Abort>(rt: &R, hand: &mut Hand) -> Result<(), Fail> {
 fn lists_a_pattern_once(rt: HostRuntime) -> Result<(), Fail> {
     let states = vec![in rt.alloc(); either(1, 2), accept(0), accept(0)]?;
     let config = Config::new().match_kind(MatchKind::All);
-    with_hand(&rt, door(states, 0, 1)?, config, |rt, hand| {
+    with_hand(&rt, door(states, 0, 1), config, |rt, hand| {
         match_at_the_end(rt, hand, "", (1, Some(PatternID::ZERO)))
     })
 }
@@ -325,7 +325,7 @@ fn lists_a_pattern_once(rt: HostRuntime) -> Result<(), Fail> {
 fn tags_starts_where_asked(rt: HostRuntime) -> Result<(), Fail> {
     for tags in [false, true] {
         let config = Config::new().specialize_start_states(tags);
-        with_hand(&rt, Entry::Ab.forward(rt.alloc())?, config, |rt, hand| {
+        with_hand(&rt, Entry::Ab.forward(rt.alloc()), config, |rt, hand| {
             same(rt, &hand.at.is_start(), &tags);
             Ok(())
         })?;
@@ -339,7 +339,7 @@ const FIRST: Anchored = Anchored::Pattern(PatternID::ZERO);
 #[test]
 fn refuses_starts_in_order(rt: HostRuntime) -> Result<(), Fail> {
     let config = Config::new().quit(b'c', true);
-    let nfa = Entry::Ab.forward(rt.alloc())?;
+    let nfa = Entry::Ab.forward(rt.alloc());
     with_hand(&rt, nfa, config, refuse_starts_in_order)
 }
 
@@ -358,7 +358,7 @@ fn refuse_starts_in_order<R: Abort>(rt: &R, hand: &mut Hand) -> Result<(), Fail>
 #[test]
 fn starts_dead_past_the_last_pattern(rt: HostRuntime) -> Result<(), Fail> {
     let config = Config::new().starts_for_each_pattern(true);
-    with_hand(&rt, Entry::Words.forward(rt.alloc())?, config, start_dead)
+    with_hand(&rt, Entry::Words.forward(rt.alloc()), config, start_dead)
 }
 
 fn start_dead<R: Abort>(rt: &R, hand: &mut Hand) -> Result<(), Fail> {

@@ -32,16 +32,20 @@ fn exhaust(alloc: Global) {
 /// A search over known transitions grows nothing.
 #[test]
 fn repeats_a_search_without_memory(rt: HostRuntime) -> Result<(), Fail> {
-    repeat(&rt, Entry::Ab.forward(rt.alloc())?, 2)
+    repeat(&rt, Entry::Ab.forward(rt.alloc()), 2)
 }
 
 #[test]
 fn repeats_a_reverse_search_without_memory(rt: HostRuntime) -> Result<(), Fail> {
-    repeat(&rt, Entry::Ab.reverse(rt.alloc())?, 0)
+    repeat(&rt, Entry::Ab.reverse(rt.alloc()), 0)
 }
 
 /// Searches `ab` with memory, and again with none.
-fn repeat<R: Abort + AllocGlobal>(rt: &R, nfa: NFA, offset: usize) -> Result<(), Fail> {
+fn repeat<R: Abort + AllocGlobal>(
+    rt: &R,
+    nfa: Result<NFA, NfaError>,
+    offset: usize,
+) -> Result<(), Fail> {
     let config = Config::new().minimum_cache_clear_count(Some(0));
     with_searcher(rt, nfa, config, |rt, searcher| {
         search_twice(rt, searcher, offset);
@@ -67,7 +71,7 @@ fn search_twice<R: Abort + AllocGlobal>(rt: &R, searcher: &mut Searcher, offset:
 /// A search over no span takes no memory, though nothing is known yet.
 #[test]
 fn ends_at_once_without_memory(rt: HostRuntime) -> Result<(), Fail> {
-    let nfa = Entry::Always.forward(rt.alloc())?;
+    let nfa = Entry::Always.forward(rt.alloc());
     with_searcher(&rt, nfa, Config::new(), end_at_once)
 }
 
@@ -83,7 +87,7 @@ fn end_at_once<R: Abort + AllocGlobal>(rt: &R, searcher: &mut Searcher) -> Resul
 /// Steps that are known take no memory, and others are refused.
 #[test]
 fn steps_without_memory(rt: HostRuntime) -> Result<(), Fail> {
-    let nfa = Entry::Ab.forward(rt.alloc())?;
+    let nfa = Entry::Ab.forward(rt.alloc());
     with_hand(&rt, nfa, Config::new(), step_without_memory)
 }
 
@@ -134,7 +138,7 @@ fn inserts_without_memory(rt: HostRuntime) -> Result<(), Fail> {
 #[test]
 fn starts_without_memory(rt: HostRuntime) -> Result<(), Fail> {
     let config = Config::new().byte_classes(false).cache_capacity(37281);
-    let nfa = Entry::A16.forward(rt.alloc())?;
+    let nfa = Entry::A16.forward(rt.alloc());
     with_searcher(&rt, nfa, config, start_without_memory)
 }
 
@@ -294,31 +298,47 @@ impl Work {
 
     /// One turn, over an automaton and a cache of its own.
     fn run(self, alloc: Global, turns: &mut Turns) -> Result<(), Fail> {
-        let nfa = match self.nfa(alloc) {
-            Err(NfaError::OutOfMemory) => {
-                turns.refuse(Call::Door)?;
-                self.nfa(alloc)?
-            }
-            built => built?,
-        };
-        let config = match self {
-            Work::Steps => Config::new().byte_classes(false).cache_capacity(37281),
-            _ => Config::new(),
-        };
-        let dfa = DFA::builder().configure(config).build_from_nfa(nfa)?;
-        let cache = match dfa.create_cache() {
-            Ok(cache) => cache,
-            Err(AllocError) => {
-                turns.refuse(Call::Create)?;
-                dfa.create_cache()?
-            }
-        };
+        let nfa = self.build_short(alloc, turns)?;
+        let dfa = DFA::builder().configure(self.config()).build_from_nfa(nfa)?;
+        let mut searcher = create_short(dfa, turns)?;
         match self {
-            Work::Search => search_short(&mut Searcher { dfa, cache }, (1, 4, 1082), turns),
-            Work::ReverseSearch => search_short(&mut Searcher { dfa, cache }, (0, 5, 1087), turns),
-            Work::Steps => steps_short(alloc, &mut Hand::at_no_state(dfa, cache), turns),
+            Work::Search => search_short(&mut searcher, (1, 4, 1082), turns),
+            Work::ReverseSearch => search_short(&mut searcher, (0, 5, 1087), turns),
+            Work::Steps => {
+                let Searcher { dfa, cache } = searcher;
+                steps_short(alloc, &mut Hand::at_no_state(dfa, cache), turns)
+            }
         }
     }
+
+    fn config(self) -> Config {
+        match self {
+            Work::Steps => Config::new().byte_classes(false).cache_capacity(37281),
+            _ => Config::new(),
+        }
+    }
+
+    /// Its automaton. Where that is refused, it is built once there is memory.
+    fn build_short(self, alloc: Global, turns: &mut Turns) -> Result<NFA, Fail> {
+        let built = self.nfa(alloc);
+        if let Err(NfaError::OutOfMemory) = built {
+            turns.refuse(Call::Door)?;
+            return Ok(self.nfa(alloc)?);
+        }
+        Ok(built?)
+    }
+}
+
+/// A cache beside its automaton. Where it is refused, it is made once there is memory.
+fn create_short(dfa: DFA, turns: &mut Turns) -> Result<Searcher, Fail> {
+    let cache = match dfa.create_cache() {
+        Ok(cache) => cache,
+        Err(AllocError) => {
+            turns.refuse(Call::Create)?;
+            dfa.create_cache()?
+        }
+    };
+    Ok(Searcher { dfa, cache })
 }
 
 /// A search of words. Where it is refused, it is answered over the same cache once there is

@@ -6,7 +6,7 @@ use crate::error::RunError;
 use crate::run::run;
 use regex_automata::hybrid::dfa::{Cache, Config, DFA};
 use regex_automata::hybrid::{LazyStateID, SearchError};
-use regex_automata::nfa::thompson::NFA;
+use regex_automata::nfa::thompson::{NFA, NfaError};
 use regex_automata::util::search::{HalfMatch, Input};
 use std::alloc::{AllocError, Global};
 use std::fmt::Debug;
@@ -175,13 +175,13 @@ fn same_text<R: Abort>(rt: &R, found: &str, want: &str, of: &str) {
 /// Works with a lazy automaton and its cache.
 fn with_searcher<R: Abort, W: FnOnce(&R, &mut Searcher) -> Result<(), Fail>>(
     rt: &R,
-    nfa: NFA,
+    nfa: Result<NFA, NfaError>,
     config: Config,
     work: W,
 ) -> Result<(), Fail>
     requires { W.IsAlwaysCallable work }
 {
-    let mut searcher = Searcher::new(nfa, config)?;
+    let mut searcher = Searcher::new(nfa?, config)?;
     work(rt, &mut searcher)
 }
 

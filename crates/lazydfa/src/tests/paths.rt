@@ -3,6 +3,7 @@
 
 use super::{Searcher, same_of};
 use crate::catalogue::Entry;
+use regex_automata::hybrid::SearchError;
 use regex_automata::hybrid::dfa::Config;
 use regex_automata::nfa::thompson::{NFA, State};
 use regex_automata::util::look::Look;
@@ -79,19 +80,8 @@ fn select(nfa: &NFA, kind: MatchKind, input: &Input<'_>) -> Result<Option<HalfMa
 
 /// The patterns and ends of all accepting paths, in the order of the paths.
 fn accepting(nfa: &NFA, input: &Input<'_>) -> Result<Vec<HalfMatch>, AllocError> {
-    let alloc = nfa.alloc();
-    let mut found = Vec::new(alloc);
-    let mut open: Vec<Vec<Stand>> = Vec::new(alloc);
-    let first = if nfa.is_reverse() {
-        input.end()
-    } else {
-        input.start()
-    };
-    if let Some(start) = nfa.start(input.get_anchored()) {
-        if !input.is_done() {
-            open.push(vec![in alloc; (start, first)]?)?;
-        }
-    }
+    let mut found = Vec::new(nfa.alloc());
+    let mut open = begun(nfa, input)?;
     for _ in 0..1_000_000u32 {
         let Some(path) = open.pop() else {
             return Ok(found);
@@ -104,13 +94,31 @@ fn accepting(nfa: &NFA, input: &Input<'_>) -> Result<Vec<HalfMatch>, AllocError>
         }
         for next in edges(nfa, input, state, place)?.iter().rev() {
             if !path.contains(next) {
-                let mut longer = path.clone()?;
-                longer.push(*next)?;
-                open.push(longer)?;
+                open.push(longer(&path, *next)?)?;
             }
         }
     }
     Ok(found)
+}
+
+/// The path of the start alone, if there is a start.
+fn begun(nfa: &NFA, input: &Input<'_>) -> Result<Vec<Vec<Stand>>, AllocError> {
+    let mut open = Vec::new(nfa.alloc());
+    let first = if nfa.is_reverse() {
+        input.end()
+    } else {
+        input.start()
+    };
+    if let Some(start) = nfa.start(input.get_anchored()).filter(|_| !input.is_done()) {
+        open.push(vec![in nfa.alloc(); (start, first)]?)?;
+    }
+    Ok(open)
+}
+
+fn longer(path: &Vec<Stand>, next: Stand) -> Result<Vec<Stand>, AllocError> {
+    let mut longer = path.clone()?;
+    longer.push(next)?;
+    Ok(longer)
 }
 
 /// What is beside a place: the byte that was walked over last, the one that comes next, that one
@@ -369,19 +377,28 @@ fn compare_one<R: Abort>(
     for end in 0..haystack.len() + 1 {
         for start in 0..end + 1 {
             let input = Input::new(haystack).range(start..end);
-            let want = answer(ample.dfa.get_nfa(), kind, &input)?;
-            let found = ample.search(&input);
-            same_of(rt, &found, &Ok(want), &(entry, kind, &input));
-            let again = tight.search(&input);
-            same_of(rt, &again, &found, &(entry, kind, &input));
+            let want = Ok(answer(ample.dfa.get_nfa(), kind, &input)?);
+            finds(rt, entry, ample, &input, &want);
+            finds(rt, entry, tight, &input, &want);
         }
     }
     for input in modes(haystack) {
-        let want = answer(ample.dfa.get_nfa(), kind, &input)?;
-        let found = ample.search(&input);
-        same_of(rt, &found, &Ok(want), &(entry, kind, &input));
+        let want = Ok(answer(ample.dfa.get_nfa(), kind, &input)?);
+        finds(rt, entry, ample, &input, &want);
     }
     Ok(())
+}
+
+fn finds<R: Abort>(
+    rt: &R,
+    entry: Entry,
+    searcher: &mut Searcher,
+    input: &Input<'_>,
+    want: &Result<Option<HalfMatch>, SearchError>,
+) {
+    let kind = searcher.dfa.get_config().get_match_kind();
+    let found = searcher.search(input);
+    same_of(rt, &found, want, &(entry, kind, input));
 }
 
 /// The pieces that the digits of a number to the base of their count stand for, the last digit

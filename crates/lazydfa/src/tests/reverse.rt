@@ -150,7 +150,7 @@ fn selects_by_kind(rt: HostRuntime) -> Result<(), Fail> {
         (MatchKind::LeftmostFirst, false, 3),
         (MatchKind::LeftmostFirst, true, 3),
     ] {
-        let nfa = Entry::Crlf.reverse(rt.alloc())?;
+        let nfa = Entry::Crlf.reverse(rt.alloc());
         let config = Config::new().match_kind(kind);
         with_searcher(&rt, nfa, config, |rt, searcher| {
             let found = searcher.find_reverse(&Input::new(b"a\r\n").earliest(earliest));
@@ -192,7 +192,7 @@ fn counts_memory_and_searched_bytes(rt: HostRuntime) -> Result<(), Fail> {
 /// The start of a search over no bytes is there, though the search begins no progress.
 #[test]
 fn starts_over_no_bytes(rt: HostRuntime) -> Result<(), Fail> {
-    let nfa = Entry::Ab.reverse(rt.alloc())?;
+    let nfa = Entry::Ab.reverse(rt.alloc());
     let config = Config::new().match_kind(MatchKind::All);
     with_searcher(&rt, nfa, config, start_over_no_bytes)
 }

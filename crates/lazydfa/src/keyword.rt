@@ -1,0 +1,51 @@
+//! The words that a script is written in.
+
+/// A word that has a meaning of its own.
+#[derive(Clone, Copy)]
+pub enum Keyword {
+    All,
+    Anchored,
+    Capacity,
+    Earliest,
+    Forward,
+    Limit,
+    NoClasses,
+    Pattern,
+    PerState,
+    Quit,
+    Regex,
+    Reverse,
+    Skip,
+    Span,
+    Starts,
+    Tags,
+    Unicode,
+}
+
+const KEYWORDS: [(&[u8], Keyword); 17] = [
+    (b"all", Keyword::All),
+    (b"anchored", Keyword::Anchored),
+    (b"capacity", Keyword::Capacity),
+    (b"earliest", Keyword::Earliest),
+    (b"fwd", Keyword::Forward),
+    (b"limit", Keyword::Limit),
+    (b"noclasses", Keyword::NoClasses),
+    (b"pattern", Keyword::Pattern),
+    (b"perstate", Keyword::PerState),
+    (b"quit", Keyword::Quit),
+    (b"regex", Keyword::Regex),
+    (b"rev", Keyword::Reverse),
+    (b"skip", Keyword::Skip),
+    (b"span", Keyword::Span),
+    (b"starts", Keyword::Starts),
+    (b"tags", Keyword::Tags),
+    (b"unicode", Keyword::Unicode),
+];
+
+impl Keyword {
+    /// The keyword that is spelled so.
+    pub fn spelled(word: &[u8]) -> Option<Keyword> {
+        let (_, keyword) = KEYWORDS.iter().find(|(text, _)| *text == word)?;
+        Some(*keyword)
+    }
+}
