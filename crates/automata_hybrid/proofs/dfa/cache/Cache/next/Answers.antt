@@ -1,4 +1,4 @@
-use Rattle.std.proofs.Common.{rules, ◌≡◌, ◌^◌, ◌<◌, ◌≤◌, arith, ◌∙◌, ◌+◌, ℕ, refl, subst, sym, inr}
+use Rattle.std.proofs.Common.{rules, ◌≡◌, ◌^◌, ◌<◌, ◌≤◌, arith, ◌∙◌, ◌+◌, ℕ, Ok, ap, refl, subst, sym, inr}
 use Rattle.std.proofs.lemmas.Grind.{common_steps}
 use Rattle.std.specs.Prelude.{slice_index}
 use Rattle.automata_base.specs.Powerset.{Powerset, cost}
@@ -77,3 +77,6 @@ returns-clause-grown c =
     grown_one c.args.self.now c.compute_next.new.self of
     c.in_ok-next.ensures.counted
     (clears_more c) (kept c) (roomy c)
+
+pub returns-then-not-is_unknown-clause-known : goal.returns-then-not-is_unknown-clause-known
+returns-then-not-is_unknown-clause-known c = λ _. ap Ok c.cell-cell.ensures.value

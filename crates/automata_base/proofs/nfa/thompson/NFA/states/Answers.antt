@@ -1,0 +1,7 @@
+use Rattle.std.proofs.Common.{◌∙◌, ap}
+use Rattle.automata_base.specs.declared.nfa.thompson.Data.{Data}
+use Rattle.automata_base.specs.Nodes.{Automaton}
+use Rattle.automata_base.proofs.nfa.thompson.NFA.states.Goals as goal
+
+pub returns-clause-same : goal.returns-clause-same
+returns-clause-same c = c.as_slice.ensures.value ∙ (ap (λ (d : Data). d.states.items) c.deref.ensures ∙ ap (λ (a : Automaton). a.states) c.self.view_is)

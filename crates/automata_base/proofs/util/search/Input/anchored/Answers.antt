@@ -1,0 +1,6 @@
+use Rattle.std.proofs.Common.{ap}
+use Rattle.automata_base.specs.Input.{Input}
+use Rattle.automata_base.proofs.util.search.Input.anchored.Goals as goal
+
+pub returns : goal.returns
+returns c = ap (λ (i : Input). record i { anchored = c.args.mode }) c.self.view_is
