@@ -133,24 +133,19 @@ impl Definition {
 
 /// The settings with one more option.
 fn configured(config: Config, option: &[u8]) -> Option<Config> {
-    let (keyword, value) = option_of(option)?;
-    match (keyword, value) {
-        (Keyword::All, None) => Some(config.match_kind(MatchKind::All)),
-        (Keyword::Starts, None) => Some(config.starts_for_each_pattern(true)),
-        (Keyword::NoClasses, None) => Some(config.byte_classes(false)),
-        (Keyword::Unicode, None) => Some(config.unicode_word_boundary(true)),
-        (Keyword::Tags, None) => Some(config.specialize_start_states(true)),
-        (Keyword::Skip, None) => Some(config.skip_cache_capacity_check(true)),
-        (Keyword::Quit, Some(value)) => Some(config.quit(hexadecimal_byte(value)?, true)),
-        (Keyword::Capacity, Some(value)) => Some(config.cache_capacity(number(value)?)),
-        (Keyword::Limit, Some(value)) => Some(config.minimum_cache_clear_count(Some(number(
-            value,
-        )?))),
-        (Keyword::PerState, Some(value)) => Some(config.minimum_bytes_per_state(Some(number(
-            value,
-        )?))),
-        _ => None,
-    }
+    Some(match option_of(option)? {
+        (Keyword::All, None) => config.match_kind(MatchKind::All),
+        (Keyword::Starts, None) => config.starts_for_each_pattern(true),
+        (Keyword::NoClasses, None) => config.byte_classes(false),
+        (Keyword::Unicode, None) => config.unicode_word_boundary(true),
+        (Keyword::Tags, None) => config.specialize_start_states(true),
+        (Keyword::Skip, None) => config.skip_cache_capacity_check(true),
+        (Keyword::Quit, Some(value)) => config.quit(hexadecimal_byte(value)?, true),
+        (Keyword::Capacity, Some(value)) => config.cache_capacity(number(value)?),
+        (Keyword::Limit, Some(value)) => config.minimum_cache_clear_count(Some(number(value)?)),
+        (Keyword::PerState, Some(value)) => config.minimum_bytes_per_state(Some(number(value)?)),
+        _ => return None,
+    })
 }
 
 impl Query {
