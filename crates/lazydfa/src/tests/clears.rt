@@ -1,15 +1,14 @@
 //! Full caches: what a clear keeps, and when a search gives up in its place.
 
-use super::automata::{chain, id};
-use super::hand::{Hand, with_hand};
-use super::{Searcher, prints, same, with_searcher};
+use super::bench::Call;
+use super::plans::Shape;
+use super::prints;
+use super::tells::{Automaton, Row, tells_all};
 use crate::catalogue::Entry;
-use regex_automata::hybrid::dfa::{Cache, Config};
-use regex_automata::hybrid::{CacheError, SearchError, StartError, StepError};
-use regex_automata::nfa::thompson::{NFA, State, Transition};
+use Automaton::{Forward, Reverse};
+use Call::{Counts, End, Find, Known, Start, State, Step, Steps};
+use Shape::{Assert, Sparse};
 use regex_automata::util::look::Look;
-use regex_automata::util::primitives::PatternID;
-use regex_automata::util::search::{Anchored, HalfMatch, Input, MatchError, MatchKind};
 use std::alloc::{AllocError, Global};
 use std::process::Abort;
 use std::test::Fail;
@@ -17,9 +16,9 @@ use std::test::Fail;
 /// What the row shows, the options of the regex, the requests, and the replies, with semicolons
 /// between them. In the requests A stands for sixteen bytes `a`, for which the cache at its minimum
 /// has too little room.
-type Row = &'static str;
+type Text = &'static str;
 
-const FULL: &[Row] = &[
+const FULL: &[Text] = &[
     "each search clears;;fwd A,fwd A;half 0 16,half 0 16",
     "one clear is free; limit=1;fwd A,fwd A;half 0 16,gaveup 8",
     "two are; limit=2;fwd A,fwd A,fwd A;half 0 16,half 0 16,gaveup 3",
@@ -46,7 +45,7 @@ fn gives_up_by_the_clear_rule(rt: HostRuntime) -> Result<(), Fail> {
     Ok(())
 }
 
-fn answers<R: Abort + AllocGlobal>(rt: &R, row: Row) -> Result<(), Fail> {
+fn answers<R: Abort + AllocGlobal>(rt: &R, row: Text) -> Result<(), Fail> {
     let (shows, options, requests, replies) = parts(row).ok_or("four parts")?;
     let requests = lines(rt.alloc(), requests)?;
     let replies = lines(rt.alloc(), replies)?;
@@ -56,11 +55,9 @@ fn answers<R: Abort + AllocGlobal>(rt: &R, row: Row) -> Result<(), Fail> {
     prints(rt, script.as_str(), want.as_str(), shows)
 }
 
-fn parts(row: Row) -> Option<(&'static str, &'static str, &'static str, &'static str)> {
-    let (shows, rest) = row.split_once(';')?;
-    let (options, rest) = rest.split_once(';')?;
-    let (requests, replies) = rest.split_once(';')?;
-    Some((shows, options, requests, replies))
+fn parts(row: &str) -> Option<(&str, &str, &str, &str)> {
+    let mut parts = row.split(';');
+    Some((parts.next()?, parts.next()?, parts.next()?, parts.next()?))
 }
 
 /// Each part on a line of its own, the sixteen bytes written out.
@@ -69,196 +66,140 @@ fn lines(alloc: Global, parts: &str) -> Result<String, AllocError> {
     text.replace(alloc, ',', "\n")
 }
 
-/// Sixteen bytes `a`, one class for each byte, and no more capacity than has to be.
-fn tight() -> Config {
-    Config::new().byte_classes(false).cache_capacity(37281)
-}
+/// `b`, or else twenty bytes `a`.
+const FORK: Automaton = Automaton::Chain(Sparse(&[(b'a', b'a', 1), (b'b', b'b', 20)]));
 
-fn counts<R: Abort>(rt: &R, cache: &Cache, clears: usize, memory: usize, searched: usize) {
-    let found = (
-        cache.clear_count(),
-        cache.memory_usage(),
-        cache.search_total_len(),
-    );
-    same(rt, &found, &(clears, memory, searched));
-}
+/// Twenty bytes `a` from a word boundary on, so that the starts differ by the byte behind.
+const WORD: Automaton = Automaton::Chain(Assert(Look::WordAscii, 1));
+
+const COUNTED: &[Call] = &[
+    Counts,
+    Find("aaaaaaaaaaaaaaaa"),
+    Counts,
+    Find("aaaaaaaaaaaaaaaa"),
+    Counts,
+];
+
+/// Clears, memory, and bytes searched.
+const COUNTS: &[Row] = &[
+    (
+        "each search clears once",
+        Forward(Entry::A16),
+        "noclasses capacity=37281",
+        COUNTED,
+        "0 6677 0, half 0 16, 1 19288 3, half 0 16, 2 29798 8",
+    ),
+    (
+        "each reverse search clears once",
+        Reverse(Entry::A16),
+        "all noclasses capacity=37281",
+        COUNTED,
+        "0 6677 0, half 0 0, 1 19288 2, half 0 0, 2 29798 7",
+    ),
+    (
+        "where a search gives up, it is still in progress",
+        Forward(Entry::A16),
+        "noclasses capacity=37281 limit=0",
+        &[Find("aaaaaaaaaaaaaaaa"), Counts],
+        "gaveup 13, 0 36105 13 open",
+    ),
+    (
+        "all states fit into as much as they take",
+        Forward(Entry::A16),
+        "noclasses capacity=44512",
+        &[Find("aaaaaaaaaaaaaaaa"), Counts],
+        "half 0 16, 0 44512 16",
+    ),
+    (
+        "and not into a byte less",
+        Forward(Entry::A16),
+        "noclasses capacity=44511",
+        &[Find("aaaaaaaaaaaaaaaa"), Counts],
+        "half 0 16, 1 12982 0",
+    ),
+];
 
 #[test]
 fn counts_clears(rt: HostRuntime) -> Result<(), Fail> {
-    let nfa = Entry::A16.forward(rt.alloc());
-    with_searcher(&rt, nfa, tight(), |rt, searcher| {
-        count_clears(rt, searcher, (3, 8))
-    })
+    tells_all(&rt, COUNTS)
 }
+
+/// What a clear keeps of the starts.
+const STARTS: &[Row] = &[
+    (
+        "a start state outlives a clear, with its tag",
+        Forward(Entry::A16),
+        "noclasses capacity=37281 tags",
+        &[
+            Start(None),
+            State,
+            Steps("aaaaaaaaaaaaaaaa"),
+            End,
+            State,
+            Counts,
+            Start(None),
+            State,
+            Counts,
+        ],
+        "-, state 0s, -, -, state 1m, 1 19288 0, -, state 0s, 1 19288 0",
+    ),
+    (
+        "a clear in a step from the start state keeps that state once, and forgets its other steps",
+        FORK,
+        "noclasses capacity=37645",
+        &[
+            Start(None),
+            State,
+            Steps("aaaaaaaaaaaaa"),
+            Counts,
+            Start(None),
+            Step(b'b'),
+            Counts,
+            State,
+            Start(None),
+            State,
+            Known(b'b'),
+            Known(b'a'),
+        ],
+        "-, state 0, -, 0 36189 0, -, -, 1 10965 0, state 1, -, state 0, state 1, state 2u",
+    ),
+    (
+        "a clear keeps the starts in the order of the bytes behind them, a word byte before none",
+        WORD,
+        "noclasses capacity=37645",
+        &[
+            Start(None),
+            State,
+            Start(Some(b'a')),
+            State,
+            Counts,
+            Start(None),
+            Steps("aaaaaaaaaaaaa"),
+            Counts,
+            Start(None),
+            State,
+            Start(Some(b'a')),
+            State,
+            Counts,
+        ],
+        "-, state 0, -, state 1, 0 10965 0, -, -, 1 15169 0, -, state 1, -, state 0, 1 15169 0",
+    ),
+    (
+        "the cache has no room for a start, and may not be cleared",
+        WORD,
+        "noclasses capacity=37645 limit=0",
+        &[
+            Start(None),
+            Steps("aaaaaaaaaaaaa"),
+            Step(b'a'),
+            Start(Some(b'a')),
+            Counts,
+        ],
+        "-, -, lazy DFA cache has been cleared too many times, error computing start state because of cache inefficiency, 0 36189 0",
+    ),
+];
 
 #[test]
-fn counts_clears_in_reverse(rt: HostRuntime) -> Result<(), Fail> {
-    let config = tight().match_kind(MatchKind::All);
-    let nfa = Entry::A16.reverse(rt.alloc());
-    with_searcher(&rt, nfa, config, |rt, searcher| {
-        count_clears(rt, searcher, (2, 7))
-    })
-}
-
-/// Two searches, and the bytes searched after each.
-fn count_clears<R: Abort>(
-    rt: &R,
-    searcher: &mut Searcher,
-    (first, second): (usize, usize),
-) -> Result<(), Fail> {
-    let input = Input::new(b"aaaaaaaaaaaaaaaa");
-    counts(rt, &searcher.cache, 0, 6677, 0);
-    searcher.search(&input)?;
-    counts(rt, &searcher.cache, 1, 19288, first);
-    searcher.search(&input)?;
-    counts(rt, &searcher.cache, 2, 29798, second);
-    Ok(())
-}
-
-/// Where a search gives up, it is still in progress.
-#[test]
-fn gives_up_in_progress(rt: HostRuntime) -> Result<(), Fail> {
-    let config = tight().minimum_cache_clear_count(Some(0));
-    let nfa = Entry::A16.forward(rt.alloc());
-    with_searcher(&rt, nfa, config, give_up_in_progress)
-}
-
-fn give_up_in_progress<R: Abort>(rt: &R, searcher: &mut Searcher) -> Result<(), Fail> {
-    let found = searcher.find(&Input::new(b"aaaaaaaaaaaaaaaa"));
-    let gave_up = MatchError::gave_up(13);
-    same(rt, &found, &Err(SearchError::Match(gave_up)));
-    counts(rt, &searcher.cache, 0, 36105, 13);
-    same(rt, &searcher.cache.in_progress(), &true);
-    Ok(())
-}
-
-/// A start state outlives a clear, with its tag.
-#[test]
-fn keeps_the_start(rt: HostRuntime) -> Result<(), Fail> {
-    let config = tight().specialize_start_states(true);
-    with_hand(&rt, Entry::A16.forward(rt.alloc()), config, keep_the_start)
-}
-
-fn keep_the_start<R: Abort>(rt: &R, hand: &mut Hand) -> Result<(), Fail> {
-    let start = hand.at;
-    hand.steps("aaaaaaaaaaaaaaaa")?;
-    hand.end()?;
-    same(rt, &(start.is_start(), hand.at.is_match()), &(true, true));
-    counts(rt, &hand.cache, 1, 19288, 0);
-    hand.start(Anchored::No, None)?;
-    same(rt, &hand.at, &start);
-    counts(rt, &hand.cache, 1, 19288, 0);
-    Ok(())
-}
-
-/// `b`, or else twenty bytes `a`.
-fn fork(alloc: Global) -> Result<NFA, Fail> {
-    let mut transitions = Vec::new(alloc);
-    for (byte, next) in [(b'a', 1), (b'b', 20)] {
-        let next = id(next);
-        transitions.push(Transition {
-            lo: byte,
-            hi: byte,
-            next,
-        })?;
-    }
-    chain(alloc, State::Sparse(transitions))
-}
-
-/// A clear in a step from the start state keeps that state once, and forgets its other steps.
-#[test]
-fn clears_in_a_step_from_the_start(rt: HostRuntime) -> Result<(), Fail> {
-    let config = Config::new().byte_classes(false).cache_capacity(37645);
-    with_hand(&rt, Ok(fork(rt.alloc())?), config, clear_in_a_step)
-}
-
-fn clear_in_a_step<R: Abort>(rt: &R, hand: &mut Hand) -> Result<(), Fail> {
-    let start = hand.at;
-    hand.steps("aaaaaaaaaaaaa")?;
-    counts(rt, &hand.cache, 0, 36189, 0);
-    hand.start(Anchored::No, None)?;
-    hand.step(b'b')?;
-    counts(rt, &hand.cache, 1, 10965, 0);
-    let stepped = hand.at;
-    hand.start(Anchored::No, None)?;
-    same(rt, &hand.at, &start);
-    same(rt, &hand.known(b'b'), &Some(stepped));
-    same(
-        rt,
-        &hand.known(b'a').is_some_and(|id| id.is_unknown()),
-        &true,
-    );
-    Ok(())
-}
-
-/// Twenty bytes `a` from a word boundary on, so that the starts differ by the byte behind.
-fn word(alloc: Global) -> Result<NFA, Fail> {
-    chain(
-        alloc,
-        State::Look {
-            look: Look::WordAscii,
-            next: id(1),
-        },
-    )
-}
-
-/// A clear keeps the starts in the order of the bytes behind them, a word byte before none, and no
-/// longer in the order in which they came.
-#[test]
-fn keeps_each_start(rt: HostRuntime) -> Result<(), Fail> {
-    let config = Config::new().byte_classes(false).cache_capacity(37645);
-    with_hand(&rt, Ok(word(rt.alloc())?), config, keep_each_start)
-}
-
-fn keep_each_start<R: Abort>(rt: &R, hand: &mut Hand) -> Result<(), Fail> {
-    let first = hand.at;
-    hand.start(Anchored::No, Some(b'a'))?;
-    let second = hand.at;
-    counts(rt, &hand.cache, 0, 10965, 0);
-    hand.start(Anchored::No, None)?;
-    hand.steps("aaaaaaaaaaaaa")?;
-    counts(rt, &hand.cache, 1, 15169, 0);
-    hand.start(Anchored::No, None)?;
-    same(rt, &hand.at, &second);
-    hand.start(Anchored::No, Some(b'a'))?;
-    same(rt, &hand.at, &first);
-    counts(rt, &hand.cache, 1, 15169, 0);
-    Ok(())
-}
-
-/// All states fit into as much as they take, and not into a byte less.
-#[test]
-fn fills_the_capacity(rt: HostRuntime) -> Result<(), Fail> {
-    for (capacity, clears, memory, searched) in [(44512, 0, 44512, 16), (44511, 1, 12982, 0)] {
-        let config = tight().cache_capacity(capacity);
-        let nfa = Entry::A16.forward(rt.alloc());
-        with_searcher(&rt, nfa, config, |rt, searcher| {
-            let found = searcher.find(&Input::new(b"aaaaaaaaaaaaaaaa"));
-            same(rt, &found, &Ok(Some(HalfMatch::new(PatternID::ZERO, 16))));
-            counts(rt, &searcher.cache, clears, memory, searched);
-            Ok(())
-        })?;
-    }
-    Ok(())
-}
-
-/// The cache has no room for a start, and may not be cleared.
-#[test]
-fn refuses_a_start_without_room(rt: HostRuntime) -> Result<(), Fail> {
-    let config = Config::new()
-        .byte_classes(false)
-        .cache_capacity(37645)
-        .minimum_cache_clear_count(Some(0));
-    with_hand(&rt, Ok(word(rt.alloc())?), config, refuse_a_start)
-}
-
-fn refuse_a_start<R: Abort>(rt: &R, hand: &mut Hand) -> Result<(), Fail> {
-    hand.steps("aaaaaaaaaaaaa")?;
-    let refused = hand.step(b'a');
-    same(rt, &refused, &Err(StepError::Cache(CacheError)));
-    let refused = hand.start(Anchored::No, Some(b'a'));
-    let err = CacheError;
-    same(rt, &refused, &Err(StartError::Cache { err }));
-    counts(rt, &hand.cache, 0, 36189, 0);
-    Ok(())
+fn keeps_starts(rt: HostRuntime) -> Result<(), Fail> {
+    tells_all(&rt, STARTS)
 }

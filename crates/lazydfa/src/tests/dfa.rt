@@ -1,227 +1,440 @@
 //! The calls of the lazy automaton, each once with ample memory, and what they count.
 
-use super::automata::accept;
-use super::{Searcher, same, same_of, with_searcher};
+use super::bench::{Bench, Call};
+use super::plans::{Plan, Shape};
+use super::tells::{Automaton, Row, built, tells_all, text_of, told_by};
+use super::{same_of, same_text};
 use crate::catalogue::Entry;
+use Automaton::{Forward, Planned, Reverse};
+use Call::{
+    Classes, Counts, Find, FindAnchored, FindEarliest, FindIn, Memory, Minimum, Patterns, Reset,
+    StartOn,
+};
 use regex_automata::hybrid::BuildError;
 use regex_automata::hybrid::dfa::{Cache, Config, DFA};
 use regex_automata::nfa::thompson::{Flags, NFA, State};
 use regex_automata::util::primitives::{PatternID, StateID};
-use regex_automata::util::search::{Anchored, HalfMatch, Input, MatchKind};
-use std::alloc::Global;
+use regex_automata::util::search::{HalfMatch, Input};
+use std::alloc::{AllocError, Global};
 use std::process::Abort;
 use std::test::Fail;
 
-fn built(alloc: Global, entry: Entry, config: Config) -> Result<DFA, Fail> {
-    let nfa = entry.forward(alloc)?;
-    Ok(DFA::builder().configure(config).build_from_nfa(nfa)?)
-}
+/// An automaton, its options, a haystack, the reply, and what is counted: the memory of a fresh
+/// cache, after one search, and the bytes searched by one search.
+type Counted = (
+    Automaton,
+    &'static str,
+    &'static str,
+    &'static str,
+    usize,
+    usize,
+    usize,
+);
 
-/// An entry, a haystack, and what is counted: the memory of a fresh cache, after one search, and
-/// the bytes searched by one search.
-const COUNTED: &[(Entry, &str, usize, usize, usize)] = &[
-    (Entry::Ab, "ab", 335, 678, 2),
-    (Entry::Always, "", 221, 344, 0),
-    (Entry::Never, "abc", 217, 217, 0),
-    (Entry::Date, "2018-12-24 2016-10-08", 549, 1745, 11),
-    (Entry::Words, "@foo bar", 577, 1082, 5),
-    (Entry::Runs, "123 foobar 4567", 481, 858, 4),
-    (Entry::A16, "aaaaaaaaaaaaaaaa", 581, 1840, 16),
+const COUNTED: &[Counted] = &[
+    (Forward(Entry::Ab), "", "ab", "half 0 2", 335, 678, 2),
+    (Forward(Entry::Always), "", "", "half 0 0", 221, 344, 0),
+    (Forward(Entry::Never), "", "abc", "none", 217, 217, 0),
+    (
+        Forward(Entry::Date),
+        "",
+        "2018-12-24 2016-10-08",
+        "half 0 10",
+        549,
+        1745,
+        11,
+    ),
+    (
+        Forward(Entry::Words),
+        "",
+        "@foo bar",
+        "half 1 4",
+        577,
+        1082,
+        5,
+    ),
+    (
+        Forward(Entry::Runs),
+        "",
+        "123 foobar 4567",
+        "half 1 3",
+        481,
+        858,
+        4,
+    ),
+    (
+        Forward(Entry::A16),
+        "",
+        "aaaaaaaaaaaaaaaa",
+        "half 0 16",
+        581,
+        1840,
+        16,
+    ),
+    (Reverse(Entry::Ab), "all", "ab", "half 0 0", 335, 678, 1),
+    (Reverse(Entry::Ab), "all", "", "none", 335, 421, 0),
+    (
+        Reverse(Entry::Always),
+        "all",
+        "abc",
+        "half 0 3",
+        221,
+        344,
+        1,
+    ),
+    (Reverse(Entry::Never), "all", "abc", "none", 217, 217, 0),
+    (
+        Reverse(Entry::Date),
+        "all",
+        "2018-12-24 2016-10-08",
+        "half 0 0",
+        549,
+        1850,
+        20,
+    ),
+    (
+        Reverse(Entry::Words),
+        "all",
+        "@foo bar",
+        "half 1 0",
+        577,
+        1383,
+        7,
+    ),
+    (
+        Reverse(Entry::A16),
+        "all",
+        "aaaaaaaaaaaaaaaa",
+        "half 0 0",
+        581,
+        1840,
+        15,
+    ),
+    (
+        Reverse(Entry::Snow),
+        "all",
+        "a\u{2603}x",
+        "half 0 0",
+        778,
+        2144,
+        4,
+    ),
+    (
+        Reverse(Entry::Crlf),
+        "all",
+        "a\r\n",
+        "half 0 1",
+        360,
+        646,
+        2,
+    ),
 ];
 
 #[test]
 fn counts_memory_and_searched_bytes(rt: HostRuntime) -> Result<(), Fail> {
-    for (entry, haystack, fresh, used, searched) in COUNTED.iter().copied() {
-        count(
-            &rt,
-            entry.forward(rt.alloc())?,
-            haystack,
-            (fresh, used, searched),
-        )?;
+    for row in COUNTED.iter().copied() {
+        count(&rt, row)?;
     }
     Ok(())
 }
 
-/// Searches a haystack by an automaton of kind all if it is one for reverse searches.
-pub fn count<R: Abort>(
-    rt: &R,
-    nfa: NFA,
-    haystack: &str,
-    want: (usize, usize, usize),
-) -> Result<(), Fail> {
-    let kind = if nfa.is_reverse() {
-        MatchKind::All
-    } else {
-        MatchKind::LeftmostFirst
-    };
-    let config = Config::new().match_kind(kind);
-    with_searcher(rt, Ok(nfa), config, |rt, searcher| {
-        count_searches(rt, searcher, &Input::new(haystack.as_bytes()), want)
-    })
-}
-
 /// Searches twice, and once more after a reset.
-fn count_searches<R: Abort>(
-    rt: &R,
-    searcher: &mut Searcher,
-    input: &Input<'_>,
-    (fresh, used, searched): (usize, usize, usize),
-) -> Result<(), Fail> {
-    counts(rt, &searcher.cache, fresh, 0);
-    let first = searcher.search(input)?;
-    counts(rt, &searcher.cache, used, searched);
-    let second = searcher.search(input)?;
-    counts(rt, &searcher.cache, used, searched.saturating_mul(2));
-    searcher.reset()?;
-    counts(rt, &searcher.cache, fresh, 0);
-    let third = searcher.search(input)?;
-    counts(rt, &searcher.cache, used, searched);
-    same(rt, &second, &first);
-    same(rt, &third, &first);
+fn count<R: Abort + AllocGlobal>(rt: &R, row: Counted) -> Result<(), Fail> {
+    let (automaton, options, haystack, reply, fresh, used, searched) = row;
+    let find = Find(haystack);
+    let calls = [
+        Counts, find, Counts, find, Counts, Reset, Counts, find, Counts,
+    ];
+    let found = told_by(rt.alloc(), automaton, options, &calls)?;
+    let twice = searched.saturating_mul(2);
+    let want = format!(in rt.alloc();
+        "0 {fresh} 0, {reply}, 0 {used} {searched}, {reply}, 0 {used} {twice}, -, 0 {fresh} 0, {reply}, 0 {used} {searched}"
+    )?;
+    same_text(rt, found.as_str(), want.as_str(), haystack);
     Ok(())
-}
-
-/// The memory, the bytes searched, the clears, and that no search is in progress.
-pub fn counts<R: Abort>(rt: &R, cache: &Cache, memory: usize, searched: usize) {
-    let found = (cache.memory_usage(), cache.search_total_len());
-    same(rt, &found, &(memory, searched));
-    same(rt, &(cache.clear_count(), cache.in_progress()), &(0, false));
 }
 
 /// Ten thousand dates, each found from the end of the one before.
 #[test]
 fn finds_date_after_date(rt: HostRuntime) -> Result<(), Fail> {
-    let mut haystack = Vec::new(rt.alloc());
+    let haystack = dates(rt.alloc())?;
+    let text = found_dates(rt.alloc(), haystack.as_slice())?;
+    same_text(&rt, text.as_str(), "0 1745 119999", "dates");
+    Ok(())
+}
+
+fn dates(alloc: Global) -> Result<Vec<u8>, AllocError> {
+    let mut haystack = Vec::new(alloc);
     for _ in 0..10_000u32 {
         haystack.extend_from_slice(b"2018-12-24 ")?;
     }
-    let nfa = Entry::Date.forward(rt.alloc());
-    with_searcher(&rt, nfa, Config::new(), |rt, searcher| {
-        find_dates(rt, searcher, haystack.as_slice())
-    })
+    Ok(haystack)
 }
 
-fn find_dates<R: Abort>(rt: &R, searcher: &mut Searcher, dates: &[u8]) -> Result<(), Fail> {
+/// What is counted once they are found.
+fn found_dates(alloc: Global, dates: &[u8]) -> Result<String, Fail> {
+    let mut text = String::new(alloc);
+    let dfa = built(alloc, Forward(Entry::Date), "")??;
+    find_and_count(alloc, dfa, dates, &mut text)?;
+    Ok(text)
+}
+
+fn find_and_count(alloc: Global, dfa: DFA, dates: &[u8], text: &mut String) -> Result<(), Fail> {
+    let mut bench = Bench::new(dfa)?;
+    find_dates(&mut bench, dates)?;
+    bench.tell_all(alloc, &[Counts], text)
+}
+
+fn find_dates(bench: &mut Bench, dates: &[u8]) -> Result<(), Fail> {
     let mut end = 0usize;
     for number in 0..10_000usize {
         let start = end.min(dates.len());
-        let found = searcher.find(&Input::new(dates).range(start..dates.len()))?;
+        let found = bench.search(&Input::new(dates).range(start..dates.len()))?;
         end = 11 * number + 10;
-        same(rt, &found, &Some(HalfMatch::new(PatternID::ZERO, end)));
+        if found != Some(HalfMatch::new(PatternID::ZERO, end)) {
+            return Err(Fail::from("another date"));
+        }
     }
-    counts(rt, &searcher.cache, 1745, 119_999);
     Ok(())
 }
 
-/// At its minimum capacity, and where a smaller one is raised to it, this automaton needs no
-/// clear.
+/// `ab`, as the README's example has it.
+const EXAMPLE: Plan = Plan {
+    states: &[
+        Shape::Range(b'a', b'a', 1),
+        Shape::Range(b'b', b'b', 2),
+        Shape::Accept(0),
+    ],
+    starts: (0, 0),
+    patterns: &[0],
+};
+
+const TWICE: &[Call] = &[Find("ab"), Counts, Find("ab"), Counts];
+
+const SEARCHED: &[Row] = &[
+    (
+        "at its minimum capacity the automaton needs no clear",
+        Forward(Entry::Ab),
+        "capacity=1735",
+        TWICE,
+        "half 0 2, 0 678 2, half 0 2, 0 678 4",
+    ),
+    (
+        "nor where a smaller one is raised to it",
+        Forward(Entry::Ab),
+        "capacity=0 skip limit=0",
+        TWICE,
+        "half 0 2, 0 678 2, half 0 2, 0 678 4",
+    ),
+    (
+        "the example",
+        Planned(&EXAMPLE),
+        "capacity=65536",
+        &[Find("abc"), FindAnchored("cab", 1, 3)],
+        "half 0 2, half 0 3",
+    ),
+    (
+        "the start of a search over no bytes is there, though the search begins no progress",
+        Reverse(Entry::Ab),
+        "all",
+        &[StartOn(""), Counts, Find(""), Counts],
+        "false, 0 421 0, none, 0 421 0",
+    ),
+    (
+        "in reverse: the farthest start under kind all, the nearest with an earliest input",
+        Reverse(Entry::Crlf),
+        "all",
+        &[Find("a\r\n"), FindEarliest("a\r\n")],
+        "half 0 1, half 0 3",
+    ),
+    (
+        "in reverse: the first path's start under leftmost-first",
+        Reverse(Entry::Crlf),
+        "",
+        &[Find("a\r\n"), FindEarliest("a\r\n")],
+        "half 0 3, half 0 3",
+    ),
+];
+
 #[test]
-fn stays_within_the_minimum(rt: HostRuntime) -> Result<(), Fail> {
-    let skipping = Config::new()
-        .cache_capacity(0)
-        .skip_cache_capacity_check(true)
-        .minimum_cache_clear_count(Some(0));
-    for config in [Config::new().cache_capacity(1735), skipping] {
-        with_searcher(&rt, Entry::Ab.forward(rt.alloc()), config, find_twice)?;
-    }
-    Ok(())
+fn searches(rt: HostRuntime) -> Result<(), Fail> {
+    tells_all(&rt, SEARCHED)
 }
 
-fn find_twice<R: Abort>(rt: &R, searcher: &mut Searcher) -> Result<(), Fail> {
-    for searched in [2, 4] {
-        let found = searcher.find(&Input::new(b"ab"))?;
-        same(rt, &found, &Some(HalfMatch::new(PatternID::ZERO, 2)));
-        counts(rt, &searcher.cache, 678, searched);
-    }
-    Ok(())
+/// The classes of bytes, with the one of the end, and the least capacity that may be asked for.
+const SETTLED: &[Row] = &[
+    ("", Forward(Entry::Ab), "", &[Classes, Minimum], "5, 1735"),
+    (
+        "",
+        Forward(Entry::Ab),
+        "noclasses",
+        &[Classes, Minimum],
+        "257, 36007",
+    ),
+    ("", Forward(Entry::Ab), "starts", &[Minimum], "2359"),
+    ("", Forward(Entry::Ab), "quit=63", &[Minimum], "1735"),
+    (
+        "",
+        Forward(Entry::Always),
+        "",
+        &[Classes, Minimum],
+        "2, 1145",
+    ),
+    ("", Forward(Entry::Never), "", &[Minimum], "1085"),
+    ("", Forward(Entry::Date), "", &[Minimum], "2649"),
+    (
+        "",
+        Forward(Entry::Words),
+        "",
+        &[Classes, Minimum],
+        "12, 2901",
+    ),
+    ("", Forward(Entry::Aa), "all", &[Minimum], "1895"),
+    ("", Forward(Entry::Bnum), "unicode", &[Minimum], "2651"),
+    ("", Forward(Entry::Wordend), "", &[Classes], "10"),
+    ("", Forward(Entry::Crlf), "", &[Classes], "6"),
+    ("", Forward(Entry::Snow), "", &[Classes], "19"),
+    ("", Forward(Entry::Snowx), "starts", &[Minimum], "7397"),
+    ("", Forward(Entry::A16), "noclasses", &[Minimum], "37281"),
+];
+
+#[test]
+fn settles(rt: HostRuntime) -> Result<(), Fail> {
+    tells_all(&rt, SETTLED)
+}
+
+const UNSUPPORTED: &str =
+    "unsupported regex feature for DFAs: cannot build lazy DFAs for regexes with Unicode word boundaries; switch to ASCII word boundaries, or heuristically enable Unicode word boundaries or use a different regex engine";
+
+const REFUSED: &[Row] = &[
+    (
+        "word boundaries",
+        Forward(Entry::Bound),
+        "",
+        &[],
+        UNSUPPORTED,
+    ),
+    (
+        "before the capacity",
+        Forward(Entry::Bnum),
+        "capacity=0",
+        &[],
+        UNSUPPORTED,
+    ),
+    (
+        "one byte too few",
+        Forward(Entry::Ab),
+        "capacity=1734",
+        &[],
+        "given cache capacity (1734) is smaller than minimum required (1735)",
+    ),
+];
+
+#[test]
+fn refuses_to_build(rt: HostRuntime) -> Result<(), Fail> {
+    tells_all(&rt, REFUSED)
 }
 
 /// A cache of one automaton serves another once it is reset to it.
 #[test]
 fn resets_to_another(rt: HostRuntime) -> Result<(), Fail> {
-    let date = Entry::Date.forward(rt.alloc())?;
-    let mut searcher = Searcher::new(date, Config::new())?;
-    let found = searcher.find(&Input::new(b"2018-12-24 2016-10-08"));
-    same(&rt, &found, &Ok(Some(HalfMatch::new(PatternID::ZERO, 10))));
-    let ab = built(rt.alloc(), Entry::Ab, Config::new().cache_capacity(1735))?;
-    let mut searcher = searcher.reset_to(ab)?;
-    counts(&rt, &searcher.cache, 335, 0);
-    find_twice(&rt, &mut searcher)
+    let mut text = String::new(rt.alloc());
+    reset_from_dates(rt.alloc(), &mut text)?;
+    let want = "half 0 10, 0 335 0, half 0 2, 0 678 2, half 0 2, 0 678 4";
+    same_text(&rt, text.as_str(), want, "a reset");
+    Ok(())
+}
+
+fn reset_from_dates(alloc: Global, text: &mut String) -> Result<(), Fail> {
+    let date = built(alloc, Forward(Entry::Date), "")??;
+    let mut bench = Bench::new(date)?;
+    bench.tell_all(alloc, &[Find("2018-12-24 2016-10-08")], text)?;
+    reset_to_ab(alloc, bench, text)
+}
+
+fn reset_to_ab(alloc: Global, bench: Bench, text: &mut String) -> Result<(), Fail> {
+    let ab = built(alloc, Forward(Entry::Ab), "capacity=1735")??;
+    let mut bench = bench.reset_to(ab)?;
+    bench.tell_all(
+        alloc,
+        &[Counts, Find("ab"), Counts, Find("ab"), Counts],
+        text,
+    )
 }
 
 #[test]
 fn keeps_its_settings(rt: HostRuntime) -> Result<(), Fail> {
-    let heuristic = Config::new().unicode_word_boundary(true);
-    let dfa = built(rt.alloc(), Entry::Bound, heuristic)?.clone()?;
-    assert!(rt; dfa.get_config().get_unicode_word_boundary());
-    assert!(rt; !dfa.get_config().get_quit(0xB2));
+    let dfa = built(rt.alloc(), Forward(Entry::Bound), "unicode")??.clone()?;
+    let config = dfa.get_config();
+    let kept = (config.get_unicode_word_boundary(), config.get_quit(0xB2));
+    same_of(&rt, &kept, &(true, false), &"the settings");
     Ok(())
-}
-
-#[test]
-fn counts_classes(rt: HostRuntime) -> Result<(), Fail> {
-    for (entry, config, classes) in [
-        (Entry::Ab, Config::new(), 5),
-        (Entry::Ab, Config::new().byte_classes(false), 257),
-        (Entry::Always, Config::new(), 2),
-        (Entry::Words, Config::new(), 12),
-        (Entry::Wordend, Config::new(), 10),
-        (Entry::Crlf, Config::new(), 6),
-        (Entry::Snow, Config::new(), 19),
-    ] {
-        let dfa = built(rt.alloc(), entry, config)?;
-        same_of(&rt, &dfa.byte_classes().alphabet_len(), &classes, &entry);
-    }
-    Ok(())
-}
-
-#[test]
-fn refuses_to_build(rt: HostRuntime) -> Result<(), Fail> {
-    let too_small = BuildError::InsufficientCacheCapacity {
-        minimum: 1735,
-        given: 1734,
-    };
-    for (entry, capacity, want) in [
-        (Entry::Bound, 2097152, BuildError::Unsupported),
-        (Entry::Bnum, 0, BuildError::Unsupported),
-        (Entry::Ab, 1734, too_small),
-    ] {
-        let config = Config::new().cache_capacity(capacity);
-        let nfa = entry.forward(rt.alloc())?;
-        let refused = DFA::builder().configure(config).build_from_nfa(nfa).err();
-        same_of(&rt, &refused, &Some(want), &entry);
-    }
-    Ok(())
-}
-
-/// One match state, at which many patterns start.
-fn crowd(alloc: Global, patterns: usize) -> Result<NFA, Fail> {
-    let states = vec![in alloc; accept(0)]?;
-    let starts = vec![in alloc; StateID::ZERO; patterns]?;
-    let zero = StateID::ZERO;
-    Ok(NFA::from_states(alloc, states, zero, zero, starts, Flags::default())?)
 }
 
 /// With starts for each pattern, this many patterns need more start states than have IDs.
 #[test]
 fn refuses_too_many_starts(rt: HostRuntime) -> Result<(), Fail> {
-    let attempted = 134217728;
-    let too_many = BuildError::InsufficientStateIDCapacity { attempted };
-    let config = Config::new()
-        .byte_classes(false)
-        .skip_cache_capacity_check(true)
-        .starts_for_each_pattern(true);
-    for (patterns, want) in [(43687, None), (43688, Some(too_many))] {
-        let nfa = crowd(rt.alloc(), patterns)?;
-        let refused = DFA::builder().configure(config).build_from_nfa(nfa).err();
-        same_of(&rt, &refused, &want, &patterns);
+    for (patterns, want) in [
+        (43687, ""),
+        (
+            43688,
+            "failed to create LazyStateID from 134217728, which exceeds 134217727",
+        ),
+    ] {
+        let dfa = crowd(rt.alloc(), patterns)?;
+        let text = text_of(rt.alloc(), dfa, &[])?;
+        same_text(&rt, text.as_str(), want, "many patterns");
     }
     Ok(())
 }
 
+/// One match state, at which many patterns start.
+fn crowd(alloc: Global, patterns: usize) -> Result<Result<DFA, BuildError>, Fail> {
+    let zero = StateID::ZERO;
+    let pattern = PatternID::ZERO;
+    let states = vec![in alloc; State::Match { pattern }]?;
+    let starts = vec![in alloc; zero; patterns]?;
+    let nfa = NFA::from_states(alloc, states, zero, zero, starts, Flags::default())?;
+    let config = Config::new()
+        .byte_classes(false)
+        .skip_cache_capacity_check(true)
+        .starts_for_each_pattern(true);
+    Ok(DFA::builder().configure(config).build_from_nfa(nfa))
+}
+
+/// One search after another, each from a place to a place, and the bytes searched by then.
+const SEARCHES: &[(usize, usize, usize)] = &[
+    (3, 7, 4),
+    (10, 2, 12),
+    (5, 5, 12),
+    (0, usize::MAX, usize::MAX),
+    (0, 1, usize::MAX),
+];
+
+#[test]
+fn adds_up_searched_bytes(rt: HostRuntime) -> Result<(), Fail> {
+    let dfa = built(rt.alloc(), Forward(Entry::Ab), "")??;
+    let mut cache = dfa.create_cache()?;
+    add_up_searched_bytes(&rt, &mut cache);
+    Ok(())
+}
+
+fn add_up_searched_bytes<R: Abort>(rt: &R, cache: &mut Cache) {
+    for (start, end, searched) in SEARCHES.iter().copied() {
+        cache.search_start(start);
+        cache.search_finish(end);
+        let found = (
+            cache.search_total_len(),
+            cache.memory_usage(),
+            cache.in_progress(),
+        );
+        same_of(rt, &found, &(searched, 335, false), &start);
+    }
+}
+
 #[test]
 fn keeps_a_progress(rt: HostRuntime) -> Result<(), Fail> {
-    let dfa = built(rt.alloc(), Entry::Ab, Config::new())?;
+    let dfa = built(rt.alloc(), Forward(Entry::Ab), "")??;
     let mut cache = dfa.create_cache()?;
     keep_a_progress(&rt, &mut cache);
     Ok(())
@@ -229,105 +442,29 @@ fn keeps_a_progress(rt: HostRuntime) -> Result<(), Fail> {
 
 fn keep_a_progress<R: Abort>(rt: &R, cache: &mut Cache) {
     cache.search_start(3);
-    same(
-        rt,
-        &(cache.in_progress(), cache.search_total_len()),
-        &(true, 0),
-    );
+    let begun = (cache.search_total_len(), cache.in_progress());
     cache.search_update(7);
-    same(
-        rt,
-        &(cache.in_progress(), cache.search_total_len()),
-        &(true, 4),
-    );
-}
-
-/// One search after another, each from a place to a place, and the bytes searched by then.
-#[test]
-fn adds_up_searched_bytes(rt: HostRuntime) -> Result<(), Fail> {
-    let dfa = built(rt.alloc(), Entry::Ab, Config::new())?;
-    let mut cache = dfa.create_cache()?;
-    add_up_searched_bytes(&rt, &mut cache);
-    Ok(())
-}
-
-fn add_up_searched_bytes<R: Abort>(rt: &R, cache: &mut Cache) {
-    for (start, end, searched) in [
-        (3, 7, 4),
-        (10, 2, 12),
-        (5, 5, 12),
-        (0, usize::MAX, usize::MAX),
-        (0, 1, usize::MAX),
-    ] {
-        cache.search_start(start);
-        cache.search_finish(end);
-        counts(rt, cache, 335, searched);
-    }
-}
-
-/// The automaton of the README's example.
-fn example(alloc: Global) -> Result<NFA, Fail> {
-    let zero = StateID::ZERO;
-    let (one, two) = (StateID::new(1).ok_or("1")?, StateID::new(2).ok_or("2")?);
-    let (a, b) = (b'a', b'b');
-    let states = vec![in alloc;
-        State::ByteRange {
-            lo: a,
-            hi: a,
-            next: one
-        },
-        State::ByteRange {
-            lo: b,
-            hi: b,
-            next: two
-        },
-        accept(0),
-    ]?;
-    let starts = vec![in alloc; zero]?;
-    Ok(NFA::from_states(alloc, states, zero, zero, starts, Flags::default())?)
-}
-
-#[test]
-fn answers_the_example(rt: HostRuntime) -> Result<(), Fail> {
-    let config = Config::new().cache_capacity(1 << 16);
-    with_searcher(&rt, Ok(example(rt.alloc())?), config, find_in_the_example)
-}
-
-fn find_in_the_example<R: Abort>(rt: &R, searcher: &mut Searcher) -> Result<(), Fail> {
-    let found = searcher.find(&Input::new(b"abc"));
-    same(rt, &found, &Ok(Some(HalfMatch::new(PatternID::ZERO, 2))));
-    let input = Input::new(b"cab").range(1..3).anchored(Anchored::Yes);
-    let again = searcher.find(&input);
-    same(rt, &again, &Ok(Some(HalfMatch::new(PatternID::ZERO, 3))));
-    Ok(())
-}
-
-/// How many patterns there are, the memory, and what a search from the first place to the second
-/// answers.
-fn matches<R: Abort>(
-    rt: &R,
-    dfa: DFA,
-    pattern_len: usize,
-    want: Option<HalfMatch>,
-) -> Result<(), Fail> {
-    same(
-        rt,
-        &(dfa.pattern_len(), dfa.memory_usage()),
-        &(pattern_len, 0),
-    );
-    let cache = dfa.create_cache()?;
-    let found = Searcher { dfa, cache }.find(&Input::new(b"abc").range(1..2));
-    same(rt, &found, &Ok(want));
-    Ok(())
+    let moved = (cache.search_total_len(), cache.in_progress());
+    same_of(rt, &(begun, moved), &((0, true), (4, true)), &"a progress");
 }
 
 #[test]
 fn matches_always(rt: HostRuntime) -> Result<(), Fail> {
-    let want = Some(HalfMatch::new(PatternID::ZERO, 1));
-    matches(&rt, DFA::always_match(rt.alloc())?, 1, want)
+    matches(&rt, DFA::always_match(rt.alloc()), "1, 0, half 0 1")
 }
 
 #[test]
 fn matches_never(rt: HostRuntime) -> Result<(), Fail> {
-    matches(&rt, DFA::never_match(rt.alloc())?, 0, None)
+    matches(&rt, DFA::never_match(rt.alloc()), "0, 0, none")
+}
+
+/// How many patterns there are, the memory, and what a search from the first place to the second answers.
+fn matches<R: Abort + AllocGlobal>(
+    rt: &R,
+    dfa: Result<DFA, BuildError>,
+    told: &str,
+) -> Result<(), Fail> {
+    let text = text_of(rt.alloc(), dfa, &[Patterns, Memory, FindIn("abc", 1, 2)])?;
+    same_text(rt, text.as_str(), told, told);
+    Ok(())
 }

@@ -1,110 +1,109 @@
 //! Refused growths. Each test is a process of its own, so it may use up all memory for good.
 
-use super::hand::{Hand, with_hand};
-use super::{Searcher, Sink, Source, same, with_searcher};
+ghost use Rattle.std.specs.Prelude.{IfOk};
+ghost use Rattle.regex_automata.specs.Caches.{IsCacheOf};
+
+use super::bench::{Bench, Call};
+use super::tells::{Automaton, Row, tells};
+use super::{Sink, Source, exhaust, same_of};
 use crate::catalogue::Entry;
 use crate::error::RunError;
 use crate::run::run;
-use regex_automata::hybrid::dfa::{Config, DFA};
-use regex_automata::hybrid::{SearchError, StartError, StepError};
+use Automaton::{Forward, Reverse};
+use Call::{Counts, End, Exhaust, Find, FindIn, Room, Start, StartOn, State, Step, Steps};
+use regex_automata::hybrid::dfa::{Cache, Config, DFA};
+use regex_automata::hybrid::{BuildError, SearchError, StartError, StepError};
 use regex_automata::nfa::thompson::{NFA, NfaError};
 use regex_automata::util::primitives::PatternID;
 use regex_automata::util::search::{Anchored, HalfMatch, Input, PatternSet};
 use std::alloc::{AllocError, Global};
-use std::mem;
-use std::process::Abort;
 use std::test::Fail;
-
-/// Takes all memory that is left, and keeps it: from here on each growth is refused.
-fn exhaust(alloc: Global) {
-    let mut size = 1usize << 46;
-    for _ in 0..u64::MAX {
-        if size == 0 {
-            return;
-        }
-        match Vec::<u8>::with_capacity(alloc, size) {
-            Ok(block) => mem::forget(block),
-            Err(_) => size /= 2,
-        }
-    }
-}
 
 /// A search over known transitions grows nothing.
 #[test]
 fn repeats_a_search_without_memory(rt: HostRuntime) -> Result<(), Fail> {
-    repeat(&rt, Entry::Ab.forward(rt.alloc()), 2)
+    tells(&rt, REPEATED)
 }
+
+const REPEATED: Row = (
+    "a search over known transitions",
+    Forward(Entry::Ab),
+    "limit=0",
+    &[Find("ab"), Exhaust, Find("ab"), Room],
+    "half 0 2, -, half 0 2, false",
+);
 
 #[test]
 fn repeats_a_reverse_search_without_memory(rt: HostRuntime) -> Result<(), Fail> {
-    repeat(&rt, Entry::Ab.reverse(rt.alloc()), 0)
+    tells(&rt, REPEATED_IN_REVERSE)
 }
 
-/// Searches `ab` with memory, and again with none.
-fn repeat<R: Abort + AllocGlobal>(
-    rt: &R,
-    nfa: Result<NFA, NfaError>,
-    offset: usize,
-) -> Result<(), Fail> {
-    let config = Config::new().minimum_cache_clear_count(Some(0));
-    with_searcher(rt, nfa, config, |rt, searcher| {
-        search_twice(rt, searcher, offset);
-        Ok(())
-    })
-}
-
-fn search_twice<R: Abort + AllocGlobal>(rt: &R, searcher: &mut Searcher, offset: usize) {
-    let input = Input::new(b"ab");
-    let first = searcher.search(&input);
-    exhaust(rt.alloc());
-    let second = searcher.search(&input);
-    let is_exhausted = Vec::<u8>::with_capacity(rt.alloc(), 1).is_err();
-    same(rt, &is_exhausted, &true);
-    same(
-        rt,
-        &first,
-        &Ok(Some(HalfMatch::new(PatternID::ZERO, offset))),
-    );
-    same(rt, &second, &first);
-}
+const REPEATED_IN_REVERSE: Row = (
+    "a reverse search over known transitions",
+    Reverse(Entry::Ab),
+    "limit=0",
+    &[Find("ab"), Exhaust, Find("ab"), Room],
+    "half 0 0, -, half 0 0, false",
+);
 
 /// A search over no span takes no memory, though nothing is known yet.
 #[test]
 fn ends_at_once_without_memory(rt: HostRuntime) -> Result<(), Fail> {
-    let nfa = Entry::Always.forward(rt.alloc());
-    with_searcher(&rt, nfa, Config::new(), end_at_once)
+    tells(&rt, DONE)
 }
 
-fn end_at_once<R: Abort + AllocGlobal>(rt: &R, searcher: &mut Searcher) -> Result<(), Fail> {
-    exhaust(rt.alloc());
-    let found = searcher.search(&Input::new(b"ab").range(2..1));
-    same(rt, &found, &Ok(None));
-    let refused = searcher.search(&Input::new(b"ab"));
-    same(rt, &refused, &Err(SearchError::OutOfMemory));
-    Ok(())
-}
+const DONE: Row = (
+    "a search over no span",
+    Forward(Entry::Always),
+    "",
+    &[Exhaust, FindIn("ab", 2, 1), Find("ab")],
+    "-, none, memory",
+);
 
 /// Steps that are known take no memory, and others are refused.
 #[test]
 fn steps_without_memory(rt: HostRuntime) -> Result<(), Fail> {
-    let nfa = Entry::Ab.forward(rt.alloc());
-    with_hand(&rt, nfa, Config::new(), step_without_memory)
+    tells(&rt, STEPPED)
 }
 
-fn step_without_memory<R: Abort + AllocGlobal>(rt: &R, hand: &mut Hand) -> Result<(), Fail> {
-    hand.steps("ab")?;
-    hand.end()?;
-    let end = hand.at;
-    exhaust(rt.alloc());
-    hand.start(Anchored::No, None)?;
-    hand.steps("ab")?;
-    hand.end()?;
-    same(rt, &hand.at, &end);
-    hand.start(Anchored::No, None)?;
-    let refused = hand.step(b'x');
-    same(rt, &refused, &Err(StepError::OutOfMemory));
-    Ok(())
+const STEPPED: Row = (
+    "known steps",
+    Forward(Entry::Ab),
+    "",
+    &[
+        Start(None),
+        Steps("ab"),
+        End,
+        State,
+        Exhaust,
+        Start(None),
+        Steps("ab"),
+        End,
+        State,
+        Start(None),
+        Step(b'x'),
+    ],
+    "-, -, -, state 0m, -, -, -, -, state 0m, -, out of memory",
+);
+
+/// A start that is known takes no memory, though the cache is full.
+#[test]
+fn starts_without_memory(rt: HostRuntime) -> Result<(), Fail> {
+    tells(&rt, STARTED)
 }
+
+const STARTED: Row = (
+    "a known start",
+    Forward(Entry::A16),
+    "noclasses capacity=37281",
+    &[
+        Find("aaaaaaaaaaaaaaaa"),
+        Exhaust,
+        StartOn("aaaaaaaaaaaaaaaa"),
+        Counts,
+    ],
+    "half 0 16, -, false, 1 19288 3",
+);
 
 /// Settings and builders take no memory.
 #[test]
@@ -112,14 +111,22 @@ fn builds_without_memory(rt: HostRuntime) -> Result<(), Fail> {
     let nfa = Entry::Bound.forward(rt.alloc())?;
     exhaust(rt.alloc());
     let config = Config::new().unicode_word_boundary(true).quit(b'x', true);
-    let minimum = config.get_minimum_cache_capacity(&nfa)?;
-    let capacity = config.settle(&nfa)?.capacity();
+    let capacities = (
+        config.get_minimum_cache_capacity(&nfa),
+        settled_capacity(config, &nfa),
+    );
+    same_of(&rt, &capacities, &(Ok(2374), Ok(2097152)), &"capacities");
     let dfa = DFA::builder().configure(config).build_from_nfa(nfa)?;
-    let refused = dfa.create_cache().is_err();
-    let classes = dfa.byte_classes().alphabet_len();
-    same(&rt, &(minimum, capacity), &(2374, 2097152));
-    same(&rt, &(classes, refused), &(13, true));
+    let found = (
+        dfa.byte_classes().alphabet_len(),
+        dfa.create_cache().is_err(),
+    );
+    same_of(&rt, &found, &(13, true), &"classes, and no cache");
     Ok(())
+}
+
+fn settled_capacity(config: Config, nfa: &NFA) -> Result<usize, BuildError> {
+    Ok(config.settle(nfa)?.capacity())
 }
 
 /// A pattern is put into a set that has room without memory.
@@ -129,29 +136,8 @@ fn inserts_without_memory(rt: HostRuntime) -> Result<(), Fail> {
     exhaust(rt.alloc());
     let inserted = set.try_insert(PatternID::ZERO);
     let refused = PatternSet::new(rt.alloc(), 1).is_err();
-    same(&rt, &(set.is_full(), refused), &(true, true));
-    same(&rt, &inserted, &Ok(true));
-    Ok(())
-}
-
-/// A start that is known takes no memory, though the cache is full.
-#[test]
-fn starts_without_memory(rt: HostRuntime) -> Result<(), Fail> {
-    let config = Config::new().byte_classes(false).cache_capacity(37281);
-    let nfa = Entry::A16.forward(rt.alloc());
-    with_searcher(&rt, nfa, config, start_without_memory)
-}
-
-fn start_without_memory<R: Abort + AllocGlobal>(
-    rt: &R,
-    searcher: &mut Searcher,
-) -> Result<(), Fail> {
-    let input = Input::new(b"aaaaaaaaaaaaaaaa");
-    searcher.find(&input)?;
-    exhaust(rt.alloc());
-    same(rt, &searcher.start(&input).is_ok(), &true);
-    same(rt, &searcher.cache.memory_usage(), &19288);
-    same(rt, &searcher.cache.clear_count(), &1);
+    same_of(&rt, &inserted, &Ok(true), &"a pattern");
+    same_of(&rt, &(set.is_full(), refused), &(true, true), &"a set");
     Ok(())
 }
 
@@ -222,7 +208,7 @@ fn tells_each_refused_growth_in_reverse(rt: HostRuntime) -> Result<(), Fail> {
 
 /// A call that can be refused memory.
 #[derive(Clone, Copy, PartialEq, Eq)]
-enum Call {
+enum Part {
     Door,
     Create,
     Start,
@@ -237,7 +223,7 @@ enum Call {
 struct Turns {
     blocks: Vec<Vec<u8>>,
     lent: usize,
-    refused: Vec<Call>,
+    refused: Vec<Part>,
 }
 
 impl Turns {
@@ -270,7 +256,7 @@ impl Turns {
     }
 
     /// A call is refused: from here on there is memory.
-    fn refuse(&mut self, call: Call) -> Result<(), AllocError> {
+    fn refuse(&mut self, call: Part) -> Result<(), AllocError> {
         self.blocks.clear();
         if !self.refused.contains(&call) {
             self.refused.push(call)?;
@@ -300,14 +286,11 @@ impl Work {
     fn run(self, alloc: Global, turns: &mut Turns) -> Result<(), Fail> {
         let nfa = self.build_short(alloc, turns)?;
         let dfa = DFA::builder().configure(self.config()).build_from_nfa(nfa)?;
-        let mut searcher = create_short(dfa, turns)?;
+        let mut bench = create_short(dfa, turns)?;
         match self {
-            Work::Search => search_short(&mut searcher, (1, 4, 1082), turns),
-            Work::ReverseSearch => search_short(&mut searcher, (0, 5, 1087), turns),
-            Work::Steps => {
-                let Searcher { dfa, cache } = searcher;
-                steps_short(alloc, &mut Hand::at_no_state(dfa, cache), turns)
-            }
+            Work::Search => search_short(&mut bench, (1, 4, 1082), turns),
+            Work::ReverseSearch => search_short(&mut bench, (0, 5, 1087), turns),
+            Work::Steps => steps_short(alloc, &mut bench, turns),
         }
     }
 
@@ -322,41 +305,46 @@ impl Work {
     fn build_short(self, alloc: Global, turns: &mut Turns) -> Result<NFA, Fail> {
         let built = self.nfa(alloc);
         if let Err(NfaError::OutOfMemory) = built {
-            turns.refuse(Call::Door)?;
+            turns.refuse(Part::Door)?;
             return Ok(self.nfa(alloc)?);
         }
         Ok(built?)
     }
 }
 
-/// A cache beside its automaton. Where it is refused, it is made once there is memory.
-fn create_short(dfa: DFA, turns: &mut Turns) -> Result<Searcher, Fail> {
-    let cache = match dfa.create_cache() {
-        Ok(cache) => cache,
-        Err(AllocError) => {
-            turns.refuse(Call::Create)?;
-            dfa.create_cache()?
-        }
-    };
-    Ok(Searcher { dfa, cache })
+fn create_short(dfa: DFA, turns: &mut Turns) -> Result<Bench, Fail> {
+    let cache = cache_short(&dfa, turns)?;
+    Ok(Bench::over(dfa, cache))
+}
+
+/// A cache. Where it is refused, it is made once there is memory.
+fn cache_short(dfa: &DFA, turns: &mut Turns) -> Result<Cache, Fail>
+    ensures { IfOk result (λ cache. IsCacheOf cache dfa.now) }
+{
+    if let Ok(cache) = dfa.create_cache() {
+        return Ok(cache);
+    }
+    turns.refuse(Part::Create)?;
+    let cache = dfa.create_cache()?;
+    Ok(cache)
 }
 
 /// A search of words. Where it is refused, it is answered over the same cache once there is
 /// memory. Wanted are the pattern, the offset and the memory.
 fn search_short(
-    searcher: &mut Searcher,
+    bench: &mut Bench,
     want: (usize, usize, usize),
     turns: &mut Turns,
 ) -> Result<(), Fail> {
     let input = Input::new(b"@foo bar");
-    let mut found = searcher.search(&input);
+    let mut found = bench.search(&input);
     if found == Err(SearchError::OutOfMemory) {
-        turns.refuse(Call::Search)?;
-        found = searcher.search(&input);
+        turns.refuse(Part::Search)?;
+        found = bench.search(&input);
     }
     let pattern = PatternID::new(want.0).ok_or("a pattern")?;
     let is_right = found == Ok(Some(HalfMatch::new(pattern, want.1)));
-    check(is_right && searcher.cache.memory_usage() == want.2)
+    check(is_right && bench.clears_and_memory().1 == want.2)
 }
 
 fn check(is_right: bool) -> Result<(), Fail> {
@@ -368,53 +356,53 @@ fn check(is_right: bool) -> Result<(), Fail> {
 }
 
 /// A start, a reset, a start, and sixteen steps, of which one clears. That one is lent memory anew.
-fn steps_short(alloc: Global, hand: &mut Hand, turns: &mut Turns) -> Result<(), Fail> {
-    start_short(hand, turns)?;
-    reset_short(hand, turns)?;
-    start_short(hand, turns)?;
+fn steps_short(alloc: Global, bench: &mut Bench, turns: &mut Turns) -> Result<(), Fail> {
+    start_short(bench, turns)?;
+    reset_short(bench, turns)?;
+    start_short(bench, turns)?;
     for step in 0..16u32 {
         if step == 13 {
             turns.lend(alloc)?;
         }
-        step_short(hand, turns)?;
+        step_short(bench, turns)?;
     }
-    check(hand.counts() == (1, 17187))
+    check(bench.clears_and_memory() == (1, 17187))
 }
 
 /// A reset. Where it is refused, nothing has changed, and it is answered once there is memory.
-fn reset_short(hand: &mut Hand, turns: &mut Turns) -> Result<(), Fail> {
-    let before = hand.counts();
-    if hand.reset().is_err() {
-        check(hand.counts() == before)?;
-        turns.refuse(Call::Reset)?;
-        hand.reset()?;
+fn reset_short(bench: &mut Bench, turns: &mut Turns) -> Result<(), Fail> {
+    let before = bench.clears_and_memory();
+    if bench.reset().is_err() {
+        check(bench.clears_and_memory() == before)?;
+        turns.refuse(Part::Reset)?;
+        bench.reset()?;
     }
     Ok(())
 }
 
-fn start_short(hand: &mut Hand, turns: &mut Turns) -> Result<(), Fail> {
-    if hand.start(Anchored::No, None) == Err(StartError::OutOfMemory) {
-        check(hand.counts() == (0, 6677))?;
-        turns.refuse(Call::Start)?;
-        hand.start(Anchored::No, None)?;
+fn start_short(bench: &mut Bench, turns: &mut Turns) -> Result<(), Fail> {
+    if bench.start(Anchored::No, None) == Err(StartError::OutOfMemory) {
+        check(bench.clears_and_memory() == (0, 6677))?;
+        turns.refuse(Part::Start)?;
+        bench.start(Anchored::No, None)?;
     }
     Ok(())
 }
 
-fn step_short(hand: &mut Hand, turns: &mut Turns) -> Result<(), Fail> {
-    let before = hand.counts();
-    if hand.step(b'a') == Err(StepError::OutOfMemory) {
-        check(hand.counts() == before)?;
+fn step_short(bench: &mut Bench, turns: &mut Turns) -> Result<(), Fail> {
+    let before = bench.clears_and_memory();
+    if bench.step(b'a') == Err(StepError::OutOfMemory) {
+        check(bench.clears_and_memory() == before)?;
         let is_full = before == (0, 36105);
-        turns.refuse(if is_full { Call::Clear } else { Call::Step })?;
-        hand.step(b'a')?;
+        turns.refuse(if is_full { Part::Clear } else { Part::Step })?;
+        bench.step(b'a')?;
     }
     Ok(())
 }
 
 /// Works while what is lent of memory rises by sixteen bytes a turn, so that each growth is the
 /// refused one in some turn, and looks whether all of these calls were refused.
-fn refuse_in_turn(alloc: Global, work: Work, most: usize, calls: &[Call]) -> Result<(), Fail> {
+fn refuse_in_turn(alloc: Global, work: Work, most: usize, calls: &[Part]) -> Result<(), Fail> {
     let mut turns = Turns {
         blocks: Vec::with_capacity(alloc, 1 << 14)?,
         lent: 1040,
@@ -437,24 +425,24 @@ fn refuse_in_turn(alloc: Global, work: Work, most: usize, calls: &[Call]) -> Res
 
 #[test]
 fn searches_after_each_refused_growth(rt: HostRuntime) -> Result<(), Fail> {
-    let calls = [Call::Create, Call::Search];
+    let calls = [Part::Create, Part::Search];
     refuse_in_turn(rt.alloc(), Work::Search, 1 << 15, &calls)
 }
 
 #[test]
 fn searches_in_reverse_after_each_refused_growth(rt: HostRuntime) -> Result<(), Fail> {
-    let calls = [Call::Create, Call::Search];
+    let calls = [Part::Create, Part::Search];
     refuse_in_turn(rt.alloc(), Work::ReverseSearch, 1 << 15, &calls)
 }
 
 #[test]
 fn steps_after_each_refused_growth(rt: HostRuntime) -> Result<(), Fail> {
     let calls = [
-        Call::Create,
-        Call::Reset,
-        Call::Start,
-        Call::Step,
-        Call::Clear,
+        Part::Create,
+        Part::Reset,
+        Part::Start,
+        Part::Step,
+        Part::Clear,
     ];
     refuse_in_turn(rt.alloc(), Work::Steps, 1 << 17, &calls)
 }

@@ -1,35 +1,32 @@
 //! What no contract says: the answers of worked examples, the texts, and how a script runs.
 
-ghost use Rattle.regex_automata.specs.Caches.{IsCacheOf};
-
 use crate::error::RunError;
 use crate::run::run;
-use regex_automata::hybrid::dfa::{Cache, Config, DFA};
-use regex_automata::hybrid::{LazyStateID, SearchError};
-use regex_automata::nfa::thompson::{NFA, NfaError};
-use regex_automata::util::search::{HalfMatch, Input};
-use std::alloc::{AllocError, Global};
+use std::alloc::Global;
 use std::fmt::Debug;
-use std::io;
 use std::io::{Read, Write};
 use std::process::Abort;
 use std::test::Fail;
+use std::{io, mem};
 
 mod automata;
+mod bench;
 mod classes;
 mod clears;
 mod config;
 mod dfa;
 mod forward;
-mod hand;
 mod memory;
 mod nfa;
 mod paths;
+mod plans;
 mod reverse;
 mod rows;
 mod scripts;
 mod sets;
 mod states;
+mod steps;
+mod tells;
 mod texts;
 
 /// A reader over memory that takes few bytes a call and fails at a chosen call, counted from 1.
@@ -105,64 +102,7 @@ impl Write for Sink {
     }
 }
 
-/// A lazy automaton with a cache of its own.
-#[derive(Drop)]
-struct Searcher {
-    dfa: DFA,
-    cache: Cache,
-    ghost of: { IsCacheOf cache dfa },
-}
-
-impl Searcher {
-    fn new(nfa: NFA, config: Config) -> Result<Searcher, Fail> {
-        let dfa = DFA::builder().configure(config).build_from_nfa(nfa)?;
-        let cache = dfa.create_cache()?;
-        Ok(Searcher { dfa, cache })
-    }
-
-    fn find(&mut self, input: &Input<'_>) -> Result<Option<HalfMatch>, SearchError> {
-        self.dfa.try_search_fwd(&mut self.cache, input)
-    }
-
-    fn find_reverse(&mut self, input: &Input<'_>) -> Result<Option<HalfMatch>, SearchError> {
-        self.dfa.try_search_rev(&mut self.cache, input)
-    }
-
-    /// In the direction of the automaton.
-    fn search(&mut self, input: &Input<'_>) -> Result<Option<HalfMatch>, SearchError> {
-        if self.dfa.get_nfa().is_reverse() {
-            self.find_reverse(input)
-        } else {
-            self.find(input)
-        }
-    }
-
-    fn start(&mut self, input: &Input<'_>) -> Result<LazyStateID, SearchError> {
-        self.dfa.start_state_forward(&mut self.cache, input)
-    }
-
-    fn start_reverse(&mut self, input: &Input<'_>) -> Result<LazyStateID, SearchError> {
-        self.dfa.start_state_reverse(&mut self.cache, input)
-    }
-
-    fn reset(&mut self) -> Result<(), AllocError> {
-        self.dfa.reset_cache(&mut self.cache)
-    }
-
-    /// Another automaton, with the same cache.
-    fn reset_to(self, dfa: DFA) -> Result<Searcher, AllocError> {
-        let mut cache = self.cache;
-        dfa.reset_cache(&mut cache)?;
-        Ok(Searcher { dfa, cache })
-    }
-}
-
-/// Stops the test unless what was found is what is wanted.
-fn same<T: PartialEq + Debug, R: Abort>(rt: &R, found: &T, want: &T) {
-    assert_eq!(rt; found, want);
-}
-
-/// As `same`, with what the values belong to.
+/// Stops the test unless what was found is what is wanted, and tells what the values belong to.
 fn same_of<T: PartialEq + Debug, D: Debug, R: Abort>(rt: &R, found: &T, want: &T, of: &D) {
     assert_eq!(rt; found, want, "{of:?}");
 }
@@ -172,17 +112,18 @@ fn same_text<R: Abort>(rt: &R, found: &str, want: &str, of: &str) {
     assert_eq!(rt; found, want, "{of}");
 }
 
-/// Works with a lazy automaton and its cache.
-fn with_searcher<R: Abort, W: FnOnce(&R, &mut Searcher) -> Result<(), Fail>>(
-    rt: &R,
-    nfa: Result<NFA, NfaError>,
-    config: Config,
-    work: W,
-) -> Result<(), Fail>
-    requires { W.IsAlwaysCallable work }
-{
-    let mut searcher = Searcher::new(nfa?, config)?;
-    work(rt, &mut searcher)
+/// Takes all memory that is left, and keeps it: from here on each growth is refused.
+fn exhaust(alloc: Global) {
+    let mut size = 1usize << 46;
+    for _ in 0..u64::MAX {
+        if size == 0 {
+            return;
+        }
+        match Vec::<u8>::with_capacity(alloc, size) {
+            Ok(block) => mem::forget(block),
+            Err(_) => size /= 2,
+        }
+    }
 }
 
 /// What a script prints, and its fault.

@@ -1,10 +1,11 @@
 //! A slow search that lists the paths of an automaton one by one, beside the search of the lazy
 //! automaton. An automaton for reverse searches is walked from the span's end to its start.
 
-use super::{Searcher, same_of};
+use super::bench::Bench;
+use super::same_of;
 use crate::catalogue::Entry;
 use regex_automata::hybrid::SearchError;
-use regex_automata::hybrid::dfa::Config;
+use regex_automata::hybrid::dfa::{Config, DFA};
 use regex_automata::nfa::thompson::{NFA, State};
 use regex_automata::util::look::Look;
 use regex_automata::util::primitives::{PatternID, StateID};
@@ -104,12 +105,15 @@ fn accepting(nfa: &NFA, input: &Input<'_>) -> Result<Vec<HalfMatch>, AllocError>
 /// The path of the start alone, if there is a start.
 fn begun(nfa: &NFA, input: &Input<'_>) -> Result<Vec<Vec<Stand>>, AllocError> {
     let mut open = Vec::new(nfa.alloc());
+    if input.is_done() {
+        return Ok(open);
+    }
     let first = if nfa.is_reverse() {
         input.end()
     } else {
         input.start()
     };
-    if let Some(start) = nfa.start(input.get_anchored()).filter(|_| !input.is_done()) {
+    if let Some(start) = nfa.start(input.get_anchored()) {
         open.push(vec![in nfa.alloc(); (start, first)]?)?;
     }
     Ok(open)
@@ -138,14 +142,14 @@ fn beside(nfa: &NFA, input: &Input<'_>, place: usize) -> Sides {
         Sides {
             before: right,
             after: left,
-            read: left.filter(|_| input.start() < place),
+            read: if input.start() < place { left } else { None },
             behind: place.saturating_sub(1),
         }
     } else {
         Sides {
             before: left,
             after: right,
-            read: right.filter(|_| place < input.end()),
+            read: if place < input.end() { right } else { None },
             behind: place.saturating_add(1),
         }
     }
@@ -337,9 +341,14 @@ fn compare<R: Abort + AllocGlobal>(
 ) -> Result<(), Fail> {
     let config = Config::new().match_kind(kind).unicode_word_boundary(true);
     let least = config.cache_capacity(0).skip_cache_capacity_check(true);
-    let mut tight = Searcher::new(nfa.clone()?, least)?;
-    let mut ample = Searcher::new(nfa, config.starts_for_each_pattern(true))?;
+    let mut tight = bench(rt.alloc(), nfa.clone()?, least)?;
+    let mut ample = bench(rt.alloc(), nfa, config.starts_for_each_pattern(true))?;
     compare_all(rt, row, &mut tight, &mut ample)
+}
+
+fn bench(alloc: Global, nfa: NFA, config: Config) -> Result<Bench, Fail> {
+    let dfa = DFA::builder().configure(config).build_from_nfa(nfa)?;
+    Bench::new(dfa)
 }
 
 /// All haystacks of up to six of the first two pieces, and of up to four of all three, that have no
@@ -347,8 +356,8 @@ fn compare<R: Abort + AllocGlobal>(
 fn compare_all<R: Abort + AllocGlobal>(
     rt: &R,
     (entry, pieces): (Entry, Pieces),
-    tight: &mut Searcher,
-    ample: &mut Searcher,
+    tight: &mut Bench,
+    ample: &mut Bench,
 ) -> Result<(), Fail> {
     for (choices, lengths) in [(2usize, 7usize), (3, 5)] {
         let mut count = 1usize;
@@ -369,21 +378,21 @@ fn compare_all<R: Abort + AllocGlobal>(
 fn compare_one<R: Abort>(
     rt: &R,
     entry: Entry,
-    tight: &mut Searcher,
-    ample: &mut Searcher,
+    tight: &mut Bench,
+    ample: &mut Bench,
     haystack: &[u8],
 ) -> Result<(), Fail> {
-    let kind = ample.dfa.get_config().get_match_kind();
+    let kind = ample.dfa().get_config().get_match_kind();
     for end in 0..haystack.len() + 1 {
         for start in 0..end + 1 {
             let input = Input::new(haystack).range(start..end);
-            let want = Ok(answer(ample.dfa.get_nfa(), kind, &input)?);
+            let want = Ok(answer(ample.dfa().get_nfa(), kind, &input)?);
             finds(rt, entry, ample, &input, &want);
             finds(rt, entry, tight, &input, &want);
         }
     }
     for input in modes(haystack) {
-        let want = Ok(answer(ample.dfa.get_nfa(), kind, &input)?);
+        let want = Ok(answer(ample.dfa().get_nfa(), kind, &input)?);
         finds(rt, entry, ample, &input, &want);
     }
     Ok(())
@@ -392,12 +401,12 @@ fn compare_one<R: Abort>(
 fn finds<R: Abort>(
     rt: &R,
     entry: Entry,
-    searcher: &mut Searcher,
+    bench: &mut Bench,
     input: &Input<'_>,
     want: &Result<Option<HalfMatch>, SearchError>,
 ) {
-    let kind = searcher.dfa.get_config().get_match_kind();
-    let found = searcher.search(input);
+    let kind = bench.dfa().get_config().get_match_kind();
+    let found = bench.search(input);
     same_of(rt, &found, want, &(entry, kind, input));
 }
 
@@ -410,16 +419,18 @@ fn spell(
     pieces: &[&[u8]],
 ) -> Result<Vec<u8>, AllocError> {
     let mut haystack = Vec::new(alloc);
-    let base = pieces.len();
-    if base == 0 {
-        return Ok(haystack);
-    }
     let mut rest = number;
     for _ in 0..length {
-        haystack.extend_from_slice(pieces[rest % base])?;
-        rest /= base;
+        haystack.extend_from_slice(digit(rest, pieces))?;
+        rest = rest.checked_div(pieces.len()).unwrap_or(0);
     }
     Ok(haystack)
+}
+
+/// The piece of the last digit.
+fn digit<'a>(number: usize, pieces: &[&'a [u8]]) -> &'a [u8] {
+    let last = number.checked_rem(pieces.len()).unwrap_or(0);
+    pieces.get(last).copied().unwrap_or(&[])
 }
 
 /// The whole haystack, anchored or earliest or both.

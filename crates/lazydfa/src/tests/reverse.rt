@@ -1,13 +1,6 @@
-//! Reverse searches, by scripts of one request, and what they count.
+//! Reverse searches, by scripts of one request.
 
-use super::dfa::{count, counts};
 use super::rows::{Row, answer_all};
-use super::{Searcher, same, same_of, with_searcher};
-use crate::catalogue::Entry;
-use regex_automata::hybrid::dfa::Config;
-use regex_automata::util::primitives::PatternID;
-use regex_automata::util::search::{HalfMatch, Input, MatchKind};
-use std::process::Abort;
 use std::test::Fail;
 
 const PLAIN: &[Row] = &[
@@ -138,72 +131,4 @@ fn stops_at_quit_bytes(rt: HostRuntime) -> Result<(), Fail> {
 #[test]
 fn passes_places_that_split_characters(rt: HostRuntime) -> Result<(), Fail> {
     answer_all(&rt, "rev", CHARACTERS)
-}
-
-/// The farthest start under kind all, the nearest with an earliest input, and the first path's
-/// under leftmost-first.
-#[test]
-fn selects_by_kind(rt: HostRuntime) -> Result<(), Fail> {
-    for (kind, earliest, start) in [
-        (MatchKind::All, false, 1),
-        (MatchKind::All, true, 3),
-        (MatchKind::LeftmostFirst, false, 3),
-        (MatchKind::LeftmostFirst, true, 3),
-    ] {
-        let nfa = Entry::Crlf.reverse(rt.alloc());
-        let config = Config::new().match_kind(kind);
-        with_searcher(&rt, nfa, config, |rt, searcher| {
-            let found = searcher.find_reverse(&Input::new(b"a\r\n").earliest(earliest));
-            let want = Ok(Some(HalfMatch::new(PatternID::ZERO, start)));
-            same_of(rt, &found, &want, &(kind, earliest));
-            Ok(())
-        })?;
-    }
-    Ok(())
-}
-
-/// An entry, a haystack, and what is counted: the memory of a fresh cache, after one search, and
-/// the bytes searched by one search.
-const COUNTED: &[(Entry, &str, usize, usize, usize)] = &[
-    (Entry::Ab, "ab", 335, 678, 1),
-    (Entry::Ab, "", 335, 421, 0),
-    (Entry::Always, "abc", 221, 344, 1),
-    (Entry::Never, "abc", 217, 217, 0),
-    (Entry::Date, "2018-12-24 2016-10-08", 549, 1850, 20),
-    (Entry::Words, "@foo bar", 577, 1383, 7),
-    (Entry::A16, "aaaaaaaaaaaaaaaa", 581, 1840, 15),
-    (Entry::Snow, "a\u{2603}x", 778, 2144, 4),
-    (Entry::Crlf, "a\r\n", 360, 646, 2),
-];
-
-#[test]
-fn counts_memory_and_searched_bytes(rt: HostRuntime) -> Result<(), Fail> {
-    for (entry, haystack, fresh, used, searched) in COUNTED.iter().copied() {
-        count(
-            &rt,
-            entry.reverse(rt.alloc())?,
-            haystack,
-            (fresh, used, searched),
-        )?;
-    }
-    Ok(())
-}
-
-/// The start of a search over no bytes is there, though the search begins no progress.
-#[test]
-fn starts_over_no_bytes(rt: HostRuntime) -> Result<(), Fail> {
-    let nfa = Entry::Ab.reverse(rt.alloc());
-    let config = Config::new().match_kind(MatchKind::All);
-    with_searcher(&rt, nfa, config, start_over_no_bytes)
-}
-
-fn start_over_no_bytes<R: Abort>(rt: &R, searcher: &mut Searcher) -> Result<(), Fail> {
-    let input = Input::new(b"");
-    let start = searcher.start_reverse(&input);
-    same(rt, &start.is_ok_and(|id| !id.is_tagged()), &true);
-    counts(rt, &searcher.cache, 421, 0);
-    let found = searcher.find_reverse(&input);
-    same(rt, &found, &Ok(None));
-    counts(rt, &searcher.cache, 421, 0);
-    Ok(())
 }

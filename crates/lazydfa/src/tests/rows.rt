@@ -30,16 +30,13 @@ pub fn answer_all<R: Abort + AllocGlobal>(rt: &R, request: &str, rows: &[Row]) -
 }
 
 fn parts_of(row: &str) -> Option<Parts<'_>> {
-    let (shows, rest) = row.split_once(';')?;
-    let (regex, rest) = rest.split_once(';')?;
-    let (haystack, rest) = rest.split_once(';')?;
-    let (how, reply) = rest.split_once(';')?;
+    let mut parts = row.split(';');
     Some(Parts {
-        shows,
-        regex,
-        haystack,
-        how,
-        reply,
+        shows: parts.next()?,
+        regex: parts.next()?,
+        haystack: parts.next()?,
+        how: parts.next()?,
+        reply: parts.next()?,
     })
 }
 
@@ -53,16 +50,20 @@ fn answers<R: Abort + AllocGlobal>(rt: &R, request: &str, row: Parts<'_>) -> Res
 /// The script that searches one haystack.
 fn script(alloc: Global, request: &str, row: Parts<'_>) -> Result<String, AllocError> {
     let regex = row.regex;
-    let how = row.how;
     let mut text = format!(in alloc; "regex {regex}\n{request} ")?;
-    if row.haystack.is_empty() {
+    write_query(&mut text, row.haystack.as_bytes(), row.how)?;
+    Ok(text)
+}
+
+fn write_query(text: &mut String, haystack: &[u8], how: &str) -> Result<(), AllocError> {
+    if haystack.is_empty() {
         text.push_str("-")?;
     }
-    for byte in row.haystack.as_bytes() {
+    for byte in haystack {
         write!(text, "{byte:02x}")?;
     }
     if !how.is_empty() {
         write!(text, " {how}")?;
     }
-    Ok(text)
+    Ok(())
 }

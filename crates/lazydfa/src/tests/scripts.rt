@@ -1,6 +1,6 @@
 //! Scripts, from bytes to bytes.
 
-use super::{Sink, Source, printed, prints, same, same_of, same_text};
+use super::{Sink, Source, printed, prints, same_of, same_text};
 use crate::error::RunError;
 use crate::run::run;
 use std::test::Fail;
@@ -194,16 +194,15 @@ fn tells_failed_writes(rt: HostRuntime) {
 /// A bad line is told before a failed write, and a failed read before a bad line.
 #[test]
 fn tells_faults_in_order(rt: HostRuntime) {
-    let mut output = Sink::new(rt.alloc());
-    output.fails_at = 1;
-    let mut input = Source::new(b"bad\n");
-    let fault = run(rt.alloc(), &mut input, &mut output).err();
-    same(&rt, &fault, &Some(RunError::BadLine(1)));
-    let mut input = Source::new(b"bad\n");
-    input.fails_at = 2;
-    let fault = run(rt.alloc(), &mut input, &mut output).err();
-    same(&rt, &fault, &Some(RunError::Failed));
-    same(&rt, &output.bytes.is_empty(), &true);
+    for (fails_at, want) in [(0, RunError::BadLine(1)), (2, RunError::Failed)] {
+        let mut input = Source::new(b"bad\n");
+        input.fails_at = fails_at;
+        let mut output = Sink::new(rt.alloc());
+        output.fails_at = 1;
+        let fault = run(rt.alloc(), &mut input, &mut output).err();
+        let found = (fault, output.bytes.is_empty());
+        same_of(&rt, &found, &(Some(want), true), &fails_at);
+    }
 }
 
 /// One line of a mebibyte of haystack.

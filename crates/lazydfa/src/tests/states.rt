@@ -1,19 +1,17 @@
 //! Powerset states as bytes.
 
-use super::automata::id;
+use super::plans::{ids_of, pattern_id};
 use super::same_of;
-use crate::catalogue::Entry;
 use regex_automata::util::determinize::{Parts, State};
 use regex_automata::util::primitives::PatternID;
 use std::alloc::{AllocError, Global};
-use std::process::Abort;
 use std::test::Fail;
 
 /// What the row shows, the NFA states, the patterns, the looks needed, and the bytes.
 type Row = (
     &'static str,
     &'static [u8],
-    &'static [usize],
+    &'static [u8],
     u32,
     &'static [u8],
 );
@@ -46,23 +44,23 @@ const CODED: &[Row] = &[
 ];
 
 /// The parts of a row, no look known and no flag set.
-fn parts_of(alloc: Global, row: Row) -> Result<Parts, Fail> {
-    let mut nfa = Vec::new(alloc);
-    for number in row.1 {
-        nfa.push(id(*number))?;
-    }
-    let mut patterns = Vec::new(alloc);
-    for number in row.2 {
-        patterns.push(PatternID::new(*number).ok_or("a pattern")?)?;
-    }
+fn parts_of(alloc: Global, row: Row) -> Result<Parts, AllocError> {
     Ok(Parts {
-        nfa,
-        patterns,
+        nfa: ids_of(alloc, row.1)?,
+        patterns: patterns_of(alloc, row.2)?,
         known: 0,
         needed: row.3,
         word: false,
         half: false,
     })
+}
+
+fn patterns_of(alloc: Global, numbers: &[u8]) -> Result<Vec<PatternID>, AllocError> {
+    let mut patterns = Vec::with_capacity(alloc, numbers.len())?;
+    for number in numbers {
+        patterns.push(pattern_id(*number))?;
+    }
+    Ok(patterns)
 }
 
 #[test]
@@ -75,20 +73,11 @@ fn codes_states(rt: HostRuntime) -> Result<(), Fail> {
         }
         let state = State::encode(rt.alloc(), &parts)?;
         same_of(&rt, &state.as_bytes(), &bytes, &shows);
-        same_parts(&rt, &state.decode(rt.alloc())?, &parts, shows);
+        let decoded = state.decode(rt.alloc())?;
+        same_of(&rt, &decoded.nfa, &parts.nfa, &shows);
+        same_of(&rt, &decoded.patterns, &parts.patterns, &shows);
+        let found = (decoded.known, decoded.needed, decoded.word, decoded.half);
+        same_of(&rt, &found, &(0, row.3, false, false), &shows);
     }
     Ok(())
-}
-
-fn same_parts<R: Abort>(rt: &R, found: &Parts, want: &Parts, shows: &str) {
-    same_of(rt, &found.nfa, &want.nfa, &shows);
-    same_of(rt, &found.patterns, &want.patterns, &shows);
-    let looks = (found.known, found.needed);
-    same_of(rt, &looks, &(want.known, want.needed), &shows);
-    same_of(
-        rt,
-        &(found.word, found.half),
-        &(want.word, want.half),
-        &shows,
-    );
 }

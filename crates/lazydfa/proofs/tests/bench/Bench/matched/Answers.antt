@@ -3,7 +3,7 @@ use Rattle.std.proofs.lemmas.Grind.{common_steps}
 use Rattle.std.specs.Prelude.{IsBitSet}
 use Rattle.regex_automata.specs.Caches.{HasRow}
 use Rattle.lazydfa.proofs.Ids.{valid_of}
-use Rattle.lazydfa.proofs.tests.hand.Hand.matched.Goals as goal
+use Rattle.lazydfa.proofs.tests.bench.Bench.matched.Goals as goal
 
 pub match_len-count-requires-clause-valid : goal.match_len-count-requires-clause-valid
 match_len-count-requires-clause-valid c =
