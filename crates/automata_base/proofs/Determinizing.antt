@@ -14,5 +14,7 @@ pub mod Sparsely
 pub mod Stepping
 pub mod Telling
 pub mod Told
+pub mod ToldPairs
+pub mod ToldWalks
 pub mod Tests_of_lists
 pub mod Walking

@@ -84,15 +84,27 @@ abbrev pub IsOverlappingFrom : Engine → Tape → Option ℕ → List Pair → 
 IsOverlappingFrom d t None pairs = pairs ≡ []
 IsOverlappingFrom d t (Some q) pairs = IsOverlappingOn d.kind d.nfa t q pairs
 
--- The whole list of a walk by its offsets, without the split ones where they are skipped.
-abbrev pub IsOverlapping : Direction → Engine → Input → List Pair → Type 0
-IsOverlapping way d input found =
+-- These pairs by their offsets, without the split ones where they are skipped.
+abbrev pub AreUnsplit : (skipping : Type 0) → Direction → Input → (pairs found : List Pair) → Type 0
+AreUnsplit skipping way input pairs found =
+    (skipping × (found ≡ without_split input.haystack (with_offsets way input pairs)))
+    ⊎ ((skipping → ⊥) × (found ≡ with_offsets way input pairs))
+
+-- The whole list of a walk: what is told over the span, and nothing over one that is done.
+abbrev pub Walks : (Tells : Input → List Pair → Type 0) → (skipping : Type 0) → Direction → Input → List Pair → Type 0
+Walks Tells skipping way input found =
     ((input.end < input.start) × (found ≡ []))
     ⊎ ((input.start ≤ input.end)
-    × ((pairs : List Pair)
-    × IsOverlappingFrom d (tape_of way input.haystack input.start input.end) (first_state d input.anchored) pairs
-    × ((IsSkipping d × (found ≡ without_split input.haystack (with_offsets way input pairs)))
-    ⊎ ((IsSkipping d → ⊥) × (found ≡ with_offsets way input pairs)))))
+    × ((pairs : List Pair) × Tells input pairs × AreUnsplit skipping way input pairs found))
+
+-- What the paths over the span of an input tell a walk, which is not done.
+abbrev pub OverlapsOver : Direction → Engine → Input → List Pair → Type 0
+OverlapsOver way d input pairs =
+    IsOverlappingFrom d (tape_of way input.haystack input.start input.end) (first_state d input.anchored) pairs
+
+-- The whole list of a walk, by paths.
+abbrev pub IsOverlapping : Direction → Engine → Input → List Pair → Type 0
+IsOverlapping way d input found = Walks (OverlapsOver way d) (IsSkipping d) way input found
 
 abbrev pub first_alone : Bool → List Pair → List Pair
 first_alone earliest [] = []
@@ -103,11 +115,15 @@ HasPattern p [] = ⊥
 HasPattern p (pair ∷ pairs) = (p ≡ pair.pattern) ⊎ HasPattern p pairs
 
 -- The patterns of a set after a forward walk: the given ones and those that the walk tells below the capacity, an
--- earliest one its first pair alone.
-abbrev pub ArePatternsFound : Engine → Input → ℕ → (given found : List ℕ) → Type 0
-ArePatternsFound d input capacity given found =
-    (pairs : List Pair) × IsOverlapping Forward d input pairs
+-- earliest one its first pair alone. `Tells` says which list the walk tells.
+abbrev pub ArePatterns : (Tells : List Pair → Type 0) → Input → ℕ → (given found : List ℕ) → Type 0
+ArePatterns Tells input capacity given found =
+    (pairs : List Pair) × Tells pairs
     × ((p : ℕ) → In p found ↔ (In p given ⊎ ((p < capacity) × HasPattern p (first_alone input.earliest pairs))))
+
+-- The same by paths.
+abbrev pub ArePatternsFound : Engine → Input → ℕ → (given found : List ℕ) → Type 0
+ArePatternsFound d input capacity given found = ArePatterns (IsOverlapping Forward d input) input capacity given found
 
 -- The condition on an input: its haystack is of bytes, and its span ends in it.
 abbrev pub IsInput : Input → Type 0

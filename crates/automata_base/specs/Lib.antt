@@ -46,3 +46,4 @@ pub mod Told
 pub mod TruePairs
 pub mod Truths
 pub mod Visits
+pub mod WalkLaws

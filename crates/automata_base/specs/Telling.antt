@@ -1,12 +1,12 @@
 -- What a pass over a tape tells: the search of a powerset automaton, unit by unit, as functions.
-use Rattle.std.specs.Prelude.{ℕ, zero, suc, Bool, true, false, List, length, Option, None}
+use Rattle.std.specs.Prelude.{ℕ, zero, suc, Bool, true, false, List, [], ◌++◌, length, Option, None}
 use Rattle.automata_base.specs.Computed.{pair_at, earlier_or}
 use Rattle.automata_base.specs.Cuts.{MatchKind}
 use Rattle.automata_base.specs.Engines.{Anchored}
 use Rattle.automata_base.specs.Nodes.{Automaton}
 use Rattle.automata_base.specs.Paths.{Tape, next}
 use Rattle.automata_base.specs.Powerset.{Powerset}
-use Rattle.automata_base.specs.Selections.{Pair}
+use Rattle.automata_base.specs.Selections.{Pair, at_place}
 use Rattle.automata_base.specs.Steps.{start_state_of, successor}
 
 -- the powerset state after the first `k` units of the tape
@@ -36,3 +36,8 @@ told_upto kind false a mode t k = last_told a kind mode t k
 -- what a search tells of its pass, which reads each byte of the tape and the unit behind
 abbrev pub told_by : MatchKind → (earliest : Bool) → Automaton → Anchored → Tape → Option Pair
 told_by kind earliest a mode t = told_upto kind earliest a mode t (suc (length t.bytes))
+
+-- the pairs that the first `k` units tell, in order
+unfoldable pub pairs_told : Automaton → MatchKind → Anchored → Tape → ℕ → List Pair
+pairs_told a kind mode t zero = []
+pairs_told a kind mode t (suc i) = pairs_told a kind mode t i ++ at_place i (told_at a kind mode t i)

@@ -3,6 +3,7 @@ ghost use Rattle.automata_base.specs.LateIsRight.{SearchesAreRight, WalksAreRigh
 ghost use Rattle.automata_base.specs.StartIsRight.{StartsAreRight, SpansAreFound, SpansAreOne, AnswersAreOne, IterationsAreRight, IterationsAreOne, EndsRise, FoundEndsRise, MatchIffFound, BackMeetsNone};
 ghost use Rattle.automata_base.specs.StepLaws.{ClassesStepAlike, ClassesQuitAlike, StartsAreAlike, DeadStaysDead, PassesSelect, PassesFindNearest, PassesFindFarthest};
 ghost use Rattle.automata_base.specs.Told.{ToldEndsAreRight, ToldIsOne, ToldIsRight};
+ghost use Rattle.automata_base.specs.WalkLaws.{AllPairsAreTold, OverlappingIsTold, WalkIsRight, WalksAreOne, WalksAreTold};
 
 use crate::nfa::thompson::NFA;
 
@@ -55,4 +56,18 @@ pub fn told_is_right(nfa: &NFA)
     ensures ends { ToldEndsAreRight nfa.now }
 {
     let _states = nfa.states();
+}
+
+/// What the pass of an overlapping walk tells is one list, and it is the list of the ordered paths; and for every automaton
+/// it has, under kind all, the pairs of all accepting paths.
+pub fn walk_is_right(nfa: &NFA)
+    ensures told { WalksAreTold nfa.now }
+    ensures one { WalksAreOne }
+    ensures right { WalkIsRight nfa.now }
+    ensures overlapping { OverlappingIsTold nfa.now }
+    ensures all { AllPairsAreTold nfa.now }
+{
+    let _states = nfa.states();
+    let _utf8 = nfa.is_utf8();
+    let _empty = nfa.has_empty();
 }

@@ -22,7 +22,7 @@ use Rattle.automata_hybrid.proofs.Searching.{false_true}
 use Rattle.automata_hybrid.proofs.Units.{forward_unit, forward_units, backward_unit, backward_units}
 
 -- a byte of the haystack in reach of a span
-abbrev InReach : Input → ℕ → Type 0
+abbrev pub InReach : Input → ℕ → Type 0
 InReach input byte = (at : ℕ) × (input.start ≤ at + 1) × (at ≤ input.end) × (nth input.haystack at ≡ Some byte)
 
 before_reach : (input : Input) (o byte : ℕ) → input.start ≤ o → o ≤ input.end → byte_before input.haystack o ≡ Some byte → InReach input byte
@@ -30,13 +30,13 @@ before_reach input zero byte s e h = absurd (none_some h)
 before_reach input (suc o) byte s e h = (o, omega (arith, s), omega (arith, e), h)
 
 -- what stands behind the start of a pass is in reach
-behind_reach :
+pub behind_reach :
     (way : Direction) (input : Input) (byte : ℕ) → input.start ≤ input.end → (tape_in way input).before ≡ Some byte → InReach input byte
 behind_reach Forward input byte l h = before_reach input input.start byte (omega arith) l h
 behind_reach Backward input byte l h = (input.end, omega (arith, l), omega arith, h)
 
 -- and each unit that it reads
-unit_reach :
+pub unit_reach :
     (way : Direction) (input : Input) (k byte : ℕ)
     → input.start ≤ input.end → input.end ≤ length input.haystack → k ≤ length (tape_in way input).bytes
     → next (tape_in way input) k ≡ Some byte → InReach input byte
@@ -60,7 +60,7 @@ later_reach :
 later_reach Forward k input byte l r = (r.0, (let a : input.start + k ≤ r.0 + 1 = r.1 in omega (arith, a)), r.2, r.3)
 later_reach Backward k input byte l r = (r.0, r.1, (let a : r.0 ≤ input.end - k = r.2 in omega (arith, a)), r.3)
 
-is_behind : (m : Machine) (o : Option ℕ) (byte : ℕ) → quit_behind m o ≡ Some byte → (o ≡ Some byte) × (is_quit m.quits byte ≡ true)
+pub is_behind : (m : Machine) (o : Option ℕ) (byte : ℕ) → quit_behind m o ≡ Some byte → (o ≡ Some byte) × (is_quit m.quits byte ≡ true)
 is_behind m None byte e = absurd (none_some e)
 is_behind m (Some b) byte e = go (is_quit m.quits b) refl e where
   go :
@@ -73,7 +73,7 @@ later_mode : (way : Direction) (k : ℕ) (input : Input) → (later way k input)
 later_mode Forward k input = refl
 later_mode Backward k input = refl
 
-no_limit : (m : Machine) (c : Stored) (q : Powerset) → c.settings ≡ settings_of m → m.minimum_clear_count ≡ None → GivesUp c q → ⊥
+pub no_limit : (m : Machine) (c : Stored) (q : Powerset) → c.settings ≡ settings_of m → m.minimum_clear_count ≡ None → GivesUp c q → ⊥
 no_limit m c q same free gives =
     let limit : c.settings.minimum_clear_count ≡ None = ap (λ (s : Settings). s.minimum_clear_count) same ∙ free in
     let rule : refuses_at c.settings.minimum_clear_count c ≡ true = gives.2 in

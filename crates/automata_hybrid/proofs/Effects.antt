@@ -22,7 +22,7 @@ one_id : (t : Rows) (a b : ℕ) (q : Powerset) → Names t a q → Names t b q �
 one_id t a b q f g = some_id a b (sym f ∙ g)
 
 -- a clear shows in the count
-counts_up : (n m : ℕ) → m ≡ saturated (n + 1) → m ≡ n → n < 2 ^ 64 - 1 → ⊥
+pub counts_up : (n m : ℕ) → m ≡ saturated (n + 1) → m ≡ n → n < 2 ^ 64 - 1 → ⊥
 counts_up n m e same l = omega (arith, e, same, l)
 
 -- a cell that wasn't known is written
@@ -41,7 +41,7 @@ Keeps-start old slot id free = record {
   cells = λ i d v l k. refl;
 }
 
-Keeps-grown : (old : Stored) (r : Row) → HasCells old.table → Keeps old (grown old r)
+pub Keeps-grown : (old : Stored) (r : Row) → HasCells old.table → Keeps old (grown old r)
 Keeps-grown old r has = record {
   rows = λ i q h. Names-more old.table r i q h;
   starts = λ slot k. refl;
@@ -108,7 +108,7 @@ HasRoom-Fits c states extra little room =
     let first : length c.table.cells + 0 * c.table.of.stride < 2 ^ 27 = room.offsets 0 (omega arith) in
     (one_room (usage c) states c.table.of.stride (greatest c.table.of) extra c.settings.capacity little room.capacity, omega (arith, first))
 
-HasRoom-grown : (c : Stored) (r : Row) (states : ℕ) → length (template_of c.table.of) ≡ c.table.of.stride → cost r.state ≤ greatest c.table.of → HasRoom c (states + 1) → HasRoom (grown c r) states
+pub HasRoom-grown : (c : Stored) (r : Row) (states : ℕ) → length (template_of c.table.of) ≡ c.table.of.stride → cost r.state ≤ greatest c.table.of → HasRoom c (states + 1) → HasRoom (grown c r) states
 HasRoom-grown c r states wide little room =
     let cells : length (c.table.cells ++ template_of c.table.of) ≡ length c.table.cells + c.table.of.stride = length-append c.table.cells (template_of c.table.of) ∙ ap (λ n. length c.table.cells + n) wide in
     let rows : length (c.table.rows ++ r ∷ []) ≡ length c.table.rows + 1 = length-append c.table.rows (r ∷ []) in

@@ -1,12 +1,16 @@
 -- What steps and searches make of a cache, one after another.
-use Rattle.std.proofs.Common.{ℕ, ◌≡◌, ◌∙◌, ◌+◌, ◌-◌, ◌*◌, ◌≤◌, refl, sym, ap, subst, arith}
+use Rattle.std.proofs.Common.{ℕ, ◌≡◌, ◌∙◌, ◌+◌, ◌-◌, ◌*◌, ◌^◌, ◌<◌, ◌≤◌, inl, inr, length, refl, sym, ap, subst, arith}
 use Rattle.std.proofs.Math.Nat.{mul-le-mul_right}
 use Rattle.automata_hybrid.specs.declared.dfa.progress.Searched.{Searched}
-use Rattle.automata_hybrid.specs.Bounds.{Stored, usage, with_searched}
+use Rattle.automata_hybrid.specs.Bounds.{Stored, IsAddedStart, KeepsStarts, usage, with_searched}
 use Rattle.automata_hybrid.specs.Caches.{CacheView, counted, with_store}
 use Rattle.automata_hybrid.specs.Growing.{IsGrown, Keeps, ClearedNothing, HasRoom}
-use Rattle.automata_hybrid.proofs.Effects.{Keeps-trans}
-use Rattle.automata_hybrid.specs.Machine.{greatest}
+use Rattle.automata_hybrid.proofs.Effects.{HasRoom-Fits, HasRoom-grown, Keeps-grown, Keeps-trans, counts_up}
+use Rattle.automata_base.specs.Powerset.{cost}
+use Rattle.automata_hybrid.specs.declared.dfa.row.Row.{Row}
+use Rattle.automata_hybrid.specs.Machine.{greatest, template_of}
+use Rattle.automata_hybrid.specs.Progressing.{saturated}
+use Rattle.automata_hybrid.specs.Table.{HasCells}
 
 -- room for fewer states
 pub room_less : (c : Stored) (n k : ℕ) → k ≤ n → HasRoom c n → HasRoom c k
@@ -28,6 +32,7 @@ grown_searched c s =
       of = refl;
       counted = omega arith;
       clears = omega arith;
+      starts = λ slot k. k;
       idle = λ e. (refl, refl);
       kept = λ e. record { rows = λ id q n. n; starts = λ slot k. refl; cells = λ id class v l k. refl };
       roomy = λ states r. (
@@ -49,14 +54,16 @@ pub grown_one :
     → new.store.table.of ≡ old.store.table.of
     → new.count ≡ old.count + 1
     → old.store.clears ≤ new.store.clears
+    → KeepsStarts old.store.starts new.store.starts
     → (ClearedNothing old.store new.store → Keeps old.store new.store)
     → ((states : ℕ) → HasRoom old.store (states + 1) → HasRoom new.store states × (new.store.clears ≡ old.store.clears))
     → IsGrown old new
-grown_one old new of count clears kept roomy =
+grown_one old new of count clears starts kept roomy =
     record {
       of = of;
       counted = omega (arith, count);
       clears = clears;
+      starts = starts;
       idle = λ e. absurd (omega (arith, count, e));
       kept = kept;
       roomy = λ states r. roomy states (room_less old.store (states + (new.count - old.count)) (states + 1) (omega (arith, count)) r);
@@ -66,7 +73,7 @@ grown_one old new of count clears kept roomy =
 pub grown_counted : (old new : CacheView) → new ≡ counted old → IsGrown old new
 grown_counted old new e =
     subst (IsGrown old) (sym e)
-    (grown_one old (counted old) refl refl (omega arith)
+    (grown_one old (counted old) refl refl (omega arith) (λ slot k. k)
     (λ nothing. record { rows = λ id q n. n; starts = λ slot k. refl; cells = λ id class v l k. refl })
     (λ states r. (room_less old.store (states + 1) states (omega arith) r, refl)))
 
@@ -84,6 +91,7 @@ grown_trans a b c f g =
       of = g.of ∙ f.of;
       counted = omega (arith, f.counted, g.counted);
       clears = omega (arith, f.clears, g.clears);
+      starts = λ slot k. g.starts slot (f.starts slot k);
       idle = λ e.
           (let first : b.count ≡ a.count = omega (arith, e, f.counted, g.counted) in
           let second : c.count ≡ b.count = omega (arith, e, f.counted, g.counted) in
@@ -102,3 +110,52 @@ grown_trans a b c f g =
 pub clears_none :
     (old new : CacheView) (n : ℕ) → IsGrown old new → new.count ≤ old.count + n → HasRoom old.store n → new.store.clears ≡ old.store.clears
 clears_none old new n g few room = (g.roomy 0 (room_less old.store n (0 + (new.count - old.count)) (omega (arith, few)) room)).1
+
+-- a state put back counts as one determinisation would
+pub grown_again :
+    (old new : CacheView) (r : Row)
+    → IsAddedStart old.store r new.store → new.count ≡ old.count → new.store.table.of ≡ old.store.table.of
+    → KeepsStarts old.store.starts new.store.starts
+    → HasCells old.store.table → length (template_of old.store.table.of) ≡ old.store.table.of.stride → old.store.clears < 2 ^ 64
+    → cost r.state ≤ greatest old.store.table.of → IsGrown old (counted new)
+grown_again old new r (inl (fits, e)) count of starts cells wide small little =
+    grown_one old (counted new) of (omega (arith, count))
+    (let c : new.store.clears ≡ old.store.clears = ap (λ (s : Stored). s.clears) e in omega (arith, c))
+    starts
+    (λ nothing. subst (λ (s : Stored). Keeps old.store s) (sym e) (Keeps-grown old.store r cells))
+    (λ states room. (
+      subst (λ (s : Stored). HasRoom s states) (sym e) (HasRoom-grown old.store r states wide little room),
+      ap (λ (s : Stored). s.clears) e,
+    ))
+grown_again old new r (inr (full, may, e)) count of starts cells wide small little =
+    grown_one old (counted new) of (omega (arith, count)) (omega (arith, up, small)) starts
+    (λ nothing. absurd (counts_up old.store.clears new.store.clears up nothing.0 nothing.1))
+    (λ states room. absurd (full (HasRoom-Fits old.store states (cost r.state) little room)))
+  where
+    up : new.store.clears ≡ saturated (old.store.clears + 1)
+    up = ap (λ (s : Stored). s.clears) e
+
+-- the same of two caches with one count more
+pub grown_both : (old new : CacheView) → IsGrown old new → IsGrown (counted old) (counted new)
+grown_both old new g =
+    record {
+      of = g.of;
+      counted = omega (arith, g.counted);
+      clears = g.clears;
+      starts = g.starts;
+      idle = λ e. (let i = g.idle (omega (arith, e)) in (omega (arith, e), i.1));
+      kept = g.kept;
+      roomy = λ states r. g.roomy states (room_less old.store (states + (new.count + 1 - (old.count + 1))) (states + (new.count - old.count)) (omega arith) r);
+    }
+
+pub grown_after : (old between new : CacheView) → IsGrown old (counted between) → IsGrown between new → IsGrown old (counted new)
+grown_after old between new f g = grown_trans old (counted between) (counted new) f (grown_both between new g)
+
+pub grown_less : (old new : CacheView) → IsGrown old new → IsGrown old (counted new)
+grown_less old new g = grown_trans old new (counted new) g (grown_counted new (counted new) refl)
+
+-- nothing is cleared where there is room for all that is determinised and a state put back
+pub clears_none_back :
+    (old new : CacheView) (n : ℕ)
+    → IsGrown old (counted new) → new.count ≤ old.count + n → HasRoom old.store (n + 1) → new.store.clears ≡ old.store.clears
+clears_none_back old new n g few room = clears_none old (counted new) (n + 1) g (omega (arith, few)) room

@@ -29,7 +29,7 @@ use Rattle.automata_base.specs.Classes.{is_quit}
 use Rattle.automata_hybrid.proofs.Stepping.{Leads-silent, Leads-Names}
 
 -- one unit more
-state_more :
+pub state_more :
     (way : Direction) (m : Machine) (input : Input) (k : ℕ)
     → state_in way m input (suc k) ≡ successor m.nfa m.kind (state_in way m input k) (next (tape_in way input) k)
 unfolding state_after

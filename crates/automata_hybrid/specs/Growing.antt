@@ -1,7 +1,7 @@
 -- What steps and searches make of a cache, and a reset doesn't.
 use Rattle.std.specs.Prelude.{◌≡◌, ℕ, ◌+◌, ◌-◌, ◌*◌, ◌^◌, ◌<◌, ◌≤◌, length, slice_index}
 use Rattle.automata_base.specs.Powerset.{Powerset}
-use Rattle.automata_hybrid.specs.Bounds.{Stored, IsKnownStart, IsKnownTransition, cell_of, usage, with_searched}
+use Rattle.automata_hybrid.specs.Bounds.{Stored, IsKnownStart, IsKnownTransition, KeepsStarts, cell_of, usage, with_searched}
 use Rattle.automata_hybrid.specs.Caches.{CacheView}
 use Rattle.automata_hybrid.specs.Ids.{offset_limit}
 use Rattle.automata_hybrid.specs.Machine.{greatest}
@@ -31,6 +31,8 @@ pub record IsGrown (old new : CacheView) : Type 0 where
   pub of : new.store.table.of ≡ old.store.table.of
   pub counted : old.count ≤ new.count
   pub clears : old.store.clears ≤ new.store.clears
+  -- a start that is known stays known, across clears too
+  pub starts : KeepsStarts old.store.starts new.store.starts
   -- with nothing determinised nothing has changed but the progress of searches
   pub idle : new.count ≡ old.count → IsStill old new
   -- with nothing cleared nothing is lost

@@ -16,3 +16,6 @@ pub mod Searches
 pub mod Knowing
 pub mod Passing
 pub mod Agreeing
+pub mod Walks
+pub mod Walking
+pub mod Which

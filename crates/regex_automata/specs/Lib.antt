@@ -1,1 +1,10 @@
 pub use Rattle.automata_hybrid.specs.Caches
+pub mod SoundPairs
+pub mod Outcomes
+pub mod RegexBuilds
+pub mod RegexCaches
+pub mod RegexRefusals
+pub mod Costs
+pub mod Iterating
+pub mod Lending
+pub mod Matching

@@ -22,7 +22,7 @@ after_is a kind mode t start zero e = ap (λ o. start_or_dead (nfa_of a) o t.bef
 after_is a kind mode t start (suc k) e =
     ap (λ Q. successor a kind Q (next t k)) (after_is a kind mode t start k e)
 
-told_is :
+pub told_is :
     (a : Automaton) (kind : MatchKind) (mode : Anchored) (t : Tape) (start i : ℕ)
     → mode_start a mode ≡ Some start → told_at a kind mode t i ≡ told_of (nfa_of a) kind start t i
 told_is a kind mode t start i e = ap (λ (Q : Powerset). Q.patterns) (after_is a kind mode t start (suc i) e)

@@ -34,7 +34,7 @@ none_after a kind mode t zero e = ap (λ o. start_or_dead (nfa_of a) o t.before)
 none_after a kind mode t (suc k) e =
     ap (λ Q. successor a kind Q (next t k)) (none_after a kind mode t k e) ∙ dead_stays a kind (next t k)
 
-none_at :
+pub none_at :
     (a : Automaton) (kind : MatchKind) (mode : Anchored) (t : Tape) (i : ℕ)
     → mode_start a mode ≡ None → told_at a kind mode t i ≡ []
 none_at a kind mode t i e = ap (λ (Q : Powerset). Q.patterns) (none_after a kind mode t (suc i) e)
@@ -67,7 +67,7 @@ get_nth [] k = refl
 get_nth (x ∷ xs) zero = refl
 get_nth (x ∷ xs) (suc k) = get_nth xs k
 
-first_is : (a : Automaton) (kind : MatchKind) (mode : Anchored) → first_state (engine_of a kind) mode ≡ mode_start a mode
+pub first_is : (a : Automaton) (kind : MatchKind) (mode : Anchored) → first_state (engine_of a kind) mode ≡ mode_start a mode
 first_is a kind No = refl
 first_is a kind Yes = refl
 first_is a kind (Pattern p) = get_nth a.start_pattern p
@@ -80,7 +80,7 @@ all_get : (n : ℕ) (xs : List ℕ) (k q : ℕ) → All (λ s. s < n) xs → sli
 all_get n xs k q h e =
     subst (λ v. v < n) (get_or_from_slice_get xs k q 0 e) (h k 0 (slice_get_within xs k q e))
 
-start_below : (a : Automaton) (mode : Anchored) (q : ℕ) → IsDoor a → mode_start a mode ≡ Some q → q < length (nodes_of a.states)
+pub start_below : (a : Automaton) (mode : Anchored) (q : ℕ) → IsDoor a → mode_start a mode ≡ Some q → q < length (nodes_of a.states)
 start_below a No q d e = let s : a.start_unanchored ≡ q = some_inj e in omega (arith, d.unanchored, s, nodes_length a.states)
 start_below a Yes q d e = let s : a.start_anchored ≡ q = some_inj e in omega (arith, d.anchored, s, nodes_length a.states)
 start_below a (Pattern p) q d e =

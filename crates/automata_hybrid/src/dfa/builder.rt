@@ -1,4 +1,4 @@
-ghost use Rattle.std.specs.Prelude.{◌≡◌, IfOk, IfErr, None, [], ◌∷◌};
+ghost use Rattle.std.specs.Prelude.{◌≡◌, IfOk, IfErr, None, [], ◌∷◌, false};
 ghost use Rattle.automata_base.specs.Nodes.{Automaton};
 ghost use Rattle.automata_config.specs.Options.{unset, overwritten};
 ghost use Rattle.automata_config.specs.Settling.{refusal};
@@ -67,6 +67,7 @@ fn of_state(alloc: Global, state: State, starts: Vec<StateID>) -> Result<DFA, Bu
     ensures built { IfOk result (λ m. Builds unset m.nfa m) }
     ensures states { IfOk result (λ m. m.nfa.states ≡ state ∷ []) }
     ensures starts { IfOk result (λ m. m.nfa.start_pattern ≡ starts.items) }
+    ensures flags { IfOk result (λ m. m.nfa.flags ≡ record { utf8 = false; reverse = false; line_terminator = 10 }) }
 {
     let mut states = Vec::new(alloc);
     states.push(state)?;
@@ -91,6 +92,7 @@ impl DFA {
         ensures built { IfOk result (λ m. Builds unset m.nfa m) }
         ensures states { IfOk result (λ m. m.nfa.states ≡ State.Match 0 ∷ []) }
         ensures starts { IfOk result (λ m. m.nfa.start_pattern ≡ 0 ∷ []) }
+        ensures flags { IfOk result (λ m. m.nfa.flags ≡ record { utf8 = false; reverse = false; line_terminator = 10 }) }
     {
         let mut starts = Vec::new(alloc);
         starts.push(StateID::ZERO)?;
@@ -110,6 +112,7 @@ impl DFA {
         ensures built { IfOk result (λ m. Builds unset m.nfa m) }
         ensures states { IfOk result (λ m. m.nfa.states ≡ State.Fail ∷ []) }
         ensures starts { IfOk result (λ m. m.nfa.start_pattern ≡ []) }
+        ensures flags { IfOk result (λ m. m.nfa.flags ≡ record { utf8 = false; reverse = false; line_terminator = 10 }) }
     {
         let dfa = of_state(alloc, State::Fail, Vec::new(alloc))?;
         Ok(dfa)

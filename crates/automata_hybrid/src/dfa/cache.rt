@@ -5,13 +5,17 @@ ghost use Rattle.automata_hybrid.specs.Owned.{IsOwn};
 ghost use Rattle.automata_hybrid.specs.Machine.{next_of, start_of, greatest, template_of};
 ghost use Rattle.automata_hybrid.specs.Ids.{dead_id, unknown_id, fixed_from, offset_limit};
 ghost use Rattle.automata_hybrid.specs.Table.{id_of, Names, IsValid, Leads, MayLead, IsCell, HasCells, Has};
-ghost use Rattle.automata_hybrid.specs.Bounds.{Fits, refuses_to_clear, IsCacheError, KeepsStarts, IsAdded, IsAddedStart, cell_of, with_next, with_start, with_searched, grown, cleared, usage, settings_of};
+ghost use Rattle.automata_hybrid.specs.Bounds.{Fits, refuses_to_clear, IsCacheError, KeepsStarts, IsAdded, IsAddedStart, cell_of, with_next, with_start, with_searched, grown, cleared, usage, settings_of, GivesUp};
 ghost use Rattle.automata_hybrid.specs.Caches.{IsRow, IsCacheOf, fresh_cache, counted, with_store};
+ghost use Rattle.automata_hybrid.specs.Growing.{IsGrown};
+ghost use Rattle.automata_hybrid.specs.Walking.{IsRowState};
+ghost use Rattle.automata_hybrid.specs.Walks.{HasKey, state_held};
 ghost use Rattle.automata_hybrid.specs.Progressing.{started, updated, finished, total_len};
 
 use crate::dfa::store::Store;
 use crate::dfa::{DFA, row};
 use crate::id::LazyStateID;
+use crate::search::walk::Held;
 use automata_base::util::determinize::key::Key;
 use automata_base::util::determinize::scratch::Scratch;
 use automata_base::util::determinize::state::State;
@@ -108,6 +112,43 @@ impl Cache {
             return Ok(Found::Known(self.store.dead()));
         }
         Ok(Found::New(state))
+    }
+
+    /// The ID of a state, where the cache has it.
+    pub(crate) fn find(&self, key: &Key) -> Option<LazyStateID>
+        ensures { result ≡ id_of self.now.store.table key.now }
+    {
+        self.store.get(key)
+    }
+
+    /// A handle on the state of a row. It takes no memory.
+    pub(crate) fn hold(&self, id: LazyStateID) -> Held
+        requires { IsValid self.now.store.table id }
+        ensures state { (q : Powerset) → Names self.now.store.table id q → state_held result ≡ q }
+        ensures key { HasKey result }
+        ensures row { IsRowState self.now.store.table.of (state_held result) }
+    {
+        self.see_ids();
+        Held::of(self.store.state(id))
+    }
+
+    /// Adds a state again that a clear took. A refusal changes nothing.
+    pub(crate) fn add_again(&mut self, dfa: &DFA, state: State) -> Result<LazyStateID, StepError>
+        requires dfa { IsCacheOf self.old dfa.now }
+        requires absent { id_of self.old.store.table state ≡ None }
+        requires alive { state ≡ dead → ⊥ }
+        requires cost { cost state ≤ greatest dfa.now }
+        requires of { IsOwn dfa.now.nfa state }
+        ensures of { IsCacheOf self.new dfa.now }
+        ensures named { IfOk result (λ id. Names self.new.store.table id state) }
+        ensures count { self.new.count ≡ self.old.count }
+        ensures grown { IsGrown self.old (counted self.new) }
+        ensures gives_up { IfErr result (λ e. IsCacheError e → GivesUp self.old.store state) }
+        ensures err { OnErr result (self.new ≡ self.old) }
+    {
+        self.see_cells();
+        let id = self.add_start(dfa, state, false)?;
+        Ok(id)
     }
 
     /// Whether some row of the cache has exactly this ID now, tags included. A clear can end it.

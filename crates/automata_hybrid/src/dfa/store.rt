@@ -312,6 +312,7 @@ impl Store {
         requires { IsValid self.now.table id }
         ensures named { (q : Powerset) → Names self.now.table id q → result.now ≡ q }
         ensures of { IsOwn self.now.table.of.nfa result.now }
+        ensures cost { cost result.now ≤ greatest self.now.table.of }
     {
         self.table.state(id)
     }

@@ -102,6 +102,7 @@ impl Table {
         requires { IsValid self.now id }
         ensures named { (q : Powerset) → Names self.now id q → result.now ≡ q }
         ensures of { IsOwn self.now.of.nfa result.now }
+        ensures cost { cost result.now ≤ greatest self.now.of }
     {
         let index = self.row_index(id);
         let row = &self.rows[index];

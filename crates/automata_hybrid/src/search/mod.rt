@@ -15,7 +15,9 @@ ghost use Rattle.automata_base.specs.declared.util.search.MatchErrorKind.TheVari
 ghost use Rattle.automata_hybrid.specs.Table.{IsValid, Leads, Names};
 
 mod forward;
+mod overlapping;
 mod reverse;
+pub mod walk;
 
 use crate::dfa::DFA;
 use crate::dfa::cache::Cache;

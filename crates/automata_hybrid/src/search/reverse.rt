@@ -27,7 +27,7 @@ use crate::dfa::cache::Cache;
 use crate::id::LazyStateID;
 use crate::search::{Stop, is_anchored, quit, with_span};
 use automata_base::laws::told_is_right;
-use automata_base::util::search::{HalfMatch, Input};
+use automata_base::util::search::{Anchored, HalfMatch, Input};
 use automata_config::error::SearchError;
 
 impl DFA {
@@ -59,11 +59,11 @@ impl DFA {
         // It does answer where no quit byte is in reach, the mode is supported, no clear limit is set, and memory is found.
         ensures answers { NoQuitInReach self.now input.now → supports self.now input.now.anchored ≡ true → self.now.minimum_clear_count ≡ None → IfErr result (λ e. e ≡ SearchError.OutOfMemory) }
 
-        // Over a span of m bytes it makes at most m + 2 determinisations, where no place is skipped, and clears nothing where
-        // there is room for as many states.
-        ensures bounded { (Skips self.now → ⊥) → cache.new.count ≤ cache.old.count + (input.now.end - input.now.start + 2) }
+        // Over a span of m bytes it makes at most m + 2 determinisations, where no place is skipped or the search is
+        // anchored, and clears nothing where there is room for as many states.
+        ensures bounded { (Skips self.now × (input.now.anchored ≡ Anchored.No) → ⊥) → cache.new.count ≤ cache.old.count + (input.now.end - input.now.start + 2) }
         ensures bounded_all { cache.new.count ≤ cache.old.count + (input.now.end - input.now.start + 1) * (input.now.end - input.now.start + 2) }
-        ensures roomy { (Skips self.now → ⊥) → HasRoom cache.old.store (input.now.end - input.now.start + 2) → cache.new.store.clears ≡ cache.old.store.clears }
+        ensures roomy { (Skips self.now × (input.now.anchored ≡ Anchored.No) → ⊥) → HasRoom cache.old.store (input.now.end - input.now.start + 2) → cache.new.store.clears ≡ cache.old.store.clears }
         ensures roomy_all { HasRoom cache.old.store ((input.now.end - input.now.start + 1) * (input.now.end - input.now.start + 2)) → cache.new.store.clears ≡ cache.old.store.clears }
 
         // Until the next clear nothing is lost, and what it used is known. With all that known it takes no memory, and changes
@@ -90,7 +90,7 @@ impl DFA {
         ensures of { IsCacheOf cache.new self.now }
         ensures found { IfOk result (WithoutBase (IsFound Backward self.now input.now)) }
         ensures errors { IfErr result (IsRefused Backward self.now cache.new.store input.now) }
-        ensures bounded { (Skips self.now → ⊥) → cache.new.count ≤ cache.old.count + (input.now.end - input.now.start + 2) }
+        ensures bounded { (Skips self.now × (input.now.anchored ≡ Anchored.No) → ⊥) → cache.new.count ≤ cache.old.count + (input.now.end - input.now.start + 2) }
         ensures unsupported { input.now.start ≤ input.now.end → quit_behind self.now (nth input.now.haystack input.now.end) ≡ None → supports self.now input.now.anchored ≡ false → result ≡ Err (SearchError.Match (UnsupportedMode input.now.anchored)) }
         ensures grown { IsGrown cache.old cache.new }
         ensures known { Knows Backward self.now cache.old.store input.now → (cache.new.count ≡ cache.old.count) × IfErr result IsOfInput }

@@ -4,3 +4,4 @@ pub use automata_config::config::Config;
 pub use automata_hybrid::dfa::DFA;
 pub use automata_hybrid::dfa::builder::Builder;
 pub use automata_hybrid::dfa::cache::Cache;
+pub use automata_hybrid::search::walk::OverlappingState;

@@ -86,7 +86,7 @@ loop-later-preserved c =
       of = c.in_ok-half.ensures.of;
       to = omega (arith, end, c.loop-later.invariant.to);
       same = set ∙ (ap (λ (i : Input). record i { end = c.loop-later.later.end - 1 }) c.loop-later.invariant.same ∙ ap (λ (n : ℕ). record c.args.input.now { end = n }) (sym end));
-      whole = λ n. absurd (n (c.if-not-skips_at.ensures.yes refl).0);
+      whole = λ n. absurd (n ((c.if-not-skips_at.ensures.yes refl).0, mode));
       first = λ u. absurd (false_true (sym u ∙ (ap (λ (i : Input). supports c.args.self.now i.anchored) (sym c.loop-later.invariant.same) ∙ c.in_ok-half.ensures.supported)));
       grown = grown_trans c.args.cache.now c.loop-later.cache c.pass_rev.new.cache c.loop-later.invariant.grown c.in_ok-half.ensures.grown;
       known = λ knows. (
@@ -356,7 +356,9 @@ returns-then-end-eq0-clause-known c = λ knows.
     (idle.0 ∙ c.loop-later.invariant.known knows, tt)
 
 pub returns-then-end-eq0-clause-bounded : goal.returns-then-end-eq0-clause-bounded
-returns-then-end-eq0-clause-bounded c = λ whole. absurd (whole (c.if-not-skips_at.ensures.yes refl).0)
+returns-then-end-eq0-clause-bounded c = λ whole.
+    let mode : c.args.input.now.anchored ≡ No = sym (c.get_anchored.ensures ∙ ap (λ (i : Input). i.anchored) c.loop-later.invariant.same) ∙ c.if-is_anchored.ensures.no refl in
+    absurd (whole ((c.if-not-skips_at.ensures.yes refl).0, mode))
 
 pub returns-then-end-eq0-clause-bounded_all : goal.returns-then-end-eq0-clause-bounded_all
 returns-then-end-eq0-clause-bounded_all c =

@@ -76,7 +76,7 @@ returns-clause-grown c =
     let of : c.compute_next.new.self.store.table.of ≡ c.args.self.now.store.table.of = c.in_ok-next.ensures.of ∙ sym c.requires.of in
     grown_one c.args.self.now c.compute_next.new.self of
     c.in_ok-next.ensures.counted
-    (clears_more c) (kept c) (roomy c)
+    (clears_more c) c.in_ok-next.ensures.starts (kept c) (roomy c)
 
 pub returns-then-not-is_unknown-clause-known : goal.returns-then-not-is_unknown-clause-known
 returns-then-not-is_unknown-clause-known c = λ _. ap Ok c.cell-cell.ensures.value

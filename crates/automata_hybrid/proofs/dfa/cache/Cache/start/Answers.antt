@@ -38,4 +38,4 @@ returns-clause-grown c =
     let of : c.compute_start.new.self.store.table.of ≡ c.args.self.now.store.table.of = c.in_ok-id.ensures.of ∙ sym c.requires.of in
     grown_one c.args.self.now c.compute_start.new.self of
     c.in_ok-id.ensures.counted
-    (clears_more c) (kept c) (roomy c)
+    (clears_more c) c.in_ok-id.ensures.starts (kept c) (roomy c)

@@ -13,3 +13,13 @@ returns-clause-of c =
     let e : r ≡ get_or t.rows k r = c.index-row.ensures ∙ ap (λ (v : Rows). get_or v.rows k r) c.self.view_is in
     let has : slice_get t.rows k ≡ Some r = slice_get_read t.rows (length t.rows) k r refl c.row_index-index.ensures.within e in
     (i.alive k r has).2
+
+pub returns-clause-cost : goal.returns-clause-cost
+returns-clause-cost c =
+    let t : Rows = c.args.self.now in
+    let r : Row = c.index-row.result.now in
+    let k = c.row_index-index.result in
+    let i : IsTable t c.self.inside.map c.self.inside.costs = subst (λ (v : Rows). IsTable v c.self.inside.map c.self.inside.costs) c.self.view_is c.self.invariant.table in
+    let e : r ≡ get_or t.rows k r = c.index-row.ensures ∙ ap (λ (v : Rows). get_or v.rows k r) c.self.view_is in
+    let has : slice_get t.rows k ≡ Some r = slice_get_read t.rows (length t.rows) k r refl c.row_index-index.ensures.within e in
+    (i.alive k r has).1

@@ -1,0 +1,62 @@
+-- What an overlapping walk tells by its pass, for every automaton, and that this is what the ordered paths tell.
+use Rattle.std.specs.Prelude.{ℕ, ◌≡◌, ◌≤◌, ◌⊎◌, ◌↔◌, suc, false, List, [], ◌∷◌, length, Some}
+use Rattle.automata_base.specs.Answers.{IsInput, IsOverlapping, Walks, offset_in}
+use Rattle.automata_base.specs.Cuts.{MatchKind, All}
+use Rattle.automata_base.specs.Engines.{IsSkipping, engine_of}
+use Rattle.automata_base.specs.Input.{Input}
+use Rattle.automata_base.specs.Nodes.{Automaton, nfa_of}
+use Rattle.automata_base.specs.Paths.{IsLookAcyclic}
+use Rattle.automata_base.specs.Selections.{Accepts, Pair}
+use Rattle.automata_base.specs.Starts.{mode_start}
+use Rattle.automata_base.specs.Tapes.{Direction, is_split, tape_of}
+use Rattle.automata_base.specs.Telling.{pairs_told}
+
+-- what the pass over the span of an input tells, which is not done; the places are the walk's
+abbrev pub PassTells : Direction → Automaton → MatchKind → Input → List Pair → Type 0
+PassTells way a kind input pairs =
+    pairs ≡ pairs_told a kind input.anchored (tape_of way input.haystack input.start input.end) (suc (length (tape_of way input.haystack input.start input.end).bytes))
+
+-- the whole list of a walk: what its pass tells, by offsets, without the split places where they are skipped
+abbrev pub AreTold : Direction → Automaton → MatchKind → Input → List Pair → Type 0
+AreTold way a kind input found = Walks (PassTells way a kind) (IsSkipping (engine_of a kind)) way input found
+
+-- each walk has such a list, and one alone
+abbrev pub WalksAreTold : Automaton → Type 0
+WalksAreTold a = (way : Direction) (kind : MatchKind) (input : Input) → (found : List Pair) × AreTold way a kind input found
+
+abbrev pub WalksAreOne : Type 0
+WalksAreOne =
+    (way : Direction) (a : Automaton) (kind : MatchKind) (input : Input) (first second : List Pair)
+    → AreTold way a kind input first → AreTold way a kind input second → first ≡ second
+
+-- for a look-acyclic automaton it is the list of the ordered paths
+abbrev pub WalkIsRight : Automaton → Type 0
+WalkIsRight a =
+    (way : Direction) (kind : MatchKind) (input : Input) (found : List Pair)
+    → IsLookAcyclic (nfa_of a) → IsInput input → AreTold way a kind input found → IsOverlapping way (engine_of a kind) input found
+
+-- and each list of the ordered paths is this one
+abbrev pub OverlappingIsTold : Automaton → Type 0
+OverlappingIsTold a =
+    (way : Direction) (kind : MatchKind) (input : Input) (found : List Pair)
+    → IsLookAcyclic (nfa_of a) → IsInput input → IsOverlapping way (engine_of a kind) input found → AreTold way a kind input found
+
+abbrev pub InPairs : Pair → List Pair → Type 0
+InPairs pair [] = ⊥
+InPairs pair (x ∷ xs) = (pair ≡ x) ⊎ InPairs pair xs
+
+-- some path of this pattern from the start ends at the place of this offset, which isn't left out
+abbrev pub IsAccepted : Direction → Automaton → Input → (start : ℕ) → Pair → Type 0
+IsAccepted way a input start pair =
+    (place : ℕ) × (path : List ℕ)
+    × (place ≤ length (tape_of way input.haystack input.start input.end).bytes)
+    × Accepts (nfa_of a) (tape_of way input.haystack input.start input.end) start place pair.pattern path
+    × (pair.place ≡ offset_in way input place)
+    × (IsSkipping (engine_of a All) → is_split input.haystack pair.place ≡ false)
+
+-- for every automaton a walk of kind all tells the pairs of all accepting paths
+abbrev pub AllPairsAreTold : Automaton → Type 0
+AllPairsAreTold a =
+    (way : Direction) (input : Input) (found : List Pair) (start : ℕ)
+    → IsInput input → input.start ≤ input.end → mode_start a input.anchored ≡ Some start → AreTold way a All input found
+    → (pair : Pair) → InPairs pair found ↔ IsAccepted way a input start pair

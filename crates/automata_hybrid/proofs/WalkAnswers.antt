@@ -1,0 +1,72 @@
+-- Where no quit byte is in reach, no clear limit is set and the mode is supported, a walk call is refused by memory alone.
+use Rattle.std.proofs.Common.{ℕ, ◌≡◌, ◌≤◌, inl, inr, Bool, true, false, length, Some, None, refl, sym, ◌∙◌}
+use Rattle.std.specs.Prelude.{Result, Ok, Err, IfErr}
+use Rattle.automata_base.specs.Classes.{is_quit}
+use Rattle.automata_base.specs.Input.{Input}
+use Rattle.automata_base.specs.Paths.{next}
+use Rattle.automata_base.specs.Powerset.{Powerset}
+use Rattle.automata_base.specs.Tapes.{Direction}
+use Rattle.automata_base.specs.declared.util.search.MatchErrorKind.TheVariants.{Quit as QuitAt, GaveUp, UnsupportedAnchored as UnsupportedMode}
+use Rattle.automata_config.specs.declared.error.StartError.TheVariants as start
+use Rattle.automata_config.specs.declared.error.SearchError.{SearchError}
+use Rattle.automata_config.specs.declared.error.SearchError.TheVariants as search
+use Rattle.automata_hybrid.specs.Bounds.{Stored, settings_of}
+use Rattle.automata_hybrid.specs.Machine.{Machine}
+use Rattle.automata_hybrid.specs.Searches.{IsStepRefusal, NoQuitInReach, tape_in}
+use Rattle.automata_hybrid.specs.Slots.{supports}
+use Rattle.automata_hybrid.specs.Starting.{IsStartRefusalAt}
+use Rattle.automata_hybrid.specs.Walking.{HasTold, IsResumeRefusal, IsWalkRefusal}
+use Rattle.automata_hybrid.specs.Walks.{At, Ended, Fresh, Stage, Walk}
+use Rattle.automata_hybrid.proofs.Answering.{InReach, behind_reach, is_behind, no_limit, unit_reach}
+use Rattle.automata_hybrid.proofs.Searching.{false_true}
+
+module _ (way : Direction) (m : Machine) (c : Stored) (input : Input)
+    (few : input.end ≤ length input.haystack) (same : c.settings ≡ settings_of m) (reach : NoQuitInReach m input)
+    (mode : supports m input.anchored ≡ true) (free : m.minimum_clear_count ≡ None) where
+  unquit : (byte : ℕ) → InReach input byte → is_quit m.quits byte ≡ true → ⊥
+  unquit byte r q = false_true (sym (reach r.0 byte r.1 r.2 r.3) ∙ q)
+
+  start_memory :
+      (behind_at start_at : ℕ) (e : SearchError)
+      → input.start ≤ input.end → IsStartRefusalAt m c input.anchored (tape_in way input).before behind_at start_at e → e ≡ search.OutOfMemory
+  start_memory behind_at start_at e l (start.Quit byte, r, told) =
+      let b : ((tape_in way input).before ≡ Some byte) × (is_quit m.quits byte ≡ true) = is_behind m (tape_in way input).before byte r in
+      absurd (unquit byte (behind_reach way input byte l b.0) b.1)
+  start_memory behind_at start_at e l (start.UnsupportedAnchored mode', r, told) = absurd (false_true (sym r.1 ∙ mode))
+  start_memory behind_at start_at e l (start.Cache err, r, told) = absurd (no_limit m c _ same free r.1)
+  start_memory behind_at start_at e l (start.OutOfMemory, r, told) = told
+
+  step_memory :
+      (j quit_at given_up_at : ℕ) (q : Powerset) (e : SearchError)
+      → input.start ≤ input.end → j ≤ length (tape_in way input).bytes
+      → IsStepRefusal m c q (next (tape_in way input) j) quit_at given_up_at e → e ≡ search.OutOfMemory
+  step_memory j quit_at given_up_at q (search.Match (QuitAt byte offset)) s l r =
+      absurd (unquit byte (unit_reach way input j byte s few l r.0) r.1)
+  step_memory j quit_at given_up_at q (search.Match (UnsupportedMode told)) s l r = absurd r
+  step_memory j quit_at given_up_at q (search.Match (GaveUp offset)) s l r = absurd (no_limit m c _ same free r.0)
+  step_memory j quit_at given_up_at q search.OutOfMemory s l r = refl
+  step_memory j quit_at given_up_at q search.NotAPair s l r = absurd r
+
+  resume_memory :
+      (s : Stage) (units : ℕ) (e : SearchError) → input.start ≤ input.end → IsResumeRefusal way m c input s units e → e ≡ search.OutOfMemory
+  resume_memory Fresh units e l r = start_memory _ _ e l r
+  resume_memory (At q) units e l (inl r) = r
+  resume_memory (At q) units e l (inr r) = absurd (no_limit m c q same free r.0)
+  resume_memory Ended units e l r = absurd r
+
+  pub walk_memory : (w : Walk) (k : ℕ) (e : SearchError) → IsWalkRefusal way m c input w k e → e ≡ search.OutOfMemory
+  walk_memory w k e (l, inl r) = resume_memory w.stage w.units e l r.1
+  walk_memory w k e (l, inr (may, r)) = step_memory r.0 _ _ _ e l r.2.0 r.5
+
+  -- whether or not the walk lost its state
+  pub call_memory :
+      (w : Walk) (r : Result (Unit {0}) SearchError)
+      → ((k : ℕ) × HasTold way m input w k)
+      → (w.lost ≡ true → IfErr r (λ e. e ≡ search.OutOfMemory))
+      → (w.lost ≡ false → (k : ℕ) → HasTold way m input w k → IfErr r (IsWalkRefusal way m c input w k))
+      → IfErr r (λ e. e ≡ search.OutOfMemory)
+  call_memory w (Ok u) told lost refused = tt
+  call_memory w (Err e) told lost refused = go w.lost refl where
+    go : (b : Bool) → w.lost ≡ b → e ≡ search.OutOfMemory
+    go true f = lost f
+    go false f = walk_memory w told.0 e (refused f told.0 told.1)

@@ -1,0 +1,275 @@
+-- What a call makes of a walk.
+use Rattle.std.proofs.Common.{ℕ, suc, ◌≡◌, ◌<◌, ◌≤◌, ◌+◌, ◌-◌, ◌⊎◌, ◌↔◌, inl, inr, Bool, false, List, [], ◌∷◌, ◌++◌, length, Some, None, refl, sym, ap, ap₂, ◌∙◌, subst, arith, length-append, get_or}
+use Rattle.std.specs.Prelude.{Err, IsTrue, Ok, OnErr, OnOk, Result}
+use Rattle.automata_base.specs.Answers.{offset_in}
+use Rattle.automata_base.specs.Input.{Input}
+use Rattle.automata_base.specs.Matches.{HalfMatch}
+use Rattle.automata_base.specs.Powerset.{Powerset}
+use Rattle.automata_base.specs.Selections.{Pair, at_place}
+use Rattle.automata_base.specs.Tapes.{Direction, is_split}
+use Rattle.automata_base.specs.Telling.{pairs_told}
+use Rattle.automata_base.proofs.Determinizing.ToldWalks.{walks_one}
+use Rattle.automata_hybrid.specs.Caches.{CacheView, counted}
+use Rattle.automata_hybrid.specs.Growing.{HasRoom, IsGrown}
+use Rattle.automata_hybrid.specs.Machine.{Machine}
+use Rattle.automata_hybrid.specs.Searches.{HasReadNoQuit, Skips, state_in, tape_in}
+use Rattle.automata_hybrid.specs.Starting.{MayStart}
+use Rattle.automata_hybrid.specs.Table.{Rows}
+use Rattle.automata_hybrid.specs.Walking.{AreWalked, Arrives, Finishes, HasItsState, HasTold, HasToldAll, HasToldAt, HasToldBy, IsRowState, Stands, TellsNext, WalkMeetsNoQuit, half_nth, start_count}
+use Rattle.automata_hybrid.specs.Walks.{At, Ended, Fresh, Stage, Walk, ended_walk, with_match, without_match}
+use Rattle.automata_hybrid.proofs.Growing.{clears_none, clears_none_back}
+use Rattle.automata_hybrid.proofs.Searching.{false_true, lt_or_le}
+use Rattle.automata_hybrid.proofs.Walked.{Begins, finish_all, half_at_place, half_behind, half_past, place_length, told_more, walked_all, walked_begin}
+
+at_inj : (p q : Powerset) → At p ≡ At q → p ≡ q
+at_inj p q e = cc
+
+fresh_at : (q : Powerset) → Fresh ≡ At q → ⊥
+fresh_at q e = cc
+
+ended_at : (q : Powerset) → Ended ≡ At q → ⊥
+ended_at q e = cc
+
+twice : (xs ys zs : List Pair) → (xs ++ ys) ++ zs ≡ xs ++ (ys ++ zs)
+twice [] ys zs = refl
+twice (x ∷ xs) ys zs = ap (λ (ws : List Pair). x ∷ ws) (twice xs ys zs)
+
+pub undone : (b : Bool) (s e : ℕ) → (IsTrue b ↔ (e < s)) → b ≡ false → s ≤ e
+undone b s e done «is» = go (lt_or_le e s) where
+  go : (e < s) ⊎ (s ≤ e) → s ≤ e
+  go (inl l) = let f : IsTrue b = done.1 l in absurd (false_true (sym «is» ∙ f))
+  go (inr l) = l
+
+module _ (way : Direction) (m : Machine) (input : Input) where
+  -- nothing is told by no unit
+  pub told_none : Skips m ⊎ (Skips m → ⊥) → HasToldBy way m input 0 0
+  unfolding pairs_told
+  told_none (inl s) = record { pairs = []; unsplit = inl (s, refl); count = refl }
+  told_none (inr n) = record { pairs = []; unsplit = inr (n, refl); count = refl }
+
+  -- all that a place tells
+  told_place :
+      (place e : ℕ)
+      → (Skips m → is_split input.haystack (offset_in way input place) ≡ false) → HasToldBy way m input place e
+      → HasToldBy way m input (suc place) (e + length (state_in way m input (suc place)).patterns)
+  told_place place e free t =
+      let ps : List ℕ = (state_in way m input (suc place)).patterns in
+      let one : length (at_place (offset_in way input place) ps) ≡ length ps = place_length (offset_in way input place) ps in
+      let both : length (t.pairs ++ at_place (offset_in way input place) ps) ≡ length t.pairs + length (at_place (offset_in way input place) ps) = length-append t.pairs (at_place (offset_in way input place) ps) in
+      record {
+        pairs = t.pairs ++ at_place (offset_in way input place) ps;
+        unsplit = told_more way m input place t.pairs free t.unsplit;
+        count = omega (arith, one, both, t.count);
+      }
+
+  -- a walk that has told all of where it stands
+  pub told_here :
+      (w : Walk) (k : ℕ)
+      → Skips m ⊎ (Skips m → ⊥) → HasTold way m input w k → (w.stage ≡ Ended → ⊥)
+      → ((q : Powerset) → w.stage ≡ At q → length q.patterns ≤ w.told) → HasToldBy way m input w.units k
+  told_here w k skips t on all = go w.stage t on all where
+    go :
+        (s : Stage) → HasToldAt way m input s w.units w.told k → (s ≡ Ended → ⊥)
+        → ((q : Powerset) → s ≡ At q → length q.patterns ≤ w.told) → HasToldBy way m input w.units k
+    go Fresh (none, first) on all =
+        subst (λ n. HasToldBy way m input n k) (sym first) (subst (λ n. HasToldBy way m input 0 n) (sym none) (told_none skips))
+    go (At q) s on all =
+        let same : state_in way m input (suc s.place) ≡ q = ap (state_in way m input) (sym s.behind) ∙ sym s.state in
+        let count : length (state_in way m input (suc s.place)).patterns ≡ length q.patterns = ap (λ (p : Powerset). length p.patterns) same in
+        let most : length q.patterns ≤ w.told = all q refl in
+        let sum : s.earlier + length (state_in way m input (suc s.place)).patterns ≡ k = omega (arith, count, most, s.few, s.count) in
+        subst (λ n. HasToldBy way m input n k) (sym s.behind) (subst (HasToldBy way m input (suc s.place)) sum (told_place s.place s.earlier s.unskipped s.before))
+    go Ended t on all = absurd (on refl)
+
+  -- none of its units was a quit byte
+  pub clean_here :
+      (w : Walk) (k : ℕ) → HasTold way m input w k → (w.stage ≡ Ended → ⊥) → HasReadNoQuit way m input w.units
+  clean_here w k t on = go w.stage t on where
+    go : (s : Stage) → HasToldAt way m input s w.units w.told k → (s ≡ Ended → ⊥) → HasReadNoQuit way m input w.units
+    go Fresh (none, first) on = λ j byte l e. absurd (omega (arith, l, first))
+    go (At q) s on = s.clean
+    go Ended t on = absurd (on refl)
+
+  -- the pair that a pattern of a place is
+  pub place_pair :
+      (place e t : ℕ) (pairs : List Pair)
+      → input.start ≤ input.end → place ≤ length (tape_in way input).bytes
+      → (Skips m → is_split input.haystack (offset_in way input place) ≡ false) → HasToldBy way m input place e
+      → t < length (state_in way m input (suc place)).patterns → AreWalked way m input pairs
+      → (half_nth pairs (e + t) ≡ Some (record { pattern = get_or (state_in way m input (suc place)).patterns t 0; offset = offset_in way input place }))
+      × (e + t < length pairs)
+  place_pair place e t pairs s l free told less walked =
+      let ps : List ℕ = (state_in way m input (suc place)).patterns in
+      let o : ℕ = offset_in way input place in
+      let b : Begins way m input (told.pairs ++ at_place o ps) pairs =
+      walked_begin way m input (suc place) (told.pairs ++ at_place o ps) pairs s (omega (arith, l)) (told_more way m input place told.pairs free told.unsplit) walked in
+      let joined : pairs ≡ told.pairs ++ (at_place o ps ++ b.rest) = b.joined ∙ twice told.pairs (at_place o ps) b.rest in
+      let long : length pairs ≡ length told.pairs + length (at_place o ps ++ b.rest) = ap (λ (zs : List Pair). length zs) joined ∙ length-append told.pairs (at_place o ps ++ b.rest) in
+      let more : length (at_place o ps ++ b.rest) ≡ length (at_place o ps) + length b.rest = length-append (at_place o ps) b.rest in
+      let one : length (at_place o ps) ≡ length ps = place_length o ps in (
+        ap₂ (λ (zs : List Pair) n. half_nth zs (n + t)) joined told.count
+            ∙ (half_behind told.pairs (at_place o ps ++ b.rest) t ∙ half_at_place o ps b.rest t less),
+        omega (arith, long, more, one, less, told.count),
+      )
+
+  -- a walk that has told all
+  all_none : (k : ℕ) (pairs : List Pair) → HasToldAll way m input k → AreWalked way m input pairs → half_nth pairs k ≡ None
+  all_none k pairs t walked =
+      let same : pairs ≡ t.pairs = walks_one way m.nfa m.kind input pairs t.pairs walked t.all in
+      half_past pairs k (subst (λ (zs : List Pair). length zs ≤ k) (sym same) t.none_left)
+
+  all_more : (k : ℕ) → HasToldAll way m input k → HasToldAll way m input (suc k)
+  all_more k t = record { clean = t.clean; pairs = t.pairs; all = t.all; none_left = omega (arith, t.none_left) }
+
+  pub next_ended : (w : Walk) → w.stage ≡ Ended → TellsNext way m input w (without_match w)
+  next_ended w e k t =
+      let all : HasToldAll way m input k = subst (λ (s : Stage). HasToldAt way m input s w.units w.told k) e t in (
+        subst (λ (s : Stage). HasToldAt way m input s w.units w.told (suc k)) (sym e) (all_more k all),
+        λ pairs walked. (sym (all_none k pairs all walked), λ l. e),
+      )
+
+  -- the walk ends where all is told
+  ends : (w : Walk) (units k : ℕ) → HasToldAll way m input k → HasTold way m input (ended_walk w units) (suc k) × ((pairs : List Pair) → AreWalked way m input pairs → ((ended_walk w units).found ≡ half_nth pairs k) × (length pairs ≤ k → Ended ≡ Ended))
+  ends w units k all = (all_more k all, λ pairs walked. (sym (all_none k pairs all walked), λ l. refl))
+
+  pub next_done : (w v : Walk) (units : ℕ) → input.end < input.start → (w.stage ≡ Ended → ⊥) → TellsNext way m input w (ended_walk v units)
+  next_done w v units done on k t = go w.stage t on where
+    go : (s : Stage) → HasToldAt way m input s w.units w.told k → (s ≡ Ended → ⊥) → HasTold way m input (ended_walk v units) (suc k) × ((pairs : List Pair) → AreWalked way m input pairs → ((ended_walk v units).found ≡ half_nth pairs k) × (length pairs ≤ k → Ended ≡ Ended))
+    go Fresh (none, first) on =
+        ends v units k (record { clean = inl done; pairs = []; all = inl (done, refl); none_left = omega arith })
+    go (At q) s on = absurd (omega (arith, done, s.undone))
+    go Ended t on = absurd (on refl)
+
+  -- all units have told these pairs
+  all_told :
+      (k : ℕ) → input.start ≤ input.end → MayStart m input.anchored (tape_in way input).before
+      → WalkMeetsNoQuit way m input
+      → HasToldBy way m input (suc (length (tape_in way input).bytes)) k → HasToldAll way m input k
+  all_told k s may clean t =
+      record {
+        clean = inr (may, clean);
+        pairs = t.pairs;
+        all = walked_all way m input t.pairs s t.unsplit;
+        none_left = omega (arith, t.count);
+      }
+
+  -- behind the last unit nothing is left
+  pub next_read :
+      (w v : Walk) (units : ℕ)
+      → (w.stage ≡ Ended → ⊥) → ((q : Powerset) → w.stage ≡ At q → length q.patterns ≤ w.told)
+      → length (tape_in way input).bytes < w.units → TellsNext way m input w (ended_walk v units)
+  next_read w v units on all past k t = go w.stage refl t on where
+    go : (s : Stage) → w.stage ≡ s → HasToldAt way m input s w.units w.told k → (s ≡ Ended → ⊥) → HasTold way m input (ended_walk v units) (suc k) × ((pairs : List Pair) → AreWalked way m input pairs → ((ended_walk v units).found ≡ half_nth pairs k) × (length pairs ≤ k → Ended ≡ Ended))
+    go Fresh e (none, first) on = absurd (omega (arith, first, past))
+    go (At q) e s on =
+        let last : w.units ≡ suc (length (tape_in way input).bytes) = omega (arith, s.behind, s.within, past) in
+        let same : state_in way m input (suc s.place) ≡ q = ap (state_in way m input) (sym s.behind) ∙ sym s.state in
+        let count : length (state_in way m input (suc s.place)).patterns ≡ length q.patterns = ap (λ (p : Powerset). length p.patterns) same in
+        let most : length q.patterns ≤ w.told = all q e in
+        let sum : s.earlier + length (state_in way m input (suc s.place)).patterns ≡ k = omega (arith, count, most, s.few, s.count) in
+        let told : HasToldBy way m input w.units k = subst (λ n. HasToldBy way m input n k) (sym s.behind) (subst (HasToldBy way m input (suc s.place)) sum (told_place s.place s.earlier s.unskipped s.before)) in
+        ends v units k (all_told k s.undone s.may (finish_all way m input w.units last s.clean) (subst (λ n. HasToldBy way m input n k) last told))
+    go Ended e t on = absurd (on refl)
+
+  -- the next pattern of the same place
+  pub next_same :
+      (w : Walk) (q : Powerset) (half : HalfMatch)
+      → w.stage ≡ At q → w.told < length q.patterns → half.pattern ≡ get_or q.patterns w.told 0
+      → half.offset ≡ offset_in way input (w.units - 1) → TellsNext way m input w (with_match w half)
+  next_same w q half e less pattern offset k t =
+      let s : Stands way m input q w.units w.told k = subst (λ (st : Stage). HasToldAt way m input st w.units w.told k) e t in
+      let same : q ≡ state_in way m input (suc s.place) = s.state ∙ ap (state_in way m input) s.behind in
+      let place : w.units - 1 ≡ s.place = omega (arith, s.behind) in
+      let next : Stands way m input q w.units (suc w.told) (suc k) = record {
+        undone = s.undone;
+        may = s.may;
+        place = s.place;
+        behind = s.behind;
+        within = s.within;
+        state = s.state;
+        row = s.row;
+        clean = s.clean;
+        unskipped = s.unskipped;
+        few = omega (arith, less);
+        earlier = s.earlier;
+        before = s.before;
+        count = omega (arith, s.count);
+      } in (
+        subst (λ (st : Stage). HasToldAt way m input st w.units (suc w.told) (suc k)) (sym e) next,
+        λ pairs walked. (
+            let p = place_pair s.place s.earlier w.told pairs s.undone s.within s.unskipped s.before (subst (λ (x : Powerset). w.told < length x.patterns) same less) walked in
+            let here : half ≡ record { pattern = get_or (state_in way m input (suc s.place)).patterns w.told 0; offset = offset_in way input s.place } =
+            (λ i. record { pattern = (pattern ∙ ap (λ (x : Powerset). get_or x.patterns w.told 0) same) i; offset = (offset ∙ ap (offset_in way input) place) i }) in
+            (ap Some here ∙ (sym p.0 ∙ ap (half_nth pairs) (sym s.count)), λ l. absurd (omega (arith, p.1, l, s.count)))),
+      )
+
+  -- a walk that goes on comes to its end
+  pub next_finishes :
+      (w v : Walk) (units : ℕ)
+      → input.start ≤ input.end → MayStart m input.anchored (tape_in way input).before
+      → ((k : ℕ) → HasTold way m input w k → HasToldBy way m input w.units k)
+      → Finishes way m input w.units units → TellsNext way m input w (ended_walk v units)
+  next_finishes w v units s may here f k t = ends v units k (all_told k s may f.clean (f.silent k (here k t)))
+
+  -- or to a state that tells patterns, and tells the first one
+  pub next_arrives :
+      (w : Walk) (t : Rows) (id units : ℕ) (q : Powerset) (lost : Bool) (half : HalfMatch)
+      → input.start ≤ input.end → MayStart m input.anchored (tape_in way input).before
+      → ((k : ℕ) → HasTold way m input w k → HasToldBy way m input w.units k)
+      → Arrives way m t input w.units id units → q ≡ state_in way m input units → IsRowState m q
+      → half.pattern ≡ get_or q.patterns 0 0 → half.offset ≡ offset_in way input (units - 1)
+      → TellsNext way m input w (record { stage = At q; units = units; told = 1; found = Some half; lost = lost })
+  next_arrives w t id units q lost half s may here a state row pattern offset k told =
+      let same : q ≡ state_in way m input (suc a.place) = state ∙ ap (state_in way m input) a.behind in
+      let place : units - 1 ≡ a.place = omega (arith, a.behind) in
+      let before : HasToldBy way m input a.place k = a.silent k (here k told) in
+      let some : 0 < length q.patterns = subst (λ (x : Powerset). 0 < length x.patterns) (sym state) (a.tells (state_in way m input units) a.named) in
+      let next : Stands way m input q units 1 (suc k) = record {
+        undone = s;
+        may = may;
+        place = a.place;
+        behind = a.behind;
+        within = a.within;
+        state = state;
+        row = row;
+        clean = a.clean;
+        unskipped = a.unskipped;
+        few = omega (arith, some);
+        earlier = k;
+        before = before;
+        count = omega arith;
+      } in (
+        next,
+        λ pairs walked. (
+            let p = place_pair a.place k 0 pairs s a.within a.unskipped before (subst (λ (x : Powerset). 0 < length x.patterns) same some) walked in
+            let here : half ≡ record { pattern = get_or (state_in way m input (suc a.place)).patterns 0 0; offset = offset_in way input a.place } =
+            (λ i. record { pattern = (pattern ∙ ap (λ (x : Powerset). get_or x.patterns 0 0) same) i; offset = (offset ∙ ap (offset_in way input) place) i }) in
+            let first : k + 0 ≡ k = omega arith in
+            (ap Some here ∙ (sym p.0 ∙ ap (half_nth pairs) first), λ l. absurd (omega (arith, p.1, l)))),
+      )
+
+-- nothing is cleared where there is room for the units left and a start, or a state put back
+pub walk_clears_none :
+    (old new : CacheView) (s : Stage) (n : ℕ)
+    → IsGrown old (counted new) → (HasItsState old.store.table s → IsGrown old new) → new.count ≤ old.count + n + start_count s
+    → HasRoom old.store (n + 1) → new.store.clears ≡ old.store.clears
+walk_clears_none old new Fresh n g there few room = clears_none old new (n + 1) (there tt) (omega (arith, few)) room
+walk_clears_none old new (At q) n g there few room = clears_none_back old new n g (omega (arith, few)) room
+walk_clears_none old new Ended n g there few room = clears_none_back old new n g (omega (arith, few)) room
+
+-- the pair told is that of each list that ordered paths define
+pub paths_next :
+    (way : Direction) (m : Machine) (input : Input) (w : Walk) (R : Type 0) (r : Result (Unit {0}) R) (next : Walk)
+    → OnOk r (TellsNext way m input w next) → (k : ℕ) (pairs : List Pair) → HasTold way m input w k → AreWalked way m input pairs
+    → OnOk r (next.found ≡ half_nth pairs k)
+paths_next way m input w R (Ok u) next tells k pairs told walked = ((tells k told).1 pairs walked).0
+paths_next way m input w R (Err e) next tells k pairs told walked = tt
+
+-- it stays a walk over its input
+pub still_walk :
+    (way : Direction) (m : Machine) (input : Input) (w : Walk) (R : Type 0) (r : Result (Unit {0}) R) (next : Walk)
+    → ((k : ℕ) × HasTold way m input w k) → OnOk r (TellsNext way m input w next) → OnErr r (next ≡ without_match w)
+    → (k : ℕ) × HasTold way m input next k
+still_walk way m input w R (Ok u) next told tells same = (suc told.0, (tells told.0 told.1).0)
+still_walk way m input w R (Err e) next told tells same =
+    (told.0, subst (λ (v : Walk). HasTold way m input v told.0) (sym same) told.1)

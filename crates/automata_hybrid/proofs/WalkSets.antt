@@ -1,0 +1,326 @@
+-- The patterns that a walk puts into a set.
+use Rattle.std.proofs.Common.{ℕ, zero, suc, ◌≡◌, ◌<◌, ◌≤◌, ◌+◌, ◌-◌, ◌*◌, ◌⊎◌, ◌↔◌, inl, inr, Bool, true, false, List, [], ◌∷◌, length, take, set, Option, Some, None, refl, sym, ap, ◌∙◌, subst, arith, length-set}
+use Rattle.std.proofs.lemmas.Bool.{cases_eq}
+use Rattle.std.proofs.lemmas.List.{get_or-set_other, get_or-set_same}
+use Rattle.automata_base.specs.Answers.{ArePatterns, HasPattern, first_alone}
+use Rattle.automata_base.specs.Input.{Input}
+use Rattle.automata_base.specs.Lists.{In}
+use Rattle.automata_base.specs.Matches.{HalfMatch}
+use Rattle.automata_base.specs.PatternSet.{has, members, members_from}
+use Rattle.automata_base.specs.Selections.{Pair}
+use Rattle.automata_base.specs.Tapes.{Forward}
+use Rattle.automata_base.proofs.Values.PatternsInSets.{members-few}
+use Rattle.automata_hybrid.specs.Machine.{Machine, greatest}
+use Rattle.automata_base.specs.Powerset.{Powerset, cost}
+use Rattle.automata_hybrid.specs.Searches.{tape_in}
+use Rattle.automata_hybrid.specs.Walking.{AreWalked, GoesOn, HasTold, HasToldAt, TellsNext, half_nth, start_count}
+use Rattle.automata_hybrid.specs.Walks.{At, Ended, Fresh, Stage, Walk}
+use Rattle.automata_hybrid.specs.Which.{IsJoined}
+use Rattle.automata_hybrid.proofs.Searching.{false_true}
+use Rattle.automata_hybrid.proofs.WalkUnits.{units_in}
+use Rattle.std.proofs.Math.Nat.{mul-le-mul_right}
+
+-- members by their flags
+has_in : (xs : List Bool) (j i : ℕ) → has xs i ≡ true → In (j + i) (members_from j xs)
+has_in [] j i e = absurd (false_true e)
+has_in (true ∷ xs) j zero e = inl (omega arith)
+has_in (false ∷ xs) j zero e = absurd (false_true e)
+has_in (true ∷ xs) j (suc i) e =
+    let s : suc j + i ≡ j + suc i = omega arith in
+    inr (subst (λ n. In n (members_from (suc j) xs)) s (has_in xs (suc j) i e))
+has_in (false ∷ xs) j (suc i) e =
+    let s : suc j + i ≡ j + suc i = omega arith in
+    subst (λ n. In n (members_from (suc j) xs)) s (has_in xs (suc j) i e)
+
+pub record HasAt (xs : List Bool) (j p : ℕ) : Type 0 where
+  pub index : ℕ
+  pub place : p ≡ j + index
+  pub flag : has xs index ≡ true
+
+has_later : (x : Bool) (xs : List Bool) (j p : ℕ) → HasAt xs (suc j) p → HasAt (x ∷ xs) j p
+has_later x xs j p h = record { index = suc h.index; place = omega (arith, h.place); flag = h.flag }
+
+in_has : (xs : List Bool) (j p : ℕ) → In p (members_from j xs) → HasAt xs j p
+in_has [] j p i = absurd i
+in_has (true ∷ xs) j p (inl e) = record { index = 0; place = omega (arith, e); flag = refl }
+in_has (true ∷ xs) j p (inr i) = has_later true xs j p (in_has xs (suc j) p i)
+in_has (false ∷ xs) j p i = has_later false xs j p (in_has xs (suc j) p i)
+
+flag_in : (xs : List Bool) (p : ℕ) → has xs p ≡ true → In p (members xs)
+flag_in xs p e = let z : 0 + p ≡ p = omega arith in subst (λ n. In n (members xs)) z (has_in xs 0 p e)
+
+in_flag : (xs : List Bool) (p : ℕ) → In p (members xs) → has xs p ≡ true
+in_flag xs p i =
+    let h : HasAt xs 0 p = in_has xs 0 p i in
+    let z : h.index ≡ p = omega (arith, h.place) in
+    subst (λ n. has xs n ≡ true) z h.flag
+
+-- a full set has each pattern below its capacity
+full_at : (xs : List Bool) (j p : ℕ) → length (members_from j xs) ≡ length xs → p < length xs → has xs p ≡ true
+full_at [] j p e l = absurd (omega (arith, l))
+full_at (true ∷ xs) j zero e l = refl
+full_at (true ∷ xs) j (suc p) e l = full_at xs (suc j) p (omega (arith, e)) (omega (arith, l))
+full_at (false ∷ xs) j p e l = let few = members-few xs (suc j) in absurd (omega (arith, e, few))
+
+-- one pattern more
+insert_in :
+    (xs : List Bool) (i p : ℕ) → In p (members (set xs i true)) ↔ (In p (members xs) ⊎ ((p < length xs) × (p ≡ i)))
+insert_in xs i p = (λ h. there (in_flag (set xs i true) p h) (cases_eq p i), λ h. back h (cases_eq p i))
+  where
+    inside : (ys : List Bool) (n : ℕ) → has ys n ≡ true → n < length ys
+    inside [] n e = absurd (false_true e)
+    inside (y ∷ ys) zero e = omega arith
+    inside (y ∷ ys) (suc n) e = let l = inside ys n e in omega (arith, l)
+
+    there : has (set xs i true) p ≡ true → (p ≡ i) ⊎ (p ≡ i → ⊥) → In p (members xs) ⊎ ((p < length xs) × (p ≡ i))
+    there e (inl same) = let l = inside (set xs i true) p e in inr (omega (arith, l, length-set xs i true), same)
+    there e (inr other) = inl (flag_in xs p (sym (get_or-set_other xs i p true false other) ∙ e))
+
+    back : In p (members xs) ⊎ ((p < length xs) × (p ≡ i)) → (p ≡ i) ⊎ (p ≡ i → ⊥) → In p (members (set xs i true))
+    back (inl h) (inl same) =
+        let l : p < length xs = inside xs p (in_flag xs p h) in
+        flag_in (set xs i true) p (ap (λ n. has (set xs i true) n) same ∙ get_or-set_same xs i true false (omega (arith, l, same)))
+    back (inl h) (inr other) = flag_in (set xs i true) p (get_or-set_other xs i p true false other ∙ in_flag xs p h)
+    back (inr (l, e)) c = flag_in (set xs i true) p (ap (λ n. has (set xs i true) n) e ∙ get_or-set_same xs i true false (omega (arith, l, e)))
+
+-- the patterns of one pair more
+more_pattern :
+    (pairs : List Pair) (k p : ℕ) (half : HalfMatch)
+    → half_nth pairs k ≡ Some half → HasPattern p (take (suc k) pairs) ↔ (HasPattern p (take k pairs) ⊎ (p ≡ half.pattern))
+more_pattern [] k p half e = absurd (cc)
+more_pattern (x ∷ xs) zero p half e =
+    let same : x.pattern ≡ half.pattern = cc in
+    (λ h. first h same, λ h. last h same)
+  where
+    first : (p ≡ x.pattern) ⊎ HasPattern p (take 0 xs) → x.pattern ≡ half.pattern → ⊥ ⊎ (p ≡ half.pattern)
+    first (inl f) same = inr (f ∙ same)
+    first (inr h) same = absurd h
+
+    last : ⊥ ⊎ (p ≡ half.pattern) → x.pattern ≡ half.pattern → (p ≡ x.pattern) ⊎ HasPattern p (take 0 xs)
+    last (inl h) same = absurd h
+    last (inr f) same = inl (f ∙ sym same)
+more_pattern (x ∷ xs) (suc k) p half e = (λ h. first h (more_pattern xs k p half e), λ h. last h (more_pattern xs k p half e))
+  where
+    first :
+        (p ≡ x.pattern) ⊎ HasPattern p (take (suc k) xs)
+        → HasPattern p (take (suc k) xs) ↔ (HasPattern p (take k xs) ⊎ (p ≡ half.pattern))
+        → ((p ≡ x.pattern) ⊎ HasPattern p (take k xs)) ⊎ (p ≡ half.pattern)
+    first (inl f) again = inl (inl f)
+    first (inr h) again = go (again.0 h) where
+      go : HasPattern p (take k xs) ⊎ (p ≡ half.pattern) → ((p ≡ x.pattern) ⊎ HasPattern p (take k xs)) ⊎ (p ≡ half.pattern)
+      go (inl g) = inl (inr g)
+      go (inr g) = inr g
+
+    last :
+        ((p ≡ x.pattern) ⊎ HasPattern p (take k xs)) ⊎ (p ≡ half.pattern)
+        → HasPattern p (take (suc k) xs) ↔ (HasPattern p (take k xs) ⊎ (p ≡ half.pattern))
+        → (p ≡ x.pattern) ⊎ HasPattern p (take (suc k) xs)
+    last (inl (inl f)) again = inl f
+    last (inl (inr h)) again = inr (again.1 (inl h))
+    last (inr f) again = inr (again.1 (inr f))
+
+taken_pattern : (pairs : List Pair) (k p : ℕ) → HasPattern p (take k pairs) → HasPattern p pairs
+taken_pattern pairs zero p h = absurd h
+taken_pattern [] (suc k) p h = absurd h
+taken_pattern (x ∷ xs) (suc k) p (inl e) = inl e
+taken_pattern (x ∷ xs) (suc k) p (inr h) = inr (taken_pattern xs k p h)
+
+take_all : (pairs : List Pair) (k : ℕ) → half_nth pairs k ≡ None → take k pairs ≡ pairs
+take_all [] zero e = refl
+take_all [] (suc k) e = refl
+take_all (x ∷ xs) zero e = absurd (cc)
+take_all (x ∷ xs) (suc k) e = ap (λ (zs : List Pair). x ∷ zs) (take_all xs k e)
+
+all_of : (pairs : List Pair) → first_alone false pairs ≡ pairs
+all_of [] = refl
+all_of (x ∷ xs) = refl
+
+one_of : (pairs : List Pair) → first_alone true pairs ≡ take 1 pairs
+one_of [] = refl
+one_of (x ∷ xs) = refl
+
+-- a set with the patterns of the first pairs of a walk, as many as the walk has told; an earliest search goes on with none
+pub record Joins (m : Machine) (input : Input) (walk : Walk) (old new : List Bool) : Type 0 where
+  pub k : ℕ
+  pub told : HasTold Forward m input walk k
+  pub first : input.earliest ≡ true → k ≡ 0
+  pub joined : (pairs : List Pair) → AreWalked Forward m input pairs → IsJoined (take k pairs) old new
+  pub capacity : length new ≡ length old
+
+joined_none : (xs : List Bool) → IsJoined [] xs xs
+joined_none xs p = (λ h. inl h, λ h. go h) where
+  go : In p (members xs) ⊎ ((p < length xs) × ⊥) → In p (members xs)
+  go (inl h) = h
+  go (inr (l, h)) = absurd h
+
+module _ (m : Machine) (input : Input) (old : List Bool) where
+  pub joins_start : (walk : Walk) → HasTold Forward m input walk 0 → Joins m input walk old old
+  joins_start walk told =
+      record { k = 0; told = told; first = λ e. refl; joined = λ pairs walked. joined_none old; capacity = refl }
+
+  module _ (walk next : Walk) (new : List Bool) (j : Joins m input walk old new) (tells : TellsNext Forward m input walk next)
+      (list : (pairs : List Pair) × AreWalked Forward m input pairs) where
+    abbrev pairs : List Pair
+    pairs = list.0
+
+    found : next.found ≡ half_nth pairs j.k
+    found = ((tells j.k j.told).1 pairs list.1).0
+
+    one_more :
+        (half : HalfMatch) (ps : List Pair) → half_nth ps j.k ≡ Some half → IsJoined (take j.k ps) old new → IsJoined (take (suc j.k) ps) old (set new half.pattern true)
+    one_more half ps e before p = (λ h. there ((insert_in new half.pattern p).0 h), λ h. back h)
+      where
+        more : HasPattern p (take (suc j.k) ps) ↔ (HasPattern p (take j.k ps) ⊎ (p ≡ half.pattern))
+        more = more_pattern ps j.k p half e
+
+        there :
+            In p (members new) ⊎ ((p < length new) × (p ≡ half.pattern))
+            → In p (members old) ⊎ ((p < length old) × HasPattern p (take (suc j.k) ps))
+        there (inl h) = go ((before p).0 h) where
+          go :
+              In p (members old) ⊎ ((p < length old) × HasPattern p (take j.k ps))
+              → In p (members old) ⊎ ((p < length old) × HasPattern p (take (suc j.k) ps))
+          go (inl g) = inl g
+          go (inr (l, g)) = inr (l, more.1 (inl g))
+        there (inr (l, e)) = inr (omega (arith, l, j.capacity), more.1 (inr e))
+
+        back :
+            In p (members old) ⊎ ((p < length old) × HasPattern p (take (suc j.k) ps)) → In p (members (set new half.pattern true))
+        back (inl h) = (insert_in new half.pattern p).1 (inl ((before p).1 (inl h)))
+        back (inr (l, h)) = go (more.0 h) where
+          go : HasPattern p (take j.k ps) ⊎ (p ≡ half.pattern) → In p (members (set new half.pattern true))
+          go (inl g) = (insert_in new half.pattern p).1 (inl ((before p).1 (inr (l, g))))
+          go (inr g) = (insert_in new half.pattern p).1 (inr (omega (arith, l, j.capacity), g))
+
+    -- no match is left
+    pub joins_all : next.found ≡ None → ArePatterns (AreWalked Forward m input) input (length old) (members old) (members new)
+    joins_all e = (pairs, list.1, go input.earliest refl)
+      where
+        whole : take j.k pairs ≡ pairs
+        whole = take_all pairs j.k (sym found ∙ e)
+
+        joined : IsJoined pairs old new
+        joined = subst (λ (ps : List Pair). IsJoined ps old new) whole (j.joined pairs list.1)
+
+        none : j.k ≡ 0 → pairs ≡ []
+        none z = sym whole ∙ ap (λ n. take n pairs) z
+
+        go :
+            (b : Bool) → input.earliest ≡ b
+            → (p : ℕ) → In p (members new) ↔ (In p (members old) ⊎ ((p < length old) × HasPattern p (first_alone b pairs)))
+        go false s p = subst (λ (ps : List Pair). In p (members new) ↔ (In p (members old) ⊎ ((p < length old) × HasPattern p ps))) (sym (all_of pairs)) (joined p)
+        go true s p =
+            let z : pairs ≡ [] = none (j.first s) in
+            let same : pairs ≡ first_alone true pairs = z ∙ ap (first_alone true) (sym z) in
+            subst (λ (ps : List Pair). In p (members new) ↔ (In p (members old) ⊎ ((p < length old) × HasPattern p ps))) same (joined p)
+
+    -- one is, and its pattern is put in
+    module _ (half : HalfMatch) (is_found : next.found ≡ Some half) where
+      here : half_nth pairs j.k ≡ Some half
+      here = sym found ∙ is_found
+
+      joined_more : IsJoined (take (suc j.k) pairs) old (set new half.pattern true)
+      joined_more = one_more half pairs here (j.joined pairs list.1)
+
+      -- a full set has nothing to gain
+      pub joins_full :
+          length (members (set new half.pattern true)) ≡ length (set new half.pattern true)
+          → ArePatterns (AreWalked Forward m input) input (length old) (members old) (members (set new half.pattern true))
+      joins_full full = (pairs, list.1, λ p. (λ h. there p ((joined_more p).0 h) input.earliest refl, λ h. back p h))
+        where
+          there :
+              (p : ℕ) → In p (members old) ⊎ ((p < length old) × HasPattern p (take (suc j.k) pairs))
+              → (b : Bool) → input.earliest ≡ b → In p (members old) ⊎ ((p < length old) × HasPattern p (first_alone b pairs))
+          there p (inl h) b s = inl h
+          there p (inr (l, h)) false s = inr (l, subst (HasPattern p) (sym (all_of pairs)) (taken_pattern pairs (suc j.k) p h))
+          there p (inr (l, h)) true s =
+              inr (l, subst (HasPattern p) (sym (one_of pairs)) (subst (λ n. HasPattern p (take (suc n) pairs)) (j.first s) h))
+
+          back :
+              (p : ℕ) → In p (members old) ⊎ ((p < length old) × HasPattern p (first_alone input.earliest pairs))
+              → In p (members (set new half.pattern true))
+          back p (inl h) = (joined_more p).1 (inl h)
+          back p (inr (l, h)) =
+              flag_in (set new half.pattern true) p
+              (full_at (set new half.pattern true) 0 p full (omega (arith, l, j.capacity, length-set new half.pattern true)))
+
+      -- an earliest search takes the first pair alone
+      pub joins_first :
+          input.earliest ≡ true → ArePatterns (AreWalked Forward m input) input (length old) (members old) (members (set new half.pattern true))
+      joins_first e =
+          let one : take (suc j.k) pairs ≡ first_alone input.earliest pairs =
+          ap (λ n. take (suc n) pairs) (j.first e) ∙ (sym (one_of pairs) ∙ ap (λ b. first_alone b pairs) (sym e)) in
+          (pairs, list.1, λ p. subst (λ (ps : List Pair). In p (members (set new half.pattern true)) ↔ (In p (members old) ⊎ ((p < length old) × HasPattern p ps))) one (joined_more p))
+
+      -- and any other goes on
+      pub joins_more : input.earliest ≡ false → Joins m input next old (set new half.pattern true)
+      joins_more e =
+          record {
+            k = suc j.k;
+            told = (tells j.k j.told).0;
+            first = λ f. absurd (false_true (sym e ∙ f));
+            joined = λ ps walked. one_more half ps (sym (((tells j.k j.told).1 ps walked).0) ∙ is_found) (j.joined ps walked);
+            capacity = length-set new half.pattern true ∙ j.capacity;
+          }
+
+-- how many steps a walk has left, at most: for each unit as many as a state has patterns, and one more
+abbrev pub steps_left : Machine → Input → Walk → ℕ
+steps_left m input w = (input.end - input.start + 2 - w.units) * (greatest m + 1) + (greatest m - w.told)
+
+module _ (m : Machine) (input : Input) (inside : input.end ≤ length input.haystack) where
+  -- a walk that tells a pair stands where it may, with no more patterns told than states may have
+  pub record StandsWell (w : Walk) : Type 0 where
+    pub units : w.units ≤ input.end - input.start + 1
+    pub told : w.told ≤ greatest m
+    pub begun : start_count w.stage ≡ 0
+
+  few_patterns : (q : Powerset) → cost q ≤ greatest m → length q.patterns ≤ greatest m
+  few_patterns q l = omega (arith, l)
+
+  pub stands_well : (w : Walk) (k : ℕ) → HasTold Forward m input w (suc k) → (w.stage ≡ Ended → ⊥) → StandsWell w
+  stands_well w k t on = go w.stage refl t on where
+    go : (s : Stage) → w.stage ≡ s → HasToldAt Forward m input s w.units w.told (suc k) → (s ≡ Ended → ⊥) → StandsWell w
+    go Fresh e (none, first) on = absurd (omega (arith, none))
+    go (At q) e s on =
+        let all : input.end - input.start ≡ length (tape_in Forward input).bytes = units_in Forward input s.undone inside in
+        record {
+          units = omega (arith, s.behind, s.within, all);
+          told = omega (arith, s.few, few_patterns q s.row.cheap);
+          begun = ap start_count e;
+        }
+    go Ended e t on = absurd (on refl)
+
+  pub steps_less :
+      (old new : Walk) → StandsWell new
+      → (old.units < new.units) ⊎ ((new.units ≡ old.units) × (new.told ≡ suc old.told)) → steps_left m input new < steps_left m input old
+  steps_less old new s (inl l) =
+      let x : ℕ = input.end - input.start + 2 - new.units in
+      let y : ℕ = input.end - input.start + 2 - old.units in
+      let more : x + 1 ≤ y = omega (arith, l, s.units) in
+      let times : (x + 1) * (greatest m + 1) ≤ y * (greatest m + 1) = mul-le-mul_right (greatest m + 1) more in
+      let one : (x + 1) * (greatest m + 1) ≡ x * (greatest m + 1) + (greatest m + 1) = grind arith in
+      omega (arith, times, one)
+  steps_less old new s (inr (same, more)) =
+      let units : input.end - input.start + 2 - new.units ≡ input.end - input.start + 2 - old.units = ap (λ n. input.end - input.start + 2 - n) same in
+      let times : (input.end - input.start + 2 - new.units) * (greatest m + 1) ≡ (input.end - input.start + 2 - old.units) * (greatest m + 1) = ap (λ n. n * (greatest m + 1)) units in
+      omega (arith, times, more, s.told)
+
+-- what the walk tells may be what the ordered paths do
+pub patterns_turn :
+    (T U : List Pair → Type 0) (input : Input) (capacity : ℕ) (given after : List ℕ)
+    → ((pairs : List Pair) → T pairs → U pairs) → ArePatterns T input capacity given after → ArePatterns U input capacity given after
+patterns_turn T U input capacity given after turn h = (h.0, turn h.0 h.1, h.2)
+
+pub either : {A B : Type 0} (b : Bool) → (b ≡ true → A) → (b ≡ false → B) → A ⊎ B
+either true f g = inl (f refl)
+either false f g = inr (g refl)
+
+none_half : (half : HalfMatch) → ◌≡◌ {A = Option HalfMatch} None (Some half) → ⊥
+none_half half e = cc
+
+pub on_found :
+    (old new : Walk) (half : HalfMatch)
+    → GoesOn old new → new.found ≡ Some half
+    → (new.stage ≡ Ended → ⊥) × ((old.units < new.units) ⊎ ((new.units ≡ old.units) × (new.told ≡ suc old.told)))
+on_found old new half (inl none) e = absurd (none_half half (sym none ∙ e))
+on_found old new half (inr h) e = h

@@ -1,0 +1,23 @@
+use Rattle.std.proofs.Common.{◌≤◌, ◌+◌, ◌-◌}
+use Rattle.automata_hybrid.specs.Caches.{IsCacheOf}
+use Rattle.automata_hybrid.specs.Growing.{IsGrown}
+use Rattle.automata_hybrid.specs.Searches.{HasReadNoQuit, state_in}
+use Rattle.automata_hybrid.specs.Table.{Names}
+use Rattle.automata_hybrid.specs.Walking.{IsSilent}
+use Rattle.automata_hybrid.specs.Walks.{way_of}
+use Rattle.automata_hybrid.proofs.dfa.DFA.advance.Given as goal
+
+abbrev pub invariant-loop-read : goal.invariant-loop-read
+invariant-loop-read l = record {
+  of : IsCacheOf l.cache l.self;
+  counted : l.cache.count + l.units ≤ l.fn.cache.count + l.read;
+  from : l.units ≤ l.read;
+  within : l.read ≤ l.input.end - l.input.start + 1;
+  grown : IsGrown l.fn.cache l.cache;
+  named : Names l.cache.store.table l.id (state_in (way_of l.way) l.self l.input l.read);
+  clean : HasReadNoQuit (way_of l.way) l.self l.input l.read;
+  silent : IsSilent (way_of l.way) l.self l.input l.units l.read;
+}
+
+abbrev pub decreases-loop-read : goal.decreases-loop-read
+decreases-loop-read l = l.input.end - l.input.start + 1 - l.read

@@ -1,0 +1,57 @@
+use Rattle.std.proofs.Common.{◌≡◌, ◌∙◌, ◌-◌, ◌≤◌, length, sym, ap, subst, arith}
+use Rattle.std.specs.Prelude.{OnOk, IfErr}
+use Rattle.automata_base.specs.Answers.{offset_in}
+use Rattle.automata_base.specs.Matches.{HalfMatch}
+use Rattle.automata_base.specs.Tapes.{Direction}
+use Rattle.automata_hybrid.specs.Searches.{tape_in}
+use Rattle.automata_hybrid.specs.Walking.{HasTold, IsWalkRefusal, TellsNext}
+use Rattle.automata_hybrid.specs.Walks.{Ended, Fresh, Walk, way_of}
+use Rattle.automata_hybrid.proofs.WalkCalls.{next_done, next_ended, next_read, next_same, undone}
+use Rattle.automata_hybrid.proofs.WalkUnits.{units_in}
+use Rattle.automata_hybrid.proofs.dfa.DFA.call.Goals as goal
+
+pub returns-then-has_ended-clause-tells : goal.returns-then-has_ended-clause-tells
+returns-then-has_ended-clause-tells c =
+    let d : Direction = way_of c.args.way in
+    let ended : c.args.walk.now.stage ≡ Ended = subst (λ (w : Walk). w.stage ≡ Ended) c.forget_match.ensures (c.has_ended.ensures.yes c.if-has_ended.true) in
+    subst (TellsNext d c.args.self.now c.args.input.now c.args.walk.now) (sym c.forget_match.ensures) (next_ended d c.args.self.now c.args.input.now c.args.walk.now ended)
+
+pub returns-then-is_done-clause-tells : goal.returns-then-is_done-clause-tells
+returns-then-is_done-clause-tells c =
+    let d : Direction = way_of c.args.way in
+    subst (λ (w : Walk). TellsNext d c.args.self.now c.args.input.now w c.end.new.self) c.forget_match.ensures
+    (subst (TellsNext d c.args.self.now c.args.input.now c.forget_match.new.self) (sym c.end.ensures)
+    (next_done d c.args.self.now c.args.input.now c.forget_match.new.self c.forget_match.new.self c.units.result (c.is_done.ensures.done.0 c.if-is_done.true) (c.has_ended.ensures.no c.if-has_ended.false)))
+
+pub returns-in-Some-clause-tells : goal.returns-in-Some-clause-tells
+returns-in-Some-clause-tells c =
+    let d : Direction = way_of c.args.way in
+    let left = c.in-Some.ensures.left in
+    subst (λ (w : Walk). TellsNext d c.args.self.now c.args.input.now w c.tell.new.self) c.forget_match.ensures
+    (subst (TellsNext d c.args.self.now c.args.input.now c.forget_match.new.self) (sym c.tell.ensures)
+    (next_same d c.args.self.now c.args.input.now c.forget_match.new.self left.0 c.new.result left.1 left.2
+    (ap (λ (h : HalfMatch). h.pattern) c.new.ensures ∙ left.3)
+    (ap (λ (h : HalfMatch). h.offset) c.new.ensures ∙ (c.place_offset-at.ensures ∙ ap (λ n. offset_in d c.args.input.now (n - 1)) c.units-in-Some.ensures))))
+
+pub returns-then-units-last_place-clause-tells : goal.returns-then-units-last_place-clause-tells
+returns-then-units-last_place-clause-tells c =
+    let d : Direction = way_of c.args.way in
+    let open_span : c.args.input.now.start ≤ c.args.input.now.end = undone c.is_done.result c.args.input.now.start c.args.input.now.end c.is_done.ensures.done c.if-is_done.false in
+    let units : c.args.input.now.end - c.args.input.now.start ≡ length (tape_in d c.args.input.now).bytes = units_in d c.args.input.now open_span c.haystack-haystack.ensures.within.1 in
+    subst (λ (w : Walk). TellsNext d c.args.self.now c.args.input.now w c.end-then-units-last_place.new.self) c.forget_match.ensures
+    (subst (TellsNext d c.args.self.now c.args.input.now c.forget_match.new.self) (sym c.end-then-units-last_place.ensures)
+    (next_read d c.args.self.now c.args.input.now c.forget_match.new.self c.forget_match.new.self c.units-then-units-last_place.result (c.has_ended.ensures.no c.if-has_ended.false) c.in_default.ensures.none
+    (omega (arith, units, c.units-2.ensures, c.last_place.ensures, c.if-units-last_place.true))))
+
+pub returns-clause-tells : goal.returns-clause-tells
+returns-clause-tells c =
+    subst (λ (w : Walk). OnOk c.walk_on.result (TellsNext (way_of c.args.way) c.args.self.now c.args.input.now w c.walk_on.new.walk)) c.forget_match.ensures c.walk_on.ensures.tells
+
+pub returns-clause-errors : goal.returns-clause-errors
+returns-clause-errors c = λ kept k t.
+    subst (λ (w : Walk). IfErr c.walk_on.result (IsWalkRefusal (way_of c.args.way) c.args.self.now c.walk_on.new.cache.store c.args.input.now w k)) c.forget_match.ensures
+    (c.walk_on.ensures.errors k (subst (λ (w : Walk). HasTold (way_of c.args.way) c.args.self.now c.args.input.now w k) (sym c.forget_match.ensures) t))
+
+pub returns-then-is_lost-clause-unsupported : goal.returns-then-is_lost-clause-unsupported
+returns-then-is_lost-clause-unsupported c = λ fresh undone behind mode.
+    absurd (c.is_lost.ensures.begun c.if-is_lost.true (subst (λ (w : Walk). w.stage ≡ Fresh) (sym c.forget_match.ensures) fresh))

@@ -1,0 +1,110 @@
+use Rattle.std.proofs.Common.{◌≡◌, ◌∙◌, List, Bool, true, length, set, Some, sym, ap, subst, arith}
+use Rattle.automata_base.specs.Answers.{ArePatterns, IsOverlapping}
+use Rattle.automata_base.specs.Engines.{engine_of}
+use Rattle.automata_base.specs.PatternSet.{members}
+use Rattle.automata_base.specs.Selections.{Pair}
+use Rattle.automata_base.specs.Tapes.{Forward}
+use Rattle.automata_base.specs.WalkLaws.{WalkIsRight, WalksAreTold}
+use Rattle.automata_hybrid.specs.Walking.{AreWalked}
+use Rattle.automata_hybrid.proofs.Growing.{grown_trans}
+use Rattle.automata_hybrid.proofs.Searching.{if_err}
+use Rattle.automata_hybrid.proofs.WalkSets.{Joins, StandsWell, either, joins_all, joins_first, joins_full, joins_more, on_found, patterns_turn, stands_well, steps_less}
+use Rattle.automata_hybrid.proofs.dfa.DFA.collect.Goals as goal
+
+pub returns-in_err-call-clause-errors : goal.returns-in_err-call-clause-errors
+returns-in_err-call-clause-errors c =
+    let j = c.loop-walk.invariant.joins in
+    if_err c.from_residual.result _ _ c.from_residual.ensures.1
+    (c.loop-walk.walk, j.k, j.told, either c.loop-walk.walk.lost c.in_err-call.ensures.lost (λ kept. c.in_err-call.ensures.errors kept j.k j.told), j.joined)
+
+pub returns-in_err-call-clause-grown : goal.returns-in_err-call-clause-grown
+returns-in_err-call-clause-grown c =
+    grown_trans c.args.cache.now c.loop-walk.cache c.call.new.cache c.loop-walk.invariant.grown (c.in_err-call.ensures.there c.loop-walk.invariant.holds)
+
+pub returns-in_default-clause-found : goal.returns-in_default-clause-found
+returns-in_default-clause-found c =
+    let told : WalksAreTold c.args.self.now.nfa = subst WalksAreTold c.get_nfa.ensures c.walk_is_right.ensures.told in
+    let list : (pairs : List Pair) × AreWalked Forward c.args.self.now c.args.input.now pairs = told Forward c.args.self.now.kind c.args.input.now in
+    joins_all c.args.self.now c.args.input.now c.args.patset.now c.loop-walk.walk c.call.new.walk c.loop-walk.patset c.loop-walk.invariant.joins c.in_ok-call.ensures.tells list (sym c.get_match.ensures ∙ c.in_default.«is»)
+
+pub returns-in_default-clause-paths : goal.returns-in_default-clause-paths
+returns-in_default-clause-paths c = λ free.
+    let law : WalkIsRight c.args.self.now.nfa = subst WalkIsRight c.get_nfa.ensures c.walk_is_right.ensures.right in
+    patterns_turn (AreWalked Forward c.args.self.now c.args.input.now) (IsOverlapping Forward (engine_of c.args.self.now.nfa c.args.self.now.kind) c.args.input.now) c.args.input.now (length c.args.patset.now) (members c.args.patset.now) (members c.loop-walk.patset)
+    (λ pairs walked. law Forward c.args.self.now.kind c.args.input.now pairs free (c.haystack-haystack.ensures.bytes, c.haystack-haystack.ensures.within.1) walked)
+    (returns-in_default-clause-found c)
+
+pub returns-in_default-clause-grown : goal.returns-in_default-clause-grown
+returns-in_default-clause-grown c =
+    grown_trans c.args.cache.now c.loop-walk.cache c.call.new.cache c.loop-walk.invariant.grown (c.in_ok-call.ensures.there c.loop-walk.invariant.holds)
+
+pub returns-then-is_full-clause-found : goal.returns-then-is_full-clause-found
+returns-then-is_full-clause-found c =
+    let told : WalksAreTold c.args.self.now.nfa = subst WalksAreTold c.get_nfa.ensures c.walk_is_right.ensures.told in
+    let list : (pairs : List Pair) × AreWalked Forward c.args.self.now c.args.input.now pairs = told Forward c.args.self.now.kind c.args.input.now in
+    let found : c.call.new.walk.found ≡ Some c.in-Some.half = sym c.get_match.ensures ∙ c.in-Some.«is» in
+    let put : c.try_insert.new.self ≡ set c.loop-walk.patset c.in-Some.half.pattern true = c.try_insert.ensures.inserted ∙ ap (λ n. set c.loop-walk.patset n true) c.pattern.ensures in
+    subst (λ (s : List Bool). ArePatterns (AreWalked Forward c.args.self.now c.args.input.now) c.args.input.now (length c.args.patset.now) (members c.args.patset.now) (members s)) (sym put)
+    (joins_full c.args.self.now c.args.input.now c.args.patset.now c.loop-walk.walk c.call.new.walk c.loop-walk.patset c.loop-walk.invariant.joins c.in_ok-call.ensures.tells list c.in-Some.half found
+    (subst (λ (s : List Bool). length (members s) ≡ length s) put (c.is_full.ensures.0 c.if-is_full.true)))
+
+pub returns-then-is_full-clause-paths : goal.returns-then-is_full-clause-paths
+returns-then-is_full-clause-paths c = λ free.
+    let law : WalkIsRight c.args.self.now.nfa = subst WalkIsRight c.get_nfa.ensures c.walk_is_right.ensures.right in
+    patterns_turn (AreWalked Forward c.args.self.now c.args.input.now) (IsOverlapping Forward (engine_of c.args.self.now.nfa c.args.self.now.kind) c.args.input.now) c.args.input.now (length c.args.patset.now) (members c.args.patset.now) (members c.try_insert.new.self)
+    (λ pairs walked. law Forward c.args.self.now.kind c.args.input.now pairs free (c.haystack-haystack.ensures.bytes, c.haystack-haystack.ensures.within.1) walked)
+    (returns-then-is_full-clause-found c)
+
+pub returns-then-is_full-clause-grown : goal.returns-then-is_full-clause-grown
+returns-then-is_full-clause-grown c =
+    grown_trans c.args.cache.now c.loop-walk.cache c.call.new.cache c.loop-walk.invariant.grown (c.in_ok-call.ensures.there c.loop-walk.invariant.holds)
+
+pub returns-then-get_earliest-clause-found : goal.returns-then-get_earliest-clause-found
+returns-then-get_earliest-clause-found c =
+    let told : WalksAreTold c.args.self.now.nfa = subst WalksAreTold c.get_nfa.ensures c.walk_is_right.ensures.told in
+    let list : (pairs : List Pair) × AreWalked Forward c.args.self.now c.args.input.now pairs = told Forward c.args.self.now.kind c.args.input.now in
+    let found : c.call.new.walk.found ≡ Some c.in-Some.half = sym c.get_match.ensures ∙ c.in-Some.«is» in
+    let put : c.try_insert.new.self ≡ set c.loop-walk.patset c.in-Some.half.pattern true = c.try_insert.ensures.inserted ∙ ap (λ n. set c.loop-walk.patset n true) c.pattern.ensures in
+    subst (λ (s : List Bool). ArePatterns (AreWalked Forward c.args.self.now c.args.input.now) c.args.input.now (length c.args.patset.now) (members c.args.patset.now) (members s)) (sym put)
+    (joins_first c.args.self.now c.args.input.now c.args.patset.now c.loop-walk.walk c.call.new.walk c.loop-walk.patset c.loop-walk.invariant.joins c.in_ok-call.ensures.tells list c.in-Some.half found (sym c.get_earliest.ensures ∙ c.if-get_earliest.true))
+
+pub returns-then-get_earliest-clause-paths : goal.returns-then-get_earliest-clause-paths
+returns-then-get_earliest-clause-paths c = λ free.
+    let law : WalkIsRight c.args.self.now.nfa = subst WalkIsRight c.get_nfa.ensures c.walk_is_right.ensures.right in
+    patterns_turn (AreWalked Forward c.args.self.now c.args.input.now) (IsOverlapping Forward (engine_of c.args.self.now.nfa c.args.self.now.kind) c.args.input.now) c.args.input.now (length c.args.patset.now) (members c.args.patset.now) (members c.try_insert.new.self)
+    (λ pairs walked. law Forward c.args.self.now.kind c.args.input.now pairs free (c.haystack-haystack.ensures.bytes, c.haystack-haystack.ensures.within.1) walked)
+    (returns-then-get_earliest-clause-found c)
+
+pub returns-then-get_earliest-clause-grown : goal.returns-then-get_earliest-clause-grown
+returns-then-get_earliest-clause-grown c =
+    grown_trans c.args.cache.now c.loop-walk.cache c.call.new.cache c.loop-walk.invariant.grown (c.in_ok-call.ensures.there c.loop-walk.invariant.holds)
+
+pub loop-walk-smaller : goal.loop-walk-smaller
+loop-walk-smaller c =
+    let found : c.call.new.walk.found ≡ Some c.in-Some.half = sym c.get_match.ensures ∙ c.in-Some.«is» in
+    let put : c.try_insert.new.self ≡ set c.loop-walk.patset c.in-Some.half.pattern true = c.try_insert.ensures.inserted ∙ ap (λ n. set c.loop-walk.patset n true) c.pattern.ensures in
+    let on = on_found c.loop-walk.walk c.call.new.walk c.in-Some.half c.in_ok-call.ensures.goes_on found in
+    let j = c.loop-walk.invariant.joins in
+    steps_less c.args.self.now c.args.input.now c.haystack-haystack.ensures.within.1 c.loop-walk.walk c.call.new.walk
+    (stands_well c.args.self.now c.args.input.now c.haystack-haystack.ensures.within.1 c.call.new.walk j.k (c.in_ok-call.ensures.tells j.k j.told).0 on.0) on.1
+
+pub loop-walk-preserved : goal.loop-walk-preserved
+loop-walk-preserved c =
+    let told : WalksAreTold c.args.self.now.nfa = subst WalksAreTold c.get_nfa.ensures c.walk_is_right.ensures.told in
+    let list : (pairs : List Pair) × AreWalked Forward c.args.self.now c.args.input.now pairs = told Forward c.args.self.now.kind c.args.input.now in
+    let found : c.call.new.walk.found ≡ Some c.in-Some.half = sym c.get_match.ensures ∙ c.in-Some.«is» in
+    let put : c.try_insert.new.self ≡ set c.loop-walk.patset c.in-Some.half.pattern true = c.try_insert.ensures.inserted ∙ ap (λ n. set c.loop-walk.patset n true) c.pattern.ensures in
+    let on = on_found c.loop-walk.walk c.call.new.walk c.in-Some.half c.in_ok-call.ensures.goes_on found in
+    let j = c.loop-walk.invariant.joins in
+    let well : StandsWell c.args.self.now c.args.input.now c.haystack-haystack.ensures.within.1 c.call.new.walk =
+    stands_well c.args.self.now c.args.input.now c.haystack-haystack.ensures.within.1 c.call.new.walk j.k (c.in_ok-call.ensures.tells j.k j.told).0 on.0 in
+    record {
+      of = c.in_ok-call.ensures.of;
+      grown = grown_trans c.args.cache.now c.loop-walk.cache c.call.new.cache c.loop-walk.invariant.grown (c.in_ok-call.ensures.there c.loop-walk.invariant.holds);
+      holds = c.in_ok-call.ensures.holds c.loop-walk.invariant.holds;
+      counted = omega (arith, well.begun, c.in_ok-call.ensures.bounded, c.loop-walk.invariant.counted);
+      few = well.units;
+      joins =
+          subst (Joins c.args.self.now c.args.input.now c.call.new.walk c.args.patset.now) (sym put)
+          (joins_more c.args.self.now c.args.input.now c.args.patset.now c.loop-walk.walk c.call.new.walk c.loop-walk.patset c.loop-walk.invariant.joins c.in_ok-call.ensures.tells list c.in-Some.half found (sym c.get_earliest.ensures ∙ c.if-get_earliest.false));
+    }

@@ -1,0 +1,19 @@
+use Rattle.std.proofs.Common.{◌≤◌, ◌+◌, ◌-◌}
+use Rattle.automata_hybrid.specs.Caches.{IsCacheOf}
+use Rattle.automata_hybrid.specs.Growing.{IsGrown}
+use Rattle.automata_hybrid.specs.Walking.{HasItsState, start_count}
+use Rattle.automata_hybrid.proofs.WalkSets.{Joins, steps_left}
+use Rattle.automata_hybrid.proofs.dfa.DFA.collect.Given as goal
+
+abbrev pub invariant-loop-walk : goal.invariant-loop-walk
+invariant-loop-walk l = record {
+  of : IsCacheOf l.cache l.self;
+  grown : IsGrown l.fn.cache l.cache;
+  holds : HasItsState l.cache.store.table l.walk.stage;
+  counted : l.cache.count + start_count l.walk.stage ≤ l.fn.cache.count + l.walk.units + 1;
+  few : l.walk.units ≤ l.input.end - l.input.start + 1;
+  joins : Joins l.self l.input l.walk l.fn.patset l.patset;
+}
+
+abbrev pub decreases-loop-walk : goal.decreases-loop-walk
+decreases-loop-walk l = steps_left l.self l.input l.walk

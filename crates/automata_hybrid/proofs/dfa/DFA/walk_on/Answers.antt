@@ -1,0 +1,98 @@
+use Rattle.std.proofs.Common.{ℕ, ◌≡◌, ◌∙◌, ◌-◌, inl, inr, length, Option, refl, sym, subst, arith}
+use Rattle.automata_base.specs.Powerset.{dead}
+use Rattle.automata_base.specs.Tapes.{Direction}
+use Rattle.automata_hybrid.specs.Searches.{HasReadNoQuit, state_in, tape_in}
+use Rattle.automata_hybrid.specs.Table.{Rows, Leads}
+use Rattle.automata_hybrid.specs.Walking.{Finishes, HasToldBy, IsAdvanceRefusal, IsArrival, TellsNext}
+use Rattle.automata_hybrid.specs.Walks.{Walk, way_of}
+use Rattle.automata_hybrid.proofs.Growing.{grown_after, grown_moved, grown_trans}
+use Rattle.automata_hybrid.proofs.Searching.{if_err}
+use Rattle.automata_hybrid.proofs.Stepping.{dead_tagged}
+use Rattle.automata_hybrid.proofs.WalkCalls.{clean_here, next_finishes, told_here}
+use Rattle.automata_hybrid.proofs.Walked.{finish_start}
+use Rattle.automata_hybrid.proofs.WalkUnits.{units_in}
+use Rattle.automata_hybrid.proofs.dfa.DFA.walk_on.Goals.{in-None, in-Some}
+use Rattle.automata_hybrid.proofs.dfa.DFA.walk_on.Goals as goal
+
+pub returns-in_err-from-clause-errors : goal.returns-in_err-from-clause-errors
+returns-in_err-from-clause-errors c = λ k t.
+    if_err c.from_residual.result _ _ c.from_residual.ensures.1
+    (c.requires.«open», inl (told_here (way_of c.args.way) c.args.self.now c.args.input.now c.args.walk.now k c.see_skips.ensures t c.requires.goes_on c.requires.all_told, c.in_err-from.ensures.errors))
+
+pub returns-then-is_dead-clause-tells : goal.returns-then-is_dead-clause-tells
+returns-then-is_dead-clause-tells c =
+    let d : Direction = way_of c.args.way in
+    let w : Walk = c.args.walk.now in
+    let units : c.args.input.now.end - c.args.input.now.start ≡ length (tape_in d c.args.input.now).bytes = units_in d c.args.input.now c.requires.«open» c.haystack-haystack.ensures.within.1 in
+    let leads : Leads c.search_start.new.self.store.table c.in_ok-from.from (state_in d c.args.self.now c.args.input.now w.units) = subst (λ (t : Rows). Leads t c.in_ok-from.from (state_in d c.args.self.now c.args.input.now w.units)) (sym c.search_start.ensures.table) c.in_ok-from.ensures.leads in
+    let dies : state_in d c.args.self.now c.args.input.now w.units ≡ dead = (dead_tagged c.search_start.new.self.store.table c.in_ok-from.from (c.see_ids.ensures.low c.in_ok-from.from) c.see_ids.ensures.small _ leads).0 (c.if-is_dead.ensures.0 refl) in
+    let clean : HasReadNoQuit d c.args.self.now c.args.input.now w.units = clean_here d c.args.self.now c.args.input.now w c.requires.walk.0 c.requires.walk.1 c.requires.goes_on in
+    let ends : Finishes d c.args.self.now c.args.input.now w.units w.units = finish_start d c.args.self.now c.args.input.now w.units (omega (arith, units, c.requires.within)) clean dies in
+    subst (TellsNext d c.args.self.now c.args.input.now w) (sym c.end.ensures)
+    (next_finishes d c.args.self.now c.args.input.now w w _ c.requires.«open» c.in_ok-from.ensures.may
+    (λ k t. told_here d c.args.self.now c.args.input.now w k c.see_skips.ensures t c.requires.goes_on c.requires.all_told)
+    (subst (Finishes d c.args.self.now c.args.input.now w.units) (sym c.units-then-is_dead.ensures) ends))
+
+pub returns-then-is_dead-clause-grown : goal.returns-then-is_dead-clause-grown
+returns-then-is_dead-clause-grown c =
+    grown_after c.args.cache.now c.resume.new.cache c.end_search.new.self c.in_ok-from.ensures.grown
+    (grown_trans c.resume.new.cache c.search_start.new.self c.end_search.new.self
+    (grown_moved c.resume.new.cache c.search_start.new.self c.search_start.ensures.value)
+    (grown_moved c.search_start.new.self c.end_search.new.self c.end_search.ensures.value))
+
+pub returns-then-is_dead-clause-there : goal.returns-then-is_dead-clause-there
+returns-then-is_dead-clause-there c = λ there.
+    grown_trans c.args.cache.now c.resume.new.cache c.end_search.new.self (c.in_ok-from.ensures.there there)
+    (grown_trans c.resume.new.cache c.search_start.new.self c.end_search.new.self
+    (grown_moved c.resume.new.cache c.search_start.new.self c.search_start.ensures.value)
+    (grown_moved c.search_start.new.self c.end_search.new.self c.end_search.ensures.value))
+
+pub returns-in_err-arrival-clause-errors : goal.returns-in_err-arrival-clause-errors
+returns-in_err-arrival-clause-errors c = λ k t.
+    let d : Direction = way_of c.args.way in
+    let here : HasToldBy d c.args.self.now c.args.input.now c.args.walk.now.units k = told_here d c.args.self.now c.args.input.now c.args.walk.now k c.see_skips.ensures t c.requires.goes_on c.requires.all_told in
+    let r : IsAdvanceRefusal d c.args.self.now c.advance.new.cache.store c.args.input.now c.args.walk.now.units c.in_err-arrival.field-0.0 = subst (λ n. IsAdvanceRefusal d c.args.self.now c.advance.new.cache.store c.args.input.now n c.in_err-arrival.field-0.0) c.units-2.ensures c.in_err-arrival.ensures.errors in
+    if_err c.from_residual-in_err-arrival.result _ _ c.from_residual-in_err-arrival.ensures.1
+    (c.requires.«open», inr (c.in_ok-from.ensures.may, (r.0, r.1, r.2, r.3, r.4 k here, r.5)))
+
+pub returns-in_err-arrival-clause-grown : goal.returns-in_err-arrival-clause-grown
+returns-in_err-arrival-clause-grown c =
+    grown_after c.args.cache.now c.resume.new.cache c.advance.new.cache c.in_ok-from.ensures.grown
+    (grown_trans c.resume.new.cache c.search_start.new.self c.advance.new.cache
+    (grown_moved c.resume.new.cache c.search_start.new.self c.search_start.ensures.value) c.in_err-arrival.ensures.grown)
+
+pub returns-in_err-arrival-clause-there : goal.returns-in_err-arrival-clause-there
+returns-in_err-arrival-clause-there c = λ there.
+    grown_trans c.args.cache.now c.resume.new.cache c.advance.new.cache (c.in_ok-from.ensures.there there)
+    (grown_trans c.resume.new.cache c.search_start.new.self c.advance.new.cache
+    (grown_moved c.resume.new.cache c.search_start.new.self c.search_start.ensures.value) c.in_err-arrival.ensures.grown)
+
+pub stand-requires-clause-here : goal.stand-requires-clause-here
+stand-requires-clause-here c = λ k t.
+    told_here (way_of c.args.way) c.args.self.now c.args.input.now c.args.walk.now k c.see_skips.ensures t c.requires.goes_on c.requires.all_told
+
+pub returns-clause-tells : goal.returns-clause-tells
+returns-clause-tells c =
+    let d : Direction = way_of c.args.way in
+    let w : Walk = c.args.walk.now in
+    let arrives : IsArrival d c.args.self.now c.advance.new.cache.store.table c.args.input.now w.units c.in_ok-arrival.arrival.id c.in_ok-arrival.arrival.units = subst (λ n. IsArrival d c.args.self.now c.advance.new.cache.store.table c.args.input.now n c.in_ok-arrival.arrival.id c.in_ok-arrival.arrival.units) c.units-2.ensures c.in_ok-arrival.ensures.arrives in
+    elim c.match-arrival.branch [
+      | in-None v ↦
+          subst (TellsNext d c.args.self.now c.args.input.now w) (sym (v.walk-is ∙ v.end-in-None.ensures))
+          (next_finishes d c.args.self.now c.args.input.now w w c.in_ok-arrival.arrival.units c.requires.«open» c.in_ok-from.ensures.may
+          (λ k t. told_here d c.args.self.now c.args.input.now w k c.see_skips.ensures t c.requires.goes_on c.requires.all_told)
+          (subst (λ (o : Option ℕ). IsArrival d c.args.self.now c.advance.new.cache.store.table c.args.input.now w.units o c.in_ok-arrival.arrival.units) v.in-None.«is» arrives))
+      | in-Some v ↦ subst (TellsNext d c.args.self.now c.args.input.now w) (sym v.walk-is) v.stand.ensures.tells
+    ]
+
+pub returns-clause-grown : goal.returns-clause-grown
+returns-clause-grown c =
+    grown_after c.args.cache.now c.resume.new.cache c.advance.new.cache c.in_ok-from.ensures.grown
+    (grown_trans c.resume.new.cache c.search_start.new.self c.advance.new.cache
+    (grown_moved c.resume.new.cache c.search_start.new.self c.search_start.ensures.value) c.in_ok-arrival.ensures.grown)
+
+pub returns-clause-there : goal.returns-clause-there
+returns-clause-there c = λ there.
+    grown_trans c.args.cache.now c.resume.new.cache c.advance.new.cache (c.in_ok-from.ensures.there there)
+    (grown_trans c.resume.new.cache c.search_start.new.self c.advance.new.cache
+    (grown_moved c.resume.new.cache c.search_start.new.self c.search_start.ensures.value) c.in_ok-arrival.ensures.grown)

@@ -1,0 +1,165 @@
+-- The matches that a loop over an iteration collects.
+use Rattle.std.proofs.Common.{ℕ, suc, ◌≡◌, ◌∙◌, inl, inr, Bool, true, false, List, [], ◌∷◌, ◌++◌, Option, Some, None, refl, sym, ap, subst}
+use Rattle.std.specs.Prelude.{Ok, Err, MatchOption}
+use Rattle.automata_base.specs.Input.{Input}
+use Rattle.automata_base.specs.Matches.{Match}
+use Rattle.automata_base.specs.Spans.{AreMatches, IsEmptyAt, IsNext, from}
+use Rattle.automata_config.specs.declared.error.SearchError.{SearchError}
+use Rattle.regex_automata.specs.Iterating.{AreCollected, AreFirst, GivesItem, IsBeginning, IsNextMatch}
+use Rattle.regex_automata.specs.Outcomes.{FindsMatch}
+use Rattle.regex_automata.specs.declared.hybrid.regex.Regex.{Regex}
+use Rattle.regex_automata.specs.declared.hybrid.regex.caches.Cache.{Cache}
+use Rattle.regex_automata.proofs.Results.{none_some, same_some}
+
+-- the first matches of an iteration, and where it stands behind them
+abbrev pub ComesTo : (Finds : Input → Option Match → Type 0) → Input → ℕ → Option ℕ → List Match → ℕ → Option ℕ → Type 0
+ComesTo Finds input start last [] start' last' = (start ≡ start') × (last ≡ last')
+ComesTo Finds input start last (m ∷ ms) start' last' =
+    IsNext Finds input start last (Some m) × ComesTo Finds input m.end (Some m.end) ms start' last'
+
+module _ (Finds : Input → Option Match → Type 0) (input : Input) where
+  -- one more
+  pub comes_on :
+      (start : ℕ) (last : Option ℕ) (ms : List Match) (at : ℕ) (before : Option ℕ) (m : Match)
+      → ComesTo Finds input start last ms at before → IsNext Finds input at before (Some m)
+      → ComesTo Finds input start last (ms ++ m ∷ []) m.end (Some m.end)
+  comes_on start last [] at before m c next =
+      (subst (λ l. IsNext Finds input start l (Some m)) (sym c.1) (subst (λ s. IsNext Finds input s before (Some m)) (sym c.0) next), (refl, refl))
+  comes_on start last (n ∷ ms) at before m c next = (c.0, comes_on n.end (Some n.end) ms at before m c.1 next)
+
+  -- the last one
+  pub comes_all :
+      (start : ℕ) (last : Option ℕ) (ms : List Match) (at : ℕ) (before : Option ℕ)
+      → ComesTo Finds input start last ms at before → IsNext Finds input at before None → AreMatches Finds input start last ms
+  comes_all start last [] at before c next =
+      subst (λ l. IsNext Finds input start l None) (sym c.1) (subst (λ s. IsNext Finds input s before None) (sym c.0) next)
+  comes_all start last (n ∷ ms) at before c next = (c.0, comes_all n.end (Some n.end) ms at before c.1 next)
+
+  pub comes_first :
+      (start : ℕ) (last : Option ℕ) (ms : List Match) (at : ℕ) (before : Option ℕ)
+      → ComesTo Finds input start last ms at before → AreFirst Finds input start last ms
+  comes_first start last [] at before c = tt
+  comes_first start last (n ∷ ms) at before c = (c.0, comes_first n.end (Some n.end) ms at before c.1)
+
+  pub collected :
+      (ms : List Match) (error : Option SearchError) (at : ℕ) (before : Option ℕ)
+      → ComesTo Finds input input.start None ms at before → (error ≡ None → IsNext Finds input at before None) → AreCollected Finds input ms error
+  collected ms None at before c next = comes_all input.start None ms at before c (next refl)
+  collected ms (Some e) at before c next = comes_first input.start None ms at before c
+
+-- what searches find that are right is right
+module _ (F G : Input → Option Match → Type 0) (input : Input) (right : (start : ℕ) (o : Option Match) → F (from start input) o → G (from start input) o) where
+  next_right : (start : ℕ) (last : Option ℕ) (o : Option Match) → IsNext F input start last o → IsNext G input start last o
+  next_right start last None (inl f) = inl (right start None f)
+  next_right start last None (inr f) = inr (f.0, right start (Some f.0) f.1, f.2, right (suc start) None f.3)
+  next_right start last (Some m) (inl f) = inl (right start (Some m) f.0, f.1)
+  next_right start last (Some m) (inr f) = inr (f.0, right start (Some f.0) f.1, f.2, right (suc start) (Some m) f.3)
+
+  matches_right : (start : ℕ) (last : Option ℕ) (ms : List Match) → AreMatches F input start last ms → AreMatches G input start last ms
+  matches_right start last [] f = next_right start last None f
+  matches_right start last (m ∷ ms) f = (next_right start last (Some m) f.0, matches_right m.end (Some m.end) ms f.1)
+
+  first_right : (start : ℕ) (last : Option ℕ) (ms : List Match) → AreFirst F input start last ms → AreFirst G input start last ms
+  first_right start last [] f = tt
+  first_right start last (m ∷ ms) f = (next_right start last (Some m) f.0, first_right m.end (Some m.end) ms f.1)
+
+  pub collected_right : (ms : List Match) (error : Option SearchError) → AreCollected F input ms error → AreCollected G input ms error
+  collected_right ms None f = matches_right input.start None ms f
+  collected_right ms (Some e) f = first_right input.start None ms f
+
+-- what an item tells
+pub item_match :
+    (p : Regex) (c : Cache) (input input' : Input) (last last' : Option ℕ) (ended ended' : Bool) (m : Match)
+    → GivesItem p c (Some (Ok m)) input input' last last' ended ended'
+    → IsNextMatch p input last (Some m) × (input' ≡ from m.end input) × (last' ≡ Some m.end) × (ended ≡ false) × (ended' ≡ false)
+item_match p c input input' last last' true ended' m g = let e = g.0 in cc
+item_match p c input input' last last' false ended' m g = (g.0, g.1, g.2, refl, g.3)
+
+pub item_error :
+    (p : Regex) (c : Cache) (input input' : Input) (last last' : Option ℕ) (ended ended' : Bool) (e : SearchError)
+    → GivesItem p c (Some (Err e)) input input' last last' ended ended'
+    → (input' ≡ input) × (last' ≡ last) × (ended' ≡ true)
+item_error p c input input' last last' true ended' e g = let h = g.0 in cc
+item_error p c input input' last last' false ended' e g = (g.1, g.2, g.3)
+
+pub item_none :
+    (p : Regex) (c : Cache) (input input' : Input) (last last' : Option ℕ) (ended ended' : Bool)
+    → GivesItem p c None input input' last last' ended ended' → ended ≡ false → IsNextMatch p input last None
+item_none p c input input' last last' true ended' g still = let h : true ≡ false = still in cc
+item_none p c input input' last last' false ended' g still = g.0
+
+-- one turn of the loop
+pub turn :
+    (p q : Regex) (input now : Input) (last : Option ℕ) (o : Option Match) → p ≡ q → now ≡ from now.start input
+    → IsNextMatch p now last o → IsNext (FindsMatch q) input now.start last o
+turn p q input now last None e same f =
+    subst (λ (i : Input). IsNext (FindsMatch q) i now.start last None) same (subst (λ (r : Regex). IsNext (FindsMatch r) now now.start last None) e f)
+turn p q input now last (Some m) e same f =
+    subst (λ (i : Input). IsNext (FindsMatch q) i now.start last (Some m)) same (subst (λ (r : Regex). IsNext (FindsMatch r) now now.start last (Some m)) e f)
+
+pub comes_turn :
+    (F : Input → Option Match → Type 0) (input : Input) (start : ℕ) (last : Option ℕ) (ms more : List Match) (at at' : ℕ) (before before' : Option ℕ) (m : Match)
+    → ComesTo F input start last ms at before → IsNext F input at before (Some m) → more ≡ ms ++ m ∷ [] → at' ≡ m.end → before' ≡ Some m.end
+    → ComesTo F input start last more at' before'
+comes_turn F input start last ms more at at' before before' m c next items place past =
+    subst (λ (l : Option ℕ). ComesTo F input start last more at' l) (sym past)
+    (subst (λ n. ComesTo F input start last more n (Some m.end)) (sym place)
+    (subst (λ (l : List Match). ComesTo F input start last l m.end (Some m.end)) (sym items) (comes_on F input start last ms at before m c next)))
+
+pub input_turn : (input now next : Input) (k : ℕ) → now ≡ from now.start input → next ≡ from k now → next ≡ from next.start input
+input_turn input now next k same e =
+    let f : next ≡ from k input = e ∙ ap (λ (i : Input). from k i) same in
+    f ∙ ap (λ n. from n input) (sym (ap (λ (i : Input). i.start) f))
+
+pub still_going :
+    (error : Option SearchError) (a b : Bool) → MatchOption error (a ≡ false) (λ _. a ≡ true) → a ≡ false → b ≡ false
+    → MatchOption error (b ≡ false) (λ _. b ≡ true)
+still_going None a b m f g = g
+still_going (Some e) a b m f g = cc
+
+pub going_none : (error : Option SearchError) (a : Bool) → MatchOption error (a ≡ false) (λ _. a ≡ true) → error ≡ None → a ≡ false
+going_none None a m e = m
+going_none (Some x) a m e = absurd (none_some (sym e))
+
+-- what finds one answer finds one next match
+abbrev pub FindsOnce : (Input → Option Match → Type 0) → Type 0
+FindsOnce F = (input : Input) (a b : Option Match) → F input a → F input b → a ≡ b
+
+module _ (F : Input → Option Match → Type 0) (one : FindsOnce F) (input : Input) where
+  next_none :
+      (start : ℕ) (last : Option ℕ) (m : Match) → IsNext F input start last None → IsNext F input start last (Some m) → ⊥
+  next_none start last m (inl s) (inl t) = none_some (one (from start input) None (Some m) s t.0)
+  next_none start last m (inl s) (inr t) = none_some (one (from start input) None (Some t.0) s t.1)
+  next_none start last m (inr s) (inl t) =
+      t.1 (subst (λ (v : Match). IsEmptyAt last v) (same_some (one (from start input) (Some s.0) (Some m) s.1 t.0)) s.2)
+  next_none start last m (inr s) (inr t) = none_some (one (from (suc start) input) None (Some m) s.3 t.3)
+
+  next_some :
+      (start : ℕ) (last : Option ℕ) (m n : Match) → IsNext F input start last (Some m) → IsNext F input start last (Some n) → m ≡ n
+  next_some start last m n (inl s) (inl t) = same_some (one (from start input) (Some m) (Some n) s.0 t.0)
+  next_some start last m n (inl s) (inr t) =
+      absurd (s.1 (subst (λ (v : Match). IsEmptyAt last v) (same_some (one (from start input) (Some t.0) (Some m) t.1 s.0)) t.2))
+  next_some start last m n (inr s) (inl t) =
+      absurd (t.1 (subst (λ (v : Match). IsEmptyAt last v) (same_some (one (from start input) (Some s.0) (Some n) s.1 t.0)) s.2))
+  next_some start last m n (inr s) (inr t) = same_some (one (from (suc start) input) (Some m) (Some n) s.3 t.3)
+
+  -- so the first matches are a beginning of all
+  pub first_begins :
+      (start : ℕ) (last : Option ℕ) (ms all : List Match)
+      → AreFirst F input start last ms → AreMatches F input start last all → IsBeginning ms all
+  first_begins start last [] all f g = (all, refl)
+  first_begins start last (m ∷ ms) [] f g = absurd (next_none start last m g f.0)
+  first_begins start last (m ∷ ms) (n ∷ all) f g =
+      let e : m ≡ n = next_some start last m n f.0 g.0 in
+      let rest = first_begins m.end (Some m.end) ms all f.1 (subst (λ (v : Match). AreMatches F input v.end (Some v.end) all) (sym e) g.1) in
+      (rest.0, ap (λ (l : List Match). n ∷ l) rest.1 ∙ ap (λ (v : Match). v ∷ (ms ++ rest.0)) (sym e))
+
+  all_first : (start : ℕ) (last : Option ℕ) (ms : List Match) → AreMatches F input start last ms → AreFirst F input start last ms
+  all_first start last [] f = tt
+  all_first start last (m ∷ ms) f = (f.0, all_first m.end (Some m.end) ms f.1)
+
+  pub collected_begins :
+      (ms all : List Match) (error : Option SearchError) → AreCollected F input ms error → AreMatches F input input.start None all
+      → IsBeginning ms all
+  collected_begins ms all None f g = first_begins input.start None ms all (all_first input.start None ms f) g
+  collected_begins ms all (Some e) f g = first_begins input.start None ms all f g

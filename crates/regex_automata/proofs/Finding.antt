@@ -1,0 +1,157 @@
+-- What the search back costs, and what it is given.
+use Rattle.std.specs.Prelude.{IfSome}
+use Rattle.std.proofs.Common.{ℕ, ◌≡◌, ◌∙◌, ◌+◌, ◌-◌, ◌*◌, ◌≤◌, length, Option, Some, None, refl, sym, ap, subst, arith}
+use Rattle.std.proofs.lemmas.Nat.{mul-le}
+use Rattle.std.specs.Option.{option_map}
+use Rattle.automata_base.specs.Answers.{Half}
+use Rattle.automata_base.specs.Input.{Input}
+use Rattle.automata_base.specs.Matches.{HalfMatch, Match}
+use Rattle.automata_base.specs.Spans.{back}
+use Rattle.automata_base.specs.Tapes.{Backward, Forward}
+use Rattle.automata_base.specs.declared.util.search.Anchored.{Anchored}
+use Rattle.automata_base.specs.declared.util.search.Anchored.TheVariants.{No, Yes}
+use Rattle.automata_hybrid.specs.Agreeing.{AnswersAgree}
+use Rattle.automata_hybrid.specs.Caches.{CacheView}
+use Rattle.automata_hybrid.specs.Growing.{IsGrown}
+use Rattle.automata_hybrid.specs.Knowing.{Knows}
+use Rattle.automata_hybrid.specs.Machine.{Machine}
+use Rattle.automata_hybrid.specs.Searches.{IsFound, NoQuitInReach, Skips, WithoutBase, with_base}
+use Rattle.automata_hybrid.proofs.Growing.{clears_none}
+use Rattle.regex_automata.specs.Costs.{IsCostOf, IsPassCost}
+use Rattle.regex_automata.specs.Outcomes.{FindsMatch, IsStartFound, LiesIn}
+use Rattle.regex_automata.specs.RegexCaches.{KnowsBack, KnowsBoth}
+use Rattle.regex_automata.specs.declared.hybrid.regex.Regex.{Regex}
+use Rattle.regex_automata.specs.declared.hybrid.regex.caches.Cache.{Cache}
+use Rattle.regex_automata.proofs.Results.{none_some, same_some, some_none}
+use Rattle.regex_automata.proofs.Telling.{found_within}
+
+-- no search costs nothing
+pub pass_none : (bytes : ℕ) (c : CacheView) → IsPassCost bytes c c
+pass_none bytes c = record { once = omega arith; room = λ r. refl }
+
+-- what a pass over fewer bytes costs
+pub pass_fewer :
+    (few bytes : ℕ) (old new : CacheView) → few ≤ bytes → new.count ≤ old.count + (few + 2) → IsGrown old new → IsPassCost bytes old new
+pass_fewer few bytes old new l one grown =
+    let once : new.count ≤ old.count + (bytes + 2) = omega (arith, l, one) in
+    record { once = once; room = λ r. clears_none old new (bytes + 2) grown once r }
+
+-- what a search over fewer bytes costs
+pub cost_fewer :
+    (m : Machine) (few bytes : ℕ) (old new : CacheView) → few ≤ bytes
+    → ((Skips m → ⊥) → new.count ≤ old.count + (few + 2))
+    → new.count ≤ old.count + (few + 1) * (few + 2) → IsGrown old new → IsCostOf m bytes old new
+cost_fewer m few bytes old new l one more grown =
+    record {
+      once = once;
+      all = all;
+      room_once = λ s r. clears_none old new (bytes + 2) grown (once s) r;
+      room_all = λ r. clears_none old new ((bytes + 1) * (bytes + 2)) grown all r;
+    } where
+      once : (Skips m → ⊥) → new.count ≤ old.count + (bytes + 2)
+      once s = let f = one s in omega (arith, f, l)
+
+      all : new.count ≤ old.count + (bytes + 1) * (bytes + 2)
+      all =
+          let a : few + 1 ≤ bytes + 1 = omega (arith, l) in
+          let b : few + 2 ≤ bytes + 2 = omega (arith, l) in
+          let times : (few + 1) * (few + 2) ≤ (bytes + 1) * (bytes + 2) = mul-le _ _ _ _ a b in
+          omega (arith, more, times)
+
+-- in reach of the search back is nothing that was not in reach before
+pub back_reach :
+    (m : Machine) (input : Input) (half : Half) → input.start ≤ half.base → half.offset ≤ input.end
+    → NoQuitInReach m input → NoQuitInReach m (back input half)
+back_reach m input half from within reach = λ at byte s e n. reach at byte (omega (arith, from, s)) (omega (arith, within, e)) n
+
+-- the search back costs what a pass over the whole span costs
+pub cost_back :
+    (m : Machine) (input rest : Input) (half : Half) (old new : CacheView) → rest ≡ back input half
+    → input.start ≤ half.base → half.offset ≤ input.end
+    → ((Skips m × (rest.anchored ≡ No) → ⊥) → new.count ≤ old.count + (rest.end - rest.start + 2))
+    → IsGrown old new → IsPassCost (input.end - input.start) old new
+cost_back m input rest half old new same from within one grown =
+    let start : rest.start ≡ half.base = ap (λ (i : Input). i.start) same in
+    let end : rest.end ≡ half.offset = ap (λ (i : Input). i.end) same in
+    pass_fewer (rest.end - rest.start) (input.end - input.start) old new (omega (arith, start, end, from, within))
+    (one (λ s. yes_no (sym (ap (λ (i : Input). i.anchored) same) ∙ s.1))) grown
+  where
+    yes_no : ◌≡◌ {A = Anchored} Yes No → ⊥
+    yes_no e = cc
+
+-- what the search back found, as a half with its base
+pub back_some :
+    (m : Machine) (rest : Input) (o : Option HalfMatch) (found : HalfMatch) → WithoutBase (IsFound Backward m rest) o → o ≡ Some found
+    → (half : Half) × IsFound Backward m rest (Some half) × (found.offset ≡ half.offset)
+back_some m rest o found (None, f, e) is = absurd (some_none (sym is ∙ e))
+back_some m rest o found (Some half, f, e) is = (half, f, ap (λ (h : HalfMatch). h.offset) (same_some (sym is ∙ e)))
+
+pub back_none :
+    (m : Machine) (rest : Input) (o : Option HalfMatch) → WithoutBase (IsFound Backward m rest) o → o ≡ None → IsFound Backward m rest None
+back_none m rest o (None, f, e) is = f
+back_none m rest o (Some half, f, e) is = absurd (none_some (sym is ∙ e))
+
+-- it lies between the two
+pub back_within :
+    (m : Machine) (input : Input) (half found : Half) → half.offset ≤ input.end → input.end ≤ length input.haystack
+    → IsFound Backward m (back input half) (Some found) → (half.base ≤ found.offset) × (found.offset ≤ half.offset)
+back_within m input half found within few f = found_within Backward m (back input half) found (omega (arith, within, few)) f
+
+-- A forward search has one answer.
+module _ (agree : AnswersAgree) (p : Regex) (input : Input) where
+  pub same_half : (a b : Half) → IsFound Forward p.forward input (Some a) → IsFound Forward p.forward input (Some b) → a ≡ b
+  same_half a b f g = same_some (agree Forward p.forward p.forward input (Some a) (Some b) refl refl f g)
+
+  -- all that both searches use is known
+  pub knows_both :
+      (c : Cache) (half : Half) → Knows Forward p.forward c.forward.store input → IsFound Forward p.forward input (Some half)
+      → KnowsBack p c.reverse.store input half → KnowsBoth p c input
+  knows_both c half knows found rest =
+      (knows, λ other f. subst (λ (h : Half). KnowsBack p c.reverse.store input h) (same_half half other found f) rest)
+
+  pub knows_front :
+      (c : Cache) → Knows Forward p.forward c.forward.store input → IsFound Forward p.forward input None → KnowsBoth p c input
+  knows_front c knows found =
+      (knows, λ other f. absurd (none_some (agree Forward p.forward p.forward input None (Some other) refl refl found f)))
+
+-- what the forward search found, with the start of the span that gave it
+pub front_some :
+    (m : Machine) (input : Input) (o : Option (HalfMatch × ℕ)) (half : HalfMatch) (base : ℕ)
+    → IsFound Forward m input (option_map (λ (p : HalfMatch × ℕ). with_base p.0 p.1) o) → o ≡ Some (half, base)
+    → IsFound Forward m input (Some (with_base half base))
+front_some m input o half base f is =
+    subst (λ (v : Option (HalfMatch × ℕ)). IsFound Forward m input (option_map (λ (p : HalfMatch × ℕ). with_base p.0 p.1) v)) is f
+
+pub front_none :
+    (m : Machine) (input : Input) (o : Option (HalfMatch × ℕ))
+    → IsFound Forward m input (option_map (λ (p : HalfMatch × ℕ). with_base p.0 p.1) o) → o ≡ None → IsFound Forward m input None
+front_none m input o f is =
+    subst (λ (v : Option (HalfMatch × ℕ)). IsFound Forward m input (option_map (λ (p : HalfMatch × ℕ). with_base p.0 p.1) v)) is f
+
+abbrev pub cache_of : CacheView → CacheView → Cache
+cache_of forward reverse = record { forward = forward; reverse = reverse }
+
+-- a start that was found lies between the two
+pub start_within :
+    (base end : ℕ) (o : Option ℕ) (start : ℕ) → IfSome o (λ s. (base ≤ s) × (s ≤ end)) → o ≡ Some start → (base ≤ start) × (start ≤ end)
+start_within base end None start w is = absurd (none_some is)
+start_within base end (Some s) start w is = subst (λ n. (base ≤ n) × (n ≤ end)) (same_some is) w
+
+-- the match of what both searches found
+abbrev match_at : (pattern start end : ℕ) → Match
+match_at pattern start end = record { pattern = pattern; start = start; end = end }
+
+pub match_of :
+    (p : Regex) (input : Input) (half : Half) (start end pattern : ℕ) (m : Match)
+    → IsFound Forward p.forward input (Some half) → IsStartFound p input half (Some start)
+    → pattern ≡ half.pattern → end ≡ half.offset → m ≡ match_at pattern start end → FindsMatch p input (Some m)
+match_of p input half start end pattern m found begun same_pattern same_end is =
+    subst (λ (v : Match). FindsMatch p input (Some v)) (sym is) (half, found, begun, same_pattern, same_end)
+
+pub match_within :
+    (input : Input) (half : Half) (start end pattern : ℕ) (m : Match)
+    → input.start ≤ half.base → half.offset ≤ input.end → (half.base ≤ start) × (start ≤ half.offset)
+    → end ≡ half.offset → m ≡ match_at pattern start end → LiesIn input m
+match_within input half start end pattern m from to between same is =
+    subst (λ (v : Match). LiesIn input v) (sym is)
+    (omega (arith, from, between.0), omega (arith, between.1, same), omega (arith, to, same))

@@ -1,0 +1,77 @@
+-- One item after another.
+use Rattle.std.proofs.Common.{ℕ, ◌≡◌, ◌∙◌, ◌+◌, ◌-◌, ◌<◌, ◌≤◌, Bool, true, false, cond, eqb, eq-eqb, eqb-true, Option, Some, None, refl, sym, ap, subst, arith}
+use Rattle.std.specs.Prelude.{Ok, Err}
+use Rattle.automata_base.specs.Input.{Input}
+use Rattle.automata_base.specs.Matches.{Match}
+use Rattle.automata_base.specs.Spans.{from}
+use Rattle.automata_config.specs.declared.error.SearchError.{SearchError}
+use Rattle.regex_automata.specs.Iterating.{GivesItem, GoesOn, IsNextMatch, IsNextRefusal, most_left}
+use Rattle.regex_automata.specs.declared.hybrid.regex.Regex.{Regex}
+use Rattle.regex_automata.specs.declared.hybrid.regex.caches.Cache.{Cache}
+use Rattle.regex_automata.proofs.Backing.{false_true}
+
+-- a match is given
+pub gives_match :
+    (p : Regex) (c : Cache) (input input' : Input) (last : Option ℕ) (ended : Bool) (m : Match) (start end : ℕ)
+    → ended ≡ false → IsNextMatch p input last (Some m) → input' ≡ from start input → start ≡ m.end → end ≡ m.end
+    → GivesItem p c (Some (Ok m)) input input' last (Some end) ended ended
+gives_match p c input input' last true m start end still next same begins ends = absurd (false_true (sym still))
+gives_match p c input input' last false m start end still next same begins ends =
+    (next, same ∙ ap (λ n. from n input) begins, ap (λ (n : ℕ). Some n) ends, refl)
+
+-- or there is none
+pub gives_none :
+    (p : Regex) (c : Cache) (input : Input) (last : Option ℕ) (ended : Bool)
+    → ended ≡ false → IsNextMatch p input last None → GivesItem p c None input input last last ended true
+gives_none p c input last true still next = absurd (false_true (sym still))
+gives_none p c input last false still next = (next, refl, refl, refl)
+
+-- or an error
+pub gives_error :
+    (p : Regex) (c : Cache) (input : Input) (last : Option ℕ) (ended : Bool) (e : SearchError)
+    → ended ≡ false → IsNextRefusal p c input last e → GivesItem p c (Some (Err e)) input input last last ended true
+gives_error p c input last true e still refused = absurd (false_true (sym still))
+gives_error p c input last false e still refused = (refused, refl, refl, refl)
+
+-- fewer items may come behind a match
+most_behind : (input input' : Input) (end : ℕ) → input' ≡ from end input → most_left false input' (Some end) ≡ input.end + 1 - end
+most_behind input input' end same =
+    subst (λ (i : Input). most_left false i (Some end) ≡ input.end + 1 - end) (sym same)
+    (ap (λ b. cond b (input.end + 1 - end) (input.end + 2 - end)) (eq-eqb end end refl))
+
+most_before : (input : Input) (last : Option ℕ) (m : Match) → GoesOn input last m → input.end + 1 - m.end < most_left false input last
+most_before input None m goes =
+    let a : input.start ≤ m.start = goes.0.0 in
+    let b : m.start ≤ m.end = goes.0.1 in
+    let d : m.end ≤ input.end = goes.0.2 in
+    omega (arith, a, b, d)
+most_before input (Some at) m goes = go (eqb at input.start) refl where
+  go : (same : Bool) → eqb at input.start ≡ same → input.end + 1 - m.end < cond same (input.end + 1 - input.start) (input.end + 2 - input.start)
+  go true e =
+      let past : input.start < m.end = goes.1 (ap (λ (n : ℕ). Some n) (eqb-true at input.start e)) in
+      let d : m.end ≤ input.end = goes.0.2 in
+      omega (arith, past, d)
+  go false e =
+      let a : input.start ≤ m.start = goes.0.0 in
+      let b : m.start ≤ m.end = goes.0.1 in
+      let d : m.end ≤ input.end = goes.0.2 in
+      omega (arith, a, b, d)
+
+pub fewer_left :
+    (input input' : Input) (last : Option ℕ) (ended : Bool) (m : Match) (start end : ℕ)
+    → ended ≡ false → input' ≡ from start input → start ≡ m.end → end ≡ m.end → GoesOn input last m
+    → most_left ended input' (Some end) < most_left ended input last
+fewer_left input input' last true m start end still same begins ends goes = absurd (false_true (sym still))
+fewer_left input input' last false m start end still same begins ends goes =
+    let behind : most_left false input' (Some end) ≡ input.end + 1 - end = most_behind input input' end (same ∙ ap (λ n. from n input) (begins ∙ sym ends)) in
+    subst (λ n. n < most_left false input last) (sym behind)
+    (subst (λ n. input.end + 1 - n < most_left false input last) (sym ends) (most_before input last m goes))
+
+-- and none behind an error
+pub some_left : (input : Input) (last : Option ℕ) (ended : Bool) → ended ≡ false → input.start ≤ input.end → 0 < most_left ended input last
+some_left input last true still ahead = absurd (false_true (sym still))
+some_left input None false still ahead = omega (arith, ahead)
+some_left input (Some at) false still ahead = go (eqb at input.start) where
+  go : (same : Bool) → 0 < cond same (input.end + 1 - input.start) (input.end + 2 - input.start)
+  go true = omega (arith, ahead)
+  go false = omega (arith, ahead)

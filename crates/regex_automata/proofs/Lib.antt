@@ -1,0 +1,10 @@
+pub mod Backing
+pub mod Collecting
+pub mod Finding
+pub mod Items
+pub mod Matching
+pub mod Nexts
+pub mod Results
+pub mod Right
+pub mod Rising
+pub mod Telling

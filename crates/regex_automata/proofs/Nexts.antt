@@ -1,0 +1,96 @@
+-- One match after another.
+use Rattle.std.proofs.Common.{ℕ, suc, ◌≡◌, ◌∙◌, ◌-◌, ◌<◌, ◌≤◌, ◌⊎◌, inl, inr, Option, Some, None, sym, ap, subst, arith}
+use Rattle.std.specs.Prelude.{Result, Ok, Err, IfOk, IfErr, IfSome, OnErr}
+use Rattle.automata_base.specs.Input.{Input}
+use Rattle.automata_base.specs.Matches.{Match}
+use Rattle.automata_base.specs.Spans.{IsEmptyAt, from}
+use Rattle.automata_config.specs.declared.error.SearchError.{SearchError}
+use Rattle.automata_hybrid.specs.Caches.{CacheView}
+use Rattle.automata_hybrid.specs.Growing.{IsGrown}
+use Rattle.automata_hybrid.specs.Machine.{Machine}
+use Rattle.automata_hybrid.proofs.Growing.{grown_trans}
+use Rattle.automata_hybrid.proofs.Searching.{lt_or_le}
+use Rattle.regex_automata.specs.Costs.{AreCostsOf, IsCostOf}
+use Rattle.regex_automata.specs.Iterating.{AreCostsTwice, GoesOn, IsNextMatch, IsNextRefusal}
+use Rattle.regex_automata.specs.Outcomes.{FindsMatch, LiesIn}
+use Rattle.regex_automata.specs.RegexCaches.{AreGrown}
+use Rattle.regex_automata.specs.RegexRefusals.{IsRegexRefusal}
+use Rattle.regex_automata.specs.declared.hybrid.regex.Regex.{Regex}
+use Rattle.regex_automata.specs.declared.hybrid.regex.caches.Cache.{Cache}
+use Rattle.regex_automata.proofs.Finding.{cost_fewer, pass_fewer}
+use Rattle.regex_automata.proofs.Results.{err_ok, none_some, same_some}
+
+pub on_err : {A E : Type 0} (r : Result A E) (P : Type 0) → P → OnErr r P
+on_err (Ok a) P p = tt
+on_err (Err e) P p = p
+
+-- a refused search had something to search
+pub ahead_of :
+    {A E : Type 0} (r : Result A E) (e : E) (a : A) (start end : ℕ) → (end < start → r ≡ Ok a) → r ≡ Err e → start ≤ end
+ahead_of r e a start end done is = go (lt_or_le end start) where
+  go : (end < start) ⊎ (start ≤ end) → start ≤ end
+  go (inl past) = absurd (err_ok (sym is ∙ done past))
+  go (inr ahead) = ahead
+
+pub some_of : {A : Type 0} (o : Option A) (a : A) (P : A → Type 0) → IfSome o P → o ≡ Some a → P a
+some_of None a P h is = absurd (none_some is)
+some_of (Some b) a P h is = subst P (same_some is) h
+
+-- the match found first stands
+pub goes_first : (input : Input) (last : Option ℕ) (m : Match) → LiesIn input m → (IsEmptyAt last m → ⊥) → GoesOn input last m
+goes_first input last m lies full = (lies, λ same. past same (lt_or_le input.start m.end)) where
+  past : last ≡ Some input.start → (input.start < m.end) ⊎ (m.end ≤ input.start) → input.start < m.end
+  past same (inl l) = l
+  past same (inr l) =
+      let a : input.start ≤ m.start = lies.0 in
+      let b : m.start ≤ m.end = lies.1 in
+      let e : input.start ≡ m.end = omega (arith, a, b, l) in
+      let f : m.start ≡ m.end = omega (arith, a, b, l) in
+      absurd (full (f, same ∙ ap (λ (n : ℕ). Some n) e))
+
+-- an empty one where the last one ended gives way to what is found from one place later
+module _ (p : Regex) (input : Input) (last : Option ℕ) (m : Match) (found : FindsMatch p input (Some m)) (empty : IsEmptyAt last m) where
+  pub next_later : (r : Result (Option Match) SearchError) → IfOk r (FindsMatch p (from (suc input.start) input)) → IfOk r (IsNextMatch p input last)
+  next_later (Ok None) h = inr (m, found, empty, h)
+  next_later (Ok (Some n)) h = inr (m, found, empty, h)
+  next_later (Err e) h = tt
+
+  pub refused_later :
+      (c : Cache) (r : Result (Option Match) SearchError) → IfErr r (IsRegexRefusal p c (from (suc input.start) input))
+      → IfErr r (IsNextRefusal p c input last)
+  refused_later c (Ok o) h = tt
+  refused_later c (Err e) h = inr (m, found, empty, h)
+
+pub goes_later :
+    (input : Input) (last : Option ℕ) (r : Result (Option Match) SearchError)
+    → IfOk r (λ o. IfSome o (LiesIn (from (suc input.start) input))) → IfOk r (λ o. IfSome o (GoesOn input last))
+goes_later input last (Ok None) h = tt
+goes_later input last (Ok (Some n)) h =
+    let a : suc input.start ≤ n.start = h.0 in
+    let b : n.start ≤ n.end = h.1 in
+    ((omega (arith, a), b, h.2), λ same. omega (arith, a, b))
+goes_later input last (Err e) h = tt
+
+-- what a search over a shorter span costs, and two searches
+pub cost_shorter : (m : Machine) (few bytes : ℕ) (old new : CacheView) → few ≤ bytes → IsGrown old new → IsCostOf m few old new → IsCostOf m bytes old new
+cost_shorter m few bytes old new l grown cost = cost_fewer m few bytes old new l cost.once cost.all grown
+
+pub costs_twice :
+    (p : Regex) (input rest : Input) (old between new : Cache) → rest ≡ from (suc input.start) input
+    → AreGrown between new → AreCostsOf p (input.end - input.start) old between → AreCostsOf p (rest.end - rest.start) between new
+    → AreCostsTwice p (input.end - input.start) old new
+costs_twice p input rest old between new same grown first second =
+    let start : rest.start ≡ suc input.start = ap (λ (i : Input). i.start) same in
+    let end : rest.end ≡ input.end = ap (λ (i : Input). i.end) same in
+    let l : rest.end - rest.start ≤ input.end - input.start = omega (arith, start, end) in
+    inr (
+      between,
+      first,
+      (
+        cost_shorter p.forward (rest.end - rest.start) (input.end - input.start) between.forward new.forward l grown.0 second.0,
+        pass_fewer (rest.end - rest.start) (input.end - input.start) between.reverse new.reverse l second.1.once grown.1,
+      ),
+    )
+
+pub grown_twice : (a b c : Cache) → AreGrown a b → AreGrown b c → AreGrown a c
+grown_twice a b c f g = (grown_trans a.forward b.forward c.forward f.0 g.0, grown_trans a.reverse b.reverse c.reverse f.1 g.1)

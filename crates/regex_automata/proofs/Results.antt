@@ -1,0 +1,39 @@
+-- Results and options, by cases.
+use Rattle.std.proofs.Common.{◌≡◌, Option, None, Some, ap}
+use Rattle.std.specs.Prelude.{Result, Ok, Err, IfOk, OnOk}
+use Rattle.std.specs.Result.{IsErrAnd}
+
+module _ {A E : Type 0} where
+  pub if_ok : (r : Result A E) (e : E) (P : A → Type 0) → IsErrAnd r (λ x. x ≡ e) → IfOk r P
+  if_ok (Ok a) e P h = absurd h
+  if_ok (Err x) e P h = tt
+
+  pub on_ok : (r : Result A E) (e : E) (P : Type 0) → IsErrAnd r (λ x. x ≡ e) → OnOk r P
+  on_ok (Ok a) e P h = absurd h
+  on_ok (Err x) e P h = tt
+
+  pub is_err : (r : Result A E) (e : E) → IsErrAnd r (λ x. x ≡ e) → r ≡ Err e
+  is_err (Ok a) e h = absurd h
+  is_err (Err x) e h = ap (λ (v : E). Err v) h
+
+  pub ok_err : {a : A} {e : E} → ◌≡◌ {A = Result A E} (Ok a) (Err e) → ⊥
+  ok_err h = cc
+
+  pub err_ok : {a : A} {e : E} → ◌≡◌ {A = Result A E} (Err e) (Ok a) → ⊥
+  err_ok h = cc
+
+  pub same_err : {e f : E} → ◌≡◌ {A = Result A E} (Err e) (Err f) → e ≡ f
+  same_err h = cc
+
+  pub same_ok : {a b : A} → ◌≡◌ {A = Result A E} (Ok a) (Ok b) → a ≡ b
+  same_ok h = cc
+
+module _ {A : Type 0} where
+  pub some_none : {a : A} → ◌≡◌ {A = Option A} (Some a) None → ⊥
+  some_none h = cc
+
+  pub none_some : {a : A} → ◌≡◌ {A = Option A} None (Some a) → ⊥
+  none_some h = cc
+
+  pub same_some : {a b : A} → ◌≡◌ {A = Option A} (Some a) (Some b) → a ≡ b
+  same_some h = cc

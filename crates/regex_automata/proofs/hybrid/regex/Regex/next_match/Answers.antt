@@ -1,0 +1,96 @@
+use Rattle.std.proofs.Common.{suc, ◌≡◌, ◌∙◌, ◌+◌, None, inl, refl, ap, subst, arith}
+use Rattle.std.specs.Prelude.{IfOk, IfErr, IfSome}
+use Rattle.automata_base.specs.Input.{Input}
+use Rattle.automata_base.specs.Spans.{from}
+use Rattle.automata_hybrid.proofs.Searching.{if_err}
+use Rattle.regex_automata.specs.Outcomes.{FindsMatch, LiesIn}
+use Rattle.regex_automata.specs.RegexRefusals.{IsRegexRefusal}
+use Rattle.regex_automata.proofs.Nexts.{ahead_of, costs_twice, goes_first, goes_later, grown_twice, next_later, on_err, refused_later, some_of}
+use Rattle.regex_automata.proofs.Results.{if_ok}
+use Rattle.regex_automata.proofs.hybrid.regex.Regex.next_match.Goals as goal
+
+pub returns-in_err-found-clause-errors : goal.returns-in_err-found-clause-errors
+returns-in_err-found-clause-errors c = if_err c.from_residual.result _ _ c.from_residual.ensures.1 (inl c.in_err-found.ensures.errors)
+
+pub returns-in_err-found-clause-next : goal.returns-in_err-found-clause-next
+returns-in_err-found-clause-next c = if_ok c.from_residual.result _ _ c.from_residual.ensures.1
+
+pub returns-in_err-found-clause-goes_on : goal.returns-in_err-found-clause-goes_on
+returns-in_err-found-clause-goes_on c = if_ok c.from_residual.result _ _ c.from_residual.ensures.1
+
+pub returns-in_err-found-clause-ahead : goal.returns-in_err-found-clause-ahead
+returns-in_err-found-clause-ahead c =
+    on_err c.from_residual.result _
+    (ahead_of c.try_search.result c.in_err-found.field-0.0 None c.args.input.now.start c.args.input.now.end
+    (λ past. (c.try_search.ensures.done past).0) c.in_err-found.was)
+
+pub returns-in_err-found-clause-cost : goal.returns-in_err-found-clause-cost
+returns-in_err-found-clause-cost c = inl c.try_search.ensures.cost
+
+pub returns-in_default-clause-next : goal.returns-in_default-clause-next
+returns-in_default-clause-next c =
+    inl (subst (FindsMatch c.args.self.now c.args.input.now) c.in_default.is c.in_ok-found.ensures.found)
+
+pub returns-in_default-clause-cost : goal.returns-in_default-clause-cost
+returns-in_default-clause-cost c = inl c.try_search.ensures.cost
+
+pub returns-then-not-is_empty_at-clause-next : goal.returns-then-not-is_empty_at-clause-next
+returns-then-not-is_empty_at-clause-next c =
+    inl (subst (FindsMatch c.args.self.now c.args.input.now) c.in-Some.is c.in_ok-found.ensures.found, c.if-not-is_empty_at.ensures.no refl)
+
+pub returns-then-not-is_empty_at-clause-goes_on : goal.returns-then-not-is_empty_at-clause-goes_on
+returns-then-not-is_empty_at-clause-goes_on c =
+    goes_first c.args.input.now c.args.last c.in-Some.found
+    (some_of c.in_ok-found.field-0 c.in-Some.found (LiesIn c.args.input.now) c.in_ok-found.ensures.within c.in-Some.is) (c.if-not-is_empty_at.ensures.no refl)
+
+pub returns-then-not-is_empty_at-clause-cost : goal.returns-then-not-is_empty_at-clause-cost
+returns-then-not-is_empty_at-clause-cost c = inl c.try_search.ensures.cost
+
+pub overflow_add-start : goal.overflow_add-start
+overflow_add-start c =
+    let lies = some_of c.in_ok-found.field-0 c.in-Some.found (LiesIn c.args.input.now) c.in_ok-found.ensures.within c.in-Some.is in
+    let few = c.haystack-haystack.ensures.within.1 in
+    omega (arith, lies.0, lies.1, lies.2, few, c.haystack-haystack.ensures.bound, c.start.ensures.start)
+
+pub from-rest-requires : goal.from-rest-requires
+from-rest-requires c =
+    let lies = some_of c.in_ok-found.field-0 c.in-Some.found (LiesIn c.args.input.now) c.in_ok-found.ensures.within c.in-Some.is in
+    let few = c.haystack-haystack.ensures.within.1 in
+    (omega (arith, lies.0, lies.1, lies.2, c.start.ensures.start), few)
+
+pub returns-clause-next : goal.returns-clause-next
+returns-clause-next c =
+    let found = subst (FindsMatch c.args.self.now c.args.input.now) c.in-Some.is c.in_ok-found.ensures.found in
+    let place : c.start.result + 1 ≡ suc c.args.input.now.start = omega (arith, c.start.ensures.start) in
+    let rest : c.from-rest.result ≡ from (suc c.args.input.now.start) c.args.input.now = c.from-rest.ensures ∙ ap (λ n. from n c.args.input.now) place in
+    next_later c.args.self.now c.args.input.now c.args.last c.in-Some.found found (c.if-not-is_empty_at.ensures.yes refl) c.try_search-2.result
+    (subst (λ (i : Input). IfOk c.try_search-2.result (FindsMatch c.args.self.now i)) rest c.try_search-2.ensures.found)
+
+pub returns-clause-goes_on : goal.returns-clause-goes_on
+returns-clause-goes_on c =
+    let place : c.start.result + 1 ≡ suc c.args.input.now.start = omega (arith, c.start.ensures.start) in
+    let rest : c.from-rest.result ≡ from (suc c.args.input.now.start) c.args.input.now = c.from-rest.ensures ∙ ap (λ n. from n c.args.input.now) place in
+    goes_later c.args.input.now c.args.last c.try_search-2.result
+    (subst (λ (i : Input). IfOk c.try_search-2.result (λ o. IfSome o (LiesIn i))) rest c.try_search-2.ensures.within)
+
+pub returns-clause-errors : goal.returns-clause-errors
+returns-clause-errors c =
+    let found = subst (FindsMatch c.args.self.now c.args.input.now) c.in-Some.is c.in_ok-found.ensures.found in
+    let place : c.start.result + 1 ≡ suc c.args.input.now.start = omega (arith, c.start.ensures.start) in
+    let rest : c.from-rest.result ≡ from (suc c.args.input.now.start) c.args.input.now = c.from-rest.ensures ∙ ap (λ n. from n c.args.input.now) place in
+    refused_later c.args.self.now c.args.input.now c.args.last c.in-Some.found found (c.if-not-is_empty_at.ensures.yes refl) c.try_search-2.new.cache c.try_search-2.result
+    (subst (λ (i : Input). IfErr c.try_search-2.result (IsRegexRefusal c.args.self.now c.try_search-2.new.cache i)) rest c.try_search-2.ensures.errors)
+
+pub returns-clause-ahead : goal.returns-clause-ahead
+returns-clause-ahead c =
+    let lies = some_of c.in_ok-found.field-0 c.in-Some.found (LiesIn c.args.input.now) c.in_ok-found.ensures.within c.in-Some.is in
+    on_err c.try_search-2.result _ (omega (arith, lies.0, lies.1, lies.2))
+
+pub returns-clause-grown : goal.returns-clause-grown
+returns-clause-grown c = grown_twice c.args.cache.now c.try_search.new.cache c.try_search-2.new.cache c.try_search.ensures.grown c.try_search-2.ensures.grown
+
+pub returns-clause-cost : goal.returns-clause-cost
+returns-clause-cost c =
+    let place : c.start.result + 1 ≡ suc c.args.input.now.start = omega (arith, c.start.ensures.start) in
+    let rest : c.from-rest.result ≡ from (suc c.args.input.now.start) c.args.input.now = c.from-rest.ensures ∙ ap (λ n. from n c.args.input.now) place in
+    costs_twice c.args.self.now c.args.input.now c.from-rest.result c.args.cache.now c.try_search.new.cache c.try_search-2.new.cache rest c.try_search-2.ensures.grown c.try_search.ensures.cost c.try_search-2.ensures.cost

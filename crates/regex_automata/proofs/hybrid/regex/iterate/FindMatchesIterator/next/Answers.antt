@@ -1,0 +1,64 @@
+use Rattle.std.proofs.Common.{◌-◌, ◌≤◌, Some, None, refl, subst}
+use Rattle.automata_base.specs.Input.{Input}
+use Rattle.automata_base.specs.Spans.{from}
+use Rattle.regex_automata.specs.Iterating.{AreCostsTwice, GoesOn, IsNextMatch, IsNextRefusal, input_at}
+use Rattle.regex_automata.proofs.Items.{fewer_left, gives_error, gives_match, gives_none, some_left}
+use Rattle.regex_automata.proofs.Nexts.{some_of}
+use Rattle.regex_automata.proofs.hybrid.regex.iterate.FindMatchesIterator.next.Goals as goal
+
+pub returns-in-Ok-Some-clause-steps : goal.returns-in-Ok-Some-clause-steps
+returns-in-Ok-Some-clause-steps c =
+    let s = c.args.self.now in
+    let now = input_at s.haystack.now s.start s.end s.anchored s.earliest in (
+      gives_match s.regex.now c.next_match.new.cache now (from c.end-self.result now) s.last s.ended c.in-Ok-Some.found c.end-self.result c.end.result c.if-self.false
+          (subst (λ (i : Input). IsNextMatch s.regex.now i s.last (Some c.in-Ok-Some.found)) c.input-input.ensures
+          (subst (IsNextMatch s.regex.now c.input-input.result s.last) c.in-Ok-Some.field-0-is c.in-Ok-Some.ensures.next))
+          refl c.end-self.ensures.end c.end.ensures.end,
+      refl,
+      refl,
+      c.next_match.ensures.grown,
+      subst (λ (i : Input). AreCostsTwice s.regex.now (i.end - i.start) s.cache.now c.next_match.new.cache) c.input-input.ensures c.next_match.ensures.cost,
+    )
+
+pub returns-in-Ok-Some-clause-goes : goal.returns-in-Ok-Some-clause-goes
+returns-in-Ok-Some-clause-goes c =
+    let s = c.args.self.now in
+    let now = input_at s.haystack.now s.start s.end s.anchored s.earliest in
+    let goes = subst (λ (i : Input). GoesOn i s.last c.in-Ok-Some.found) c.input-input.ensures (some_of c.in-Ok-Some.field-0 c.in-Ok-Some.found (GoesOn c.input-input.result s.last) c.in-Ok-Some.ensures.goes_on c.in-Ok-Some.field-0-is) in
+    record {
+      on = λ _. (tt, tt, fewer_left now (from c.end-self.result now) s.last s.ended c.in-Ok-Some.found c.end-self.result c.end.result c.if-self.false refl c.end-self.ensures.end c.end.ensures.end goes);
+      keeps = tt;
+      rests = λ _. tt;
+    }
+
+pub returns-in-Err-clause-steps : goal.returns-in-Err-clause-steps
+returns-in-Err-clause-steps c =
+    let s = c.args.self.now in
+    let now = input_at s.haystack.now s.start s.end s.anchored s.earliest in (
+      gives_error s.regex.now c.next_match.new.cache now s.last s.ended c.in-Err.error c.if-self.false
+          (subst (λ (i : Input). IsNextRefusal s.regex.now c.next_match.new.cache i s.last c.in-Err.error) c.input-input.ensures c.in-Err.ensures.errors),
+      refl,
+      refl,
+      c.next_match.ensures.grown,
+      subst (λ (i : Input). AreCostsTwice s.regex.now (i.end - i.start) s.cache.now c.next_match.new.cache) c.input-input.ensures c.next_match.ensures.cost,
+    )
+
+pub returns-in-Err-clause-goes : goal.returns-in-Err-clause-goes
+returns-in-Err-clause-goes c =
+    let s = c.args.self.now in
+    let now = input_at s.haystack.now s.start s.end s.anchored s.earliest in
+    let ahead : s.start ≤ s.end = subst (λ (i : Input). i.start ≤ i.end) c.input-input.ensures c.in-Err.ensures.ahead in
+    record { on = λ _. (tt, tt, some_left now s.last s.ended c.if-self.false ahead); keeps = tt; rests = λ _. tt }
+
+pub returns-in-Ok-None-clause-steps : goal.returns-in-Ok-None-clause-steps
+returns-in-Ok-None-clause-steps c =
+    let s = c.args.self.now in
+    let now = input_at s.haystack.now s.start s.end s.anchored s.earliest in (
+      gives_none s.regex.now c.next_match.new.cache now s.last s.ended c.if-self.false
+          (subst (λ (i : Input). IsNextMatch s.regex.now i s.last None) c.input-input.ensures
+          (subst (IsNextMatch s.regex.now c.input-input.result s.last) c.in-Ok-None.field-0-is c.in-Ok-None.ensures.next)),
+      refl,
+      refl,
+      c.next_match.ensures.grown,
+      subst (λ (i : Input). AreCostsTwice s.regex.now (i.end - i.start) s.cache.now c.next_match.new.cache) c.input-input.ensures c.next_match.ensures.cost,
+    )

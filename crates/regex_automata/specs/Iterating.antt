@@ -1,0 +1,67 @@
+-- The matches of an input, one after another.
+use Rattle.std.specs.Prelude.{ℕ, suc, ◌≡◌, ◌+◌, ◌-◌, ◌<◌, ◌⊎◌, ◌==◌, Bool, true, false, cond, List, [], ◌∷◌, ◌++◌, Option, None, Some, Result, Ok, Err, MatchOption}
+use Rattle.automata_base.specs.Input.{Input}
+use Rattle.automata_base.specs.Matches.{Match}
+use Rattle.automata_base.specs.declared.util.search.Anchored.{Anchored}
+use Rattle.automata_base.specs.Spans.{AreMatches, IsEmptyAt, IsNext, from}
+use Rattle.automata_config.specs.declared.error.SearchError.{SearchError}
+use Rattle.regex_automata.specs.Costs.{AreCostsOf}
+use Rattle.regex_automata.specs.Outcomes.{FindsMatch, LiesIn}
+use Rattle.regex_automata.specs.RegexRefusals.{IsRegexRefusal}
+use Rattle.regex_automata.specs.declared.hybrid.regex.Regex.{Regex}
+use Rattle.regex_automata.specs.declared.hybrid.regex.caches.Cache.{Cache}
+
+-- the match after one that ended at `last`: none that is empty there
+abbrev pub IsNextMatch : Regex → Input → Option ℕ → Option Match → Type 0
+IsNextMatch p input last answer = IsNext (FindsMatch p) input input.start last answer
+
+-- why the next match is refused: the search is, or the one from a place later, where that found an empty match there
+abbrev pub IsNextRefusal : Regex → Cache → Input → Option ℕ → SearchError → Type 0
+IsNextRefusal p c input last e =
+    IsRegexRefusal p c input e
+    ⊎ ((m : Match) × FindsMatch p input (Some m) × IsEmptyAt last m × IsRegexRefusal p c (from (suc input.start) input) e)
+
+-- a match goes past the last end
+abbrev pub GoesOn : Input → Option ℕ → Match → Type 0
+GoesOn input last m = LiesIn input m × (last ≡ Some input.start → input.start < m.end)
+
+-- what one search costs, or two
+abbrev pub AreCostsTwice : Regex → ℕ → Cache → Cache → Type 0
+AreCostsTwice p bytes old new =
+    AreCostsOf p bytes old new ⊎ ((between : Cache) × AreCostsOf p bytes old between × AreCostsOf p bytes between new)
+
+-- one item of an iteration, and how it stands before and behind it: what is left to be searched, where the last match
+-- ended, and whether it has ended
+abbrev pub GivesItem : Regex → Cache → Option (Result Match SearchError) → (input input' : Input) → (last last' : Option ℕ) → (ended ended' : Bool) → Type 0
+GivesItem p c item input input' last last' true ended' = (item ≡ None) × (input' ≡ input) × (last' ≡ last) × (ended' ≡ true)
+GivesItem p c None input input' last last' false ended' =
+    IsNextMatch p input last None × (input' ≡ input) × (last' ≡ last) × (ended' ≡ true)
+GivesItem p c (Some (Ok m)) input input' last last' false ended' =
+    IsNextMatch p input last (Some m) × (input' ≡ from m.end input) × (last' ≡ Some m.end) × (ended' ≡ false)
+GivesItem p c (Some (Err e)) input input' last last' false ended' =
+    IsNextRefusal p c input last e × (input' ≡ input) × (last' ≡ last) × (ended' ≡ true)
+
+-- an input by its parts
+abbrev pub input_at : List ℕ → (start end : ℕ) → Anchored → (earliest : Bool) → Input
+input_at haystack start end anchored earliest =
+    record { haystack = haystack; start = start; end = end; anchored = anchored; earliest = earliest }
+
+-- how many items may come
+abbrev pub most_left : (ended : Bool) → Input → Option ℕ → ℕ
+most_left true input last = 0
+most_left false input None = input.end + 2 - input.start
+most_left false input (Some end) = cond (end == input.start) (input.end + 1 - input.start) (input.end + 2 - input.start)
+
+-- the first matches of an iteration, whatever comes behind them
+abbrev pub AreFirst : (Finds : Input → Option Match → Type 0) → Input → ℕ → Option ℕ → List Match → Type 0
+AreFirst Finds input start last [] = Unit {0}
+AreFirst Finds input start last (m ∷ ms) = IsNext Finds input start last (Some m) × AreFirst Finds input m.end (Some m.end) ms
+
+-- all matches of an input, or the first ones and the error that ended them
+abbrev pub AreCollected : (Finds : Input → Option Match → Type 0) → Input → List Match → Option SearchError → Type 0
+AreCollected Finds input ms error =
+    MatchOption error (AreMatches Finds input input.start None ms) (λ e. AreFirst Finds input input.start None ms)
+
+-- all matches begin with these
+abbrev pub IsBeginning : List Match → List Match → Type 0
+IsBeginning ms all = (rest : List Match) × (all ≡ ms ++ rest)

@@ -1,0 +1,14 @@
+-- The parts of a regex's cache, lent for writing.
+use Rattle.std.specs.Borrow.{Lends, MutBor, Fml}
+use Rattle.automata_hybrid.specs.Caches.{CacheView}
+use Rattle.automata_hybrid.specs.contracts.dfa.cache.Cache.{the_row as part}
+use Rattle.regex_automata.specs.declared.hybrid.regex.caches.Cache.{Cache}
+use Rattle.regex_automata.specs.contracts.hybrid.regex.caches.Cache.{the_row}
+
+-- the cache ends with the last value behind the reference as its forward part
+abbrev pub LendsForward : MutBor Cache → MutBor CacheView → Fml
+LendsForward s r = Lends the_row part s r (λ w. record s.now { forward = w })
+
+-- and with its reverse part so
+abbrev pub LendsReverse : MutBor Cache → MutBor CacheView → Fml
+LendsReverse s r = Lends the_row part s r (λ w. record s.now { reverse = w })

@@ -1,0 +1,30 @@
+-- Whether there is a match.
+use Rattle.std.specs.Prelude.{◌≡◌, ◌⊎◌, Bool, true, Option, is_some}
+use Rattle.automata_base.specs.Answers.{Half}
+use Rattle.automata_base.specs.Input.{Input}
+use Rattle.automata_base.specs.Spans.{in_full}
+use Rattle.automata_base.specs.Tapes.{Forward}
+use Rattle.automata_base.specs.Told.{IsTold}
+use Rattle.automata_config.specs.declared.error.SearchError.{SearchError}
+use Rattle.automata_hybrid.specs.Bounds.{Stored}
+use Rattle.automata_hybrid.specs.Knowing.{Knows}
+use Rattle.automata_hybrid.specs.Machine.{Machine}
+use Rattle.automata_hybrid.specs.Searches.{IsRefused, Skips}
+
+abbrev pub in_part : Input → Input
+in_part input = record input { earliest = true }
+
+-- what is searched: the input in full where split places are skipped, and else up to the first match that is seen
+abbrev pub IsAsked : Machine → Input → Input → Type 0
+IsAsked m input asked = (Skips m × (asked ≡ in_full input)) ⊎ ((Skips m → ⊥) × (asked ≡ in_part input))
+
+-- whether there is a match, by what passes tell of the input in full
+abbrev pub IsMatchTold : Machine → Input → Bool → Type 0
+IsMatchTold m input truth = (o : Option Half) × IsTold Forward m.nfa m.kind (in_full input) o × (truth ≡ is_some o)
+
+-- why it is refused, and what it uses
+abbrev pub IsMatchRefused : Machine → Stored → Input → SearchError → Type 0
+IsMatchRefused m c input e = (asked : Input) × IsAsked m input asked × IsRefused Forward m c asked e
+
+abbrev pub KnowsMatch : Machine → Stored → Input → Type 0
+KnowsMatch m c input = (asked : Input) → IsAsked m input asked → Knows Forward m c asked

@@ -1,0 +1,57 @@
+-- Why a search over two lazy DFAs is refused.
+use Rattle.std.specs.Prelude.{ℕ, ◌≡◌, ◌⊎◌, true, None, Some}
+use Rattle.automata_base.specs.Answers.{Half}
+use Rattle.automata_base.specs.Input.{Input}
+use Rattle.automata_base.specs.Spans.{IsShort, IsTrySearch, NotAPair, back}
+use Rattle.automata_base.specs.Tapes.{Forward, Backward}
+use Rattle.automata_base.specs.declared.util.search.MatchErrorKind.TheVariants.{Quit as QuitAt}
+use Rattle.automata_config.specs.declared.error.SearchError.{SearchError}
+use Rattle.automata_config.specs.declared.error.SearchError.TheVariants as search
+use Rattle.automata_hybrid.specs.Bounds.{Stored}
+use Rattle.automata_hybrid.specs.Knowing.{IsOfInput}
+use Rattle.automata_hybrid.specs.Searches.{IsFound, IsRefused, NoQuitInReach}
+use Rattle.automata_hybrid.specs.Slots.{supports}
+use Rattle.regex_automata.specs.declared.hybrid.regex.Regex.{Regex}
+use Rattle.regex_automata.specs.SoundPairs.{AreLookAcyclic, IsSoundPair, forward_engine, reverse_engine}
+use Rattle.regex_automata.specs.Outcomes.{IsOutcome}
+use Rattle.regex_automata.specs.declared.hybrid.regex.caches.Cache.{Cache}
+
+-- the search back from a forward answer is made, and refused
+abbrev pub IsBackRefused : Regex → Stored → Input → Half → SearchError → Type 0
+IsBackRefused p c input half e = (IsShort (forward_engine p) input half → ⊥) × IsRefused Backward p.reverse c (back input half) e
+
+-- the forward search is refused, or the one back, or that one finds no start
+abbrev pub HasReason : Regex → Cache → Input → SearchError → Type 0
+HasReason p c input e =
+    IsRefused Forward p.forward c.forward.store input e
+    ⊎ (((half : Half) × IsFound Forward p.forward input (Some half) × IsBackRefused p c.reverse.store input half e)
+    ⊎ ((e ≡ search.NotAPair) × IsOutcome p input NotAPair))
+
+-- nothing stands in the way of an answer: no quit byte is in reach, the mode is supported, no clear limit is set
+pub record IsFree (p : Regex) (input : Input) : Type 0 where
+  pub forward : NoQuitInReach p.forward input
+  pub reverse : NoQuitInReach p.reverse input
+  pub supported : supports p.forward input.anchored ≡ true
+  pub forward_clears : p.forward.minimum_clear_count ≡ None
+  pub reverse_clears : p.reverse.minimum_clear_count ≡ None
+
+-- memory is wanting, or the two are no pair
+abbrev pub IsOfMemory : SearchError → Type 0
+IsOfMemory e = (e ≡ search.OutOfMemory) ⊎ (e ≡ search.NotAPair)
+
+-- why a search is refused, and what that excludes
+pub record IsRegexRefusal (p : Regex) (c : Cache) (input : Input) (e : SearchError) : Type 0 where
+  pub reason : HasReason p c input e
+  -- where nothing stands in the way, memory is wanting, or the two are no pair
+  pub free : IsFree p input → IsOfMemory e
+  -- that they are no pair is told by the paths too, where no cycle passes a look
+  pub apart : AreLookAcyclic p → e ≡ search.NotAPair → IsTrySearch (forward_engine p) (reverse_engine p) input NotAPair
+  -- and never of a sound pair
+  pub sound : IsSoundPair p → e ≡ search.NotAPair → ⊥
+  -- with one quit set the search back meets no quit byte
+  pub quits : p.forward.quits ≡ p.reverse.quits → (byte at : ℕ) → e ≡ search.Match (QuitAt byte at)
+      → IsRefused Forward p.forward c.forward.store input e
+
+-- a search is refused for what it was given, and not for want of room
+abbrev pub IsOfGiven : SearchError → Type 0
+IsOfGiven e = IsOfInput e ⊎ (e ≡ search.NotAPair)

@@ -1,0 +1,23 @@
+-- What the two lazy DFAs of a regex have to be for spans to be promised.
+use Rattle.automata_base.specs.Engines.{Engine, engine_of}
+use Rattle.automata_base.specs.Nodes.{nfa_of}
+use Rattle.automata_base.specs.Paths.{IsLookAcyclic}
+use Rattle.automata_base.specs.Tapes.{Forward}
+use Rattle.automata_base.specs.TruePairs.{IsTruePair, KeepsUtf8}
+use Rattle.regex_automata.specs.declared.hybrid.regex.Regex.{Regex}
+
+abbrev pub forward_engine : Regex → Engine
+forward_engine p = engine_of p.forward.nfa p.forward.kind
+
+abbrev pub reverse_engine : Regex → Engine
+reverse_engine p = engine_of p.reverse.nfa p.reverse.kind
+
+-- no cycle of edges that read nothing passes a look, in either automaton
+abbrev pub AreLookAcyclic : Regex → Type 0
+AreLookAcyclic p = IsLookAcyclic (nfa_of p.forward.nfa) × IsLookAcyclic (nfa_of p.reverse.nfa)
+
+-- they are of one regular expression, which keeps the promise on UTF-8
+pub record IsSoundPair (p : Regex) : Type 0 where
+  pub acyclic : AreLookAcyclic p
+  pub pair : IsTruePair (forward_engine p) (reverse_engine p)
+  pub utf8 : KeepsUtf8 Forward (forward_engine p)

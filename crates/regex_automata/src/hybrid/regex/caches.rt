@@ -1,0 +1,91 @@
+ghost use Rattle.std.specs.Prelude.{◌≡◌, ◌+◌, ◌^◌, ◌-◌, IfOk, OnOk, OnErr, min};
+ghost use Rattle.std.specs.Borrow.{sem};
+ghost use Rattle.automata_hybrid.specs.Bounds.{usage};
+ghost use Rattle.regex_automata.specs.RegexCaches.{AreFresh};
+ghost use Rattle.regex_automata.specs.Lending.{LendsForward, LendsReverse};
+
+use crate::hybrid::dfa;
+use crate::hybrid::regex::Regex;
+use std::alloc::AllocError;
+
+/// The caches of the two lazy DFAs of a regex.
+#[derive(Drop)]
+pub struct Cache {
+    pub(super) forward: dfa::Cache,
+    pub(super) reverse: dfa::Cache,
+}
+
+impl Cache {
+    /// A cache of a regex, with no state yet.
+    pub fn new(regex: &Regex) -> Result<Cache, AllocError>
+        ensures { IfOk result (AreFresh regex.now) }
+    {
+        let forward = dfa::Cache::new(regex.forward())?;
+        let reverse = dfa::Cache::new(regex.reverse())?;
+        Ok(Cache { forward, reverse })
+    }
+
+    /// A fresh cache, of this regex from now on. A refusal changes neither part.
+    pub fn reset(&mut self, regex: &Regex) -> Result<(), AllocError>
+        ensures ok { OnOk result (AreFresh regex.now self.new) }
+        ensures err { OnErr result (self.new ≡ self.old) }
+    {
+        *self = Cache::new(regex)?;
+        Ok(())
+    }
+
+    /// The cache of the forward DFA.
+    pub fn forward(&mut self) -> &dfa::Cache
+        ensures { result.now ≡ self.old.forward }
+    {
+        &self.forward
+    }
+
+    /// The cache of the reverse DFA.
+    pub fn reverse(&mut self) -> &dfa::Cache
+        ensures { result.now ≡ self.old.reverse }
+    {
+        &self.reverse
+    }
+
+    /// The cache of the forward DFA, for writing.
+    pub fn forward_mut(&mut self) -> &mut dfa::Cache
+        ensures* writes_back { sem 𝓛 (LendsForward self.entry result) }
+        ensures value { result.now ≡ self.old.forward }
+    {
+        &mut self.forward
+    }
+
+    /// The cache of the reverse DFA, for writing.
+    pub fn reverse_mut(&mut self) -> &mut dfa::Cache
+        ensures* writes_back { sem 𝓛 (LendsReverse self.entry result) }
+        ensures value { result.now ≡ self.old.reverse }
+    {
+        &mut self.reverse
+    }
+
+    /// Both caches, the forward one first.
+    pub fn as_parts(&self) -> (&dfa::Cache, &dfa::Cache)
+        ensures forward { result.0.now ≡ self.now.forward }
+        ensures reverse { result.1.now ≡ self.now.reverse }
+    {
+        (&self.forward, &self.reverse)
+    }
+
+    /// Both caches for writing, the forward one first.
+    pub fn as_parts_mut(&mut self) -> (&mut dfa::Cache, &mut dfa::Cache)
+        ensures forward { result.0.now ≡ self.old.forward }
+        ensures reverse { result.1.now ≡ self.old.reverse }
+    {
+        (&mut self.forward, &mut self.reverse)
+    }
+
+    /// The accounted bytes of both, or the greatest number.
+    pub fn memory_usage(&self) -> usize
+        ensures { result ≡ min (usage self.now.forward.store + usage self.now.reverse.store) (2 ^ 64 - 1) }
+    {
+        self.forward
+            .memory_usage()
+            .saturating_add(self.reverse.memory_usage())
+    }
+}

@@ -1,0 +1,200 @@
+ghost use Rattle.std.specs.Prelude.{◌≡◌, ◌≤◌, ◌+◌, ◌-◌, length, IfOk, IfErr, IfSome, OnErr, None, false, true, List};
+ghost use Rattle.std.specs.Iterator.{at_most};
+ghost use Rattle.automata_base.specs.Input.{Allows, IsAllowed};
+ghost use Rattle.automata_base.specs.Matches as specs;
+ghost use Rattle.automata_base.specs.Spans.{AreSpans, IsEmptyAt, IsSpan, Rise, from};
+ghost use Rattle.automata_hybrid.specs.Caches.{IsCacheOf};
+ghost use Rattle.regex_automata.specs.Iterating.{AreCollected, AreCostsTwice, GivesItem, GoesOn, IsBeginning, IsNextMatch, IsNextRefusal, input_at, most_left};
+ghost use Rattle.regex_automata.specs.Outcomes.{FindsMatch};
+ghost use Rattle.regex_automata.specs.SoundPairs.{IsSoundPair, forward_engine};
+ghost use Rattle.regex_automata.specs.RegexCaches.{AreCachesOf, AreGrown};
+
+use crate::hybrid::regex::{Cache, Regex};
+use automata_base::laws::{start_is_right, told_is_right};
+use automata_base::util::search::{Anchored, Input, Match};
+use automata_config::error::SearchError;
+use std::alloc::{AllocError, Global};
+
+/// The input from a place on.
+fn from<'h>(input: &Input<'h>, start: usize) -> Input<'h>
+    requires { Allows input.now.haystack start input.now.end }
+    ensures { result ≡ from start input.now }
+{
+    Input::new(input.haystack())
+        .range(start..input.end())
+        .anchored(input.get_anchored())
+        .earliest(input.get_earliest())
+}
+
+/// Whether a match is empty, where the last one ended.
+fn is_empty_at(last: Option<usize>, found: &Match) -> bool
+    ensures yes { result ≡ true → IsEmptyAt last found.now }
+    ensures no { result ≡ false → IsEmptyAt last found.now → ⊥ }
+{
+    found.start() == found.end() && last == Some(found.end())
+}
+
+impl Regex {
+    /// The match after one that ended at `last`: an empty one there is replaced by that of the search from one place
+    /// later.
+    fn next_match(
+        &self,
+        cache: &mut Cache,
+        input: &Input<'_>,
+        last: Option<usize>,
+    ) -> Result<Option<Match>, SearchError>
+        requires { AreCachesOf cache.old self.now }
+        ensures of { AreCachesOf cache.new self.now }
+        ensures next { IfOk result (IsNextMatch self.now input.now last) }
+        ensures goes_on { IfOk result (λ o. IfSome o (GoesOn input.now last)) }
+        ensures errors { IfErr result (IsNextRefusal self.now cache.new input.now last) }
+        ensures ahead { OnErr result (input.now.start ≤ input.now.end) }
+        ensures allowed { IsAllowed input.now }
+        ensures grown { AreGrown cache.old cache.new }
+        ensures cost { AreCostsTwice self.now (input.now.end - input.now.start) cache.old cache.new }
+    {
+        let _haystack = input.haystack();
+        let Some(found) = self.try_search(cache, input)? else {
+            return Ok(None);
+        };
+        if !is_empty_at(last, &found) {
+            return Ok(Some(found));
+        }
+        let rest = from(input, input.start() + 1);
+        self.try_search(cache, &rest)
+    }
+
+    /// The matches of an input, one after another. It takes no memory.
+    pub fn find_iter<'r, 'c, 'h>(
+        &'r self,
+        cache: &'c mut Cache,
+        input: Input<'h>,
+    ) -> FindMatches<'r, 'c, 'h>
+        requires { AreCachesOf cache.old self.now }
+        ensures same_cache { result.cache.ghost_name ≡ cache.entry.ghost_name }
+        ensures cache { result.cache.now ≡ cache.old }
+        ensures regex { result.regex.now ≡ self.now }
+        ensures input { input_at result.haystack.now result.start result.end result.anchored result.earliest ≡ input.entry }
+        ensures last { result.last ≡ None }
+        ensures ended { result.ended ≡ false }
+    {
+        FindMatches {
+            regex: self,
+            cache,
+            haystack: input.haystack(),
+            start: input.start(),
+            end: input.end(),
+            anchored: input.get_anchored(),
+            earliest: input.get_earliest(),
+            last: None,
+            ended: false,
+        }
+    }
+}
+
+/// The matches of an input, and the error that ended them, if one did.
+pub fn collect_matches(
+    alloc: Global,
+    regex: &Regex,
+    cache: &mut Cache,
+    input: Input<'_>,
+) -> Result<(Vec<Match>, Option<SearchError>), AllocError>
+    requires { AreCachesOf cache.old regex.now }
+    ensures of { AreCachesOf cache.new regex.now }
+    ensures found { IfOk result (λ all. AreCollected (FindsMatch regex.now) input.entry all.0.items all.1) }
+    ensures rise { IfOk result (λ all. Rise input.entry.end None all.0.items) }
+    ensures few { IfOk result (λ all. length all.0.items ≤ input.entry.end - input.entry.start + 1) }
+    ensures spans { IsSoundPair regex.now → IfOk result (λ all. AreCollected (IsSpan (forward_engine regex.now)) input.entry all.0.items all.1) }
+    ensures beginning { IsSoundPair regex.now → IfOk result (λ all. (whole : List specs.Match) → AreSpans (forward_engine regex.now) input.entry whole → IsBeginning all.0.items whole) }
+{
+    told_is_right(regex.forward.get_nfa());
+    told_is_right(regex.reverse.get_nfa());
+    start_is_right();
+    let _haystack = input.haystack();
+    collect(alloc, regex, cache, input)
+}
+
+/// The same, as the passes tell it.
+fn collect(
+    alloc: Global,
+    regex: &Regex,
+    cache: &mut Cache,
+    input: Input<'_>,
+) -> Result<(Vec<Match>, Option<SearchError>), AllocError>
+    requires { AreCachesOf cache.old regex.now }
+    ensures forward { IsCacheOf cache.new.forward regex.now.forward }
+    ensures reverse { IsCacheOf cache.new.reverse regex.now.reverse }
+    ensures found { IfOk result (λ all. AreCollected (FindsMatch regex.now) input.entry all.0.items all.1) }
+{
+    let mut found = Vec::new(alloc);
+    let mut error = None;
+    for item in regex.find_iter(cache, input) {
+        match item {
+            Ok(next) => found.push(next)?,
+            Err(refused) => error = Some(refused),
+        }
+    }
+    Ok((found, error))
+}
+
+/// The matches that are left of an input, until an error, which is the last item. It holds the parts of its input.
+#[derive(Drop)]
+pub struct FindMatches<'r, 'c, 'h> {
+    regex: &'r Regex,
+    cache: &'c mut Cache,
+    haystack: &'h [u8],
+    start: usize,
+    end: usize,
+    anchored: Anchored,
+    earliest: bool,
+    last: Option<usize>,
+    ended: bool,
+    ghost within: { Allows haystack.now start end },
+    ghost of: { AreCachesOf cache.now regex.now },
+}
+
+impl<'r, 'c, 'h> FindMatches<'r, 'c, 'h> {
+    /// What is left to be searched.
+    fn input(&self) -> Input<'h>
+        ensures { result ≡ input_at self.now.haystack.now self.now.start self.now.end self.now.anchored self.now.earliest }
+    {
+        Input::new(self.haystack)
+            .range(self.start..self.end)
+            .anchored(self.anchored)
+            .earliest(self.earliest)
+    }
+}
+
+impl<'r, 'c, 'h> Iterator for FindMatches<'r, 'c, 'h> {
+    type Item = Result<Match, SearchError>;
+
+    ghost next_gives = { λ s r t. GivesItem s.regex.now t.cache.now r
+        (input_at s.haystack.now s.start s.end s.anchored s.earliest) (input_at t.haystack.now t.start t.end t.anchored t.earliest)
+        s.last t.last s.ended t.ended
+        × (t.regex.now ≡ s.regex.now) × (t.cache.ghost_name ≡ s.cache.ghost_name)
+        × AreGrown s.cache.now t.cache.now × AreCostsTwice s.regex.now (s.end - s.start) s.cache.now t.cache.now };
+
+    ghost remaining = { λ s. at_most (most_left s.ended (input_at s.haystack.now s.start s.end s.anchored s.earliest) s.last) };
+
+    fn next(&mut self) -> Option<Result<Match, SearchError>> {
+        if self.ended {
+            return None;
+        }
+        let input = self.input();
+        match self.regex.next_match(self.cache, &input, self.last) {
+            Ok(Some(found)) => {
+                self.start = found.end();
+                self.last = Some(found.end());
+                Some(Ok(found))
+            }
+            Ok(None) => {
+                self.ended = true;
+                None
+            }
+            Err(error) => {
+                self.ended = true;
+                Some(Err(error))
+            }
+        }
+    }
+}

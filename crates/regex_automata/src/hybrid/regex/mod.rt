@@ -1,0 +1,68 @@
+//! A regular expression as two lazy DFAs: one finds where a match ends, and one, reading backward, where it starts.
+ghost use Rattle.std.specs.Prelude.{◌≡◌, IfOk, OnOk, OnErr, length};
+ghost use Rattle.automata_config.specs.Options.{unset};
+ghost use Rattle.regex_automata.specs.RegexCaches.{AreFresh};
+
+pub mod build;
+pub mod caches;
+pub mod iterate;
+pub mod matching;
+pub mod search;
+
+use automata_hybrid::dfa::DFA;
+pub use build::Builder;
+pub use caches::Cache;
+pub use iterate::FindMatches;
+use std::alloc::AllocError;
+
+/// The lazy DFAs of a regular expression, for the same patterns.
+#[derive(Drop)]
+pub struct Regex {
+    forward: DFA,
+    reverse: DFA,
+}
+
+impl Regex {
+    /// A builder of regexes.
+    pub fn builder() -> Builder
+        ensures { result ≡ unset }
+    {
+        Builder::new()
+    }
+
+    /// A cache for its searches.
+    pub fn create_cache(&self) -> Result<Cache, AllocError>
+        ensures { IfOk result (AreFresh self.now) }
+    {
+        Cache::new(self)
+    }
+
+    /// Makes a cache a fresh one of this regex. A refusal changes neither part.
+    pub fn reset_cache(&self, cache: &mut Cache) -> Result<(), AllocError>
+        ensures ok { OnOk result (AreFresh self.now cache.new) }
+        ensures err { OnErr result (cache.new ≡ cache.old) }
+    {
+        cache.reset(self)
+    }
+
+    /// The DFA that finds where matches end.
+    pub fn forward(&self) -> &DFA
+        ensures { result.now ≡ self.now.forward }
+    {
+        &self.forward
+    }
+
+    /// The DFA that finds where matches start.
+    pub fn reverse(&self) -> &DFA
+        ensures { result.now ≡ self.now.reverse }
+    {
+        &self.reverse
+    }
+
+    /// The number of patterns.
+    pub fn pattern_len(&self) -> usize
+        ensures { result ≡ length self.now.forward.nfa.start_pattern }
+    {
+        self.forward.pattern_len()
+    }
+}

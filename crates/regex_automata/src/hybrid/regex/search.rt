@@ -1,0 +1,191 @@
+ghost use Rattle.std.specs.Prelude.{◌≡◌, ◌+◌, ◌-◌, ◌*◌, ◌≤◌, ◌<◌, IfOk, IfErr, OnOk, IfSome, Some, None, Ok, Err, false, true};
+ghost use Rattle.automata_base.specs.Input.{Allows};
+ghost use Rattle.automata_base.specs.Spans.{Found, IsShort, IsSpan, IsTrySearch, back};
+ghost use Rattle.automata_base.specs.Tapes.{byte_before};
+ghost use Rattle.automata_base.specs.declared.util.search.MatchErrorKind.TheVariants.{UnsupportedAnchored as UnsupportedMode};
+ghost use Rattle.automata_hybrid.specs.Caches.{IsCacheOf};
+ghost use Rattle.automata_hybrid.specs.Growing.{ClearedNothing, HasRoom, IsGrown, IsStill};
+ghost use Rattle.automata_hybrid.specs.Knowing.{IsOfInput};
+ghost use Rattle.automata_hybrid.specs.Searches.{NoQuitInReach, Skips, with_base};
+ghost use Rattle.automata_hybrid.specs.Slots.{supports};
+ghost use Rattle.automata_hybrid.specs.Starting.{quit_behind};
+ghost use Rattle.regex_automata.specs.SoundPairs.{AreLookAcyclic, IsSoundPair, forward_engine, reverse_engine};
+ghost use Rattle.regex_automata.specs.Costs.{AreCostsOf, IsPassCost};
+ghost use Rattle.regex_automata.specs.Outcomes.{FindsMatch, IsOutcome, IsStartFound, LiesIn};
+ghost use Rattle.regex_automata.specs.RegexCaches.{AreCachesOf, AreGrown, AreStill, KnowsBack, KnowsBoth, NothingCleared};
+ghost use Rattle.regex_automata.specs.RegexRefusals.{HasReason, IsBackRefused, IsFree, IsOfGiven, IsOfMemory, IsRegexRefusal};
+
+use crate::hybrid::dfa;
+use crate::hybrid::regex::{Cache, Regex};
+use automata_base::laws::{start_is_right, told_is_right};
+use automata_base::util::search::{Anchored, HalfMatch, Input, Match, Span};
+use automata_config::error::SearchError;
+use automata_hybrid::laws::answers_agree;
+
+/// What a search back is given: the span that the forward search left, anchored and in full.
+fn backward<'h>(input: &Input<'h>, half: HalfMatch, base: usize) -> Input<'h>
+    requires ordered { base ≤ half.offset }
+    requires within { half.offset ≤ input.now.end }
+    ensures { result ≡ back input.now (with_base half base) }
+{
+    let _ = input.end();
+    Input::new(input.haystack())
+        .range(base..half.offset())
+        .anchored(Anchored::Yes)
+}
+
+/// Whether a mode is the one that isn't anchored.
+fn is_unanchored(mode: Anchored) -> bool
+    ensures yes { result ≡ true → mode ≡ Anchored.No }
+    ensures no { result ≡ false → mode ≡ Anchored.No → ⊥ }
+{
+    match mode {
+        Anchored::No => true,
+        Anchored::Yes | Anchored::Pattern(_) => false,
+    }
+}
+
+impl Regex {
+    /// The first match, by the kind of the forward DFA; with an earliest input, the one that ends first. Its start is
+    /// where the search back from its end, by the reverse DFA, comes to.
+    ///
+    /// A refusal is of the forward search or of the one back, told as these tell it; or the two are no pair: the one back
+    /// finds no start. After a refusal the cache serves other searches as before.
+    pub fn try_search(
+        &self,
+        cache: &mut Cache,
+        input: &Input<'_>,
+    ) -> Result<Option<Match>, SearchError>
+        requires { AreCachesOf cache.old self.now }
+        ensures of { AreCachesOf cache.new self.now }
+
+        // What the passes of the two tell; where no cycle passes a look, what the ordered paths define; and over a sound
+        // pair the match of the path that the forward search chose.
+        ensures found { IfOk result (FindsMatch self.now input.now) }
+        ensures answer { AreLookAcyclic self.now → IfOk result (λ o. IsTrySearch (forward_engine self.now) (reverse_engine self.now) input.now (Found o)) }
+        ensures span { IsSoundPair self.now → IfOk result (IsSpan (forward_engine self.now) input.now) }
+        ensures within { IfOk result (λ o. IfSome o (LiesIn input.now)) }
+        ensures errors { IfErr result (IsRegexRefusal self.now cache.new input.now) }
+        ensures unsupported { input.now.start ≤ input.now.end → quit_behind self.now.forward (byte_before input.now.haystack input.now.start) ≡ None → supports self.now.forward input.now.anchored ≡ false → result ≡ Err (SearchError.Match (UnsupportedMode input.now.anchored)) }
+
+        // What it does to the caches: how often it determinises, what is kept, what is known afterwards, and what
+        // happens where all was known or nothing is left to be searched.
+        ensures cost { AreCostsOf self.now (input.now.end - input.now.start) cache.old cache.new }
+        ensures grown { AreGrown cache.old cache.new }
+        ensures learned { NothingCleared cache.old cache.new → OnOk result (KnowsBoth self.now cache.new input.now) }
+        ensures known { KnowsBoth self.now cache.old input.now → AreStill cache.old cache.new × IfErr result IsOfGiven }
+        ensures done { input.now.end < input.now.start → (result ≡ Ok None) × (cache.new ≡ cache.old) }
+    {
+        told_is_right(self.forward.get_nfa());
+        told_is_right(self.reverse.get_nfa());
+        start_is_right();
+        let _haystack = input.haystack();
+        self.search(cache, input)
+    }
+
+    /// What `try_search` answers.
+    pub fn find(&self, cache: &mut Cache, input: &Input<'_>) -> Result<Option<Match>, SearchError>
+        requires { AreCachesOf cache.old self.now }
+        ensures of { AreCachesOf cache.new self.now }
+
+        // What the passes of the two tell; where no cycle passes a look, what the ordered paths define; and over a sound
+        // pair the match of the path that the forward search chose.
+        ensures found { IfOk result (FindsMatch self.now input.now) }
+        ensures answer { AreLookAcyclic self.now → IfOk result (λ o. IsTrySearch (forward_engine self.now) (reverse_engine self.now) input.now (Found o)) }
+        ensures span { IsSoundPair self.now → IfOk result (IsSpan (forward_engine self.now) input.now) }
+        ensures within { IfOk result (λ o. IfSome o (LiesIn input.now)) }
+        ensures errors { IfErr result (IsRegexRefusal self.now cache.new input.now) }
+        ensures unsupported { input.now.start ≤ input.now.end → quit_behind self.now.forward (byte_before input.now.haystack input.now.start) ≡ None → supports self.now.forward input.now.anchored ≡ false → result ≡ Err (SearchError.Match (UnsupportedMode input.now.anchored)) }
+
+        // What it does to the caches: how often it determinises, what is kept, what is known afterwards, and what
+        // happens where all was known or nothing is left to be searched.
+        ensures cost { AreCostsOf self.now (input.now.end - input.now.start) cache.old cache.new }
+        ensures grown { AreGrown cache.old cache.new }
+        ensures learned { NothingCleared cache.old cache.new → OnOk result (KnowsBoth self.now cache.new input.now) }
+        ensures known { KnowsBoth self.now cache.old input.now → AreStill cache.old cache.new × IfErr result IsOfGiven }
+        ensures done { input.now.end < input.now.start → (result ≡ Ok None) × (cache.new ≡ cache.old) }
+    {
+        self.try_search(cache, input)
+    }
+
+    /// Whether a match starts where the span began that gave it, so that no search back is made: where it is empty
+    /// there, or the search is anchored by its mode or by its automaton.
+    fn is_short(&self, input: &Input<'_>, half: HalfMatch, base: usize) -> bool
+        ensures yes { result ≡ true → IsShort (forward_engine self.now) input.now (with_base half base) }
+        ensures no { result ≡ false → IsShort (forward_engine self.now) input.now (with_base half base) → ⊥ }
+    {
+        if base == half.offset() {
+            return true;
+        }
+        if !is_unanchored(input.get_anchored()) {
+            return true;
+        }
+        self.forward.get_nfa().is_always_start_anchored()
+    }
+
+    /// Where the match starts that a forward search found the end of.
+    fn find_start(
+        &self,
+        cache: &mut dfa::Cache,
+        input: &Input<'_>,
+        half: HalfMatch,
+        base: usize,
+    ) -> Result<Option<usize>, SearchError>
+        requires of { IsCacheOf cache.old self.now.reverse }
+        requires from { input.now.start ≤ base }
+        requires ordered { base ≤ half.offset }
+        requires within { half.offset ≤ input.now.end }
+        ensures of { IsCacheOf cache.new self.now.reverse }
+        ensures found { IfOk result (IsStartFound self.now input.now (with_base half base)) }
+        ensures within { IfOk result (λ o. IfSome o (λ start. (base ≤ start) × (start ≤ half.offset))) }
+        ensures errors { IfErr result (IsBackRefused self.now cache.new.store input.now (with_base half base)) }
+        ensures answers { NoQuitInReach self.now.reverse input.now → self.now.reverse.minimum_clear_count ≡ None → IfErr result (λ e. e ≡ SearchError.OutOfMemory) }
+        ensures cost { IsPassCost (input.now.end - input.now.start) cache.old cache.new }
+        ensures grown { IsGrown cache.old cache.new }
+        ensures learned { ClearedNothing cache.old.store cache.new.store → OnOk result (KnowsBack self.now cache.new.store input.now (with_base half base)) }
+        ensures known { KnowsBack self.now cache.old.store input.now (with_base half base) → IsStill cache.old cache.new × IfErr result IsOfInput }
+    {
+        let short = self.is_short(input, half, base);
+        let _ = input.end();
+        if short {
+            return Ok(Some(base));
+        }
+        let rest = backward(input, half, base);
+        match self.reverse.try_search_rev(cache, &rest)? {
+            Some(found) => Ok(Some(found.offset())),
+            None => Ok(None),
+        }
+    }
+
+    /// The match that the passes of the two DFAs tell.
+    fn search(&self, cache: &mut Cache, input: &Input<'_>) -> Result<Option<Match>, SearchError>
+        requires { AreCachesOf cache.old self.now }
+        ensures of { AreCachesOf cache.new self.now }
+        ensures found { IfOk result (FindsMatch self.now input.now) }
+        ensures within { IfOk result (λ o. IfSome o (LiesIn input.now)) }
+        ensures errors { IfErr result (HasReason self.now cache.new input.now) }
+        ensures free { IsFree self.now input.now → IfErr result IsOfMemory }
+        ensures unsupported { input.now.start ≤ input.now.end → quit_behind self.now.forward (byte_before input.now.haystack input.now.start) ≡ None → supports self.now.forward input.now.anchored ≡ false → result ≡ Err (SearchError.Match (UnsupportedMode input.now.anchored)) }
+        ensures cost { AreCostsOf self.now (input.now.end - input.now.start) cache.old cache.new }
+        ensures grown { AreGrown cache.old cache.new }
+        ensures learned { NothingCleared cache.old cache.new → OnOk result (KnowsBoth self.now cache.new input.now) }
+        ensures known { KnowsBoth self.now cache.old input.now → AreStill cache.old cache.new × IfErr result IsOfGiven }
+        ensures done { input.now.end < input.now.start → (result ≡ Ok None) × (cache.new ≡ cache.old) }
+    {
+        answers_agree();
+        let _ = input.end();
+        let Some(front) = self.forward.try_search_fwd_base(&mut cache.forward, input)? else {
+            return Ok(None);
+        };
+        let half = front.0;
+        let base = front.1;
+        let Some(start) = self.find_start(&mut cache.reverse, input, half, base)? else {
+            return Err(SearchError::NotAPair);
+        };
+        let span = Span {
+            start,
+            end: half.offset(),
+        };
+        Ok(Some(Match::new(half.pattern(), span)))
+    }
+}
