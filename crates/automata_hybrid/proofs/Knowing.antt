@@ -24,7 +24,7 @@ use Rattle.automata_hybrid.specs.Searches.{Finds, Reads, Skips, state_in, tape_i
 use Rattle.automata_hybrid.specs.Slots.{slot_behind, supports}
 use Rattle.automata_hybrid.specs.Starting.{IsStartRefusal, IsStartRefusalAt, KnowsStart, MayStart, known_start, quit_behind, search_refusal}
 use Rattle.automata_hybrid.specs.Table.{Names, Rows}
-use Rattle.automata_hybrid.proofs.Searching.{at_reads, false_true, lt_or_le, none_behind}
+use Rattle.automata_hybrid.proofs.Searching.{at_reads, false_true, lt_or_le, none_behind, ok_err}
 
 -- a state has one ID
 pub one_id : (t : Rows) (a b : ℕ) (q : Powerset) → Names t a q → Names t b q → a ≡ b
@@ -156,9 +156,7 @@ may_start m mode behind r f g n quit unsupported ok = (clear, go (supports m mod
 
   go : (b : Bool) → supports m mode ≡ b → supports m mode ≡ true
   go true e = e
-  go false e = absurd (ok_err (sym ok ∙ unsupported clear e)) where
-    ok_err : {A E : Type 0} {a : A} {b : E} → ◌≡◌ {A = Result A E} (Ok a) (Err b) → ⊥
-    ok_err h = cc
+  go false e = absurd (ok_err (sym ok ∙ unsupported clear e))
 
 -- a start that is known, where it may be asked for, changes nothing and isn't refused for want of room
 module _ (m : Machine) (old new : CacheView) (mode : Anchored) (behind : Option ℕ) (r : Result ℕ SearchError) (dead_at behind_at start_at : ℕ)

@@ -8,10 +8,11 @@ ghost use Rattle.automata_base.specs.PatternSet.{members};
 ghost use Rattle.automata_base.specs.Powerset.{Powerset};
 ghost use Rattle.automata_base.specs.Selections.{Pair};
 ghost use Rattle.automata_base.specs.Steps.{successor};
-ghost use Rattle.automata_base.specs.Tapes.{Forward, Backward, is_split};
+ghost use Rattle.automata_base.specs.Tapes.{Forward, Backward, byte_before, is_split};
 ghost use Rattle.automata_hybrid.specs.Bounds.{GivesUp, IsCacheError};
 ghost use Rattle.automata_hybrid.specs.Caches.{IsCacheOf, counted};
 ghost use Rattle.automata_hybrid.specs.Growing.{HasRoom, IsGrown};
+ghost use Rattle.automata_hybrid.specs.Passing.{IsFollowed};
 ghost use Rattle.automata_hybrid.specs.Searches.{HasReadNoQuit, IsStepRefusal, NoQuitInReach, Skips, behind_offset, given_up_offset, state_in, tape_in, unit_offset};
 ghost use Rattle.automata_hybrid.specs.Slots.{supports};
 ghost use Rattle.automata_hybrid.specs.Starting.{IsStartRefusalAt, MayStart, quit_behind};
@@ -25,7 +26,7 @@ use crate::dfa::DFA;
 use crate::dfa::cache::Cache;
 use crate::id::LazyStateID;
 use crate::search::walk::{Held, OverlappingState, Way};
-use crate::search::{quit, refusal};
+use crate::search::{Stop, quit, refusal};
 use automata_base::laws::walk_is_right;
 use automata_base::util::pattern_set::PatternSet;
 use automata_base::util::search::{HalfMatch, Input};
@@ -222,6 +223,7 @@ impl DFA {
         ensures paths { IsLookAcyclic (nfa_of self.now.nfa) → OnOk result (ArePatternsFound (engine_of self.now.nfa self.now.kind) input.now (length patset.old) (members patset.old) (members patset.new)) }
         ensures capacity { length patset.new ≡ length patset.old }
         ensures errors { IfErr result (IsWhichRefusal self.now cache.new.store input.now patset.old patset.new) }
+        ensures unsupported { input.now.start ≤ input.now.end → quit_behind self.now (byte_before input.now.haystack input.now.start) ≡ None → supports self.now input.now.anchored ≡ false → result ≡ Err (SearchError.Match (UnsupportedMode input.now.anchored)) }
 
         // It does answer where no quit byte is in reach, the mode is supported, no clear limit is set, and memory is found.
         ensures answers { NoQuitInReach self.now input.now → supports self.now input.now.anchored ≡ true → self.now.minimum_clear_count ≡ None → IfErr result (λ e. e ≡ SearchError.OutOfMemory) }
@@ -251,6 +253,7 @@ impl DFA {
         ensures paths { IsLookAcyclic (nfa_of self.now.nfa) → OnOk result (ArePatternsFound (engine_of self.now.nfa self.now.kind) input.now (length patset.old) (members patset.old) (members patset.new)) }
         ensures capacity { length patset.new ≡ length patset.old }
         ensures errors { IfErr result (IsWhichRefusal self.now cache.new.store input.now patset.old patset.new) }
+        ensures unsupported { input.now.start ≤ input.now.end → quit_behind self.now (byte_before input.now.haystack input.now.start) ≡ None → supports self.now input.now.anchored ≡ false → result ≡ Err (SearchError.Match (UnsupportedMode input.now.anchored)) }
         ensures bounded { cache.new.count ≤ cache.old.count + (input.now.end - input.now.start + 2) }
         ensures grown { IsGrown cache.old cache.new }
     {
@@ -447,6 +450,41 @@ impl DFA {
         !self.skips_at(input, place_offset(input, way, place))
     }
 
+    /// Follows known transitions without a tag, over units of a walk.
+    fn follow(
+        &self,
+        cache: &Cache,
+        input: &Input<'_>,
+        way: Way,
+        from: LazyStateID,
+        units: usize,
+    ) -> Stop
+        requires of { IsCacheOf cache.now self.now }
+        requires open { input.now.start ≤ input.now.end }
+        requires within { units ≤ input.now.end - input.now.start }
+        requires named { Names cache.now.store.table from (state_in (way_of way) self.now input.now units) }
+        ensures within { result.at ≤ input.now.end - input.now.start }
+        ensures followed { IsFollowed (way_of way) self.now cache.now.store input.now units result.at result.id }
+    {
+        let start = place_offset(input, way, units);
+        match way {
+            Way::Forward => {
+                let stop = self.follow_fwd(cache, input, start, from);
+                Stop {
+                    at: stop.at - input.start(),
+                    id: stop.id,
+                }
+            }
+            Way::Backward => {
+                let stop = self.follow_rev(cache, input, start, from);
+                Stop {
+                    at: input.end() - stop.at,
+                    id: stop.id,
+                }
+            }
+        }
+    }
+
     /// Goes on over the units of a walk from a state that it stands at, to the next one that tells patterns.
     fn advance(
         &self,
@@ -473,25 +511,26 @@ impl DFA {
         let mut id = from;
         let mut read = units;
         while read <= last {
-            let next = self.read_unit(cache, input, way, id, read)?;
-            let at = span_offset(input, way, read);
+            let stop = self.follow(cache, input, way, id, read);
+            let next = self.read_unit(cache, input, way, stop.id, stop.at)?;
+            let at = span_offset(input, way, stop.at);
             cache.see_ids();
             if next.is_dead() {
                 cache.end_search(at);
                 return Ok(Arrival {
                     id: None,
-                    units: read + 1,
+                    units: stop.at + 1,
                 });
             }
-            if self.tells(cache, input, way, next, read) {
+            if self.tells(cache, input, way, next, stop.at) {
                 cache.end_search(at);
                 return Ok(Arrival {
                     id: Some(next),
-                    units: read + 1,
+                    units: stop.at + 1,
                 });
             }
             id = next;
-            read += 1;
+            read = stop.at + 1;
         }
         cache.end_search(span_offset(input, way, last));
         Ok(Arrival {
