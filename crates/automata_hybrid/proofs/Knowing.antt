@@ -1,6 +1,6 @@
 -- Searches whose start and transitions are all known.
 use Rattle.std.proofs.Common.{ℕ, suc, ◌≡◌, ◌∙◌, ◌+◌, ◌^◌, ◌<◌, ◌≤◌, ◌⊎◌, inl, inr, Bool, true, false, length, Option, Some, None, refl, sym, subst, arith}
-use Rattle.std.specs.Prelude.{Result, Ok, Err, IfErr}
+use Rattle.std.specs.Prelude.{Result, Ok, Err, IfErr, OnOk}
 use Rattle.std.proofs.lemmas.Result.{IfErr-weaker}
 use Rattle.automata_base.specs.Answers.{Tries, later}
 use Rattle.automata_base.specs.Input.{Input}
@@ -199,6 +199,14 @@ module _ (m : Machine) (old new : CacheView) (mode : Anchored) (behind : Option 
     go None e true f = may_idle (e, f)
     go None e false f = barred_idle (λ may. false_true (sym f ∙ may.1))
     go (Some byte) e b f = barred_idle (λ may. none_some (sym may.0 ∙ e))
+
+-- a start that was found is known
+pub learned_start :
+    {E : Type 0} (m : Machine) (c : Stored) (mode : Anchored) (behind : Option ℕ) (r : Result ℕ E)
+    → (slot_behind m mode behind < m.slots → OnOk r (KnowsStart m c mode behind))
+    → OnOk r (slot_behind m mode behind < m.slots → IsKnownStart c (slot_behind m mode behind))
+learned_start m c mode behind (Ok n) learned = λ l. (learned l).1.1
+learned_start m c mode behind (Err e) learned = tt
 
 -- what a search has learned over the spans that it tried so far
 abbrev pub LearnedSpans : Direction → Machine → Stored → Input → ℕ → Type 0

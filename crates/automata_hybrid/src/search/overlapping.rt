@@ -1,6 +1,6 @@
 ghost use Rattle.std.specs.Prelude.{ℕ, ◌≡◌, ◌+◌, ◌-◌, ◌<◌, ◌≤◌, ◌⊎◌, IfOk, IfErr, OnOk, OnErr, Option, None, Some, Err, Ok, List, [], true, false, suc, length};
 ghost use Rattle.automata_base.specs.Answers.{ArePatterns, ArePatternsFound, IsOverlapping, offset_in};
-ghost use Rattle.automata_base.specs.Classes.{is_quit};
+ghost use Rattle.automata_base.specs.Classes.{class_in, is_quit};
 ghost use Rattle.automata_base.specs.Engines.{engine_of};
 ghost use Rattle.automata_base.specs.Nodes.{nfa_of};
 ghost use Rattle.automata_base.specs.Paths.{IsLookAcyclic, next};
@@ -9,10 +9,12 @@ ghost use Rattle.automata_base.specs.Powerset.{Powerset};
 ghost use Rattle.automata_base.specs.Selections.{Pair};
 ghost use Rattle.automata_base.specs.Steps.{successor};
 ghost use Rattle.automata_base.specs.Tapes.{Forward, Backward, byte_before, is_split};
-ghost use Rattle.automata_hybrid.specs.Bounds.{GivesUp, IsCacheError};
+ghost use Rattle.automata_hybrid.specs.Bounds.{GivesUp, IsCacheError, IsKnownTransition};
 ghost use Rattle.automata_hybrid.specs.Caches.{IsCacheOf, counted};
-ghost use Rattle.automata_hybrid.specs.Growing.{HasRoom, IsGrown};
-ghost use Rattle.automata_hybrid.specs.Passing.{IsFollowed};
+ghost use Rattle.automata_hybrid.specs.Growing.{ClearedNothing, HasRoom, IsGrown, IsStill};
+ghost use Rattle.automata_hybrid.specs.Knowing.{IsOfInput, KnowsItsStart, KnowsUnit};
+ghost use Rattle.automata_hybrid.specs.KnowingWalks.{HasLearnedUnits, KnowsItsState, KnowsUnits, KnowsWalk};
+ghost use Rattle.automata_hybrid.specs.Passing.{HasLearnedUnit, IsFollowed};
 ghost use Rattle.automata_hybrid.specs.Searches.{HasReadNoQuit, IsStepRefusal, NoQuitInReach, Skips, behind_offset, given_up_offset, state_in, tape_in, unit_offset};
 ghost use Rattle.automata_hybrid.specs.Slots.{supports};
 ghost use Rattle.automata_hybrid.specs.Starting.{IsStartRefusalAt, MayStart, quit_behind};
@@ -146,6 +148,11 @@ impl DFA {
         ensures bounded { OnOk result (cache.new.count + state.old.units ≤ cache.old.count + state.new.units + start_count state.old.stage) }
         ensures most { cache.new.count ≤ cache.old.count + (input.now.end - input.now.start + 1 - state.old.units) + start_count state.old.stage }
 
+        // After a call that cleared nothing what it used is known. With all that known it takes no memory, and changes nothing
+        // but the progress.
+        ensures learned { ClearedNothing cache.old.store cache.new.store → OnOk result (KnowsWalk Forward self.now cache.new.store input.now state.old) }
+        ensures known { state.old.lost ≡ false → KnowsWalk Forward self.now cache.old.store input.now state.old → IsStill cache.old cache.new × IfErr result IsOfInput }
+
         // It grows the cache as one determinisation more would, and where the cache has the walk's state as those made do.
         ensures grown { IsGrown cache.old (counted cache.new) }
         ensures there { HasItsState cache.old.store.table state.old.stage → IsGrown cache.old cache.new }
@@ -194,6 +201,11 @@ impl DFA {
         ensures rises { OnOk result (state.old.units ≤ state.new.units) }
         ensures bounded { OnOk result (cache.new.count + state.old.units ≤ cache.old.count + state.new.units + start_count state.old.stage) }
         ensures most { cache.new.count ≤ cache.old.count + (input.now.end - input.now.start + 1 - state.old.units) + start_count state.old.stage }
+
+        // After a call that cleared nothing what it used is known. With all that known it takes no memory, and changes nothing
+        // but the progress.
+        ensures learned { ClearedNothing cache.old.store cache.new.store → OnOk result (KnowsWalk Backward self.now cache.new.store input.now state.old) }
+        ensures known { state.old.lost ≡ false → KnowsWalk Backward self.now cache.old.store input.now state.old → IsStill cache.old cache.new × IfErr result IsOfInput }
 
         // It grows the cache as one determinisation more would, and where the cache has the walk's state as those made do.
         ensures grown { IsGrown cache.old (counted cache.new) }
@@ -308,7 +320,10 @@ impl DFA {
         ensures counted { cache.new.count ≤ cache.old.count + 1 }
         ensures grown { IsGrown cache.old cache.new }
         ensures unsupported { quit_behind self.now (tape_in (way_of way) input.now).before ≡ None → supports self.now input.now.anchored ≡ false → result ≡ Err (SearchError.Match (UnsupportedMode input.now.anchored)) }
+        ensures idle { (MayStart self.now input.now.anchored (tape_in (way_of way) input.now).before → KnowsItsStart (way_of way) self.now cache.old.store input.now) → (cache.new ≡ cache.old) × IfErr result IsOfInput }
+        ensures learned { OnOk result (KnowsItsStart (way_of way) self.now cache.new.store input.now) }
     {
+        cache.see_slots();
         match way {
             Way::Forward => self.start_state_forward(cache, input),
             Way::Backward => self.start_state_reverse(cache, input),
@@ -358,6 +373,8 @@ impl DFA {
         ensures grown { IsGrown cache.old (counted cache.new) }
         ensures there { HasItsState cache.old.store.table walk.now.stage → IsGrown cache.old cache.new }
         ensures unsupported { walk.now.stage ≡ Fresh → quit_behind self.now (tape_in (way_of way) input.now).before ≡ None → supports self.now input.now.anchored ≡ false → result ≡ Err (SearchError.Match (UnsupportedMode input.now.anchored)) }
+        ensures idle { (MayStart self.now input.now.anchored (tape_in (way_of way) input.now).before → KnowsItsState (way_of way) self.now cache.old.store input.now walk.now.stage) → (cache.new ≡ cache.old) × IfErr result IsOfInput }
+        ensures learned { OnOk result (KnowsItsState (way_of way) self.now cache.new.store input.now walk.now.stage) }
     {
         if walk.is_fresh() {
             return self.walk_start(cache, input, way);
@@ -385,7 +402,11 @@ impl DFA {
         ensures clean { OnOk result (is_quit self.now.quits byte ≡ false) }
         ensures errors { IfErr result (λ e. (q : Powerset) → Names cache.old.store.table id q → IsStepRefusal self.now cache.new.store q (Some byte) quit_at at e) }
         ensures grown { IsGrown cache.old cache.new }
+        ensures idle { IsKnownTransition cache.old.store id (class_in self.now.classes byte) → (cache.new.count ≡ cache.old.count) × IfErr result IsOfInput }
+        ensures learned { ClearedNothing cache.old.store cache.new.store → OnOk result (IsKnownTransition cache.new.store id (class_in self.now.classes byte)) }
+        ensures below { class_in self.now.classes byte < self.now.stride }
     {
+        self.see_classes();
         let next = self.step(cache, id, byte, at)?;
         cache.see_ids();
         if next.is_quit() {
@@ -415,6 +436,8 @@ impl DFA {
         ensures reads { WalkReads (way_of way) self.now input.now place }
         ensures errors { IfErr result (IsUnitRefusal (way_of way) self.now cache.new.store input.now place) }
         ensures grown { IsGrown cache.old cache.new }
+        ensures idle { KnowsUnit (way_of way) self.now cache.old.store input.now place → (cache.new.count ≡ cache.old.count) × IfErr result IsOfInput }
+        ensures learned { ClearedNothing cache.old.store cache.new.store → OnOk result (HasLearnedUnit (way_of way) self.now cache.new.store input.now place) }
     {
         let _haystack = input.haystack();
         let at = span_offset(input, way, place);
@@ -505,6 +528,8 @@ impl DFA {
         ensures most { cache.new.count + units ≤ cache.old.count + (input.now.end - input.now.start + 1) }
         ensures arrives { IfOk result (λ a. IsArrival (way_of way) self.now cache.new.store.table input.now units a.id a.units) }
         ensures errors { IfErr result (IsAdvanceRefusal (way_of way) self.now cache.new.store input.now units) }
+        ensures idle { (k : ℕ) → HasToldBy (way_of way) self.now input.now units k → KnowsUnits (way_of way) self.now cache.old.store input.now units k → (cache.new.count ≡ cache.old.count) × IfErr result IsOfInput }
+        ensures learned { ClearedNothing cache.old.store cache.new.store → IfOk result (λ a. HasLearnedUnits (way_of way) self.now cache.new.store input.now units a.units) }
     {
         let _haystack = input.haystack();
         let last = last_place(input);
@@ -566,6 +591,8 @@ impl DFA {
         ensures holds { OnOk result (HasItsState cache.new.store.table walk.new.stage) }
         ensures goes_on { OnOk result (GoesOn walk.old walk.new) }
         ensures unsupported { walk.old.stage ≡ Fresh → quit_behind self.now (tape_in (way_of way) input.now).before ≡ None → supports self.now input.now.anchored ≡ false → result ≡ Err (SearchError.Match (UnsupportedMode input.now.anchored)) }
+        ensures idle { KnowsWalk (way_of way) self.now cache.old.store input.now walk.old → IsStill cache.old cache.new × IfErr result IsOfInput }
+        ensures learned { ClearedNothing cache.old.store cache.new.store → OnOk result (KnowsWalk (way_of way) self.now cache.new.store input.now walk.old) }
     {
         self.see_skips();
         let _haystack = input.haystack();
@@ -642,6 +669,8 @@ impl DFA {
         ensures done { walk.old.lost ≡ false → input.now.end < input.now.start → IfErr result (λ e. ⊥) × (cache.new ≡ cache.old) }
         ensures goes_on { OnOk result (GoesOn walk.old walk.new) }
         ensures unsupported { walk.old.stage ≡ Fresh → input.now.start ≤ input.now.end → quit_behind self.now (tape_in (way_of way) input.now).before ≡ None → supports self.now input.now.anchored ≡ false → result ≡ Err (SearchError.Match (UnsupportedMode input.now.anchored)) }
+        ensures idle { walk.old.lost ≡ false → KnowsWalk (way_of way) self.now cache.old.store input.now walk.old → IsStill cache.old cache.new × IfErr result IsOfInput }
+        ensures learned { ClearedNothing cache.old.store cache.new.store → OnOk result (KnowsWalk (way_of way) self.now cache.new.store input.now walk.old) }
     {
         let _haystack = input.haystack();
         walk.forget_match();
