@@ -1,9 +1,13 @@
--- A search finds one answer.
-use Rattle.std.proofs.Common.{sym, subst}
+-- A search finds one answer, and walks tell one list.
+use Rattle.std.proofs.Common.{◌∙◌, List, sym, subst}
 use Rattle.automata_base.specs.Nodes.{Automaton}
+use Rattle.automata_base.specs.Selections.{Pair}
 use Rattle.automata_base.specs.Told.{IsTold, ToldIsOne}
+use Rattle.automata_base.specs.WalkLaws.{AreTold, WalksAreTold}
 use Rattle.automata_base.specs.declared.util.search.MatchKind.{MatchKind}
-use Rattle.automata_hybrid.specs.Agreeing.{AnswersAgree}
+use Rattle.automata_hybrid.specs.Agreeing.{AnswersAgree, WalksAgree}
+use Rattle.automata_hybrid.specs.Machine.{Machine}
+use Rattle.automata_hybrid.specs.Walking.{AreWalked}
 use Rattle.automata_hybrid.proofs.Skipping.{found_told}
 
 pub answers_agree : ToldIsOne → AnswersAgree
@@ -11,3 +15,11 @@ answers_agree one way m other input first second nfa kind f s =
     one way m.nfa m.kind input first second (found_told way m input first f)
     (subst (λ (k : MatchKind). IsTold way m.nfa k input second) (sym kind)
     (subst (λ (a : Automaton). IsTold way a other.kind input second) (sym nfa) (found_told way other input second s)))
+
+pub walks_agree : (m : Machine) → WalksAreTold m.nfa → WalksAgree m
+walks_agree m told way other input first second first_told second_told k nfa kind f s f' s' =
+    let list : (pairs : List Pair) × AreWalked way m input pairs = told way m.kind input in
+    let same : AreWalked way other input list.0 =
+    subst (λ (a : Automaton). AreTold way a other.kind input list.0) (sym nfa)
+    (subst (λ (l : MatchKind). AreTold way m.nfa l input list.0) (sym kind) list.1) in
+    ((f' k f).1 list.0 list.1).0 ∙ sym (((s' k s).1 list.0 same).0)

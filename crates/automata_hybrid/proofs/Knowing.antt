@@ -1,6 +1,6 @@
 -- Searches whose start and transitions are all known.
 use Rattle.std.proofs.Common.{ℕ, suc, ◌≡◌, ◌∙◌, ◌+◌, ◌^◌, ◌<◌, ◌≤◌, ◌⊎◌, inl, inr, Bool, true, false, length, Option, Some, None, refl, sym, subst, arith}
-use Rattle.std.specs.Prelude.{Result, Ok, Err, IfErr}
+use Rattle.std.specs.Prelude.{Result, Ok, Err, IfErr, OnOk}
 use Rattle.std.proofs.lemmas.Result.{IfErr-weaker}
 use Rattle.automata_base.specs.Answers.{Tries, later}
 use Rattle.automata_base.specs.Input.{Input}
@@ -24,7 +24,7 @@ use Rattle.automata_hybrid.specs.Searches.{Finds, Reads, Skips, state_in, tape_i
 use Rattle.automata_hybrid.specs.Slots.{slot_behind, supports}
 use Rattle.automata_hybrid.specs.Starting.{IsStartRefusal, IsStartRefusalAt, KnowsStart, MayStart, known_start, quit_behind, search_refusal}
 use Rattle.automata_hybrid.specs.Table.{Names, Rows}
-use Rattle.automata_hybrid.proofs.Searching.{at_reads, false_true, lt_or_le, none_behind}
+use Rattle.automata_hybrid.proofs.Searching.{at_reads, false_true, lt_or_le, none_behind, ok_err}
 
 -- a state has one ID
 pub one_id : (t : Rows) (a b : ℕ) (q : Powerset) → Names t a q → Names t b q → a ≡ b
@@ -156,9 +156,7 @@ may_start m mode behind r f g n quit unsupported ok = (clear, go (supports m mod
 
   go : (b : Bool) → supports m mode ≡ b → supports m mode ≡ true
   go true e = e
-  go false e = absurd (ok_err (sym ok ∙ unsupported clear e)) where
-    ok_err : {A E : Type 0} {a : A} {b : E} → ◌≡◌ {A = Result A E} (Ok a) (Err b) → ⊥
-    ok_err h = cc
+  go false e = absurd (ok_err (sym ok ∙ unsupported clear e))
 
 -- a start that is known, where it may be asked for, changes nothing and isn't refused for want of room
 module _ (m : Machine) (old new : CacheView) (mode : Anchored) (behind : Option ℕ) (r : Result ℕ SearchError) (dead_at behind_at start_at : ℕ)
@@ -201,6 +199,14 @@ module _ (m : Machine) (old new : CacheView) (mode : Anchored) (behind : Option 
     go None e true f = may_idle (e, f)
     go None e false f = barred_idle (λ may. false_true (sym f ∙ may.1))
     go (Some byte) e b f = barred_idle (λ may. none_some (sym may.0 ∙ e))
+
+-- a start that was found is known
+pub learned_start :
+    {E : Type 0} (m : Machine) (c : Stored) (mode : Anchored) (behind : Option ℕ) (r : Result ℕ E)
+    → (slot_behind m mode behind < m.slots → OnOk r (KnowsStart m c mode behind))
+    → OnOk r (slot_behind m mode behind < m.slots → IsKnownStart c (slot_behind m mode behind))
+learned_start m c mode behind (Ok n) learned = λ l. (learned l).1.1
+learned_start m c mode behind (Err e) learned = tt
 
 -- what a search has learned over the spans that it tried so far
 abbrev pub LearnedSpans : Direction → Machine → Stored → Input → ℕ → Type 0

@@ -1,5 +1,5 @@
 -- What a pass has found so far, unit by unit.
-use Rattle.std.proofs.Common.{ℕ, zero, suc, ◌≡◌, ◌<◌, ◌≤◌, ◌^◌, ◌⊎◌, inl, inr, Bool, true, false, List, [], ◌∷◌, length, Option, Some, None, refl, sym, ap, ◌∙◌, subst, arith, eq-or-lt_of_le}
+use Rattle.std.proofs.Common.{ℕ, zero, suc, ◌≡◌, ◌<◌, ◌≤◌, ◌⊎◌, inl, inr, Bool, true, false, List, [], ◌∷◌, length, Option, Some, None, refl, sym, ap, ◌∙◌, subst, arith, eq-or-lt_of_le}
 use Rattle.automata_base.specs.Answers.{offset_in}
 use Rattle.automata_base.specs.Computed.{pair_at, earlier_or}
 use Rattle.automata_base.specs.declared.util.search.MatchKind.{MatchKind}
@@ -22,11 +22,8 @@ use Rattle.automata_hybrid.specs.Machine.{Machine}
 use Rattle.automata_hybrid.specs.Passing.{half_of, half_at, found_over, IsAt}
 use Rattle.automata_hybrid.specs.Searches.{IsStepRefusal, IsPassRefusal, unit_offset, given_up_offset, tape_in, state_in, told_in, Reads, MeetsNoQuit}
 use Rattle.automata_hybrid.specs.Starting.{quit_behind}
-use Rattle.automata_base.proofs.Paths.Orders.{some_inj}
-use Rattle.automata_hybrid.specs.Ids.{quit_id}
 use Rattle.automata_hybrid.specs.Table.{Rows, Leads, Names}
 use Rattle.automata_base.specs.Classes.{is_quit}
-use Rattle.automata_hybrid.proofs.Stepping.{Leads-silent, Leads-Names}
 
 -- one unit more
 pub state_more :
@@ -34,6 +31,9 @@ pub state_more :
     → state_in way m input (suc k) ≡ successor m.nfa m.kind (state_in way m input k) (next (tape_in way input) k)
 unfolding state_after
 state_more way m input k = refl
+
+pub ok_err : {A E : Type 0} {a : A} {e : E} → ◌≡◌ {A = Result A E} (Ok a) (Err e) → ⊥
+ok_err h = cc
 
 pub false_true : false ≡ true → ⊥
 false_true e = cc
@@ -94,6 +94,12 @@ unfolding last_told first_told
 silent kind false a mode t k n = ap (λ ps. pair_at ps k (last_told a kind mode t k)) n
 silent kind true a mode t k n =
     ap (λ ps. earlier_or (first_told a kind mode t k) (pair_at ps k None)) n ∙ earlier_none (first_told a kind mode t k)
+
+-- a unit behind which the state has no patterns tells nothing
+pub told_quiet :
+    (way : Direction) (m : Machine) (input : Input) (k : ℕ)
+    → (state_in way m input (suc k)).patterns ≡ [] → told_in way m input (suc k) ≡ told_in way m input k
+told_quiet way m input k e = silent m.kind input.earliest m.nfa input.anchored (tape_in way input) k e
 
 quiet :
     (way : Direction) (m : Machine) (input : Input) (k n : ℕ)
@@ -272,23 +278,6 @@ module _ (way : Direction) (m : Machine) (t t' : Rows) (input : Input) (k id id'
   pub clean_last : k ≡ length (tape_in way input).bytes → quit_behind m (tape_in way input).before ≡ None → MeetsNoQuit way m input
   clean_last l behind = clean_all way m input (suc k) behind more_clean (stops_last way m input k l)
 
--- a known transition between untagged IDs
-pub more_untagged :
-    (way : Direction) (m : Machine) (t : Rows) (input : Input) (k id id' byte : ℕ) (found : Option HalfMatch)
-    → id' < 2 ^ 27 → next (tape_in way input) k ≡ Some byte
-    → (is_quit m.quits byte ≡ true → id' ≡ quit_id m.stride)
-    → (is_quit m.quits byte ≡ false → id' < 2 ^ 31 → (q : Powerset) → Names t id q → Leads t id' (successor m.nfa m.kind q (Some byte)))
-    → IsAt way m t input k id found → IsAt way m t input (suc k) id' found
-more_untagged way m t input k id id' byte found low' unit quit named at = go (is_quit m.quits byte) refl where
-  go : (b : Bool) → is_quit m.quits byte ≡ b → IsAt way m t input (suc k) id' found
-  go true e = absurd (let f : id' ≡ quit_id m.stride = quit e in omega (arith, f, low'))
-  go false e =
-      more_at way m t t input k id id' (Some byte) found found at unit
-      (λ q n. named e (omega (arith, low')) q n)
-      (λ other same. subst (λ v. is_quit m.quits v ≡ false) (some_inj same) e)
-      (offset_in way input k, refl, λ q l. sym (ap (λ ps. half_at ps (offset_in way input k) found) (Leads-silent t id' q l low'))) at.nothing
-      (λ l. Leads-Names t id' (state_in way m input (suc k)) l (omega (arith, low')))
-
 -- a pass begins at its start
 pub starts_at :
     (way : Direction) (m : Machine) (t : Rows) (input : Input) (id : ℕ)
@@ -366,6 +355,4 @@ pub none_behind :
     {E : Type 0} (o : Option ℕ) (r : Result ℕ E) (f : ℕ → E) (n : ℕ)
     → ((byte : ℕ) → o ≡ Some byte → r ≡ Err (f byte)) → r ≡ Ok n → o ≡ None
 none_behind None r f n told e = refl
-none_behind (Some byte) r f n told e = absurd (ok_err (sym e ∙ told byte refl)) where
-  ok_err : {A E : Type 0} {a : A} {b : E} → ◌≡◌ {A = Result A E} (Ok a) (Err b) → ⊥
-  ok_err h = cc
+none_behind (Some byte) r f n told e = absurd (ok_err (sym e ∙ told byte refl))

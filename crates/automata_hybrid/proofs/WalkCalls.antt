@@ -48,7 +48,7 @@ module _ (way : Direction) (m : Machine) (input : Input) where
   told_none (inr n) = record { pairs = []; unsplit = inr (n, refl); count = refl }
 
   -- all that a place tells
-  told_place :
+  pub told_place :
       (place e : ℕ)
       → (Skips m → is_split input.haystack (offset_in way input place) ≡ false) → HasToldBy way m input place e
       → HasToldBy way m input (suc place) (e + length (state_in way m input (suc place)).patterns)

@@ -8,11 +8,13 @@ use Rattle.automata_base.specs.Lists.{In}
 use Rattle.automata_base.specs.Matches.{HalfMatch}
 use Rattle.automata_base.specs.PatternSet.{has, members, members_from}
 use Rattle.automata_base.specs.Selections.{Pair}
-use Rattle.automata_base.specs.Tapes.{Forward}
+use Rattle.automata_base.specs.Tapes.{Forward, byte_before}
 use Rattle.automata_base.proofs.Values.PatternsInSets.{members-few}
 use Rattle.automata_hybrid.specs.Machine.{Machine, greatest}
 use Rattle.automata_base.specs.Powerset.{Powerset, cost}
 use Rattle.automata_hybrid.specs.Searches.{tape_in}
+use Rattle.automata_hybrid.specs.Slots.{supports}
+use Rattle.automata_hybrid.specs.Starting.{quit_behind}
 use Rattle.automata_hybrid.specs.Walking.{AreWalked, GoesOn, HasTold, HasToldAt, TellsNext, half_nth, start_count}
 use Rattle.automata_hybrid.specs.Walks.{At, Ended, Fresh, Stage, Walk}
 use Rattle.automata_hybrid.specs.Which.{IsJoined}
@@ -262,6 +264,11 @@ module _ (m : Machine) (input : Input) (old : List Bool) where
             joined = λ ps walked. one_more half ps (sym (((tells j.k j.told).1 ps walked).0) ∙ is_found) (j.joined ps walked);
             capacity = length-set new half.pattern true ∙ j.capacity;
           }
+
+-- the mode isn't supported where no quit byte stands behind the start
+abbrev pub MayNotStart : Machine → Input → Type 0
+MayNotStart m input =
+    (input.start ≤ input.end) × (quit_behind m (byte_before input.haystack input.start) ≡ None) × (supports m input.anchored ≡ false)
 
 -- how many steps a walk has left, at most: for each unit as many as a state has patterns, and one more
 abbrev pub steps_left : Machine → Input → Walk → ℕ

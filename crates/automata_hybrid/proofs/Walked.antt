@@ -1,5 +1,5 @@
 -- What a walk tells, unit by unit.
-use Rattle.std.proofs.Common.{ℕ, zero, suc, ◌≡◌, ◌<◌, ◌≤◌, ◌+◌, ◌⊎◌, inl, inr, Bool, true, false, cond, List, [], ◌∷◌, ◌++◌, length, Some, None, refl, sym, ap, ap₂, ◌∙◌, subst, arith, eq-or-lt_of_le, get_or}
+use Rattle.std.proofs.Common.{ℕ, zero, suc, ◌≡◌, ◌<◌, ◌≤◌, ◌+◌, ◌⊎◌, inl, inr, Bool, true, false, cond, List, [], ◌∷◌, ◌++◌, length, Some, None, refl, sym, ap, ap₂, ◌∙◌, subst, arith, length-append, eq-or-lt_of_le, get_or}
 use Rattle.automata_base.specs.Answers.{AreUnsplit, offset_in, with_offsets, without_split}
 use Rattle.automata_base.specs.Classes.{is_quit}
 use Rattle.automata_base.specs.Input.{Input}
@@ -10,7 +10,7 @@ use Rattle.automata_base.specs.Tapes.{Direction, is_split}
 use Rattle.automata_base.specs.Telling.{pairs_told}
 use Rattle.automata_hybrid.specs.Machine.{Machine}
 use Rattle.automata_hybrid.specs.Searches.{HasReadNoQuit, Skips, state_in, tape_in}
-use Rattle.automata_hybrid.specs.Walking.{AreWalked, Finishes, IsSilent, WalkMeetsNoQuit, WalkReads, half_nth, pairs_in}
+use Rattle.automata_hybrid.specs.Walking.{AreWalked, Finishes, HasToldBy, IsSilent, WalkMeetsNoQuit, WalkReads, half_nth, pairs_in}
 use Rattle.automata_hybrid.proofs.Searching.{dead_more, lt_or_le}
 
 -- lists joined
@@ -153,6 +153,7 @@ module _ (way : Direction) (m : Machine) (input : Input) where
             silent_trans from k (suc (length (tape_in way input).bytes)) silent
             (silent_trans k (suc k) (suc (length (tape_in way input).bytes)) (silent_none k (ap (λ (q : Powerset). q.patterns) e))
             (silent_dead (suc k) (suc (length (tape_in way input).bytes)) (omega (arith, l)) e));
+        stops = λ j l r. r.1 (dead_more way m input (suc k) j (omega (arith, l, u)) e);
       } where
         go :
             (j byte : ℕ) → WalkReads way m input j → next (tape_in way input) j ≡ Some byte → (j < suc k) ⊎ (suc k ≤ j)
@@ -167,6 +168,7 @@ module _ (way : Direction) (m : Machine) (input : Input) where
         more = omega arith;
         clean = λ j byte r h. go j byte r h (lt_or_le j k);
         silent = silent_dead k (suc (length (tape_in way input).bytes)) l e;
+        stops = λ j l r. r.1 (dead_more way m input k j l e);
       } where
         go :
             (j byte : ℕ) → WalkReads way m input j → next (tape_in way input) j ≡ Some byte → (j < k) ⊎ (k ≤ j)
@@ -177,6 +179,18 @@ module _ (way : Direction) (m : Machine) (input : Input) where
   pub finish_all :
       (k : ℕ) → k ≡ suc (length (tape_in way input).bytes) → HasReadNoQuit way m input k → WalkMeetsNoQuit way m input
   finish_all k e clean j byte r h = let l : j ≤ length (tape_in way input).bytes = r.0 in clean j byte (omega (arith, l, e)) h
+
+  pub finish_read :
+      (from k : ℕ)
+      → k ≡ suc (length (tape_in way input).bytes) → from ≤ k → HasReadNoQuit way m input k → IsSilent way m input from k
+      → Finishes way m input from k
+  finish_read from k e l clean silent =
+      record {
+        more = l;
+        clean = finish_all k e clean;
+        silent = subst (IsSilent way m input from) e silent;
+        stops = λ j more r. absurd (let few : j ≤ length (tape_in way input).bytes = r.0 in omega (arith, few, more, e));
+      }
 
   -- one step of a walk that tells nothing
   pub silent_step :
@@ -248,6 +262,13 @@ module _ (way : Direction) (m : Machine) (input : Input) where
       (a : List Pair) → input.start ≤ input.end
       → AreUnsplit (Skips m) way input (pairs_in way m input (suc (length (tape_in way input).bytes))) a → AreWalked way m input a
   walked_all a s u = inr (s, (pairs_in way m input (suc (length (tape_in way input).bytes)), refl, u))
+
+  -- more units tell no fewer pairs
+  pub told_rises : (i n a b : ℕ) → i ≤ n → HasToldBy way m input i a → HasToldBy way m input n b → a ≤ b
+  told_rises i n a b l t u =
+      let more : Begins t.pairs u.pairs = unsplit_begin (pairs_in way m input i) (pairs_in way m input n) t.pairs u.pairs (pairs_begin i n l) t.unsplit u.unsplit in
+      let long : length u.pairs ≡ length t.pairs + length more.rest = ap (λ (zs : List Pair). length zs) more.joined ∙ length-append t.pairs more.rest in
+      omega (arith, long, t.count, u.count)
 
 -- the pair at an index
 pub half_past : (xs : List Pair) (k : ℕ) → length xs ≤ k → half_nth xs k ≡ None

@@ -1,9 +1,11 @@
-use Rattle.std.specs.Prelude.{◌≡◌, Option}
+use Rattle.std.specs.Prelude.{ℕ, ◌≡◌, Option}
 use Rattle.automata_base.specs.Answers.{Half}
 use Rattle.automata_base.specs.Input.{Input}
 use Rattle.automata_base.specs.Tapes.{Direction}
 use Rattle.automata_hybrid.specs.Machine.{Machine}
 use Rattle.automata_hybrid.specs.Searches.{IsFound}
+use Rattle.automata_hybrid.specs.Walking.{HasTold, TellsNext}
+use Rattle.automata_hybrid.specs.Walks.{Walk}
 
 -- Searches over two caches of one DFA find the same, and so do two DFAs of one automaton and one kind, in whatever else
 -- they differ: capacity, limits, byte classes, tags of starts, quit bytes.
@@ -11,3 +13,13 @@ abbrev pub AnswersAgree : Type 0
 AnswersAgree =
     (way : Direction) (m other : Machine) (input : Input) (first second : Option Half)
     → m.nfa ≡ other.nfa → m.kind ≡ other.kind → IsFound way m input first → IsFound way other input second → first ≡ second
+
+-- Two walks over one input that have told `k` pairs each tell the same match by the next call that answers, whatever cache
+-- it is made over; and so do walks of two DFAs of one automaton and one kind.
+abbrev pub WalksAgree : Machine → Type 0
+WalksAgree m =
+    (way : Direction) (other : Machine) (input : Input) (first second first_told second_told : Walk) (k : ℕ)
+    → other.nfa ≡ m.nfa → other.kind ≡ m.kind
+    → HasTold way m input first k → HasTold way other input second k
+    → TellsNext way m input first first_told → TellsNext way other input second second_told
+    → first_told.found ≡ second_told.found

@@ -15,7 +15,8 @@ pub mod Founds
 pub mod Searches
 pub mod Knowing
 pub mod Passing
-pub mod Agreeing
 pub mod Walks
 pub mod Walking
+pub mod KnowingWalks
+pub mod Agreeing
 pub mod Which

@@ -1,6 +1,7 @@
 -- A pass under way: what the functions of a search keep from unit to unit.
-use Rattle.std.specs.Prelude.{ℕ, ◌≡◌, ◌<◌, IsBitSet, List, [], ◌∷◌, true, Option, Some, None}
+use Rattle.std.specs.Prelude.{ℕ, suc, ◌≡◌, ◌<◌, ◌≤◌, IsBitSet, List, [], ◌∷◌, true, false, Option, Some, None}
 use Rattle.automata_base.specs.Answers.{offset_in}
+use Rattle.automata_base.specs.Classes.{is_quit}
 use Rattle.automata_base.specs.Input.{Input}
 use Rattle.automata_base.specs.Matches.{HalfMatch}
 use Rattle.automata_base.specs.Paths.{next}
@@ -52,6 +53,18 @@ step_refusal step.OutOfMemory at = search.OutOfMemory
 -- the transition on the unit at place `k` is known, at a class that rows have
 abbrev pub HasLearnedUnit : Direction → Machine → Stored → Input → ℕ → Type 0
 HasLearnedUnit way m c input k = KnowsUnit way m c input k × (unit_class m (next (tape_in way input) k) < c.table.of.stride)
+
+-- the unit at place `k` is no quit byte, its transition is known, and the state behind it tells nothing
+pub record IsQuiet (way : Direction) (m : Machine) (c : Stored) (input : Input) (k : ℕ) : Type 0 where
+  pub clean : (byte : ℕ) → next (tape_in way input) k ≡ Some byte → is_quit m.quits byte ≡ false
+  pub known : HasLearnedUnit way m c input k
+  pub silent : (state_in way m input (suc k)).patterns ≡ []
+
+-- known transitions led a pass from its first `from` units on, to this ID behind its first `to`; none of them told anything
+pub record IsFollowed (way : Direction) (m : Machine) (c : Stored) (input : Input) (from to id : ℕ) : Type 0 where
+  pub more : from ≤ to
+  pub named : Names c.table id (state_in way m input to)
+  pub quiet : (k : ℕ) → from ≤ k → k < to → IsQuiet way m c input k
 
 -- so is each transition that a pass took on its first `k` units
 abbrev pub HasLearned : Direction → Machine → Stored → Input → ℕ → Type 0

@@ -150,6 +150,7 @@ pub record Finishes (way : Direction) (m : Machine) (input : Input) (from units 
   pub more : from ≤ units
   pub clean : WalkMeetsNoQuit way m input
   pub silent : IsSilent way m input from (suc (length (tape_in way input).bytes))
+  pub stops : (j : ℕ) → units ≤ j → WalkReads way m input j → ⊥
 
 abbrev pub IsArrival : Direction → Machine → Rows → Input → (from : ℕ) → Option ℕ → (units : ℕ) → Type 0
 IsArrival way m t input from None units = Finishes way m input from units

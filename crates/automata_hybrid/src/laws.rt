@@ -1,7 +1,8 @@
-//! A law that searches stand on. Its contract is the law; what it does is to cite another.
-ghost use Rattle.automata_hybrid.specs.Agreeing.{AnswersAgree};
+//! Laws that searches and walks stand on. Each contract is the law; what it does is to cite others.
+ghost use Rattle.automata_hybrid.specs.Agreeing.{AnswersAgree, WalksAgree};
 
-use automata_base::laws::passes_tell_paths;
+use crate::dfa::DFA;
+use automata_base::laws::{passes_tell_paths, walk_is_right};
 
 /// What was searched before, and how large the cache is, shows in no answer: two searches that find something for one
 /// automaton, kind and input find the same.
@@ -9,4 +10,11 @@ pub fn answers_agree()
     ensures { AnswersAgree }
 {
     passes_tell_paths();
+}
+
+/// Nor does it show in what a walk tells: two walks of one automaton, kind and input tell one list, pair by pair.
+pub fn walks_agree(dfa: &DFA)
+    ensures { WalksAgree dfa.now }
+{
+    walk_is_right(dfa.get_nfa());
 }

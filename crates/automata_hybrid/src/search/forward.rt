@@ -11,7 +11,7 @@ ghost use Rattle.automata_base.specs.declared.util.search.MatchErrorKind.TheVari
 ghost use Rattle.automata_hybrid.specs.Caches.{IsCacheOf};
 ghost use Rattle.automata_hybrid.specs.Growing.{IsGrown, IsStill, ClearedNothing, HasRoom};
 ghost use Rattle.automata_hybrid.specs.Knowing.{IsOfInput, KnowsItsStart, KnowsPass, Knows};
-ghost use Rattle.automata_hybrid.specs.Passing.{HasLearned, HasLearnedAll, IsAt, found_over};
+ghost use Rattle.automata_hybrid.specs.Passing.{HasLearned, HasLearnedAll, IsAt, IsFollowed, found_over};
 ghost use Rattle.automata_hybrid.specs.Searches.{IsFound, IsPassRefusal, IsRefused, MeetsNoQuit, NoQuitInReach, Skips, WithoutBase, state_in, tape_in, with_base};
 ghost use Rattle.automata_hybrid.specs.Slots.{supports};
 ghost use Rattle.automata_hybrid.specs.Starting.{MayStart, quit_behind};
@@ -180,15 +180,20 @@ impl DFA {
     }
 
     /// Follows known transitions without a tag, from an ID without one.
-    fn follow_fwd(&self, cache: &Cache, input: &Input<'_>, start: usize, from: LazyStateID) -> Stop
+    pub(super) fn follow_fwd(
+        &self,
+        cache: &Cache,
+        input: &Input<'_>,
+        start: usize,
+        from: LazyStateID,
+    ) -> Stop
         requires of { IsCacheOf cache.now self.now }
         requires valid { IsValid cache.now.store.table from }
         requires from { input.now.start ≤ start }
         requires within { start ≤ input.now.end }
         ensures from { start ≤ result.at }
         ensures within { result.at ≤ input.now.end }
-        ensures at { (found : Option matches.HalfMatch) → IsAt Forward self.now cache.now.store.table input.now (start - input.now.start) from found → IsAt Forward self.now cache.now.store.table input.now (result.at - input.now.start) result.id found }
-        ensures learned { (found : Option matches.HalfMatch) → IsAt Forward self.now cache.now.store.table input.now (start - input.now.start) from found → HasLearned Forward self.now cache.now.store input.now (start - input.now.start) → HasLearned Forward self.now cache.now.store input.now (result.at - input.now.start) }
+        ensures followed { Names cache.now.store.table from (state_in Forward self.now input.now (start - input.now.start)) → IsFollowed Forward self.now cache.now.store input.now (start - input.now.start) (result.at - input.now.start) result.id }
     {
         if from.is_tagged() {
             return Stop {

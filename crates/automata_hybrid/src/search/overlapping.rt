@@ -1,6 +1,6 @@
 ghost use Rattle.std.specs.Prelude.{ℕ, ◌≡◌, ◌+◌, ◌-◌, ◌<◌, ◌≤◌, ◌⊎◌, IfOk, IfErr, OnOk, OnErr, Option, None, Some, Err, Ok, List, [], true, false, suc, length};
 ghost use Rattle.automata_base.specs.Answers.{ArePatterns, ArePatternsFound, IsOverlapping, offset_in};
-ghost use Rattle.automata_base.specs.Classes.{is_quit};
+ghost use Rattle.automata_base.specs.Classes.{class_in, is_quit};
 ghost use Rattle.automata_base.specs.Engines.{engine_of};
 ghost use Rattle.automata_base.specs.Nodes.{nfa_of};
 ghost use Rattle.automata_base.specs.Paths.{IsLookAcyclic, next};
@@ -8,10 +8,13 @@ ghost use Rattle.automata_base.specs.PatternSet.{members};
 ghost use Rattle.automata_base.specs.Powerset.{Powerset};
 ghost use Rattle.automata_base.specs.Selections.{Pair};
 ghost use Rattle.automata_base.specs.Steps.{successor};
-ghost use Rattle.automata_base.specs.Tapes.{Forward, Backward, is_split};
-ghost use Rattle.automata_hybrid.specs.Bounds.{GivesUp, IsCacheError};
+ghost use Rattle.automata_base.specs.Tapes.{Forward, Backward, byte_before, is_split};
+ghost use Rattle.automata_hybrid.specs.Bounds.{GivesUp, IsCacheError, IsKnownTransition};
 ghost use Rattle.automata_hybrid.specs.Caches.{IsCacheOf, counted};
-ghost use Rattle.automata_hybrid.specs.Growing.{HasRoom, IsGrown};
+ghost use Rattle.automata_hybrid.specs.Growing.{ClearedNothing, HasRoom, IsGrown, IsStill};
+ghost use Rattle.automata_hybrid.specs.Knowing.{IsOfInput, KnowsItsStart, KnowsUnit};
+ghost use Rattle.automata_hybrid.specs.KnowingWalks.{HasLearnedUnits, KnowsItsState, KnowsUnits, KnowsWalk};
+ghost use Rattle.automata_hybrid.specs.Passing.{HasLearnedUnit, IsFollowed};
 ghost use Rattle.automata_hybrid.specs.Searches.{HasReadNoQuit, IsStepRefusal, NoQuitInReach, Skips, behind_offset, given_up_offset, state_in, tape_in, unit_offset};
 ghost use Rattle.automata_hybrid.specs.Slots.{supports};
 ghost use Rattle.automata_hybrid.specs.Starting.{IsStartRefusalAt, MayStart, quit_behind};
@@ -25,7 +28,7 @@ use crate::dfa::DFA;
 use crate::dfa::cache::Cache;
 use crate::id::LazyStateID;
 use crate::search::walk::{Held, OverlappingState, Way};
-use crate::search::{quit, refusal};
+use crate::search::{Stop, quit, refusal};
 use automata_base::laws::walk_is_right;
 use automata_base::util::pattern_set::PatternSet;
 use automata_base::util::search::{HalfMatch, Input};
@@ -145,6 +148,11 @@ impl DFA {
         ensures bounded { OnOk result (cache.new.count + state.old.units ≤ cache.old.count + state.new.units + start_count state.old.stage) }
         ensures most { cache.new.count ≤ cache.old.count + (input.now.end - input.now.start + 1 - state.old.units) + start_count state.old.stage }
 
+        // After a call that cleared nothing what it used is known. With all that known it takes no memory, and changes nothing
+        // but the progress.
+        ensures learned { ClearedNothing cache.old.store cache.new.store → OnOk result (KnowsWalk Forward self.now cache.new.store input.now state.old) }
+        ensures known { state.old.lost ≡ false → KnowsWalk Forward self.now cache.old.store input.now state.old → IsStill cache.old cache.new × IfErr result IsOfInput }
+
         // It grows the cache as one determinisation more would, and where the cache has the walk's state as those made do.
         ensures grown { IsGrown cache.old (counted cache.new) }
         ensures there { HasItsState cache.old.store.table state.old.stage → IsGrown cache.old cache.new }
@@ -194,6 +202,11 @@ impl DFA {
         ensures bounded { OnOk result (cache.new.count + state.old.units ≤ cache.old.count + state.new.units + start_count state.old.stage) }
         ensures most { cache.new.count ≤ cache.old.count + (input.now.end - input.now.start + 1 - state.old.units) + start_count state.old.stage }
 
+        // After a call that cleared nothing what it used is known. With all that known it takes no memory, and changes nothing
+        // but the progress.
+        ensures learned { ClearedNothing cache.old.store cache.new.store → OnOk result (KnowsWalk Backward self.now cache.new.store input.now state.old) }
+        ensures known { state.old.lost ≡ false → KnowsWalk Backward self.now cache.old.store input.now state.old → IsStill cache.old cache.new × IfErr result IsOfInput }
+
         // It grows the cache as one determinisation more would, and where the cache has the walk's state as those made do.
         ensures grown { IsGrown cache.old (counted cache.new) }
         ensures there { HasItsState cache.old.store.table state.old.stage → IsGrown cache.old cache.new }
@@ -222,6 +235,7 @@ impl DFA {
         ensures paths { IsLookAcyclic (nfa_of self.now.nfa) → OnOk result (ArePatternsFound (engine_of self.now.nfa self.now.kind) input.now (length patset.old) (members patset.old) (members patset.new)) }
         ensures capacity { length patset.new ≡ length patset.old }
         ensures errors { IfErr result (IsWhichRefusal self.now cache.new.store input.now patset.old patset.new) }
+        ensures unsupported { input.now.start ≤ input.now.end → quit_behind self.now (byte_before input.now.haystack input.now.start) ≡ None → supports self.now input.now.anchored ≡ false → result ≡ Err (SearchError.Match (UnsupportedMode input.now.anchored)) }
 
         // It does answer where no quit byte is in reach, the mode is supported, no clear limit is set, and memory is found.
         ensures answers { NoQuitInReach self.now input.now → supports self.now input.now.anchored ≡ true → self.now.minimum_clear_count ≡ None → IfErr result (λ e. e ≡ SearchError.OutOfMemory) }
@@ -251,6 +265,7 @@ impl DFA {
         ensures paths { IsLookAcyclic (nfa_of self.now.nfa) → OnOk result (ArePatternsFound (engine_of self.now.nfa self.now.kind) input.now (length patset.old) (members patset.old) (members patset.new)) }
         ensures capacity { length patset.new ≡ length patset.old }
         ensures errors { IfErr result (IsWhichRefusal self.now cache.new.store input.now patset.old patset.new) }
+        ensures unsupported { input.now.start ≤ input.now.end → quit_behind self.now (byte_before input.now.haystack input.now.start) ≡ None → supports self.now input.now.anchored ≡ false → result ≡ Err (SearchError.Match (UnsupportedMode input.now.anchored)) }
         ensures bounded { cache.new.count ≤ cache.old.count + (input.now.end - input.now.start + 2) }
         ensures grown { IsGrown cache.old cache.new }
     {
@@ -305,7 +320,10 @@ impl DFA {
         ensures counted { cache.new.count ≤ cache.old.count + 1 }
         ensures grown { IsGrown cache.old cache.new }
         ensures unsupported { quit_behind self.now (tape_in (way_of way) input.now).before ≡ None → supports self.now input.now.anchored ≡ false → result ≡ Err (SearchError.Match (UnsupportedMode input.now.anchored)) }
+        ensures idle { (MayStart self.now input.now.anchored (tape_in (way_of way) input.now).before → KnowsItsStart (way_of way) self.now cache.old.store input.now) → (cache.new ≡ cache.old) × IfErr result IsOfInput }
+        ensures learned { OnOk result (KnowsItsStart (way_of way) self.now cache.new.store input.now) }
     {
+        cache.see_slots();
         match way {
             Way::Forward => self.start_state_forward(cache, input),
             Way::Backward => self.start_state_reverse(cache, input),
@@ -355,6 +373,8 @@ impl DFA {
         ensures grown { IsGrown cache.old (counted cache.new) }
         ensures there { HasItsState cache.old.store.table walk.now.stage → IsGrown cache.old cache.new }
         ensures unsupported { walk.now.stage ≡ Fresh → quit_behind self.now (tape_in (way_of way) input.now).before ≡ None → supports self.now input.now.anchored ≡ false → result ≡ Err (SearchError.Match (UnsupportedMode input.now.anchored)) }
+        ensures idle { (MayStart self.now input.now.anchored (tape_in (way_of way) input.now).before → KnowsItsState (way_of way) self.now cache.old.store input.now walk.now.stage) → (cache.new ≡ cache.old) × IfErr result IsOfInput }
+        ensures learned { OnOk result (KnowsItsState (way_of way) self.now cache.new.store input.now walk.now.stage) }
     {
         if walk.is_fresh() {
             return self.walk_start(cache, input, way);
@@ -382,7 +402,11 @@ impl DFA {
         ensures clean { OnOk result (is_quit self.now.quits byte ≡ false) }
         ensures errors { IfErr result (λ e. (q : Powerset) → Names cache.old.store.table id q → IsStepRefusal self.now cache.new.store q (Some byte) quit_at at e) }
         ensures grown { IsGrown cache.old cache.new }
+        ensures idle { IsKnownTransition cache.old.store id (class_in self.now.classes byte) → (cache.new.count ≡ cache.old.count) × IfErr result IsOfInput }
+        ensures learned { ClearedNothing cache.old.store cache.new.store → OnOk result (IsKnownTransition cache.new.store id (class_in self.now.classes byte)) }
+        ensures below { class_in self.now.classes byte < self.now.stride }
     {
+        self.see_classes();
         let next = self.step(cache, id, byte, at)?;
         cache.see_ids();
         if next.is_quit() {
@@ -412,6 +436,8 @@ impl DFA {
         ensures reads { WalkReads (way_of way) self.now input.now place }
         ensures errors { IfErr result (IsUnitRefusal (way_of way) self.now cache.new.store input.now place) }
         ensures grown { IsGrown cache.old cache.new }
+        ensures idle { KnowsUnit (way_of way) self.now cache.old.store input.now place → (cache.new.count ≡ cache.old.count) × IfErr result IsOfInput }
+        ensures learned { ClearedNothing cache.old.store cache.new.store → OnOk result (HasLearnedUnit (way_of way) self.now cache.new.store input.now place) }
     {
         let _haystack = input.haystack();
         let at = span_offset(input, way, place);
@@ -447,6 +473,41 @@ impl DFA {
         !self.skips_at(input, place_offset(input, way, place))
     }
 
+    /// Follows known transitions without a tag, over units of a walk.
+    fn follow(
+        &self,
+        cache: &Cache,
+        input: &Input<'_>,
+        way: Way,
+        from: LazyStateID,
+        units: usize,
+    ) -> Stop
+        requires of { IsCacheOf cache.now self.now }
+        requires open { input.now.start ≤ input.now.end }
+        requires within { units ≤ input.now.end - input.now.start }
+        requires named { Names cache.now.store.table from (state_in (way_of way) self.now input.now units) }
+        ensures within { result.at ≤ input.now.end - input.now.start }
+        ensures followed { IsFollowed (way_of way) self.now cache.now.store input.now units result.at result.id }
+    {
+        let start = place_offset(input, way, units);
+        match way {
+            Way::Forward => {
+                let stop = self.follow_fwd(cache, input, start, from);
+                Stop {
+                    at: stop.at - input.start(),
+                    id: stop.id,
+                }
+            }
+            Way::Backward => {
+                let stop = self.follow_rev(cache, input, start, from);
+                Stop {
+                    at: input.end() - stop.at,
+                    id: stop.id,
+                }
+            }
+        }
+    }
+
     /// Goes on over the units of a walk from a state that it stands at, to the next one that tells patterns.
     fn advance(
         &self,
@@ -467,31 +528,34 @@ impl DFA {
         ensures most { cache.new.count + units ≤ cache.old.count + (input.now.end - input.now.start + 1) }
         ensures arrives { IfOk result (λ a. IsArrival (way_of way) self.now cache.new.store.table input.now units a.id a.units) }
         ensures errors { IfErr result (IsAdvanceRefusal (way_of way) self.now cache.new.store input.now units) }
+        ensures idle { (k : ℕ) → HasToldBy (way_of way) self.now input.now units k → KnowsUnits (way_of way) self.now cache.old.store input.now units k → (cache.new.count ≡ cache.old.count) × IfErr result IsOfInput }
+        ensures learned { ClearedNothing cache.old.store cache.new.store → IfOk result (λ a. HasLearnedUnits (way_of way) self.now cache.new.store input.now units a.units) }
     {
         let _haystack = input.haystack();
         let last = last_place(input);
         let mut id = from;
         let mut read = units;
         while read <= last {
-            let next = self.read_unit(cache, input, way, id, read)?;
-            let at = span_offset(input, way, read);
+            let stop = self.follow(cache, input, way, id, read);
+            let next = self.read_unit(cache, input, way, stop.id, stop.at)?;
+            let at = span_offset(input, way, stop.at);
             cache.see_ids();
             if next.is_dead() {
                 cache.end_search(at);
                 return Ok(Arrival {
                     id: None,
-                    units: read + 1,
+                    units: stop.at + 1,
                 });
             }
-            if self.tells(cache, input, way, next, read) {
+            if self.tells(cache, input, way, next, stop.at) {
                 cache.end_search(at);
                 return Ok(Arrival {
                     id: Some(next),
-                    units: read + 1,
+                    units: stop.at + 1,
                 });
             }
             id = next;
-            read += 1;
+            read = stop.at + 1;
         }
         cache.end_search(span_offset(input, way, last));
         Ok(Arrival {
@@ -527,6 +591,8 @@ impl DFA {
         ensures holds { OnOk result (HasItsState cache.new.store.table walk.new.stage) }
         ensures goes_on { OnOk result (GoesOn walk.old walk.new) }
         ensures unsupported { walk.old.stage ≡ Fresh → quit_behind self.now (tape_in (way_of way) input.now).before ≡ None → supports self.now input.now.anchored ≡ false → result ≡ Err (SearchError.Match (UnsupportedMode input.now.anchored)) }
+        ensures idle { KnowsWalk (way_of way) self.now cache.old.store input.now walk.old → IsStill cache.old cache.new × IfErr result IsOfInput }
+        ensures learned { ClearedNothing cache.old.store cache.new.store → OnOk result (KnowsWalk (way_of way) self.now cache.new.store input.now walk.old) }
     {
         self.see_skips();
         let _haystack = input.haystack();
@@ -603,6 +669,8 @@ impl DFA {
         ensures done { walk.old.lost ≡ false → input.now.end < input.now.start → IfErr result (λ e. ⊥) × (cache.new ≡ cache.old) }
         ensures goes_on { OnOk result (GoesOn walk.old walk.new) }
         ensures unsupported { walk.old.stage ≡ Fresh → input.now.start ≤ input.now.end → quit_behind self.now (tape_in (way_of way) input.now).before ≡ None → supports self.now input.now.anchored ≡ false → result ≡ Err (SearchError.Match (UnsupportedMode input.now.anchored)) }
+        ensures idle { walk.old.lost ≡ false → KnowsWalk (way_of way) self.now cache.old.store input.now walk.old → IsStill cache.old cache.new × IfErr result IsOfInput }
+        ensures learned { ClearedNothing cache.old.store cache.new.store → OnOk result (KnowsWalk (way_of way) self.now cache.new.store input.now walk.old) }
     {
         let _haystack = input.haystack();
         walk.forget_match();

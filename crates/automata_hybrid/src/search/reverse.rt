@@ -16,7 +16,7 @@ ghost use Rattle.automata_hybrid.specs.Bounds.{IsKnownTransition};
 ghost use Rattle.automata_hybrid.specs.Caches.{IsCacheOf};
 ghost use Rattle.automata_hybrid.specs.Growing.{IsGrown, IsStill, ClearedNothing, HasRoom};
 ghost use Rattle.automata_hybrid.specs.Knowing.{IsOfInput, KnowsItsStart, KnowsPass, Knows};
-ghost use Rattle.automata_hybrid.specs.Passing.{HasLearned, HasLearnedAll, IsAt, found_over};
+ghost use Rattle.automata_hybrid.specs.Passing.{HasLearned, HasLearnedAll, IsAt, IsFollowed, found_over};
 ghost use Rattle.automata_hybrid.specs.Searches.{IsFound, IsPassRefusal, IsRefused, IsStepRefusal, MeetsNoQuit, NoQuitInReach, Skips, WithoutBase, state_in, tape_in};
 ghost use Rattle.automata_hybrid.specs.Slots.{supports};
 ghost use Rattle.automata_hybrid.specs.Starting.{MayStart, quit_behind};
@@ -155,15 +155,20 @@ impl DFA {
     }
 
     /// Follows known transitions without a tag, from an ID without one.
-    fn follow_rev(&self, cache: &Cache, input: &Input<'_>, start: usize, from: LazyStateID) -> Stop
+    pub(super) fn follow_rev(
+        &self,
+        cache: &Cache,
+        input: &Input<'_>,
+        start: usize,
+        from: LazyStateID,
+    ) -> Stop
         requires of { IsCacheOf cache.now self.now }
         requires valid { IsValid cache.now.store.table from }
         requires from { input.now.start ≤ start }
         requires within { start ≤ input.now.end }
         ensures from { input.now.start ≤ result.at }
         ensures within { result.at ≤ start }
-        ensures at { (found : Option matches.HalfMatch) → IsAt Backward self.now cache.now.store.table input.now (input.now.end - start) from found → IsAt Backward self.now cache.now.store.table input.now (input.now.end - result.at) result.id found }
-        ensures learned { (found : Option matches.HalfMatch) → IsAt Backward self.now cache.now.store.table input.now (input.now.end - start) from found → HasLearned Backward self.now cache.now.store input.now (input.now.end - start) → HasLearned Backward self.now cache.now.store input.now (input.now.end - result.at) }
+        ensures followed { Names cache.now.store.table from (state_in Backward self.now input.now (input.now.end - start)) → IsFollowed Backward self.now cache.now.store input.now (input.now.end - start) (input.now.end - result.at) result.id }
     {
         if from.is_tagged() {
             return Stop {

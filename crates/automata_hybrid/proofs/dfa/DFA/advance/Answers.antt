@@ -1,14 +1,19 @@
-use Rattle.std.proofs.Common.{ℕ, suc, ◌≡◌, ◌+◌, ◌-◌, inl, inr, length, refl, subst, arith, ⊎_elim}
+use Rattle.std.proofs.Common.{ℕ, suc, ◌≡◌, ◌∙◌, ◌≤◌, ◌+◌, ◌-◌, inl, inr, length, refl, sym, subst, arith, ⊎_elim}
 use Rattle.automata_base.specs.Powerset.{dead}
 use Rattle.automata_base.specs.Tapes.{Direction}
+use Rattle.automata_hybrid.specs.Growing.{ClearedNothing}
+use Rattle.automata_hybrid.specs.KnowingWalks.{HasLearnedUnits}
+use Rattle.automata_hybrid.specs.Passing.{IsFollowed}
 use Rattle.automata_hybrid.specs.Searches.{HasReadNoQuit, state_in, tape_in}
-use Rattle.automata_hybrid.specs.Table.{Names}
+use Rattle.automata_hybrid.specs.Table.{Names, Rows}
 use Rattle.automata_hybrid.specs.Walking.{IsSilent}
 use Rattle.automata_hybrid.specs.Walks.{way_of}
-use Rattle.automata_hybrid.proofs.Growing.{grown_moved, grown_trans}
-use Rattle.automata_hybrid.proofs.Searching.{false_true}
+use Rattle.automata_hybrid.proofs.Following.{followed_clean, followed_silent}
+use Rattle.automata_hybrid.proofs.Growing.{grown_moved, grown_same, grown_trans, nothing_first, nothing_second}
+use Rattle.automata_hybrid.proofs.KnowingWalks.{unit_knows, units_more, units_moved, units_none}
+use Rattle.automata_hybrid.proofs.Searching.{false_true, if_err}
 use Rattle.automata_hybrid.proofs.Stepping.{dead_tagged}
-use Rattle.automata_hybrid.proofs.Walked.{clean_more, finish_dead, silent_step}
+use Rattle.automata_hybrid.proofs.Walked.{clean_more, finish_dead, finish_read, silent_same, silent_step}
 use Rattle.automata_hybrid.proofs.WalkUnits.{units_in}
 use Rattle.automata_hybrid.proofs.dfa.DFA.advance.Goals as goal
 
@@ -35,29 +40,154 @@ returns-clause-grown c =
 pub returns-then-is_dead-clause-arrives : goal.returns-then-is_dead-clause-arrives
 returns-then-is_dead-clause-arrives c =
     let d : Direction = way_of c.args.way in
-    let k : ℕ = c.loop-read.read in
+    let k : ℕ = c.follow-stop.result.at in
+    let f : IsFollowed d c.args.self.now c.loop-read.cache.store c.args.input.now c.loop-read.read k c.follow-stop.result.id = c.follow-stop.ensures.followed in
     let units : c.args.input.now.end - c.args.input.now.start ≡ length (tape_in d c.args.input.now).bytes = units_in d c.args.input.now c.requires.«open» c.haystack-haystack.ensures.within.1 in
     let dies : state_in d c.args.self.now c.args.input.now (suc k) ≡ dead = (dead_tagged c.read_unit.new.cache.store.table c.in_ok-next.next (c.see_ids.ensures.low c.in_ok-next.next) c.see_ids.ensures.small _ c.in_ok-next.ensures.leads).0 (c.if-is_dead.ensures.0 refl) in
-    finish_dead d c.args.self.now c.args.input.now c.args.units k _ c.loop-read.invariant.from (omega (arith, units, c.loop-read-test.true, c.last_place-last.ensures)) (omega arith)
-    (clean_more d c.args.self.now c.args.input.now k c.loop-read.invariant.clean c.in_ok-next.ensures.clean) dies c.loop-read.invariant.silent
+    finish_dead d c.args.self.now c.args.input.now c.args.units k _ (omega (arith, c.loop-read.invariant.from, f.more)) (omega (arith, units, c.follow-stop.ensures.within)) (omega arith)
+    (clean_more d c.args.self.now c.args.input.now k (followed_clean f c.loop-read.invariant.clean) c.in_ok-next.ensures.clean) dies (followed_silent f c.loop-read.invariant.silent)
 
 pub loop-read-preserved : goal.loop-read-preserved
 loop-read-preserved c =
     let d : Direction = way_of c.args.way in
-    let k : ℕ = c.loop-read.read in
+    let k : ℕ = c.follow-stop.result.at in
+    let f : IsFollowed d c.args.self.now c.loop-read.cache.store c.args.input.now c.loop-read.read k c.follow-stop.result.id = c.follow-stop.ensures.followed in
     let more : suc k ≡ k + 1 = omega arith in
     let named : Names c.read_unit.new.cache.store.table c.in_ok-next.next (state_in d c.args.self.now c.args.input.now (suc k)) = (dead_tagged c.read_unit.new.cache.store.table c.in_ok-next.next (c.see_ids.ensures.low c.in_ok-next.next) c.see_ids.ensures.small _ c.in_ok-next.ensures.leads).1 (λ b. false_true (c.if-is_dead.ensures.1 b)) in
-    let clean : HasReadNoQuit d c.args.self.now c.args.input.now (suc k) = clean_more d c.args.self.now c.args.input.now k c.loop-read.invariant.clean c.in_ok-next.ensures.clean in
+    let clean : HasReadNoQuit d c.args.self.now c.args.input.now (suc k) = clean_more d c.args.self.now c.args.input.now k (followed_clean f c.loop-read.invariant.clean) c.in_ok-next.ensures.clean in
     let silent : IsSilent d c.args.self.now c.args.input.now c.args.units (suc k) =
-    silent_step d c.args.self.now c.args.input.now c.args.units k c.loop-read.invariant.silent
+    silent_step d c.args.self.now c.args.input.now c.args.units k (followed_silent f c.loop-read.invariant.silent)
     (⊎_elim (λ s. inl s) (λ none. inr (none (state_in d c.args.self.now c.args.input.now (suc k)) named)) (c.tells.ensures.no c.if-tells.false)) in
     record {
       of = c.in_ok-next.ensures.of;
-      counted = omega (arith, c.loop-read.invariant.counted, c.in_ok-next.ensures.counted);
-      from = omega (arith, c.loop-read.invariant.from);
-      within = omega (arith, c.loop-read-test.true, c.last_place-last.ensures);
+      counted = omega (arith, c.loop-read.invariant.counted, c.in_ok-next.ensures.counted, f.more);
+      from = omega (arith, c.loop-read.invariant.from, f.more);
+      within = omega (arith, c.follow-stop.ensures.within);
       grown = grown_trans c.args.cache.now c.loop-read.cache c.read_unit.new.cache c.loop-read.invariant.grown c.in_ok-next.ensures.grown;
       named = subst (λ n. Names c.read_unit.new.cache.store.table c.in_ok-next.next (state_in d c.args.self.now c.args.input.now n)) more named;
       clean = subst (HasReadNoQuit d c.args.self.now c.args.input.now) more clean;
+      idle = λ n told knows. (
+          let from : c.args.units ≤ k = omega (arith, c.loop-read.invariant.from, f.more) in
+          let count : c.loop-read.cache.count ≡ c.args.cache.now.count = c.loop-read.invariant.idle n told knows in
+          let here = c.in_ok-next.ensures.idle (unit_knows d c.args.self.now c.args.cache.now c.loop-read.cache c.args.input.now c.args.units k n c.loop-read.invariant.grown count knows from c.in_ok-next.ensures.reads (followed_clean f c.loop-read.invariant.clean) (followed_silent f c.loop-read.invariant.silent n told)) in
+          here.0 ∙ count);
+      learned = λ nothing. (
+          let second : ClearedNothing c.loop-read.cache.store c.read_unit.new.cache.store = nothing_second c.args.cache.now c.loop-read.cache c.read_unit.new.cache c.loop-read.invariant.grown c.in_ok-next.ensures.grown nothing in
+          let first : ClearedNothing c.args.cache.now.store c.loop-read.cache.store = nothing_first c.args.cache.now c.loop-read.cache c.read_unit.new.cache c.loop-read.invariant.grown c.in_ok-next.ensures.grown nothing in
+          subst (HasLearnedUnits d c.args.self.now c.read_unit.new.cache.store c.args.input.now c.args.units) more
+          (units_more d c.args.self.now c.loop-read.cache c.read_unit.new.cache c.args.input.now c.args.units c.loop-read.read k c.follow-stop.result.id c.in_ok-next.ensures.grown second
+          (c.loop-read.invariant.learned first) f (c.in_ok-next.ensures.learned second)));
       silent = subst (IsSilent d c.args.self.now c.args.input.now c.args.units) more silent;
     }
+
+pub returns-in_err-next-clause-errors : goal.returns-in_err-next-clause-errors
+returns-in_err-next-clause-errors c =
+    let d : Direction = way_of c.args.way in
+    let k : ℕ = c.follow-stop.result.at in
+    let f : IsFollowed d c.args.self.now c.loop-read.cache.store c.args.input.now c.loop-read.read k c.follow-stop.result.id = c.follow-stop.ensures.followed in
+    if_err c.from_residual.result _ _ c.from_residual.ensures.1
+    (k, omega (arith, c.loop-read.invariant.from, f.more), c.in_err-next.ensures.reads, followed_clean f c.loop-read.invariant.clean, followed_silent f c.loop-read.invariant.silent, c.in_err-next.ensures.errors)
+
+pub returns-then-tells-clause-arrives : goal.returns-then-tells-clause-arrives
+returns-then-tells-clause-arrives c =
+    let d : Direction = way_of c.args.way in
+    let k : ℕ = c.follow-stop.result.at in
+    let f : IsFollowed d c.args.self.now c.loop-read.cache.store c.args.input.now c.loop-read.read k c.follow-stop.result.id = c.follow-stop.ensures.followed in
+    let units : c.args.input.now.end - c.args.input.now.start ≡ length (tape_in d c.args.input.now).bytes = units_in d c.args.input.now c.requires.«open» c.haystack-haystack.ensures.within.1 in
+    let more : suc k ≡ k + 1 = omega arith in
+    let named : Names c.read_unit.new.cache.store.table c.in_ok-next.next (state_in d c.args.self.now c.args.input.now (suc k)) = (dead_tagged c.read_unit.new.cache.store.table c.in_ok-next.next (c.see_ids.ensures.low c.in_ok-next.next) c.see_ids.ensures.small _ c.in_ok-next.ensures.leads).1 (λ b. false_true (c.if-is_dead.ensures.1 b)) in
+    let yes = c.tells.ensures.yes c.if-tells.true in
+    record {
+      place = k;
+      behind = sym more;
+      more = omega (arith, c.loop-read.invariant.from, f.more);
+      within = omega (arith, units, c.follow-stop.ensures.within);
+      named = subst (λ (t : Rows). Names t c.in_ok-next.next (state_in d c.args.self.now c.args.input.now (k + 1))) (sym c.end_search-then-tells.ensures.table) (subst (λ n. Names c.read_unit.new.cache.store.table c.in_ok-next.next (state_in d c.args.self.now c.args.input.now n)) more named);
+      clean = subst (HasReadNoQuit d c.args.self.now c.args.input.now) more (clean_more d c.args.self.now c.args.input.now k (followed_clean f c.loop-read.invariant.clean) c.in_ok-next.ensures.clean);
+      tells = λ q n. yes.1 q (subst (λ (t : Rows). Names t c.in_ok-next.next q) c.end_search-then-tells.ensures.table n);
+      unskipped = yes.0;
+      silent = followed_silent f c.loop-read.invariant.silent;
+    }
+
+pub returns-in_err-next-clause-idle : goal.returns-in_err-next-clause-idle
+returns-in_err-next-clause-idle c = λ n told knows.
+    let d : Direction = way_of c.args.way in
+    let k : ℕ = c.follow-stop.result.at in
+    let f : IsFollowed d c.args.self.now c.loop-read.cache.store c.args.input.now c.loop-read.read k c.follow-stop.result.id = c.follow-stop.ensures.followed in
+    let from : c.args.units ≤ k = omega (arith, c.loop-read.invariant.from, f.more) in
+    let count : c.loop-read.cache.count ≡ c.args.cache.now.count = c.loop-read.invariant.idle n told knows in
+    let here = c.in_err-next.ensures.idle (unit_knows d c.args.self.now c.args.cache.now c.loop-read.cache c.args.input.now c.args.units k n c.loop-read.invariant.grown count knows from c.in_err-next.ensures.reads (followed_clean f c.loop-read.invariant.clean) (followed_silent f c.loop-read.invariant.silent n told)) in
+    (here.0 ∙ count, if_err c.from_residual.result _ _ c.from_residual.ensures.1 here.1)
+
+pub returns-then-is_dead-clause-idle : goal.returns-then-is_dead-clause-idle
+returns-then-is_dead-clause-idle c = λ n told knows.
+    let d : Direction = way_of c.args.way in
+    let k : ℕ = c.follow-stop.result.at in
+    let f : IsFollowed d c.args.self.now c.loop-read.cache.store c.args.input.now c.loop-read.read k c.follow-stop.result.id = c.follow-stop.ensures.followed in
+    let from : c.args.units ≤ k = omega (arith, c.loop-read.invariant.from, f.more) in
+    let count : c.loop-read.cache.count ≡ c.args.cache.now.count = c.loop-read.invariant.idle n told knows in
+    let here = c.in_ok-next.ensures.idle (unit_knows d c.args.self.now c.args.cache.now c.loop-read.cache c.args.input.now c.args.units k n c.loop-read.invariant.grown count knows from c.in_ok-next.ensures.reads (followed_clean f c.loop-read.invariant.clean) (followed_silent f c.loop-read.invariant.silent n told)) in
+    (c.end_search.ensures.count ∙ (here.0 ∙ count), tt)
+
+pub returns-then-is_dead-clause-learned : goal.returns-then-is_dead-clause-learned
+returns-then-is_dead-clause-learned c =
+    let d : Direction = way_of c.args.way in
+    let k : ℕ = c.follow-stop.result.at in
+    let f : IsFollowed d c.args.self.now c.loop-read.cache.store c.args.input.now c.loop-read.read k c.follow-stop.result.id = c.follow-stop.ensures.followed in
+    units_moved d c.args.self.now c.args.input.now c.args.cache.now c.read_unit.new.cache c.end_search.new.self c.args.units _ c.end_search.ensures.value (λ nothing.
+    let second : ClearedNothing c.loop-read.cache.store c.read_unit.new.cache.store = nothing_second c.args.cache.now c.loop-read.cache c.read_unit.new.cache c.loop-read.invariant.grown c.in_ok-next.ensures.grown nothing in
+    let first : ClearedNothing c.args.cache.now.store c.loop-read.cache.store = nothing_first c.args.cache.now c.loop-read.cache c.read_unit.new.cache c.loop-read.invariant.grown c.in_ok-next.ensures.grown nothing in
+    let more : suc k ≡ k + 1 = omega arith in
+    subst (HasLearnedUnits d c.args.self.now c.read_unit.new.cache.store c.args.input.now c.args.units) more
+    (units_more d c.args.self.now c.loop-read.cache c.read_unit.new.cache c.args.input.now c.args.units c.loop-read.read k c.follow-stop.result.id c.in_ok-next.ensures.grown second
+    (c.loop-read.invariant.learned first) f (c.in_ok-next.ensures.learned second)))
+
+pub returns-then-tells-clause-idle : goal.returns-then-tells-clause-idle
+returns-then-tells-clause-idle c = λ n told knows.
+    let d : Direction = way_of c.args.way in
+    let k : ℕ = c.follow-stop.result.at in
+    let f : IsFollowed d c.args.self.now c.loop-read.cache.store c.args.input.now c.loop-read.read k c.follow-stop.result.id = c.follow-stop.ensures.followed in
+    let from : c.args.units ≤ k = omega (arith, c.loop-read.invariant.from, f.more) in
+    let count : c.loop-read.cache.count ≡ c.args.cache.now.count = c.loop-read.invariant.idle n told knows in
+    let here = c.in_ok-next.ensures.idle (unit_knows d c.args.self.now c.args.cache.now c.loop-read.cache c.args.input.now c.args.units k n c.loop-read.invariant.grown count knows from c.in_ok-next.ensures.reads (followed_clean f c.loop-read.invariant.clean) (followed_silent f c.loop-read.invariant.silent n told)) in
+    (c.end_search-then-tells.ensures.count ∙ (here.0 ∙ count), tt)
+
+pub returns-then-tells-clause-learned : goal.returns-then-tells-clause-learned
+returns-then-tells-clause-learned c =
+    let d : Direction = way_of c.args.way in
+    let k : ℕ = c.follow-stop.result.at in
+    let f : IsFollowed d c.args.self.now c.loop-read.cache.store c.args.input.now c.loop-read.read k c.follow-stop.result.id = c.follow-stop.ensures.followed in
+    units_moved d c.args.self.now c.args.input.now c.args.cache.now c.read_unit.new.cache c.end_search-then-tells.new.self c.args.units _ c.end_search-then-tells.ensures.value (λ nothing.
+    let second : ClearedNothing c.loop-read.cache.store c.read_unit.new.cache.store = nothing_second c.args.cache.now c.loop-read.cache c.read_unit.new.cache c.loop-read.invariant.grown c.in_ok-next.ensures.grown nothing in
+    let first : ClearedNothing c.args.cache.now.store c.loop-read.cache.store = nothing_first c.args.cache.now c.loop-read.cache c.read_unit.new.cache c.loop-read.invariant.grown c.in_ok-next.ensures.grown nothing in
+    let more : suc k ≡ k + 1 = omega arith in
+    subst (HasLearnedUnits d c.args.self.now c.read_unit.new.cache.store c.args.input.now c.args.units) more
+    (units_more d c.args.self.now c.loop-read.cache c.read_unit.new.cache c.args.input.now c.args.units c.loop-read.read k c.follow-stop.result.id c.in_ok-next.ensures.grown second
+    (c.loop-read.invariant.learned first) f (c.in_ok-next.ensures.learned second)))
+
+pub returns-clause-learned : goal.returns-clause-learned
+returns-clause-learned c =
+    units_moved (way_of c.args.way) c.args.self.now c.args.input.now c.args.cache.now c.loop-read.cache c.end_search-2.new.self c.args.units _ c.end_search-2.ensures.value c.loop-read.invariant.learned
+
+pub loop-read-init : goal.loop-read-init
+loop-read-init c =
+    let d : Direction = way_of c.args.way in
+    record {
+      of = c.requires.of;
+      counted = omega arith;
+      from = omega arith;
+      within = omega (arith, c.requires.within);
+      grown = grown_same c.args.cache.now c.args.cache.now refl;
+      named = c.requires.named;
+      clean = c.requires.clean;
+      idle = λ n told knows. refl;
+      learned = λ nothing. units_none d c.args.self.now c.args.cache.now.store c.args.input.now c.args.units;
+      silent = silent_same d c.args.self.now c.args.input.now c.args.units;
+    }
+
+pub returns-clause-arrives : goal.returns-clause-arrives
+returns-clause-arrives c =
+    let d : Direction = way_of c.args.way in
+    let units : c.args.input.now.end - c.args.input.now.start ≡ length (tape_in d c.args.input.now).bytes = units_in d c.args.input.now c.requires.«open» c.haystack-haystack.ensures.within.1 in
+    let all : c.loop-read.read ≡ suc (length (tape_in d c.args.input.now).bytes) = omega (arith, units, c.loop-read-test.false, c.last_place-last.ensures, c.loop-read.invariant.within) in
+    finish_read d c.args.self.now c.args.input.now c.args.units c.loop-read.read all c.loop-read.invariant.from c.loop-read.invariant.clean c.loop-read.invariant.silent

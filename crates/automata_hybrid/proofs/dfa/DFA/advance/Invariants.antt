@@ -1,9 +1,10 @@
-use Rattle.std.proofs.Common.{◌≤◌, ◌+◌, ◌-◌}
+use Rattle.std.proofs.Common.{ℕ, ◌≡◌, ◌≤◌, ◌+◌, ◌-◌}
 use Rattle.automata_hybrid.specs.Caches.{IsCacheOf}
-use Rattle.automata_hybrid.specs.Growing.{IsGrown}
+use Rattle.automata_hybrid.specs.Growing.{ClearedNothing, IsGrown}
+use Rattle.automata_hybrid.specs.KnowingWalks.{HasLearnedUnits, KnowsUnits}
 use Rattle.automata_hybrid.specs.Searches.{HasReadNoQuit, state_in}
 use Rattle.automata_hybrid.specs.Table.{Names}
-use Rattle.automata_hybrid.specs.Walking.{IsSilent}
+use Rattle.automata_hybrid.specs.Walking.{HasToldBy, IsSilent}
 use Rattle.automata_hybrid.specs.Walks.{way_of}
 use Rattle.automata_hybrid.proofs.dfa.DFA.advance.Given as goal
 
@@ -16,6 +17,8 @@ invariant-loop-read l = record {
   grown : IsGrown l.fn.cache l.cache;
   named : Names l.cache.store.table l.id (state_in (way_of l.way) l.self l.input l.read);
   clean : HasReadNoQuit (way_of l.way) l.self l.input l.read;
+  idle : (k : ℕ) → HasToldBy (way_of l.way) l.self l.input l.units k → KnowsUnits (way_of l.way) l.self l.fn.cache.store l.input l.units k → l.cache.count ≡ l.fn.cache.count;
+  learned : ClearedNothing l.fn.cache.store l.cache.store → HasLearnedUnits (way_of l.way) l.self l.cache.store l.input l.units l.read;
   silent : IsSilent (way_of l.way) l.self l.input l.units l.read;
 }
 

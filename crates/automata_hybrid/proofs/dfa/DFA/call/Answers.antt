@@ -1,11 +1,13 @@
-use Rattle.std.proofs.Common.{◌≡◌, ◌∙◌, ◌-◌, ◌≤◌, length, sym, ap, subst, arith}
+use Rattle.std.proofs.Common.{◌≡◌, ◌∙◌, ◌-◌, ◌<◌, ◌≤◌, length, refl, sym, ap, subst, arith}
 use Rattle.std.specs.Prelude.{OnOk, IfErr}
 use Rattle.automata_base.specs.Answers.{offset_in}
 use Rattle.automata_base.specs.Matches.{HalfMatch}
 use Rattle.automata_base.specs.Tapes.{Direction}
+use Rattle.automata_hybrid.specs.KnowingWalks.{KnowsWalk}
 use Rattle.automata_hybrid.specs.Searches.{tape_in}
 use Rattle.automata_hybrid.specs.Walking.{HasTold, IsWalkRefusal, TellsNext}
-use Rattle.automata_hybrid.specs.Walks.{Ended, Fresh, Walk, way_of}
+use Rattle.automata_hybrid.specs.Walks.{At, Ended, Fresh, Walk, way_of}
+use Rattle.automata_hybrid.proofs.KnowingWalks.{still_same}
 use Rattle.automata_hybrid.proofs.WalkCalls.{next_done, next_ended, next_read, next_same, undone}
 use Rattle.automata_hybrid.proofs.WalkUnits.{units_in}
 use Rattle.automata_hybrid.proofs.dfa.DFA.call.Goals as goal
@@ -55,3 +57,43 @@ returns-clause-errors c = λ kept k t.
 pub returns-then-is_lost-clause-unsupported : goal.returns-then-is_lost-clause-unsupported
 returns-then-is_lost-clause-unsupported c = λ fresh undone behind mode.
     absurd (c.is_lost.ensures.begun c.if-is_lost.true (subst (λ (w : Walk). w.stage ≡ Fresh) (sym c.forget_match.ensures) fresh))
+
+pub returns-then-has_ended-clause-learned : goal.returns-then-has_ended-clause-learned
+returns-then-has_ended-clause-learned c = λ nothing k told ready may.
+    absurd (ready.on (subst (λ (w : Walk). w.stage ≡ Ended) c.forget_match.ensures (c.has_ended.ensures.yes c.if-has_ended.true)))
+
+pub returns-then-is_done-clause-learned : goal.returns-then-is_done-clause-learned
+returns-then-is_done-clause-learned c = λ nothing k told ready may.
+    absurd (let done : c.args.input.now.end < c.args.input.now.start = c.is_done.ensures.done.0 c.if-is_done.true in omega (arith, done, ready.undone))
+
+pub returns-in-Some-clause-learned : goal.returns-in-Some-clause-learned
+returns-in-Some-clause-learned c = λ nothing k told ready may.
+    let left = c.in-Some.ensures.left in
+    let stage : c.args.walk.now.stage ≡ At left.0 = subst (λ (w : Walk). w.stage ≡ At left.0) c.forget_match.ensures left.1 in
+    let few : c.args.walk.now.told < length left.0.patterns = subst (λ (w : Walk). w.told < length left.0.patterns) c.forget_match.ensures left.2 in
+    absurd (let all : length left.0.patterns ≤ c.args.walk.now.told = ready.all_told left.0 stage in omega (arith, few, all))
+
+pub returns-then-units-last_place-clause-learned : goal.returns-then-units-last_place-clause-learned
+returns-then-units-last_place-clause-learned c = λ nothing k told ready may.
+    let units : c.units-2.result ≡ c.args.walk.now.units = c.units-2.ensures ∙ ap (λ (w : Walk). w.units) c.forget_match.ensures in
+    absurd (omega (arith, units, c.last_place.ensures, c.if-units-last_place.true, ready.left))
+
+pub returns-clause-learned : goal.returns-clause-learned
+returns-clause-learned c = λ nothing.
+    subst (λ (w : Walk). OnOk c.walk_on.result (KnowsWalk (way_of c.args.way) c.args.self.now c.walk_on.new.cache.store c.args.input.now w)) c.forget_match.ensures (c.walk_on.ensures.learned nothing)
+
+pub returns-clause-idle : goal.returns-clause-idle
+returns-clause-idle c = λ kept knows.
+    c.walk_on.ensures.idle (subst (λ (w : Walk). KnowsWalk (way_of c.args.way) c.args.self.now c.args.cache.now.store c.args.input.now w) (sym c.forget_match.ensures) knows)
+
+pub returns-then-has_ended-clause-idle : goal.returns-then-has_ended-clause-idle
+returns-then-has_ended-clause-idle c = λ kept knows. (still_same c.args.cache.now c.args.cache.now refl, tt)
+
+pub returns-then-is_done-clause-idle : goal.returns-then-is_done-clause-idle
+returns-then-is_done-clause-idle c = λ kept knows. (still_same c.args.cache.now c.args.cache.now refl, tt)
+
+pub returns-in-Some-clause-idle : goal.returns-in-Some-clause-idle
+returns-in-Some-clause-idle c = λ kept knows. (still_same c.args.cache.now c.args.cache.now refl, tt)
+
+pub returns-then-units-last_place-clause-idle : goal.returns-then-units-last_place-clause-idle
+returns-then-units-last_place-clause-idle c = λ kept knows. (still_same c.args.cache.now c.args.cache.now refl, tt)

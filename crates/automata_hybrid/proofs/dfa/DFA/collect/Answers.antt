@@ -1,4 +1,4 @@
-use Rattle.std.proofs.Common.{◌≡◌, ◌∙◌, List, Bool, true, length, set, Some, sym, ap, subst, arith}
+use Rattle.std.proofs.Common.{◌≡◌, ◌∙◌, List, Bool, true, length, set, Some, rules, sym, ap, subst, arith}
 use Rattle.automata_base.specs.Answers.{ArePatterns, IsOverlapping}
 use Rattle.automata_base.specs.Engines.{engine_of}
 use Rattle.automata_base.specs.PatternSet.{members}
@@ -6,8 +6,9 @@ use Rattle.automata_base.specs.Selections.{Pair}
 use Rattle.automata_base.specs.Tapes.{Forward}
 use Rattle.automata_base.specs.WalkLaws.{WalkIsRight, WalksAreTold}
 use Rattle.automata_hybrid.specs.Walking.{AreWalked}
+use Rattle.automata_hybrid.specs.Walks.{Fresh}
 use Rattle.automata_hybrid.proofs.Growing.{grown_trans}
-use Rattle.automata_hybrid.proofs.Searching.{if_err}
+use Rattle.automata_hybrid.proofs.Searching.{if_err, ok_err}
 use Rattle.automata_hybrid.proofs.WalkSets.{Joins, StandsWell, either, joins_all, joins_first, joins_full, joins_more, on_found, patterns_turn, stands_well, steps_less}
 use Rattle.automata_hybrid.proofs.dfa.DFA.collect.Goals as goal
 
@@ -104,7 +105,26 @@ loop-walk-preserved c =
       holds = c.in_ok-call.ensures.holds c.loop-walk.invariant.holds;
       counted = omega (arith, well.begun, c.in_ok-call.ensures.bounded, c.loop-walk.invariant.counted);
       few = well.units;
+      begins = λ not. absurd (ok_err (c.in_ok-call.ensures.unsupported (c.loop-walk.invariant.begins not) not.0 not.1 not.2));
       joins =
           subst (Joins c.args.self.now c.args.input.now c.call.new.walk c.args.patset.now) (sym put)
           (joins_more c.args.self.now c.args.input.now c.args.patset.now c.loop-walk.walk c.call.new.walk c.loop-walk.patset c.loop-walk.invariant.joins c.in_ok-call.ensures.tells list c.in-Some.half found (sym c.get_earliest.ensures ∙ c.if-get_earliest.false));
     }
+
+pub returns-in_err-call-clause-unsupported : goal.returns-in_err-call-clause-unsupported
+returns-in_err-call-clause-unsupported c = λ undone behind mode.
+    let fresh : c.loop-walk.walk.stage ≡ Fresh = c.loop-walk.invariant.begins (undone, behind, mode) in
+    let same = c.in_err-call.ensures.unsupported fresh undone behind mode in
+    search rules
+
+pub returns-in_default-clause-unsupported : goal.returns-in_default-clause-unsupported
+returns-in_default-clause-unsupported c = λ undone behind mode.
+    absurd (ok_err (c.in_ok-call.ensures.unsupported (c.loop-walk.invariant.begins (undone, behind, mode)) undone behind mode))
+
+pub returns-then-is_full-clause-unsupported : goal.returns-then-is_full-clause-unsupported
+returns-then-is_full-clause-unsupported c = λ undone behind mode.
+    absurd (ok_err (c.in_ok-call.ensures.unsupported (c.loop-walk.invariant.begins (undone, behind, mode)) undone behind mode))
+
+pub returns-then-get_earliest-clause-unsupported : goal.returns-then-get_earliest-clause-unsupported
+returns-then-get_earliest-clause-unsupported c = λ undone behind mode.
+    absurd (ok_err (c.in_ok-call.ensures.unsupported (c.loop-walk.invariant.begins (undone, behind, mode)) undone behind mode))

@@ -1,8 +1,9 @@
-use Rattle.std.proofs.Common.{◌≤◌, ◌+◌, ◌-◌}
+use Rattle.std.proofs.Common.{◌≡◌, ◌≤◌, ◌+◌, ◌-◌}
 use Rattle.automata_hybrid.specs.Caches.{IsCacheOf}
 use Rattle.automata_hybrid.specs.Growing.{IsGrown}
 use Rattle.automata_hybrid.specs.Walking.{HasItsState, start_count}
-use Rattle.automata_hybrid.proofs.WalkSets.{Joins, steps_left}
+use Rattle.automata_hybrid.specs.Walks.{Fresh}
+use Rattle.automata_hybrid.proofs.WalkSets.{Joins, MayNotStart, steps_left}
 use Rattle.automata_hybrid.proofs.dfa.DFA.collect.Given as goal
 
 abbrev pub invariant-loop-walk : goal.invariant-loop-walk
@@ -12,6 +13,7 @@ invariant-loop-walk l = record {
   holds : HasItsState l.cache.store.table l.walk.stage;
   counted : l.cache.count + start_count l.walk.stage ≤ l.fn.cache.count + l.walk.units + 1;
   few : l.walk.units ≤ l.input.end - l.input.start + 1;
+  begins : MayNotStart l.self l.input → l.walk.stage ≡ Fresh;
   joins : Joins l.self l.input l.walk l.fn.patset l.patset;
 }
 

@@ -7,6 +7,7 @@ use Rattle.automata_hybrid.specs.Growing.{ClearedNothing}
 use Rattle.automata_hybrid.specs.Knowing.{KnowsPass}
 use Rattle.automata_hybrid.specs.Passing.{HasLearned, IsAt}
 use Rattle.automata_hybrid.specs.Searches.{tape_in}
+use Rattle.automata_hybrid.proofs.Following.{followed_at, followed_learned}
 use Rattle.automata_hybrid.proofs.Growing.{grown_moved, grown_same, grown_trans, nothing_first, nothing_second}
 use Rattle.automata_hybrid.proofs.Knowing.{knows_here, knows_still, learned_ends, learned_moved, learned_none, learned_step}
 use Rattle.automata_hybrid.proofs.Searching.{stops_dead, stops_ends, more_leads, more_at, more_dead, clean_dead, more_ends, clean_ends, starts_at, step_refuses, if_err, false_true, some_is, none_is}
@@ -31,7 +32,7 @@ loop-at-init c =
 pub find_end_fwd-requires-clause-at : goal.find_end_fwd-requires-clause-at
 find_end_fwd-requires-clause-at c =
     let same : c.follow_fwd-stop.result.at - c.args.input.now.start ≡ c.args.input.now.end - c.args.input.now.start = omega (arith, c.if-stop-end.true, c.follow_fwd-stop.ensures.within, c.end-in-loop-at.ensures.end) in
-    subst (λ k. IsAt Forward c.args.self.now c.loop-at.cache.store.table c.args.input.now k c.follow_fwd-stop.result.id c.loop-at.found) same (c.follow_fwd-stop.ensures.at c.loop-at.found c.loop-at.invariant.at)
+    subst (λ k. IsAt Forward c.args.self.now c.loop-at.cache.store.table c.args.input.now k c.follow_fwd-stop.result.id c.loop-at.found) same (followed_at (c.follow_fwd-stop.ensures.followed c.loop-at.invariant.at.named) c.loop-at.invariant.at)
 
 pub returns-in_err-next-clause-errors : goal.returns-in_err-next-clause-errors
 returns-in_err-next-clause-errors c =
@@ -39,7 +40,7 @@ returns-in_err-next-clause-errors c =
     let inside : c.follow_fwd-stop.result.at < c.args.input.now.end = omega (arith, c.if-stop-end.false, c.end-in-loop-at.ensures.end) in
     let k : ℕ = c.follow_fwd-stop.result.at - c.args.input.now.start in
     let place : c.follow_fwd-stop.result.at ≡ c.args.input.now.start + k = omega (arith, from) in
-    let at : IsAt Forward c.args.self.now c.loop-at.cache.store.table c.args.input.now k c.follow_fwd-stop.result.id c.loop-at.found = c.follow_fwd-stop.ensures.at c.loop-at.found c.loop-at.invariant.at in
+    let at : IsAt Forward c.args.self.now c.loop-at.cache.store.table c.args.input.now k c.follow_fwd-stop.result.id c.loop-at.found = followed_at (c.follow_fwd-stop.ensures.followed c.loop-at.invariant.at.named) c.loop-at.invariant.at in
     let read : next (tape_in Forward c.args.input.now) k ≡ Some _ = forward_read c.args.input.now c.haystack.result.now c.follow_fwd-stop.result.at c.follow_fwd-stop.result.at from (omega (arith, inside)) c.end-in-loop-at.ensures.within.1 (omega (arith, inside, c.end-in-loop-at.ensures.within.1)) c.haystack.ensures.same refl in
     let few : k ≤ length (tape_in Forward c.args.input.now).bytes = (let u : c.args.input.now.end - c.args.input.now.start ≡ length (tape_in Forward c.args.input.now).bytes = forward_units c.args.input.now c.requires.open c.end-in-loop-at.ensures.within.1 in omega (arith, u, inside)) in
     if_err c.from_residual.result _ _ c.from_residual.ensures.1
@@ -52,7 +53,7 @@ returns-then-is_dead-clause-found c =
     let inside : c.follow_fwd-stop.result.at < c.args.input.now.end = omega (arith, c.if-stop-end.false, c.end-in-loop-at.ensures.end) in
     let k : ℕ = c.follow_fwd-stop.result.at - c.args.input.now.start in
     let place : c.follow_fwd-stop.result.at ≡ c.args.input.now.start + k = omega (arith, from) in
-    let at : IsAt Forward c.args.self.now c.loop-at.cache.store.table c.args.input.now k c.follow_fwd-stop.result.id c.loop-at.found = c.follow_fwd-stop.ensures.at c.loop-at.found c.loop-at.invariant.at in
+    let at : IsAt Forward c.args.self.now c.loop-at.cache.store.table c.args.input.now k c.follow_fwd-stop.result.id c.loop-at.found = followed_at (c.follow_fwd-stop.ensures.followed c.loop-at.invariant.at.named) c.loop-at.invariant.at in
     let read : next (tape_in Forward c.args.input.now) k ≡ Some _ = forward_read c.args.input.now c.haystack.result.now c.follow_fwd-stop.result.at c.follow_fwd-stop.result.at from (omega (arith, inside)) c.end-in-loop-at.ensures.within.1 (omega (arith, inside, c.end-in-loop-at.ensures.within.1)) c.haystack.ensures.same refl in
     let few : k ≤ length (tape_in Forward c.args.input.now).bytes = (let u : c.args.input.now.end - c.args.input.now.start ≡ length (tape_in Forward c.args.input.now).bytes = forward_units c.args.input.now c.requires.open c.end-in-loop-at.ensures.within.1 in omega (arith, u, inside)) in
     more_dead Forward c.args.self.now c.loop-at.cache.store.table c.read.new.cache.store.table c.args.input.now k c.follow_fwd-stop.result.id c.in_ok-next.next _ c.loop-at.found None at read c.in_ok-next.ensures.named (λ byte e. subst (λ v. is_quit c.args.self.now.quits v ≡ false) (some_inj e) c.in_ok-next.ensures.clean) (λ l. (c.in_ok-next.ensures.dead _ l).0 (c.if-is_dead.ensures.0 refl)) few
@@ -63,7 +64,7 @@ returns-then-is_dead-clause-clean c =
     let inside : c.follow_fwd-stop.result.at < c.args.input.now.end = omega (arith, c.if-stop-end.false, c.end-in-loop-at.ensures.end) in
     let k : ℕ = c.follow_fwd-stop.result.at - c.args.input.now.start in
     let place : c.follow_fwd-stop.result.at ≡ c.args.input.now.start + k = omega (arith, from) in
-    let at : IsAt Forward c.args.self.now c.loop-at.cache.store.table c.args.input.now k c.follow_fwd-stop.result.id c.loop-at.found = c.follow_fwd-stop.ensures.at c.loop-at.found c.loop-at.invariant.at in
+    let at : IsAt Forward c.args.self.now c.loop-at.cache.store.table c.args.input.now k c.follow_fwd-stop.result.id c.loop-at.found = followed_at (c.follow_fwd-stop.ensures.followed c.loop-at.invariant.at.named) c.loop-at.invariant.at in
     let read : next (tape_in Forward c.args.input.now) k ≡ Some _ = forward_read c.args.input.now c.haystack.result.now c.follow_fwd-stop.result.at c.follow_fwd-stop.result.at from (omega (arith, inside)) c.end-in-loop-at.ensures.within.1 (omega (arith, inside, c.end-in-loop-at.ensures.within.1)) c.haystack.ensures.same refl in
     let few : k ≤ length (tape_in Forward c.args.input.now).bytes = (let u : c.args.input.now.end - c.args.input.now.start ≡ length (tape_in Forward c.args.input.now).bytes = forward_units c.args.input.now c.requires.open c.end-in-loop-at.ensures.within.1 in omega (arith, u, inside)) in
     clean_dead Forward c.args.self.now c.loop-at.cache.store.table c.read.new.cache.store.table c.args.input.now k c.follow_fwd-stop.result.id c.in_ok-next.next _ c.loop-at.found None at read c.in_ok-next.ensures.named (λ byte e. subst (λ v. is_quit c.args.self.now.quits v ≡ false) (some_inj e) c.in_ok-next.ensures.clean) (λ l. (c.in_ok-next.ensures.dead _ l).0 (c.if-is_dead.ensures.0 refl)) c.requires.may.0
@@ -74,7 +75,7 @@ found_at-found-requires-clause-leads c =
     let inside : c.follow_fwd-stop.result.at < c.args.input.now.end = omega (arith, c.if-stop-end.false, c.end-in-loop-at.ensures.end) in
     let k : ℕ = c.follow_fwd-stop.result.at - c.args.input.now.start in
     let place : c.follow_fwd-stop.result.at ≡ c.args.input.now.start + k = omega (arith, from) in
-    let at : IsAt Forward c.args.self.now c.loop-at.cache.store.table c.args.input.now k c.follow_fwd-stop.result.id c.loop-at.found = c.follow_fwd-stop.ensures.at c.loop-at.found c.loop-at.invariant.at in
+    let at : IsAt Forward c.args.self.now c.loop-at.cache.store.table c.args.input.now k c.follow_fwd-stop.result.id c.loop-at.found = followed_at (c.follow_fwd-stop.ensures.followed c.loop-at.invariant.at.named) c.loop-at.invariant.at in
     let read : next (tape_in Forward c.args.input.now) k ≡ Some _ = forward_read c.args.input.now c.haystack.result.now c.follow_fwd-stop.result.at c.follow_fwd-stop.result.at from (omega (arith, inside)) c.end-in-loop-at.ensures.within.1 (omega (arith, inside, c.end-in-loop-at.ensures.within.1)) c.haystack.ensures.same refl in
     let few : k ≤ length (tape_in Forward c.args.input.now).bytes = (let u : c.args.input.now.end - c.args.input.now.start ≡ length (tape_in Forward c.args.input.now).bytes = forward_units c.args.input.now c.requires.open c.end-in-loop-at.ensures.within.1 in omega (arith, u, inside)) in
     (_, more_leads Forward c.args.self.now c.loop-at.cache.store.table c.read.new.cache.store.table c.args.input.now k c.follow_fwd-stop.result.id c.in_ok-next.next _ c.loop-at.found None at read c.in_ok-next.ensures.named (λ byte e. subst (λ v. is_quit c.args.self.now.quits v ≡ false) (some_inj e) c.in_ok-next.ensures.clean))
@@ -85,7 +86,7 @@ returns-then-is_some-clause-found c =
     let inside : c.follow_fwd-stop.result.at < c.args.input.now.end = omega (arith, c.if-stop-end.false, c.end-in-loop-at.ensures.end) in
     let k : ℕ = c.follow_fwd-stop.result.at - c.args.input.now.start in
     let place : c.follow_fwd-stop.result.at ≡ c.args.input.now.start + k = omega (arith, from) in
-    let at : IsAt Forward c.args.self.now c.loop-at.cache.store.table c.args.input.now k c.follow_fwd-stop.result.id c.loop-at.found = c.follow_fwd-stop.ensures.at c.loop-at.found c.loop-at.invariant.at in
+    let at : IsAt Forward c.args.self.now c.loop-at.cache.store.table c.args.input.now k c.follow_fwd-stop.result.id c.loop-at.found = followed_at (c.follow_fwd-stop.ensures.followed c.loop-at.invariant.at.named) c.loop-at.invariant.at in
     let read : next (tape_in Forward c.args.input.now) k ≡ Some _ = forward_read c.args.input.now c.haystack.result.now c.follow_fwd-stop.result.at c.follow_fwd-stop.result.at from (omega (arith, inside)) c.end-in-loop-at.ensures.within.1 (omega (arith, inside, c.end-in-loop-at.ensures.within.1)) c.haystack.ensures.same refl in
     let few : k ≤ length (tape_in Forward c.args.input.now).bytes = (let u : c.args.input.now.end - c.args.input.now.start ≡ length (tape_in Forward c.args.input.now).bytes = forward_units c.args.input.now c.requires.open c.end-in-loop-at.ensures.within.1 in omega (arith, u, inside)) in
     more_ends Forward c.args.self.now c.loop-at.cache.store.table c.read.new.cache.store.table c.args.input.now k c.follow_fwd-stop.result.id c.in_ok-next.next _ c.loop-at.found c.found_at-found.result at read c.in_ok-next.ensures.named (λ byte e. subst (λ v. is_quit c.args.self.now.quits v ≡ false) (some_inj e) c.in_ok-next.ensures.clean) (c.follow_fwd-stop.result.at, place, c.found_at-found.ensures) few (sym c.get_earliest.ensures ∙ c.if-get_earliest.true) (some_is c.found_at-found.result c.if-is_some.ensures)
@@ -96,7 +97,7 @@ returns-then-is_some-clause-clean c =
     let inside : c.follow_fwd-stop.result.at < c.args.input.now.end = omega (arith, c.if-stop-end.false, c.end-in-loop-at.ensures.end) in
     let k : ℕ = c.follow_fwd-stop.result.at - c.args.input.now.start in
     let place : c.follow_fwd-stop.result.at ≡ c.args.input.now.start + k = omega (arith, from) in
-    let at : IsAt Forward c.args.self.now c.loop-at.cache.store.table c.args.input.now k c.follow_fwd-stop.result.id c.loop-at.found = c.follow_fwd-stop.ensures.at c.loop-at.found c.loop-at.invariant.at in
+    let at : IsAt Forward c.args.self.now c.loop-at.cache.store.table c.args.input.now k c.follow_fwd-stop.result.id c.loop-at.found = followed_at (c.follow_fwd-stop.ensures.followed c.loop-at.invariant.at.named) c.loop-at.invariant.at in
     let read : next (tape_in Forward c.args.input.now) k ≡ Some _ = forward_read c.args.input.now c.haystack.result.now c.follow_fwd-stop.result.at c.follow_fwd-stop.result.at from (omega (arith, inside)) c.end-in-loop-at.ensures.within.1 (omega (arith, inside, c.end-in-loop-at.ensures.within.1)) c.haystack.ensures.same refl in
     let few : k ≤ length (tape_in Forward c.args.input.now).bytes = (let u : c.args.input.now.end - c.args.input.now.start ≡ length (tape_in Forward c.args.input.now).bytes = forward_units c.args.input.now c.requires.open c.end-in-loop-at.ensures.within.1 in omega (arith, u, inside)) in
     clean_ends Forward c.args.self.now c.loop-at.cache.store.table c.read.new.cache.store.table c.args.input.now k c.follow_fwd-stop.result.id c.in_ok-next.next _ c.loop-at.found c.found_at-found.result at read c.in_ok-next.ensures.named (λ byte e. subst (λ v. is_quit c.args.self.now.quits v ≡ false) (some_inj e) c.in_ok-next.ensures.clean) (c.follow_fwd-stop.result.at, place, c.found_at-found.ensures) (sym c.get_earliest.ensures ∙ c.if-get_earliest.true) (some_is c.found_at-found.result c.if-is_some.ensures) c.requires.may.0
@@ -107,7 +108,7 @@ loop-at-preserved c =
     let inside : c.follow_fwd-stop.result.at < c.args.input.now.end = omega (arith, c.if-stop-end.false, c.end-in-loop-at.ensures.end) in
     let k : ℕ = c.follow_fwd-stop.result.at - c.args.input.now.start in
     let place : c.follow_fwd-stop.result.at ≡ c.args.input.now.start + k = omega (arith, from) in
-    let at : IsAt Forward c.args.self.now c.loop-at.cache.store.table c.args.input.now k c.follow_fwd-stop.result.id c.loop-at.found = c.follow_fwd-stop.ensures.at c.loop-at.found c.loop-at.invariant.at in
+    let at : IsAt Forward c.args.self.now c.loop-at.cache.store.table c.args.input.now k c.follow_fwd-stop.result.id c.loop-at.found = followed_at (c.follow_fwd-stop.ensures.followed c.loop-at.invariant.at.named) c.loop-at.invariant.at in
     let read : next (tape_in Forward c.args.input.now) k ≡ Some _ = forward_read c.args.input.now c.haystack.result.now c.follow_fwd-stop.result.at c.follow_fwd-stop.result.at from (omega (arith, inside)) c.end-in-loop-at.ensures.within.1 (omega (arith, inside, c.end-in-loop-at.ensures.within.1)) c.haystack.ensures.same refl in
     let few : k ≤ length (tape_in Forward c.args.input.now).bytes = (let u : c.args.input.now.end - c.args.input.now.start ≡ length (tape_in Forward c.args.input.now).bytes = forward_units c.args.input.now c.requires.open c.end-in-loop-at.ensures.within.1 in omega (arith, u, inside)) in
     let first : c.args.input.now.earliest ≡ true → c.found_at-found.result ≡ None =
@@ -128,7 +129,7 @@ loop-at-preserved c =
           let before = c.loop-at.invariant.learned begin (nothing_first c.args.cache.now c.loop-at.cache c.read.new.cache c.loop-at.invariant.grown c.in_ok-next.ensures.grown nothing) in
           let after : ClearedNothing c.loop-at.cache.store c.read.new.cache.store = nothing_second c.args.cache.now c.loop-at.cache c.read.new.cache c.loop-at.invariant.grown c.in_ok-next.ensures.grown nothing in
           let step = learned_step Forward c.args.self.now c.loop-at.cache c.read.new.cache c.args.input.now k c.follow_fwd-stop.result.id (Some _) c.in_ok-next.ensures.grown c.in_ok-next.ensures.of after before.0
-          (c.follow_fwd-stop.ensures.learned c.loop-at.found c.loop-at.invariant.at before.1) at.named read (c.in_ok-next.ensures.learned after) c.in_ok-next.ensures.below in
+          (followed_learned (c.follow_fwd-stop.ensures.followed c.loop-at.invariant.at.named) before.1) at.named read (c.in_ok-next.ensures.learned after) c.in_ok-next.ensures.below in
           (step.0, subst (HasLearned Forward c.args.self.now c.read.new.cache.store c.args.input.now) more step.1));
       from = omega (arith, from);
       within = omega (arith, inside);
@@ -147,7 +148,7 @@ returns-then-is_dead-clause-idle c = λ knows.
     let inside : c.follow_fwd-stop.result.at < c.args.input.now.end = omega (arith, c.if-stop-end.false, c.end-in-loop-at.ensures.end) in
     let k : ℕ = c.follow_fwd-stop.result.at - c.args.input.now.start in
     let place : c.follow_fwd-stop.result.at ≡ c.args.input.now.start + k = omega (arith, from) in
-    let at : IsAt Forward c.args.self.now c.loop-at.cache.store.table c.args.input.now k c.follow_fwd-stop.result.id c.loop-at.found = c.follow_fwd-stop.ensures.at c.loop-at.found c.loop-at.invariant.at in
+    let at : IsAt Forward c.args.self.now c.loop-at.cache.store.table c.args.input.now k c.follow_fwd-stop.result.id c.loop-at.found = followed_at (c.follow_fwd-stop.ensures.followed c.loop-at.invariant.at.named) c.loop-at.invariant.at in
     let read : next (tape_in Forward c.args.input.now) k ≡ Some _ = forward_read c.args.input.now c.haystack.result.now c.follow_fwd-stop.result.at c.follow_fwd-stop.result.at from (omega (arith, inside)) c.end-in-loop-at.ensures.within.1 (omega (arith, inside, c.end-in-loop-at.ensures.within.1)) c.haystack.ensures.same refl in
     let few : k ≤ length (tape_in Forward c.args.input.now).bytes = (let u : c.args.input.now.end - c.args.input.now.start ≡ length (tape_in Forward c.args.input.now).bytes = forward_units c.args.input.now c.requires.open c.end-in-loop-at.ensures.within.1 in omega (arith, u, inside)) in
     let still : KnowsPass Forward c.args.self.now c.loop-at.cache.store c.args.input.now = knows_still Forward c.args.self.now c.args.input.now c.args.cache.now c.loop-at.cache c.loop-at.invariant.grown (c.loop-at.invariant.idle knows) knows in
@@ -160,7 +161,7 @@ returns-then-is_dead-clause-learned c = λ begin.
     let inside : c.follow_fwd-stop.result.at < c.args.input.now.end = omega (arith, c.if-stop-end.false, c.end-in-loop-at.ensures.end) in
     let k : ℕ = c.follow_fwd-stop.result.at - c.args.input.now.start in
     let place : c.follow_fwd-stop.result.at ≡ c.args.input.now.start + k = omega (arith, from) in
-    let at : IsAt Forward c.args.self.now c.loop-at.cache.store.table c.args.input.now k c.follow_fwd-stop.result.id c.loop-at.found = c.follow_fwd-stop.ensures.at c.loop-at.found c.loop-at.invariant.at in
+    let at : IsAt Forward c.args.self.now c.loop-at.cache.store.table c.args.input.now k c.follow_fwd-stop.result.id c.loop-at.found = followed_at (c.follow_fwd-stop.ensures.followed c.loop-at.invariant.at.named) c.loop-at.invariant.at in
     let read : next (tape_in Forward c.args.input.now) k ≡ Some _ = forward_read c.args.input.now c.haystack.result.now c.follow_fwd-stop.result.at c.follow_fwd-stop.result.at from (omega (arith, inside)) c.end-in-loop-at.ensures.within.1 (omega (arith, inside, c.end-in-loop-at.ensures.within.1)) c.haystack.ensures.same refl in
     let few : k ≤ length (tape_in Forward c.args.input.now).bytes = (let u : c.args.input.now.end - c.args.input.now.start ≡ length (tape_in Forward c.args.input.now).bytes = forward_units c.args.input.now c.requires.open c.end-in-loop-at.ensures.within.1 in omega (arith, u, inside)) in
     learned_moved Forward c.args.self.now c.args.input.now c.args.cache.now c.read.new.cache c.end_search.new.self c.end_search.ensures.value (λ nothing.
@@ -168,7 +169,7 @@ returns-then-is_dead-clause-learned c = λ begin.
     learned_ends Forward c.args.self.now c.loop-at.cache c.read.new.cache c.args.input.now k c.follow_fwd-stop.result.id (Some _) c.in_ok-next.ensures.grown c.in_ok-next.ensures.of at.named read
     c.in_ok-next.ensures.learned c.in_ok-next.ensures.below
     (stops_dead Forward c.args.self.now c.loop-at.cache.store.table c.read.new.cache.store.table c.args.input.now k c.follow_fwd-stop.result.id c.in_ok-next.next _ c.loop-at.found None at read c.in_ok-next.ensures.named (λ byte e. subst (λ v. is_quit c.args.self.now.quits v ≡ false) (some_inj e) c.in_ok-next.ensures.clean) (λ l. (c.in_ok-next.ensures.dead _ l).0 (c.if-is_dead.ensures.0 refl)))
-    before.0 (c.follow_fwd-stop.ensures.learned c.loop-at.found c.loop-at.invariant.at before.1)
+    before.0 (followed_learned (c.follow_fwd-stop.ensures.followed c.loop-at.invariant.at.named) before.1)
     (nothing_second c.args.cache.now c.loop-at.cache c.read.new.cache c.loop-at.invariant.grown c.in_ok-next.ensures.grown nothing))
 
 pub returns-then-is_some-clause-grown : goal.returns-then-is_some-clause-grown
@@ -183,7 +184,7 @@ returns-then-is_some-clause-idle c = λ knows.
     let inside : c.follow_fwd-stop.result.at < c.args.input.now.end = omega (arith, c.if-stop-end.false, c.end-in-loop-at.ensures.end) in
     let k : ℕ = c.follow_fwd-stop.result.at - c.args.input.now.start in
     let place : c.follow_fwd-stop.result.at ≡ c.args.input.now.start + k = omega (arith, from) in
-    let at : IsAt Forward c.args.self.now c.loop-at.cache.store.table c.args.input.now k c.follow_fwd-stop.result.id c.loop-at.found = c.follow_fwd-stop.ensures.at c.loop-at.found c.loop-at.invariant.at in
+    let at : IsAt Forward c.args.self.now c.loop-at.cache.store.table c.args.input.now k c.follow_fwd-stop.result.id c.loop-at.found = followed_at (c.follow_fwd-stop.ensures.followed c.loop-at.invariant.at.named) c.loop-at.invariant.at in
     let read : next (tape_in Forward c.args.input.now) k ≡ Some _ = forward_read c.args.input.now c.haystack.result.now c.follow_fwd-stop.result.at c.follow_fwd-stop.result.at from (omega (arith, inside)) c.end-in-loop-at.ensures.within.1 (omega (arith, inside, c.end-in-loop-at.ensures.within.1)) c.haystack.ensures.same refl in
     let few : k ≤ length (tape_in Forward c.args.input.now).bytes = (let u : c.args.input.now.end - c.args.input.now.start ≡ length (tape_in Forward c.args.input.now).bytes = forward_units c.args.input.now c.requires.open c.end-in-loop-at.ensures.within.1 in omega (arith, u, inside)) in
     let still : KnowsPass Forward c.args.self.now c.loop-at.cache.store c.args.input.now = knows_still Forward c.args.self.now c.args.input.now c.args.cache.now c.loop-at.cache c.loop-at.invariant.grown (c.loop-at.invariant.idle knows) knows in
@@ -196,7 +197,7 @@ returns-then-is_some-clause-learned c = λ begin.
     let inside : c.follow_fwd-stop.result.at < c.args.input.now.end = omega (arith, c.if-stop-end.false, c.end-in-loop-at.ensures.end) in
     let k : ℕ = c.follow_fwd-stop.result.at - c.args.input.now.start in
     let place : c.follow_fwd-stop.result.at ≡ c.args.input.now.start + k = omega (arith, from) in
-    let at : IsAt Forward c.args.self.now c.loop-at.cache.store.table c.args.input.now k c.follow_fwd-stop.result.id c.loop-at.found = c.follow_fwd-stop.ensures.at c.loop-at.found c.loop-at.invariant.at in
+    let at : IsAt Forward c.args.self.now c.loop-at.cache.store.table c.args.input.now k c.follow_fwd-stop.result.id c.loop-at.found = followed_at (c.follow_fwd-stop.ensures.followed c.loop-at.invariant.at.named) c.loop-at.invariant.at in
     let read : next (tape_in Forward c.args.input.now) k ≡ Some _ = forward_read c.args.input.now c.haystack.result.now c.follow_fwd-stop.result.at c.follow_fwd-stop.result.at from (omega (arith, inside)) c.end-in-loop-at.ensures.within.1 (omega (arith, inside, c.end-in-loop-at.ensures.within.1)) c.haystack.ensures.same refl in
     let few : k ≤ length (tape_in Forward c.args.input.now).bytes = (let u : c.args.input.now.end - c.args.input.now.start ≡ length (tape_in Forward c.args.input.now).bytes = forward_units c.args.input.now c.requires.open c.end-in-loop-at.ensures.within.1 in omega (arith, u, inside)) in
     learned_moved Forward c.args.self.now c.args.input.now c.args.cache.now c.read.new.cache c.end_search-then-is_some.new.self c.end_search-then-is_some.ensures.value (λ nothing.
@@ -204,7 +205,7 @@ returns-then-is_some-clause-learned c = λ begin.
     learned_ends Forward c.args.self.now c.loop-at.cache c.read.new.cache c.args.input.now k c.follow_fwd-stop.result.id (Some _) c.in_ok-next.ensures.grown c.in_ok-next.ensures.of at.named read
     c.in_ok-next.ensures.learned c.in_ok-next.ensures.below
     (stops_ends Forward c.args.self.now c.loop-at.cache.store.table c.read.new.cache.store.table c.args.input.now k c.follow_fwd-stop.result.id c.in_ok-next.next _ c.loop-at.found c.found_at-found.result at read c.in_ok-next.ensures.named (λ byte e. subst (λ v. is_quit c.args.self.now.quits v ≡ false) (some_inj e) c.in_ok-next.ensures.clean) (c.follow_fwd-stop.result.at, place, c.found_at-found.ensures) (sym c.get_earliest.ensures ∙ c.if-get_earliest.true) (some_is c.found_at-found.result c.if-is_some.ensures))
-    before.0 (c.follow_fwd-stop.ensures.learned c.loop-at.found c.loop-at.invariant.at before.1)
+    before.0 (followed_learned (c.follow_fwd-stop.ensures.followed c.loop-at.invariant.at.named) before.1)
     (nothing_second c.args.cache.now c.loop-at.cache c.read.new.cache c.loop-at.invariant.grown c.in_ok-next.ensures.grown nothing))
 
 pub returns-in_err-next-clause-grown : goal.returns-in_err-next-clause-grown
@@ -216,7 +217,7 @@ returns-in_err-next-clause-idle c = λ knows.
     let inside : c.follow_fwd-stop.result.at < c.args.input.now.end = omega (arith, c.if-stop-end.false, c.end-in-loop-at.ensures.end) in
     let k : ℕ = c.follow_fwd-stop.result.at - c.args.input.now.start in
     let place : c.follow_fwd-stop.result.at ≡ c.args.input.now.start + k = omega (arith, from) in
-    let at : IsAt Forward c.args.self.now c.loop-at.cache.store.table c.args.input.now k c.follow_fwd-stop.result.id c.loop-at.found = c.follow_fwd-stop.ensures.at c.loop-at.found c.loop-at.invariant.at in
+    let at : IsAt Forward c.args.self.now c.loop-at.cache.store.table c.args.input.now k c.follow_fwd-stop.result.id c.loop-at.found = followed_at (c.follow_fwd-stop.ensures.followed c.loop-at.invariant.at.named) c.loop-at.invariant.at in
     let read : next (tape_in Forward c.args.input.now) k ≡ Some _ = forward_read c.args.input.now c.haystack.result.now c.follow_fwd-stop.result.at c.follow_fwd-stop.result.at from (omega (arith, inside)) c.end-in-loop-at.ensures.within.1 (omega (arith, inside, c.end-in-loop-at.ensures.within.1)) c.haystack.ensures.same refl in
     let few : k ≤ length (tape_in Forward c.args.input.now).bytes = (let u : c.args.input.now.end - c.args.input.now.start ≡ length (tape_in Forward c.args.input.now).bytes = forward_units c.args.input.now c.requires.open c.end-in-loop-at.ensures.within.1 in omega (arith, u, inside)) in
     let still : KnowsPass Forward c.args.self.now c.loop-at.cache.store c.args.input.now = knows_still Forward c.args.self.now c.args.input.now c.args.cache.now c.loop-at.cache c.loop-at.invariant.grown (c.loop-at.invariant.idle knows) knows in
@@ -225,7 +226,7 @@ returns-in_err-next-clause-idle c = λ knows.
 
 pub read-requires-clause-valid : goal.read-requires-clause-valid
 read-requires-clause-valid c =
-    let at : IsAt Forward c.args.self.now c.loop-at.cache.store.table c.args.input.now (c.follow_fwd-stop.result.at - c.args.input.now.start) c.follow_fwd-stop.result.id c.loop-at.found = c.follow_fwd-stop.ensures.at c.loop-at.found c.loop-at.invariant.at in
+    let at : IsAt Forward c.args.self.now c.loop-at.cache.store.table c.args.input.now (c.follow_fwd-stop.result.at - c.args.input.now.start) c.follow_fwd-stop.result.id c.loop-at.found = followed_at (c.follow_fwd-stop.ensures.followed c.loop-at.invariant.at.named) c.loop-at.invariant.at in
     (_, at.named)
 
 pub returns-then-stop-end-clause-grown : goal.returns-then-stop-end-clause-grown
@@ -242,7 +243,7 @@ returns-then-stop-end-clause-learned c = λ begin nothing.
     let same : c.follow_fwd-stop.result.at - c.args.input.now.start ≡ c.args.input.now.end - c.args.input.now.start = omega (arith, c.if-stop-end.true, c.follow_fwd-stop.ensures.within, c.end-in-loop-at.ensures.end) in
     let before = c.loop-at.invariant.learned begin (nothing_first c.args.cache.now c.loop-at.cache c.find_end_fwd.new.cache c.loop-at.invariant.grown c.find_end_fwd.ensures.grown nothing) in
     c.find_end_fwd.ensures.learned before.0
-    (subst (HasLearned Forward c.args.self.now c.loop-at.cache.store c.args.input.now) same (c.follow_fwd-stop.ensures.learned c.loop-at.found c.loop-at.invariant.at before.1))
+    (subst (HasLearned Forward c.args.self.now c.loop-at.cache.store c.args.input.now) same (followed_learned (c.follow_fwd-stop.ensures.followed c.loop-at.invariant.at.named) before.1))
     (nothing_second c.args.cache.now c.loop-at.cache c.find_end_fwd.new.cache c.loop-at.invariant.grown c.find_end_fwd.ensures.grown nothing)
 
 pub returns-clause-grown : goal.returns-clause-grown

@@ -6,6 +6,7 @@ use Rattle.automata_hybrid.specs.Knowing.{KnowsPass}
 use Rattle.automata_hybrid.specs.Passing.{HasLearned, IsAt}
 use Rattle.automata_hybrid.specs.Searches.{tape_in}
 use Rattle.automata_hybrid.specs.Table.{Rows}
+use Rattle.automata_hybrid.proofs.Following.{followed_at, followed_learned}
 use Rattle.automata_hybrid.proofs.Growing.{grown_moved, grown_same, grown_trans, nothing_first, nothing_second}
 use Rattle.automata_hybrid.proofs.Knowing.{begun_moved, knows_here, knows_still, learned_ends, learned_moved, learned_none, learned_step}
 use Rattle.automata_hybrid.proofs.Searching.{stops_dead, stops_ends, more_leads, more_at, more_dead, clean_dead, more_ends, clean_ends, starts_at, step_refuses, if_err, false_true, some_is, none_is}
@@ -32,14 +33,14 @@ find_end_rev-requires-clause-at c =
     let same : c.args.input.now.end - c.follow_rev-stop.result.at ≡ c.args.input.now.end - c.args.input.now.start = omega (arith, c.if-stop-start.true, c.follow_rev-stop.ensures.from, c.start-in-loop-at.ensures.start) in
     subst (λ k. IsAt Backward c.args.self.now c.end_search.new.self.store.table c.args.input.now k c.follow_rev-stop.result.id c.loop-at.found) same
     (subst (λ (t : Rows). IsAt Backward c.args.self.now t c.args.input.now (c.args.input.now.end - c.follow_rev-stop.result.at) c.follow_rev-stop.result.id c.loop-at.found) (sym c.end_search.ensures.table)
-    (c.follow_rev-stop.ensures.at c.loop-at.found c.loop-at.invariant.at))
+    (followed_at (c.follow_rev-stop.ensures.followed c.loop-at.invariant.at.named) c.loop-at.invariant.at))
 
 pub returns-in_err-id-clause-errors : goal.returns-in_err-id-clause-errors
 returns-in_err-id-clause-errors c =
     let above : c.args.input.now.start < c.follow_rev-stop.result.at = omega (arith, c.if-stop-start.false, c.start-in-loop-at.ensures.start) in
     let below : c.follow_rev-stop.result.at ≤ c.args.input.now.end = omega (arith, c.follow_rev-stop.ensures.within, c.loop-at.invariant.within) in
     let k : ℕ = c.args.input.now.end - c.follow_rev-stop.result.at in
-    let at : IsAt Backward c.args.self.now c.loop-at.cache.store.table c.args.input.now k c.follow_rev-stop.result.id c.loop-at.found = c.follow_rev-stop.ensures.at c.loop-at.found c.loop-at.invariant.at in
+    let at : IsAt Backward c.args.self.now c.loop-at.cache.store.table c.args.input.now k c.follow_rev-stop.result.id c.loop-at.found = followed_at (c.follow_rev-stop.ensures.followed c.loop-at.invariant.at.named) c.loop-at.invariant.at in
     let read : next (tape_in Backward c.args.input.now) k ≡ Some _ = span_read c.args.input.now c.follow_rev-stop.result.at above below c.haystack.result.now c.haystack.ensures.within.1 c.haystack.ensures.same in
     let few : k ≤ length (tape_in Backward c.args.input.now).bytes = span_few c.args.input.now c.follow_rev-stop.result.at above below c.haystack.ensures.within.1 in
     if_err c.from_residual.result _ _ c.from_residual.ensures.1
@@ -52,7 +53,7 @@ returns-then-is_dead-clause-found c =
     let above : c.args.input.now.start < c.follow_rev-stop.result.at = omega (arith, c.if-stop-start.false, c.start-in-loop-at.ensures.start) in
     let below : c.follow_rev-stop.result.at ≤ c.args.input.now.end = omega (arith, c.follow_rev-stop.ensures.within, c.loop-at.invariant.within) in
     let k : ℕ = c.args.input.now.end - c.follow_rev-stop.result.at in
-    let at : IsAt Backward c.args.self.now c.loop-at.cache.store.table c.args.input.now k c.follow_rev-stop.result.id c.loop-at.found = c.follow_rev-stop.ensures.at c.loop-at.found c.loop-at.invariant.at in
+    let at : IsAt Backward c.args.self.now c.loop-at.cache.store.table c.args.input.now k c.follow_rev-stop.result.id c.loop-at.found = followed_at (c.follow_rev-stop.ensures.followed c.loop-at.invariant.at.named) c.loop-at.invariant.at in
     let read : next (tape_in Backward c.args.input.now) k ≡ Some _ = span_read c.args.input.now c.follow_rev-stop.result.at above below c.haystack.result.now c.haystack.ensures.within.1 c.haystack.ensures.same in
     let few : k ≤ length (tape_in Backward c.args.input.now).bytes = span_few c.args.input.now c.follow_rev-stop.result.at above below c.haystack.ensures.within.1 in
     more_dead Backward c.args.self.now c.loop-at.cache.store.table c.read.new.cache.store.table c.args.input.now k c.follow_rev-stop.result.id c.in_ok-id.id _ c.loop-at.found None
@@ -64,7 +65,7 @@ returns-then-is_dead-clause-clean c =
     let above : c.args.input.now.start < c.follow_rev-stop.result.at = omega (arith, c.if-stop-start.false, c.start-in-loop-at.ensures.start) in
     let below : c.follow_rev-stop.result.at ≤ c.args.input.now.end = omega (arith, c.follow_rev-stop.ensures.within, c.loop-at.invariant.within) in
     let k : ℕ = c.args.input.now.end - c.follow_rev-stop.result.at in
-    let at : IsAt Backward c.args.self.now c.loop-at.cache.store.table c.args.input.now k c.follow_rev-stop.result.id c.loop-at.found = c.follow_rev-stop.ensures.at c.loop-at.found c.loop-at.invariant.at in
+    let at : IsAt Backward c.args.self.now c.loop-at.cache.store.table c.args.input.now k c.follow_rev-stop.result.id c.loop-at.found = followed_at (c.follow_rev-stop.ensures.followed c.loop-at.invariant.at.named) c.loop-at.invariant.at in
     let read : next (tape_in Backward c.args.input.now) k ≡ Some _ = span_read c.args.input.now c.follow_rev-stop.result.at above below c.haystack.result.now c.haystack.ensures.within.1 c.haystack.ensures.same in
     clean_dead Backward c.args.self.now c.loop-at.cache.store.table c.read.new.cache.store.table c.args.input.now k c.follow_rev-stop.result.id c.in_ok-id.id _ c.loop-at.found None
     at read c.in_ok-id.ensures.named (quit_free c.args.self.now _ c.in_ok-id.ensures.clean)
@@ -75,7 +76,7 @@ found_at-found-requires-clause-leads c =
     let above : c.args.input.now.start < c.follow_rev-stop.result.at = omega (arith, c.if-stop-start.false, c.start-in-loop-at.ensures.start) in
     let below : c.follow_rev-stop.result.at ≤ c.args.input.now.end = omega (arith, c.follow_rev-stop.ensures.within, c.loop-at.invariant.within) in
     let k : ℕ = c.args.input.now.end - c.follow_rev-stop.result.at in
-    let at : IsAt Backward c.args.self.now c.loop-at.cache.store.table c.args.input.now k c.follow_rev-stop.result.id c.loop-at.found = c.follow_rev-stop.ensures.at c.loop-at.found c.loop-at.invariant.at in
+    let at : IsAt Backward c.args.self.now c.loop-at.cache.store.table c.args.input.now k c.follow_rev-stop.result.id c.loop-at.found = followed_at (c.follow_rev-stop.ensures.followed c.loop-at.invariant.at.named) c.loop-at.invariant.at in
     let read : next (tape_in Backward c.args.input.now) k ≡ Some _ = span_read c.args.input.now c.follow_rev-stop.result.at above below c.haystack.result.now c.haystack.ensures.within.1 c.haystack.ensures.same in (
       _,
       more_leads Backward c.args.self.now c.loop-at.cache.store.table c.read.new.cache.store.table c.args.input.now k c.follow_rev-stop.result.id c.in_ok-id.id _ c.loop-at.found None
@@ -87,7 +88,7 @@ returns-then-is_some-clause-found c =
     let above : c.args.input.now.start < c.follow_rev-stop.result.at = omega (arith, c.if-stop-start.false, c.start-in-loop-at.ensures.start) in
     let below : c.follow_rev-stop.result.at ≤ c.args.input.now.end = omega (arith, c.follow_rev-stop.ensures.within, c.loop-at.invariant.within) in
     let k : ℕ = c.args.input.now.end - c.follow_rev-stop.result.at in
-    let at : IsAt Backward c.args.self.now c.loop-at.cache.store.table c.args.input.now k c.follow_rev-stop.result.id c.loop-at.found = c.follow_rev-stop.ensures.at c.loop-at.found c.loop-at.invariant.at in
+    let at : IsAt Backward c.args.self.now c.loop-at.cache.store.table c.args.input.now k c.follow_rev-stop.result.id c.loop-at.found = followed_at (c.follow_rev-stop.ensures.followed c.loop-at.invariant.at.named) c.loop-at.invariant.at in
     let read : next (tape_in Backward c.args.input.now) k ≡ Some _ = span_read c.args.input.now c.follow_rev-stop.result.at above below c.haystack.result.now c.haystack.ensures.within.1 c.haystack.ensures.same in
     let few : k ≤ length (tape_in Backward c.args.input.now).bytes = span_few c.args.input.now c.follow_rev-stop.result.at above below c.haystack.ensures.within.1 in
     more_ends Backward c.args.self.now c.loop-at.cache.store.table c.read.new.cache.store.table c.args.input.now k c.follow_rev-stop.result.id c.in_ok-id.id _ c.loop-at.found c.found_at-found.result
@@ -99,7 +100,7 @@ returns-then-is_some-clause-clean c =
     let above : c.args.input.now.start < c.follow_rev-stop.result.at = omega (arith, c.if-stop-start.false, c.start-in-loop-at.ensures.start) in
     let below : c.follow_rev-stop.result.at ≤ c.args.input.now.end = omega (arith, c.follow_rev-stop.ensures.within, c.loop-at.invariant.within) in
     let k : ℕ = c.args.input.now.end - c.follow_rev-stop.result.at in
-    let at : IsAt Backward c.args.self.now c.loop-at.cache.store.table c.args.input.now k c.follow_rev-stop.result.id c.loop-at.found = c.follow_rev-stop.ensures.at c.loop-at.found c.loop-at.invariant.at in
+    let at : IsAt Backward c.args.self.now c.loop-at.cache.store.table c.args.input.now k c.follow_rev-stop.result.id c.loop-at.found = followed_at (c.follow_rev-stop.ensures.followed c.loop-at.invariant.at.named) c.loop-at.invariant.at in
     let read : next (tape_in Backward c.args.input.now) k ≡ Some _ = span_read c.args.input.now c.follow_rev-stop.result.at above below c.haystack.result.now c.haystack.ensures.within.1 c.haystack.ensures.same in
     clean_ends Backward c.args.self.now c.loop-at.cache.store.table c.read.new.cache.store.table c.args.input.now k c.follow_rev-stop.result.id c.in_ok-id.id _ c.loop-at.found c.found_at-found.result
     at read c.in_ok-id.ensures.named (quit_free c.args.self.now _ c.in_ok-id.ensures.clean)
@@ -110,7 +111,7 @@ loop-at-preserved c =
     let above : c.args.input.now.start < c.follow_rev-stop.result.at = omega (arith, c.if-stop-start.false, c.start-in-loop-at.ensures.start) in
     let below : c.follow_rev-stop.result.at ≤ c.args.input.now.end = omega (arith, c.follow_rev-stop.ensures.within, c.loop-at.invariant.within) in
     let k : ℕ = c.args.input.now.end - c.follow_rev-stop.result.at in
-    let at : IsAt Backward c.args.self.now c.loop-at.cache.store.table c.args.input.now k c.follow_rev-stop.result.id c.loop-at.found = c.follow_rev-stop.ensures.at c.loop-at.found c.loop-at.invariant.at in
+    let at : IsAt Backward c.args.self.now c.loop-at.cache.store.table c.args.input.now k c.follow_rev-stop.result.id c.loop-at.found = followed_at (c.follow_rev-stop.ensures.followed c.loop-at.invariant.at.named) c.loop-at.invariant.at in
     let read : next (tape_in Backward c.args.input.now) k ≡ Some _ = span_read c.args.input.now c.follow_rev-stop.result.at above below c.haystack.result.now c.haystack.ensures.within.1 c.haystack.ensures.same in
     let few : k ≤ length (tape_in Backward c.args.input.now).bytes = span_few c.args.input.now c.follow_rev-stop.result.at above below c.haystack.ensures.within.1 in
     let first : c.args.input.now.earliest ≡ true → c.found_at-found.result ≡ None =
@@ -130,7 +131,7 @@ loop-at-preserved c =
           let before = c.loop-at.invariant.learned begin (nothing_first c.args.cache.now c.loop-at.cache c.read.new.cache c.loop-at.invariant.grown c.in_ok-id.ensures.grown nothing) in
           let after : ClearedNothing c.loop-at.cache.store c.read.new.cache.store = nothing_second c.args.cache.now c.loop-at.cache c.read.new.cache c.loop-at.invariant.grown c.in_ok-id.ensures.grown nothing in
           let step = learned_step Backward c.args.self.now c.loop-at.cache c.read.new.cache c.args.input.now k c.follow_rev-stop.result.id (Some _) c.in_ok-id.ensures.grown c.in_ok-id.ensures.of after before.0
-          (c.follow_rev-stop.ensures.learned c.loop-at.found c.loop-at.invariant.at before.1) at.named read (c.in_ok-id.ensures.learned after) c.in_ok-id.ensures.below in
+          (followed_learned (c.follow_rev-stop.ensures.followed c.loop-at.invariant.at.named) before.1) at.named read (c.in_ok-id.ensures.learned after) c.in_ok-id.ensures.below in
           (step.0, subst (HasLearned Backward c.args.self.now c.read.new.cache.store c.args.input.now) (span_more c.args.input.now c.follow_rev-stop.result.at above below) step.1));
       from = omega (arith, above);
       within = omega (arith, below);
@@ -151,7 +152,7 @@ returns-then-is_dead-clause-idle c = λ knows.
     let above : c.args.input.now.start < c.follow_rev-stop.result.at = omega (arith, c.if-stop-start.false, c.start-in-loop-at.ensures.start) in
     let below : c.follow_rev-stop.result.at ≤ c.args.input.now.end = omega (arith, c.follow_rev-stop.ensures.within, c.loop-at.invariant.within) in
     let k : ℕ = c.args.input.now.end - c.follow_rev-stop.result.at in
-    let at : IsAt Backward c.args.self.now c.loop-at.cache.store.table c.args.input.now k c.follow_rev-stop.result.id c.loop-at.found = c.follow_rev-stop.ensures.at c.loop-at.found c.loop-at.invariant.at in
+    let at : IsAt Backward c.args.self.now c.loop-at.cache.store.table c.args.input.now k c.follow_rev-stop.result.id c.loop-at.found = followed_at (c.follow_rev-stop.ensures.followed c.loop-at.invariant.at.named) c.loop-at.invariant.at in
     let read : next (tape_in Backward c.args.input.now) k ≡ Some _ = span_read c.args.input.now c.follow_rev-stop.result.at above below c.haystack.result.now c.haystack.ensures.within.1 c.haystack.ensures.same in
     let few : k ≤ length (tape_in Backward c.args.input.now).bytes = span_few c.args.input.now c.follow_rev-stop.result.at above below c.haystack.ensures.within.1 in
     let still : KnowsPass Backward c.args.self.now c.loop-at.cache.store c.args.input.now = knows_still Backward c.args.self.now c.args.input.now c.args.cache.now c.loop-at.cache c.loop-at.invariant.grown (c.loop-at.invariant.idle knows) knows in
@@ -163,7 +164,7 @@ returns-then-is_dead-clause-learned c = λ begin.
     let above : c.args.input.now.start < c.follow_rev-stop.result.at = omega (arith, c.if-stop-start.false, c.start-in-loop-at.ensures.start) in
     let below : c.follow_rev-stop.result.at ≤ c.args.input.now.end = omega (arith, c.follow_rev-stop.ensures.within, c.loop-at.invariant.within) in
     let k : ℕ = c.args.input.now.end - c.follow_rev-stop.result.at in
-    let at : IsAt Backward c.args.self.now c.loop-at.cache.store.table c.args.input.now k c.follow_rev-stop.result.id c.loop-at.found = c.follow_rev-stop.ensures.at c.loop-at.found c.loop-at.invariant.at in
+    let at : IsAt Backward c.args.self.now c.loop-at.cache.store.table c.args.input.now k c.follow_rev-stop.result.id c.loop-at.found = followed_at (c.follow_rev-stop.ensures.followed c.loop-at.invariant.at.named) c.loop-at.invariant.at in
     let read : next (tape_in Backward c.args.input.now) k ≡ Some _ = span_read c.args.input.now c.follow_rev-stop.result.at above below c.haystack.result.now c.haystack.ensures.within.1 c.haystack.ensures.same in
     let few : k ≤ length (tape_in Backward c.args.input.now).bytes = span_few c.args.input.now c.follow_rev-stop.result.at above below c.haystack.ensures.within.1 in
     learned_moved Backward c.args.self.now c.args.input.now c.args.cache.now c.read.new.cache c.end_search-then-is_dead.new.self c.end_search-then-is_dead.ensures.value (λ nothing.
@@ -171,7 +172,7 @@ returns-then-is_dead-clause-learned c = λ begin.
     learned_ends Backward c.args.self.now c.loop-at.cache c.read.new.cache c.args.input.now k c.follow_rev-stop.result.id (Some _) c.in_ok-id.ensures.grown c.in_ok-id.ensures.of at.named read
     c.in_ok-id.ensures.learned c.in_ok-id.ensures.below
     (stops_dead Backward c.args.self.now c.loop-at.cache.store.table c.read.new.cache.store.table c.args.input.now k c.follow_rev-stop.result.id c.in_ok-id.id _ c.loop-at.found None at read c.in_ok-id.ensures.named (quit_free c.args.self.now _ c.in_ok-id.ensures.clean) (λ l. (c.in_ok-id.ensures.dead _ l).0 (c.if-is_dead.ensures.0 refl)))
-    before.0 (c.follow_rev-stop.ensures.learned c.loop-at.found c.loop-at.invariant.at before.1)
+    before.0 (followed_learned (c.follow_rev-stop.ensures.followed c.loop-at.invariant.at.named) before.1)
     (nothing_second c.args.cache.now c.loop-at.cache c.read.new.cache c.loop-at.invariant.grown c.in_ok-id.ensures.grown nothing))
 
 pub returns-then-is_some-clause-grown : goal.returns-then-is_some-clause-grown
@@ -185,7 +186,7 @@ returns-then-is_some-clause-idle c = λ knows.
     let above : c.args.input.now.start < c.follow_rev-stop.result.at = omega (arith, c.if-stop-start.false, c.start-in-loop-at.ensures.start) in
     let below : c.follow_rev-stop.result.at ≤ c.args.input.now.end = omega (arith, c.follow_rev-stop.ensures.within, c.loop-at.invariant.within) in
     let k : ℕ = c.args.input.now.end - c.follow_rev-stop.result.at in
-    let at : IsAt Backward c.args.self.now c.loop-at.cache.store.table c.args.input.now k c.follow_rev-stop.result.id c.loop-at.found = c.follow_rev-stop.ensures.at c.loop-at.found c.loop-at.invariant.at in
+    let at : IsAt Backward c.args.self.now c.loop-at.cache.store.table c.args.input.now k c.follow_rev-stop.result.id c.loop-at.found = followed_at (c.follow_rev-stop.ensures.followed c.loop-at.invariant.at.named) c.loop-at.invariant.at in
     let read : next (tape_in Backward c.args.input.now) k ≡ Some _ = span_read c.args.input.now c.follow_rev-stop.result.at above below c.haystack.result.now c.haystack.ensures.within.1 c.haystack.ensures.same in
     let few : k ≤ length (tape_in Backward c.args.input.now).bytes = span_few c.args.input.now c.follow_rev-stop.result.at above below c.haystack.ensures.within.1 in
     let still : KnowsPass Backward c.args.self.now c.loop-at.cache.store c.args.input.now = knows_still Backward c.args.self.now c.args.input.now c.args.cache.now c.loop-at.cache c.loop-at.invariant.grown (c.loop-at.invariant.idle knows) knows in
@@ -197,7 +198,7 @@ returns-then-is_some-clause-learned c = λ begin.
     let above : c.args.input.now.start < c.follow_rev-stop.result.at = omega (arith, c.if-stop-start.false, c.start-in-loop-at.ensures.start) in
     let below : c.follow_rev-stop.result.at ≤ c.args.input.now.end = omega (arith, c.follow_rev-stop.ensures.within, c.loop-at.invariant.within) in
     let k : ℕ = c.args.input.now.end - c.follow_rev-stop.result.at in
-    let at : IsAt Backward c.args.self.now c.loop-at.cache.store.table c.args.input.now k c.follow_rev-stop.result.id c.loop-at.found = c.follow_rev-stop.ensures.at c.loop-at.found c.loop-at.invariant.at in
+    let at : IsAt Backward c.args.self.now c.loop-at.cache.store.table c.args.input.now k c.follow_rev-stop.result.id c.loop-at.found = followed_at (c.follow_rev-stop.ensures.followed c.loop-at.invariant.at.named) c.loop-at.invariant.at in
     let read : next (tape_in Backward c.args.input.now) k ≡ Some _ = span_read c.args.input.now c.follow_rev-stop.result.at above below c.haystack.result.now c.haystack.ensures.within.1 c.haystack.ensures.same in
     let few : k ≤ length (tape_in Backward c.args.input.now).bytes = span_few c.args.input.now c.follow_rev-stop.result.at above below c.haystack.ensures.within.1 in
     learned_moved Backward c.args.self.now c.args.input.now c.args.cache.now c.read.new.cache c.end_search-then-is_some.new.self c.end_search-then-is_some.ensures.value (λ nothing.
@@ -205,7 +206,7 @@ returns-then-is_some-clause-learned c = λ begin.
     learned_ends Backward c.args.self.now c.loop-at.cache c.read.new.cache c.args.input.now k c.follow_rev-stop.result.id (Some _) c.in_ok-id.ensures.grown c.in_ok-id.ensures.of at.named read
     c.in_ok-id.ensures.learned c.in_ok-id.ensures.below
     (stops_ends Backward c.args.self.now c.loop-at.cache.store.table c.read.new.cache.store.table c.args.input.now k c.follow_rev-stop.result.id c.in_ok-id.id _ c.loop-at.found c.found_at-found.result at read c.in_ok-id.ensures.named (quit_free c.args.self.now _ c.in_ok-id.ensures.clean) (c.follow_rev-stop.result.at, span_place c.args.input.now c.follow_rev-stop.result.at above below, c.found_at-found.ensures) (sym c.get_earliest.ensures ∙ c.if-get_earliest.true) (some_is c.found_at-found.result c.if-is_some.ensures))
-    before.0 (c.follow_rev-stop.ensures.learned c.loop-at.found c.loop-at.invariant.at before.1)
+    before.0 (followed_learned (c.follow_rev-stop.ensures.followed c.loop-at.invariant.at.named) before.1)
     (nothing_second c.args.cache.now c.loop-at.cache c.read.new.cache c.loop-at.invariant.grown c.in_ok-id.ensures.grown nothing))
 
 pub returns-in_err-id-clause-grown : goal.returns-in_err-id-clause-grown
@@ -216,7 +217,7 @@ returns-in_err-id-clause-idle c = λ knows.
     let above : c.args.input.now.start < c.follow_rev-stop.result.at = omega (arith, c.if-stop-start.false, c.start-in-loop-at.ensures.start) in
     let below : c.follow_rev-stop.result.at ≤ c.args.input.now.end = omega (arith, c.follow_rev-stop.ensures.within, c.loop-at.invariant.within) in
     let k : ℕ = c.args.input.now.end - c.follow_rev-stop.result.at in
-    let at : IsAt Backward c.args.self.now c.loop-at.cache.store.table c.args.input.now k c.follow_rev-stop.result.id c.loop-at.found = c.follow_rev-stop.ensures.at c.loop-at.found c.loop-at.invariant.at in
+    let at : IsAt Backward c.args.self.now c.loop-at.cache.store.table c.args.input.now k c.follow_rev-stop.result.id c.loop-at.found = followed_at (c.follow_rev-stop.ensures.followed c.loop-at.invariant.at.named) c.loop-at.invariant.at in
     let read : next (tape_in Backward c.args.input.now) k ≡ Some _ = span_read c.args.input.now c.follow_rev-stop.result.at above below c.haystack.result.now c.haystack.ensures.within.1 c.haystack.ensures.same in
     let few : k ≤ length (tape_in Backward c.args.input.now).bytes = span_few c.args.input.now c.follow_rev-stop.result.at above below c.haystack.ensures.within.1 in
     let still : KnowsPass Backward c.args.self.now c.loop-at.cache.store c.args.input.now = knows_still Backward c.args.self.now c.args.input.now c.args.cache.now c.loop-at.cache c.loop-at.invariant.grown (c.loop-at.invariant.idle knows) knows in
@@ -240,7 +241,7 @@ returns-then-stop-start-clause-learned c = λ begin nothing.
     let moved : IsGrown c.args.cache.now c.end_search.new.self = grown_trans c.args.cache.now c.loop-at.cache c.end_search.new.self c.loop-at.invariant.grown (grown_moved c.loop-at.cache c.end_search.new.self c.end_search.ensures.value) in
     let first : ClearedNothing c.args.cache.now.store c.end_search.new.self.store = nothing_first c.args.cache.now c.end_search.new.self c.find_end_rev.new.cache moved c.find_end_rev.ensures.grown nothing in
     let same : c.args.input.now.end - c.follow_rev-stop.result.at ≡ c.args.input.now.end - c.args.input.now.start = omega (arith, c.if-stop-start.true, c.follow_rev-stop.ensures.from, c.start-in-loop-at.ensures.start) in
-    let before = begun_moved Backward c.args.self.now c.args.input.now c.args.cache.now c.loop-at.cache c.end_search.new.self _ c.end_search.ensures.value (λ nothing. let had = c.loop-at.invariant.learned begin nothing in (had.0, subst (HasLearned Backward c.args.self.now c.loop-at.cache.store c.args.input.now) same (c.follow_rev-stop.ensures.learned c.loop-at.found c.loop-at.invariant.at had.1))) first in
+    let before = begun_moved Backward c.args.self.now c.args.input.now c.args.cache.now c.loop-at.cache c.end_search.new.self _ c.end_search.ensures.value (λ nothing. let had = c.loop-at.invariant.learned begin nothing in (had.0, subst (HasLearned Backward c.args.self.now c.loop-at.cache.store c.args.input.now) same (followed_learned (c.follow_rev-stop.ensures.followed c.loop-at.invariant.at.named) had.1))) first in
     c.find_end_rev.ensures.learned before.0 before.1
     (nothing_second c.args.cache.now c.end_search.new.self c.find_end_rev.new.cache moved c.find_end_rev.ensures.grown nothing)
 
@@ -267,5 +268,5 @@ returns-clause-learned c = λ begin nothing.
 
 pub read-requires-clause-valid : goal.read-requires-clause-valid
 read-requires-clause-valid c =
-    let at : IsAt Backward c.args.self.now c.loop-at.cache.store.table c.args.input.now (c.args.input.now.end - c.follow_rev-stop.result.at) c.follow_rev-stop.result.id c.loop-at.found = c.follow_rev-stop.ensures.at c.loop-at.found c.loop-at.invariant.at in
+    let at : IsAt Backward c.args.self.now c.loop-at.cache.store.table c.args.input.now (c.args.input.now.end - c.follow_rev-stop.result.at) c.follow_rev-stop.result.id c.loop-at.found = followed_at (c.follow_rev-stop.ensures.followed c.loop-at.invariant.at.named) c.loop-at.invariant.at in
     (_, at.named)

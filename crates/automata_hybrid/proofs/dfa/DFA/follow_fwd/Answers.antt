@@ -6,10 +6,9 @@ use Rattle.automata_base.specs.Paths.{next}
 use Rattle.automata_base.specs.Tapes.{Forward}
 use Rattle.automata_hybrid.specs.Bounds.{IsKnownTransition}
 use Rattle.automata_hybrid.specs.Machine.{Machine}
-use Rattle.automata_hybrid.specs.Passing.{HasLearned, IsAt}
+use Rattle.automata_hybrid.specs.Passing.{IsFollowed}
 use Rattle.automata_hybrid.specs.Searches.{tape_in}
-use Rattle.automata_hybrid.proofs.Knowing.{learned_more}
-use Rattle.automata_hybrid.proofs.Searching.{more_untagged}
+use Rattle.automata_hybrid.proofs.Following.{followed_more, followed_none}
 use Rattle.automata_hybrid.proofs.Stepping.{HasRow-valid}
 use Rattle.automata_hybrid.proofs.Units.{forward_unit, nth_read}
 use Rattle.automata_hybrid.proofs.dfa.DFA.follow_fwd.Goals as goal
@@ -30,10 +29,21 @@ loop-at-preserved c =
       untagged = low;
       from = omega (arith, c.loop-at.invariant.from);
       within = omega (arith, c.loop-at-test.true);
-      at = λ found h. subst (λ n. IsAt Forward c.args.self.now c.args.cache.now.store.table c.args.input.now n c.next_state_untagged-next.result found) next_k (more_untagged Forward c.args.self.now c.args.cache.now.store.table c.args.input.now k c.loop-at.id c.next_state_untagged-next.result _ found low unit c.next_state_untagged-next.ensures.quit c.next_state_untagged-next.ensures.named (c.loop-at.invariant.at found h));
-      learned = λ found h first. (
-          let at : IsAt Forward c.args.self.now c.args.cache.now.store.table c.args.input.now k c.loop-at.id found = c.loop-at.invariant.at found h in
-          subst (HasLearned Forward c.args.self.now c.args.cache.now.store c.args.input.now) next_k
-          (learned_more Forward c.args.self.now c.args.cache.now.store c.args.input.now k c.loop-at.id (Some read) (c.loop-at.invariant.learned found h first) at.named unit known
-          (subst (λ (m : Machine). class_in c.args.self.now.classes read < m.stride) (sym c.requires.of) below)));
+      followed = λ n. subst (λ k. IsFollowed Forward c.args.self.now c.args.cache.now.store c.args.input.now (c.args.start - c.args.input.now.start) k c.next_state_untagged-next.result) next_k
+          (followed_more Forward c.args.self.now c.args.cache.now.store c.args.input.now (c.args.start - c.args.input.now.start) k c.loop-at.id c.next_state_untagged-next.result read low unit known
+          (subst (λ (m : Machine). class_in c.args.self.now.classes read < m.stride) (sym c.requires.of) below)
+          c.next_state_untagged-next.ensures.quit c.next_state_untagged-next.ensures.named (c.loop-at.invariant.followed n));
+    }
+
+pub returns-then-is_tagged-clause-followed : goal.returns-then-is_tagged-clause-followed
+returns-then-is_tagged-clause-followed c = λ n. followed_none Forward c.args.self.now c.args.cache.now.store c.args.input.now (c.args.start - c.args.input.now.start) c.args.from n
+
+pub loop-at-init : goal.loop-at-init
+loop-at-init c =
+    record {
+      valid = c.requires.valid;
+      untagged = grind (arith, common_steps, c.if-is_tagged.ensures);
+      from = omega arith;
+      within = omega (arith, c.requires.within, c.end-end.ensures.end);
+      followed = λ n. followed_none Forward c.args.self.now c.args.cache.now.store c.args.input.now (c.args.start - c.args.input.now.start) c.args.from n;
     }

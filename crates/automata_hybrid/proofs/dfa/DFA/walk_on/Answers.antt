@@ -1,12 +1,16 @@
-use Rattle.std.proofs.Common.{ℕ, ◌≡◌, ◌∙◌, ◌-◌, inl, inr, length, Option, refl, sym, subst, arith}
+use Rattle.std.proofs.Common.{ℕ, ◌≡◌, ◌∙◌, ◌-◌, ◌≤◌, inl, inr, length, Option, refl, sym, ap, subst, arith}
 use Rattle.automata_base.specs.Powerset.{dead}
 use Rattle.automata_base.specs.Tapes.{Direction}
+use Rattle.automata_hybrid.specs.Caches.{CacheView}
+use Rattle.automata_hybrid.specs.Growing.{ClearedNothing, IsGrown}
+use Rattle.automata_hybrid.specs.KnowingWalks.{HasLearnedUnits, IsToRead}
 use Rattle.automata_hybrid.specs.Searches.{HasReadNoQuit, state_in, tape_in}
 use Rattle.automata_hybrid.specs.Table.{Rows, Leads}
 use Rattle.automata_hybrid.specs.Walking.{Finishes, HasToldBy, IsAdvanceRefusal, IsArrival, TellsNext}
 use Rattle.automata_hybrid.specs.Walks.{Walk, way_of}
-use Rattle.automata_hybrid.proofs.Growing.{grown_after, grown_moved, grown_trans}
-use Rattle.automata_hybrid.proofs.Searching.{if_err}
+use Rattle.automata_hybrid.proofs.Growing.{grown_after, grown_moved, grown_trans, nothing_second}
+use Rattle.automata_hybrid.proofs.KnowingWalks.{has_state, nothing_after, state_after, state_still, still_same, unit_knows, units_all}
+use Rattle.automata_hybrid.proofs.Searching.{dead_more, if_err}
 use Rattle.automata_hybrid.proofs.Stepping.{dead_tagged}
 use Rattle.automata_hybrid.proofs.WalkCalls.{clean_here, next_finishes, told_here}
 use Rattle.automata_hybrid.proofs.Walked.{finish_start}
@@ -96,3 +100,81 @@ returns-clause-there c = λ there.
     grown_trans c.args.cache.now c.resume.new.cache c.advance.new.cache (c.in_ok-from.ensures.there there)
     (grown_trans c.resume.new.cache c.search_start.new.self c.advance.new.cache
     (grown_moved c.resume.new.cache c.search_start.new.self c.search_start.ensures.value) c.in_ok-arrival.ensures.grown)
+
+pub returns-in_err-from-clause-idle : goal.returns-in_err-from-clause-idle
+returns-in_err-from-clause-idle c = λ knows.
+    let d : Direction = way_of c.args.way in
+    let w : Walk = c.args.walk.now in
+    let k : ℕ = c.requires.walk.0 in
+    let ready : IsToRead c.args.input.now w.stage w.units w.told = record { undone = c.requires.«open»; on = c.requires.goes_on; all_told = c.requires.all_told; left = c.requires.within } in
+    let same = c.in_err-from.ensures.idle (λ may. (knows k c.requires.walk.1 ready may).0) in
+    (still_same c.args.cache.now c.resume.new.cache same.0, if_err c.from_residual.result _ _ c.from_residual.ensures.1 same.1)
+
+pub returns-then-is_dead-clause-idle : goal.returns-then-is_dead-clause-idle
+returns-then-is_dead-clause-idle c = λ knows.
+    let d : Direction = way_of c.args.way in
+    let w : Walk = c.args.walk.now in
+    let k : ℕ = c.requires.walk.0 in
+    let ready : IsToRead c.args.input.now w.stage w.units w.told = record { undone = c.requires.«open»; on = c.requires.goes_on; all_told = c.requires.all_told; left = c.requires.within } in
+    let all = knows k c.requires.walk.1 ready c.in_ok-from.ensures.may in
+    let same = c.in_ok-from.ensures.idle (λ may. all.0) in
+    let count : c.end_search.new.self.count ≡ c.args.cache.now.count = c.end_search.ensures.count ∙ (c.search_start.ensures.count ∙ ap (λ (v : CacheView). v.count) same.0) in
+    ((returns-then-is_dead-clause-there c (has_state d c.args.self.now c.args.cache.now.store c.args.input.now w.stage all.0)).idle count, tt)
+
+pub returns-in_err-arrival-clause-idle : goal.returns-in_err-arrival-clause-idle
+returns-in_err-arrival-clause-idle c = λ knows.
+    let d : Direction = way_of c.args.way in
+    let w : Walk = c.args.walk.now in
+    let k : ℕ = c.requires.walk.0 in
+    let ready : IsToRead c.args.input.now w.stage w.units w.told = record { undone = c.requires.«open»; on = c.requires.goes_on; all_told = c.requires.all_told; left = c.requires.within } in
+    let all = knows k c.requires.walk.1 ready c.in_ok-from.ensures.may in
+    let same = c.in_ok-from.ensures.idle (λ may. all.0) in
+    let count : c.search_start.new.self.count ≡ c.args.cache.now.count = c.search_start.ensures.count ∙ ap (λ (v : CacheView). v.count) same.0 in
+    let there = has_state d c.args.self.now c.args.cache.now.store c.args.input.now w.stage all.0 in
+    let moved : IsGrown c.args.cache.now c.search_start.new.self = grown_trans c.args.cache.now c.resume.new.cache c.search_start.new.self (c.in_ok-from.ensures.there there) (grown_moved c.resume.new.cache c.search_start.new.self c.search_start.ensures.value) in
+    let here : HasToldBy d c.args.self.now c.args.input.now c.units-2.result k = subst (λ n. HasToldBy d c.args.self.now c.args.input.now n k) (sym c.units-2.ensures) (told_here d c.args.self.now c.args.input.now w k c.see_skips.ensures c.requires.walk.1 c.requires.goes_on c.requires.all_told) in
+    let idle = c.in_err-arrival.ensures.idle k here (λ j l reads clean told. unit_knows d c.args.self.now c.args.cache.now c.search_start.new.self c.args.input.now w.units j k moved count all.1 (subst (λ n. n ≤ j) c.units-2.ensures l) reads clean told) in
+    ((returns-in_err-arrival-clause-there c there).idle (idle.0 ∙ count), if_err c.from_residual-in_err-arrival.result _ _ c.from_residual-in_err-arrival.ensures.1 idle.1)
+
+pub returns-clause-idle : goal.returns-clause-idle
+returns-clause-idle c = λ knows.
+    let d : Direction = way_of c.args.way in
+    let w : Walk = c.args.walk.now in
+    let k : ℕ = c.requires.walk.0 in
+    let ready : IsToRead c.args.input.now w.stage w.units w.told = record { undone = c.requires.«open»; on = c.requires.goes_on; all_told = c.requires.all_told; left = c.requires.within } in
+    let all = knows k c.requires.walk.1 ready c.in_ok-from.ensures.may in
+    let same = c.in_ok-from.ensures.idle (λ may. all.0) in
+    let count : c.search_start.new.self.count ≡ c.args.cache.now.count = c.search_start.ensures.count ∙ ap (λ (v : CacheView). v.count) same.0 in
+    let there = has_state d c.args.self.now c.args.cache.now.store c.args.input.now w.stage all.0 in
+    let moved : IsGrown c.args.cache.now c.search_start.new.self = grown_trans c.args.cache.now c.resume.new.cache c.search_start.new.self (c.in_ok-from.ensures.there there) (grown_moved c.resume.new.cache c.search_start.new.self c.search_start.ensures.value) in
+    let here : HasToldBy d c.args.self.now c.args.input.now c.units-2.result k = subst (λ n. HasToldBy d c.args.self.now c.args.input.now n k) (sym c.units-2.ensures) (told_here d c.args.self.now c.args.input.now w k c.see_skips.ensures c.requires.walk.1 c.requires.goes_on c.requires.all_told) in
+    let idle = c.in_ok-arrival.ensures.idle k here (λ j l reads clean told. unit_knows d c.args.self.now c.args.cache.now c.search_start.new.self c.args.input.now w.units j k moved count all.1 (subst (λ n. n ≤ j) c.units-2.ensures l) reads clean told) in
+    ((returns-clause-there c there).idle (idle.0 ∙ count), tt)
+
+pub returns-then-is_dead-clause-learned : goal.returns-then-is_dead-clause-learned
+returns-then-is_dead-clause-learned c = λ nothing k told ready may.
+    let d : Direction = way_of c.args.way in
+    let w : Walk = c.args.walk.now in
+    let leads : Leads c.search_start.new.self.store.table c.in_ok-from.from (state_in d c.args.self.now c.args.input.now w.units) = subst (λ (t : Rows). Leads t c.in_ok-from.from (state_in d c.args.self.now c.args.input.now w.units)) (sym c.search_start.ensures.table) c.in_ok-from.ensures.leads in
+    let dies : state_in d c.args.self.now c.args.input.now w.units ≡ dead = (dead_tagged c.search_start.new.self.store.table c.in_ok-from.from (c.see_ids.ensures.low c.in_ok-from.from) c.see_ids.ensures.small _ leads).0 (c.if-is_dead.ensures.0 refl) in
+    let moved : IsGrown c.resume.new.cache c.end_search.new.self = grown_trans c.resume.new.cache c.search_start.new.self c.end_search.new.self
+    (grown_moved c.resume.new.cache c.search_start.new.self c.search_start.ensures.value)
+    (grown_moved c.search_start.new.self c.end_search.new.self c.end_search.ensures.value) in (
+      state_after d c.args.self.now c.args.cache.now c.resume.new.cache c.end_search.new.self c.args.input.now w.stage c.in_ok-from.ensures.grown moved nothing c.in_ok-from.ensures.learned,
+      λ j l reads clean by. absurd (reads.1 (dead_more d c.args.self.now c.args.input.now w.units j l dies)),
+    )
+
+pub returns-clause-learned : goal.returns-clause-learned
+returns-clause-learned c = λ nothing k told ready may.
+    let d : Direction = way_of c.args.way in
+    let w : Walk = c.args.walk.now in
+    let moved : IsGrown c.resume.new.cache c.search_start.new.self = grown_moved c.resume.new.cache c.search_start.new.self c.search_start.ensures.value in
+    let whole : IsGrown c.resume.new.cache c.advance.new.cache = grown_trans c.resume.new.cache c.search_start.new.self c.advance.new.cache moved c.in_ok-arrival.ensures.grown in
+    let after : ClearedNothing c.resume.new.cache.store c.advance.new.cache.store = nothing_after c.args.cache.now c.resume.new.cache c.advance.new.cache c.in_ok-from.ensures.grown whole nothing in
+    let second : ClearedNothing c.search_start.new.self.store c.advance.new.cache.store = nothing_second c.resume.new.cache c.search_start.new.self c.advance.new.cache moved c.in_ok-arrival.ensures.grown after in
+    let units : HasLearnedUnits d c.args.self.now c.advance.new.cache.store c.args.input.now w.units c.in_ok-arrival.arrival.units = subst (λ n. HasLearnedUnits d c.args.self.now c.advance.new.cache.store c.args.input.now n c.in_ok-arrival.arrival.units) c.units-2.ensures (c.in_ok-arrival.ensures.learned second) in
+    let here : HasToldBy d c.args.self.now c.args.input.now w.units k = told_here d c.args.self.now c.args.input.now w k c.see_skips.ensures told c.requires.goes_on c.requires.all_told in
+    let arrives : IsArrival d c.args.self.now c.advance.new.cache.store.table c.args.input.now w.units c.in_ok-arrival.arrival.id c.in_ok-arrival.arrival.units = subst (λ n. IsArrival d c.args.self.now c.advance.new.cache.store.table c.args.input.now n c.in_ok-arrival.arrival.id c.in_ok-arrival.arrival.units) c.units-2.ensures c.in_ok-arrival.ensures.arrives in (
+      state_still d c.args.self.now c.resume.new.cache c.advance.new.cache c.args.input.now w.stage whole after c.in_ok-from.ensures.learned,
+      units_all d c.args.self.now c.advance.new.cache.store c.args.input.now w.units k c.in_ok-arrival.arrival.id c.in_ok-arrival.arrival.units arrives here units,
+    )
