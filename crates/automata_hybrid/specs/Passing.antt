@@ -66,6 +66,17 @@ pub record IsFollowed (way : Direction) (m : Machine) (c : Stored) (input : Inpu
   pub named : Names c.table id (state_in way m input to)
   pub quiet : (k : ℕ) → from ≤ k → k < to → IsQuiet way m c input k
 
+-- the unit at place `k` is no quit byte, and its transition is known
+pub record IsTaken (way : Direction) (m : Machine) (c : Stored) (input : Input) (k : ℕ) : Type 0 where
+  pub clean : (byte : ℕ) → next (tape_in way input) k ≡ Some byte → is_quit m.quits byte ≡ false
+  pub known : HasLearnedUnit way m c input k
+
+-- known transitions led a pass from its first `from` units on, to this ID behind its first `to`, whatever they told
+pub record IsLed (way : Direction) (m : Machine) (c : Stored) (input : Input) (from to id : ℕ) : Type 0 where
+  pub more : from ≤ to
+  pub named : Names c.table id (state_in way m input to)
+  pub taken : (k : ℕ) → from ≤ k → k < to → IsTaken way m c input k
+
 -- so is each transition that a pass took on its first `k` units
 abbrev pub HasLearned : Direction → Machine → Stored → Input → ℕ → Type 0
 HasLearned way m c input k = (j : ℕ) → j < k → Reads way m input j → HasLearnedUnit way m c input j

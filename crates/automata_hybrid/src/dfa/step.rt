@@ -205,6 +205,20 @@ impl DFA {
         cache.cell_untagged(id, self.class_of(byte))
     }
 
+    /// The same, of an ID that may have a tag.
+    #[inline(always)]
+    pub(crate) fn next_state_known(&self, cache: &Cache, id: LazyStateID, byte: u8) -> LazyStateID
+        requires of { IsCacheOf cache.now self.now }
+        requires valid { IsValid cache.now.store.table id }
+        ensures value { result ≡ cell_of cache.now.store id (class_in self.now.classes byte) }
+        ensures quit { is_quit self.now.quits byte ≡ true → result ≡ quit_id self.now.stride }
+        ensures named { is_quit self.now.quits byte ≡ false → result < unknown_id → (q : Powerset) → Names cache.now.store.table id q → Leads cache.now.store.table result (successor self.now.nfa self.now.kind q (Some byte)) }
+        ensures row { result < unknown_id → HasRow cache.now.store.table result }
+    {
+        cache.see_state(id);
+        cache.cell(id, self.class_of(byte))
+    }
+
     /// How many patterns match at a match state.
     pub fn match_len(&self, cache: &Cache, id: LazyStateID) -> usize
         requires of { IsCacheOf cache.now self.now }

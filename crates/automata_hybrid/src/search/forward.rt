@@ -1,4 +1,4 @@
-ghost use Rattle.std.specs.Prelude.{ℕ, ◌≡◌, ◌+◌, ◌-◌, ◌*◌, ◌^◌, ◌<◌, ◌≤◌, IfOk, IfErr, OnOk, Option, None, Err, Ok, ◌*◌, true, false, length, option_map};
+ghost use Rattle.std.specs.Prelude.{ℕ, ◌≡◌, ◌+◌, ◌-◌, ◌*◌, ◌^◌, ◌<◌, ◌≤◌, IfOk, IfErr, IsBitSet, OnOk, Option, None, Err, Ok, ◌*◌, true, false, length, option_map};
 ghost use Rattle.automata_base.specs.Answers.{IsAnswer};
 ghost use Rattle.automata_base.specs.declared.util.search.MatchKind.TheVariants.{All as KindAll};
 ghost use Rattle.automata_base.specs.Engines.{engine_of};
@@ -11,7 +11,7 @@ ghost use Rattle.automata_base.specs.declared.util.search.MatchErrorKind.TheVari
 ghost use Rattle.automata_hybrid.specs.Caches.{IsCacheOf};
 ghost use Rattle.automata_hybrid.specs.Growing.{IsGrown, IsStill, ClearedNothing, HasRoom};
 ghost use Rattle.automata_hybrid.specs.Knowing.{IsOfInput, KnowsItsStart, KnowsPass, Knows};
-ghost use Rattle.automata_hybrid.specs.Passing.{HasLearned, HasLearnedAll, IsAt, IsFollowed, found_over};
+ghost use Rattle.automata_hybrid.specs.Passing.{HasLearned, HasLearnedAll, IsAt, IsFollowed, IsLed, found_over};
 ghost use Rattle.automata_hybrid.specs.Searches.{IsFound, IsPassRefusal, IsRefused, MeetsNoQuit, NoQuitInReach, Skips, WithoutBase, state_in, tape_in, with_base};
 ghost use Rattle.automata_hybrid.specs.Slots.{supports};
 ghost use Rattle.automata_hybrid.specs.Starting.{MayStart, quit_behind};
@@ -20,7 +20,7 @@ ghost use Rattle.automata_hybrid.specs.Table.{IsValid, Names};
 use crate::dfa::DFA;
 use crate::dfa::cache::Cache;
 use crate::id::LazyStateID;
-use crate::search::{Stop, is_anchored, with_span};
+use crate::search::{Place, Stop, is_anchored, with_span};
 use automata_base::laws::told_is_right;
 use automata_base::util::search::{HalfMatch, Input};
 use automata_config::error::SearchError;
@@ -217,6 +217,85 @@ impl DFA {
         Stop { at, id }
     }
 
+    /// Follows known transitions into states that have patterns.
+    fn follow_matches_fwd(
+        &self,
+        cache: &Cache,
+        input: &Input<'_>,
+        start: usize,
+        from: LazyStateID,
+    ) -> Stop
+        requires of { IsCacheOf cache.now self.now }
+        requires valid { IsValid cache.now.store.table from }
+        requires from { input.now.start ≤ start }
+        requires within { start ≤ input.now.end }
+        ensures from { start ≤ result.at }
+        ensures within { result.at ≤ input.now.end }
+        ensures led { Names cache.now.store.table from (state_in Forward self.now input.now (start - input.now.start)) → IsLed Forward self.now cache.now.store input.now (start - input.now.start) (result.at - input.now.start) result.id }
+        ensures tells { start < result.at → IsBitSet result.id 27 }
+    {
+        self.see_classes();
+        let haystack = input.haystack();
+        let end = input.end();
+        let mut at = start;
+        let mut id = from;
+        while at < end {
+            let next = self.next_state_known(cache, id, haystack[at]);
+            if next.is_fixed() {
+                return Stop { at, id };
+            }
+            if !next.is_match() {
+                return Stop { at, id };
+            }
+            id = next;
+            at += 1;
+        }
+        Stop { at, id }
+    }
+
+    /// Follows known transitions as far as they tell nothing, and then into states that have patterns: the last of these
+    /// is asked for its pattern. An earliest search follows the first ones alone.
+    fn run_fwd(
+        &self,
+        cache: &Cache,
+        input: &Input<'_>,
+        start: usize,
+        from: LazyStateID,
+        found: Option<HalfMatch>,
+    ) -> Place
+        requires of { IsCacheOf cache.now self.now }
+        requires from { input.now.start ≤ start }
+        requires within { start ≤ input.now.end }
+        requires at { IsAt Forward self.now cache.now.store.table input.now (start - input.now.start) from found }
+        ensures from { start ≤ result.at }
+        ensures within { result.at ≤ input.now.end }
+        ensures at { IsAt Forward self.now cache.now.store.table input.now (result.at - input.now.start) result.id result.found }
+        ensures learned { HasLearned Forward self.now cache.now.store input.now (start - input.now.start) → HasLearned Forward self.now cache.now.store input.now (result.at - input.now.start) }
+    {
+        let quiet = self.follow_fwd(cache, input, start, from);
+        if input.get_earliest() {
+            return Place {
+                at: quiet.at,
+                id: quiet.id,
+                found,
+            };
+        }
+        let stop = self.follow_matches_fwd(cache, input, quiet.at, quiet.id);
+        if stop.at == quiet.at {
+            return Place {
+                at: quiet.at,
+                id: quiet.id,
+                found,
+            };
+        }
+        cache.see_ids();
+        Place {
+            at: stop.at,
+            id: stop.id,
+            found: self.found_at(cache, stop.id, stop.at - 1, found),
+        }
+    }
+
     /// Runs over the span from its start state, and takes the end step.
     fn find_fwd(
         &self,
@@ -241,22 +320,22 @@ impl DFA {
         let mut id = start;
         let mut found = None;
         while at < input.end() {
-            let stop = self.follow_fwd(cache, input, at, id);
-            if stop.at >= input.end() {
-                return self.find_end_fwd(cache, input, stop.id, found);
+            let run = self.run_fwd(cache, input, at, id, found);
+            if run.at >= input.end() {
+                return self.find_end_fwd(cache, input, run.id, run.found);
             }
-            let next = self.read(cache, stop.id, input.haystack()[stop.at], stop.at)?;
+            let next = self.read(cache, run.id, input.haystack()[run.at], run.at)?;
             if next.is_dead() {
-                cache.end_search(stop.at);
-                return Ok(found);
+                cache.end_search(run.at);
+                return Ok(run.found);
             }
-            found = self.found_at(cache, next, stop.at, found);
+            found = self.found_at(cache, next, run.at, run.found);
             if input.get_earliest() && found.is_some() {
-                cache.end_search(stop.at);
+                cache.end_search(run.at);
                 return Ok(found);
             }
             id = next;
-            at = stop.at + 1;
+            at = run.at + 1;
         }
         self.find_end_fwd(cache, input, id, found)
     }

@@ -32,6 +32,14 @@ struct Stop {
     id: LazyStateID,
 }
 
+/// Where a search is: what it found last, and the ID of its state.
+#[derive(Clone, Copy)]
+struct Place {
+    at: usize,
+    id: LazyStateID,
+    found: Option<HalfMatch>,
+}
+
 /// A refused step, at an offset.
 fn refusal(error: StepError, at: usize) -> SearchError
     ensures { result ≡ step_refusal error at }

@@ -1,4 +1,4 @@
-ghost use Rattle.std.specs.Prelude.{ℕ, ◌≡◌, ◌+◌, ◌-◌, ◌*◌, ◌^◌, ◌<◌, ◌≤◌, IfOk, IfErr, OnOk, Option, None, Some, true, false, length, Err, Ok};
+ghost use Rattle.std.specs.Prelude.{ℕ, ◌≡◌, ◌+◌, ◌-◌, ◌*◌, ◌^◌, ◌<◌, ◌≤◌, IfOk, IfErr, IsBitSet, OnOk, Option, None, Some, true, false, length, Err, Ok};
 ghost use Rattle.automata_base.specs.Answers.{IsAnswer};
 ghost use Rattle.automata_base.specs.Classes.{class_in, is_quit};
 ghost use Rattle.automata_base.specs.declared.util.search.MatchKind.TheVariants.{All as KindAll};
@@ -16,7 +16,7 @@ ghost use Rattle.automata_hybrid.specs.Bounds.{IsKnownTransition};
 ghost use Rattle.automata_hybrid.specs.Caches.{IsCacheOf};
 ghost use Rattle.automata_hybrid.specs.Growing.{IsGrown, IsStill, ClearedNothing, HasRoom};
 ghost use Rattle.automata_hybrid.specs.Knowing.{IsOfInput, KnowsItsStart, KnowsPass, Knows};
-ghost use Rattle.automata_hybrid.specs.Passing.{HasLearned, HasLearnedAll, IsAt, IsFollowed, found_over};
+ghost use Rattle.automata_hybrid.specs.Passing.{HasLearned, HasLearnedAll, IsAt, IsFollowed, IsLed, found_over};
 ghost use Rattle.automata_hybrid.specs.Searches.{IsFound, IsPassRefusal, IsRefused, IsStepRefusal, MeetsNoQuit, NoQuitInReach, Skips, WithoutBase, state_in, tape_in};
 ghost use Rattle.automata_hybrid.specs.Slots.{supports};
 ghost use Rattle.automata_hybrid.specs.Starting.{MayStart, quit_behind};
@@ -25,7 +25,7 @@ ghost use Rattle.automata_hybrid.specs.Table.{IsValid, Leads, Names};
 use crate::dfa::DFA;
 use crate::dfa::cache::Cache;
 use crate::id::LazyStateID;
-use crate::search::{Stop, is_anchored, quit, with_span};
+use crate::search::{Place, Stop, is_anchored, quit, with_span};
 use automata_base::laws::told_is_right;
 use automata_base::util::search::{Anchored, HalfMatch, Input};
 use automata_config::error::SearchError;
@@ -192,6 +192,85 @@ impl DFA {
         Stop { at, id }
     }
 
+    /// Follows known transitions into states that have patterns.
+    fn follow_matches_rev(
+        &self,
+        cache: &Cache,
+        input: &Input<'_>,
+        start: usize,
+        from: LazyStateID,
+    ) -> Stop
+        requires of { IsCacheOf cache.now self.now }
+        requires valid { IsValid cache.now.store.table from }
+        requires from { input.now.start ≤ start }
+        requires within { start ≤ input.now.end }
+        ensures from { input.now.start ≤ result.at }
+        ensures within { result.at ≤ start }
+        ensures led { Names cache.now.store.table from (state_in Backward self.now input.now (input.now.end - start)) → IsLed Backward self.now cache.now.store input.now (input.now.end - start) (input.now.end - result.at) result.id }
+        ensures tells { result.at < start → IsBitSet result.id 27 }
+    {
+        self.see_classes();
+        let haystack = input.haystack();
+        let first = input.start();
+        let mut at = start;
+        let mut id = from;
+        while at > first {
+            let next = self.next_state_known(cache, id, haystack[at - 1]);
+            if next.is_fixed() {
+                return Stop { at, id };
+            }
+            if !next.is_match() {
+                return Stop { at, id };
+            }
+            id = next;
+            at -= 1;
+        }
+        Stop { at, id }
+    }
+
+    /// Follows known transitions as far as they tell nothing, and then into states that have patterns: the last of these
+    /// is asked for its pattern. An earliest search follows the first ones alone.
+    fn run_rev(
+        &self,
+        cache: &Cache,
+        input: &Input<'_>,
+        start: usize,
+        from: LazyStateID,
+        found: Option<HalfMatch>,
+    ) -> Place
+        requires of { IsCacheOf cache.now self.now }
+        requires from { input.now.start ≤ start }
+        requires within { start ≤ input.now.end }
+        requires at { IsAt Backward self.now cache.now.store.table input.now (input.now.end - start) from found }
+        ensures from { input.now.start ≤ result.at }
+        ensures within { result.at ≤ start }
+        ensures at { IsAt Backward self.now cache.now.store.table input.now (input.now.end - result.at) result.id result.found }
+        ensures learned { HasLearned Backward self.now cache.now.store input.now (input.now.end - start) → HasLearned Backward self.now cache.now.store input.now (input.now.end - result.at) }
+    {
+        let quiet = self.follow_rev(cache, input, start, from);
+        if input.get_earliest() {
+            return Place {
+                at: quiet.at,
+                id: quiet.id,
+                found,
+            };
+        }
+        let stop = self.follow_matches_rev(cache, input, quiet.at, quiet.id);
+        if stop.at == quiet.at {
+            return Place {
+                at: quiet.at,
+                id: quiet.id,
+                found,
+            };
+        }
+        cache.see_ids();
+        Place {
+            at: stop.at,
+            id: stop.id,
+            found: self.found_at(cache, stop.id, stop.at + 1, found),
+        }
+    }
+
     /// Runs over the span, which isn't empty, from its start state, and takes the end step.
     fn find_rev(
         &self,
@@ -216,18 +295,18 @@ impl DFA {
         let mut id = start;
         let mut found = None;
         while at > input.start() {
-            let stop = self.follow_rev(cache, input, at, id);
-            if stop.at <= input.start() {
+            let run = self.run_rev(cache, input, at, id, found);
+            if run.at <= input.start() {
                 cache.end_search(input.start());
-                return self.find_end_rev(cache, input, stop.id, found);
+                return self.find_end_rev(cache, input, run.id, run.found);
             }
-            at = stop.at - 1;
-            id = self.read(cache, stop.id, input.haystack()[at], at)?;
+            at = run.at - 1;
+            id = self.read(cache, run.id, input.haystack()[at], at)?;
             if id.is_dead() {
                 cache.end_search(at);
-                return Ok(found);
+                return Ok(run.found);
             }
-            found = self.found_at(cache, id, stop.at, found);
+            found = self.found_at(cache, id, run.at, run.found);
             if input.get_earliest() && found.is_some() {
                 cache.end_search(at);
                 return Ok(found);

@@ -7,7 +7,6 @@ use Rattle.automata_hybrid.specs.Growing.{ClearedNothing}
 use Rattle.automata_hybrid.specs.Knowing.{KnowsPass}
 use Rattle.automata_hybrid.specs.Passing.{HasLearned, IsAt}
 use Rattle.automata_hybrid.specs.Searches.{tape_in}
-use Rattle.automata_hybrid.proofs.Following.{followed_at, followed_learned}
 use Rattle.automata_hybrid.proofs.Growing.{grown_moved, grown_same, grown_trans, nothing_first, nothing_second}
 use Rattle.automata_hybrid.proofs.Knowing.{knows_here, knows_still, learned_ends, learned_moved, learned_none, learned_step}
 use Rattle.automata_hybrid.proofs.Searching.{stops_dead, stops_ends, more_leads, more_at, more_dead, clean_dead, more_ends, clean_ends, starts_at, step_refuses, if_err, false_true, some_is, none_is}
@@ -31,109 +30,109 @@ loop-at-init c =
 
 pub find_end_fwd-requires-clause-at : goal.find_end_fwd-requires-clause-at
 find_end_fwd-requires-clause-at c =
-    let same : c.follow_fwd-stop.result.at - c.args.input.now.start ≡ c.args.input.now.end - c.args.input.now.start = omega (arith, c.if-stop-end.true, c.follow_fwd-stop.ensures.within, c.end-in-loop-at.ensures.end) in
-    subst (λ k. IsAt Forward c.args.self.now c.loop-at.cache.store.table c.args.input.now k c.follow_fwd-stop.result.id c.loop-at.found) same (followed_at (c.follow_fwd-stop.ensures.followed c.loop-at.invariant.at.named) c.loop-at.invariant.at)
+    let same : c.run_fwd-run.result.at - c.args.input.now.start ≡ c.args.input.now.end - c.args.input.now.start = omega (arith, c.if-run-end.true, c.run_fwd-run.ensures.within, c.end-in-loop-at.ensures.end) in
+    subst (λ k. IsAt Forward c.args.self.now c.loop-at.cache.store.table c.args.input.now k c.run_fwd-run.result.id c.run_fwd-run.result.found) same (c.run_fwd-run.ensures.at)
 
 pub returns-in_err-next-clause-errors : goal.returns-in_err-next-clause-errors
 returns-in_err-next-clause-errors c =
-    let from : c.args.input.now.start ≤ c.follow_fwd-stop.result.at = omega (arith, c.loop-at.invariant.from, c.follow_fwd-stop.ensures.from) in
-    let inside : c.follow_fwd-stop.result.at < c.args.input.now.end = omega (arith, c.if-stop-end.false, c.end-in-loop-at.ensures.end) in
-    let k : ℕ = c.follow_fwd-stop.result.at - c.args.input.now.start in
-    let place : c.follow_fwd-stop.result.at ≡ c.args.input.now.start + k = omega (arith, from) in
-    let at : IsAt Forward c.args.self.now c.loop-at.cache.store.table c.args.input.now k c.follow_fwd-stop.result.id c.loop-at.found = followed_at (c.follow_fwd-stop.ensures.followed c.loop-at.invariant.at.named) c.loop-at.invariant.at in
-    let read : next (tape_in Forward c.args.input.now) k ≡ Some _ = forward_read c.args.input.now c.haystack.result.now c.follow_fwd-stop.result.at c.follow_fwd-stop.result.at from (omega (arith, inside)) c.end-in-loop-at.ensures.within.1 (omega (arith, inside, c.end-in-loop-at.ensures.within.1)) c.haystack.ensures.same refl in
+    let from : c.args.input.now.start ≤ c.run_fwd-run.result.at = omega (arith, c.loop-at.invariant.from, c.run_fwd-run.ensures.from) in
+    let inside : c.run_fwd-run.result.at < c.args.input.now.end = omega (arith, c.if-run-end.false, c.end-in-loop-at.ensures.end) in
+    let k : ℕ = c.run_fwd-run.result.at - c.args.input.now.start in
+    let place : c.run_fwd-run.result.at ≡ c.args.input.now.start + k = omega (arith, from) in
+    let at : IsAt Forward c.args.self.now c.loop-at.cache.store.table c.args.input.now k c.run_fwd-run.result.id c.run_fwd-run.result.found = c.run_fwd-run.ensures.at in
+    let read : next (tape_in Forward c.args.input.now) k ≡ Some _ = forward_read c.args.input.now c.haystack.result.now c.run_fwd-run.result.at c.run_fwd-run.result.at from (omega (arith, inside)) c.end-in-loop-at.ensures.within.1 (omega (arith, inside, c.end-in-loop-at.ensures.within.1)) c.haystack.ensures.same refl in
     let few : k ≤ length (tape_in Forward c.args.input.now).bytes = (let u : c.args.input.now.end - c.args.input.now.start ≡ length (tape_in Forward c.args.input.now).bytes = forward_units c.args.input.now c.requires.open c.end-in-loop-at.ensures.within.1 in omega (arith, u, inside)) in
     if_err c.from_residual.result _ _ c.from_residual.ensures.1
-    (step_refuses Forward c.args.self.now c.loop-at.cache.store.table c.read.new.cache.store c.args.input.now k c.follow_fwd-stop.result.id c.follow_fwd-stop.result.at c.follow_fwd-stop.result.at _ c.loop-at.found c.in_err-next.field-0.0
+    (step_refuses Forward c.args.self.now c.loop-at.cache.store.table c.read.new.cache.store c.args.input.now k c.run_fwd-run.result.id c.run_fwd-run.result.at c.run_fwd-run.result.at _ c.run_fwd-run.result.found c.in_err-next.field-0.0
     at few c.in_err-next.ensures.alive read (sym place) (sym place) c.in_err-next.ensures.errors c.requires.may.0)
 
 pub returns-then-is_dead-clause-found : goal.returns-then-is_dead-clause-found
 returns-then-is_dead-clause-found c =
-    let from : c.args.input.now.start ≤ c.follow_fwd-stop.result.at = omega (arith, c.loop-at.invariant.from, c.follow_fwd-stop.ensures.from) in
-    let inside : c.follow_fwd-stop.result.at < c.args.input.now.end = omega (arith, c.if-stop-end.false, c.end-in-loop-at.ensures.end) in
-    let k : ℕ = c.follow_fwd-stop.result.at - c.args.input.now.start in
-    let place : c.follow_fwd-stop.result.at ≡ c.args.input.now.start + k = omega (arith, from) in
-    let at : IsAt Forward c.args.self.now c.loop-at.cache.store.table c.args.input.now k c.follow_fwd-stop.result.id c.loop-at.found = followed_at (c.follow_fwd-stop.ensures.followed c.loop-at.invariant.at.named) c.loop-at.invariant.at in
-    let read : next (tape_in Forward c.args.input.now) k ≡ Some _ = forward_read c.args.input.now c.haystack.result.now c.follow_fwd-stop.result.at c.follow_fwd-stop.result.at from (omega (arith, inside)) c.end-in-loop-at.ensures.within.1 (omega (arith, inside, c.end-in-loop-at.ensures.within.1)) c.haystack.ensures.same refl in
+    let from : c.args.input.now.start ≤ c.run_fwd-run.result.at = omega (arith, c.loop-at.invariant.from, c.run_fwd-run.ensures.from) in
+    let inside : c.run_fwd-run.result.at < c.args.input.now.end = omega (arith, c.if-run-end.false, c.end-in-loop-at.ensures.end) in
+    let k : ℕ = c.run_fwd-run.result.at - c.args.input.now.start in
+    let place : c.run_fwd-run.result.at ≡ c.args.input.now.start + k = omega (arith, from) in
+    let at : IsAt Forward c.args.self.now c.loop-at.cache.store.table c.args.input.now k c.run_fwd-run.result.id c.run_fwd-run.result.found = c.run_fwd-run.ensures.at in
+    let read : next (tape_in Forward c.args.input.now) k ≡ Some _ = forward_read c.args.input.now c.haystack.result.now c.run_fwd-run.result.at c.run_fwd-run.result.at from (omega (arith, inside)) c.end-in-loop-at.ensures.within.1 (omega (arith, inside, c.end-in-loop-at.ensures.within.1)) c.haystack.ensures.same refl in
     let few : k ≤ length (tape_in Forward c.args.input.now).bytes = (let u : c.args.input.now.end - c.args.input.now.start ≡ length (tape_in Forward c.args.input.now).bytes = forward_units c.args.input.now c.requires.open c.end-in-loop-at.ensures.within.1 in omega (arith, u, inside)) in
-    more_dead Forward c.args.self.now c.loop-at.cache.store.table c.read.new.cache.store.table c.args.input.now k c.follow_fwd-stop.result.id c.in_ok-next.next _ c.loop-at.found None at read c.in_ok-next.ensures.named (λ byte e. subst (λ v. is_quit c.args.self.now.quits v ≡ false) (some_inj e) c.in_ok-next.ensures.clean) (λ l. (c.in_ok-next.ensures.dead _ l).0 (c.if-is_dead.ensures.0 refl)) few
+    more_dead Forward c.args.self.now c.loop-at.cache.store.table c.read.new.cache.store.table c.args.input.now k c.run_fwd-run.result.id c.in_ok-next.next _ c.run_fwd-run.result.found None at read c.in_ok-next.ensures.named (λ byte e. subst (λ v. is_quit c.args.self.now.quits v ≡ false) (some_inj e) c.in_ok-next.ensures.clean) (λ l. (c.in_ok-next.ensures.dead _ l).0 (c.if-is_dead.ensures.0 refl)) few
 
 pub returns-then-is_dead-clause-clean : goal.returns-then-is_dead-clause-clean
 returns-then-is_dead-clause-clean c =
-    let from : c.args.input.now.start ≤ c.follow_fwd-stop.result.at = omega (arith, c.loop-at.invariant.from, c.follow_fwd-stop.ensures.from) in
-    let inside : c.follow_fwd-stop.result.at < c.args.input.now.end = omega (arith, c.if-stop-end.false, c.end-in-loop-at.ensures.end) in
-    let k : ℕ = c.follow_fwd-stop.result.at - c.args.input.now.start in
-    let place : c.follow_fwd-stop.result.at ≡ c.args.input.now.start + k = omega (arith, from) in
-    let at : IsAt Forward c.args.self.now c.loop-at.cache.store.table c.args.input.now k c.follow_fwd-stop.result.id c.loop-at.found = followed_at (c.follow_fwd-stop.ensures.followed c.loop-at.invariant.at.named) c.loop-at.invariant.at in
-    let read : next (tape_in Forward c.args.input.now) k ≡ Some _ = forward_read c.args.input.now c.haystack.result.now c.follow_fwd-stop.result.at c.follow_fwd-stop.result.at from (omega (arith, inside)) c.end-in-loop-at.ensures.within.1 (omega (arith, inside, c.end-in-loop-at.ensures.within.1)) c.haystack.ensures.same refl in
+    let from : c.args.input.now.start ≤ c.run_fwd-run.result.at = omega (arith, c.loop-at.invariant.from, c.run_fwd-run.ensures.from) in
+    let inside : c.run_fwd-run.result.at < c.args.input.now.end = omega (arith, c.if-run-end.false, c.end-in-loop-at.ensures.end) in
+    let k : ℕ = c.run_fwd-run.result.at - c.args.input.now.start in
+    let place : c.run_fwd-run.result.at ≡ c.args.input.now.start + k = omega (arith, from) in
+    let at : IsAt Forward c.args.self.now c.loop-at.cache.store.table c.args.input.now k c.run_fwd-run.result.id c.run_fwd-run.result.found = c.run_fwd-run.ensures.at in
+    let read : next (tape_in Forward c.args.input.now) k ≡ Some _ = forward_read c.args.input.now c.haystack.result.now c.run_fwd-run.result.at c.run_fwd-run.result.at from (omega (arith, inside)) c.end-in-loop-at.ensures.within.1 (omega (arith, inside, c.end-in-loop-at.ensures.within.1)) c.haystack.ensures.same refl in
     let few : k ≤ length (tape_in Forward c.args.input.now).bytes = (let u : c.args.input.now.end - c.args.input.now.start ≡ length (tape_in Forward c.args.input.now).bytes = forward_units c.args.input.now c.requires.open c.end-in-loop-at.ensures.within.1 in omega (arith, u, inside)) in
-    clean_dead Forward c.args.self.now c.loop-at.cache.store.table c.read.new.cache.store.table c.args.input.now k c.follow_fwd-stop.result.id c.in_ok-next.next _ c.loop-at.found None at read c.in_ok-next.ensures.named (λ byte e. subst (λ v. is_quit c.args.self.now.quits v ≡ false) (some_inj e) c.in_ok-next.ensures.clean) (λ l. (c.in_ok-next.ensures.dead _ l).0 (c.if-is_dead.ensures.0 refl)) c.requires.may.0
+    clean_dead Forward c.args.self.now c.loop-at.cache.store.table c.read.new.cache.store.table c.args.input.now k c.run_fwd-run.result.id c.in_ok-next.next _ c.run_fwd-run.result.found None at read c.in_ok-next.ensures.named (λ byte e. subst (λ v. is_quit c.args.self.now.quits v ≡ false) (some_inj e) c.in_ok-next.ensures.clean) (λ l. (c.in_ok-next.ensures.dead _ l).0 (c.if-is_dead.ensures.0 refl)) c.requires.may.0
 
 pub found_at-found-requires-clause-leads : goal.found_at-found-requires-clause-leads
 found_at-found-requires-clause-leads c =
-    let from : c.args.input.now.start ≤ c.follow_fwd-stop.result.at = omega (arith, c.loop-at.invariant.from, c.follow_fwd-stop.ensures.from) in
-    let inside : c.follow_fwd-stop.result.at < c.args.input.now.end = omega (arith, c.if-stop-end.false, c.end-in-loop-at.ensures.end) in
-    let k : ℕ = c.follow_fwd-stop.result.at - c.args.input.now.start in
-    let place : c.follow_fwd-stop.result.at ≡ c.args.input.now.start + k = omega (arith, from) in
-    let at : IsAt Forward c.args.self.now c.loop-at.cache.store.table c.args.input.now k c.follow_fwd-stop.result.id c.loop-at.found = followed_at (c.follow_fwd-stop.ensures.followed c.loop-at.invariant.at.named) c.loop-at.invariant.at in
-    let read : next (tape_in Forward c.args.input.now) k ≡ Some _ = forward_read c.args.input.now c.haystack.result.now c.follow_fwd-stop.result.at c.follow_fwd-stop.result.at from (omega (arith, inside)) c.end-in-loop-at.ensures.within.1 (omega (arith, inside, c.end-in-loop-at.ensures.within.1)) c.haystack.ensures.same refl in
+    let from : c.args.input.now.start ≤ c.run_fwd-run.result.at = omega (arith, c.loop-at.invariant.from, c.run_fwd-run.ensures.from) in
+    let inside : c.run_fwd-run.result.at < c.args.input.now.end = omega (arith, c.if-run-end.false, c.end-in-loop-at.ensures.end) in
+    let k : ℕ = c.run_fwd-run.result.at - c.args.input.now.start in
+    let place : c.run_fwd-run.result.at ≡ c.args.input.now.start + k = omega (arith, from) in
+    let at : IsAt Forward c.args.self.now c.loop-at.cache.store.table c.args.input.now k c.run_fwd-run.result.id c.run_fwd-run.result.found = c.run_fwd-run.ensures.at in
+    let read : next (tape_in Forward c.args.input.now) k ≡ Some _ = forward_read c.args.input.now c.haystack.result.now c.run_fwd-run.result.at c.run_fwd-run.result.at from (omega (arith, inside)) c.end-in-loop-at.ensures.within.1 (omega (arith, inside, c.end-in-loop-at.ensures.within.1)) c.haystack.ensures.same refl in
     let few : k ≤ length (tape_in Forward c.args.input.now).bytes = (let u : c.args.input.now.end - c.args.input.now.start ≡ length (tape_in Forward c.args.input.now).bytes = forward_units c.args.input.now c.requires.open c.end-in-loop-at.ensures.within.1 in omega (arith, u, inside)) in
-    (_, more_leads Forward c.args.self.now c.loop-at.cache.store.table c.read.new.cache.store.table c.args.input.now k c.follow_fwd-stop.result.id c.in_ok-next.next _ c.loop-at.found None at read c.in_ok-next.ensures.named (λ byte e. subst (λ v. is_quit c.args.self.now.quits v ≡ false) (some_inj e) c.in_ok-next.ensures.clean))
+    (_, more_leads Forward c.args.self.now c.loop-at.cache.store.table c.read.new.cache.store.table c.args.input.now k c.run_fwd-run.result.id c.in_ok-next.next _ c.run_fwd-run.result.found None at read c.in_ok-next.ensures.named (λ byte e. subst (λ v. is_quit c.args.self.now.quits v ≡ false) (some_inj e) c.in_ok-next.ensures.clean))
 
 pub returns-then-is_some-clause-found : goal.returns-then-is_some-clause-found
 returns-then-is_some-clause-found c =
-    let from : c.args.input.now.start ≤ c.follow_fwd-stop.result.at = omega (arith, c.loop-at.invariant.from, c.follow_fwd-stop.ensures.from) in
-    let inside : c.follow_fwd-stop.result.at < c.args.input.now.end = omega (arith, c.if-stop-end.false, c.end-in-loop-at.ensures.end) in
-    let k : ℕ = c.follow_fwd-stop.result.at - c.args.input.now.start in
-    let place : c.follow_fwd-stop.result.at ≡ c.args.input.now.start + k = omega (arith, from) in
-    let at : IsAt Forward c.args.self.now c.loop-at.cache.store.table c.args.input.now k c.follow_fwd-stop.result.id c.loop-at.found = followed_at (c.follow_fwd-stop.ensures.followed c.loop-at.invariant.at.named) c.loop-at.invariant.at in
-    let read : next (tape_in Forward c.args.input.now) k ≡ Some _ = forward_read c.args.input.now c.haystack.result.now c.follow_fwd-stop.result.at c.follow_fwd-stop.result.at from (omega (arith, inside)) c.end-in-loop-at.ensures.within.1 (omega (arith, inside, c.end-in-loop-at.ensures.within.1)) c.haystack.ensures.same refl in
+    let from : c.args.input.now.start ≤ c.run_fwd-run.result.at = omega (arith, c.loop-at.invariant.from, c.run_fwd-run.ensures.from) in
+    let inside : c.run_fwd-run.result.at < c.args.input.now.end = omega (arith, c.if-run-end.false, c.end-in-loop-at.ensures.end) in
+    let k : ℕ = c.run_fwd-run.result.at - c.args.input.now.start in
+    let place : c.run_fwd-run.result.at ≡ c.args.input.now.start + k = omega (arith, from) in
+    let at : IsAt Forward c.args.self.now c.loop-at.cache.store.table c.args.input.now k c.run_fwd-run.result.id c.run_fwd-run.result.found = c.run_fwd-run.ensures.at in
+    let read : next (tape_in Forward c.args.input.now) k ≡ Some _ = forward_read c.args.input.now c.haystack.result.now c.run_fwd-run.result.at c.run_fwd-run.result.at from (omega (arith, inside)) c.end-in-loop-at.ensures.within.1 (omega (arith, inside, c.end-in-loop-at.ensures.within.1)) c.haystack.ensures.same refl in
     let few : k ≤ length (tape_in Forward c.args.input.now).bytes = (let u : c.args.input.now.end - c.args.input.now.start ≡ length (tape_in Forward c.args.input.now).bytes = forward_units c.args.input.now c.requires.open c.end-in-loop-at.ensures.within.1 in omega (arith, u, inside)) in
-    more_ends Forward c.args.self.now c.loop-at.cache.store.table c.read.new.cache.store.table c.args.input.now k c.follow_fwd-stop.result.id c.in_ok-next.next _ c.loop-at.found c.found_at-found.result at read c.in_ok-next.ensures.named (λ byte e. subst (λ v. is_quit c.args.self.now.quits v ≡ false) (some_inj e) c.in_ok-next.ensures.clean) (c.follow_fwd-stop.result.at, place, c.found_at-found.ensures) few (sym c.get_earliest.ensures ∙ c.if-get_earliest.true) (some_is c.found_at-found.result c.if-is_some.ensures)
+    more_ends Forward c.args.self.now c.loop-at.cache.store.table c.read.new.cache.store.table c.args.input.now k c.run_fwd-run.result.id c.in_ok-next.next _ c.run_fwd-run.result.found c.found_at-found.result at read c.in_ok-next.ensures.named (λ byte e. subst (λ v. is_quit c.args.self.now.quits v ≡ false) (some_inj e) c.in_ok-next.ensures.clean) (c.run_fwd-run.result.at, place, c.found_at-found.ensures) few (sym c.get_earliest.ensures ∙ c.if-get_earliest.true) (some_is c.found_at-found.result c.if-is_some.ensures)
 
 pub returns-then-is_some-clause-clean : goal.returns-then-is_some-clause-clean
 returns-then-is_some-clause-clean c =
-    let from : c.args.input.now.start ≤ c.follow_fwd-stop.result.at = omega (arith, c.loop-at.invariant.from, c.follow_fwd-stop.ensures.from) in
-    let inside : c.follow_fwd-stop.result.at < c.args.input.now.end = omega (arith, c.if-stop-end.false, c.end-in-loop-at.ensures.end) in
-    let k : ℕ = c.follow_fwd-stop.result.at - c.args.input.now.start in
-    let place : c.follow_fwd-stop.result.at ≡ c.args.input.now.start + k = omega (arith, from) in
-    let at : IsAt Forward c.args.self.now c.loop-at.cache.store.table c.args.input.now k c.follow_fwd-stop.result.id c.loop-at.found = followed_at (c.follow_fwd-stop.ensures.followed c.loop-at.invariant.at.named) c.loop-at.invariant.at in
-    let read : next (tape_in Forward c.args.input.now) k ≡ Some _ = forward_read c.args.input.now c.haystack.result.now c.follow_fwd-stop.result.at c.follow_fwd-stop.result.at from (omega (arith, inside)) c.end-in-loop-at.ensures.within.1 (omega (arith, inside, c.end-in-loop-at.ensures.within.1)) c.haystack.ensures.same refl in
+    let from : c.args.input.now.start ≤ c.run_fwd-run.result.at = omega (arith, c.loop-at.invariant.from, c.run_fwd-run.ensures.from) in
+    let inside : c.run_fwd-run.result.at < c.args.input.now.end = omega (arith, c.if-run-end.false, c.end-in-loop-at.ensures.end) in
+    let k : ℕ = c.run_fwd-run.result.at - c.args.input.now.start in
+    let place : c.run_fwd-run.result.at ≡ c.args.input.now.start + k = omega (arith, from) in
+    let at : IsAt Forward c.args.self.now c.loop-at.cache.store.table c.args.input.now k c.run_fwd-run.result.id c.run_fwd-run.result.found = c.run_fwd-run.ensures.at in
+    let read : next (tape_in Forward c.args.input.now) k ≡ Some _ = forward_read c.args.input.now c.haystack.result.now c.run_fwd-run.result.at c.run_fwd-run.result.at from (omega (arith, inside)) c.end-in-loop-at.ensures.within.1 (omega (arith, inside, c.end-in-loop-at.ensures.within.1)) c.haystack.ensures.same refl in
     let few : k ≤ length (tape_in Forward c.args.input.now).bytes = (let u : c.args.input.now.end - c.args.input.now.start ≡ length (tape_in Forward c.args.input.now).bytes = forward_units c.args.input.now c.requires.open c.end-in-loop-at.ensures.within.1 in omega (arith, u, inside)) in
-    clean_ends Forward c.args.self.now c.loop-at.cache.store.table c.read.new.cache.store.table c.args.input.now k c.follow_fwd-stop.result.id c.in_ok-next.next _ c.loop-at.found c.found_at-found.result at read c.in_ok-next.ensures.named (λ byte e. subst (λ v. is_quit c.args.self.now.quits v ≡ false) (some_inj e) c.in_ok-next.ensures.clean) (c.follow_fwd-stop.result.at, place, c.found_at-found.ensures) (sym c.get_earliest.ensures ∙ c.if-get_earliest.true) (some_is c.found_at-found.result c.if-is_some.ensures) c.requires.may.0
+    clean_ends Forward c.args.self.now c.loop-at.cache.store.table c.read.new.cache.store.table c.args.input.now k c.run_fwd-run.result.id c.in_ok-next.next _ c.run_fwd-run.result.found c.found_at-found.result at read c.in_ok-next.ensures.named (λ byte e. subst (λ v. is_quit c.args.self.now.quits v ≡ false) (some_inj e) c.in_ok-next.ensures.clean) (c.run_fwd-run.result.at, place, c.found_at-found.ensures) (sym c.get_earliest.ensures ∙ c.if-get_earliest.true) (some_is c.found_at-found.result c.if-is_some.ensures) c.requires.may.0
 
 pub loop-at-preserved : goal.loop-at-preserved
 loop-at-preserved c =
-    let from : c.args.input.now.start ≤ c.follow_fwd-stop.result.at = omega (arith, c.loop-at.invariant.from, c.follow_fwd-stop.ensures.from) in
-    let inside : c.follow_fwd-stop.result.at < c.args.input.now.end = omega (arith, c.if-stop-end.false, c.end-in-loop-at.ensures.end) in
-    let k : ℕ = c.follow_fwd-stop.result.at - c.args.input.now.start in
-    let place : c.follow_fwd-stop.result.at ≡ c.args.input.now.start + k = omega (arith, from) in
-    let at : IsAt Forward c.args.self.now c.loop-at.cache.store.table c.args.input.now k c.follow_fwd-stop.result.id c.loop-at.found = followed_at (c.follow_fwd-stop.ensures.followed c.loop-at.invariant.at.named) c.loop-at.invariant.at in
-    let read : next (tape_in Forward c.args.input.now) k ≡ Some _ = forward_read c.args.input.now c.haystack.result.now c.follow_fwd-stop.result.at c.follow_fwd-stop.result.at from (omega (arith, inside)) c.end-in-loop-at.ensures.within.1 (omega (arith, inside, c.end-in-loop-at.ensures.within.1)) c.haystack.ensures.same refl in
+    let from : c.args.input.now.start ≤ c.run_fwd-run.result.at = omega (arith, c.loop-at.invariant.from, c.run_fwd-run.ensures.from) in
+    let inside : c.run_fwd-run.result.at < c.args.input.now.end = omega (arith, c.if-run-end.false, c.end-in-loop-at.ensures.end) in
+    let k : ℕ = c.run_fwd-run.result.at - c.args.input.now.start in
+    let place : c.run_fwd-run.result.at ≡ c.args.input.now.start + k = omega (arith, from) in
+    let at : IsAt Forward c.args.self.now c.loop-at.cache.store.table c.args.input.now k c.run_fwd-run.result.id c.run_fwd-run.result.found = c.run_fwd-run.ensures.at in
+    let read : next (tape_in Forward c.args.input.now) k ≡ Some _ = forward_read c.args.input.now c.haystack.result.now c.run_fwd-run.result.at c.run_fwd-run.result.at from (omega (arith, inside)) c.end-in-loop-at.ensures.within.1 (omega (arith, inside, c.end-in-loop-at.ensures.within.1)) c.haystack.ensures.same refl in
     let few : k ≤ length (tape_in Forward c.args.input.now).bytes = (let u : c.args.input.now.end - c.args.input.now.start ≡ length (tape_in Forward c.args.input.now).bytes = forward_units c.args.input.now c.requires.open c.end-in-loop-at.ensures.within.1 in omega (arith, u, inside)) in
     let first : c.args.input.now.earliest ≡ true → c.found_at-found.result ≡ None =
     elim c.else-get_earliest.branch [
       | else-get_earliest-via-then-get_earliest+else-is_some w ↦ λ e. none_is c.found_at-found.result (sym w.is_some.ensures ∙ w.if-is_some.false)
       | else-get_earliest-via-else-get_earliest w ↦ λ e. absurd (false_true (sym w.if-get_earliest.false ∙ (c.get_earliest.ensures ∙ e)))
     ] in
-    let more : suc k ≡ c.follow_fwd-stop.result.at + 1 - c.args.input.now.start = omega (arith, from) in
+    let more : suc k ≡ c.run_fwd-run.result.at + 1 - c.args.input.now.start = omega (arith, from) in
     record {
       of = c.in_ok-next.ensures.of;
-      counted = omega (arith, c.in_ok-next.ensures.counted, c.loop-at.invariant.counted, from, c.follow_fwd-stop.ensures.from, c.loop-at.invariant.from);
+      counted = omega (arith, c.in_ok-next.ensures.counted, c.loop-at.invariant.counted, from, c.run_fwd-run.ensures.from, c.loop-at.invariant.from);
       grown = grown_trans c.args.cache.now c.loop-at.cache c.read.new.cache c.loop-at.invariant.grown c.in_ok-next.ensures.grown;
       idle = λ knows. (
           let still : KnowsPass Forward c.args.self.now c.loop-at.cache.store c.args.input.now = knows_still Forward c.args.self.now c.args.input.now c.args.cache.now c.loop-at.cache c.loop-at.invariant.grown (c.loop-at.invariant.idle knows) knows in
-          let idle = c.in_ok-next.ensures.idle (knows_here Forward c.args.self.now c.loop-at.cache.store c.args.input.now k c.follow_fwd-stop.result.id c.loop-at.found (Some _) still c.requires.may at few c.in_ok-next.ensures.alive read) in
+          let idle = c.in_ok-next.ensures.idle (knows_here Forward c.args.self.now c.loop-at.cache.store c.args.input.now k c.run_fwd-run.result.id c.run_fwd-run.result.found (Some _) still c.requires.may at few c.in_ok-next.ensures.alive read) in
           idle.0 ∙ c.loop-at.invariant.idle knows);
       learned = λ begin nothing. (
           let before = c.loop-at.invariant.learned begin (nothing_first c.args.cache.now c.loop-at.cache c.read.new.cache c.loop-at.invariant.grown c.in_ok-next.ensures.grown nothing) in
           let after : ClearedNothing c.loop-at.cache.store c.read.new.cache.store = nothing_second c.args.cache.now c.loop-at.cache c.read.new.cache c.loop-at.invariant.grown c.in_ok-next.ensures.grown nothing in
-          let step = learned_step Forward c.args.self.now c.loop-at.cache c.read.new.cache c.args.input.now k c.follow_fwd-stop.result.id (Some _) c.in_ok-next.ensures.grown c.in_ok-next.ensures.of after before.0
-          (followed_learned (c.follow_fwd-stop.ensures.followed c.loop-at.invariant.at.named) before.1) at.named read (c.in_ok-next.ensures.learned after) c.in_ok-next.ensures.below in
+          let step = learned_step Forward c.args.self.now c.loop-at.cache c.read.new.cache c.args.input.now k c.run_fwd-run.result.id (Some _) c.in_ok-next.ensures.grown c.in_ok-next.ensures.of after before.0
+          (c.run_fwd-run.ensures.learned before.1) at.named read (c.in_ok-next.ensures.learned after) c.in_ok-next.ensures.below in
           (step.0, subst (HasLearned Forward c.args.self.now c.read.new.cache.store c.args.input.now) more step.1));
       from = omega (arith, from);
       within = omega (arith, inside);
-      at = subst (λ n. IsAt Forward c.args.self.now c.read.new.cache.store.table c.args.input.now n c.in_ok-next.next c.found_at-found.result) more (more_at Forward c.args.self.now c.loop-at.cache.store.table c.read.new.cache.store.table c.args.input.now k c.follow_fwd-stop.result.id c.in_ok-next.next _ c.loop-at.found c.found_at-found.result at read c.in_ok-next.ensures.named (λ byte e. subst (λ v. is_quit c.args.self.now.quits v ≡ false) (some_inj e) c.in_ok-next.ensures.clean) (c.follow_fwd-stop.result.at, place, c.found_at-found.ensures) first (λ l. (c.in_ok-next.ensures.dead _ l).1 (λ b. false_true (c.if-is_dead.ensures.1 b))));
+      at = subst (λ n. IsAt Forward c.args.self.now c.read.new.cache.store.table c.args.input.now n c.in_ok-next.next c.found_at-found.result) more (more_at Forward c.args.self.now c.loop-at.cache.store.table c.read.new.cache.store.table c.args.input.now k c.run_fwd-run.result.id c.in_ok-next.next _ c.run_fwd-run.result.found c.found_at-found.result at read c.in_ok-next.ensures.named (λ byte e. subst (λ v. is_quit c.args.self.now.quits v ≡ false) (some_inj e) c.in_ok-next.ensures.clean) (c.run_fwd-run.result.at, place, c.found_at-found.ensures) first (λ l. (c.in_ok-next.ensures.dead _ l).1 (λ b. false_true (c.if-is_dead.ensures.1 b))));
     }
 
 pub returns-then-is_dead-clause-grown : goal.returns-then-is_dead-clause-grown
@@ -144,32 +143,32 @@ returns-then-is_dead-clause-grown c =
 
 pub returns-then-is_dead-clause-idle : goal.returns-then-is_dead-clause-idle
 returns-then-is_dead-clause-idle c = λ knows.
-    let from : c.args.input.now.start ≤ c.follow_fwd-stop.result.at = omega (arith, c.loop-at.invariant.from, c.follow_fwd-stop.ensures.from) in
-    let inside : c.follow_fwd-stop.result.at < c.args.input.now.end = omega (arith, c.if-stop-end.false, c.end-in-loop-at.ensures.end) in
-    let k : ℕ = c.follow_fwd-stop.result.at - c.args.input.now.start in
-    let place : c.follow_fwd-stop.result.at ≡ c.args.input.now.start + k = omega (arith, from) in
-    let at : IsAt Forward c.args.self.now c.loop-at.cache.store.table c.args.input.now k c.follow_fwd-stop.result.id c.loop-at.found = followed_at (c.follow_fwd-stop.ensures.followed c.loop-at.invariant.at.named) c.loop-at.invariant.at in
-    let read : next (tape_in Forward c.args.input.now) k ≡ Some _ = forward_read c.args.input.now c.haystack.result.now c.follow_fwd-stop.result.at c.follow_fwd-stop.result.at from (omega (arith, inside)) c.end-in-loop-at.ensures.within.1 (omega (arith, inside, c.end-in-loop-at.ensures.within.1)) c.haystack.ensures.same refl in
+    let from : c.args.input.now.start ≤ c.run_fwd-run.result.at = omega (arith, c.loop-at.invariant.from, c.run_fwd-run.ensures.from) in
+    let inside : c.run_fwd-run.result.at < c.args.input.now.end = omega (arith, c.if-run-end.false, c.end-in-loop-at.ensures.end) in
+    let k : ℕ = c.run_fwd-run.result.at - c.args.input.now.start in
+    let place : c.run_fwd-run.result.at ≡ c.args.input.now.start + k = omega (arith, from) in
+    let at : IsAt Forward c.args.self.now c.loop-at.cache.store.table c.args.input.now k c.run_fwd-run.result.id c.run_fwd-run.result.found = c.run_fwd-run.ensures.at in
+    let read : next (tape_in Forward c.args.input.now) k ≡ Some _ = forward_read c.args.input.now c.haystack.result.now c.run_fwd-run.result.at c.run_fwd-run.result.at from (omega (arith, inside)) c.end-in-loop-at.ensures.within.1 (omega (arith, inside, c.end-in-loop-at.ensures.within.1)) c.haystack.ensures.same refl in
     let few : k ≤ length (tape_in Forward c.args.input.now).bytes = (let u : c.args.input.now.end - c.args.input.now.start ≡ length (tape_in Forward c.args.input.now).bytes = forward_units c.args.input.now c.requires.open c.end-in-loop-at.ensures.within.1 in omega (arith, u, inside)) in
     let still : KnowsPass Forward c.args.self.now c.loop-at.cache.store c.args.input.now = knows_still Forward c.args.self.now c.args.input.now c.args.cache.now c.loop-at.cache c.loop-at.invariant.grown (c.loop-at.invariant.idle knows) knows in
-    let idle = c.in_ok-next.ensures.idle (knows_here Forward c.args.self.now c.loop-at.cache.store c.args.input.now k c.follow_fwd-stop.result.id c.loop-at.found (Some _) still c.requires.may at few c.in_ok-next.ensures.alive read) in
+    let idle = c.in_ok-next.ensures.idle (knows_here Forward c.args.self.now c.loop-at.cache.store c.args.input.now k c.run_fwd-run.result.id c.run_fwd-run.result.found (Some _) still c.requires.may at few c.in_ok-next.ensures.alive read) in
     (c.end_search.ensures.count ∙ (idle.0 ∙ c.loop-at.invariant.idle knows), tt)
 
 pub returns-then-is_dead-clause-learned : goal.returns-then-is_dead-clause-learned
 returns-then-is_dead-clause-learned c = λ begin.
-    let from : c.args.input.now.start ≤ c.follow_fwd-stop.result.at = omega (arith, c.loop-at.invariant.from, c.follow_fwd-stop.ensures.from) in
-    let inside : c.follow_fwd-stop.result.at < c.args.input.now.end = omega (arith, c.if-stop-end.false, c.end-in-loop-at.ensures.end) in
-    let k : ℕ = c.follow_fwd-stop.result.at - c.args.input.now.start in
-    let place : c.follow_fwd-stop.result.at ≡ c.args.input.now.start + k = omega (arith, from) in
-    let at : IsAt Forward c.args.self.now c.loop-at.cache.store.table c.args.input.now k c.follow_fwd-stop.result.id c.loop-at.found = followed_at (c.follow_fwd-stop.ensures.followed c.loop-at.invariant.at.named) c.loop-at.invariant.at in
-    let read : next (tape_in Forward c.args.input.now) k ≡ Some _ = forward_read c.args.input.now c.haystack.result.now c.follow_fwd-stop.result.at c.follow_fwd-stop.result.at from (omega (arith, inside)) c.end-in-loop-at.ensures.within.1 (omega (arith, inside, c.end-in-loop-at.ensures.within.1)) c.haystack.ensures.same refl in
+    let from : c.args.input.now.start ≤ c.run_fwd-run.result.at = omega (arith, c.loop-at.invariant.from, c.run_fwd-run.ensures.from) in
+    let inside : c.run_fwd-run.result.at < c.args.input.now.end = omega (arith, c.if-run-end.false, c.end-in-loop-at.ensures.end) in
+    let k : ℕ = c.run_fwd-run.result.at - c.args.input.now.start in
+    let place : c.run_fwd-run.result.at ≡ c.args.input.now.start + k = omega (arith, from) in
+    let at : IsAt Forward c.args.self.now c.loop-at.cache.store.table c.args.input.now k c.run_fwd-run.result.id c.run_fwd-run.result.found = c.run_fwd-run.ensures.at in
+    let read : next (tape_in Forward c.args.input.now) k ≡ Some _ = forward_read c.args.input.now c.haystack.result.now c.run_fwd-run.result.at c.run_fwd-run.result.at from (omega (arith, inside)) c.end-in-loop-at.ensures.within.1 (omega (arith, inside, c.end-in-loop-at.ensures.within.1)) c.haystack.ensures.same refl in
     let few : k ≤ length (tape_in Forward c.args.input.now).bytes = (let u : c.args.input.now.end - c.args.input.now.start ≡ length (tape_in Forward c.args.input.now).bytes = forward_units c.args.input.now c.requires.open c.end-in-loop-at.ensures.within.1 in omega (arith, u, inside)) in
     learned_moved Forward c.args.self.now c.args.input.now c.args.cache.now c.read.new.cache c.end_search.new.self c.end_search.ensures.value (λ nothing.
     let before = c.loop-at.invariant.learned begin (nothing_first c.args.cache.now c.loop-at.cache c.read.new.cache c.loop-at.invariant.grown c.in_ok-next.ensures.grown nothing) in
-    learned_ends Forward c.args.self.now c.loop-at.cache c.read.new.cache c.args.input.now k c.follow_fwd-stop.result.id (Some _) c.in_ok-next.ensures.grown c.in_ok-next.ensures.of at.named read
+    learned_ends Forward c.args.self.now c.loop-at.cache c.read.new.cache c.args.input.now k c.run_fwd-run.result.id (Some _) c.in_ok-next.ensures.grown c.in_ok-next.ensures.of at.named read
     c.in_ok-next.ensures.learned c.in_ok-next.ensures.below
-    (stops_dead Forward c.args.self.now c.loop-at.cache.store.table c.read.new.cache.store.table c.args.input.now k c.follow_fwd-stop.result.id c.in_ok-next.next _ c.loop-at.found None at read c.in_ok-next.ensures.named (λ byte e. subst (λ v. is_quit c.args.self.now.quits v ≡ false) (some_inj e) c.in_ok-next.ensures.clean) (λ l. (c.in_ok-next.ensures.dead _ l).0 (c.if-is_dead.ensures.0 refl)))
-    before.0 (followed_learned (c.follow_fwd-stop.ensures.followed c.loop-at.invariant.at.named) before.1)
+    (stops_dead Forward c.args.self.now c.loop-at.cache.store.table c.read.new.cache.store.table c.args.input.now k c.run_fwd-run.result.id c.in_ok-next.next _ c.run_fwd-run.result.found None at read c.in_ok-next.ensures.named (λ byte e. subst (λ v. is_quit c.args.self.now.quits v ≡ false) (some_inj e) c.in_ok-next.ensures.clean) (λ l. (c.in_ok-next.ensures.dead _ l).0 (c.if-is_dead.ensures.0 refl)))
+    before.0 (c.run_fwd-run.ensures.learned before.1)
     (nothing_second c.args.cache.now c.loop-at.cache c.read.new.cache c.loop-at.invariant.grown c.in_ok-next.ensures.grown nothing))
 
 pub returns-then-is_some-clause-grown : goal.returns-then-is_some-clause-grown
@@ -180,32 +179,32 @@ returns-then-is_some-clause-grown c =
 
 pub returns-then-is_some-clause-idle : goal.returns-then-is_some-clause-idle
 returns-then-is_some-clause-idle c = λ knows.
-    let from : c.args.input.now.start ≤ c.follow_fwd-stop.result.at = omega (arith, c.loop-at.invariant.from, c.follow_fwd-stop.ensures.from) in
-    let inside : c.follow_fwd-stop.result.at < c.args.input.now.end = omega (arith, c.if-stop-end.false, c.end-in-loop-at.ensures.end) in
-    let k : ℕ = c.follow_fwd-stop.result.at - c.args.input.now.start in
-    let place : c.follow_fwd-stop.result.at ≡ c.args.input.now.start + k = omega (arith, from) in
-    let at : IsAt Forward c.args.self.now c.loop-at.cache.store.table c.args.input.now k c.follow_fwd-stop.result.id c.loop-at.found = followed_at (c.follow_fwd-stop.ensures.followed c.loop-at.invariant.at.named) c.loop-at.invariant.at in
-    let read : next (tape_in Forward c.args.input.now) k ≡ Some _ = forward_read c.args.input.now c.haystack.result.now c.follow_fwd-stop.result.at c.follow_fwd-stop.result.at from (omega (arith, inside)) c.end-in-loop-at.ensures.within.1 (omega (arith, inside, c.end-in-loop-at.ensures.within.1)) c.haystack.ensures.same refl in
+    let from : c.args.input.now.start ≤ c.run_fwd-run.result.at = omega (arith, c.loop-at.invariant.from, c.run_fwd-run.ensures.from) in
+    let inside : c.run_fwd-run.result.at < c.args.input.now.end = omega (arith, c.if-run-end.false, c.end-in-loop-at.ensures.end) in
+    let k : ℕ = c.run_fwd-run.result.at - c.args.input.now.start in
+    let place : c.run_fwd-run.result.at ≡ c.args.input.now.start + k = omega (arith, from) in
+    let at : IsAt Forward c.args.self.now c.loop-at.cache.store.table c.args.input.now k c.run_fwd-run.result.id c.run_fwd-run.result.found = c.run_fwd-run.ensures.at in
+    let read : next (tape_in Forward c.args.input.now) k ≡ Some _ = forward_read c.args.input.now c.haystack.result.now c.run_fwd-run.result.at c.run_fwd-run.result.at from (omega (arith, inside)) c.end-in-loop-at.ensures.within.1 (omega (arith, inside, c.end-in-loop-at.ensures.within.1)) c.haystack.ensures.same refl in
     let few : k ≤ length (tape_in Forward c.args.input.now).bytes = (let u : c.args.input.now.end - c.args.input.now.start ≡ length (tape_in Forward c.args.input.now).bytes = forward_units c.args.input.now c.requires.open c.end-in-loop-at.ensures.within.1 in omega (arith, u, inside)) in
     let still : KnowsPass Forward c.args.self.now c.loop-at.cache.store c.args.input.now = knows_still Forward c.args.self.now c.args.input.now c.args.cache.now c.loop-at.cache c.loop-at.invariant.grown (c.loop-at.invariant.idle knows) knows in
-    let idle = c.in_ok-next.ensures.idle (knows_here Forward c.args.self.now c.loop-at.cache.store c.args.input.now k c.follow_fwd-stop.result.id c.loop-at.found (Some _) still c.requires.may at few c.in_ok-next.ensures.alive read) in
+    let idle = c.in_ok-next.ensures.idle (knows_here Forward c.args.self.now c.loop-at.cache.store c.args.input.now k c.run_fwd-run.result.id c.run_fwd-run.result.found (Some _) still c.requires.may at few c.in_ok-next.ensures.alive read) in
     (c.end_search-then-is_some.ensures.count ∙ (idle.0 ∙ c.loop-at.invariant.idle knows), tt)
 
 pub returns-then-is_some-clause-learned : goal.returns-then-is_some-clause-learned
 returns-then-is_some-clause-learned c = λ begin.
-    let from : c.args.input.now.start ≤ c.follow_fwd-stop.result.at = omega (arith, c.loop-at.invariant.from, c.follow_fwd-stop.ensures.from) in
-    let inside : c.follow_fwd-stop.result.at < c.args.input.now.end = omega (arith, c.if-stop-end.false, c.end-in-loop-at.ensures.end) in
-    let k : ℕ = c.follow_fwd-stop.result.at - c.args.input.now.start in
-    let place : c.follow_fwd-stop.result.at ≡ c.args.input.now.start + k = omega (arith, from) in
-    let at : IsAt Forward c.args.self.now c.loop-at.cache.store.table c.args.input.now k c.follow_fwd-stop.result.id c.loop-at.found = followed_at (c.follow_fwd-stop.ensures.followed c.loop-at.invariant.at.named) c.loop-at.invariant.at in
-    let read : next (tape_in Forward c.args.input.now) k ≡ Some _ = forward_read c.args.input.now c.haystack.result.now c.follow_fwd-stop.result.at c.follow_fwd-stop.result.at from (omega (arith, inside)) c.end-in-loop-at.ensures.within.1 (omega (arith, inside, c.end-in-loop-at.ensures.within.1)) c.haystack.ensures.same refl in
+    let from : c.args.input.now.start ≤ c.run_fwd-run.result.at = omega (arith, c.loop-at.invariant.from, c.run_fwd-run.ensures.from) in
+    let inside : c.run_fwd-run.result.at < c.args.input.now.end = omega (arith, c.if-run-end.false, c.end-in-loop-at.ensures.end) in
+    let k : ℕ = c.run_fwd-run.result.at - c.args.input.now.start in
+    let place : c.run_fwd-run.result.at ≡ c.args.input.now.start + k = omega (arith, from) in
+    let at : IsAt Forward c.args.self.now c.loop-at.cache.store.table c.args.input.now k c.run_fwd-run.result.id c.run_fwd-run.result.found = c.run_fwd-run.ensures.at in
+    let read : next (tape_in Forward c.args.input.now) k ≡ Some _ = forward_read c.args.input.now c.haystack.result.now c.run_fwd-run.result.at c.run_fwd-run.result.at from (omega (arith, inside)) c.end-in-loop-at.ensures.within.1 (omega (arith, inside, c.end-in-loop-at.ensures.within.1)) c.haystack.ensures.same refl in
     let few : k ≤ length (tape_in Forward c.args.input.now).bytes = (let u : c.args.input.now.end - c.args.input.now.start ≡ length (tape_in Forward c.args.input.now).bytes = forward_units c.args.input.now c.requires.open c.end-in-loop-at.ensures.within.1 in omega (arith, u, inside)) in
     learned_moved Forward c.args.self.now c.args.input.now c.args.cache.now c.read.new.cache c.end_search-then-is_some.new.self c.end_search-then-is_some.ensures.value (λ nothing.
     let before = c.loop-at.invariant.learned begin (nothing_first c.args.cache.now c.loop-at.cache c.read.new.cache c.loop-at.invariant.grown c.in_ok-next.ensures.grown nothing) in
-    learned_ends Forward c.args.self.now c.loop-at.cache c.read.new.cache c.args.input.now k c.follow_fwd-stop.result.id (Some _) c.in_ok-next.ensures.grown c.in_ok-next.ensures.of at.named read
+    learned_ends Forward c.args.self.now c.loop-at.cache c.read.new.cache c.args.input.now k c.run_fwd-run.result.id (Some _) c.in_ok-next.ensures.grown c.in_ok-next.ensures.of at.named read
     c.in_ok-next.ensures.learned c.in_ok-next.ensures.below
-    (stops_ends Forward c.args.self.now c.loop-at.cache.store.table c.read.new.cache.store.table c.args.input.now k c.follow_fwd-stop.result.id c.in_ok-next.next _ c.loop-at.found c.found_at-found.result at read c.in_ok-next.ensures.named (λ byte e. subst (λ v. is_quit c.args.self.now.quits v ≡ false) (some_inj e) c.in_ok-next.ensures.clean) (c.follow_fwd-stop.result.at, place, c.found_at-found.ensures) (sym c.get_earliest.ensures ∙ c.if-get_earliest.true) (some_is c.found_at-found.result c.if-is_some.ensures))
-    before.0 (followed_learned (c.follow_fwd-stop.ensures.followed c.loop-at.invariant.at.named) before.1)
+    (stops_ends Forward c.args.self.now c.loop-at.cache.store.table c.read.new.cache.store.table c.args.input.now k c.run_fwd-run.result.id c.in_ok-next.next _ c.run_fwd-run.result.found c.found_at-found.result at read c.in_ok-next.ensures.named (λ byte e. subst (λ v. is_quit c.args.self.now.quits v ≡ false) (some_inj e) c.in_ok-next.ensures.clean) (c.run_fwd-run.result.at, place, c.found_at-found.ensures) (sym c.get_earliest.ensures ∙ c.if-get_earliest.true) (some_is c.found_at-found.result c.if-is_some.ensures))
+    before.0 (c.run_fwd-run.ensures.learned before.1)
     (nothing_second c.args.cache.now c.loop-at.cache c.read.new.cache c.loop-at.invariant.grown c.in_ok-next.ensures.grown nothing))
 
 pub returns-in_err-next-clause-grown : goal.returns-in_err-next-clause-grown
@@ -213,37 +212,37 @@ returns-in_err-next-clause-grown c = grown_trans c.args.cache.now c.loop-at.cach
 
 pub returns-in_err-next-clause-idle : goal.returns-in_err-next-clause-idle
 returns-in_err-next-clause-idle c = λ knows.
-    let from : c.args.input.now.start ≤ c.follow_fwd-stop.result.at = omega (arith, c.loop-at.invariant.from, c.follow_fwd-stop.ensures.from) in
-    let inside : c.follow_fwd-stop.result.at < c.args.input.now.end = omega (arith, c.if-stop-end.false, c.end-in-loop-at.ensures.end) in
-    let k : ℕ = c.follow_fwd-stop.result.at - c.args.input.now.start in
-    let place : c.follow_fwd-stop.result.at ≡ c.args.input.now.start + k = omega (arith, from) in
-    let at : IsAt Forward c.args.self.now c.loop-at.cache.store.table c.args.input.now k c.follow_fwd-stop.result.id c.loop-at.found = followed_at (c.follow_fwd-stop.ensures.followed c.loop-at.invariant.at.named) c.loop-at.invariant.at in
-    let read : next (tape_in Forward c.args.input.now) k ≡ Some _ = forward_read c.args.input.now c.haystack.result.now c.follow_fwd-stop.result.at c.follow_fwd-stop.result.at from (omega (arith, inside)) c.end-in-loop-at.ensures.within.1 (omega (arith, inside, c.end-in-loop-at.ensures.within.1)) c.haystack.ensures.same refl in
+    let from : c.args.input.now.start ≤ c.run_fwd-run.result.at = omega (arith, c.loop-at.invariant.from, c.run_fwd-run.ensures.from) in
+    let inside : c.run_fwd-run.result.at < c.args.input.now.end = omega (arith, c.if-run-end.false, c.end-in-loop-at.ensures.end) in
+    let k : ℕ = c.run_fwd-run.result.at - c.args.input.now.start in
+    let place : c.run_fwd-run.result.at ≡ c.args.input.now.start + k = omega (arith, from) in
+    let at : IsAt Forward c.args.self.now c.loop-at.cache.store.table c.args.input.now k c.run_fwd-run.result.id c.run_fwd-run.result.found = c.run_fwd-run.ensures.at in
+    let read : next (tape_in Forward c.args.input.now) k ≡ Some _ = forward_read c.args.input.now c.haystack.result.now c.run_fwd-run.result.at c.run_fwd-run.result.at from (omega (arith, inside)) c.end-in-loop-at.ensures.within.1 (omega (arith, inside, c.end-in-loop-at.ensures.within.1)) c.haystack.ensures.same refl in
     let few : k ≤ length (tape_in Forward c.args.input.now).bytes = (let u : c.args.input.now.end - c.args.input.now.start ≡ length (tape_in Forward c.args.input.now).bytes = forward_units c.args.input.now c.requires.open c.end-in-loop-at.ensures.within.1 in omega (arith, u, inside)) in
     let still : KnowsPass Forward c.args.self.now c.loop-at.cache.store c.args.input.now = knows_still Forward c.args.self.now c.args.input.now c.args.cache.now c.loop-at.cache c.loop-at.invariant.grown (c.loop-at.invariant.idle knows) knows in
-    let idle = c.in_err-next.ensures.idle (knows_here Forward c.args.self.now c.loop-at.cache.store c.args.input.now k c.follow_fwd-stop.result.id c.loop-at.found (Some _) still c.requires.may at few c.in_err-next.ensures.alive read) in
+    let idle = c.in_err-next.ensures.idle (knows_here Forward c.args.self.now c.loop-at.cache.store c.args.input.now k c.run_fwd-run.result.id c.run_fwd-run.result.found (Some _) still c.requires.may at few c.in_err-next.ensures.alive read) in
     (idle.0 ∙ c.loop-at.invariant.idle knows, if_err c.from_residual.result _ _ c.from_residual.ensures.1 idle.1)
 
 pub read-requires-clause-valid : goal.read-requires-clause-valid
 read-requires-clause-valid c =
-    let at : IsAt Forward c.args.self.now c.loop-at.cache.store.table c.args.input.now (c.follow_fwd-stop.result.at - c.args.input.now.start) c.follow_fwd-stop.result.id c.loop-at.found = followed_at (c.follow_fwd-stop.ensures.followed c.loop-at.invariant.at.named) c.loop-at.invariant.at in
+    let at : IsAt Forward c.args.self.now c.loop-at.cache.store.table c.args.input.now (c.run_fwd-run.result.at - c.args.input.now.start) c.run_fwd-run.result.id c.run_fwd-run.result.found = c.run_fwd-run.ensures.at in
     (_, at.named)
 
-pub returns-then-stop-end-clause-grown : goal.returns-then-stop-end-clause-grown
-returns-then-stop-end-clause-grown c = grown_trans c.args.cache.now c.loop-at.cache c.find_end_fwd.new.cache c.loop-at.invariant.grown c.find_end_fwd.ensures.grown
+pub returns-then-run-end-clause-grown : goal.returns-then-run-end-clause-grown
+returns-then-run-end-clause-grown c = grown_trans c.args.cache.now c.loop-at.cache c.find_end_fwd.new.cache c.loop-at.invariant.grown c.find_end_fwd.ensures.grown
 
-pub returns-then-stop-end-clause-idle : goal.returns-then-stop-end-clause-idle
-returns-then-stop-end-clause-idle c = λ knows.
+pub returns-then-run-end-clause-idle : goal.returns-then-run-end-clause-idle
+returns-then-run-end-clause-idle c = λ knows.
     let still : KnowsPass Forward c.args.self.now c.loop-at.cache.store c.args.input.now = knows_still Forward c.args.self.now c.args.input.now c.args.cache.now c.loop-at.cache c.loop-at.invariant.grown (c.loop-at.invariant.idle knows) knows in
     let idle = c.find_end_fwd.ensures.idle still in
     (idle.0 ∙ c.loop-at.invariant.idle knows, idle.1)
 
-pub returns-then-stop-end-clause-learned : goal.returns-then-stop-end-clause-learned
-returns-then-stop-end-clause-learned c = λ begin nothing.
-    let same : c.follow_fwd-stop.result.at - c.args.input.now.start ≡ c.args.input.now.end - c.args.input.now.start = omega (arith, c.if-stop-end.true, c.follow_fwd-stop.ensures.within, c.end-in-loop-at.ensures.end) in
+pub returns-then-run-end-clause-learned : goal.returns-then-run-end-clause-learned
+returns-then-run-end-clause-learned c = λ begin nothing.
+    let same : c.run_fwd-run.result.at - c.args.input.now.start ≡ c.args.input.now.end - c.args.input.now.start = omega (arith, c.if-run-end.true, c.run_fwd-run.ensures.within, c.end-in-loop-at.ensures.end) in
     let before = c.loop-at.invariant.learned begin (nothing_first c.args.cache.now c.loop-at.cache c.find_end_fwd.new.cache c.loop-at.invariant.grown c.find_end_fwd.ensures.grown nothing) in
     c.find_end_fwd.ensures.learned before.0
-    (subst (HasLearned Forward c.args.self.now c.loop-at.cache.store c.args.input.now) same (followed_learned (c.follow_fwd-stop.ensures.followed c.loop-at.invariant.at.named) before.1))
+    (subst (HasLearned Forward c.args.self.now c.loop-at.cache.store c.args.input.now) same (c.run_fwd-run.ensures.learned before.1))
     (nothing_second c.args.cache.now c.loop-at.cache c.find_end_fwd.new.cache c.loop-at.invariant.grown c.find_end_fwd.ensures.grown nothing)
 
 pub returns-clause-grown : goal.returns-clause-grown

@@ -6,7 +6,6 @@ use Rattle.automata_hybrid.specs.Knowing.{KnowsPass}
 use Rattle.automata_hybrid.specs.Passing.{HasLearned, IsAt}
 use Rattle.automata_hybrid.specs.Searches.{tape_in}
 use Rattle.automata_hybrid.specs.Table.{Rows}
-use Rattle.automata_hybrid.proofs.Following.{followed_at, followed_learned}
 use Rattle.automata_hybrid.proofs.Growing.{grown_moved, grown_same, grown_trans, nothing_first, nothing_second}
 use Rattle.automata_hybrid.proofs.Knowing.{begun_moved, knows_here, knows_still, learned_ends, learned_moved, learned_none, learned_step}
 use Rattle.automata_hybrid.proofs.Searching.{stops_dead, stops_ends, more_leads, more_at, more_dead, clean_dead, more_ends, clean_ends, starts_at, step_refuses, if_err, false_true, some_is, none_is}
@@ -30,90 +29,90 @@ loop-at-init c =
 
 pub find_end_rev-requires-clause-at : goal.find_end_rev-requires-clause-at
 find_end_rev-requires-clause-at c =
-    let same : c.args.input.now.end - c.follow_rev-stop.result.at ≡ c.args.input.now.end - c.args.input.now.start = omega (arith, c.if-stop-start.true, c.follow_rev-stop.ensures.from, c.start-in-loop-at.ensures.start) in
-    subst (λ k. IsAt Backward c.args.self.now c.end_search.new.self.store.table c.args.input.now k c.follow_rev-stop.result.id c.loop-at.found) same
-    (subst (λ (t : Rows). IsAt Backward c.args.self.now t c.args.input.now (c.args.input.now.end - c.follow_rev-stop.result.at) c.follow_rev-stop.result.id c.loop-at.found) (sym c.end_search.ensures.table)
-    (followed_at (c.follow_rev-stop.ensures.followed c.loop-at.invariant.at.named) c.loop-at.invariant.at))
+    let same : c.args.input.now.end - c.run_rev-run.result.at ≡ c.args.input.now.end - c.args.input.now.start = omega (arith, c.if-run-start.true, c.run_rev-run.ensures.from, c.start-in-loop-at.ensures.start) in
+    subst (λ k. IsAt Backward c.args.self.now c.end_search.new.self.store.table c.args.input.now k c.run_rev-run.result.id c.run_rev-run.result.found) same
+    (subst (λ (t : Rows). IsAt Backward c.args.self.now t c.args.input.now (c.args.input.now.end - c.run_rev-run.result.at) c.run_rev-run.result.id c.run_rev-run.result.found) (sym c.end_search.ensures.table)
+    c.run_rev-run.ensures.at)
 
 pub returns-in_err-id-clause-errors : goal.returns-in_err-id-clause-errors
 returns-in_err-id-clause-errors c =
-    let above : c.args.input.now.start < c.follow_rev-stop.result.at = omega (arith, c.if-stop-start.false, c.start-in-loop-at.ensures.start) in
-    let below : c.follow_rev-stop.result.at ≤ c.args.input.now.end = omega (arith, c.follow_rev-stop.ensures.within, c.loop-at.invariant.within) in
-    let k : ℕ = c.args.input.now.end - c.follow_rev-stop.result.at in
-    let at : IsAt Backward c.args.self.now c.loop-at.cache.store.table c.args.input.now k c.follow_rev-stop.result.id c.loop-at.found = followed_at (c.follow_rev-stop.ensures.followed c.loop-at.invariant.at.named) c.loop-at.invariant.at in
-    let read : next (tape_in Backward c.args.input.now) k ≡ Some _ = span_read c.args.input.now c.follow_rev-stop.result.at above below c.haystack.result.now c.haystack.ensures.within.1 c.haystack.ensures.same in
-    let few : k ≤ length (tape_in Backward c.args.input.now).bytes = span_few c.args.input.now c.follow_rev-stop.result.at above below c.haystack.ensures.within.1 in
+    let above : c.args.input.now.start < c.run_rev-run.result.at = omega (arith, c.if-run-start.false, c.start-in-loop-at.ensures.start) in
+    let below : c.run_rev-run.result.at ≤ c.args.input.now.end = omega (arith, c.run_rev-run.ensures.within, c.loop-at.invariant.within) in
+    let k : ℕ = c.args.input.now.end - c.run_rev-run.result.at in
+    let at : IsAt Backward c.args.self.now c.loop-at.cache.store.table c.args.input.now k c.run_rev-run.result.id c.run_rev-run.result.found = c.run_rev-run.ensures.at in
+    let read : next (tape_in Backward c.args.input.now) k ≡ Some _ = span_read c.args.input.now c.run_rev-run.result.at above below c.haystack.result.now c.haystack.ensures.within.1 c.haystack.ensures.same in
+    let few : k ≤ length (tape_in Backward c.args.input.now).bytes = span_few c.args.input.now c.run_rev-run.result.at above below c.haystack.ensures.within.1 in
     if_err c.from_residual.result _ _ c.from_residual.ensures.1
-    (step_refuses Backward c.args.self.now c.loop-at.cache.store.table c.read.new.cache.store c.args.input.now k c.follow_rev-stop.result.id (c.follow_rev-stop.result.at - 1) (c.follow_rev-stop.result.at - 1) _ c.loop-at.found c.in_err-id.field-0.0
+    (step_refuses Backward c.args.self.now c.loop-at.cache.store.table c.read.new.cache.store c.args.input.now k c.run_rev-run.result.id (c.run_rev-run.result.at - 1) (c.run_rev-run.result.at - 1) _ c.run_rev-run.result.found c.in_err-id.field-0.0
     at few c.in_err-id.ensures.alive read
-    (span_unit_offset c.args.input.now c.follow_rev-stop.result.at above below) (span_given_up_offset c.args.input.now c.follow_rev-stop.result.at above below) c.in_err-id.ensures.errors c.requires.may.0)
+    (span_unit_offset c.args.input.now c.run_rev-run.result.at above below) (span_given_up_offset c.args.input.now c.run_rev-run.result.at above below) c.in_err-id.ensures.errors c.requires.may.0)
 
 pub returns-then-is_dead-clause-found : goal.returns-then-is_dead-clause-found
 returns-then-is_dead-clause-found c =
-    let above : c.args.input.now.start < c.follow_rev-stop.result.at = omega (arith, c.if-stop-start.false, c.start-in-loop-at.ensures.start) in
-    let below : c.follow_rev-stop.result.at ≤ c.args.input.now.end = omega (arith, c.follow_rev-stop.ensures.within, c.loop-at.invariant.within) in
-    let k : ℕ = c.args.input.now.end - c.follow_rev-stop.result.at in
-    let at : IsAt Backward c.args.self.now c.loop-at.cache.store.table c.args.input.now k c.follow_rev-stop.result.id c.loop-at.found = followed_at (c.follow_rev-stop.ensures.followed c.loop-at.invariant.at.named) c.loop-at.invariant.at in
-    let read : next (tape_in Backward c.args.input.now) k ≡ Some _ = span_read c.args.input.now c.follow_rev-stop.result.at above below c.haystack.result.now c.haystack.ensures.within.1 c.haystack.ensures.same in
-    let few : k ≤ length (tape_in Backward c.args.input.now).bytes = span_few c.args.input.now c.follow_rev-stop.result.at above below c.haystack.ensures.within.1 in
-    more_dead Backward c.args.self.now c.loop-at.cache.store.table c.read.new.cache.store.table c.args.input.now k c.follow_rev-stop.result.id c.in_ok-id.id _ c.loop-at.found None
+    let above : c.args.input.now.start < c.run_rev-run.result.at = omega (arith, c.if-run-start.false, c.start-in-loop-at.ensures.start) in
+    let below : c.run_rev-run.result.at ≤ c.args.input.now.end = omega (arith, c.run_rev-run.ensures.within, c.loop-at.invariant.within) in
+    let k : ℕ = c.args.input.now.end - c.run_rev-run.result.at in
+    let at : IsAt Backward c.args.self.now c.loop-at.cache.store.table c.args.input.now k c.run_rev-run.result.id c.run_rev-run.result.found = c.run_rev-run.ensures.at in
+    let read : next (tape_in Backward c.args.input.now) k ≡ Some _ = span_read c.args.input.now c.run_rev-run.result.at above below c.haystack.result.now c.haystack.ensures.within.1 c.haystack.ensures.same in
+    let few : k ≤ length (tape_in Backward c.args.input.now).bytes = span_few c.args.input.now c.run_rev-run.result.at above below c.haystack.ensures.within.1 in
+    more_dead Backward c.args.self.now c.loop-at.cache.store.table c.read.new.cache.store.table c.args.input.now k c.run_rev-run.result.id c.in_ok-id.id _ c.run_rev-run.result.found None
     at read c.in_ok-id.ensures.named (quit_free c.args.self.now _ c.in_ok-id.ensures.clean)
     (λ l. (c.in_ok-id.ensures.dead _ l).0 (c.if-is_dead.ensures.0 refl)) few
 
 pub returns-then-is_dead-clause-clean : goal.returns-then-is_dead-clause-clean
 returns-then-is_dead-clause-clean c =
-    let above : c.args.input.now.start < c.follow_rev-stop.result.at = omega (arith, c.if-stop-start.false, c.start-in-loop-at.ensures.start) in
-    let below : c.follow_rev-stop.result.at ≤ c.args.input.now.end = omega (arith, c.follow_rev-stop.ensures.within, c.loop-at.invariant.within) in
-    let k : ℕ = c.args.input.now.end - c.follow_rev-stop.result.at in
-    let at : IsAt Backward c.args.self.now c.loop-at.cache.store.table c.args.input.now k c.follow_rev-stop.result.id c.loop-at.found = followed_at (c.follow_rev-stop.ensures.followed c.loop-at.invariant.at.named) c.loop-at.invariant.at in
-    let read : next (tape_in Backward c.args.input.now) k ≡ Some _ = span_read c.args.input.now c.follow_rev-stop.result.at above below c.haystack.result.now c.haystack.ensures.within.1 c.haystack.ensures.same in
-    clean_dead Backward c.args.self.now c.loop-at.cache.store.table c.read.new.cache.store.table c.args.input.now k c.follow_rev-stop.result.id c.in_ok-id.id _ c.loop-at.found None
+    let above : c.args.input.now.start < c.run_rev-run.result.at = omega (arith, c.if-run-start.false, c.start-in-loop-at.ensures.start) in
+    let below : c.run_rev-run.result.at ≤ c.args.input.now.end = omega (arith, c.run_rev-run.ensures.within, c.loop-at.invariant.within) in
+    let k : ℕ = c.args.input.now.end - c.run_rev-run.result.at in
+    let at : IsAt Backward c.args.self.now c.loop-at.cache.store.table c.args.input.now k c.run_rev-run.result.id c.run_rev-run.result.found = c.run_rev-run.ensures.at in
+    let read : next (tape_in Backward c.args.input.now) k ≡ Some _ = span_read c.args.input.now c.run_rev-run.result.at above below c.haystack.result.now c.haystack.ensures.within.1 c.haystack.ensures.same in
+    clean_dead Backward c.args.self.now c.loop-at.cache.store.table c.read.new.cache.store.table c.args.input.now k c.run_rev-run.result.id c.in_ok-id.id _ c.run_rev-run.result.found None
     at read c.in_ok-id.ensures.named (quit_free c.args.self.now _ c.in_ok-id.ensures.clean)
     (λ l. (c.in_ok-id.ensures.dead _ l).0 (c.if-is_dead.ensures.0 refl)) c.requires.may.0
 
 pub found_at-found-requires-clause-leads : goal.found_at-found-requires-clause-leads
 found_at-found-requires-clause-leads c =
-    let above : c.args.input.now.start < c.follow_rev-stop.result.at = omega (arith, c.if-stop-start.false, c.start-in-loop-at.ensures.start) in
-    let below : c.follow_rev-stop.result.at ≤ c.args.input.now.end = omega (arith, c.follow_rev-stop.ensures.within, c.loop-at.invariant.within) in
-    let k : ℕ = c.args.input.now.end - c.follow_rev-stop.result.at in
-    let at : IsAt Backward c.args.self.now c.loop-at.cache.store.table c.args.input.now k c.follow_rev-stop.result.id c.loop-at.found = followed_at (c.follow_rev-stop.ensures.followed c.loop-at.invariant.at.named) c.loop-at.invariant.at in
-    let read : next (tape_in Backward c.args.input.now) k ≡ Some _ = span_read c.args.input.now c.follow_rev-stop.result.at above below c.haystack.result.now c.haystack.ensures.within.1 c.haystack.ensures.same in (
+    let above : c.args.input.now.start < c.run_rev-run.result.at = omega (arith, c.if-run-start.false, c.start-in-loop-at.ensures.start) in
+    let below : c.run_rev-run.result.at ≤ c.args.input.now.end = omega (arith, c.run_rev-run.ensures.within, c.loop-at.invariant.within) in
+    let k : ℕ = c.args.input.now.end - c.run_rev-run.result.at in
+    let at : IsAt Backward c.args.self.now c.loop-at.cache.store.table c.args.input.now k c.run_rev-run.result.id c.run_rev-run.result.found = c.run_rev-run.ensures.at in
+    let read : next (tape_in Backward c.args.input.now) k ≡ Some _ = span_read c.args.input.now c.run_rev-run.result.at above below c.haystack.result.now c.haystack.ensures.within.1 c.haystack.ensures.same in (
       _,
-      more_leads Backward c.args.self.now c.loop-at.cache.store.table c.read.new.cache.store.table c.args.input.now k c.follow_rev-stop.result.id c.in_ok-id.id _ c.loop-at.found None
+      more_leads Backward c.args.self.now c.loop-at.cache.store.table c.read.new.cache.store.table c.args.input.now k c.run_rev-run.result.id c.in_ok-id.id _ c.run_rev-run.result.found None
           at read c.in_ok-id.ensures.named (quit_free c.args.self.now _ c.in_ok-id.ensures.clean),
     )
 
 pub returns-then-is_some-clause-found : goal.returns-then-is_some-clause-found
 returns-then-is_some-clause-found c =
-    let above : c.args.input.now.start < c.follow_rev-stop.result.at = omega (arith, c.if-stop-start.false, c.start-in-loop-at.ensures.start) in
-    let below : c.follow_rev-stop.result.at ≤ c.args.input.now.end = omega (arith, c.follow_rev-stop.ensures.within, c.loop-at.invariant.within) in
-    let k : ℕ = c.args.input.now.end - c.follow_rev-stop.result.at in
-    let at : IsAt Backward c.args.self.now c.loop-at.cache.store.table c.args.input.now k c.follow_rev-stop.result.id c.loop-at.found = followed_at (c.follow_rev-stop.ensures.followed c.loop-at.invariant.at.named) c.loop-at.invariant.at in
-    let read : next (tape_in Backward c.args.input.now) k ≡ Some _ = span_read c.args.input.now c.follow_rev-stop.result.at above below c.haystack.result.now c.haystack.ensures.within.1 c.haystack.ensures.same in
-    let few : k ≤ length (tape_in Backward c.args.input.now).bytes = span_few c.args.input.now c.follow_rev-stop.result.at above below c.haystack.ensures.within.1 in
-    more_ends Backward c.args.self.now c.loop-at.cache.store.table c.read.new.cache.store.table c.args.input.now k c.follow_rev-stop.result.id c.in_ok-id.id _ c.loop-at.found c.found_at-found.result
+    let above : c.args.input.now.start < c.run_rev-run.result.at = omega (arith, c.if-run-start.false, c.start-in-loop-at.ensures.start) in
+    let below : c.run_rev-run.result.at ≤ c.args.input.now.end = omega (arith, c.run_rev-run.ensures.within, c.loop-at.invariant.within) in
+    let k : ℕ = c.args.input.now.end - c.run_rev-run.result.at in
+    let at : IsAt Backward c.args.self.now c.loop-at.cache.store.table c.args.input.now k c.run_rev-run.result.id c.run_rev-run.result.found = c.run_rev-run.ensures.at in
+    let read : next (tape_in Backward c.args.input.now) k ≡ Some _ = span_read c.args.input.now c.run_rev-run.result.at above below c.haystack.result.now c.haystack.ensures.within.1 c.haystack.ensures.same in
+    let few : k ≤ length (tape_in Backward c.args.input.now).bytes = span_few c.args.input.now c.run_rev-run.result.at above below c.haystack.ensures.within.1 in
+    more_ends Backward c.args.self.now c.loop-at.cache.store.table c.read.new.cache.store.table c.args.input.now k c.run_rev-run.result.id c.in_ok-id.id _ c.run_rev-run.result.found c.found_at-found.result
     at read c.in_ok-id.ensures.named (quit_free c.args.self.now _ c.in_ok-id.ensures.clean)
-    (c.follow_rev-stop.result.at, span_place c.args.input.now c.follow_rev-stop.result.at above below, c.found_at-found.ensures) few (sym c.get_earliest.ensures ∙ c.if-get_earliest.true) (some_is c.found_at-found.result c.if-is_some.ensures)
+    (c.run_rev-run.result.at, span_place c.args.input.now c.run_rev-run.result.at above below, c.found_at-found.ensures) few (sym c.get_earliest.ensures ∙ c.if-get_earliest.true) (some_is c.found_at-found.result c.if-is_some.ensures)
 
 pub returns-then-is_some-clause-clean : goal.returns-then-is_some-clause-clean
 returns-then-is_some-clause-clean c =
-    let above : c.args.input.now.start < c.follow_rev-stop.result.at = omega (arith, c.if-stop-start.false, c.start-in-loop-at.ensures.start) in
-    let below : c.follow_rev-stop.result.at ≤ c.args.input.now.end = omega (arith, c.follow_rev-stop.ensures.within, c.loop-at.invariant.within) in
-    let k : ℕ = c.args.input.now.end - c.follow_rev-stop.result.at in
-    let at : IsAt Backward c.args.self.now c.loop-at.cache.store.table c.args.input.now k c.follow_rev-stop.result.id c.loop-at.found = followed_at (c.follow_rev-stop.ensures.followed c.loop-at.invariant.at.named) c.loop-at.invariant.at in
-    let read : next (tape_in Backward c.args.input.now) k ≡ Some _ = span_read c.args.input.now c.follow_rev-stop.result.at above below c.haystack.result.now c.haystack.ensures.within.1 c.haystack.ensures.same in
-    clean_ends Backward c.args.self.now c.loop-at.cache.store.table c.read.new.cache.store.table c.args.input.now k c.follow_rev-stop.result.id c.in_ok-id.id _ c.loop-at.found c.found_at-found.result
+    let above : c.args.input.now.start < c.run_rev-run.result.at = omega (arith, c.if-run-start.false, c.start-in-loop-at.ensures.start) in
+    let below : c.run_rev-run.result.at ≤ c.args.input.now.end = omega (arith, c.run_rev-run.ensures.within, c.loop-at.invariant.within) in
+    let k : ℕ = c.args.input.now.end - c.run_rev-run.result.at in
+    let at : IsAt Backward c.args.self.now c.loop-at.cache.store.table c.args.input.now k c.run_rev-run.result.id c.run_rev-run.result.found = c.run_rev-run.ensures.at in
+    let read : next (tape_in Backward c.args.input.now) k ≡ Some _ = span_read c.args.input.now c.run_rev-run.result.at above below c.haystack.result.now c.haystack.ensures.within.1 c.haystack.ensures.same in
+    clean_ends Backward c.args.self.now c.loop-at.cache.store.table c.read.new.cache.store.table c.args.input.now k c.run_rev-run.result.id c.in_ok-id.id _ c.run_rev-run.result.found c.found_at-found.result
     at read c.in_ok-id.ensures.named (quit_free c.args.self.now _ c.in_ok-id.ensures.clean)
-    (c.follow_rev-stop.result.at, span_place c.args.input.now c.follow_rev-stop.result.at above below, c.found_at-found.ensures) (sym c.get_earliest.ensures ∙ c.if-get_earliest.true) (some_is c.found_at-found.result c.if-is_some.ensures) c.requires.may.0
+    (c.run_rev-run.result.at, span_place c.args.input.now c.run_rev-run.result.at above below, c.found_at-found.ensures) (sym c.get_earliest.ensures ∙ c.if-get_earliest.true) (some_is c.found_at-found.result c.if-is_some.ensures) c.requires.may.0
 
 pub loop-at-preserved : goal.loop-at-preserved
 loop-at-preserved c =
-    let above : c.args.input.now.start < c.follow_rev-stop.result.at = omega (arith, c.if-stop-start.false, c.start-in-loop-at.ensures.start) in
-    let below : c.follow_rev-stop.result.at ≤ c.args.input.now.end = omega (arith, c.follow_rev-stop.ensures.within, c.loop-at.invariant.within) in
-    let k : ℕ = c.args.input.now.end - c.follow_rev-stop.result.at in
-    let at : IsAt Backward c.args.self.now c.loop-at.cache.store.table c.args.input.now k c.follow_rev-stop.result.id c.loop-at.found = followed_at (c.follow_rev-stop.ensures.followed c.loop-at.invariant.at.named) c.loop-at.invariant.at in
-    let read : next (tape_in Backward c.args.input.now) k ≡ Some _ = span_read c.args.input.now c.follow_rev-stop.result.at above below c.haystack.result.now c.haystack.ensures.within.1 c.haystack.ensures.same in
-    let few : k ≤ length (tape_in Backward c.args.input.now).bytes = span_few c.args.input.now c.follow_rev-stop.result.at above below c.haystack.ensures.within.1 in
+    let above : c.args.input.now.start < c.run_rev-run.result.at = omega (arith, c.if-run-start.false, c.start-in-loop-at.ensures.start) in
+    let below : c.run_rev-run.result.at ≤ c.args.input.now.end = omega (arith, c.run_rev-run.ensures.within, c.loop-at.invariant.within) in
+    let k : ℕ = c.args.input.now.end - c.run_rev-run.result.at in
+    let at : IsAt Backward c.args.self.now c.loop-at.cache.store.table c.args.input.now k c.run_rev-run.result.id c.run_rev-run.result.found = c.run_rev-run.ensures.at in
+    let read : next (tape_in Backward c.args.input.now) k ≡ Some _ = span_read c.args.input.now c.run_rev-run.result.at above below c.haystack.result.now c.haystack.ensures.within.1 c.haystack.ensures.same in
+    let few : k ≤ length (tape_in Backward c.args.input.now).bytes = span_few c.args.input.now c.run_rev-run.result.at above below c.haystack.ensures.within.1 in
     let first : c.args.input.now.earliest ≡ true → c.found_at-found.result ≡ None =
     elim c.else-get_earliest.branch [
       | else-get_earliest-via-then-get_earliest+else-is_some w ↦ λ e. none_is c.found_at-found.result (sym w.is_some.ensures ∙ w.if-is_some.false)
@@ -121,24 +120,24 @@ loop-at-preserved c =
     ] in
     record {
       of = c.in_ok-id.ensures.of;
-      counted = omega (arith, c.in_ok-id.ensures.counted, c.loop-at.invariant.counted, above, c.follow_rev-stop.ensures.within, c.loop-at.invariant.within);
+      counted = omega (arith, c.in_ok-id.ensures.counted, c.loop-at.invariant.counted, above, c.run_rev-run.ensures.within, c.loop-at.invariant.within);
       grown = grown_trans c.args.cache.now c.loop-at.cache c.read.new.cache c.loop-at.invariant.grown c.in_ok-id.ensures.grown;
       idle = λ knows. (
           let still : KnowsPass Backward c.args.self.now c.loop-at.cache.store c.args.input.now = knows_still Backward c.args.self.now c.args.input.now c.args.cache.now c.loop-at.cache c.loop-at.invariant.grown (c.loop-at.invariant.idle knows) knows in
-          let idle = c.in_ok-id.ensures.idle (knows_here Backward c.args.self.now c.loop-at.cache.store c.args.input.now k c.follow_rev-stop.result.id c.loop-at.found (Some _) still c.requires.may at few c.in_ok-id.ensures.alive read) in
+          let idle = c.in_ok-id.ensures.idle (knows_here Backward c.args.self.now c.loop-at.cache.store c.args.input.now k c.run_rev-run.result.id c.run_rev-run.result.found (Some _) still c.requires.may at few c.in_ok-id.ensures.alive read) in
           idle.0 ∙ c.loop-at.invariant.idle knows);
       learned = λ begin nothing. (
           let before = c.loop-at.invariant.learned begin (nothing_first c.args.cache.now c.loop-at.cache c.read.new.cache c.loop-at.invariant.grown c.in_ok-id.ensures.grown nothing) in
           let after : ClearedNothing c.loop-at.cache.store c.read.new.cache.store = nothing_second c.args.cache.now c.loop-at.cache c.read.new.cache c.loop-at.invariant.grown c.in_ok-id.ensures.grown nothing in
-          let step = learned_step Backward c.args.self.now c.loop-at.cache c.read.new.cache c.args.input.now k c.follow_rev-stop.result.id (Some _) c.in_ok-id.ensures.grown c.in_ok-id.ensures.of after before.0
-          (followed_learned (c.follow_rev-stop.ensures.followed c.loop-at.invariant.at.named) before.1) at.named read (c.in_ok-id.ensures.learned after) c.in_ok-id.ensures.below in
-          (step.0, subst (HasLearned Backward c.args.self.now c.read.new.cache.store c.args.input.now) (span_more c.args.input.now c.follow_rev-stop.result.at above below) step.1));
+          let step = learned_step Backward c.args.self.now c.loop-at.cache c.read.new.cache c.args.input.now k c.run_rev-run.result.id (Some _) c.in_ok-id.ensures.grown c.in_ok-id.ensures.of after before.0
+          (c.run_rev-run.ensures.learned before.1) at.named read (c.in_ok-id.ensures.learned after) c.in_ok-id.ensures.below in
+          (step.0, subst (HasLearned Backward c.args.self.now c.read.new.cache.store c.args.input.now) (span_more c.args.input.now c.run_rev-run.result.at above below) step.1));
       from = omega (arith, above);
       within = omega (arith, below);
-      at = subst (λ n. IsAt Backward c.args.self.now c.read.new.cache.store.table c.args.input.now n c.in_ok-id.id c.found_at-found.result) (span_more c.args.input.now c.follow_rev-stop.result.at above below)
-          (more_at Backward c.args.self.now c.loop-at.cache.store.table c.read.new.cache.store.table c.args.input.now k c.follow_rev-stop.result.id c.in_ok-id.id _ c.loop-at.found c.found_at-found.result
+      at = subst (λ n. IsAt Backward c.args.self.now c.read.new.cache.store.table c.args.input.now n c.in_ok-id.id c.found_at-found.result) (span_more c.args.input.now c.run_rev-run.result.at above below)
+          (more_at Backward c.args.self.now c.loop-at.cache.store.table c.read.new.cache.store.table c.args.input.now k c.run_rev-run.result.id c.in_ok-id.id _ c.run_rev-run.result.found c.found_at-found.result
           at read c.in_ok-id.ensures.named (quit_free c.args.self.now _ c.in_ok-id.ensures.clean)
-          (c.follow_rev-stop.result.at, span_place c.args.input.now c.follow_rev-stop.result.at above below, c.found_at-found.ensures) first (λ l. (c.in_ok-id.ensures.dead _ l).1 (λ b. false_true (c.if-is_dead.ensures.1 b))));
+          (c.run_rev-run.result.at, span_place c.args.input.now c.run_rev-run.result.at above below, c.found_at-found.ensures) first (λ l. (c.in_ok-id.ensures.dead _ l).1 (λ b. false_true (c.if-is_dead.ensures.1 b))));
     }
 
 pub returns-then-is_dead-clause-grown : goal.returns-then-is_dead-clause-grown
@@ -149,30 +148,30 @@ returns-then-is_dead-clause-grown c =
 
 pub returns-then-is_dead-clause-idle : goal.returns-then-is_dead-clause-idle
 returns-then-is_dead-clause-idle c = λ knows.
-    let above : c.args.input.now.start < c.follow_rev-stop.result.at = omega (arith, c.if-stop-start.false, c.start-in-loop-at.ensures.start) in
-    let below : c.follow_rev-stop.result.at ≤ c.args.input.now.end = omega (arith, c.follow_rev-stop.ensures.within, c.loop-at.invariant.within) in
-    let k : ℕ = c.args.input.now.end - c.follow_rev-stop.result.at in
-    let at : IsAt Backward c.args.self.now c.loop-at.cache.store.table c.args.input.now k c.follow_rev-stop.result.id c.loop-at.found = followed_at (c.follow_rev-stop.ensures.followed c.loop-at.invariant.at.named) c.loop-at.invariant.at in
-    let read : next (tape_in Backward c.args.input.now) k ≡ Some _ = span_read c.args.input.now c.follow_rev-stop.result.at above below c.haystack.result.now c.haystack.ensures.within.1 c.haystack.ensures.same in
-    let few : k ≤ length (tape_in Backward c.args.input.now).bytes = span_few c.args.input.now c.follow_rev-stop.result.at above below c.haystack.ensures.within.1 in
+    let above : c.args.input.now.start < c.run_rev-run.result.at = omega (arith, c.if-run-start.false, c.start-in-loop-at.ensures.start) in
+    let below : c.run_rev-run.result.at ≤ c.args.input.now.end = omega (arith, c.run_rev-run.ensures.within, c.loop-at.invariant.within) in
+    let k : ℕ = c.args.input.now.end - c.run_rev-run.result.at in
+    let at : IsAt Backward c.args.self.now c.loop-at.cache.store.table c.args.input.now k c.run_rev-run.result.id c.run_rev-run.result.found = c.run_rev-run.ensures.at in
+    let read : next (tape_in Backward c.args.input.now) k ≡ Some _ = span_read c.args.input.now c.run_rev-run.result.at above below c.haystack.result.now c.haystack.ensures.within.1 c.haystack.ensures.same in
+    let few : k ≤ length (tape_in Backward c.args.input.now).bytes = span_few c.args.input.now c.run_rev-run.result.at above below c.haystack.ensures.within.1 in
     let still : KnowsPass Backward c.args.self.now c.loop-at.cache.store c.args.input.now = knows_still Backward c.args.self.now c.args.input.now c.args.cache.now c.loop-at.cache c.loop-at.invariant.grown (c.loop-at.invariant.idle knows) knows in
-    let idle = c.in_ok-id.ensures.idle (knows_here Backward c.args.self.now c.loop-at.cache.store c.args.input.now k c.follow_rev-stop.result.id c.loop-at.found (Some _) still c.requires.may at few c.in_ok-id.ensures.alive read) in
+    let idle = c.in_ok-id.ensures.idle (knows_here Backward c.args.self.now c.loop-at.cache.store c.args.input.now k c.run_rev-run.result.id c.run_rev-run.result.found (Some _) still c.requires.may at few c.in_ok-id.ensures.alive read) in
     (c.end_search-then-is_dead.ensures.count ∙ (idle.0 ∙ c.loop-at.invariant.idle knows), tt)
 
 pub returns-then-is_dead-clause-learned : goal.returns-then-is_dead-clause-learned
 returns-then-is_dead-clause-learned c = λ begin.
-    let above : c.args.input.now.start < c.follow_rev-stop.result.at = omega (arith, c.if-stop-start.false, c.start-in-loop-at.ensures.start) in
-    let below : c.follow_rev-stop.result.at ≤ c.args.input.now.end = omega (arith, c.follow_rev-stop.ensures.within, c.loop-at.invariant.within) in
-    let k : ℕ = c.args.input.now.end - c.follow_rev-stop.result.at in
-    let at : IsAt Backward c.args.self.now c.loop-at.cache.store.table c.args.input.now k c.follow_rev-stop.result.id c.loop-at.found = followed_at (c.follow_rev-stop.ensures.followed c.loop-at.invariant.at.named) c.loop-at.invariant.at in
-    let read : next (tape_in Backward c.args.input.now) k ≡ Some _ = span_read c.args.input.now c.follow_rev-stop.result.at above below c.haystack.result.now c.haystack.ensures.within.1 c.haystack.ensures.same in
-    let few : k ≤ length (tape_in Backward c.args.input.now).bytes = span_few c.args.input.now c.follow_rev-stop.result.at above below c.haystack.ensures.within.1 in
+    let above : c.args.input.now.start < c.run_rev-run.result.at = omega (arith, c.if-run-start.false, c.start-in-loop-at.ensures.start) in
+    let below : c.run_rev-run.result.at ≤ c.args.input.now.end = omega (arith, c.run_rev-run.ensures.within, c.loop-at.invariant.within) in
+    let k : ℕ = c.args.input.now.end - c.run_rev-run.result.at in
+    let at : IsAt Backward c.args.self.now c.loop-at.cache.store.table c.args.input.now k c.run_rev-run.result.id c.run_rev-run.result.found = c.run_rev-run.ensures.at in
+    let read : next (tape_in Backward c.args.input.now) k ≡ Some _ = span_read c.args.input.now c.run_rev-run.result.at above below c.haystack.result.now c.haystack.ensures.within.1 c.haystack.ensures.same in
+    let few : k ≤ length (tape_in Backward c.args.input.now).bytes = span_few c.args.input.now c.run_rev-run.result.at above below c.haystack.ensures.within.1 in
     learned_moved Backward c.args.self.now c.args.input.now c.args.cache.now c.read.new.cache c.end_search-then-is_dead.new.self c.end_search-then-is_dead.ensures.value (λ nothing.
     let before = c.loop-at.invariant.learned begin (nothing_first c.args.cache.now c.loop-at.cache c.read.new.cache c.loop-at.invariant.grown c.in_ok-id.ensures.grown nothing) in
-    learned_ends Backward c.args.self.now c.loop-at.cache c.read.new.cache c.args.input.now k c.follow_rev-stop.result.id (Some _) c.in_ok-id.ensures.grown c.in_ok-id.ensures.of at.named read
+    learned_ends Backward c.args.self.now c.loop-at.cache c.read.new.cache c.args.input.now k c.run_rev-run.result.id (Some _) c.in_ok-id.ensures.grown c.in_ok-id.ensures.of at.named read
     c.in_ok-id.ensures.learned c.in_ok-id.ensures.below
-    (stops_dead Backward c.args.self.now c.loop-at.cache.store.table c.read.new.cache.store.table c.args.input.now k c.follow_rev-stop.result.id c.in_ok-id.id _ c.loop-at.found None at read c.in_ok-id.ensures.named (quit_free c.args.self.now _ c.in_ok-id.ensures.clean) (λ l. (c.in_ok-id.ensures.dead _ l).0 (c.if-is_dead.ensures.0 refl)))
-    before.0 (followed_learned (c.follow_rev-stop.ensures.followed c.loop-at.invariant.at.named) before.1)
+    (stops_dead Backward c.args.self.now c.loop-at.cache.store.table c.read.new.cache.store.table c.args.input.now k c.run_rev-run.result.id c.in_ok-id.id _ c.run_rev-run.result.found None at read c.in_ok-id.ensures.named (quit_free c.args.self.now _ c.in_ok-id.ensures.clean) (λ l. (c.in_ok-id.ensures.dead _ l).0 (c.if-is_dead.ensures.0 refl)))
+    before.0 (c.run_rev-run.ensures.learned before.1)
     (nothing_second c.args.cache.now c.loop-at.cache c.read.new.cache c.loop-at.invariant.grown c.in_ok-id.ensures.grown nothing))
 
 pub returns-then-is_some-clause-grown : goal.returns-then-is_some-clause-grown
@@ -183,30 +182,30 @@ returns-then-is_some-clause-grown c =
 
 pub returns-then-is_some-clause-idle : goal.returns-then-is_some-clause-idle
 returns-then-is_some-clause-idle c = λ knows.
-    let above : c.args.input.now.start < c.follow_rev-stop.result.at = omega (arith, c.if-stop-start.false, c.start-in-loop-at.ensures.start) in
-    let below : c.follow_rev-stop.result.at ≤ c.args.input.now.end = omega (arith, c.follow_rev-stop.ensures.within, c.loop-at.invariant.within) in
-    let k : ℕ = c.args.input.now.end - c.follow_rev-stop.result.at in
-    let at : IsAt Backward c.args.self.now c.loop-at.cache.store.table c.args.input.now k c.follow_rev-stop.result.id c.loop-at.found = followed_at (c.follow_rev-stop.ensures.followed c.loop-at.invariant.at.named) c.loop-at.invariant.at in
-    let read : next (tape_in Backward c.args.input.now) k ≡ Some _ = span_read c.args.input.now c.follow_rev-stop.result.at above below c.haystack.result.now c.haystack.ensures.within.1 c.haystack.ensures.same in
-    let few : k ≤ length (tape_in Backward c.args.input.now).bytes = span_few c.args.input.now c.follow_rev-stop.result.at above below c.haystack.ensures.within.1 in
+    let above : c.args.input.now.start < c.run_rev-run.result.at = omega (arith, c.if-run-start.false, c.start-in-loop-at.ensures.start) in
+    let below : c.run_rev-run.result.at ≤ c.args.input.now.end = omega (arith, c.run_rev-run.ensures.within, c.loop-at.invariant.within) in
+    let k : ℕ = c.args.input.now.end - c.run_rev-run.result.at in
+    let at : IsAt Backward c.args.self.now c.loop-at.cache.store.table c.args.input.now k c.run_rev-run.result.id c.run_rev-run.result.found = c.run_rev-run.ensures.at in
+    let read : next (tape_in Backward c.args.input.now) k ≡ Some _ = span_read c.args.input.now c.run_rev-run.result.at above below c.haystack.result.now c.haystack.ensures.within.1 c.haystack.ensures.same in
+    let few : k ≤ length (tape_in Backward c.args.input.now).bytes = span_few c.args.input.now c.run_rev-run.result.at above below c.haystack.ensures.within.1 in
     let still : KnowsPass Backward c.args.self.now c.loop-at.cache.store c.args.input.now = knows_still Backward c.args.self.now c.args.input.now c.args.cache.now c.loop-at.cache c.loop-at.invariant.grown (c.loop-at.invariant.idle knows) knows in
-    let idle = c.in_ok-id.ensures.idle (knows_here Backward c.args.self.now c.loop-at.cache.store c.args.input.now k c.follow_rev-stop.result.id c.loop-at.found (Some _) still c.requires.may at few c.in_ok-id.ensures.alive read) in
+    let idle = c.in_ok-id.ensures.idle (knows_here Backward c.args.self.now c.loop-at.cache.store c.args.input.now k c.run_rev-run.result.id c.run_rev-run.result.found (Some _) still c.requires.may at few c.in_ok-id.ensures.alive read) in
     (c.end_search-then-is_some.ensures.count ∙ (idle.0 ∙ c.loop-at.invariant.idle knows), tt)
 
 pub returns-then-is_some-clause-learned : goal.returns-then-is_some-clause-learned
 returns-then-is_some-clause-learned c = λ begin.
-    let above : c.args.input.now.start < c.follow_rev-stop.result.at = omega (arith, c.if-stop-start.false, c.start-in-loop-at.ensures.start) in
-    let below : c.follow_rev-stop.result.at ≤ c.args.input.now.end = omega (arith, c.follow_rev-stop.ensures.within, c.loop-at.invariant.within) in
-    let k : ℕ = c.args.input.now.end - c.follow_rev-stop.result.at in
-    let at : IsAt Backward c.args.self.now c.loop-at.cache.store.table c.args.input.now k c.follow_rev-stop.result.id c.loop-at.found = followed_at (c.follow_rev-stop.ensures.followed c.loop-at.invariant.at.named) c.loop-at.invariant.at in
-    let read : next (tape_in Backward c.args.input.now) k ≡ Some _ = span_read c.args.input.now c.follow_rev-stop.result.at above below c.haystack.result.now c.haystack.ensures.within.1 c.haystack.ensures.same in
-    let few : k ≤ length (tape_in Backward c.args.input.now).bytes = span_few c.args.input.now c.follow_rev-stop.result.at above below c.haystack.ensures.within.1 in
+    let above : c.args.input.now.start < c.run_rev-run.result.at = omega (arith, c.if-run-start.false, c.start-in-loop-at.ensures.start) in
+    let below : c.run_rev-run.result.at ≤ c.args.input.now.end = omega (arith, c.run_rev-run.ensures.within, c.loop-at.invariant.within) in
+    let k : ℕ = c.args.input.now.end - c.run_rev-run.result.at in
+    let at : IsAt Backward c.args.self.now c.loop-at.cache.store.table c.args.input.now k c.run_rev-run.result.id c.run_rev-run.result.found = c.run_rev-run.ensures.at in
+    let read : next (tape_in Backward c.args.input.now) k ≡ Some _ = span_read c.args.input.now c.run_rev-run.result.at above below c.haystack.result.now c.haystack.ensures.within.1 c.haystack.ensures.same in
+    let few : k ≤ length (tape_in Backward c.args.input.now).bytes = span_few c.args.input.now c.run_rev-run.result.at above below c.haystack.ensures.within.1 in
     learned_moved Backward c.args.self.now c.args.input.now c.args.cache.now c.read.new.cache c.end_search-then-is_some.new.self c.end_search-then-is_some.ensures.value (λ nothing.
     let before = c.loop-at.invariant.learned begin (nothing_first c.args.cache.now c.loop-at.cache c.read.new.cache c.loop-at.invariant.grown c.in_ok-id.ensures.grown nothing) in
-    learned_ends Backward c.args.self.now c.loop-at.cache c.read.new.cache c.args.input.now k c.follow_rev-stop.result.id (Some _) c.in_ok-id.ensures.grown c.in_ok-id.ensures.of at.named read
+    learned_ends Backward c.args.self.now c.loop-at.cache c.read.new.cache c.args.input.now k c.run_rev-run.result.id (Some _) c.in_ok-id.ensures.grown c.in_ok-id.ensures.of at.named read
     c.in_ok-id.ensures.learned c.in_ok-id.ensures.below
-    (stops_ends Backward c.args.self.now c.loop-at.cache.store.table c.read.new.cache.store.table c.args.input.now k c.follow_rev-stop.result.id c.in_ok-id.id _ c.loop-at.found c.found_at-found.result at read c.in_ok-id.ensures.named (quit_free c.args.self.now _ c.in_ok-id.ensures.clean) (c.follow_rev-stop.result.at, span_place c.args.input.now c.follow_rev-stop.result.at above below, c.found_at-found.ensures) (sym c.get_earliest.ensures ∙ c.if-get_earliest.true) (some_is c.found_at-found.result c.if-is_some.ensures))
-    before.0 (followed_learned (c.follow_rev-stop.ensures.followed c.loop-at.invariant.at.named) before.1)
+    (stops_ends Backward c.args.self.now c.loop-at.cache.store.table c.read.new.cache.store.table c.args.input.now k c.run_rev-run.result.id c.in_ok-id.id _ c.run_rev-run.result.found c.found_at-found.result at read c.in_ok-id.ensures.named (quit_free c.args.self.now _ c.in_ok-id.ensures.clean) (c.run_rev-run.result.at, span_place c.args.input.now c.run_rev-run.result.at above below, c.found_at-found.ensures) (sym c.get_earliest.ensures ∙ c.if-get_earliest.true) (some_is c.found_at-found.result c.if-is_some.ensures))
+    before.0 (c.run_rev-run.ensures.learned before.1)
     (nothing_second c.args.cache.now c.loop-at.cache c.read.new.cache c.loop-at.invariant.grown c.in_ok-id.ensures.grown nothing))
 
 pub returns-in_err-id-clause-grown : goal.returns-in_err-id-clause-grown
@@ -214,34 +213,34 @@ returns-in_err-id-clause-grown c = grown_trans c.args.cache.now c.loop-at.cache 
 
 pub returns-in_err-id-clause-idle : goal.returns-in_err-id-clause-idle
 returns-in_err-id-clause-idle c = λ knows.
-    let above : c.args.input.now.start < c.follow_rev-stop.result.at = omega (arith, c.if-stop-start.false, c.start-in-loop-at.ensures.start) in
-    let below : c.follow_rev-stop.result.at ≤ c.args.input.now.end = omega (arith, c.follow_rev-stop.ensures.within, c.loop-at.invariant.within) in
-    let k : ℕ = c.args.input.now.end - c.follow_rev-stop.result.at in
-    let at : IsAt Backward c.args.self.now c.loop-at.cache.store.table c.args.input.now k c.follow_rev-stop.result.id c.loop-at.found = followed_at (c.follow_rev-stop.ensures.followed c.loop-at.invariant.at.named) c.loop-at.invariant.at in
-    let read : next (tape_in Backward c.args.input.now) k ≡ Some _ = span_read c.args.input.now c.follow_rev-stop.result.at above below c.haystack.result.now c.haystack.ensures.within.1 c.haystack.ensures.same in
-    let few : k ≤ length (tape_in Backward c.args.input.now).bytes = span_few c.args.input.now c.follow_rev-stop.result.at above below c.haystack.ensures.within.1 in
+    let above : c.args.input.now.start < c.run_rev-run.result.at = omega (arith, c.if-run-start.false, c.start-in-loop-at.ensures.start) in
+    let below : c.run_rev-run.result.at ≤ c.args.input.now.end = omega (arith, c.run_rev-run.ensures.within, c.loop-at.invariant.within) in
+    let k : ℕ = c.args.input.now.end - c.run_rev-run.result.at in
+    let at : IsAt Backward c.args.self.now c.loop-at.cache.store.table c.args.input.now k c.run_rev-run.result.id c.run_rev-run.result.found = c.run_rev-run.ensures.at in
+    let read : next (tape_in Backward c.args.input.now) k ≡ Some _ = span_read c.args.input.now c.run_rev-run.result.at above below c.haystack.result.now c.haystack.ensures.within.1 c.haystack.ensures.same in
+    let few : k ≤ length (tape_in Backward c.args.input.now).bytes = span_few c.args.input.now c.run_rev-run.result.at above below c.haystack.ensures.within.1 in
     let still : KnowsPass Backward c.args.self.now c.loop-at.cache.store c.args.input.now = knows_still Backward c.args.self.now c.args.input.now c.args.cache.now c.loop-at.cache c.loop-at.invariant.grown (c.loop-at.invariant.idle knows) knows in
-    let idle = c.in_err-id.ensures.idle (knows_here Backward c.args.self.now c.loop-at.cache.store c.args.input.now k c.follow_rev-stop.result.id c.loop-at.found (Some _) still c.requires.may at few c.in_err-id.ensures.alive read) in
+    let idle = c.in_err-id.ensures.idle (knows_here Backward c.args.self.now c.loop-at.cache.store c.args.input.now k c.run_rev-run.result.id c.run_rev-run.result.found (Some _) still c.requires.may at few c.in_err-id.ensures.alive read) in
     (idle.0 ∙ c.loop-at.invariant.idle knows, if_err c.from_residual.result _ _ c.from_residual.ensures.1 idle.1)
 
-pub returns-then-stop-start-clause-grown : goal.returns-then-stop-start-clause-grown
-returns-then-stop-start-clause-grown c =
+pub returns-then-run-start-clause-grown : goal.returns-then-run-start-clause-grown
+returns-then-run-start-clause-grown c =
     let moved : IsGrown c.args.cache.now c.end_search.new.self = grown_trans c.args.cache.now c.loop-at.cache c.end_search.new.self c.loop-at.invariant.grown (grown_moved c.loop-at.cache c.end_search.new.self c.end_search.ensures.value) in
     grown_trans c.args.cache.now c.end_search.new.self c.find_end_rev.new.cache moved c.find_end_rev.ensures.grown
 
-pub returns-then-stop-start-clause-idle : goal.returns-then-stop-start-clause-idle
-returns-then-stop-start-clause-idle c = λ knows.
+pub returns-then-run-start-clause-idle : goal.returns-then-run-start-clause-idle
+returns-then-run-start-clause-idle c = λ knows.
     let moved : IsGrown c.args.cache.now c.end_search.new.self = grown_trans c.args.cache.now c.loop-at.cache c.end_search.new.self c.loop-at.invariant.grown (grown_moved c.loop-at.cache c.end_search.new.self c.end_search.ensures.value) in
     let count : c.end_search.new.self.count ≡ c.args.cache.now.count = c.end_search.ensures.count ∙ c.loop-at.invariant.idle knows in
     let idle = c.find_end_rev.ensures.idle (knows_still Backward c.args.self.now c.args.input.now c.args.cache.now c.end_search.new.self moved count knows) in
     (idle.0 ∙ count, idle.1)
 
-pub returns-then-stop-start-clause-learned : goal.returns-then-stop-start-clause-learned
-returns-then-stop-start-clause-learned c = λ begin nothing.
+pub returns-then-run-start-clause-learned : goal.returns-then-run-start-clause-learned
+returns-then-run-start-clause-learned c = λ begin nothing.
     let moved : IsGrown c.args.cache.now c.end_search.new.self = grown_trans c.args.cache.now c.loop-at.cache c.end_search.new.self c.loop-at.invariant.grown (grown_moved c.loop-at.cache c.end_search.new.self c.end_search.ensures.value) in
     let first : ClearedNothing c.args.cache.now.store c.end_search.new.self.store = nothing_first c.args.cache.now c.end_search.new.self c.find_end_rev.new.cache moved c.find_end_rev.ensures.grown nothing in
-    let same : c.args.input.now.end - c.follow_rev-stop.result.at ≡ c.args.input.now.end - c.args.input.now.start = omega (arith, c.if-stop-start.true, c.follow_rev-stop.ensures.from, c.start-in-loop-at.ensures.start) in
-    let before = begun_moved Backward c.args.self.now c.args.input.now c.args.cache.now c.loop-at.cache c.end_search.new.self _ c.end_search.ensures.value (λ nothing. let had = c.loop-at.invariant.learned begin nothing in (had.0, subst (HasLearned Backward c.args.self.now c.loop-at.cache.store c.args.input.now) same (followed_learned (c.follow_rev-stop.ensures.followed c.loop-at.invariant.at.named) had.1))) first in
+    let same : c.args.input.now.end - c.run_rev-run.result.at ≡ c.args.input.now.end - c.args.input.now.start = omega (arith, c.if-run-start.true, c.run_rev-run.ensures.from, c.start-in-loop-at.ensures.start) in
+    let before = begun_moved Backward c.args.self.now c.args.input.now c.args.cache.now c.loop-at.cache c.end_search.new.self _ c.end_search.ensures.value (λ nothing. let had = c.loop-at.invariant.learned begin nothing in (had.0, subst (HasLearned Backward c.args.self.now c.loop-at.cache.store c.args.input.now) same (c.run_rev-run.ensures.learned had.1))) first in
     c.find_end_rev.ensures.learned before.0 before.1
     (nothing_second c.args.cache.now c.end_search.new.self c.find_end_rev.new.cache moved c.find_end_rev.ensures.grown nothing)
 
@@ -268,5 +267,5 @@ returns-clause-learned c = λ begin nothing.
 
 pub read-requires-clause-valid : goal.read-requires-clause-valid
 read-requires-clause-valid c =
-    let at : IsAt Backward c.args.self.now c.loop-at.cache.store.table c.args.input.now (c.args.input.now.end - c.follow_rev-stop.result.at) c.follow_rev-stop.result.id c.loop-at.found = followed_at (c.follow_rev-stop.ensures.followed c.loop-at.invariant.at.named) c.loop-at.invariant.at in
+    let at : IsAt Backward c.args.self.now c.loop-at.cache.store.table c.args.input.now (c.args.input.now.end - c.run_rev-run.result.at) c.run_rev-run.result.id c.run_rev-run.result.found = c.run_rev-run.ensures.at in
     (_, at.named)

@@ -1,0 +1,96 @@
+-- Known transitions that are followed whatever they tell.
+use Rattle.std.proofs.Common.{ℕ, suc, ◌≡◌, ◌∙◌, ◌<◌, ◌≤◌, ◌^◌, ◌⊎◌, inl, inr, Bool, true, false, List, [], ◌∷◌, length, Option, Some, refl, sym, ap, subst, arith}
+use Rattle.automata_base.specs.Answers.{offset_in}
+use Rattle.automata_base.specs.Classes.{class_in, is_quit}
+use Rattle.automata_base.specs.Input.{Input}
+use Rattle.automata_base.specs.Matches.{HalfMatch}
+use Rattle.automata_base.specs.Paths.{next}
+use Rattle.automata_base.specs.Powerset.{Powerset}
+use Rattle.automata_base.specs.Steps.{successor}
+use Rattle.automata_base.specs.Tapes.{Direction}
+use Rattle.automata_base.proofs.Paths.Orders.{some_inj}
+use Rattle.automata_hybrid.specs.Bounds.{Stored, IsKnownTransition}
+use Rattle.automata_hybrid.specs.Ids.{quit_id}
+use Rattle.automata_hybrid.specs.Knowing.{unit_class}
+use Rattle.automata_hybrid.specs.Machine.{Machine}
+use Rattle.automata_hybrid.specs.Passing.{HasLearned, HasLearnedUnit, IsAt, IsLed, IsTaken, half_at, half_of}
+use Rattle.automata_hybrid.specs.Searches.{HasReadNoQuit, state_in, tape_in, told_in}
+use Rattle.automata_hybrid.specs.Table.{Leads, Names}
+use Rattle.automata_hybrid.proofs.Searching.{false_true, found_more, lt_or_le, state_more}
+use Rattle.automata_hybrid.proofs.Stepping.{Leads-Names}
+
+-- nothing was followed yet
+pub led_none :
+    (way : Direction) (m : Machine) (c : Stored) (input : Input) (from id : ℕ)
+    → Names c.table id (state_in way m input from) → IsLed way m c input from from id
+led_none way m c input from id n =
+    record { more = omega arith; named = n; taken = λ k l h. absurd (omega (arith, l, h)) }
+
+-- one known transition more, to the ID of a row
+pub led_more :
+    (way : Direction) (m : Machine) (c : Stored) (input : Input) (from k id id' byte : ℕ)
+    → id' < 2 ^ 29 → next (tape_in way input) k ≡ Some byte
+    → IsKnownTransition c id (class_in m.classes byte) → class_in m.classes byte < c.table.of.stride
+    → (is_quit m.quits byte ≡ true → id' ≡ quit_id m.stride)
+    → (is_quit m.quits byte ≡ false → id' < 2 ^ 31 → (q : Powerset) → Names c.table id q → Leads c.table id' (successor m.nfa m.kind q (Some byte)))
+    → IsLed way m c input from k id → IsLed way m c input from (suc k) id'
+led_more way m c input from k id id' byte low unit known below quit named f = go (is_quit m.quits byte) refl where
+  go : (b : Bool) → is_quit m.quits byte ≡ b → IsLed way m c input from (suc k) id'
+  go true e = absurd (let h : id' ≡ quit_id m.stride = quit e in omega (arith, h, low))
+  go false e =
+      let after : state_in way m input (suc k) ≡ successor m.nfa m.kind (state_in way m input k) (Some byte) =
+      state_more way m input k ∙ ap (successor m.nfa m.kind (state_in way m input k)) unit in
+      let leads : Leads c.table id' (state_in way m input (suc k)) =
+      subst (Leads c.table id') (sym after) (named e (omega (arith, low)) (state_in way m input k) f.named) in
+      let here : IsTaken way m c input k = record {
+        clean = λ other same. subst (λ v. is_quit m.quits v ≡ false) (some_inj (sym unit ∙ same)) e;
+        known = (
+          (id, f.named, subst (λ v. IsKnownTransition c id (unit_class m v)) (sym unit) known),
+          subst (λ v. unit_class m v < c.table.of.stride) (sym unit) below,
+        );
+      } in
+      record {
+        more = omega (arith, f.more);
+        named = Leads-Names c.table id' (state_in way m input (suc k)) leads low;
+        taken = λ j l h. each here j l h (lt_or_le j k);
+      }
+    where
+      each : IsTaken way m c input k → (j : ℕ) → from ≤ j → j < suc k → (j < k) ⊎ (k ≤ j) → IsTaken way m c input j
+      each here j l h (inl less) = f.taken j l less
+      each here j l h (inr more) = let same : k ≡ j = omega (arith, h, more) in subst (IsTaken way m c input) same here
+
+half_any : (ps : List ℕ) (at : ℕ) (a b : Option HalfMatch) → 0 < length ps → half_at ps at a ≡ half_at ps at b
+half_any [] at a b l = absurd (omega (arith, l))
+half_any (p ∷ ps) at a b l = refl
+
+module _ {way : Direction} {m : Machine} {c : Stored} {input : Input} {from to id : ℕ} (f : IsLed way m c input from to id) where
+  -- a pass that met no quit byte before has met none
+  led_clean : HasReadNoQuit way m input from → HasReadNoQuit way m input to
+  led_clean clean j byte l e = go (lt_or_le j from) where
+    go : (j < from) ⊎ (from ≤ j) → is_quit m.quits byte ≡ false
+    go (inl less) = clean j byte less e
+    go (inr more) = (f.taken j more l).clean byte e
+
+  -- and has learned all that it took
+  pub led_learned : HasLearned way m c input from → HasLearned way m c input to
+  led_learned learned j l reads = go (lt_or_le j from) where
+    go : (j < from) ⊎ (from ≤ j) → HasLearnedUnit way m c input j
+    go (inl less) = learned j less reads
+    go (inr more) = (f.taken j more l).known
+
+  -- a pass that was there is here, and has found what the state here tells, if that has patterns and the search isn't an earliest one
+  pub led_at :
+      {start : ℕ} (j o : ℕ) {found found' : Option HalfMatch} → input.earliest ≡ false → to ≡ suc j → o ≡ offset_in way input j
+      → 0 < length (state_in way m input to).patterns → ((q : Powerset) → Leads c.table id q → found' ≡ half_at q.patterns o found)
+      → IsAt way m c.table input from start found → IsAt way m c.table input to id found'
+  led_at j o {found} {found'} late here offset some tells at =
+      record { named = f.named; told = told; nothing = λ e. absurd (false_true (sym late ∙ e)); clean = led_clean at.clean }
+    where
+      told : found' ≡ half_of way input (told_in way m input to)
+      told =
+          tells (state_in way m input to) (inr f.named)
+          ∙ (half_any (state_in way m input to).patterns o found (half_of way input (told_in way m input j)) some
+          ∙ (ap (λ v. half_at (state_in way m input to).patterns v (half_of way input (told_in way m input j))) offset
+          ∙ (ap (λ n. half_at (state_in way m input n).patterns (offset_in way input j) (half_of way input (told_in way m input j))) here
+          ∙ (sym (found_more way m input j (λ e. absurd (false_true (sym late ∙ e))))
+          ∙ ap (λ n. half_of way input (told_in way m input n)) (sym here)))))
