@@ -1,3 +1,4 @@
+pub mod Agreeing
 pub mod Backing
 pub mod Collecting
 pub mod Finding
