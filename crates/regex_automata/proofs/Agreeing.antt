@@ -15,7 +15,7 @@ use Rattle.automata_hybrid.specs.Machine.{Machine}
 use Rattle.automata_hybrid.specs.Searches.{IsFound, Skips}
 use Rattle.automata_hybrid.proofs.Skipping.{found_told}
 use Rattle.regex_automata.specs.Agreeing.{AreAlike, MatchesAgree, TruthIffFound, TruthsAgree}
-use Rattle.regex_automata.specs.Matching.{IsMatchTold, in_part}
+use Rattle.regex_automata.specs.Matching.{IsMatchTold}
 use Rattle.regex_automata.specs.Outcomes.{FindsMatch, FindsStartBy, IsStartFound}
 use Rattle.regex_automata.specs.SoundPairs.{forward_engine}
 use Rattle.regex_automata.specs.declared.hybrid.regex.Regex.{Regex}

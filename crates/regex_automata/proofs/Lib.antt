@@ -5,6 +5,7 @@ pub mod Finding
 pub mod Items
 pub mod Matching
 pub mod Nexts
+pub mod Remembering
 pub mod Results
 pub mod Right
 pub mod Rising

@@ -1,5 +1,5 @@
 -- The matches of an input, one after another.
-use Rattle.std.specs.Prelude.{ℕ, suc, ◌≡◌, ◌+◌, ◌-◌, ◌<◌, ◌⊎◌, ◌==◌, Bool, true, false, cond, List, [], ◌∷◌, ◌++◌, Option, None, Some, Result, Ok, Err, MatchOption}
+use Rattle.std.specs.Prelude.{ℕ, suc, ◌≡◌, ◌+◌, ◌-◌, ◌<◌, ◌⊎◌, ◌==◌, Bool, true, false, cond, List, [], ◌∷◌, ◌++◌, Option, None, Some, Result, Ok, Err, IfErr, IfSome, IsOk, MatchOption}
 use Rattle.automata_base.specs.Input.{Input}
 use Rattle.automata_base.specs.Matches.{Match}
 use Rattle.automata_base.specs.declared.util.search.Anchored.{Anchored}
@@ -7,7 +7,8 @@ use Rattle.automata_base.specs.Spans.{AreMatches, IsEmptyAt, IsNext, from}
 use Rattle.automata_config.specs.declared.error.SearchError.{SearchError}
 use Rattle.regex_automata.specs.Costs.{AreCostsOf}
 use Rattle.regex_automata.specs.Outcomes.{FindsMatch, LiesIn}
-use Rattle.regex_automata.specs.RegexRefusals.{IsRegexRefusal}
+use Rattle.regex_automata.specs.RegexCaches.{AreStill, KnowsBoth, NothingCleared}
+use Rattle.regex_automata.specs.RegexRefusals.{IsOfGiven, IsRegexRefusal}
 use Rattle.regex_automata.specs.declared.hybrid.regex.Regex.{Regex}
 use Rattle.regex_automata.specs.declared.hybrid.regex.caches.Cache.{Cache}
 
@@ -29,6 +30,25 @@ GoesOn input last m = LiesIn input m × (last ≡ Some input.start → input.sta
 abbrev pub AreCostsTwice : Regex → ℕ → Cache → Cache → Type 0
 AreCostsTwice p bytes old new =
     AreCostsOf p bytes old new ⊎ ((between : Cache) × AreCostsOf p bytes old between × AreCostsOf p bytes between new)
+
+-- all that the next match uses is known: what a search uses, and where that finds an empty match at the last end, what
+-- the one from a place later uses
+abbrev pub KnowsNext : Regex → Cache → Input → Option ℕ → Type 0
+KnowsNext p c input last =
+    KnowsBoth p c input
+    × ((m : Match) → FindsMatch p input (Some m) → IsEmptyAt last m → KnowsBoth p c (from (suc input.start) input))
+
+-- and what an item uses: nothing, where the iteration has ended
+abbrev pub KnowsItem : Regex → Cache → Input → Option ℕ → (ended : Bool) → Type 0
+KnowsItem p c input last true = Unit {0}
+KnowsItem p c input last false = KnowsNext p c input last
+
+-- what an item makes of what is known
+pub record LearnsItem (p : Regex) (old new : Cache) (input : Input) (last : Option ℕ) (ended : Bool) (item : Option (Result Match SearchError)) : Type 0 where
+  -- with all that it uses known nothing is determinised, and it is refused only for what it was given
+  pub known : KnowsItem p old input last ended → AreStill old new × IfSome item (λ r. IfErr r IsOfGiven)
+  -- where it is no refusal and nothing was cleared, what it used is known
+  pub learned : NothingCleared old new → IfSome item (λ r. IsOk r) → KnowsItem p new input last ended
 
 -- one item of an iteration, and how it stands before and behind it: what is left to be searched, where the last match
 -- ended, and whether it has ended
