@@ -2,7 +2,7 @@ ghost use Rattle.std.specs.Prelude.{◌≡◌, ◌+◌, ◌^◌, ◌-◌, IfOk, 
 ghost use Rattle.std.specs.Borrow.{sem};
 ghost use Rattle.automata_hybrid.specs.Bounds.{usage};
 ghost use Rattle.regex_automata.specs.RegexCaches.{AreFresh};
-ghost use Rattle.regex_automata.specs.Lending.{LendsForward, LendsReverse};
+ghost use Rattle.regex_automata.specs.Lending.{LendsBothParts, LendsForward, LendsReverse};
 
 use crate::hybrid::dfa;
 use crate::hybrid::regex::Regex;
@@ -74,6 +74,7 @@ impl Cache {
 
     /// Both caches for writing, the forward one first.
     pub fn as_parts_mut(&mut self) -> (&mut dfa::Cache, &mut dfa::Cache)
+        ensures* writes_back { sem 𝓛 (LendsBothParts self.entry result) }
         ensures forward { result.0.now ≡ self.old.forward }
         ensures reverse { result.1.now ≡ self.old.reverse }
     {
