@@ -26,7 +26,8 @@ MatchesAgree =
 abbrev pub TruthsAgree : Type 0
 TruthsAgree =
     (m other : Machine) (input : Input) (first second : Bool)
-    → m.nfa ≡ other.nfa → m.kind ≡ other.kind → IsMatchTold m input first → IsMatchTold other input second → first ≡ second
+    → m.nfa ≡ other.nfa → m.kind ≡ other.kind → IsMatchTold m input first → IsMatchTold other input second
+    → first ≡ second
 
 -- where the input is not earliest or no place is skipped, there is a match exactly if a search finds one
 abbrev pub TruthIffFound : Type 0

@@ -1,4 +1,5 @@
-//! Laws that searches over two lazy DFAs keep. The contract of each function is the law; what it does is to cite others.
+//! Laws that searches over two lazy DFAs keep. The contract of each function is the law; what it does is to cite
+//! others.
 ghost use Rattle.regex_automata.specs.Agreeing.{MatchesAgree, TruthIffFound, TruthsAgree};
 
 use automata_base::laws::passes_tell_paths;
@@ -19,8 +20,8 @@ pub fn truths_agree()
     passes_tell_paths();
 }
 
-/// `is_match` is true exactly where `find` gives a match, where both answer. An earliest input over DFAs that skip split
-/// places is left out: there `find` may take a match for none.
+/// `is_match` is true exactly where `find` gives a match, where both answer. An earliest input over DFAs that skip
+/// split places is left out: there `find` may take a match for none.
 pub fn truth_is_found()
     ensures { TruthIffFound }
 {

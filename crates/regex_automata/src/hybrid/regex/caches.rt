@@ -72,7 +72,8 @@ impl Cache {
         (&self.forward, &self.reverse)
     }
 
-    /// Both caches for writing, the forward one first.
+    /// Both caches for writing, the forward one first. Proofs that are found for callers follow one lent part at a
+    /// time: where such a proof has to know what was written, take `forward_mut` and then `reverse_mut`.
     pub fn as_parts_mut(&mut self) -> (&mut dfa::Cache, &mut dfa::Cache)
         ensures* writes_back { sem 𝓛 (LendsBothParts self.entry result) }
         ensures forward { result.0.now ≡ self.old.forward }

@@ -112,8 +112,11 @@ pub fn collect_matches(
     ensures found { IfOk result (λ all. AreCollected (FindsMatch regex.now) input.entry all.0.items all.1) }
     ensures rise { IfOk result (λ all. Rise input.entry.end None all.0.items) }
     ensures few { IfOk result (λ all. length all.0.items ≤ input.entry.end - input.entry.start + 1) }
-    ensures spans { IsSoundPair regex.now → IfOk result (λ all. AreCollected (IsSpan (forward_engine regex.now)) input.entry all.0.items all.1) }
-    ensures beginning { IsSoundPair regex.now → IfOk result (λ all. (whole : List specs.Match) → AreSpans (forward_engine regex.now) input.entry whole → IsBeginning all.0.items whole) }
+    ensures spans { IsSoundPair regex.now
+        → IfOk result (λ all. AreCollected (IsSpan (forward_engine regex.now)) input.entry all.0.items all.1) }
+    ensures beginning { IsSoundPair regex.now
+        → IfOk result (λ all. (whole : List specs.Match) → AreSpans (forward_engine regex.now) input.entry whole
+        → IsBeginning all.0.items whole) }
 {
     told_is_right(regex.forward.get_nfa());
     told_is_right(regex.reverse.get_nfa());
@@ -145,7 +148,8 @@ fn collect(
     Ok((found, error))
 }
 
-/// The matches that are left of an input, until an error, which is the last item. It holds the parts of its input.
+/// The matches that are left of an input, until an error, which is the last item. After the end it gives none for good.
+/// It holds the parts of its input.
 #[derive(Drop)]
 pub struct FindMatches<'r, 'c, 'h> {
     regex: &'r Regex,
@@ -177,13 +181,16 @@ impl<'r, 'c, 'h> Iterator for FindMatches<'r, 'c, 'h> {
     type Item = Result<Match, SearchError>;
 
     ghost next_gives = { λ s r t. GivesItem s.regex.now t.cache.now r
-        (input_at s.haystack.now s.start s.end s.anchored s.earliest) (input_at t.haystack.now t.start t.end t.anchored t.earliest)
+        (input_at s.haystack.now s.start s.end s.anchored s.earliest)
+        (input_at t.haystack.now t.start t.end t.anchored t.earliest)
         s.last t.last s.ended t.ended
         × (t.regex.now ≡ s.regex.now) × (t.cache.ghost_name ≡ s.cache.ghost_name)
         × AreGrown s.cache.now t.cache.now × AreCostsTwice s.regex.now (s.end - s.start) s.cache.now t.cache.now
-        × LearnsItem s.regex.now s.cache.now t.cache.now (input_at s.haystack.now s.start s.end s.anchored s.earliest) s.last s.ended r };
+        × LearnsItem s.regex.now s.cache.now t.cache.now
+        (input_at s.haystack.now s.start s.end s.anchored s.earliest) s.last s.ended r };
 
-    ghost remaining = { λ s. at_most (most_left s.ended (input_at s.haystack.now s.start s.end s.anchored s.earliest) s.last) };
+    ghost remaining = { λ s.
+        at_most (most_left s.ended (input_at s.haystack.now s.start s.end s.anchored s.earliest) s.last) };
 
     fn next(&mut self) -> Option<Result<Match, SearchError>> {
         if self.ended {
