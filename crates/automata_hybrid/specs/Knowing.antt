@@ -1,6 +1,6 @@
 -- Searches whose start and transitions are all known.
-use Rattle.std.specs.Prelude.{ℕ, ◌+◌, ◌<◌, ◌≤◌, Option, None, Some}
-use Rattle.automata_base.specs.Answers.{Tries, later}
+use Rattle.std.specs.Prelude.{ℕ, ◌≡◌, ◌+◌, ◌<◌, ◌≤◌, Option, None, Some}
+use Rattle.automata_base.specs.Answers.{IsInput, Tries, later}
 use Rattle.automata_base.specs.Classes.{class_in, eoi_class}
 use Rattle.automata_base.specs.Input.{Input}
 use Rattle.automata_base.specs.Paths.{next}
@@ -9,6 +9,7 @@ use Rattle.automata_base.specs.declared.util.search.MatchErrorKind.TheVariants.{
 use Rattle.automata_config.specs.declared.error.SearchError.{SearchError}
 use Rattle.automata_config.specs.declared.error.SearchError.TheVariants as search
 use Rattle.automata_hybrid.specs.Bounds.{Stored, IsKnownStart, IsKnownTransition}
+use Rattle.automata_hybrid.specs.Growing.{Keeps}
 use Rattle.automata_hybrid.specs.Machine.{Machine}
 use Rattle.automata_hybrid.specs.Searches.{Finds, HasReadNoQuit, Reads, Skips, state_in, tape_in}
 use Rattle.automata_hybrid.specs.Slots.{slot_behind}
@@ -42,6 +43,12 @@ KnowsPass way m c input =
 abbrev pub Knows : Direction → Machine → Stored → Input → Type 0
 Knows way m c input =
     (k : ℕ) → Tries (Finds way m) (Skips m) way input k → input.start + k ≤ input.end → KnowsPass way m c (later way k input)
+
+-- where nothing is lost, what a search knows it still knows
+abbrev pub KnownStays : Machine → Type 0
+KnownStays m =
+    (way : Direction) (input : Input) (old new : Stored) → IsInput input → old.table.of ≡ m → new.table.of ≡ m → Keeps old new
+    → Knows way m old input → Knows way m new input
 
 -- a search is refused for what it was given, and not for want of room
 abbrev pub IsOfInput : SearchError → Type 0

@@ -1,5 +1,6 @@
-//! Laws that searches and walks stand on. Each contract is the law; what it does is to cite others.
+//! Laws that searches and walks stand on. The contract of each function is the law; what it does is to cite others.
 ghost use Rattle.automata_hybrid.specs.Agreeing.{AnswersAgree, WalksAgree};
+ghost use Rattle.automata_hybrid.specs.Knowing.{KnownStays};
 
 use crate::dfa::DFA;
 use automata_base::laws::{passes_tell_paths, walk_is_right};
@@ -17,4 +18,11 @@ pub fn walks_agree(dfa: &DFA)
     ensures { WalksAgree dfa.now }
 {
     walk_is_right(dfa.get_nfa());
+}
+
+/// What a search knows of its start and transitions it still knows where no row, start or transition was lost.
+pub fn known_stays(dfa: &DFA)
+    ensures { KnownStays dfa.now }
+{
+    dfa.see_classes();
 }

@@ -1,11 +1,13 @@
 -- One item after another.
 use Rattle.std.proofs.Common.{ℕ, ◌≡◌, ◌∙◌, ◌+◌, ◌-◌, ◌<◌, ◌≤◌, Bool, true, false, cond, eqb, eq-eqb, eqb-true, Option, Some, None, refl, sym, ap, subst, arith}
-use Rattle.std.specs.Prelude.{Ok, Err}
+use Rattle.std.specs.Prelude.{Result, Ok, Err, IfErr, IfSome, IsOk}
 use Rattle.automata_base.specs.Input.{Input}
 use Rattle.automata_base.specs.Matches.{Match}
 use Rattle.automata_base.specs.Spans.{from}
 use Rattle.automata_config.specs.declared.error.SearchError.{SearchError}
-use Rattle.regex_automata.specs.Iterating.{GivesItem, GoesOn, IsNextMatch, IsNextRefusal, most_left}
+use Rattle.regex_automata.specs.Iterating.{GivesItem, GoesOn, IsNextMatch, IsNextRefusal, KnowsNext, LearnsItem, most_left}
+use Rattle.regex_automata.specs.RegexCaches.{AreStill, NothingCleared}
+use Rattle.regex_automata.specs.RegexRefusals.{IsOfGiven}
 use Rattle.regex_automata.specs.declared.hybrid.regex.Regex.{Regex}
 use Rattle.regex_automata.specs.declared.hybrid.regex.caches.Cache.{Cache}
 use Rattle.regex_automata.proofs.Backing.{false_true}
@@ -32,6 +34,20 @@ pub gives_error :
     → ended ≡ false → IsNextRefusal p c input last e → GivesItem p c (Some (Err e)) input input last last ended true
 gives_error p c input last true e still refused = absurd (false_true (sym still))
 gives_error p c input last false e still refused = (refused, refl, refl, refl)
+
+-- what an item that searches makes of what is known
+pub learns_next :
+    (p : Regex) (old new : Cache) (asked input : Input) (last : Option ℕ) (ended : Bool) (item : Option (Result Match SearchError))
+    → ended ≡ false → asked ≡ input
+    → (KnowsNext p old asked last → AreStill old new × IfSome item (λ r. IfErr r IsOfGiven))
+    → (NothingCleared old new → IfSome item (λ r. IsOk r) → KnowsNext p new asked last)
+    → LearnsItem p old new input last ended item
+learns_next p old new asked input last true item still same known learned = absurd (false_true (sym still))
+learns_next p old new asked input last false item still same known learned =
+    record {
+      known = λ knows. known (subst (λ (i : Input). KnowsNext p old i last) (sym same) knows);
+      learned = λ nothing good. subst (λ (i : Input). KnowsNext p new i last) same (learned nothing good);
+    }
 
 -- fewer items may come behind a match
 most_behind : (input input' : Input) (end : ℕ) → input' ≡ from end input → most_left false input' (Some end) ≡ input.end + 1 - end

@@ -1,9 +1,11 @@
+pub mod Agreeing
 pub mod Backing
 pub mod Collecting
 pub mod Finding
 pub mod Items
 pub mod Matching
 pub mod Nexts
+pub mod Remembering
 pub mod Results
 pub mod Right
 pub mod Rising

@@ -63,7 +63,7 @@ module _ (m : Machine) (input : Input) (whole : Skips m → ⊥) where
     refl,
   )
 
-  match_told :
+  pub match_told :
       (o : Option Half) → IsTold Forward m.nfa m.kind (in_part input) o
       → (answer : Option Half) × IsTold Forward m.nfa m.kind (in_full input) answer × (is_some o ≡ is_some answer)
   match_told None f = go f.2 where

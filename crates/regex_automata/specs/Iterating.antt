@@ -1,5 +1,5 @@
 -- The matches of an input, one after another.
-use Rattle.std.specs.Prelude.{ℕ, suc, ◌≡◌, ◌+◌, ◌-◌, ◌<◌, ◌⊎◌, ◌==◌, Bool, true, false, cond, List, [], ◌∷◌, ◌++◌, Option, None, Some, Result, Ok, Err, MatchOption}
+use Rattle.std.specs.Prelude.{ℕ, suc, ◌≡◌, ◌+◌, ◌-◌, ◌<◌, ◌⊎◌, ◌==◌, Bool, true, false, cond, List, [], ◌∷◌, ◌++◌, Option, None, Some, Result, Ok, Err, IfErr, IfSome, IsOk, MatchOption}
 use Rattle.automata_base.specs.Input.{Input}
 use Rattle.automata_base.specs.Matches.{Match}
 use Rattle.automata_base.specs.declared.util.search.Anchored.{Anchored}
@@ -7,7 +7,8 @@ use Rattle.automata_base.specs.Spans.{AreMatches, IsEmptyAt, IsNext, from}
 use Rattle.automata_config.specs.declared.error.SearchError.{SearchError}
 use Rattle.regex_automata.specs.Costs.{AreCostsOf}
 use Rattle.regex_automata.specs.Outcomes.{FindsMatch, LiesIn}
-use Rattle.regex_automata.specs.RegexRefusals.{IsRegexRefusal}
+use Rattle.regex_automata.specs.RegexCaches.{AreStill, KnowsBoth, NothingCleared}
+use Rattle.regex_automata.specs.RegexRefusals.{IsOfGiven, IsRegexRefusal}
 use Rattle.regex_automata.specs.declared.hybrid.regex.Regex.{Regex}
 use Rattle.regex_automata.specs.declared.hybrid.regex.caches.Cache.{Cache}
 
@@ -19,7 +20,8 @@ IsNextMatch p input last answer = IsNext (FindsMatch p) input input.start last a
 abbrev pub IsNextRefusal : Regex → Cache → Input → Option ℕ → SearchError → Type 0
 IsNextRefusal p c input last e =
     IsRegexRefusal p c input e
-    ⊎ ((m : Match) × FindsMatch p input (Some m) × IsEmptyAt last m × IsRegexRefusal p c (from (suc input.start) input) e)
+    ⊎ ((m : Match) × FindsMatch p input (Some m) × IsEmptyAt last m
+    × IsRegexRefusal p c (from (suc input.start) input) e)
 
 -- a match goes past the last end
 abbrev pub GoesOn : Input → Option ℕ → Match → Type 0
@@ -30,10 +32,34 @@ abbrev pub AreCostsTwice : Regex → ℕ → Cache → Cache → Type 0
 AreCostsTwice p bytes old new =
     AreCostsOf p bytes old new ⊎ ((between : Cache) × AreCostsOf p bytes old between × AreCostsOf p bytes between new)
 
+-- all that the next match uses is known: what a search uses, and where that finds an empty match at the last end, what
+-- the one from a place later uses
+abbrev pub KnowsNext : Regex → Cache → Input → Option ℕ → Type 0
+KnowsNext p c input last =
+    KnowsBoth p c input
+    × ((m : Match) → FindsMatch p input (Some m) → IsEmptyAt last m → KnowsBoth p c (from (suc input.start) input))
+
+-- and what an item uses: nothing, where the iteration has ended
+abbrev pub KnowsItem : Regex → Cache → Input → Option ℕ → (ended : Bool) → Type 0
+KnowsItem p c input last true = Unit {0}
+KnowsItem p c input last false = KnowsNext p c input last
+
+-- what an item makes of what is known
+pub record LearnsItem
+    (p : Regex) (old new : Cache) (input : Input) (last : Option ℕ) (ended : Bool)
+    (item : Option (Result Match SearchError)) : Type 0 where
+  -- with all that it uses known nothing is determinised, and it is refused only for what it was given
+  pub known : KnowsItem p old input last ended → AreStill old new × IfSome item (λ r. IfErr r IsOfGiven)
+  -- where it is no refusal and nothing was cleared, what it used is known
+  pub learned : NothingCleared old new → IfSome item (λ r. IsOk r) → KnowsItem p new input last ended
+
 -- one item of an iteration, and how it stands before and behind it: what is left to be searched, where the last match
 -- ended, and whether it has ended
-abbrev pub GivesItem : Regex → Cache → Option (Result Match SearchError) → (input input' : Input) → (last last' : Option ℕ) → (ended ended' : Bool) → Type 0
-GivesItem p c item input input' last last' true ended' = (item ≡ None) × (input' ≡ input) × (last' ≡ last) × (ended' ≡ true)
+abbrev pub GivesItem :
+    Regex → Cache → Option (Result Match SearchError) → (input input' : Input) → (last last' : Option ℕ)
+    → (ended ended' : Bool) → Type 0
+GivesItem p c item input input' last last' true ended' =
+    (item ≡ None) × (input' ≡ input) × (last' ≡ last) × (ended' ≡ true)
 GivesItem p c None input input' last last' false ended' =
     IsNextMatch p input last None × (input' ≡ input) × (last' ≡ last) × (ended' ≡ true)
 GivesItem p c (Some (Ok m)) input input' last last' false ended' =
@@ -55,7 +81,8 @@ most_left false input (Some end) = cond (end == input.start) (input.end + 1 - in
 -- the first matches of an iteration, whatever comes behind them
 abbrev pub AreFirst : (Finds : Input → Option Match → Type 0) → Input → ℕ → Option ℕ → List Match → Type 0
 AreFirst Finds input start last [] = Unit {0}
-AreFirst Finds input start last (m ∷ ms) = IsNext Finds input start last (Some m) × AreFirst Finds input m.end (Some m.end) ms
+AreFirst Finds input start last (m ∷ ms) =
+    IsNext Finds input start last (Some m) × AreFirst Finds input m.end (Some m.end) ms
 
 -- all matches of an input, or the first ones and the error that ended them
 abbrev pub AreCollected : (Finds : Input → Option Match → Type 0) → Input → List Match → Option SearchError → Type 0

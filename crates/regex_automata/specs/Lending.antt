@@ -1,5 +1,5 @@
 -- The parts of a regex's cache, lent for writing.
-use Rattle.std.specs.Borrow.{Lends, MutBor, Fml}
+use Rattle.std.specs.Borrow.{Lends, LendsBoth, MutBor, Fml}
 use Rattle.automata_hybrid.specs.Caches.{CacheView}
 use Rattle.automata_hybrid.specs.contracts.dfa.cache.Cache.{the_row as part}
 use Rattle.regex_automata.specs.declared.hybrid.regex.caches.Cache.{Cache}
@@ -12,3 +12,7 @@ LendsForward s r = Lends the_row part s r (λ w. record s.now { forward = w })
 -- and with its reverse part so
 abbrev pub LendsReverse : MutBor Cache → MutBor CacheView → Fml
 LendsReverse s r = Lends the_row part s r (λ w. record s.now { reverse = w })
+
+-- and with the last values behind two references as its parts
+abbrev pub LendsBothParts : MutBor Cache → MutBor CacheView × MutBor CacheView → Fml
+LendsBothParts s r = LendsBoth the_row part part s r (λ v w. record { forward = v; reverse = w })

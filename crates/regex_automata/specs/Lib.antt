@@ -7,4 +7,5 @@ pub mod RegexRefusals
 pub mod Costs
 pub mod Iterating
 pub mod Lending
+pub mod Agreeing
 pub mod Matching

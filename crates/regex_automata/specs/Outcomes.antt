@@ -31,7 +31,8 @@ abbrev pub IsStartFound : Regex → Input → Half → Option ℕ → Type 0
 IsStartFound p input half start = FindsStartBy (IsFound Backward p.reverse) (forward_engine p) input half start
 
 abbrev pub IsOutcome : Regex → Input → Outcome → Type 0
-IsOutcome p input outcome = TellsBy (IsFound Forward p.forward) (IsFound Backward p.reverse) (forward_engine p) input outcome
+IsOutcome p input outcome =
+    TellsBy (IsFound Forward p.forward) (IsFound Backward p.reverse) (forward_engine p) input outcome
 
 abbrev pub FindsMatch : Regex → Input → Option Match → Type 0
 FindsMatch p input answer = IsOutcome p input (Found answer)

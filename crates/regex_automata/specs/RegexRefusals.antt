@@ -18,7 +18,8 @@ use Rattle.regex_automata.specs.declared.hybrid.regex.caches.Cache.{Cache}
 
 -- the search back from a forward answer is made, and refused
 abbrev pub IsBackRefused : Regex → Stored → Input → Half → SearchError → Type 0
-IsBackRefused p c input half e = (IsShort (forward_engine p) input half → ⊥) × IsRefused Backward p.reverse c (back input half) e
+IsBackRefused p c input half e =
+    (IsShort (forward_engine p) input half → ⊥) × IsRefused Backward p.reverse c (back input half) e
 
 -- the forward search is refused, or the one back, or that one finds no start
 abbrev pub HasReason : Regex → Cache → Input → SearchError → Type 0

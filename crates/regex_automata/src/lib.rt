@@ -3,6 +3,7 @@
 #![tactic(auto)]
 
 pub mod hybrid;
+pub mod laws;
 pub mod nfa;
 pub mod util;
 

@@ -2,7 +2,7 @@ ghost use Rattle.std.specs.Prelude.{◌≡◌, ◌+◌, ◌^◌, ◌-◌, IfOk, 
 ghost use Rattle.std.specs.Borrow.{sem};
 ghost use Rattle.automata_hybrid.specs.Bounds.{usage};
 ghost use Rattle.regex_automata.specs.RegexCaches.{AreFresh};
-ghost use Rattle.regex_automata.specs.Lending.{LendsForward, LendsReverse};
+ghost use Rattle.regex_automata.specs.Lending.{LendsBothParts, LendsForward, LendsReverse};
 
 use crate::hybrid::dfa;
 use crate::hybrid::regex::Regex;
@@ -72,8 +72,10 @@ impl Cache {
         (&self.forward, &self.reverse)
     }
 
-    /// Both caches for writing, the forward one first.
+    /// Both caches for writing, the forward one first. Proofs that are found for callers follow one lent part at a
+    /// time: where such a proof has to know what was written, take `forward_mut` and then `reverse_mut`.
     pub fn as_parts_mut(&mut self) -> (&mut dfa::Cache, &mut dfa::Cache)
+        ensures* writes_back { sem 𝓛 (LendsBothParts self.entry result) }
         ensures forward { result.0.now ≡ self.old.forward }
         ensures reverse { result.1.now ≡ self.old.reverse }
     {

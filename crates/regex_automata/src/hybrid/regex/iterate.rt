@@ -1,18 +1,21 @@
-ghost use Rattle.std.specs.Prelude.{◌≡◌, ◌≤◌, ◌+◌, ◌-◌, length, IfOk, IfErr, IfSome, OnErr, None, false, true, List};
+ghost use Rattle.std.specs.Prelude.{◌≡◌, ◌≤◌, ◌+◌, ◌-◌, length, IfOk, IfErr, IfSome, OnErr, OnOk, None, false, true, List};
 ghost use Rattle.std.specs.Iterator.{at_most};
 ghost use Rattle.automata_base.specs.Input.{Allows, IsAllowed};
 ghost use Rattle.automata_base.specs.Matches as specs;
 ghost use Rattle.automata_base.specs.Spans.{AreSpans, IsEmptyAt, IsSpan, Rise, from};
 ghost use Rattle.automata_hybrid.specs.Caches.{IsCacheOf};
-ghost use Rattle.regex_automata.specs.Iterating.{AreCollected, AreCostsTwice, GivesItem, GoesOn, IsBeginning, IsNextMatch, IsNextRefusal, input_at, most_left};
+ghost use Rattle.regex_automata.specs.Iterating.{AreCollected, AreCostsTwice, GivesItem, GoesOn, IsBeginning, IsNextMatch, IsNextRefusal, KnowsNext, LearnsItem, input_at, most_left};
 ghost use Rattle.regex_automata.specs.Outcomes.{FindsMatch};
+ghost use Rattle.regex_automata.specs.RegexRefusals.{IsOfGiven};
 ghost use Rattle.regex_automata.specs.SoundPairs.{IsSoundPair, forward_engine};
-ghost use Rattle.regex_automata.specs.RegexCaches.{AreCachesOf, AreGrown};
+ghost use Rattle.regex_automata.specs.RegexCaches.{AreCachesOf, AreGrown, AreStill, NothingCleared};
 
 use crate::hybrid::regex::{Cache, Regex};
+use crate::laws::matches_agree;
 use automata_base::laws::{start_is_right, told_is_right};
 use automata_base::util::search::{Anchored, Input, Match};
 use automata_config::error::SearchError;
+use automata_hybrid::laws::known_stays;
 use std::alloc::{AllocError, Global};
 
 /// The input from a place on.
@@ -52,7 +55,12 @@ impl Regex {
         ensures allowed { IsAllowed input.now }
         ensures grown { AreGrown cache.old cache.new }
         ensures cost { AreCostsTwice self.now (input.now.end - input.now.start) cache.old cache.new }
+        ensures learned { NothingCleared cache.old cache.new → OnOk result (KnowsNext self.now cache.new input.now last) }
+        ensures known { KnowsNext self.now cache.old input.now last → AreStill cache.old cache.new × IfErr result IsOfGiven }
     {
+        matches_agree();
+        known_stays(&self.forward);
+        known_stays(&self.reverse);
         let _haystack = input.haystack();
         let Some(found) = self.try_search(cache, input)? else {
             return Ok(None);
@@ -104,8 +112,11 @@ pub fn collect_matches(
     ensures found { IfOk result (λ all. AreCollected (FindsMatch regex.now) input.entry all.0.items all.1) }
     ensures rise { IfOk result (λ all. Rise input.entry.end None all.0.items) }
     ensures few { IfOk result (λ all. length all.0.items ≤ input.entry.end - input.entry.start + 1) }
-    ensures spans { IsSoundPair regex.now → IfOk result (λ all. AreCollected (IsSpan (forward_engine regex.now)) input.entry all.0.items all.1) }
-    ensures beginning { IsSoundPair regex.now → IfOk result (λ all. (whole : List specs.Match) → AreSpans (forward_engine regex.now) input.entry whole → IsBeginning all.0.items whole) }
+    ensures spans { IsSoundPair regex.now
+        → IfOk result (λ all. AreCollected (IsSpan (forward_engine regex.now)) input.entry all.0.items all.1) }
+    ensures beginning { IsSoundPair regex.now
+        → IfOk result (λ all. (whole : List specs.Match) → AreSpans (forward_engine regex.now) input.entry whole
+        → IsBeginning all.0.items whole) }
 {
     told_is_right(regex.forward.get_nfa());
     told_is_right(regex.reverse.get_nfa());
@@ -137,7 +148,8 @@ fn collect(
     Ok((found, error))
 }
 
-/// The matches that are left of an input, until an error, which is the last item. It holds the parts of its input.
+/// The matches that are left of an input, until an error, which is the last item. After the end it gives none for good.
+/// It holds the parts of its input.
 #[derive(Drop)]
 pub struct FindMatches<'r, 'c, 'h> {
     regex: &'r Regex,
@@ -169,12 +181,16 @@ impl<'r, 'c, 'h> Iterator for FindMatches<'r, 'c, 'h> {
     type Item = Result<Match, SearchError>;
 
     ghost next_gives = { λ s r t. GivesItem s.regex.now t.cache.now r
-        (input_at s.haystack.now s.start s.end s.anchored s.earliest) (input_at t.haystack.now t.start t.end t.anchored t.earliest)
+        (input_at s.haystack.now s.start s.end s.anchored s.earliest)
+        (input_at t.haystack.now t.start t.end t.anchored t.earliest)
         s.last t.last s.ended t.ended
         × (t.regex.now ≡ s.regex.now) × (t.cache.ghost_name ≡ s.cache.ghost_name)
-        × AreGrown s.cache.now t.cache.now × AreCostsTwice s.regex.now (s.end - s.start) s.cache.now t.cache.now };
+        × AreGrown s.cache.now t.cache.now × AreCostsTwice s.regex.now (s.end - s.start) s.cache.now t.cache.now
+        × LearnsItem s.regex.now s.cache.now t.cache.now
+        (input_at s.haystack.now s.start s.end s.anchored s.earliest) s.last s.ended r };
 
-    ghost remaining = { λ s. at_most (most_left s.ended (input_at s.haystack.now s.start s.end s.anchored s.earliest) s.last) };
+    ghost remaining = { λ s.
+        at_most (most_left s.ended (input_at s.haystack.now s.start s.end s.anchored s.earliest) s.last) };
 
     fn next(&mut self) -> Option<Result<Match, SearchError>> {
         if self.ended {

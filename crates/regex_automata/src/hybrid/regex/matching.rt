@@ -43,7 +43,7 @@ impl Regex {
             .earliest(!skips)
     }
 
-    /// Whether there is a match. The reverse DFA isn't used.
+    /// Whether there is a match, whatever the input's earliest flag. The reverse DFA isn't used.
     pub fn is_match(&self, cache: &mut Cache, input: &Input<'_>) -> Result<bool, SearchError>
         requires { AreCachesOf cache.old self.now }
         ensures of { AreCachesOf cache.new self.now }
@@ -52,15 +52,21 @@ impl Regex {
         ensures told { IfOk result (IsMatchTold self.now.forward input.now) }
         ensures answer { IsLookAcyclic (nfa_of self.now.forward.nfa) → IfOk result (IsMatch (forward_engine self.now) input.now) }
         ensures errors { IfErr result (IsMatchRefused self.now.forward cache.new.forward.store input.now) }
-        ensures unsupported { input.now.start ≤ input.now.end → quit_behind self.now.forward (byte_before input.now.haystack input.now.start) ≡ None → supports self.now.forward input.now.anchored ≡ false → result ≡ Err (SearchError.Match (UnsupportedMode input.now.anchored)) }
-        ensures answers { NoQuitInReach self.now.forward input.now → supports self.now.forward input.now.anchored ≡ true → self.now.forward.minimum_clear_count ≡ None → IfErr result (λ e. e ≡ SearchError.OutOfMemory) }
+        ensures unsupported { input.now.start ≤ input.now.end
+            → quit_behind self.now.forward (byte_before input.now.haystack input.now.start) ≡ None
+            → supports self.now.forward input.now.anchored ≡ false
+            → result ≡ Err (SearchError.Match (UnsupportedMode input.now.anchored)) }
+        ensures answers { NoQuitInReach self.now.forward input.now → supports self.now.forward input.now.anchored ≡ true
+            → self.now.forward.minimum_clear_count ≡ None → IfErr result (λ e. e ≡ SearchError.OutOfMemory) }
 
         // What it does to the caches.
         ensures cost { AreCostsOf self.now (input.now.end - input.now.start) cache.old cache.new }
         ensures grown { AreGrown cache.old cache.new }
         ensures reverse { cache.new.reverse ≡ cache.old.reverse }
-        ensures learned { ClearedNothing cache.old.forward.store cache.new.forward.store → OnOk result (KnowsMatch self.now.forward cache.new.forward.store input.now) }
-        ensures known { KnowsMatch self.now.forward cache.old.forward.store input.now → AreStill cache.old cache.new × IfErr result IsOfInput }
+        ensures learned { ClearedNothing cache.old.forward.store cache.new.forward.store
+            → OnOk result (KnowsMatch self.now.forward cache.new.forward.store input.now) }
+        ensures known { KnowsMatch self.now.forward cache.old.forward.store input.now
+            → AreStill cache.old cache.new × IfErr result IsOfInput }
         ensures done { input.now.end < input.now.start → (result ≡ Ok false) × (cache.new ≡ cache.old) }
     {
         told_is_right(self.forward.get_nfa());

@@ -3,11 +3,11 @@ ghost use Rattle.std.specs.Prelude.{◌≡◌, IfOk, OnOk, OnErr, length};
 ghost use Rattle.automata_config.specs.Options.{unset};
 ghost use Rattle.regex_automata.specs.RegexCaches.{AreFresh};
 
-pub mod build;
-pub mod caches;
-pub mod iterate;
-pub mod matching;
-pub mod search;
+mod build;
+mod caches;
+pub(crate) mod iterate;
+mod matching;
+mod search;
 
 use automata_hybrid::dfa::DFA;
 pub use build::Builder;

@@ -49,8 +49,8 @@ impl Regex {
     /// The first match, by the kind of the forward DFA; with an earliest input, the one that ends first. Its start is
     /// where the search back from its end, by the reverse DFA, comes to.
     ///
-    /// A refusal is of the forward search or of the one back, told as these tell it; or the two are no pair: the one back
-    /// finds no start. After a refusal the cache serves other searches as before.
+    /// A refusal is of the forward search or of the one back, told as these tell it; or the two are no pair: the one
+    /// back finds no start. After a refusal the cache serves other searches as before.
     pub fn try_search(
         &self,
         cache: &mut Cache,
@@ -59,14 +59,18 @@ impl Regex {
         requires { AreCachesOf cache.old self.now }
         ensures of { AreCachesOf cache.new self.now }
 
-        // What the passes of the two tell; where no cycle passes a look, what the ordered paths define; and over a sound
-        // pair the match of the path that the forward search chose.
+        // What the passes of the two tell; where no cycle passes a look, what the ordered paths define; and over a
+        // sound pair the match of the path that the forward search chose.
         ensures found { IfOk result (FindsMatch self.now input.now) }
-        ensures answer { AreLookAcyclic self.now → IfOk result (λ o. IsTrySearch (forward_engine self.now) (reverse_engine self.now) input.now (Found o)) }
+        ensures answer { AreLookAcyclic self.now
+            → IfOk result (λ o. IsTrySearch (forward_engine self.now) (reverse_engine self.now) input.now (Found o)) }
         ensures span { IsSoundPair self.now → IfOk result (IsSpan (forward_engine self.now) input.now) }
         ensures within { IfOk result (λ o. IfSome o (LiesIn input.now)) }
         ensures errors { IfErr result (IsRegexRefusal self.now cache.new input.now) }
-        ensures unsupported { input.now.start ≤ input.now.end → quit_behind self.now.forward (byte_before input.now.haystack input.now.start) ≡ None → supports self.now.forward input.now.anchored ≡ false → result ≡ Err (SearchError.Match (UnsupportedMode input.now.anchored)) }
+        ensures unsupported { input.now.start ≤ input.now.end
+            → quit_behind self.now.forward (byte_before input.now.haystack input.now.start) ≡ None
+            → supports self.now.forward input.now.anchored ≡ false
+            → result ≡ Err (SearchError.Match (UnsupportedMode input.now.anchored)) }
 
         // What it does to the caches: how often it determinises, what is kept, what is known afterwards, and what
         // happens where all was known or nothing is left to be searched.
@@ -88,14 +92,18 @@ impl Regex {
         requires { AreCachesOf cache.old self.now }
         ensures of { AreCachesOf cache.new self.now }
 
-        // What the passes of the two tell; where no cycle passes a look, what the ordered paths define; and over a sound
-        // pair the match of the path that the forward search chose.
+        // What the passes of the two tell; where no cycle passes a look, what the ordered paths define; and over a
+        // sound pair the match of the path that the forward search chose.
         ensures found { IfOk result (FindsMatch self.now input.now) }
-        ensures answer { AreLookAcyclic self.now → IfOk result (λ o. IsTrySearch (forward_engine self.now) (reverse_engine self.now) input.now (Found o)) }
+        ensures answer { AreLookAcyclic self.now
+            → IfOk result (λ o. IsTrySearch (forward_engine self.now) (reverse_engine self.now) input.now (Found o)) }
         ensures span { IsSoundPair self.now → IfOk result (IsSpan (forward_engine self.now) input.now) }
         ensures within { IfOk result (λ o. IfSome o (LiesIn input.now)) }
         ensures errors { IfErr result (IsRegexRefusal self.now cache.new input.now) }
-        ensures unsupported { input.now.start ≤ input.now.end → quit_behind self.now.forward (byte_before input.now.haystack input.now.start) ≡ None → supports self.now.forward input.now.anchored ≡ false → result ≡ Err (SearchError.Match (UnsupportedMode input.now.anchored)) }
+        ensures unsupported { input.now.start ≤ input.now.end
+            → quit_behind self.now.forward (byte_before input.now.haystack input.now.start) ≡ None
+            → supports self.now.forward input.now.anchored ≡ false
+            → result ≡ Err (SearchError.Match (UnsupportedMode input.now.anchored)) }
 
         // What it does to the caches: how often it determinises, what is kept, what is known afterwards, and what
         // happens where all was known or nothing is left to be searched.
@@ -139,11 +147,14 @@ impl Regex {
         ensures found { IfOk result (IsStartFound self.now input.now (with_base half base)) }
         ensures within { IfOk result (λ o. IfSome o (λ start. (base ≤ start) × (start ≤ half.offset))) }
         ensures errors { IfErr result (IsBackRefused self.now cache.new.store input.now (with_base half base)) }
-        ensures answers { NoQuitInReach self.now.reverse input.now → self.now.reverse.minimum_clear_count ≡ None → IfErr result (λ e. e ≡ SearchError.OutOfMemory) }
+        ensures answers { NoQuitInReach self.now.reverse input.now → self.now.reverse.minimum_clear_count ≡ None
+            → IfErr result (λ e. e ≡ SearchError.OutOfMemory) }
         ensures cost { IsPassCost (input.now.end - input.now.start) cache.old cache.new }
         ensures grown { IsGrown cache.old cache.new }
-        ensures learned { ClearedNothing cache.old.store cache.new.store → OnOk result (KnowsBack self.now cache.new.store input.now (with_base half base)) }
-        ensures known { KnowsBack self.now cache.old.store input.now (with_base half base) → IsStill cache.old cache.new × IfErr result IsOfInput }
+        ensures learned { ClearedNothing cache.old.store cache.new.store
+            → OnOk result (KnowsBack self.now cache.new.store input.now (with_base half base)) }
+        ensures known { KnowsBack self.now cache.old.store input.now (with_base half base)
+            → IsStill cache.old cache.new × IfErr result IsOfInput }
     {
         let short = self.is_short(input, half, base);
         let _ = input.end();
@@ -165,7 +176,10 @@ impl Regex {
         ensures within { IfOk result (λ o. IfSome o (LiesIn input.now)) }
         ensures errors { IfErr result (HasReason self.now cache.new input.now) }
         ensures free { IsFree self.now input.now → IfErr result IsOfMemory }
-        ensures unsupported { input.now.start ≤ input.now.end → quit_behind self.now.forward (byte_before input.now.haystack input.now.start) ≡ None → supports self.now.forward input.now.anchored ≡ false → result ≡ Err (SearchError.Match (UnsupportedMode input.now.anchored)) }
+        ensures unsupported { input.now.start ≤ input.now.end
+            → quit_behind self.now.forward (byte_before input.now.haystack input.now.start) ≡ None
+            → supports self.now.forward input.now.anchored ≡ false
+            → result ≡ Err (SearchError.Match (UnsupportedMode input.now.anchored)) }
         ensures cost { AreCostsOf self.now (input.now.end - input.now.start) cache.old cache.new }
         ensures grown { AreGrown cache.old cache.new }
         ensures learned { NothingCleared cache.old cache.new → OnOk result (KnowsBoth self.now cache.new input.now) }

@@ -6,7 +6,8 @@ use Rattle.automata_hybrid.proofs.Searching.{if_err}
 use Rattle.regex_automata.specs.Outcomes.{FindsMatch, LiesIn}
 use Rattle.regex_automata.specs.RegexRefusals.{IsRegexRefusal}
 use Rattle.regex_automata.proofs.Nexts.{ahead_of, costs_twice, goes_first, goes_later, grown_twice, next_later, on_err, refused_later, some_of}
-use Rattle.regex_automata.proofs.Results.{if_ok}
+use Rattle.regex_automata.proofs.Remembering.{alone_none, alone_some, both_stays, cleared_first, cleared_second, next_known, next_learned}
+use Rattle.regex_automata.proofs.Results.{if_ok, on_ok}
 use Rattle.regex_automata.proofs.hybrid.regex.Regex.next_match.Goals as goal
 
 pub returns-in_err-found-clause-errors : goal.returns-in_err-found-clause-errors
@@ -94,3 +95,50 @@ returns-clause-cost c =
     let place : c.start.result + 1 ≡ suc c.args.input.now.start = omega (arith, c.start.ensures.start) in
     let rest : c.from-rest.result ≡ from (suc c.args.input.now.start) c.args.input.now = c.from-rest.ensures ∙ ap (λ n. from n c.args.input.now) place in
     costs_twice c.args.self.now c.args.input.now c.from-rest.result c.args.cache.now c.try_search.new.cache c.try_search-2.new.cache rest c.try_search-2.ensures.grown c.try_search.ensures.cost c.try_search-2.ensures.cost
+
+pub returns-in_err-found-clause-learned : goal.returns-in_err-found-clause-learned
+returns-in_err-found-clause-learned c =
+    λ nothing. on_ok c.from_residual.result _ _ c.from_residual.ensures.1
+
+pub returns-in_err-found-clause-known : goal.returns-in_err-found-clause-known
+returns-in_err-found-clause-known c =
+    λ knows. (let known = c.in_err-found.ensures.known knows.0 in (known.0, if_err c.from_residual.result _ _ c.from_residual.ensures.1 known.1))
+
+pub returns-in_default-clause-learned : goal.returns-in_default-clause-learned
+returns-in_default-clause-learned c =
+    λ nothing. alone_none c.matches_agree.ensures c.args.self.now c.args.input.now c.args.last c.try_search.new.cache (c.in_ok-found.ensures.learned nothing)
+    (subst (FindsMatch c.args.self.now c.args.input.now) c.in_default.is c.in_ok-found.ensures.found)
+
+pub returns-in_default-clause-known : goal.returns-in_default-clause-known
+returns-in_default-clause-known c =
+    λ knows. ((c.in_ok-found.ensures.known knows.0).0, tt)
+
+pub returns-then-not-is_empty_at-clause-learned : goal.returns-then-not-is_empty_at-clause-learned
+returns-then-not-is_empty_at-clause-learned c =
+    λ nothing. alone_some c.matches_agree.ensures c.args.self.now c.args.input.now c.args.last c.try_search.new.cache (c.in_ok-found.ensures.learned nothing)
+    c.in-Some.found (subst (FindsMatch c.args.self.now c.args.input.now) c.in-Some.is c.in_ok-found.ensures.found) (c.if-not-is_empty_at.ensures.no refl)
+
+pub returns-then-not-is_empty_at-clause-known : goal.returns-then-not-is_empty_at-clause-known
+returns-then-not-is_empty_at-clause-known c =
+    λ knows. ((c.in_ok-found.ensures.known knows.0).0, tt)
+
+pub returns-clause-learned : goal.returns-clause-learned
+returns-clause-learned c =
+    let place : c.start.result + 1 ≡ suc c.args.input.now.start = omega (arith, c.start.ensures.start) in
+    let rest : c.from-rest.result ≡ from (suc c.args.input.now.start) c.args.input.now = c.from-rest.ensures ∙ ap (λ n. from n c.args.input.now) place in
+    λ nothing. (
+    let first = cleared_first c.args.cache.now c.try_search.new.cache c.try_search-2.new.cache c.try_search.ensures.grown c.try_search-2.ensures.grown nothing in
+    let second = cleared_second c.args.cache.now c.try_search.new.cache c.try_search-2.new.cache c.try_search.ensures.grown c.try_search-2.ensures.grown nothing in
+    next_learned c.args.self.now c.args.input.now c.from-rest.result c.args.last c.try_search-2.new.cache c.try_search-2.result rest
+    (both_stays c.args.self.now c.known_stays.ensures c.known_stays-2.ensures c.try_search.new.cache c.try_search-2.new.cache c.args.input.now
+    (c.haystack-haystack.ensures.bytes, c.haystack-haystack.ensures.within.1) c.try_search.ensures.of c.try_search-2.ensures.of c.try_search-2.ensures.grown second
+    (c.in_ok-found.ensures.learned first))
+    (c.try_search-2.ensures.learned second))
+
+pub returns-clause-known : goal.returns-clause-known
+returns-clause-known c =
+    let place : c.start.result + 1 ≡ suc c.args.input.now.start = omega (arith, c.start.ensures.start) in
+    let rest : c.from-rest.result ≡ from (suc c.args.input.now.start) c.args.input.now = c.from-rest.ensures ∙ ap (λ n. from n c.args.input.now) place in
+    let found = subst (FindsMatch c.args.self.now c.args.input.now) c.in-Some.is c.in_ok-found.ensures.found in
+    λ knows. next_known c.args.self.now c.args.input.now c.from-rest.result c.args.last c.args.cache.now c.try_search.new.cache c.try_search-2.new.cache c.try_search-2.result
+    c.in-Some.found rest found (c.if-not-is_empty_at.ensures.yes refl) knows (c.in_ok-found.ensures.known knows.0).0 c.try_search-2.ensures.known

@@ -1,8 +1,10 @@
 use Rattle.std.proofs.Common.{◌-◌, ◌≤◌, Some, None, refl, subst}
+use Rattle.std.specs.Prelude.{Ok, Err}
 use Rattle.automata_base.specs.Input.{Input}
 use Rattle.automata_base.specs.Spans.{from}
 use Rattle.regex_automata.specs.Iterating.{AreCostsTwice, GoesOn, IsNextMatch, IsNextRefusal, input_at}
-use Rattle.regex_automata.proofs.Items.{fewer_left, gives_error, gives_match, gives_none, some_left}
+use Rattle.regex_automata.proofs.Backing.{false_true}
+use Rattle.regex_automata.proofs.Items.{fewer_left, gives_error, gives_match, gives_none, learns_next, some_left}
 use Rattle.regex_automata.proofs.Nexts.{some_of}
 use Rattle.regex_automata.proofs.hybrid.regex.iterate.FindMatchesIterator.next.Goals as goal
 
@@ -18,6 +20,8 @@ returns-in-Ok-Some-clause-steps c =
       refl,
       c.next_match.ensures.grown,
       subst (λ (i : Input). AreCostsTwice s.regex.now (i.end - i.start) s.cache.now c.next_match.new.cache) c.input-input.ensures c.next_match.ensures.cost,
+      learns_next s.regex.now s.cache.now c.next_match.new.cache c.input-input.result now s.last s.ended (Some (Ok c.in-Ok-Some.found)) c.if-self.false c.input-input.ensures
+          c.in-Ok-Some.ensures.known (λ nothing good. c.in-Ok-Some.ensures.learned nothing),
     )
 
 pub returns-in-Ok-Some-clause-goes : goal.returns-in-Ok-Some-clause-goes
@@ -41,6 +45,8 @@ returns-in-Err-clause-steps c =
       refl,
       c.next_match.ensures.grown,
       subst (λ (i : Input). AreCostsTwice s.regex.now (i.end - i.start) s.cache.now c.next_match.new.cache) c.input-input.ensures c.next_match.ensures.cost,
+      learns_next s.regex.now s.cache.now c.next_match.new.cache c.input-input.result now s.last s.ended (Some (Err c.in-Err.error)) c.if-self.false c.input-input.ensures
+          c.in-Err.ensures.known (λ nothing good. absurd (false_true good)),
     )
 
 pub returns-in-Err-clause-goes : goal.returns-in-Err-clause-goes
@@ -61,4 +67,6 @@ returns-in-Ok-None-clause-steps c =
       refl,
       c.next_match.ensures.grown,
       subst (λ (i : Input). AreCostsTwice s.regex.now (i.end - i.start) s.cache.now c.next_match.new.cache) c.input-input.ensures c.next_match.ensures.cost,
+      learns_next s.regex.now s.cache.now c.next_match.new.cache c.input-input.result now s.last s.ended (None) c.if-self.false c.input-input.ensures
+          c.in-Ok-None.ensures.known (λ nothing good. c.in-Ok-None.ensures.learned nothing),
     )

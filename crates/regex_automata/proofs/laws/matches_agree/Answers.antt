@@ -1,0 +1,5 @@
+use Rattle.regex_automata.proofs.Agreeing.{matches_agree}
+use Rattle.regex_automata.proofs.laws.matches_agree.Goals as goal
+
+pub returns : goal.returns
+returns c = matches_agree c.answers_agree.ensures

@@ -1,0 +1,37 @@
+-- What searches over two lazy DFAs agree in.
+use Rattle.std.specs.Prelude.{◌≡◌, ◌⊎◌, Bool, Option, false, is_some}
+use Rattle.automata_base.specs.Input.{Input}
+use Rattle.automata_base.specs.Matches.{Match}
+use Rattle.automata_hybrid.specs.Machine.{Machine}
+use Rattle.automata_hybrid.specs.Searches.{Skips}
+use Rattle.regex_automata.specs.Matching.{IsMatchTold}
+use Rattle.regex_automata.specs.Outcomes.{FindsMatch}
+use Rattle.regex_automata.specs.declared.hybrid.regex.Regex.{Regex}
+
+-- two regexes are of the same automata and kinds, in whatever else their DFAs differ: capacity, limits, byte classes,
+-- tags of starts, quit bytes
+pub record AreAlike (p other : Regex) : Type 0 where
+  pub forward : p.forward.nfa ≡ other.forward.nfa
+  pub forward_kind : p.forward.kind ≡ other.forward.kind
+  pub reverse : p.reverse.nfa ≡ other.reverse.nfa
+  pub reverse_kind : p.reverse.kind ≡ other.reverse.kind
+
+-- searches over any caches of one regex find the same match, and so do two regexes that are alike
+abbrev pub MatchesAgree : Type 0
+MatchesAgree =
+    (p other : Regex) (input : Input) (first second : Option Match)
+    → AreAlike p other → FindsMatch p input first → FindsMatch other input second → first ≡ second
+
+-- so do searches that ask whether there is one; they use the forward DFA alone
+abbrev pub TruthsAgree : Type 0
+TruthsAgree =
+    (m other : Machine) (input : Input) (first second : Bool)
+    → m.nfa ≡ other.nfa → m.kind ≡ other.kind → IsMatchTold m input first → IsMatchTold other input second
+    → first ≡ second
+
+-- where the input is not earliest or no place is skipped, there is a match exactly if a search finds one
+abbrev pub TruthIffFound : Type 0
+TruthIffFound =
+    (p : Regex) (input : Input) (truth : Bool) (answer : Option Match)
+    → (input.earliest ≡ false) ⊎ (Skips p.forward → ⊥)
+    → IsMatchTold p.forward input truth → FindsMatch p input answer → truth ≡ is_some answer
