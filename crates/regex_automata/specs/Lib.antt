@@ -8,3 +8,7 @@ pub mod Costs
 pub mod Iterating
 pub mod Lending
 pub mod Matching
+pub mod Owing
+pub mod Histories
+pub mod Replies
+pub mod Sessions
