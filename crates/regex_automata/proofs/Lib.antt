@@ -10,3 +10,12 @@ pub mod Results
 pub mod Right
 pub mod Rising
 pub mod Telling
+pub mod Owed
+pub mod WalkCalls
+pub mod KeptWalks
+pub mod SetLists
+pub mod MatchLists
+pub mod Replying
+pub mod Folding
+pub mod WalkReplies
+pub mod WalkTelling

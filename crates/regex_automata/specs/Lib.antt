@@ -9,3 +9,7 @@ pub mod Iterating
 pub mod Lending
 pub mod Agreeing
 pub mod Matching
+pub mod Owing
+pub mod Histories
+pub mod Replies
+pub mod Sessions

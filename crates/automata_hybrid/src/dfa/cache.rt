@@ -299,8 +299,8 @@ impl Cache {
         self.store.see_slots();
     }
 
-    /// The bounds are the DFA's.
-    pub(crate) fn see_settings(&self)
+    /// The cache's bounds are those that the settings of its DFA say. It does nothing.
+    pub fn see_settings(&self)
         ensures { self.now.store.settings ≡ settings_of self.now.store.table.of }
     {
         self.store.see_settings();

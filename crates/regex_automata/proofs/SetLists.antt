@@ -1,0 +1,68 @@
+-- The list of the patterns of a set, and what walks owe it.
+use Rattle.std.proofs.Common.{◌≡◌, ◌∙◌, ◌≤◌, ℕ, suc, Bool, true, false, List, [], ◌∷◌, Some, None, Result, Ok, Err, IfErr, OnOk, IfSome, arith, inl, inr, length, refl, subst, sym, ap}
+use Rattle.std.proofs.lemmas.List.{length-replicate}
+use Rattle.std.specs.Result.{result_err}
+use Rattle.automata_base.specs.Answers.{ArePatterns}
+use Rattle.automata_base.specs.Input.{Input}
+use Rattle.automata_base.specs.PatternSet.{members, members_from}
+use Rattle.automata_base.specs.Selections.{Pair}
+use Rattle.automata_config.specs.declared.error.SearchError.{SearchError}
+use Rattle.automata_config.specs.declared.error.SearchError.TheVariants as search
+use Rattle.automata_hybrid.specs.Bounds.{Stored}
+use Rattle.automata_hybrid.specs.Machine.{Machine}
+use Rattle.automata_hybrid.specs.Which.{IsWhichRefusal}
+use Rattle.regex_automata.proofs.Results.{some_none}
+use Rattle.regex_automata.specs.Owing.{AreRising, ArePatternsUpto, IsMemory, IsStoreOf, MayRefusePatterns, empty_set}
+
+-- what rises from a number rises from a lower one
+rising_from : (low k : ℕ) (ks : List ℕ) → low ≤ k → AreRising k ks → AreRising low ks
+rising_from low k [] le all = tt
+rising_from low k (j ∷ ks) le all = let at = all.0 in (omega arith, all.1)
+
+members_rise_from : (k : ℕ) (set : List Bool) → AreRising k (members_from k set)
+members_rise_from k [] = tt
+members_rise_from k (true ∷ rest) = (omega arith, members_rise_from (suc k) rest)
+members_rise_from k (false ∷ rest) = rising_from k (suc k) (members_from (suc k) rest) (omega arith) (members_rise_from (suc k) rest)
+
+pub members_rise : (set : List Bool) (found : List ℕ) → found ≡ members set → AreRising 0 found
+members_rise set found is = subst (λ (ks : List ℕ). AreRising 0 ks) (sym is) (members_rise_from 0 set)
+
+-- a fresh set joined with the patterns that a walk told
+pub patterns_told :
+    (P : List Pair → Type 0) (input : Input) (capacity : ℕ) (old new : List Bool) (found : List ℕ)
+    → old ≡ empty_set capacity → members old ≡ [] → found ≡ members new
+    → ArePatterns P input (length old) (members old) (members new) → ArePatterns P input capacity [] found
+patterns_told P input capacity old new found fresh none is told =
+    subst (λ (ks : List ℕ). ArePatterns P input capacity [] ks) (sym is)
+    (subst (λ (ks : List ℕ). ArePatterns P input capacity ks (members new)) none
+    (subst (λ n. ArePatterns P input n (members old) (members new)) (ap length fresh ∙ length-replicate capacity false) told))
+
+-- the same of a call that may have been refused
+pub told_where :
+    {E : Type 0} (r : Result (Unit {0}) E) (P : Type 0) → OnOk r P → result_err r ≡ None → P
+told_where (Ok x) P h none = h
+told_where (Err e) P h none = absurd (some_none none)
+
+pub refused_where :
+    (r : Result (Unit {0}) SearchError) (m : Machine) (c : Stored) (input : Input) (capacity : ℕ) (old new : List Bool) (found : List ℕ)
+    → IsStoreOf c m → old ≡ empty_set capacity → found ≡ members new → IfErr r (IsWhichRefusal m c input old new)
+    → IfSome (result_err r) (MayRefusePatterns m input capacity found)
+refused_where (Ok x) m c input capacity old new found of fresh is h = tt
+refused_where (Err e) m c input capacity old new found of fresh is h =
+    inr (c, of, (new, subst (λ (set : List Bool). IsWhichRefusal m c input set new e) fresh h, is))
+
+pub memory_where : (r : Result (Unit {0}) SearchError) → IfErr r IsMemory → IfSome (result_err r) IsMemory
+memory_where (Ok x) h = h
+memory_where (Err e) h = h
+
+-- where memory is wanting for the set or the list
+pub no_patterns :
+    (m : Machine) (input : Input) (capacity : ℕ) (found : List ℕ) → found ≡ []
+    → ArePatternsUpto m input capacity found (Some search.OutOfMemory)
+no_patterns m input capacity found none = record {
+  rise = subst (λ (ks : List ℕ). AreRising 0 ks) (sym none) tt;
+  told = λ e. absurd (some_none e);
+  paths = λ acyclic e. absurd (some_none e);
+  errors = inl (refl, none);
+  free = λ f. refl;
+}

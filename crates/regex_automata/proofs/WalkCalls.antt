@@ -1,0 +1,92 @@
+-- Calls of a walk, by how many have answered before.
+use Rattle.std.proofs.Common.{◌≡◌, ◌∙◌, ◌+◌, ℕ, Bool, true, false, List, Option, Ok, Err, add-one, ap, arith, inl, inr, refl, subst, sym}
+use Rattle.automata_base.specs.Answers.{IsOverlapping}
+use Rattle.automata_base.specs.Engines.{engine_of}
+use Rattle.automata_base.specs.Input.{Input}
+use Rattle.automata_base.specs.Matches.{HalfMatch}
+use Rattle.automata_base.specs.Nodes.{nfa_of}
+use Rattle.automata_base.specs.Paths.{IsLookAcyclic}
+use Rattle.automata_base.specs.Selections.{Pair}
+use Rattle.automata_base.specs.Tapes.{Direction}
+use Rattle.automata_base.specs.declared.util.search.Anchored.{Anchored}
+use Rattle.automata_config.specs.declared.error.SearchError.{SearchError}
+use Rattle.automata_hybrid.specs.Bounds.{Stored}
+use Rattle.automata_hybrid.specs.Machine.{Machine}
+use Rattle.automata_hybrid.specs.Slots.{supports}
+use Rattle.automata_hybrid.specs.Starting.{MayStart}
+use Rattle.automata_hybrid.specs.Walking.{HasTold, HasToldAt, IsWalkRefusal, TellsNext, half_nth}
+use Rattle.automata_hybrid.specs.Walks.{At, Ended, Fresh, Stage, Walk, fresh_walk, without_match}
+use Rattle.regex_automata.specs.Owing.{IsMemory, IsStep, IsStoreOf, IsUnhindered, IsUnsupported, MayRefuseStep, unsupported_error}
+use Rattle.regex_automata.specs.Sessions.{HasAnswered}
+
+not_supported : (m : Machine) (mode : Anchored) (behind : Option ℕ) → MayStart m mode behind → supports m mode ≡ false → ⊥
+not_supported m mode behind may e = let f = may.1 in cc
+
+-- a walk whose mode isn't supported hasn't begun
+still_fresh :
+    (way : Direction) (m : Machine) (input : Input) (s : Stage) (units told k : ℕ)
+    → HasToldAt way m input s units told k → IsUnsupported way m input → s ≡ Fresh
+still_fresh way m input Fresh units told k h u = refl
+still_fresh way m input (At q) units told k h u = absurd (not_supported m input.anchored _ h.may u.mode)
+still_fresh way m input Ended units told k h u =
+    elim h.clean [ inl done ↦ (let le = u.undone in absurd (omega arith)) | inr clean ↦ absurd (not_supported m input.anchored _ clean.0 u.mode) ]
+
+module _ (way : Direction) (m : Machine) (input : Input) (old : Walk) (k : ℕ) (h : HasAnswered way m input old k) where
+  -- one that answers
+  pub step_answers :
+      (new : Walk) (found : Option HalfMatch) → found ≡ new.found → TellsNext way m input old new
+      → (IsLookAcyclic (nfa_of m.nfa) → (j : ℕ) (pairs : List Pair) → HasTold way m input old j
+      → IsOverlapping way (engine_of m.nfa m.kind) input pairs → new.found ≡ half_nth pairs j)
+      → (old.stage ≡ Fresh → IsUnsupported way m input → ⊥)
+      → IsStep way m input k (Ok found)
+  step_answers new found is tells paths supported = record {
+    pair = λ pairs all. is ∙ ((tells k h.told).1 pairs all).0;
+    paths = λ acyclic pairs all. is ∙ paths acyclic k pairs h.told all;
+    errors = tt;
+    ended = λ pairs all lt. tt;
+    unsupported = λ u. absurd (supported (still_fresh way m input old.stage old.units old.told k h.told u) u);
+    free = λ f. tt;
+  }
+
+  -- and what it leaves
+  pub answered : (new : Walk) → TellsNext way m input old new → HasAnswered way m input new (k + 1)
+  answered new tells =
+      subst (λ n. HasAnswered way m input new n) (sym (add-one k)) (record {
+        told = (tells k h.told).0;
+        ended = λ pairs all lt. ((tells k h.told).1 pairs all).1 (omega arith);
+      })
+
+  -- one that is refused
+  step_error :
+      (b : Bool) → old.lost ≡ b → (c : Stored) (e : SearchError) → IsStoreOf c m
+      → (old.lost ≡ false → (j : ℕ) → HasTold way m input old j → IsWalkRefusal way m c input old j e)
+      → (old.lost ≡ true → IsMemory e) → MayRefuseStep way m input k e
+  step_error true is c e of errors lost = inl (lost is)
+  step_error false is c e of errors lost = inr (c, of, (old, h.told, errors is k h.told))
+
+  pub step_refused :
+      (c : Stored) (e : SearchError) → IsStoreOf c m
+      → (old.lost ≡ false → (j : ℕ) → HasTold way m input old j → IsWalkRefusal way m c input old j e)
+      → (old.lost ≡ true → IsMemory e)
+      → (old.stage ≡ Ended → ⊥)
+      → (old.stage ≡ Fresh → IsUnsupported way m input → e ≡ unsupported_error input)
+      → (IsUnhindered m input → IsMemory e)
+      → IsStep way m input k (Err e)
+  step_refused c e of errors lost goes_on unsupported free = record {
+    pair = tt;
+    paths = λ acyclic. tt;
+    errors = step_error old.lost refl c e of errors lost;
+    ended = λ pairs all lt. goes_on (h.ended pairs all lt);
+    unsupported = λ u. ap Err (unsupported (still_fresh way m input old.stage old.units old.told k h.told u) u);
+    free = free;
+  }
+
+  -- leaves the walk as it was
+  pub stayed : (new : Walk) → new ≡ without_match old → HasAnswered way m input new k
+  stayed new is =
+      subst (λ (w : Walk). HasAnswered way m input w k) (sym is) (record { told = h.told; ended = h.ended })
+
+-- a walk that hasn't begun has answered no call
+pub fresh_answered : (way : Direction) (m : Machine) (input : Input) (w : Walk) → w ≡ fresh_walk → HasAnswered way m input w 0
+fresh_answered way m input w is =
+    subst (λ (v : Walk). HasAnswered way m input v 0) (sym is) (record { told = (refl, refl); ended = λ pairs all lt. absurd (omega arith) })

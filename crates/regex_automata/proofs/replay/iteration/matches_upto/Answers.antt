@@ -1,0 +1,41 @@
+use Rattle.std.proofs.Common.{◌∙◌, ap, subst}
+use Rattle.automata_base.specs.Nodes.{Automaton}
+use Rattle.automata_base.specs.Spans.{IsSpan, from}
+use Rattle.automata_base.specs.Told.{ToldIsRight}
+use Rattle.automata_hybrid.specs.Machine.{Machine}
+use Rattle.regex_automata.specs.Outcomes.{FindsMatch}
+use Rattle.regex_automata.specs.SoundPairs.{IsSoundPair, forward_engine}
+use Rattle.regex_automata.proofs.Collecting.{collected_begins, collected_right}
+use Rattle.regex_automata.proofs.MatchLists.{may_refuse_next}
+use Rattle.regex_automata.proofs.Owed.{are_stores}
+use Rattle.regex_automata.proofs.Right.{match_right}
+use Rattle.regex_automata.proofs.Rising.{collected_first, first_few, first_rise}
+use Rattle.regex_automata.proofs.replay.iteration.matches_upto.Goals as goal
+
+pub returns-clause-of : goal.returns-clause-of
+returns-clause-of c = (c.take_matches-all.ensures.forward, c.take_matches-all.ensures.reverse)
+
+pub returns-clause-owed : goal.returns-clause-owed
+returns-clause-owed c =
+    let p = c.args.regex.now in
+    let input = c.args.input in
+    let s = c.take_matches-all.ensures in
+    let ms = c.take_matches-all.result.0.items in
+    let error = c.take_matches-all.result.1 in
+    let cache = c.take_matches-all.new.cache in
+    let within = c.haystack-haystack.ensures.within.1 in
+    let front = subst (λ (a : Automaton). ToldIsRight a) (c.get_nfa.ensures ∙ ap (λ (m : Machine). m.nfa) c.forward.ensures) c.told_is_right.ensures.answer in
+    let rear = subst (λ (a : Automaton). ToldIsRight a) (c.get_nfa-2.ensures ∙ ap (λ (m : Machine). m.nfa) c.reverse.ensures) c.told_is_right-2.ensures.answer in
+    let right = λ (sound : IsSoundPair p). collected_right (FindsMatch p) (IsSpan (forward_engine p)) input
+    (λ start o f. match_right p front rear c.start_is_right.ensures.starts sound (from start input) (c.haystack-haystack.ensures.bytes, within) o f)
+    ms error s.found in
+    let first = collected_first p input within ms error s.found in
+    let of = are_stores cache p (s.forward, s.reverse) c.see_settings.ensures.forward c.see_settings.ensures.reverse in
+    record {
+      found = s.found;
+      spans = right;
+      beginning = λ sound whole spans. collected_begins (IsSpan (forward_engine p)) (c.start_is_right.ensures.one_span (forward_engine p)) input ms whole error (right sound) spans;
+      rise = first_rise p input within ms first;
+      few = first_few p input within ms first;
+      errors = may_refuse_next p cache input ms error of s.errors;
+    }

@@ -1,0 +1,66 @@
+use Rattle.std.proofs.Common.{◌≡◌, ◌∙◌, [], ◌∷◌, ◌++◌, None, Some, ap, inl, inr, refl, rules, sym, subst, List}
+use Rattle.automata_base.specs.Input.{Input}
+use Rattle.automata_base.specs.Matches.{Match}
+use Rattle.regex_automata.specs.Iterating.{AreFirst, input_at}
+use Rattle.regex_automata.specs.Outcomes.{FindsMatch}
+use Rattle.regex_automata.proofs.Collecting.{collected, comes_first, comes_turn, input_turn, item_match, item_none, turn}
+use Rattle.regex_automata.proofs.MatchLists.{item_refused, refused_behind}
+use Rattle.regex_automata.proofs.replay.iteration.take_matches.Goals as goal
+
+pub loop-item-preserved : goal.loop-item-preserved
+loop-item-preserved c =
+    let i = c.loop-item.invariant in
+    let s = c.loop-item.item-iterator in
+    let t = c.next.new.self in
+    let now = input_at s.haystack.now s.start s.end s.anchored s.earliest in
+    let rest = input_at t.haystack.now t.start t.end t.anchored t.earliest in
+    let steps = rw c.in-Ok.is at c.in-Some.ensures.steps in
+    let step = item_match s.regex.now t.cache.now now rest s.last t.last s.ended t.ended c.in-Ok.next steps.0 in
+    let items : c.push.new.self.items ≡ c.loop-item.found.items ++ c.in-Ok.next ∷ [] = c.in-Ok-push.ensures.items in
+    record {
+      comes = comes_turn (FindsMatch c.args.regex.now) c.args.input c.args.input.start None c.loop-item.found.items c.push.new.self.items s.start t.start s.last t.last c.in-Ok.next i.comes
+          (turn s.regex.now c.args.regex.now c.args.input now s.last (Some c.in-Ok.next) i.regex i.input step.0) items (ap (λ (v : Input). v.start) step.1) step.2;
+      regex = steps.1 ∙ i.regex;
+      input = input_turn c.args.input now rest c.in-Ok.next.end i.input step.1;
+      going = step.4;
+      same_cache = steps.2 ∙ i.same_cache;
+    }
+
+pub returns-in_default-clause-found : goal.returns-in_default-clause-found
+returns-in_default-clause-found c =
+    let i = c.loop-item.invariant in
+    let s = c.loop-item.item-iterator in
+    subst (λ (ms : List Match). AreFirst (FindsMatch c.args.regex.now) c.args.input c.args.input.start None ms) (sym c.in_default.ensures.items)
+    (comes_first (FindsMatch c.args.regex.now) c.args.input c.args.input.start None c.loop-item.found.items s.start s.last i.comes)
+
+pub returns-in_default-clause-errors : goal.returns-in_default-clause-errors
+returns-in_default-clause-errors c = inl refl
+
+pub returns-in-Err-clause-found : goal.returns-in-Err-clause-found
+returns-in-Err-clause-found c =
+    let i = c.loop-item.invariant in
+    let s = c.loop-item.item-iterator in
+    comes_first (FindsMatch c.args.regex.now) c.args.input c.args.input.start None c.loop-item.found.items s.start s.last i.comes
+
+pub returns-in-Err-clause-errors : goal.returns-in-Err-clause-errors
+returns-in-Err-clause-errors c =
+    let i = c.loop-item.invariant in
+    let s = c.loop-item.item-iterator in
+    let t = c.next.new.self in
+    let now = input_at s.haystack.now s.start s.end s.anchored s.earliest in
+    let rest = input_at t.haystack.now t.start t.end t.anchored t.earliest in
+    let steps = rw c.in-Err.is at c.in-Some.ensures.steps in
+    inr (refused_behind s.regex.now c.args.regex.now t.cache.now _ c.args.input now c.loop-item.found.items s.last c.in-Err.error
+    i.regex (search rules) i.input i.comes
+    (item_refused s.regex.now t.cache.now now rest s.last t.last s.ended t.ended c.in-Err.error steps.0 i.going))
+
+pub returns-clause-found : goal.returns-clause-found
+returns-clause-found c =
+    let i = c.loop-item.invariant in
+    let s = c.loop-item.item-iterator in
+    let t = c.next.new.self in
+    let now = input_at s.haystack.now s.start s.end s.anchored s.earliest in
+    let rest = input_at t.haystack.now t.start t.end t.anchored t.earliest in
+    collected (FindsMatch c.args.regex.now) c.args.input c.loop-item.found.items None s.start s.last i.comes
+    (λ none. turn s.regex.now c.args.regex.now c.args.input now s.last None i.regex i.input
+    (item_none s.regex.now t.cache.now now rest s.last t.last s.ended t.ended c.in-None.ensures.steps.0 i.going))

@@ -1,0 +1,40 @@
+use Rattle.std.proofs.Common.{◌≡◌, ◌∙◌, Option, subst, sym, IfSome}
+use Rattle.std.specs.Result.{result_err}
+use Rattle.automata_base.specs.Answers.{ArePatterns, ArePatternsFound}
+use Rattle.automata_base.specs.Engines.{engine_of}
+use Rattle.automata_base.specs.Answers.{IsOverlapping}
+use Rattle.automata_base.specs.Tapes.{Forward}
+use Rattle.automata_config.specs.declared.error.SearchError.{SearchError}
+use Rattle.automata_hybrid.specs.Walking.{AreWalked}
+use Rattle.regex_automata.specs.Owing.{IsMemory, MayRefusePatterns}
+use Rattle.regex_automata.proofs.Owed.{is_store}
+use Rattle.regex_automata.proofs.SetLists.{members_rise, memory_where, no_patterns, patterns_told, refused_where, told_where}
+use Rattle.regex_automata.proofs.replay.patterns.patterns_below.Goals as goal
+
+pub returns-in_default-clause-owed : goal.returns-in_default-clause-owed
+returns-in_default-clause-owed c = no_patterns c.args.dfa.now c.args.input.now c.args.capacity c.new-in_default.result.items c.new-in_default.ensures.items
+
+pub returns-in-Ok-list_members-clause-owed : goal.returns-in-Ok-list_members-clause-owed
+returns-in-Ok-list_members-clause-owed c =
+    let m = c.args.dfa.now in
+    let input = c.args.input.now in
+    let s = c.try_which_overlapping_matches-told.ensures in
+    let told = c.try_which_overlapping_matches-told.result in
+    let old = c.in-Ok.set in
+    let new = c.try_which_overlapping_matches-told.new.patset in
+    let store = c.try_which_overlapping_matches-told.new.cache.store in
+    let found = c.in-Ok-list_members.found.items in
+    let error : c.err.result ≡ result_err told = c.err.ensures.value in
+    record {
+      rise = members_rise new found c.in-Ok-list_members.ensures;
+      told = λ none. patterns_told (AreWalked Forward m input) input c.args.capacity old new found c.in-Ok.ensures.capacity c.in-Ok.ensures.empty c.in-Ok-list_members.ensures
+          (told_where told (ArePatterns (AreWalked Forward m input) input _ _ _) s.found (sym error ∙ none));
+      paths = λ acyclic none. patterns_told (IsOverlapping Forward (engine_of m.nfa m.kind) input) input c.args.capacity old new found c.in-Ok.ensures.capacity c.in-Ok.ensures.empty c.in-Ok-list_members.ensures
+          (told_where told (ArePatternsFound (engine_of m.nfa m.kind) input _ _ _) (s.paths acyclic) (sym error ∙ none));
+      errors = subst (λ (e : Option SearchError). IfSome e (MayRefusePatterns m input c.args.capacity found)) (sym error)
+          (refused_where told m store input c.args.capacity old new found (is_store store m s.of c.see_settings.ensures) c.in-Ok.ensures.capacity c.in-Ok-list_members.ensures s.errors);
+      free = λ f. subst (λ (e : Option SearchError). IfSome e IsMemory) (sym error) (memory_where told (s.answers f.reach f.supported f.clears));
+    }
+
+pub returns-clause-owed : goal.returns-clause-owed
+returns-clause-owed c = no_patterns c.args.dfa.now c.args.input.now c.args.capacity c.new-in-Err.result.items c.new-in-Err.ensures.items

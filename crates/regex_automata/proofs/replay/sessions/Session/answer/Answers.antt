@@ -1,0 +1,17 @@
+use Rattle.std.proofs.Common.{refl, sym, subst}
+use Rattle.automata_hybrid.specs.Machine.{Machine}
+use Rattle.regex_automata.specs.Owing.{ArePatternsUpto}
+use Rattle.regex_automata.specs.Replies.{IsReply}
+use Rattle.regex_automata.specs.declared.replay.requests.Request.{Request}
+use Rattle.regex_automata.specs.declared.replay.requests.Request.TheVariants as request
+use Rattle.regex_automata.specs.declared.replay.replies.Reply.TheVariants as reply
+use Rattle.regex_automata.proofs.Replying.{is_own}
+use Rattle.regex_automata.proofs.replay.sessions.Session.answer.Goals as goal
+
+pub returns-in-Which-clause-reply : goal.returns-in-Which-clause-reply
+returns-in-Which-clause-reply c = λ h a.
+    let s = c.args.self.now in
+    let answer = reply.Patterns c.patterns_below-found.result.0 c.patterns_below-found.result.1 in
+    subst (λ (q : Request). IsReply s.regexes.now h q answer) (sym c.in-Which.is)
+    (is_own s.regexes.now h (request.Which c.in-Which.capacity c.in-Which.input) answer s.regex.now a.regex refl
+    (subst (λ (m : Machine). ArePatternsUpto m c.in-Which.input c.in-Which.capacity c.patterns_below-found.result.0.items c.patterns_below-found.result.1) c.forward-in-Which.ensures c.patterns_below-found.ensures.owed))

@@ -1,0 +1,20 @@
+use Rattle.std.proofs.Common.{refl, sym, subst, ◌∙◌, List, ◌++◌, ◌∷◌, []}
+use Rattle.regex_automata.proofs.Replying.{is_own}
+use Rattle.regex_automata.proofs.WalkCalls.{fresh_answered}
+use Rattle.regex_automata.proofs.KeptWalks.{walks_push, length-walks}
+use Rattle.regex_automata.specs.Replies.{machine_of, way_of}
+use Rattle.regex_automata.specs.Sessions.{AreWalks}
+use Rattle.regex_automata.specs.declared.replay.walks.KeptWalk.{KeptWalk}
+use Rattle.regex_automata.proofs.replay.sessions.Session.begin.Goals as goal
+
+pub returns-clause-reply : goal.returns-clause-reply
+returns-clause-reply c = λ h a. is_own _ h _ _ _ a.regex refl (c.len-number.ensures ∙ c.args.self.now.walks.ok.0 ∙ length-walks _ _ _ a.walks)
+
+pub returns-clause-at : goal.returns-clause-at
+returns-clause-at c = λ h a. record {
+  current = a.current;
+  regex = a.regex;
+  of = a.of;
+  walks = subst (λ (ks : List KeptWalk). AreWalks c.args.self.now.regexes.now (h.walks ++ record { regex = h.current; reverse = c.args.reverse; input = c.args.input.now; told = 0 } ∷ []) ks) (sym c.in-Ok.ensures.items)
+      (walks_push c.args.self.now.regexes.now h.walks c.args.self.now.walks.items _ _ a.walks (record { regex = a.current; reverse = refl; input = c.same.ensures; told = λ r at. fresh_answered (way_of c.args.reverse) (machine_of c.args.reverse r) c.same.result c.start.result c.start.ensures }));
+}

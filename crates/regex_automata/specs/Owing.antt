@@ -1,0 +1,198 @@
+-- What the answer to a call owes by its DFA or its regex and its input alone, whatever the cache.
+use Rattle.std.specs.Prelude.{ℕ, suc, ◌≡◌, ◌<◌, ◌≤◌, ◌+◌, ◌-◌, ◌⊎◌, Bool, true, false, List, [], ◌∷◌, length, replicate, Option, Some, None, Result, Err, IfOk, IfErr, IfSome}
+use Rattle.automata_base.specs.Answers.{IsAnswer, IsOverlapping, ArePatterns, ArePatternsFound}
+use Rattle.automata_base.specs.Engines.{engine_of}
+use Rattle.automata_base.specs.Input.{Input}
+use Rattle.automata_base.specs.Matches.{HalfMatch, Match}
+use Rattle.automata_base.specs.Nodes.{nfa_of}
+use Rattle.automata_base.specs.Paths.{IsLookAcyclic}
+use Rattle.automata_base.specs.PatternSet.{members}
+use Rattle.automata_base.specs.Selections.{Pair}
+use Rattle.automata_base.specs.Spans.{AreSpans, Found, IsMatch, IsSpan, IsTrySearch, Rise, from}
+use Rattle.automata_base.specs.Tapes.{Direction, Forward}
+use Rattle.automata_base.specs.Told.{IsNearestAnswer, IsFarthestAnswer}
+use Rattle.automata_base.specs.declared.util.search.MatchErrorKind.TheVariants.{UnsupportedAnchored as UnsupportedMode}
+use Rattle.automata_base.specs.declared.util.search.MatchKind.TheVariants.{All as KindAll}
+use Rattle.automata_config.specs.declared.error.SearchError.{SearchError}
+use Rattle.automata_config.specs.declared.error.SearchError.TheVariants as search
+use Rattle.automata_hybrid.specs.Bounds.{Stored, settings_of}
+use Rattle.automata_hybrid.specs.Machine.{Machine}
+use Rattle.automata_hybrid.specs.Searches.{IsFound, IsRefused, NoQuitInReach, WithoutBase, tape_in}
+use Rattle.automata_hybrid.specs.Slots.{supports}
+use Rattle.automata_hybrid.specs.Starting.{quit_behind}
+use Rattle.automata_hybrid.specs.Walking.{AreWalked, HasTold, IsWalkRefusal, half_nth}
+use Rattle.automata_hybrid.specs.Walks.{Walk}
+use Rattle.automata_hybrid.specs.Which.{IsWhichRefusal}
+use Rattle.regex_automata.specs.Iterating.{AreCollected, IsBeginning, IsNextRefusal}
+use Rattle.regex_automata.specs.Matching.{IsMatchRefused, IsMatchTold}
+use Rattle.regex_automata.specs.Outcomes.{FindsMatch, LiesIn}
+use Rattle.regex_automata.specs.RegexRefusals.{IsRegexRefusal}
+use Rattle.regex_automata.specs.SoundPairs.{AreLookAcyclic, IsSoundPair, forward_engine, reverse_engine}
+use Rattle.regex_automata.specs.declared.hybrid.regex.Regex.{Regex}
+use Rattle.regex_automata.specs.declared.hybrid.regex.caches.Cache.{Cache}
+
+-- a cache of this DFA, within its settings; and the two of a regex
+abbrev pub IsStoreOf : Stored → Machine → Type 0
+IsStoreOf c m = (c.table.of ≡ m) × (c.settings ≡ settings_of m)
+
+abbrev pub AreStoresOf : Cache → Regex → Type 0
+AreStoresOf c p = IsStoreOf c.forward.store p.forward × IsStoreOf c.reverse.store p.reverse
+
+-- want of memory
+abbrev pub IsMemory : SearchError → Type 0
+IsMemory e = e ≡ search.OutOfMemory
+
+-- nothing but want of memory stands in the way of an answer: no quit byte is in reach, the mode is supported, and no
+-- clear limit is set
+pub record IsUnhindered (m : Machine) (input : Input) : Type 0 where
+  pub reach : NoQuitInReach m input
+  pub supported : supports m input.anchored ≡ true
+  pub clears : m.minimum_clear_count ≡ None
+
+-- the span isn't done, no quit byte is behind the start, and the mode isn't supported
+pub record IsUnsupported (way : Direction) (m : Machine) (input : Input) : Type 0 where
+  pub undone : input.start ≤ input.end
+  pub behind : quit_behind m (tape_in way input).before ≡ None
+  pub mode : supports m input.anchored ≡ false
+
+abbrev pub unsupported_error : Input → SearchError
+unsupported_error input = search.Match (UnsupportedMode input.anchored)
+
+-- some cache of the DFA, within its settings, refuses the search so
+abbrev pub MayRefuse : Direction → Machine → Input → SearchError → Type 0
+MayRefuse way m input e = (c : Stored) × IsStoreOf c m × IsRefused way m c input e
+
+-- what a search in a direction answers
+pub record IsHalf (way : Direction) (m : Machine) (input : Input) (result : Result (Option HalfMatch) SearchError) : Type 0 where
+  -- for every automaton, what the passes tell
+  pub found : IfOk result (WithoutBase (IsFound way m input))
+  -- where no cycle passes a look, the answer of the ordered paths
+  pub answer : IsLookAcyclic (nfa_of m.nfa) → IfOk result (WithoutBase (IsAnswer way (engine_of m.nfa m.kind) input))
+  -- for every automaton, the nearest end in an earliest search, and under kind all the farthest one in another
+  pub nearest : input.earliest ≡ true → IfOk result (WithoutBase (IsNearestAnswer way (engine_of m.nfa m.kind) input))
+  pub farthest :
+      input.earliest ≡ false → m.kind ≡ KindAll
+      → IfOk result (WithoutBase (IsFarthestAnswer way (engine_of m.nfa m.kind) input))
+  -- a refusal is one that some cache may give
+  pub errors : IfErr result (MayRefuse way m input)
+  -- a mode that isn't supported is told
+  pub unsupported : IsUnsupported way m input → result ≡ Err (unsupported_error input)
+  -- where nothing stands in the way, only want of memory is a refusal
+  pub free : IsUnhindered m input → IfErr result IsMemory
+
+-- some cache of the DFA, within its settings, refuses a call of a walk that has told so many pairs; or memory is wanting
+abbrev pub MayRefuseStep : Direction → Machine → Input → (told : ℕ) → SearchError → Type 0
+MayRefuseStep way m input told e =
+    IsMemory e
+    ⊎ ((c : Stored) × IsStoreOf c m × ((w : Walk) × HasTold way m input w told × IsWalkRefusal way m c input w told e))
+
+-- what a call of a walk answers after so many that answered Ok
+pub record IsStep (way : Direction) (m : Machine) (input : Input) (told : ℕ) (result : Result (Option HalfMatch) SearchError) : Type 0 where
+  -- for every automaton, the next pair of the list that its passes tell, and behind the last one none
+  pub pair : IfOk result (λ found. (pairs : List Pair) → AreWalked way m input pairs → found ≡ half_nth pairs told)
+  -- where no cycle passes a look, that of the list of the ordered paths
+  pub paths :
+      IsLookAcyclic (nfa_of m.nfa)
+      → IfOk result (λ found. (pairs : List Pair) → IsOverlapping way (engine_of m.nfa m.kind) input pairs → found ≡ half_nth pairs told)
+  -- a refusal is one that some cache may give
+  pub errors : IfErr result (MayRefuseStep way m input told)
+  -- behind the end there is none
+  pub ended : (pairs : List Pair) → AreWalked way m input pairs → length pairs < told → IfErr result (λ e. ⊥)
+  -- a mode that isn't supported is told
+  pub unsupported : IsUnsupported way m input → result ≡ Err (unsupported_error input)
+  -- where nothing stands in the way, only want of memory is a refusal
+  pub free : IsUnhindered m input → IfErr result IsMemory
+
+-- some caches of the regex, within the settings of its DFAs, refuse a search for a span so
+abbrev pub MayRefuseSpan : Regex → Input → SearchError → Type 0
+MayRefuseSpan p input e = (c : Cache) × AreStoresOf c p × IsRegexRefusal p c input e
+
+-- what a search for a span answers
+pub record IsSpanOf (p : Regex) (input : Input) (result : Result (Option Match) SearchError) : Type 0 where
+  -- for every two automata, what the passes of both tell
+  pub found : IfOk result (FindsMatch p input)
+  -- where no cycle passes a look, what the ordered paths through both define
+  pub answer : AreLookAcyclic p → IfOk result (λ o. IsTrySearch (forward_engine p) (reverse_engine p) input (Found o))
+  -- over a sound pair, the span of the path that the forward search chose
+  pub span : IsSoundPair p → IfOk result (IsSpan (forward_engine p) input)
+  -- it lies in the input's span
+  pub within : IfOk result (λ o. IfSome o (LiesIn input))
+  -- a refusal is one that some caches may give
+  pub errors : IfErr result (MayRefuseSpan p input)
+  -- a mode that isn't supported is told
+  pub unsupported : IsUnsupported Forward p.forward input → result ≡ Err (unsupported_error input)
+
+-- some cache of the forward DFA refuses the search for whether there is a match
+abbrev pub MayRefuseTruth : Machine → Input → SearchError → Type 0
+MayRefuseTruth m input e = (c : Stored) × IsStoreOf c m × IsMatchRefused m c input e
+
+-- what the search for whether there is a match answers
+pub record IsTruthOf (p : Regex) (input : Input) (result : Result Bool SearchError) : Type 0 where
+  -- for every automaton, whether the passes tell one
+  pub told : IfOk result (IsMatchTold p.forward input)
+  -- where no cycle passes a look, whether the ordered paths have an answer
+  pub answer : IsLookAcyclic (nfa_of p.forward.nfa) → IfOk result (IsMatch (forward_engine p) input)
+  -- a refusal is one that some cache may give
+  pub errors : IfErr result (MayRefuseTruth p.forward input)
+  -- a mode that isn't supported is told
+  pub unsupported : IsUnsupported Forward p.forward input → result ≡ Err (unsupported_error input)
+  -- where nothing stands in the way, only want of memory is a refusal
+  pub free : IsUnhindered p.forward input → IfErr result IsMemory
+
+-- where the search for a match behind these begins, and where the last of these ended
+abbrev pub place_behind : ℕ → List Match → ℕ
+place_behind start [] = start
+place_behind start (m ∷ ms) = place_behind m.end ms
+
+abbrev pub end_behind : Option ℕ → List Match → Option ℕ
+end_behind last [] = last
+end_behind last (m ∷ ms) = end_behind (Some m.end) ms
+
+-- some caches of the regex refuse the search for the match behind these; or memory is wanting, there or for the list
+abbrev pub MayRefuseNext : Regex → Input → List Match → SearchError → Type 0
+MayRefuseNext p input ms e =
+    IsMemory e
+    ⊎ ((c : Cache) × AreStoresOf c p × IsNextRefusal p c (from (place_behind input.start ms) input) (end_behind None ms) e)
+
+-- the matches of an input, one after another; or the first ones, and the error that ended them
+pub record AreMatchesUpto (p : Regex) (input : Input) (ms : List Match) (error : Option SearchError) : Type 0 where
+  -- for every two automata, what the passes of both tell
+  pub found : AreCollected (FindsMatch p) input ms error
+  -- over a sound pair, the spans of the paths; and if there is an error, a beginning of them
+  pub spans : IsSoundPair p → AreCollected (IsSpan (forward_engine p)) input ms error
+  pub beginning : IsSoundPair p → (whole : List Match) → AreSpans (forward_engine p) input whole → IsBeginning ms whole
+  -- their ends rise, so that they are at most one more than the span has bytes
+  pub rise : Rise input.end None ms
+  pub few : length ms ≤ input.end - input.start + 1
+  -- a refusal is one that some caches may give behind these
+  pub errors : IfSome error (MayRefuseNext p input ms)
+
+-- each number is at least `low`, and greater than the one before
+abbrev pub AreRising : (low : ℕ) → List ℕ → Type 0
+AreRising low [] = Unit {0}
+AreRising low (k ∷ ks) = (low ≤ k) × AreRising (suc k) ks
+
+abbrev pub empty_set : (capacity : ℕ) → List Bool
+empty_set capacity = replicate capacity false
+
+-- some cache of the DFA refuses a walk that had told the patterns of just these; or memory is wanting for the set or the
+-- list, and there are none of them
+abbrev pub MayRefusePatterns : Machine → Input → (capacity : ℕ) → List ℕ → SearchError → Type 0
+MayRefusePatterns m input capacity found e =
+    (IsMemory e × (found ≡ []))
+    ⊎ ((c : Stored) × IsStoreOf c m × ((set : List Bool)
+    × IsWhichRefusal m c input (empty_set capacity) set e × (found ≡ members set)))
+
+-- the patterns below a capacity of all overlapping matches, in an earliest search of the first one; or those told before
+-- the error
+pub record ArePatternsUpto (m : Machine) (input : Input) (capacity : ℕ) (found : List ℕ) (error : Option SearchError) : Type 0 where
+  -- in increasing order
+  pub rise : AreRising 0 found
+  -- for every automaton, those that the walk tells
+  pub told : error ≡ None → ArePatterns (AreWalked Forward m input) input capacity [] found
+  -- where no cycle passes a look, those of the ordered paths
+  pub paths : IsLookAcyclic (nfa_of m.nfa) → error ≡ None → ArePatternsFound (engine_of m.nfa m.kind) input capacity [] found
+  -- a refusal is one that some cache may give
+  pub errors : IfSome error (MayRefusePatterns m input capacity found)
+  -- where nothing stands in the way, only want of memory is a refusal
+  pub free : IsUnhindered m input → IfSome error IsMemory

@@ -1,0 +1,60 @@
+-- How what a replay keeps stands to the history of its requests and replies.
+use Rattle.std.specs.Prelude.{ℕ, ◌≡◌, ◌+◌, ◌<◌, List, [], ◌∷◌, length, Option, Some, Result, OnOk, OnErr}
+use Rattle.automata_base.specs.Input.{Input}
+use Rattle.automata_base.specs.Lists.{nth}
+use Rattle.automata_base.specs.Matches.{HalfMatch}
+use Rattle.automata_base.specs.Selections.{Pair}
+use Rattle.automata_base.specs.Tapes.{Direction}
+use Rattle.automata_config.specs.declared.error.SearchError.{SearchError}
+use Rattle.automata_hybrid.specs.Machine.{Machine}
+use Rattle.automata_hybrid.specs.Walking.{AreWalked, HasTold}
+use Rattle.automata_hybrid.specs.Walks.{Walk, Ended}
+use Rattle.regex_automata.specs.Histories.{Begun, History}
+use Rattle.regex_automata.specs.Owing.{IsStep}
+use Rattle.regex_automata.specs.RegexCaches.{AreCachesOf}
+use Rattle.regex_automata.specs.Replies.{machine_of, way_of}
+use Rattle.regex_automata.specs.declared.hybrid.regex.Regex.{Regex}
+use Rattle.regex_automata.specs.declared.replay.sessions.Session.{Session}
+use Rattle.regex_automata.specs.declared.replay.walks.KeptWalk.{KeptWalk}
+
+-- a walk has answered so many calls, and behind its last pair it has ended
+pub record HasAnswered (way : Direction) (m : Machine) (input : Input) (w : Walk) (k : ℕ) : Type 0 where
+  pub told : HasTold way m input w k
+  pub ended : (pairs : List Pair) → AreWalked way m input pairs → length pairs < k → w.stage ≡ Ended
+
+-- the same of a walk of this regex
+abbrev pub HasAnsweredBy : Regex → KeptWalk → ℕ → Type 0
+HasAnsweredBy r kept k = HasAnswered (way_of kept.reverse) (machine_of kept.reverse r) kept.input kept.state k
+
+-- what its next call answers then
+abbrev pub IsStepFrom : Regex → KeptWalk → ℕ → Result (Option HalfMatch) SearchError → Type 0
+IsStepFrom r kept k result = IsStep (way_of kept.reverse) (machine_of kept.reverse r) kept.input k result
+
+-- what a call leaves of a walk
+pub record Goes (r : Regex) (old new : KeptWalk) (result : Result (Option HalfMatch) SearchError) : Type 0 where
+  pub regex : new.regex ≡ old.regex
+  pub reverse : new.reverse ≡ old.reverse
+  pub input : new.input ≡ old.input
+  pub told : (k : ℕ) → HasAnsweredBy r old k → OnOk result (HasAnsweredBy r new (k + 1))
+  pub kept : (k : ℕ) → HasAnsweredBy r old k → OnErr result (HasAnsweredBy r new k)
+
+-- what is kept of a walk is of the walk that was begun, and has answered as many calls
+pub record IsWalk (regexes : List Regex) (w : Begun) (kept : KeptWalk) : Type 0 where
+  pub regex : kept.regex ≡ w.regex
+  pub reverse : kept.reverse ≡ w.reverse
+  pub input : kept.input ≡ w.input
+  pub told : (r : Regex) → nth regexes w.regex ≡ Some r → HasAnsweredBy r kept w.told
+
+-- one for each
+abbrev pub AreWalks : List Regex → List Begun → List KeptWalk → Type 0
+AreWalks regexes [] [] = Unit {0}
+AreWalks regexes [] (k ∷ ks) = ⊥
+AreWalks regexes (w ∷ ws) [] = ⊥
+AreWalks regexes (w ∷ ws) (k ∷ ks) = IsWalk regexes w k × AreWalks regexes ws ks
+
+-- the current regex is the history's, the caches are of it, and the walks are the history's
+pub record IsAt (h : History) (s : Session) : Type 0 where
+  pub current : s.current ≡ h.current
+  pub regex : nth s.regexes.now h.current ≡ Some s.regex.now
+  pub of : AreCachesOf s.cache s.regex.now
+  pub walks : AreWalks s.regexes.now h.walks s.walks.items

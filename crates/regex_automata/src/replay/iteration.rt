@@ -1,0 +1,62 @@
+//! The matches of an input, one after another, as a list.
+ghost use Rattle.std.specs.Prelude.{◌≡◌, ◌⊎◌, IfSome};
+ghost use Rattle.automata_base.specs.Spans.{from};
+ghost use Rattle.automata_hybrid.specs.Caches.{IsCacheOf};
+ghost use Rattle.regex_automata.specs.Iterating.{AreCollected, IsNextRefusal};
+ghost use Rattle.regex_automata.specs.Outcomes.{FindsMatch};
+ghost use Rattle.regex_automata.specs.Owing.{AreMatchesUpto, IsMemory, end_behind, place_behind};
+ghost use Rattle.regex_automata.specs.RegexCaches.{AreCachesOf};
+
+use crate::hybrid::regex::{Cache, Regex};
+use crate::replay::searches::see_settings;
+use automata_base::laws::{start_is_right, told_is_right};
+use automata_base::util::search::{Input, Match};
+use automata_config::error::SearchError;
+use std::alloc::Global;
+
+/// The matches, until an error: a refused search, or want of memory for the list.
+pub fn matches_upto(
+    alloc: Global,
+    regex: &Regex,
+    cache: &mut Cache,
+    input: Input<'_>,
+) -> (Vec<Match>, Option<SearchError>)
+    requires { AreCachesOf cache.old regex.now }
+    ensures of { AreCachesOf cache.new regex.now }
+    ensures owed { AreMatchesUpto regex.now input.entry result.0.items result.1 }
+{
+    told_is_right(regex.forward().get_nfa());
+    told_is_right(regex.reverse().get_nfa());
+    start_is_right();
+    let _haystack = input.haystack();
+    let all = take_matches(alloc, regex, cache, input);
+    see_settings(cache);
+    all
+}
+
+/// The same, as the passes tell it.
+fn take_matches(
+    alloc: Global,
+    regex: &Regex,
+    cache: &mut Cache,
+    input: Input<'_>,
+) -> (Vec<Match>, Option<SearchError>)
+    requires { AreCachesOf cache.old regex.now }
+    ensures forward { IsCacheOf cache.new.forward regex.now.forward }
+    ensures reverse { IsCacheOf cache.new.reverse regex.now.reverse }
+    ensures found { AreCollected (FindsMatch regex.now) input.entry result.0.items result.1 }
+    ensures errors { IfSome result.1 (λ e. IsMemory e ⊎ IsNextRefusal regex.now cache.new (from (place_behind input.entry.start result.0.items) input.entry) (end_behind None result.0.items) e) }
+{
+    let mut found = Vec::new(alloc);
+    for item in regex.find_iter(cache, input) {
+        match item {
+            Ok(next) => {
+                let Ok(()) = found.push(next) else {
+                    return (found, Some(SearchError::OutOfMemory));
+                };
+            }
+            Err(error) => return (found, Some(error)),
+        }
+    }
+    (found, None)
+}

@@ -1,0 +1,69 @@
+//! A list of requests, answered in turn over one cache.
+ghost use Rattle.std.specs.Prelude.{[], IfOk};
+ghost use Rattle.regex_automata.specs.Histories.{start};
+ghost use Rattle.regex_automata.specs.Replies.{AreReplies, TellWalks};
+ghost use Rattle.regex_automata.specs.Sessions.{IsAt};
+
+mod iteration;
+mod patterns;
+pub mod replies;
+pub mod requests;
+mod searches;
+mod sessions;
+mod walks;
+
+use crate::hybrid::regex::Regex;
+pub use replies::{Fault, Reply};
+pub use requests::Request;
+use sessions::Session;
+use std::alloc::{AllocError, Global};
+
+/// One reply for each request, in order, each its request's own value, whatever came before.
+///
+/// One cache serves them all. At first it is of regex 0, which is the current one. Want of memory is an error only where
+/// that cache or the list of replies found none; inside a request it is told in its reply.
+pub fn replay(
+    alloc: Global,
+    regexes: &[Regex],
+    script: &[Request<'_>],
+) -> Result<Vec<Reply>, AllocError>
+    // Each reply is its request's own value, or a refusal that its own call may give; bad requests are told, and change
+    // nothing.
+    ensures replies { IfOk result (λ replies. AreReplies regexes.now script.now replies.items) }
+
+    // The Ok replies to the steps of a walk are, in order, the pairs of its list, and then none.
+    ensures walks { IfOk result (λ replies. TellWalks regexes.now script.now replies.items) }
+{
+    match regexes.first() {
+        Some(regex) => answer_all(alloc, Session::new(alloc, regexes, regex)?, script),
+        None => refuse_all(alloc, script),
+    }
+}
+
+/// Answers one request after another.
+fn answer_all<'h>(
+    alloc: Global,
+    mut session: Session<'_, 'h>,
+    script: &[Request<'h>],
+) -> Result<Vec<Reply>, AllocError>
+    requires { IsAt start session }
+    ensures { IfOk result (λ replies. AreReplies session.entry.regexes.now script.now replies.items) }
+{
+    let mut replies = Vec::new(alloc);
+    for request in script {
+        let reply = session.answer(request);
+        replies.push(reply)?;
+    }
+    Ok(replies)
+}
+
+/// There is no regex to ask.
+fn refuse_all(alloc: Global, script: &[Request<'_>]) -> Result<Vec<Reply>, AllocError>
+    ensures { IfOk result (λ replies. AreReplies [] script.now replies.items) }
+{
+    let mut replies = Vec::new(alloc);
+    for _request in script {
+        replies.push(Reply::Bad(Fault::NoRegex))?;
+    }
+    Ok(replies)
+}

@@ -1,0 +1,42 @@
+//! The patterns of all overlapping matches, as a list.
+ghost use Rattle.std.specs.Prelude.{◌≡◌, IfOk};
+ghost use Rattle.automata_base.specs.PatternSet.{members};
+ghost use Rattle.automata_hybrid.specs.Caches.{IsCacheOf};
+ghost use Rattle.regex_automata.specs.Owing.{ArePatternsUpto};
+
+use crate::hybrid::dfa;
+use crate::hybrid::dfa::DFA;
+use automata_base::util::pattern_set::PatternSet;
+use automata_base::util::primitives::PatternID;
+use automata_base::util::search::Input;
+use automata_config::error::SearchError;
+use std::alloc::{AllocError, Global};
+
+/// The patterns that a fresh set has after a walk, or after a refused one those told before.
+pub fn patterns_below(
+    alloc: Global,
+    dfa: &DFA,
+    cache: &mut dfa::Cache,
+    capacity: usize,
+    input: &Input<'_>,
+) -> (Vec<PatternID>, Option<SearchError>)
+    requires { IsCacheOf cache.old dfa.now }
+    ensures of { IsCacheOf cache.new dfa.now }
+    ensures owed { ArePatternsUpto dfa.now input.now capacity result.0.items result.1 }
+{
+    let Ok(mut set) = PatternSet::new(alloc, capacity) else {
+        return (Vec::new(alloc), Some(SearchError::OutOfMemory));
+    };
+    let told = dfa.try_which_overlapping_matches(cache, input, &mut set);
+    cache.see_settings();
+    match list_members(alloc, &set) {
+        Ok(found) => (found, told.err()),
+        Err(_) => (Vec::new(alloc), Some(SearchError::OutOfMemory)),
+    }
+}
+
+fn list_members(alloc: Global, set: &PatternSet) -> Result<Vec<PatternID>, AllocError>
+    ensures { IfOk result (λ list. list.items ≡ members set.now) }
+{
+    set.iter().collect(alloc)
+}

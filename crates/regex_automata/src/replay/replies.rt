@@ -1,0 +1,41 @@
+use automata_base::util::primitives::PatternID;
+use automata_base::util::search::{HalfMatch, Match};
+use automata_config::error::SearchError;
+
+/// Why a request is bad.
+#[derive(Clone, Copy, Debug, PartialEq, Eq)]
+pub enum Fault {
+    /// There is no regex at all, or a reset names none.
+    NoRegex,
+    /// There is no walk of this number.
+    NoWalk,
+    /// The walk isn't of the current regex.
+    OtherRegex,
+}
+
+/// The answer to a request. Its refusals stand in it, want of memory among them.
+#[derive(Debug, PartialEq, Eq, Drop)]
+pub enum Reply {
+    /// What a search of one DFA found, or the match of a walk after one step.
+    Half(Result<Option<HalfMatch>, SearchError>),
+    /// The span of the first match.
+    Span(Result<Option<Match>, SearchError>),
+    /// Whether there is a match.
+    Truth(Result<bool, SearchError>),
+    /// The matches so far, and the error that ended them, if any.
+    Spans {
+        found: Vec<Match>,
+        error: Option<SearchError>,
+    },
+    /// The number of the walk that was begun.
+    Begun(Result<usize, SearchError>),
+    /// The patterns in increasing order, and the error before which they were told, if any.
+    Patterns {
+        found: Vec<PatternID>,
+        error: Option<SearchError>,
+    },
+    /// Another regex is current.
+    Done(Result<(), SearchError>),
+    /// The request is bad, and changed nothing.
+    Bad(Fault),
+}

@@ -1,0 +1,24 @@
+use automata_base::util::search::Input;
+
+/// What a script asks for. The haystacks are borrowed.
+#[derive(Drop)]
+pub enum Request<'h> {
+    /// A search of the current regex's forward DFA.
+    SearchFwd(Input<'h>),
+    /// A search of its reverse DFA.
+    SearchRev(Input<'h>),
+    /// The span of the first match.
+    Find(Input<'h>),
+    /// Whether there is a match.
+    IsMatch(Input<'h>),
+    /// The matches, one after another.
+    Iterate(Input<'h>),
+    /// Begins an overlapping walk of the current regex. Walks are numbered from 0.
+    BeginWalk { reverse: bool, input: Input<'h> },
+    /// One step of a walk of the current regex.
+    StepWalk(usize),
+    /// The patterns below the capacity of all overlapping matches.
+    Which { capacity: usize, input: Input<'h> },
+    /// Makes the caches fresh ones of this regex, which becomes the current one.
+    Reset(usize),
+}

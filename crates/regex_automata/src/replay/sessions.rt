@@ -1,0 +1,165 @@
+//! What a replay keeps between requests.
+ghost use Rattle.std.specs.Prelude.{◌≡◌, IfOk, Some};
+ghost use Rattle.automata_base.specs.Lists.{nth};
+ghost use Rattle.regex_automata.specs.Histories.{History, start, after, after_begin, after_reset, after_step};
+ghost use Rattle.regex_automata.specs.Replies.{IsReply};
+ghost use Rattle.regex_automata.specs.Sessions.{IsAt};
+ghost use Rattle.regex_automata.specs.declared.replay.requests.Request.TheVariants as request;
+
+use crate::hybrid::dfa::OverlappingState;
+use crate::hybrid::regex::{Cache, Regex};
+use crate::replay::iteration::matches_upto;
+use crate::replay::patterns::patterns_below;
+use crate::replay::replies::{Fault, Reply};
+use crate::replay::requests::Request;
+use crate::replay::searches::{find, is_match, search_fwd, search_rev};
+use crate::replay::walks::{KeptWalk, step_at};
+use automata_base::util::search::Input;
+use automata_config::error::SearchError;
+use std::alloc::{AllocError, Global};
+
+/// The current regex, the caches that are of it, and the walks so far.
+#[derive(Drop)]
+pub struct Session<'r, 'h> {
+    alloc: Global,
+    regexes: &'r [Regex],
+    regex: &'r Regex,
+    current: usize,
+    cache: Cache,
+    walks: Vec<KeptWalk<'h>>,
+}
+
+impl<'r, 'h> Session<'r, 'h> {
+    /// Before the first request: regex 0 is current.
+    #[tactic(auto, using(crate::proofs::Owed::fresh_caches))]
+    pub fn new(
+        alloc: Global,
+        regexes: &'r [Regex],
+        regex: &'r Regex,
+    ) -> Result<Session<'r, 'h>, AllocError>
+        requires { nth regexes.now 0 ≡ Some regex.now }
+        ensures at { IfOk result (IsAt start) }
+        ensures regexes { IfOk result (λ session. session.regexes.now ≡ regexes.now) }
+    {
+        let cache = regex.create_cache()?;
+        Ok(Session {
+            alloc,
+            regexes,
+            regex,
+            current: 0,
+            cache,
+            walks: Vec::new(alloc),
+        })
+    }
+
+    /// Answers one request.
+    pub fn answer(&mut self, request: &Request<'h>) -> Reply
+        requires { (h : History) × IsAt h self.old }
+        ensures regexes { self.new.regexes.now ≡ self.old.regexes.now }
+        ensures reply { (h : History) → IsAt h self.old → IsReply self.old.regexes.now h request.now result }
+        ensures at { (h : History) → IsAt h self.old → IsAt (after h request.now result) self.new }
+    {
+        let regex = self.regex;
+        match request {
+            Request::SearchFwd(input) => Reply::Half(search_fwd(
+                regex.forward(),
+                self.cache.forward_mut(),
+                input,
+            )),
+            Request::SearchRev(input) => Reply::Half(search_rev(
+                regex.reverse(),
+                self.cache.reverse_mut(),
+                input,
+            )),
+            Request::Find(input) => Reply::Span(find(regex, &mut self.cache, input)),
+            Request::IsMatch(input) => Reply::Truth(is_match(regex, &mut self.cache, input)),
+            Request::Iterate(input) => {
+                let (found, error) = matches_upto(self.alloc, regex, &mut self.cache, same(input));
+                Reply::Spans { found, error }
+            }
+            Request::BeginWalk { reverse, input } => self.begin(*reverse, input),
+            Request::StepWalk(number) => self.step(*number),
+            Request::Which { capacity, input } => {
+                let (found, error) = patterns_below(
+                    self.alloc,
+                    regex.forward(),
+                    self.cache.forward_mut(),
+                    *capacity,
+                    input,
+                );
+                Reply::Patterns { found, error }
+            }
+            Request::Reset(number) => self.reset(*number),
+        }
+    }
+
+    /// Begins a walk of the current regex.
+    fn begin(&mut self, reverse: bool, input: &Input<'h>) -> Reply
+        requires { (h : History) × IsAt h self.old }
+        ensures regexes { self.new.regexes.now ≡ self.old.regexes.now }
+        ensures reply { (h : History) → IsAt h self.old → IsReply self.old.regexes.now h (request.BeginWalk reverse input.now) result }
+        ensures at { (h : History) → IsAt h self.old → IsAt (after_begin h reverse input.now result) self.new }
+    {
+        let number = self.walks.len();
+        let walk = KeptWalk {
+            regex: self.current,
+            reverse,
+            input: same(input),
+            state: OverlappingState::start(),
+        };
+        let Ok(()) = self.walks.push(walk) else {
+            return Reply::Begun(Err(SearchError::OutOfMemory));
+        };
+        Reply::Begun(Ok(number))
+    }
+
+    /// Makes one step of a walk, if it is of the current regex.
+    fn step(&mut self, number: usize) -> Reply
+        requires { (h : History) × IsAt h self.old }
+        ensures regexes { self.new.regexes.now ≡ self.old.regexes.now }
+        ensures reply { (h : History) → IsAt h self.old → IsReply self.old.regexes.now h (request.StepWalk number) result }
+        ensures at { (h : History) → IsAt h self.old → IsAt (after_step h number result) self.new }
+    {
+        let of = match self.walks.get(number) {
+            Some(walk) => walk.regex,
+            None => return Reply::Bad(Fault::NoWalk),
+        };
+        if of != self.current {
+            return Reply::Bad(Fault::OtherRegex);
+        }
+        let regex = self.regex;
+        Reply::Half(step_at(&mut self.walks, number, regex, &mut self.cache))
+    }
+
+    /// Makes another regex current. A refusal changes nothing.
+    #[tactic(auto, using(crate::proofs::Owed::fresh_caches))]
+    fn reset(&mut self, number: usize) -> Reply
+        requires { (h : History) × IsAt h self.old }
+        ensures regexes { self.new.regexes.now ≡ self.old.regexes.now }
+        ensures reply { (h : History) → IsAt h self.old → IsReply self.old.regexes.now h (request.Reset number) result }
+        ensures at { (h : History) → IsAt h self.old → IsAt (after_reset h number result) self.new }
+    {
+        let regexes = self.regexes;
+        match regexes.get(number) {
+            None => Reply::Bad(Fault::NoRegex),
+            Some(regex) => match regex.reset_cache(&mut self.cache) {
+                Ok(()) => {
+                    self.regex = regex;
+                    self.current = number;
+                    Reply::Done(Ok(()))
+                }
+                Err(_) => Reply::Done(Err(SearchError::OutOfMemory)),
+            },
+        }
+    }
+}
+
+/// The same input. Its clone could be refused; this takes no memory.
+fn same<'h>(input: &Input<'h>) -> Input<'h>
+    ensures { result ≡ input.now }
+{
+    Input::new(input.haystack())
+        .range(input.start()..input.end())
+        .anchored(input.get_anchored())
+        .earliest(input.get_earliest())
+}
