@@ -7,7 +7,10 @@ pub enum Keyword {
     Anchored,
     Capacity,
     Earliest,
+    Find,
     Forward,
+    IsMatch,
+    Iterate,
     Limit,
     NoClasses,
     Pattern,
@@ -22,12 +25,15 @@ pub enum Keyword {
     Unicode,
 }
 
-const KEYWORDS: [(&[u8], Keyword); 17] = [
+const KEYWORDS: [(&[u8], Keyword); 20] = [
     (b"all", Keyword::All),
     (b"anchored", Keyword::Anchored),
     (b"capacity", Keyword::Capacity),
     (b"earliest", Keyword::Earliest),
+    (b"find", Keyword::Find),
     (b"fwd", Keyword::Forward),
+    (b"is", Keyword::IsMatch),
+    (b"iter", Keyword::Iterate),
     (b"limit", Keyword::Limit),
     (b"noclasses", Keyword::NoClasses),
     (b"pattern", Keyword::Pattern),

@@ -1,14 +1,15 @@
 //! A script is read, checked and answered.
 
 ghost use Rattle.regex_automata.specs.Caches.{IsCacheOf};
+ghost use Rattle.regex_automata.specs.RegexCaches.{AreCachesOf};
 
 use crate::error::RunError;
 use crate::reply::Reply;
 use crate::script::{Definition, Request, Script};
-use regex_automata::hybrid::BuildError;
-use regex_automata::hybrid::dfa::{Cache, Config, DFA};
+use regex_automata::hybrid::regex::{Cache, Regex};
+use regex_automata::hybrid::{BuildError, SearchError};
 use regex_automata::nfa::thompson::{NFA, NfaError};
-use regex_automata::util::search::MatchKind;
+use regex_automata::util::search::{Input, Match};
 use std::alloc::{AllocError, Global};
 use std::fmt::Write;
 use std::io;
@@ -41,7 +42,7 @@ fn replies_to(alloc: Global, script: &Script) -> Result<String, RunError> {
     let regexes = build_all(alloc, script.definitions.as_slice(), &mut replies)?;
     let requests = script.requests.as_slice();
     match regexes.first() {
-        Some(regex) => Searcher::new(regex)?.answer_all(requests, &mut replies)?,
+        Some(regex) => Searcher::new(regex)?.answer_all(alloc, requests, &mut replies)?,
         None => refuse_all(requests, &mut replies)?,
     }
     Ok(replies)
@@ -63,7 +64,7 @@ fn build_all(
 ) -> Result<Vec<Regex>, RunError> {
     let mut regexes = Vec::new(alloc);
     for definition in definitions {
-        match Regex::new(alloc, definition) {
+        match build(alloc, definition) {
             Ok(regex) => {
                 let number = regexes.len();
                 writeln!(replies, "regex {number}")?;
@@ -75,73 +76,91 @@ fn build_all(
     Ok(regexes)
 }
 
-/// A lazy automaton for each direction.
-#[derive(Drop)]
-struct Regex {
-    forward: DFA,
-    reverse: DFA,
+/// The automata of the catalogue are well formed, so of these only memory can be wanting.
+fn build(alloc: Global, definition: &Definition) -> Result<Regex, BuildError> {
+    let forward = built(definition.entry.forward(alloc))?;
+    let reverse = built(definition.entry.reverse(alloc))?;
+    Regex::builder()
+        .dfa(definition.config)
+        .build_from_nfas(forward, reverse)
 }
 
-impl Regex {
-    /// The reverse automaton looks for the farthest start of a match, so it is of kind all.
-    fn new(alloc: Global, definition: &Definition) -> Result<Regex, BuildError> {
-        let config = definition.config;
-        let forward = build(definition.entry.forward(alloc), config)?;
-        let config = config
-            .match_kind(MatchKind::All)
-            .specialize_start_states(false);
-        let reverse = build(definition.entry.reverse(alloc), config)?;
-        Ok(Regex { forward, reverse })
-    }
+fn built(nfa: Result<NFA, NfaError>) -> Result<NFA, BuildError> {
+    nfa.map_err(|_| BuildError::OutOfMemory)
 }
 
-/// The automata of the catalogue are well formed, so only memory can be wanting.
-fn build(nfa: Result<NFA, NfaError>, config: Config) -> Result<DFA, BuildError> {
-    let nfa = nfa.map_err(|_| BuildError::OutOfMemory)?;
-    DFA::builder().configure(config).build_from_nfa(nfa)
-}
-
-/// A regex, and the cache of each direction that serves all requests.
+/// A regex, and the cache that serves all requests.
 #[derive(Drop)]
 struct Searcher<'r> {
     regex: &'r Regex,
-    forward: Cache,
-    reverse: Cache,
-    ghost of_forward: { IsCacheOf forward regex.now.forward },
-    ghost of_reverse: { IsCacheOf reverse regex.now.reverse },
+    cache: Cache,
+    ghost of: { AreCachesOf cache regex.now },
 }
 
 impl<'r> Searcher<'r> {
     fn new(regex: &'r Regex) -> Result<Searcher<'r>, AllocError> {
-        let forward = regex.forward.create_cache()?;
-        let reverse = regex.reverse.create_cache()?;
-        Ok(Searcher {
-            regex,
-            forward,
-            reverse,
-        })
+        let cache = regex.create_cache()?;
+        Ok(Searcher { regex, cache })
     }
 
-    /// Answers the requests in order, all over the same caches.
-    fn answer_all(&mut self, requests: &[Request], replies: &mut String) -> Result<(), RunError> {
+    /// Answers the requests in order, all over the same cache.
+    fn answer_all(
+        &mut self,
+        alloc: Global,
+        requests: &[Request],
+        replies: &mut String,
+    ) -> Result<(), RunError> {
         for request in requests {
-            let reply = self.answer(request);
+            let reply = self.answer(alloc, request);
             writeln!(replies, "{reply}")?;
         }
         Ok(())
     }
 
-    fn answer(&mut self, request: &Request) -> Reply {
-        let found = match request {
-            Request::Forward(query) => {
-                let dfa = &self.regex.forward;
-                dfa.try_search_fwd(&mut self.forward, &query.input())
+    fn answer(&mut self, alloc: Global, request: &Request) -> Reply {
+        match request {
+            Request::Forward(query) => self.search_forward(&query.input()),
+            Request::Reverse(query) => self.search_reverse(&query.input()),
+            Request::Find(query) => {
+                Reply::Span(self.regex.find(&mut self.cache, &query.input()))
             }
-            Request::Reverse(query) => {
-                let dfa = &self.regex.reverse;
-                dfa.try_search_rev(&mut self.reverse, &query.input())
+            Request::IsMatch(query) => {
+                Reply::Truth(self.regex.is_match(&mut self.cache, &query.input()))
             }
-        };
-        Reply::Half(found)
+            Request::Iterate(query) => self.iterate(alloc, query.input()),
+        }
     }
+
+    fn search_forward(&mut self, input: &Input<'_>) -> Reply {
+        let dfa = self.regex.forward();
+        Reply::Half(dfa.try_search_fwd(self.cache.forward_mut(), input))
+    }
+
+    fn search_reverse(&mut self, input: &Input<'_>) -> Reply {
+        let dfa = self.regex.reverse();
+        Reply::Half(dfa.try_search_rev(self.cache.reverse_mut(), input))
+    }
+
+    fn iterate(&mut self, alloc: Global, input: Input<'_>) -> Reply {
+        let mut found = Vec::new(alloc);
+        let error = list_matches(&mut found, self.regex, &mut self.cache, input).err();
+        Reply::Spans { found, error }
+    }
+}
+
+/// Lists the matches of an input, until an error. It may be that the list finds no memory.
+fn list_matches(
+    found: &mut Vec<Match>,
+    regex: &Regex,
+    cache: &mut Cache,
+    input: Input<'_>,
+) -> Result<(), SearchError>
+    requires { AreCachesOf cache.old regex.now }
+    ensures forward { IsCacheOf cache.new.forward regex.now.forward }
+    ensures reverse { IsCacheOf cache.new.reverse regex.now.reverse }
+{
+    for item in regex.find_iter(cache, input) {
+        found.push(item?)?;
+    }
+    Ok(())
 }

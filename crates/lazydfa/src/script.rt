@@ -29,6 +29,9 @@ pub struct Definition {
 pub enum Request {
     Forward(Query),
     Reverse(Query),
+    Find(Query),
+    IsMatch(Query),
+    Iterate(Query),
 }
 
 /// A haystack, and how it is to be searched.
@@ -94,15 +97,11 @@ impl Script {
         };
         match Keyword::spelled(*first) {
             Some(Keyword::Regex) => self.add_definition(rest),
-            Some(Keyword::Forward) => {
-                let query = Query::parse(alloc, rest)?;
-                self.add_request(Request::Forward(query))
+            Some(keyword) => {
+                let request = Request::parse(alloc, keyword, rest)?;
+                self.add_request(request)
             }
-            Some(Keyword::Reverse) => {
-                let query = Query::parse(alloc, rest)?;
-                self.add_request(Request::Reverse(query))
-            }
-            _ => Err(LineError::Bad),
+            None => Err(LineError::Bad),
         }
     }
 
@@ -128,6 +127,20 @@ impl Definition {
             config = configured(config, *option)?;
         }
         Some(Definition { entry, config })
+    }
+}
+
+impl Request {
+    fn parse(alloc: Global, keyword: Keyword, words: &[&[u8]]) -> Result<Request, LineError> {
+        let request = match keyword {
+            Keyword::Forward => Request::Forward(Query::parse(alloc, words)?),
+            Keyword::Reverse => Request::Reverse(Query::parse(alloc, words)?),
+            Keyword::Find => Request::Find(Query::parse(alloc, words)?),
+            Keyword::IsMatch => Request::IsMatch(Query::parse(alloc, words)?),
+            Keyword::Iterate => Request::Iterate(Query::parse(alloc, words)?),
+            _ => return Err(LineError::Bad),
+        };
+        Ok(request)
     }
 }
 

@@ -61,7 +61,7 @@ pub enum Call {
 }
 
 /// What a call tells.
-#[derive(Clone, Copy)]
+#[derive(Drop)]
 enum Told {
     Nothing,
     Found(Reply),

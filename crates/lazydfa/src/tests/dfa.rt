@@ -450,21 +450,32 @@ fn keep_a_progress<R: Abort>(rt: &R, cache: &mut Cache) {
 
 #[test]
 fn matches_always(rt: HostRuntime) -> Result<(), Fail> {
-    matches(&rt, DFA::always_match(rt.alloc()), "1, 0, half 0 1")
+    matches(
+        &rt,
+        DFA::always_match(rt.alloc()),
+        "1, 0, half 0 1, half 0 1",
+    )
 }
 
 #[test]
 fn matches_never(rt: HostRuntime) -> Result<(), Fail> {
-    matches(&rt, DFA::never_match(rt.alloc()), "0, 0, none")
+    matches(&rt, DFA::never_match(rt.alloc()), "0, 0, none, none")
 }
 
-/// How many patterns there are, the memory, and what a search from the first place to the second answers.
+/// How many patterns there are, the memory, and what searches from the first place to the second answer, of which
+/// one is over a part of a character.
 fn matches<R: Abort + AllocGlobal>(
     rt: &R,
     dfa: Result<DFA, BuildError>,
     told: &str,
 ) -> Result<(), Fail> {
-    let text = text_of(rt.alloc(), dfa, &[Patterns, Memory, FindIn("abc", 1, 2)])?;
+    let calls = [
+        Patterns,
+        Memory,
+        FindIn("abc", 1, 2),
+        FindIn("\u{2603}", 1, 2),
+    ];
+    let text = text_of(rt.alloc(), dfa, &calls)?;
     same_text(rt, text.as_str(), told, told);
     Ok(())
 }

@@ -15,6 +15,7 @@ mod classes;
 mod clears;
 mod config;
 mod dfa;
+mod exits;
 mod forward;
 mod memory;
 mod nfa;

@@ -42,6 +42,26 @@ const ANSWERED: &[(&str, &str)] = &[
     ),
     ("regex bound\nfwd 61\n", BOUND_REFUSED),
     (
+        "regex words\nfind 40666F6f20626172\nis 40666F6f20626172\niter 40666F6f20626172\n",
+        "regex 0\nmatch 1 0..4\ntrue\niter 1 0..4 0 5..8\n",
+    ),
+    (
+        "regex ab\nfind 61\nis 61\niter 61\n",
+        "regex 0\nnone\nfalse\niter\n",
+    ),
+    (
+        "regex runs quit=78\nfind 616278\nis 616278\niter 61623132786364\niter 61623178\n",
+        "regex 0\nquit 78 2\ntrue\niter 0 0..2 quit 78 4\niter quit 78 3\n",
+    ),
+    (
+        "regex ab\nfind 6162 pattern=0\nis 6162 pattern=0\niter 6162 pattern=0\n",
+        "regex 0\nunsupported\nunsupported\niter unsupported\n",
+    ),
+    (
+        "find 61\nis 61\niter -\n",
+        "bad regex\nbad regex\nbad regex\n",
+    ),
+    (
         "regex ab capacity=1735 limit=1\nfwd 6162\nfwd 6162\n",
         "regex 0\nhalf 0 2\nhalf 0 2\n",
     ),
@@ -119,6 +139,22 @@ const BAD: &[(&str, usize)] = &[
     ("rev 6162 span=0..3", 1),
     ("rev 6162 pattern=2147483647", 1),
     ("reverse 6162", 1),
+    ("find", 1),
+    ("find 616", 1),
+    ("find 6162 span=0..3", 1),
+    ("find 6162 find", 1),
+    ("is", 1),
+    ("is -6", 1),
+    ("is 6162 earliest=", 1),
+    ("iter", 1),
+    ("iter 6g", 1),
+    ("iter 6162 pattern=2147483647", 1),
+    ("regex ab iter", 1),
+    ("regex ab\nfind 6162\nregex aa\n", 3),
+    ("regex ab\niter 6162\nwalk fwd 6162\n", 3),
+    ("step 0", 1),
+    ("which 1 6162", 1),
+    ("reset 0", 1),
     ("regex ab\nrev 6162\nregex aa\n", 3),
     ("regex ab\nfwd 6162\nrev 6162 \n", 3),
 ];
@@ -147,6 +183,9 @@ const ALLOWED: &[&str] = &[
     "fwd 6162 anchored pattern=0 earliest anchored",
     "rev - span=1..0",
     "rev 6162 anchored pattern=0 earliest span=3..2",
+    "find 6162 anchored pattern=0 earliest span=3..2",
+    "is - span=1..0",
+    "iter 6162 earliest earliest span=0..0 span=2..2",
 ];
 
 #[test]
