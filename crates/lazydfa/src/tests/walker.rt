@@ -116,6 +116,15 @@ fn names(has: [bool; 4]) -> &'static str {
     }
 }
 
+/// Which of the first patterns a set has; the last stands for each that comes behind.
+fn firsts_of(set: &PatternSet) -> [bool; 4] {
+    let mut has = [false; 4];
+    for pattern in set.iter() {
+        has[pattern.as_usize().min(3)] = true;
+    }
+    has
+}
+
 /// A lazy automaton with three caches, of which calls use the first.
 #[derive(Drop)]
 pub struct Walker {
@@ -143,6 +152,32 @@ impl Walker {
 
     pub fn dfa(&self) -> &DFA {
         &self.dfa
+    }
+
+    /// All matches of a walk. Each call is made over another cache, after a search of the same input.
+    pub fn walk(&mut self, input: &Input<'_>, found: &mut Vec<HalfMatch>) -> Result<(), Fail> {
+        found.clear();
+        let mut walk = OverlappingState::start();
+        self.walk_on(input, &mut walk, found)
+    }
+
+    fn walk_on(
+        &mut self,
+        input: &Input<'_>,
+        walk: &mut OverlappingState,
+        found: &mut Vec<HalfMatch>,
+    ) -> Result<(), Fail>
+        requires { IsWalkOver self.old.dfa input.now walk.old }
+    {
+        for _call in 0..1000u32 {
+            self.find(input)?;
+            let Some(half) = self.next(input, walk)? else {
+                return Ok(());
+            };
+            found.push(half)?;
+            self.switch();
+        }
+        Err(Fail::from("a walk without end"))
     }
 
     /// Writes what the calls of a walk over this input tell, and those between them.
@@ -275,11 +310,19 @@ impl Walker {
         ensures { self.new.dfa ≡ self.old.dfa }
     {
         let filled = self.collect(input, set);
-        let mut has = [false; 4];
-        for pattern in set.iter() {
-            has[pattern.as_usize().min(3)] = true;
-        }
-        Told::Set(has, filled)
+        Told::Set(firsts_of(set), filled)
+    }
+
+    /// Which of the first patterns all matches have, as far as they are below a capacity.
+    pub fn patterns(
+        &mut self,
+        alloc: Global,
+        input: &Input<'_>,
+        capacity: usize,
+    ) -> Result<[bool; 4], Fail> {
+        let mut set = PatternSet::new(alloc, capacity)?;
+        self.collect(input, &mut set)?;
+        Ok(firsts_of(&set))
     }
 
     /// Adds the patterns of all matches to a set.
