@@ -28,6 +28,7 @@ mod states;
 mod steps;
 mod tells;
 mod texts;
+mod walk_memory;
 mod walk_paths;
 mod walker;
 mod walks;
