@@ -1,4 +1,9 @@
+pub use Rattle.automata_base.specs.Input
+pub use Rattle.automata_base.specs.Tapes
 pub use Rattle.automata_hybrid.specs.Caches
+pub use Rattle.automata_hybrid.specs.Machine
+pub use Rattle.automata_hybrid.specs.Walking
+pub use Rattle.automata_hybrid.specs.Walks
 pub mod SoundPairs
 pub mod Outcomes
 pub mod RegexBuilds

@@ -208,7 +208,7 @@ fn tells_each_refused_growth_in_reverse(rt: HostRuntime) -> Result<(), Fail> {
 
 /// A call that can be refused memory.
 #[derive(Clone, Copy, PartialEq, Eq)]
-enum Part {
+pub enum Part {
     Door,
     Create,
     Start,
@@ -216,19 +216,54 @@ enum Part {
     Clear,
     Search,
     Reset,
+    Walk,
+    Set,
+    /// A search for a set that has got some patterns.
+    Rest,
 }
 
 /// All memory but what a turn lends, in blocks, and which calls were refused in the turns so far.
 #[derive(Drop)]
-struct Turns {
+pub struct Turns {
     blocks: Vec<Vec<u8>>,
     lent: usize,
     refused: Vec<Part>,
 }
 
 impl Turns {
+    pub fn new(alloc: Global) -> Result<Turns, Fail> {
+        let mut turns = Turns {
+            blocks: Vec::with_capacity(alloc, 1 << 14)?,
+            lent: 1040,
+            refused: Vec::with_capacity(alloc, 8)?,
+        };
+        for _ in 0..512u32 {
+            turns.blocks.push(Vec::with_capacity(alloc, ROOM)?)?;
+        }
+        exhaust(alloc);
+        Ok(turns)
+    }
+
+    /// From here on there is memory.
+    pub fn release(&mut self) {
+        self.blocks.clear();
+    }
+
+    /// The next turn lends more.
+    pub fn lend_more(&mut self) {
+        self.lent = self.lent.saturating_add(16);
+    }
+
+    /// Whether each of these calls was refused in some turn.
+    pub fn have_refused(&self, calls: &[Part]) -> Result<(), Fail> {
+        for call in calls {
+            check(self.refused.contains(call))?;
+        }
+        Ok(())
+    }
+
     /// Takes all memory, and then lends some.
-    fn lend(&mut self, alloc: Global) -> Result<(), AllocError> {
+    pub fn lend(&mut self, alloc: Global) -> Result<(), AllocError> {
         self.blocks.clear();
         let lent = Vec::<u8>::with_capacity(alloc, self.lent)?;
         let mut size = ROOM;
@@ -256,7 +291,7 @@ impl Turns {
     }
 
     /// A call is refused: from here on there is memory.
-    fn refuse(&mut self, call: Part) -> Result<(), AllocError> {
+    pub fn refuse(&mut self, call: Part) -> Result<(), AllocError> {
         self.blocks.clear();
         if !self.refused.contains(&call) {
             self.refused.push(call)?;
@@ -347,7 +382,7 @@ fn search_short(
     check(is_right && bench.clears_and_memory().1 == want.2)
 }
 
-fn check(is_right: bool) -> Result<(), Fail> {
+pub fn check(is_right: bool) -> Result<(), Fail> {
     if is_right {
         Ok(())
     } else {
@@ -403,24 +438,13 @@ fn step_short(bench: &mut Bench, turns: &mut Turns) -> Result<(), Fail> {
 /// Works while what is lent of memory rises by sixteen bytes a turn, so that each growth is the
 /// refused one in some turn, and looks whether all of these calls were refused.
 fn refuse_in_turn(alloc: Global, work: Work, most: usize, calls: &[Part]) -> Result<(), Fail> {
-    let mut turns = Turns {
-        blocks: Vec::with_capacity(alloc, 1 << 14)?,
-        lent: 1040,
-        refused: Vec::with_capacity(alloc, 8)?,
-    };
-    for _ in 0..512u32 {
-        turns.blocks.push(Vec::with_capacity(alloc, ROOM)?)?;
-    }
-    exhaust(alloc);
+    let mut turns = Turns::new(alloc)?;
     for _ in 0..most / 16 {
         turns.lend(alloc)?;
         work.run(alloc, &mut turns)?;
-        turns.lent = turns.lent.saturating_add(16);
+        turns.lend_more();
     }
-    for call in calls {
-        check(turns.refused.contains(call))?;
-    }
-    Ok(())
+    turns.have_refused(calls)
 }
 
 #[test]

@@ -29,6 +29,10 @@ mod states;
 mod steps;
 mod tells;
 mod texts;
+mod walk_memory;
+mod walk_paths;
+mod walker;
+mod walks;
 
 /// A reader over memory that takes few bytes a call and fails at a chosen call, counted from 1.
 #[derive(Drop)]

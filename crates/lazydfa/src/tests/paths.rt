@@ -47,7 +47,7 @@ fn answer(nfa: &NFA, kind: MatchKind, input: &Input<'_>) -> Result<Option<HalfMa
 }
 
 /// Whether a place is inside a character.
-fn splits(haystack: &[u8], place: usize) -> bool {
+pub fn splits(haystack: &[u8], place: usize) -> bool {
     haystack
         .get(place)
         .is_some_and(|byte| 0x80 <= *byte && *byte <= 0xBF)
@@ -80,7 +80,7 @@ fn select(nfa: &NFA, kind: MatchKind, input: &Input<'_>) -> Result<Option<HalfMa
 }
 
 /// The patterns and ends of all accepting paths, in the order of the paths.
-fn accepting(nfa: &NFA, input: &Input<'_>) -> Result<Vec<HalfMatch>, AllocError> {
+pub fn accepting(nfa: &NFA, input: &Input<'_>) -> Result<Vec<HalfMatch>, AllocError> {
     let mut found = Vec::new(nfa.alloc());
     let mut open = begun(nfa, input)?;
     for _ in 0..1_000_000u32 {
@@ -220,7 +220,7 @@ fn is_word(byte: Option<u8>) -> bool {
 
 /// Three pieces to make haystacks of. The first two are of different classes, where not all bytes are
 /// of one.
-type Pieces = [&'static [u8]; 3];
+pub type Pieces = [&'static [u8]; 3];
 
 #[test]
 fn ab_finds_its_paths(rt: HostRuntime) -> Result<(), Fail> {
@@ -308,7 +308,7 @@ fn a16_finds_its_paths(rt: HostRuntime) -> Result<(), Fail> {
 }
 
 /// The entries in UTF-8 mode, with whole characters.
-const CHARACTERS: &[(Entry, Pieces)] = &[
+pub const CHARACTERS: &[(Entry, Pieces)] = &[
     (Entry::Empty, [b"a", b"\xE2\x98\x83", b"\xC3\xA9"]),
     (Entry::Snow, [b"a", b"\xE2\x98\x83", b"x"]),
     (Entry::Snowx, [b"x", b"\xE2\x98\x83", b"a"]),
@@ -412,7 +412,7 @@ fn finds<R: Abort>(
 
 /// The pieces that the digits of a number to the base of their count stand for, the last digit
 /// first.
-fn spell(
+pub fn spell(
     alloc: Global,
     number: usize,
     length: usize,
@@ -434,7 +434,7 @@ fn digit<'a>(number: usize, pieces: &[&'a [u8]]) -> &'a [u8] {
 }
 
 /// The whole haystack, anchored or earliest or both.
-fn modes(haystack: &[u8]) -> [Input<'_>; 4] {
+pub fn modes(haystack: &[u8]) -> [Input<'_>; 4] {
     [
         Input::new(haystack).earliest(true),
         Input::new(haystack).anchored(Anchored::Yes),

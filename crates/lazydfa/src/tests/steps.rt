@@ -9,7 +9,7 @@ use Call::{Brief, End, Known, Matched, Start, StartOf, State, Step, Steps, Walk}
 use std::test::Fail;
 
 /// Two ways to one pattern.
-const TWICE: Plan = Plan {
+pub const TWICE: Plan = Plan {
     states: &[Shape::Either(1, 2), Shape::Accept(0), Shape::Accept(0)],
     starts: (0, 0),
     patterns: &[0],

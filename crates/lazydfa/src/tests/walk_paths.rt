@@ -1,0 +1,273 @@
+//! Walks and sets of the lazy automaton beside the paths of the automaton, listed one by one. Each
+//! call of a walk is made over another cache, with a search of the same input between.
+
+use super::paths::{CHARACTERS, Pieces, accepting, modes, spell, splits};
+use super::same_of;
+use super::walker::Walker;
+use crate::catalogue::Entry;
+use regex_automata::hybrid::dfa::{Config, DFA};
+use regex_automata::nfa::thompson::NFA;
+use regex_automata::util::search::{HalfMatch, Input, MatchKind};
+use std::alloc::{AllocError, Global};
+use std::process::Abort;
+use std::test::Fail;
+
+/// Under kind all the pairs of pattern and end of the accepting paths, each once, by place and then
+/// by its first path. Leftmost first, at each place the first path that ends there, where it comes
+/// before every path that ends at a place before. Then without the places that split a character,
+/// where those are passed.
+fn list(
+    nfa: &NFA,
+    kind: MatchKind,
+    input: &Input<'_>,
+    pairs: &mut Vec<HalfMatch>,
+) -> Result<(), AllocError> {
+    pairs.clear();
+    let paths = accepting(nfa, input)?;
+    let haystack = input.haystack();
+    let mut least = paths.len();
+    for step in 0..haystack.len() + 1 {
+        let place = if nfa.is_reverse() {
+            haystack.len() - step
+        } else {
+            step
+        };
+        let is_passed = nfa.is_utf8() && nfa.has_empty() && splits(haystack, place);
+        least = list_at(paths.as_slice(), kind, (place, is_passed), least, pairs)?;
+    }
+    Ok(())
+}
+
+/// The pairs of one place, unless it is passed. The least number of a path that ends before goes
+/// in, and comes out with those that end here.
+fn list_at(
+    paths: &[HalfMatch],
+    kind: MatchKind,
+    (place, is_passed): (usize, bool),
+    before: usize,
+    pairs: &mut Vec<HalfMatch>,
+) -> Result<usize, AllocError> {
+    let mut least = before;
+    for (number, path) in paths.iter().enumerate() {
+        if path.offset() != place {
+            continue;
+        }
+        let is_told = match kind {
+            MatchKind::All => !pairs.contains(path),
+            MatchKind::LeftmostFirst => number < least,
+        };
+        if is_told && !is_passed {
+            pairs.push(*path)?;
+        }
+        least = least.min(number);
+    }
+    Ok(least)
+}
+
+/// Which of the first patterns the pairs have, or the first pair alone, below a capacity.
+fn patterns_of(pairs: &[HalfMatch], is_first_alone: bool, capacity: usize) -> [bool; 4] {
+    let mut has = [false; 4];
+    for pair in pairs {
+        let pattern = pair.pattern().as_usize();
+        if pattern < capacity {
+            has[pattern.min(3)] = true;
+        }
+        if is_first_alone {
+            break;
+        }
+    }
+    has
+}
+
+/// What is compared: an entry's automaton in one direction, of one kind, with caches of the least
+/// capacity and of an ample one.
+#[derive(Drop)]
+struct Listed {
+    entry: Entry,
+    tight: Walker,
+    ample: Walker,
+    want: Vec<HalfMatch>,
+    found: Vec<HalfMatch>,
+}
+
+impl Listed {
+    /// All haystacks of up to six of the first two pieces, and of up to four of all three, that have
+    /// no more than eight bytes.
+    fn compare_all<R: Abort + AllocGlobal>(&mut self, rt: &R, pieces: Pieces) -> Result<(), Fail> {
+        for (choices, lengths) in [(2usize, 7usize), (3, 5)] {
+            let mut count = 1usize;
+            for length in 0..lengths {
+                for number in 0..count {
+                    let haystack = spell(rt.alloc(), number, length, &pieces[..choices])?;
+                    if haystack.len() <= 8 {
+                        self.compare_haystack(rt, haystack.as_slice())?;
+                    }
+                }
+                count = count.saturating_mul(choices);
+            }
+        }
+        Ok(())
+    }
+
+    /// Every span of a haystack, and the whole of it in each other mode.
+    fn compare_haystack<R: Abort + AllocGlobal>(
+        &mut self,
+        rt: &R,
+        haystack: &[u8],
+    ) -> Result<(), Fail> {
+        for end in 0..haystack.len() + 1 {
+            for start in 0..end + 1 {
+                self.compare(rt, &Input::new(haystack).range(start..end))?;
+                self.compare(rt, &Input::new(haystack).range(start..end).earliest(true))?;
+            }
+        }
+        for input in modes(haystack) {
+            self.compare(rt, &input)?;
+        }
+        Ok(())
+    }
+
+    fn compare<R: Abort + AllocGlobal>(&mut self, rt: &R, input: &Input<'_>) -> Result<(), Fail> {
+        let dfa = self.ample.dfa();
+        let kind = dfa.get_config().get_match_kind();
+        let is_reverse = dfa.get_nfa().is_reverse();
+        list(dfa.get_nfa(), kind, input, &mut self.want)?;
+        let of = (self.entry, kind, input);
+        self.ample.walk(input, &mut self.found)?;
+        same_of(rt, &self.found.as_slice(), &self.want.as_slice(), &of);
+        self.tight.walk(input, &mut self.found)?;
+        same_of(rt, &self.found.as_slice(), &self.want.as_slice(), &of);
+        if is_reverse {
+            return Ok(());
+        }
+        self.compare_sets(rt, input)
+    }
+
+    fn compare_sets<R: Abort + AllocGlobal>(
+        &mut self,
+        rt: &R,
+        input: &Input<'_>,
+    ) -> Result<(), Fail> {
+        for capacity in 1..3usize {
+            let want = patterns_of(self.want.as_slice(), input.get_earliest(), capacity);
+            let of = (self.entry, capacity, input);
+            let found = self.ample.patterns(rt.alloc(), input, capacity)?;
+            same_of(rt, &found, &want, &of);
+            let found = self.tight.patterns(rt.alloc(), input, capacity)?;
+            same_of(rt, &found, &want, &of);
+        }
+        Ok(())
+    }
+}
+
+fn prepare(alloc: Global, entry: Entry, nfa: NFA, kind: MatchKind) -> Result<Listed, Fail> {
+    let config = Config::new()
+        .match_kind(kind)
+        .unicode_word_boundary(true)
+        .starts_for_each_pattern(true);
+    let least = config.cache_capacity(0).skip_cache_capacity_check(true);
+    let tight = walker(nfa.clone()?, least)?;
+    let ample = walker(nfa, config)?;
+    Ok(Listed {
+        entry,
+        tight,
+        ample,
+        want: Vec::new(alloc),
+        found: Vec::new(alloc),
+    })
+}
+
+fn walker(nfa: NFA, config: Config) -> Result<Walker, Fail> {
+    let dfa = DFA::builder().configure(config).build_from_nfa(nfa)?;
+    Ok(Walker::new(dfa)?)
+}
+
+/// Walks of both kinds in both directions tell what the listed paths of each entry say.
+fn agree<R: Abort + AllocGlobal>(rt: &R, entries: &[(Entry, Pieces)]) -> Result<(), Fail> {
+    for (entry, pieces) in entries.iter().copied() {
+        for kind in [MatchKind::LeftmostFirst, MatchKind::All] {
+            compare(rt, entry, entry.forward(rt.alloc())?, kind, pieces)?;
+            compare(rt, entry, entry.reverse(rt.alloc())?, kind, pieces)?;
+        }
+    }
+    Ok(())
+}
+
+fn compare<R: Abort + AllocGlobal>(
+    rt: &R,
+    entry: Entry,
+    nfa: NFA,
+    kind: MatchKind,
+    pieces: Pieces,
+) -> Result<(), Fail> {
+    let mut listed = prepare(rt.alloc(), entry, nfa, kind)?;
+    listed.compare_all(rt, pieces)
+}
+
+const LITERALS: &[(Entry, Pieces)] = &[
+    (Entry::Ab, [b"a", b"b", b"x"]),
+    (Entry::Aa, [b"a", b"b", b"x"]),
+    (Entry::A16, [b"a", b"b", b"x"]),
+    (Entry::Date, [b"0", b"-", b"x"]),
+];
+
+const EMPTY: &[(Entry, Pieces)] = &[
+    (Entry::Always, [b"a", b"b", b"x"]),
+    (Entry::Never, [b"a", b"b", b"x"]),
+    (Entry::Empty, [b"a", b"\x98", b"\xE2"]),
+    (Entry::Any, [b"a", b"\x98", b"\xE2"]),
+];
+
+const REPEATED: &[(Entry, Pieces)] = &[
+    (Entry::Abc, [b"a", b"b", b"c"]),
+    (Entry::Runs, [b"a", b"1", b" "]),
+];
+
+const WORDS: &[(Entry, Pieces)] = &[(Entry::Words, [b"a", b"!", b" "])];
+
+const LOOKS: &[(Entry, Pieces)] = &[
+    (Entry::Bnum, [b"1", b"a", b" "]),
+    (Entry::Wordend, [b"a", b" ", b"_"]),
+    (Entry::Bound, [b"a", b" ", b"_"]),
+    (Entry::Crlf, [b"\r", b"\n", b"a"]),
+];
+
+const SPLIT: &[(Entry, Pieces)] = &[
+    (Entry::Snow, [b"a", b"\x98", b" "]),
+    (Entry::Snowx, [b"x", b"\x98", b" "]),
+];
+
+#[test]
+fn literals_walk_their_paths(rt: HostRuntime) -> Result<(), Fail> {
+    agree(&rt, LITERALS)
+}
+
+#[test]
+fn empty_matches_walk_their_paths(rt: HostRuntime) -> Result<(), Fail> {
+    agree(&rt, EMPTY)
+}
+
+#[test]
+fn repetitions_walk_their_paths(rt: HostRuntime) -> Result<(), Fail> {
+    agree(&rt, REPEATED)
+}
+
+#[test]
+fn words_walk_their_paths(rt: HostRuntime) -> Result<(), Fail> {
+    agree(&rt, WORDS)
+}
+
+#[test]
+fn looks_walk_their_paths(rt: HostRuntime) -> Result<(), Fail> {
+    agree(&rt, LOOKS)
+}
+
+#[test]
+fn characters_walk_their_paths(rt: HostRuntime) -> Result<(), Fail> {
+    agree(&rt, SPLIT)
+}
+
+#[test]
+fn whole_characters_walk_their_paths(rt: HostRuntime) -> Result<(), Fail> {
+    agree(&rt, CHARACTERS)
+}

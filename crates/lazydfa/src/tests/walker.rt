@@ -1,0 +1,360 @@
+//! Overlapping walks and sets of patterns over one lazy automaton and three caches of it.
+
+ghost use Rattle.std.specs.Prelude.{◌≡◌};
+ghost use Rattle.lazydfa.specs.Walks.{IsWalkOver};
+ghost use Rattle.regex_automata.specs.Caches.{IsCacheOf};
+
+use super::exhaust;
+use super::plans::pattern_id;
+use crate::reply::Reply;
+use regex_automata::hybrid::SearchError;
+use regex_automata::hybrid::dfa::{Cache, DFA, OverlappingState};
+use regex_automata::util::search::{Anchored, HalfMatch, Input, PatternSet};
+use std::alloc::{AllocError, Global};
+use std::fmt::Write;
+use std::test::Fail;
+use std::{fmt, mem};
+
+/// What is walked over.
+#[derive(Clone, Copy)]
+pub enum Over {
+    Text(&'static str),
+    /// A haystack from a place to a place.
+    Span(&'static str, usize, usize),
+    Anchored(&'static str),
+    Pattern(&'static str, u8),
+    Earliest(&'static str),
+}
+
+impl Over {
+    pub fn input(self) -> Input<'static> {
+        match self {
+            Over::Text(haystack) => Input::new(haystack.as_bytes()),
+            Over::Span(haystack, start, end) => {
+                let input = Input::new(haystack.as_bytes());
+                if input.allows(start, end) {
+                    input.range(start..end)
+                } else {
+                    input
+                }
+            }
+            Over::Anchored(haystack) => Input::new(haystack.as_bytes()).anchored(Anchored::Yes),
+            Over::Pattern(haystack, number) => {
+                Input::new(haystack.as_bytes()).anchored(Anchored::Pattern(pattern_id(number)))
+            }
+            Over::Earliest(haystack) => Input::new(haystack.as_bytes()).earliest(true),
+        }
+    }
+}
+
+/// A call.
+#[derive(Clone, Copy)]
+pub enum Turn {
+    /// The walk's next.
+    Next,
+    /// Begins the walk anew.
+    Begin,
+    /// What the walk has found last.
+    Match,
+    /// The patterns of all matches, in a set of this capacity.
+    Which(usize),
+    /// The same in a set of this capacity that has a pattern.
+    Join(usize, u8),
+    /// A plain search of another haystack.
+    Find(&'static str),
+    /// Goes on over the next of the three caches.
+    Switch,
+    Reset,
+    /// How often the cache was cleared, its memory, and the bytes searched.
+    Counts,
+    /// Takes all memory that is left.
+    Exhaust,
+    /// Whether a byte of memory is left.
+    Room,
+}
+
+/// What a call tells.
+#[derive(Clone, Copy)]
+enum Told {
+    Nothing,
+    NoMemory,
+    Found(Reply),
+    /// Which of the first four patterns a set has, and why it has no more, if that was refused.
+    Set([bool; 4], Result<(), SearchError>),
+    Counts(usize, usize, usize),
+    Flag(bool),
+}
+
+impl fmt::Display for Told {
+    fn fmt<W: fmt::Write>(&self, f: &mut fmt::Formatter<W>) -> fmt::Result {
+        match self {
+            Told::Nothing => write!(f, "-"),
+            Told::NoMemory => write!(f, "out of memory"),
+            Told::Found(reply) => write!(f, "{reply}"),
+            Told::Set(has, Ok(())) => write!(f, "{}", names(*has)),
+            Told::Set(has, Err(error)) => {
+                write!(f, "{} {}", Reply::Half(Err(*error)), names(*has))
+            }
+            Told::Counts(clears, memory, searched) => write!(f, "{clears} {memory} {searched}"),
+            Told::Flag(yes) => write!(f, "{yes}"),
+        }
+    }
+}
+
+/// A set of some of the first three patterns.
+fn names(has: [bool; 4]) -> &'static str {
+    match has {
+        [false, false, false, false] => "{}",
+        [true, false, false, false] => "{0}",
+        [false, true, false, false] => "{1}",
+        [true, true, false, false] => "{0 1}",
+        [false, false, true, false] => "{2}",
+        [true, false, true, false] => "{0 2}",
+        [false, true, true, false] => "{1 2}",
+        [true, true, true, false] => "{0 1 2}",
+        _ => "a pattern past these",
+    }
+}
+
+/// Which of the first patterns a set has; the last stands for each that comes behind.
+fn firsts_of(set: &PatternSet) -> [bool; 4] {
+    let mut has = [false; 4];
+    for pattern in set.iter() {
+        has[pattern.as_usize().min(3)] = true;
+    }
+    has
+}
+
+/// A lazy automaton with three caches, of which calls use the first.
+#[derive(Drop)]
+pub struct Walker {
+    dfa: DFA,
+    first: Cache,
+    second: Cache,
+    third: Cache,
+    ghost first_of: { IsCacheOf first dfa },
+    ghost second_of: { IsCacheOf second dfa },
+    ghost third_of: { IsCacheOf third dfa },
+}
+
+impl Walker {
+    pub fn new(dfa: DFA) -> Result<Walker, AllocError> {
+        match (dfa.create_cache(), dfa.create_cache(), dfa.create_cache()) {
+            (Ok(first), Ok(second), Ok(third)) => Ok(Walker {
+                dfa,
+                first,
+                second,
+                third,
+            }),
+            _ => Err(AllocError),
+        }
+    }
+
+    pub fn dfa(&self) -> &DFA {
+        &self.dfa
+    }
+
+    /// All matches of a walk. Each call is made over another cache, after a search of the same input.
+    pub fn walk(&mut self, input: &Input<'_>, found: &mut Vec<HalfMatch>) -> Result<(), Fail> {
+        found.clear();
+        let mut walk = OverlappingState::start();
+        self.walk_on(input, &mut walk, found)
+    }
+
+    fn walk_on(
+        &mut self,
+        input: &Input<'_>,
+        walk: &mut OverlappingState,
+        found: &mut Vec<HalfMatch>,
+    ) -> Result<(), Fail>
+        requires { IsWalkOver self.old.dfa input.now walk.old }
+    {
+        for _call in 0..1000u32 {
+            self.find(input)?;
+            let Some(half) = self.next(input, walk)? else {
+                return Ok(());
+            };
+            found.push(half)?;
+            self.switch();
+        }
+        Err(Fail::from("a walk without end"))
+    }
+
+    /// Writes what the calls of a walk over this input tell, and those between them.
+    pub fn tell_all(
+        &mut self,
+        alloc: Global,
+        input: &Input<'_>,
+        turns: &[Turn],
+        text: &mut String,
+    ) -> Result<(), Fail> {
+        let mut walk = OverlappingState::start();
+        self.tell_turns(alloc, input, turns, &mut walk, text)
+    }
+
+    fn tell_turns(
+        &mut self,
+        alloc: Global,
+        input: &Input<'_>,
+        turns: &[Turn],
+        walk: &mut OverlappingState,
+        text: &mut String,
+    ) -> Result<(), Fail>
+        requires { IsWalkOver self.old.dfa input.now walk.old }
+    {
+        for turn in turns {
+            let told = self.answer(alloc, input, *turn, walk);
+            if !text.is_empty() {
+                text.push_str(", ")?;
+            }
+            write!(text, "{told}")?;
+        }
+        Ok(())
+    }
+
+    fn answer(
+        &mut self,
+        alloc: Global,
+        input: &Input<'_>,
+        turn: Turn,
+        walk: &mut OverlappingState,
+    ) -> Told
+        requires { IsWalkOver self.old.dfa input.now walk.old }
+        ensures { IsWalkOver self.new.dfa input.now walk.new }
+    {
+        match turn {
+            Turn::Next => Told::Found(Reply::Half(self.next(input, walk))),
+            Turn::Begin => {
+                *walk = OverlappingState::start();
+                Told::Nothing
+            }
+            Turn::Match => Told::Found(Reply::Half(Ok(walk.get_match()))),
+            Turn::Which(capacity) => self.which(alloc, input, capacity, None),
+            Turn::Join(capacity, pattern) => self.which(alloc, input, capacity, Some(pattern)),
+            Turn::Find(haystack) => {
+                Told::Found(Reply::Half(self.find(&Input::new(haystack.as_bytes()))))
+            }
+            Turn::Switch => {
+                self.switch();
+                Told::Nothing
+            }
+            Turn::Reset => self.reset(),
+            Turn::Counts => self.counts(),
+            Turn::Exhaust => {
+                exhaust(alloc);
+                Told::Nothing
+            }
+            Turn::Room => Told::Flag(Vec::<u8>::with_capacity(alloc, 1).is_ok()),
+        }
+    }
+
+    /// One call of a walk, and the match that it then has.
+    pub fn next(
+        &mut self,
+        input: &Input<'_>,
+        walk: &mut OverlappingState,
+    ) -> Result<Option<HalfMatch>, SearchError>
+        requires { IsWalkOver self.old.dfa input.now walk.old }
+        ensures dfa { self.new.dfa ≡ self.old.dfa }
+        ensures walk { IsWalkOver self.new.dfa input.now walk.new }
+    {
+        self.step(input, walk)?;
+        Ok(walk.get_match())
+    }
+
+    /// One call of a walk.
+    fn step(&mut self, input: &Input<'_>, walk: &mut OverlappingState) -> Result<(), SearchError>
+        requires { IsWalkOver self.old.dfa input.now walk.old }
+        ensures dfa { self.new.dfa ≡ self.old.dfa }
+        ensures walk { IsWalkOver self.new.dfa input.now walk.new }
+    {
+        if self.dfa.get_nfa().is_reverse() {
+            self.dfa
+                .try_search_overlapping_rev(&mut self.first, input, walk)
+        } else {
+            self.dfa
+                .try_search_overlapping_fwd(&mut self.first, input, walk)
+        }
+    }
+
+    /// Searches in the direction of the automaton.
+    pub fn find(&mut self, input: &Input<'_>) -> Result<Option<HalfMatch>, SearchError>
+        ensures { self.new.dfa ≡ self.old.dfa }
+    {
+        if self.dfa.get_nfa().is_reverse() {
+            self.dfa.try_search_rev(&mut self.first, input)
+        } else {
+            self.dfa.try_search_fwd(&mut self.first, input)
+        }
+    }
+
+    fn which(
+        &mut self,
+        alloc: Global,
+        input: &Input<'_>,
+        capacity: usize,
+        given: Option<u8>,
+    ) -> Told
+        ensures { self.new.dfa ≡ self.old.dfa }
+    {
+        let Ok(mut set) = PatternSet::new(alloc, capacity) else {
+            return Told::NoMemory;
+        };
+        if let Some(pattern) = given {
+            let _ = set.try_insert(pattern_id(pattern));
+        }
+        self.fill(input, &mut set)
+    }
+
+    fn fill(&mut self, input: &Input<'_>, set: &mut PatternSet) -> Told
+        ensures { self.new.dfa ≡ self.old.dfa }
+    {
+        let filled = self.collect(input, set);
+        Told::Set(firsts_of(set), filled)
+    }
+
+    /// Which of the first patterns all matches have, as far as they are below a capacity.
+    pub fn patterns(
+        &mut self,
+        alloc: Global,
+        input: &Input<'_>,
+        capacity: usize,
+    ) -> Result<[bool; 4], Fail> {
+        let mut set = PatternSet::new(alloc, capacity)?;
+        self.collect(input, &mut set)?;
+        Ok(firsts_of(&set))
+    }
+
+    /// Adds the patterns of all matches to a set.
+    pub fn collect(&mut self, input: &Input<'_>, set: &mut PatternSet) -> Result<(), SearchError>
+        ensures { self.new.dfa ≡ self.old.dfa }
+    {
+        self.dfa
+            .try_which_overlapping_matches(&mut self.first, input, set)
+    }
+
+    /// Puts the next of the three caches first.
+    pub fn switch(&mut self)
+        ensures { self.new.dfa ≡ self.old.dfa }
+    {
+        mem::swap(&mut self.first, &mut self.second);
+        mem::swap(&mut self.second, &mut self.third);
+    }
+
+    fn reset(&mut self) -> Told
+        ensures { self.new.dfa ≡ self.old.dfa }
+    {
+        match self.dfa.reset_cache(&mut self.first) {
+            Ok(()) => Told::Nothing,
+            Err(AllocError) => Told::NoMemory,
+        }
+    }
+
+    fn counts(&self) -> Told {
+        Told::Counts(
+            self.first.clear_count(),
+            self.first.memory_usage(),
+            self.first.search_total_len(),
+        )
+    }
+}
