@@ -212,7 +212,9 @@ impl DFA {
         requires valid { IsValid cache.now.store.table id }
         ensures value { result ≡ cell_of cache.now.store id (class_in self.now.classes byte) }
         ensures quit { is_quit self.now.quits byte ≡ true → result ≡ quit_id self.now.stride }
-        ensures named { is_quit self.now.quits byte ≡ false → result < unknown_id → (q : Powerset) → Names cache.now.store.table id q → Leads cache.now.store.table result (successor self.now.nfa self.now.kind q (Some byte)) }
+        ensures named { is_quit self.now.quits byte ≡ false → result < unknown_id
+            → (q : Powerset) → Names cache.now.store.table id q
+            → Leads cache.now.store.table result (successor self.now.nfa self.now.kind q (Some byte)) }
         ensures row { result < unknown_id → HasRow cache.now.store.table result }
     {
         cache.see_state(id);

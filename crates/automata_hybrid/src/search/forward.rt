@@ -231,7 +231,9 @@ impl DFA {
         requires within { start ≤ input.now.end }
         ensures from { start ≤ result.at }
         ensures within { result.at ≤ input.now.end }
-        ensures led { Names cache.now.store.table from (state_in Forward self.now input.now (start - input.now.start)) → IsLed Forward self.now cache.now.store input.now (start - input.now.start) (result.at - input.now.start) result.id }
+        ensures led { Names cache.now.store.table from (state_in Forward self.now input.now (start - input.now.start))
+            → IsLed Forward self.now cache.now.store input.now
+            (start - input.now.start) (result.at - input.now.start) result.id }
         ensures tells { start < result.at → IsBitSet result.id 27 }
     {
         self.see_classes();
@@ -253,8 +255,8 @@ impl DFA {
         Stop { at, id }
     }
 
-    /// Follows known transitions as far as they tell nothing, and then into states that have patterns: the last of these
-    /// is asked for its pattern. An earliest search follows the first ones alone.
+    /// Follows known transitions as far as they tell nothing, and then into states that have patterns: the last of
+    /// these is asked for its pattern. An earliest search follows the first ones alone.
     fn run_fwd(
         &self,
         cache: &Cache,
@@ -269,8 +271,10 @@ impl DFA {
         requires at { IsAt Forward self.now cache.now.store.table input.now (start - input.now.start) from found }
         ensures from { start ≤ result.at }
         ensures within { result.at ≤ input.now.end }
-        ensures at { IsAt Forward self.now cache.now.store.table input.now (result.at - input.now.start) result.id result.found }
-        ensures learned { HasLearned Forward self.now cache.now.store input.now (start - input.now.start) → HasLearned Forward self.now cache.now.store input.now (result.at - input.now.start) }
+        ensures at { IsAt Forward self.now cache.now.store.table input.now
+            (result.at - input.now.start) result.id result.found }
+        ensures learned { HasLearned Forward self.now cache.now.store input.now (start - input.now.start)
+            → HasLearned Forward self.now cache.now.store input.now (result.at - input.now.start) }
     {
         let quiet = self.follow_fwd(cache, input, start, from);
         if input.get_earliest() {

@@ -206,7 +206,9 @@ impl DFA {
         requires within { start ≤ input.now.end }
         ensures from { input.now.start ≤ result.at }
         ensures within { result.at ≤ start }
-        ensures led { Names cache.now.store.table from (state_in Backward self.now input.now (input.now.end - start)) → IsLed Backward self.now cache.now.store input.now (input.now.end - start) (input.now.end - result.at) result.id }
+        ensures led { Names cache.now.store.table from (state_in Backward self.now input.now (input.now.end - start))
+            → IsLed Backward self.now cache.now.store input.now
+            (input.now.end - start) (input.now.end - result.at) result.id }
         ensures tells { result.at < start → IsBitSet result.id 27 }
     {
         self.see_classes();
@@ -228,8 +230,8 @@ impl DFA {
         Stop { at, id }
     }
 
-    /// Follows known transitions as far as they tell nothing, and then into states that have patterns: the last of these
-    /// is asked for its pattern. An earliest search follows the first ones alone.
+    /// Follows known transitions as far as they tell nothing, and then into states that have patterns: the last of
+    /// these is asked for its pattern. An earliest search follows the first ones alone.
     fn run_rev(
         &self,
         cache: &Cache,
@@ -244,8 +246,10 @@ impl DFA {
         requires at { IsAt Backward self.now cache.now.store.table input.now (input.now.end - start) from found }
         ensures from { input.now.start ≤ result.at }
         ensures within { result.at ≤ start }
-        ensures at { IsAt Backward self.now cache.now.store.table input.now (input.now.end - result.at) result.id result.found }
-        ensures learned { HasLearned Backward self.now cache.now.store input.now (input.now.end - start) → HasLearned Backward self.now cache.now.store input.now (input.now.end - result.at) }
+        ensures at { IsAt Backward self.now cache.now.store.table input.now
+            (input.now.end - result.at) result.id result.found }
+        ensures learned { HasLearned Backward self.now cache.now.store input.now (input.now.end - start)
+            → HasLearned Backward self.now cache.now.store input.now (input.now.end - result.at) }
     {
         let quiet = self.follow_rev(cache, input, start, from);
         if input.get_earliest() {
