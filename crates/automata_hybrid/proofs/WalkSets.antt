@@ -1,5 +1,5 @@
 -- The patterns that a walk puts into a set.
-use Rattle.std.proofs.Common.{ℕ, zero, suc, ◌≡◌, ◌<◌, ◌≤◌, ◌+◌, ◌-◌, ◌*◌, ◌⊎◌, ◌↔◌, inl, inr, Bool, true, false, List, [], ◌∷◌, length, take, set, Option, Some, None, refl, sym, ap, ◌∙◌, subst, arith, length-set}
+use Rattle.std.proofs.Common.{ℕ, zero, suc, ◌≡◌, ◌<◌, ◌≤◌, ◌+◌, ◌-◌, ◌*◌, ◌⊎◌, ◌↔◌, inl, inr, Bool, true, false, List, [], ◌∷◌, length, take, set, Option, Some, None, refl, sym, ap, ap₂, ◌∙◌, ◌++◌, subst, arith, length-set}
 use Rattle.std.proofs.lemmas.Bool.{cases_eq}
 use Rattle.std.proofs.lemmas.List.{get_or-set_other, get_or-set_same}
 use Rattle.automata_base.specs.Answers.{ArePatterns, HasPattern, first_alone}
@@ -10,15 +10,21 @@ use Rattle.automata_base.specs.PatternSet.{has, members, members_from}
 use Rattle.automata_base.specs.Selections.{Pair}
 use Rattle.automata_base.specs.Tapes.{Forward, byte_before}
 use Rattle.automata_base.proofs.Values.PatternsInSets.{members-few}
+use Rattle.automata_hybrid.specs.Bounds.{Stored}
+use Rattle.automata_hybrid.specs.Caches.{CacheView}
+use Rattle.automata_hybrid.specs.Growing.{IsGrown}
+use Rattle.automata_hybrid.specs.Knowing.{KnowsItsStart}
+use Rattle.automata_hybrid.specs.KnowingWalks.{IsOpen, KnowsItsState, KnowsWalk, KnowsWhich}
 use Rattle.automata_hybrid.specs.Machine.{Machine, greatest}
 use Rattle.automata_base.specs.Powerset.{Powerset, cost}
 use Rattle.automata_hybrid.specs.Searches.{tape_in}
 use Rattle.automata_hybrid.specs.Slots.{supports}
 use Rattle.automata_hybrid.specs.Starting.{quit_behind}
-use Rattle.automata_hybrid.specs.Walking.{AreWalked, GoesOn, HasTold, HasToldAt, TellsNext, half_nth, start_count}
+use Rattle.automata_hybrid.specs.Walking.{AreWalked, GoesOn, HasItsState, HasTold, HasToldAt, HasToldBy, TellsNext, half_nth, start_count}
 use Rattle.automata_hybrid.specs.Walks.{At, Ended, Fresh, Stage, Walk}
 use Rattle.automata_hybrid.specs.Which.{IsJoined}
 use Rattle.automata_hybrid.proofs.Searching.{false_true}
+use Rattle.automata_hybrid.proofs.Walked.{Begins, told_rises, walked_begin}
 use Rattle.automata_hybrid.proofs.WalkUnits.{units_in}
 use Rattle.std.proofs.Math.Nat.{mul-le-mul_right}
 
@@ -141,6 +147,19 @@ one_of : (pairs : List Pair) → first_alone true pairs ≡ take 1 pairs
 one_of [] = refl
 one_of (x ∷ xs) = refl
 
+-- some pattern below its capacity isn't in a set
+pub record IsLacking (xs : List Bool) : Type 0 where
+  pub pattern : ℕ
+  pub below : pattern < length xs
+  pub absent : has xs pattern ≡ false
+
+pub lacking : (xs : List Bool) (j : ℕ) → (length (members_from j xs) ≡ length xs → ⊥) → IsLacking xs
+lacking [] j full = absurd (full refl)
+lacking (false ∷ xs) j full = record { pattern = 0; below = omega arith; absent = refl }
+lacking (true ∷ xs) j full =
+    let rest : IsLacking xs = lacking xs (suc j) (λ e. full (ap suc e)) in
+    record { pattern = suc rest.pattern; below = omega (arith, rest.below); absent = rest.absent }
+
 -- a set with the patterns of the first pairs of a walk, as many as the walk has told; an earliest search goes on with none
 pub record Joins (m : Machine) (input : Input) (walk : Walk) (old new : List Bool) : Type 0 where
   pub k : ℕ
@@ -148,6 +167,7 @@ pub record Joins (m : Machine) (input : Input) (walk : Walk) (old new : List Boo
   pub first : input.earliest ≡ true → k ≡ 0
   pub joined : (pairs : List Pair) → AreWalked Forward m input pairs → IsJoined (take k pairs) old new
   pub capacity : length new ≡ length old
+  pub open_at : (k ≡ 0) ⊎ IsLacking new
 
 joined_none : (xs : List Bool) → IsJoined [] xs xs
 joined_none xs p = (λ h. inl h, λ h. go h) where
@@ -158,7 +178,7 @@ joined_none xs p = (λ h. inl h, λ h. go h) where
 module _ (m : Machine) (input : Input) (old : List Bool) where
   pub joins_start : (walk : Walk) → HasTold Forward m input walk 0 → Joins m input walk old old
   joins_start walk told =
-      record { k = 0; told = told; first = λ e. refl; joined = λ pairs walked. joined_none old; capacity = refl }
+      record { k = 0; told = told; first = λ e. refl; joined = λ pairs walked. joined_none old; capacity = refl; open_at = inl refl }
 
   module _ (walk next : Walk) (new : List Bool) (j : Joins m input walk old new) (tells : TellsNext Forward m input walk next)
       (list : (pairs : List Pair) × AreWalked Forward m input pairs) where
@@ -255,14 +275,15 @@ module _ (m : Machine) (input : Input) (old : List Bool) where
           (pairs, list.1, λ p. subst (λ (ps : List Pair). In p (members (set new half.pattern true)) ↔ (In p (members old) ⊎ ((p < length old) × HasPattern p ps))) one (joined_more p))
 
       -- and any other goes on
-      pub joins_more : input.earliest ≡ false → Joins m input next old (set new half.pattern true)
-      joins_more e =
+      pub joins_more : input.earliest ≡ false → IsLacking (set new half.pattern true) → Joins m input next old (set new half.pattern true)
+      joins_more e lacks =
           record {
             k = suc j.k;
             told = (tells j.k j.told).0;
             first = λ f. absurd (false_true (sym e ∙ f));
             joined = λ ps walked. one_more half ps (sym (((tells j.k j.told).1 ps walked).0) ∙ is_found) (j.joined ps walked);
             capacity = length-set new half.pattern true ∙ j.capacity;
+            open_at = inr lacks;
           }
 
 -- the mode isn't supported where no quit byte stands behind the start
@@ -331,3 +352,70 @@ pub on_found :
     → (new.stage ≡ Ended → ⊥) × ((old.units < new.units) ⊎ ((new.units ≡ old.units) × (new.told ≡ suc old.told)))
 on_found old new half (inl none) e = absurd (none_half half (sym none ∙ e))
 on_found old new half (inr h) e = h
+
+-- two counts of the pairs that a walk has told are one
+told_one :
+    (m : Machine) (input : Input) (w : Walk) (a b : ℕ)
+    → (w.stage ≡ Ended → ⊥) → HasTold Forward m input w a → HasTold Forward m input w b → a ≡ b
+told_one m input w a b on t u = go w.stage on t u where
+  go : (s : Stage) → (s ≡ Ended → ⊥) → HasToldAt Forward m input s w.units w.told a → HasToldAt Forward m input s w.units w.told b → a ≡ b
+  go Fresh on (t, x) (u, y) = t ∙ sym u
+  go (At q) on t u =
+      let up : t.earlier ≤ u.earlier = told_rises Forward m input t.place u.place t.earlier u.earlier (omega (arith, t.behind, u.behind)) t.before u.before in
+      let down : u.earlier ≤ t.earlier = told_rises Forward m input u.place t.place u.earlier t.earlier (omega (arith, t.behind, u.behind)) u.before t.before in
+      omega (arith, up, down, t.count, u.count)
+  go Ended on t u = absurd (on refl)
+
+take_front : (xs ys : List Pair) → take (length xs) (xs ++ ys) ≡ xs
+take_front [] ys = refl
+take_front (x ∷ xs) ys = ap (λ (zs : List Pair). x ∷ zs) (take_front xs ys)
+
+no_pairs : (xs : List Pair) → length xs ≡ 0 → xs ≡ []
+no_pairs [] e = refl
+no_pairs (x ∷ xs) e = absurd (omega (arith, e))
+
+-- a set whose walk knows all that it uses goes on by calls that know what they use
+module _ (m : Machine) (c : Stored) (input : Input) (walk : Walk) (old new : List Bool) (j : Joins m input walk old new)
+    (list : (pairs : List Pair) × AreWalked Forward m input pairs) where
+  still_open : (n : ℕ) (t : HasToldBy Forward m input n j.k) → input.start ≤ input.end → n ≤ length (tape_in Forward input).bytes → IsOpen input old t.pairs
+  still_open n t s l = go j.open_at input.earliest refl where
+    none : j.k ≡ 0 → IsOpen input old t.pairs
+    none z = inl (no_pairs t.pairs (sym t.count ∙ z))
+
+    go : (j.k ≡ 0) ⊎ IsLacking new → (b : Bool) → input.earliest ≡ b → IsOpen input old t.pairs
+    go (inl z) b e = none z
+    go (inr lacks) true e = none (j.first e)
+    go (inr lacks) false e =
+        let b : Begins Forward m input t.pairs list.0 = walked_begin Forward m input n t.pairs list.0 s (omega (arith, l)) t.unsplit list.1 in
+        let front : take j.k list.0 ≡ t.pairs = ap₂ (λ i (zs : List Pair). take i zs) t.count b.joined ∙ take_front t.pairs b.rest in
+        let absent : In lacks.pattern (members new) → ⊥ = (λ i. false_true (sym lacks.absent ∙ in_flag new lacks.pattern i)) in
+        let below : lacks.pattern < length old = omega (arith, lacks.below, j.capacity) in
+        inr (
+          e,
+          (
+            lacks.pattern,
+            below,
+            λ i. absent ((j.joined list.0 list.1 lacks.pattern).1 (inl i)),
+            λ h. absent ((j.joined list.0 list.1 lacks.pattern).1 (inr (below, subst (HasPattern lacks.pattern) (sym front) h))),
+          ),
+        )
+
+  pub which_walk : HasItsState c.table walk.stage → KnowsWhich m c input old → KnowsWalk Forward m c input walk
+  which_walk holds knows k told ready may =
+      let same : k ≡ j.k = told_one m input walk k j.k ready.on told j.told in
+      let all = knows ready.undone may in (
+        state walk.stage holds all.0,
+        λ n l reads clean t.
+            (let t' : HasToldBy Forward m input n j.k = subst (HasToldBy Forward m input n) same t in
+            all.1 n t'.pairs reads clean t'.unsplit (still_open n t' ready.undone reads.0)),
+      )
+    where
+      state : (s : Stage) → HasItsState c.table s → KnowsItsStart Forward m c input → KnowsItsState Forward m c input s
+      state Fresh holds begins = begins
+      state (At q) holds begins = holds
+      state Ended holds begins = tt
+
+pub which_still :
+    (m : Machine) (input : Input) (set : List Bool) (old new : CacheView)
+    → IsGrown old new → new.count ≡ old.count → KnowsWhich m old.store input set → KnowsWhich m new.store input set
+which_still m input set old new g same knows = subst (λ (c : Stored). KnowsWhich m c input set) (sym (g.idle same).1) knows

@@ -1,16 +1,20 @@
 -- Walk calls whose start or held state, and whose transitions, are all known.
-use Rattle.std.specs.Prelude.{ℕ, ◌≡◌, ◌<◌, ◌≤◌, ◌-◌, length}
+use Rattle.std.specs.Prelude.{ℕ, ◌≡◌, ◌<◌, ◌≤◌, ◌-◌, ◌⊎◌, List, [], length, Bool, false}
+use Rattle.automata_base.specs.Answers.{AreUnsplit, HasPattern}
 use Rattle.automata_base.specs.Input.{Input}
+use Rattle.automata_base.specs.Lists.{In}
+use Rattle.automata_base.specs.PatternSet.{members}
 use Rattle.automata_base.specs.Powerset.{Powerset}
-use Rattle.automata_base.specs.Tapes.{Direction}
+use Rattle.automata_base.specs.Selections.{Pair}
+use Rattle.automata_base.specs.Tapes.{Direction, Forward}
 use Rattle.automata_hybrid.specs.Bounds.{Stored}
 use Rattle.automata_hybrid.specs.Knowing.{KnowsItsStart, KnowsUnit}
 use Rattle.automata_hybrid.specs.Machine.{Machine}
 use Rattle.automata_hybrid.specs.Passing.{HasLearnedUnit}
-use Rattle.automata_hybrid.specs.Searches.{HasReadNoQuit, tape_in}
+use Rattle.automata_hybrid.specs.Searches.{HasReadNoQuit, Skips, tape_in}
 use Rattle.automata_hybrid.specs.Starting.{MayStart}
 use Rattle.automata_hybrid.specs.Table.{Has}
-use Rattle.automata_hybrid.specs.Walking.{HasTold, HasToldBy, WalkReads}
+use Rattle.automata_hybrid.specs.Walking.{HasTold, HasToldBy, WalkReads, pairs_in}
 use Rattle.automata_hybrid.specs.Walks.{At, Ended, Fresh, Stage, Walk}
 
 -- the next call of a walk reads units: it hasn't ended, has told all of where it stands, and units are left
@@ -38,6 +42,24 @@ abbrev pub KnowsWalk : Direction → Machine → Stored → Input → Walk → T
 KnowsWalk way m c input w =
     (k : ℕ) → HasTold way m input w k → IsToRead input w.stage w.units w.told → MayStart m input.anchored (tape_in way input).before
     → KnowsItsState way m c input w.stage × KnowsUnits way m c input w.units k
+
+-- a set is gone on with when its walk has told these pairs: none, or the input isn't earliest, and some pattern below its
+-- capacity is neither in it nor among them
+abbrev pub IsOpen : Input → List Bool → List Pair → Type 0
+IsOpen input set pairs =
+    (pairs ≡ [])
+    ⊎ ((input.earliest ≡ false) × ((p : ℕ) × (p < length set) × (In p (members set) → ⊥) × (HasPattern p pairs → ⊥)))
+
+-- all that a set of patterns takes to be found is known: the start of its walk, and the transition on each unit that is
+-- read before it stops
+abbrev pub KnowsWhich : Machine → Stored → Input → List Bool → Type 0
+KnowsWhich m c input set =
+    input.start ≤ input.end → MayStart m input.anchored (tape_in Forward input).before
+    → KnowsItsStart Forward m c input
+    × ((j : ℕ) (pairs : List Pair)
+    → WalkReads Forward m input j → HasReadNoQuit Forward m input j
+    → AreUnsplit (Skips m) Forward input (pairs_in Forward m input j) pairs → IsOpen input set pairs
+    → KnowsUnit Forward m c input j)
 
 -- the transitions on the units from one place of a pass to another are known, at classes that rows have
 abbrev pub HasLearnedUnits : Direction → Machine → Stored → Input → (from to : ℕ) → Type 0

@@ -13,7 +13,7 @@ ghost use Rattle.automata_hybrid.specs.Bounds.{GivesUp, IsCacheError, IsKnownTra
 ghost use Rattle.automata_hybrid.specs.Caches.{IsCacheOf, counted};
 ghost use Rattle.automata_hybrid.specs.Growing.{ClearedNothing, HasRoom, IsGrown, IsStill};
 ghost use Rattle.automata_hybrid.specs.Knowing.{IsOfInput, KnowsItsStart, KnowsUnit};
-ghost use Rattle.automata_hybrid.specs.KnowingWalks.{HasLearnedUnits, KnowsItsState, KnowsUnits, KnowsWalk};
+ghost use Rattle.automata_hybrid.specs.KnowingWalks.{HasLearnedUnits, KnowsItsState, KnowsUnits, KnowsWalk, KnowsWhich};
 ghost use Rattle.automata_hybrid.specs.Passing.{HasLearnedUnit, IsFollowed};
 ghost use Rattle.automata_hybrid.specs.Searches.{HasReadNoQuit, IsStepRefusal, NoQuitInReach, Skips, behind_offset, given_up_offset, state_in, tape_in, unit_offset};
 ghost use Rattle.automata_hybrid.specs.Slots.{supports};
@@ -151,7 +151,7 @@ impl DFA {
         // After a call that cleared nothing what it used is known. With all that known it takes no memory, and changes nothing
         // but the progress.
         ensures learned { ClearedNothing cache.old.store cache.new.store → OnOk result (KnowsWalk Forward self.now cache.new.store input.now state.old) }
-        ensures known { state.old.lost ≡ false → KnowsWalk Forward self.now cache.old.store input.now state.old → IsStill cache.old cache.new × IfErr result IsOfInput }
+        ensures known { KnowsWalk Forward self.now cache.old.store input.now state.old → IsStill cache.old cache.new × (state.old.lost ≡ false → IfErr result IsOfInput) }
 
         // It grows the cache as one determinisation more would, and where the cache has the walk's state as those made do.
         ensures grown { IsGrown cache.old (counted cache.new) }
@@ -205,7 +205,7 @@ impl DFA {
         // After a call that cleared nothing what it used is known. With all that known it takes no memory, and changes nothing
         // but the progress.
         ensures learned { ClearedNothing cache.old.store cache.new.store → OnOk result (KnowsWalk Backward self.now cache.new.store input.now state.old) }
-        ensures known { state.old.lost ≡ false → KnowsWalk Backward self.now cache.old.store input.now state.old → IsStill cache.old cache.new × IfErr result IsOfInput }
+        ensures known { KnowsWalk Backward self.now cache.old.store input.now state.old → IsStill cache.old cache.new × (state.old.lost ≡ false → IfErr result IsOfInput) }
 
         // It grows the cache as one determinisation more would, and where the cache has the walk's state as those made do.
         ensures grown { IsGrown cache.old (counted cache.new) }
@@ -245,6 +245,10 @@ impl DFA {
         ensures bounded { cache.new.count ≤ cache.old.count + (input.now.end - input.now.start + 2) }
         ensures roomy { HasRoom cache.old.store (input.now.end - input.now.start + 2) → cache.new.store.clears ≡ cache.old.store.clears }
         ensures grown { IsGrown cache.old cache.new }
+
+        // With all known that it uses it changes nothing but the progress; memory is wanting then only where a state of the walk
+        // couldn't be shared.
+        ensures known { KnowsWhich self.now cache.old.store input.now patset.old → IsStill cache.old cache.new × IfErr result (λ e. (e ≡ SearchError.OutOfMemory) ⊎ IsOfInput e) }
     {
         let _haystack = input.haystack();
         let found = self.collect(cache, input, patset);
@@ -268,6 +272,7 @@ impl DFA {
         ensures unsupported { input.now.start ≤ input.now.end → quit_behind self.now (byte_before input.now.haystack input.now.start) ≡ None → supports self.now input.now.anchored ≡ false → result ≡ Err (SearchError.Match (UnsupportedMode input.now.anchored)) }
         ensures bounded { cache.new.count ≤ cache.old.count + (input.now.end - input.now.start + 2) }
         ensures grown { IsGrown cache.old cache.new }
+        ensures idle { KnowsWhich self.now cache.old.store input.now patset.old → IsStill cache.old cache.new × IfErr result (λ e. (e ≡ SearchError.OutOfMemory) ⊎ IsOfInput e) }
     {
         walk_is_right(self.get_nfa());
         let _haystack = input.haystack();
@@ -669,7 +674,7 @@ impl DFA {
         ensures done { walk.old.lost ≡ false → input.now.end < input.now.start → IfErr result (λ e. ⊥) × (cache.new ≡ cache.old) }
         ensures goes_on { OnOk result (GoesOn walk.old walk.new) }
         ensures unsupported { walk.old.stage ≡ Fresh → input.now.start ≤ input.now.end → quit_behind self.now (tape_in (way_of way) input.now).before ≡ None → supports self.now input.now.anchored ≡ false → result ≡ Err (SearchError.Match (UnsupportedMode input.now.anchored)) }
-        ensures idle { walk.old.lost ≡ false → KnowsWalk (way_of way) self.now cache.old.store input.now walk.old → IsStill cache.old cache.new × IfErr result IsOfInput }
+        ensures idle { KnowsWalk (way_of way) self.now cache.old.store input.now walk.old → IsStill cache.old cache.new × (walk.old.lost ≡ false → IfErr result IsOfInput) }
         ensures learned { ClearedNothing cache.old.store cache.new.store → OnOk result (KnowsWalk (way_of way) self.now cache.new.store input.now walk.old) }
     {
         let _haystack = input.haystack();

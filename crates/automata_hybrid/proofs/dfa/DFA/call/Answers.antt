@@ -8,6 +8,7 @@ use Rattle.automata_hybrid.specs.Searches.{tape_in}
 use Rattle.automata_hybrid.specs.Walking.{HasTold, IsWalkRefusal, TellsNext}
 use Rattle.automata_hybrid.specs.Walks.{At, Ended, Fresh, Walk, way_of}
 use Rattle.automata_hybrid.proofs.KnowingWalks.{still_same}
+use Rattle.automata_hybrid.proofs.Searching.{false_true}
 use Rattle.automata_hybrid.proofs.WalkCalls.{next_done, next_ended, next_read, next_same, undone}
 use Rattle.automata_hybrid.proofs.WalkUnits.{units_in}
 use Rattle.automata_hybrid.proofs.dfa.DFA.call.Goals as goal
@@ -83,17 +84,24 @@ returns-clause-learned c = λ nothing.
     subst (λ (w : Walk). OnOk c.walk_on.result (KnowsWalk (way_of c.args.way) c.args.self.now c.walk_on.new.cache.store c.args.input.now w)) c.forget_match.ensures (c.walk_on.ensures.learned nothing)
 
 pub returns-clause-idle : goal.returns-clause-idle
-returns-clause-idle c = λ kept knows.
-    c.walk_on.ensures.idle (subst (λ (w : Walk). KnowsWalk (way_of c.args.way) c.args.self.now c.args.cache.now.store c.args.input.now w) (sym c.forget_match.ensures) knows)
+returns-clause-idle c = λ knows.
+    let still = c.walk_on.ensures.idle (subst (λ (w : Walk). KnowsWalk (way_of c.args.way) c.args.self.now c.args.cache.now.store c.args.input.now w) (sym c.forget_match.ensures) knows) in
+    (still.0, λ kept. still.1)
 
 pub returns-then-has_ended-clause-idle : goal.returns-then-has_ended-clause-idle
-returns-then-has_ended-clause-idle c = λ kept knows. (still_same c.args.cache.now c.args.cache.now refl, tt)
+returns-then-has_ended-clause-idle c = λ knows. (still_same c.args.cache.now c.args.cache.now refl, λ kept. tt)
 
 pub returns-then-is_done-clause-idle : goal.returns-then-is_done-clause-idle
-returns-then-is_done-clause-idle c = λ kept knows. (still_same c.args.cache.now c.args.cache.now refl, tt)
+returns-then-is_done-clause-idle c = λ knows. (still_same c.args.cache.now c.args.cache.now refl, λ kept. tt)
 
 pub returns-in-Some-clause-idle : goal.returns-in-Some-clause-idle
-returns-in-Some-clause-idle c = λ kept knows. (still_same c.args.cache.now c.args.cache.now refl, tt)
+returns-in-Some-clause-idle c = λ knows. (still_same c.args.cache.now c.args.cache.now refl, λ kept. tt)
 
 pub returns-then-units-last_place-clause-idle : goal.returns-then-units-last_place-clause-idle
-returns-then-units-last_place-clause-idle c = λ kept knows. (still_same c.args.cache.now c.args.cache.now refl, tt)
+returns-then-units-last_place-clause-idle c = λ knows. (still_same c.args.cache.now c.args.cache.now refl, λ kept. tt)
+
+pub returns-then-is_lost-clause-idle : goal.returns-then-is_lost-clause-idle
+returns-then-is_lost-clause-idle c = λ knows. (
+  still_same c.args.cache.now c.args.cache.now refl,
+  λ kept. absurd (false_true (sym kept ∙ (sym (ap (λ (w : Walk). w.lost) c.forget_match.ensures) ∙ (sym c.is_lost.ensures.lost ∙ c.if-is_lost.true)))),
+)

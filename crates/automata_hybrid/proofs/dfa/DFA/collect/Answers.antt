@@ -1,4 +1,5 @@
 use Rattle.std.proofs.Common.{◌≡◌, ◌∙◌, List, Bool, true, length, set, Some, rules, sym, ap, subst, arith}
+use Rattle.std.specs.Prelude.{IsTrue}
 use Rattle.automata_base.specs.Answers.{ArePatterns, IsOverlapping}
 use Rattle.automata_base.specs.Engines.{engine_of}
 use Rattle.automata_base.specs.PatternSet.{members}
@@ -8,8 +9,8 @@ use Rattle.automata_base.specs.WalkLaws.{WalkIsRight, WalksAreTold}
 use Rattle.automata_hybrid.specs.Walking.{AreWalked}
 use Rattle.automata_hybrid.specs.Walks.{Fresh}
 use Rattle.automata_hybrid.proofs.Growing.{grown_trans}
-use Rattle.automata_hybrid.proofs.Searching.{if_err, ok_err}
-use Rattle.automata_hybrid.proofs.WalkSets.{Joins, StandsWell, either, joins_all, joins_first, joins_full, joins_more, on_found, patterns_turn, stands_well, steps_less}
+use Rattle.automata_hybrid.proofs.Searching.{false_true, if_err, ok_err}
+use Rattle.automata_hybrid.proofs.WalkSets.{IsLacking, Joins, StandsWell, either, joins_all, joins_first, joins_full, joins_more, lacking, on_found, patterns_turn, stands_well, steps_less, which_still, which_walk}
 use Rattle.automata_hybrid.proofs.dfa.DFA.collect.Goals as goal
 
 pub returns-in_err-call-clause-errors : goal.returns-in_err-call-clause-errors
@@ -99,16 +100,26 @@ loop-walk-preserved c =
     let j = c.loop-walk.invariant.joins in
     let well : StandsWell c.args.self.now c.args.input.now c.haystack-haystack.ensures.within.1 c.call.new.walk =
     stands_well c.args.self.now c.args.input.now c.haystack-haystack.ensures.within.1 c.call.new.walk j.k (c.in_ok-call.ensures.tells j.k j.told).0 on.0 in
+    let lacks : IsLacking (set c.loop-walk.patset c.in-Some.half.pattern true) = lacking _ 0 (λ full.
+    let whole : IsTrue c.is_full.result = c.is_full.ensures.1 (subst (λ (s : List Bool). length (members s) ≡ length s) (sym put) full) in
+    false_true (sym c.if-is_full.false ∙ whole)) in
     record {
       of = c.in_ok-call.ensures.of;
       grown = grown_trans c.args.cache.now c.loop-walk.cache c.call.new.cache c.loop-walk.invariant.grown (c.in_ok-call.ensures.there c.loop-walk.invariant.holds);
       holds = c.in_ok-call.ensures.holds c.loop-walk.invariant.holds;
       counted = omega (arith, well.begun, c.in_ok-call.ensures.bounded, c.loop-walk.invariant.counted);
       few = well.units;
+      idle = λ knows. (
+          let told : WalksAreTold c.args.self.now.nfa = subst WalksAreTold c.get_nfa.ensures c.walk_is_right.ensures.told in
+          let list : (pairs : List Pair) × AreWalked Forward c.args.self.now c.args.input.now pairs = told Forward c.args.self.now.kind c.args.input.now in
+          let count : c.loop-walk.cache.count ≡ c.args.cache.now.count = c.loop-walk.invariant.idle knows in
+          let here = c.in_ok-call.ensures.idle (which_walk c.args.self.now c.loop-walk.cache.store c.args.input.now c.loop-walk.walk c.args.patset.now c.loop-walk.patset c.loop-walk.invariant.joins list c.loop-walk.invariant.holds
+          (which_still c.args.self.now c.args.input.now c.args.patset.now c.args.cache.now c.loop-walk.cache c.loop-walk.invariant.grown count knows)) in
+          here.0.0 ∙ count);
       begins = λ not. absurd (ok_err (c.in_ok-call.ensures.unsupported (c.loop-walk.invariant.begins not) not.0 not.1 not.2));
       joins =
           subst (Joins c.args.self.now c.args.input.now c.call.new.walk c.args.patset.now) (sym put)
-          (joins_more c.args.self.now c.args.input.now c.args.patset.now c.loop-walk.walk c.call.new.walk c.loop-walk.patset c.loop-walk.invariant.joins c.in_ok-call.ensures.tells list c.in-Some.half found (sym c.get_earliest.ensures ∙ c.if-get_earliest.false));
+          (joins_more c.args.self.now c.args.input.now c.args.patset.now c.loop-walk.walk c.call.new.walk c.loop-walk.patset c.loop-walk.invariant.joins c.in_ok-call.ensures.tells list c.in-Some.half found (sym c.get_earliest.ensures ∙ c.if-get_earliest.false) lacks);
     }
 
 pub returns-in_err-call-clause-unsupported : goal.returns-in_err-call-clause-unsupported
@@ -128,3 +139,41 @@ returns-then-is_full-clause-unsupported c = λ undone behind mode.
 pub returns-then-get_earliest-clause-unsupported : goal.returns-then-get_earliest-clause-unsupported
 returns-then-get_earliest-clause-unsupported c = λ undone behind mode.
     absurd (ok_err (c.in_ok-call.ensures.unsupported (c.loop-walk.invariant.begins (undone, behind, mode)) undone behind mode))
+
+pub returns-in_err-call-clause-idle : goal.returns-in_err-call-clause-idle
+returns-in_err-call-clause-idle c = λ knows.
+    let told : WalksAreTold c.args.self.now.nfa = subst WalksAreTold c.get_nfa.ensures c.walk_is_right.ensures.told in
+    let list : (pairs : List Pair) × AreWalked Forward c.args.self.now c.args.input.now pairs = told Forward c.args.self.now.kind c.args.input.now in
+    let count : c.loop-walk.cache.count ≡ c.args.cache.now.count = c.loop-walk.invariant.idle knows in
+    let here = c.in_err-call.ensures.idle (which_walk c.args.self.now c.loop-walk.cache.store c.args.input.now c.loop-walk.walk c.args.patset.now c.loop-walk.patset c.loop-walk.invariant.joins list c.loop-walk.invariant.holds
+    (which_still c.args.self.now c.args.input.now c.args.patset.now c.args.cache.now c.loop-walk.cache c.loop-walk.invariant.grown count knows)) in (
+      (returns-in_err-call-clause-grown c).idle (here.0.0 ∙ count),
+      if_err c.from_residual.result _ _ c.from_residual.ensures.1 (either c.loop-walk.walk.lost c.in_err-call.ensures.lost here.1),
+    )
+
+pub returns-in_default-clause-idle : goal.returns-in_default-clause-idle
+returns-in_default-clause-idle c = λ knows.
+    let told : WalksAreTold c.args.self.now.nfa = subst WalksAreTold c.get_nfa.ensures c.walk_is_right.ensures.told in
+    let list : (pairs : List Pair) × AreWalked Forward c.args.self.now c.args.input.now pairs = told Forward c.args.self.now.kind c.args.input.now in
+    let count : c.loop-walk.cache.count ≡ c.args.cache.now.count = c.loop-walk.invariant.idle knows in
+    let here = c.in_ok-call.ensures.idle (which_walk c.args.self.now c.loop-walk.cache.store c.args.input.now c.loop-walk.walk c.args.patset.now c.loop-walk.patset c.loop-walk.invariant.joins list c.loop-walk.invariant.holds
+    (which_still c.args.self.now c.args.input.now c.args.patset.now c.args.cache.now c.loop-walk.cache c.loop-walk.invariant.grown count knows)) in
+    ((returns-in_default-clause-grown c).idle (here.0.0 ∙ count), tt)
+
+pub returns-then-is_full-clause-idle : goal.returns-then-is_full-clause-idle
+returns-then-is_full-clause-idle c = λ knows.
+    let told : WalksAreTold c.args.self.now.nfa = subst WalksAreTold c.get_nfa.ensures c.walk_is_right.ensures.told in
+    let list : (pairs : List Pair) × AreWalked Forward c.args.self.now c.args.input.now pairs = told Forward c.args.self.now.kind c.args.input.now in
+    let count : c.loop-walk.cache.count ≡ c.args.cache.now.count = c.loop-walk.invariant.idle knows in
+    let here = c.in_ok-call.ensures.idle (which_walk c.args.self.now c.loop-walk.cache.store c.args.input.now c.loop-walk.walk c.args.patset.now c.loop-walk.patset c.loop-walk.invariant.joins list c.loop-walk.invariant.holds
+    (which_still c.args.self.now c.args.input.now c.args.patset.now c.args.cache.now c.loop-walk.cache c.loop-walk.invariant.grown count knows)) in
+    ((returns-then-is_full-clause-grown c).idle (here.0.0 ∙ count), tt)
+
+pub returns-then-get_earliest-clause-idle : goal.returns-then-get_earliest-clause-idle
+returns-then-get_earliest-clause-idle c = λ knows.
+    let told : WalksAreTold c.args.self.now.nfa = subst WalksAreTold c.get_nfa.ensures c.walk_is_right.ensures.told in
+    let list : (pairs : List Pair) × AreWalked Forward c.args.self.now c.args.input.now pairs = told Forward c.args.self.now.kind c.args.input.now in
+    let count : c.loop-walk.cache.count ≡ c.args.cache.now.count = c.loop-walk.invariant.idle knows in
+    let here = c.in_ok-call.ensures.idle (which_walk c.args.self.now c.loop-walk.cache.store c.args.input.now c.loop-walk.walk c.args.patset.now c.loop-walk.patset c.loop-walk.invariant.joins list c.loop-walk.invariant.holds
+    (which_still c.args.self.now c.args.input.now c.args.patset.now c.args.cache.now c.loop-walk.cache c.loop-walk.invariant.grown count knows)) in
+    ((returns-then-get_earliest-clause-grown c).idle (here.0.0 ∙ count), tt)

@@ -1,6 +1,7 @@
 use Rattle.std.proofs.Common.{◌≡◌, ◌≤◌, ◌+◌, ◌-◌}
 use Rattle.automata_hybrid.specs.Caches.{IsCacheOf}
 use Rattle.automata_hybrid.specs.Growing.{IsGrown}
+use Rattle.automata_hybrid.specs.KnowingWalks.{KnowsWhich}
 use Rattle.automata_hybrid.specs.Walking.{HasItsState, start_count}
 use Rattle.automata_hybrid.specs.Walks.{Fresh}
 use Rattle.automata_hybrid.proofs.WalkSets.{Joins, MayNotStart, steps_left}
@@ -14,6 +15,7 @@ invariant-loop-walk l = record {
   counted : l.cache.count + start_count l.walk.stage ≤ l.fn.cache.count + l.walk.units + 1;
   few : l.walk.units ≤ l.input.end - l.input.start + 1;
   begins : MayNotStart l.self l.input → l.walk.stage ≡ Fresh;
+  idle : KnowsWhich l.self l.fn.cache.store l.input l.fn.patset → l.cache.count ≡ l.fn.cache.count;
   joins : Joins l.self l.input l.walk l.fn.patset l.patset;
 }
 
