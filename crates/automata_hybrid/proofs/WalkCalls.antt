@@ -27,7 +27,7 @@ at_inj p q e = cc
 fresh_at : (q : Powerset) → Fresh ≡ At q → ⊥
 fresh_at q e = cc
 
-ended_at : (q : Powerset) → Ended ≡ At q → ⊥
+pub ended_at : (q : Powerset) → Ended ≡ At q → ⊥
 ended_at q e = cc
 
 twice : (xs ys zs : List Pair) → (xs ++ ys) ++ zs ≡ xs ++ (ys ++ zs)

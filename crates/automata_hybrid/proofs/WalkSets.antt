@@ -54,7 +54,7 @@ in_has (true ∷ xs) j p (inl e) = record { index = 0; place = omega (arith, e);
 in_has (true ∷ xs) j p (inr i) = has_later true xs j p (in_has xs (suc j) p i)
 in_has (false ∷ xs) j p i = has_later false xs j p (in_has xs (suc j) p i)
 
-flag_in : (xs : List Bool) (p : ℕ) → has xs p ≡ true → In p (members xs)
+pub flag_in : (xs : List Bool) (p : ℕ) → has xs p ≡ true → In p (members xs)
 flag_in xs p e = let z : 0 + p ≡ p = omega arith in subst (λ n. In n (members xs)) z (has_in xs 0 p e)
 
 in_flag : (xs : List Bool) (p : ℕ) → In p (members xs) → has xs p ≡ true
@@ -64,7 +64,7 @@ in_flag xs p i =
     subst (λ n. has xs n ≡ true) z h.flag
 
 -- a full set has each pattern below its capacity
-full_at : (xs : List Bool) (j p : ℕ) → length (members_from j xs) ≡ length xs → p < length xs → has xs p ≡ true
+pub full_at : (xs : List Bool) (j p : ℕ) → length (members_from j xs) ≡ length xs → p < length xs → has xs p ≡ true
 full_at [] j p e l = absurd (omega (arith, l))
 full_at (true ∷ xs) j zero e l = refl
 full_at (true ∷ xs) j (suc p) e l = full_at xs (suc j) p (omega (arith, e)) (omega (arith, l))
@@ -241,7 +241,7 @@ module _ (m : Machine) (input : Input) (old : List Bool) where
       here : half_nth pairs j.k ≡ Some half
       here = sym found ∙ is_found
 
-      joined_more : IsJoined (take (suc j.k) pairs) old (set new half.pattern true)
+      pub joined_more : IsJoined (take (suc j.k) pairs) old (set new half.pattern true)
       joined_more = one_more half pairs here (j.joined pairs list.1)
 
       -- a full set has nothing to gain

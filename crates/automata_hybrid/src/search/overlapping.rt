@@ -246,8 +246,9 @@ impl DFA {
         ensures roomy { HasRoom cache.old.store (input.now.end - input.now.start + 2) → cache.new.store.clears ≡ cache.old.store.clears }
         ensures grown { IsGrown cache.old cache.new }
 
-        // With all known that it uses it changes nothing but the progress; memory is wanting then only where a state of the walk
-        // couldn't be shared.
+        // After a call that cleared nothing what it used is known. With all that known it changes nothing but the progress; memory
+        // is wanting then only where a state of the walk couldn't be shared.
+        ensures learned { ClearedNothing cache.old.store cache.new.store → OnOk result (KnowsWhich self.now cache.new.store input.now patset.old) }
         ensures known { KnowsWhich self.now cache.old.store input.now patset.old → IsStill cache.old cache.new × IfErr result (λ e. (e ≡ SearchError.OutOfMemory) ⊎ IsOfInput e) }
     {
         let _haystack = input.haystack();
@@ -273,6 +274,7 @@ impl DFA {
         ensures bounded { cache.new.count ≤ cache.old.count + (input.now.end - input.now.start + 2) }
         ensures grown { IsGrown cache.old cache.new }
         ensures idle { KnowsWhich self.now cache.old.store input.now patset.old → IsStill cache.old cache.new × IfErr result (λ e. (e ≡ SearchError.OutOfMemory) ⊎ IsOfInput e) }
+        ensures learned { ClearedNothing cache.old.store cache.new.store → OnOk result (KnowsWhich self.now cache.new.store input.now patset.old) }
     {
         walk_is_right(self.get_nfa());
         let _haystack = input.haystack();
@@ -598,6 +600,8 @@ impl DFA {
         ensures unsupported { walk.old.stage ≡ Fresh → quit_behind self.now (tape_in (way_of way) input.now).before ≡ None → supports self.now input.now.anchored ≡ false → result ≡ Err (SearchError.Match (UnsupportedMode input.now.anchored)) }
         ensures idle { KnowsWalk (way_of way) self.now cache.old.store input.now walk.old → IsStill cache.old cache.new × IfErr result IsOfInput }
         ensures learned { ClearedNothing cache.old.store cache.new.store → OnOk result (KnowsWalk (way_of way) self.now cache.new.store input.now walk.old) }
+        ensures units { ClearedNothing cache.old.store cache.new.store → OnOk result (HasLearnedUnits (way_of way) self.now cache.new.store input.now walk.old.units walk.new.units) }
+        ensures stops { OnOk result (walk.new.stage ≡ Ended → (j : ℕ) → walk.new.units ≤ j → WalkReads (way_of way) self.now input.now j → ⊥) }
     {
         self.see_skips();
         let _haystack = input.haystack();
@@ -676,6 +680,8 @@ impl DFA {
         ensures unsupported { walk.old.stage ≡ Fresh → input.now.start ≤ input.now.end → quit_behind self.now (tape_in (way_of way) input.now).before ≡ None → supports self.now input.now.anchored ≡ false → result ≡ Err (SearchError.Match (UnsupportedMode input.now.anchored)) }
         ensures idle { KnowsWalk (way_of way) self.now cache.old.store input.now walk.old → IsStill cache.old cache.new × (walk.old.lost ≡ false → IfErr result IsOfInput) }
         ensures learned { ClearedNothing cache.old.store cache.new.store → OnOk result (KnowsWalk (way_of way) self.now cache.new.store input.now walk.old) }
+        ensures units { ClearedNothing cache.old.store cache.new.store → OnOk result (HasLearnedUnits (way_of way) self.now cache.new.store input.now walk.old.units walk.new.units) }
+        ensures stops { input.now.start ≤ input.now.end → (walk.old.stage ≡ Ended → ⊥) → OnOk result (walk.new.stage ≡ Ended → (j : ℕ) → walk.new.units ≤ j → WalkReads (way_of way) self.now input.now j → ⊥) }
     {
         let _haystack = input.haystack();
         walk.forget_match();

@@ -3,13 +3,13 @@ use Rattle.std.specs.Prelude.{OnOk, IfErr}
 use Rattle.automata_base.specs.Answers.{offset_in}
 use Rattle.automata_base.specs.Matches.{HalfMatch}
 use Rattle.automata_base.specs.Tapes.{Direction}
-use Rattle.automata_hybrid.specs.KnowingWalks.{KnowsWalk}
+use Rattle.automata_hybrid.specs.KnowingWalks.{HasLearnedUnits, KnowsWalk}
 use Rattle.automata_hybrid.specs.Searches.{tape_in}
 use Rattle.automata_hybrid.specs.Walking.{HasTold, IsWalkRefusal, TellsNext}
 use Rattle.automata_hybrid.specs.Walks.{At, Ended, Fresh, Walk, way_of}
 use Rattle.automata_hybrid.proofs.KnowingWalks.{still_same}
 use Rattle.automata_hybrid.proofs.Searching.{false_true}
-use Rattle.automata_hybrid.proofs.WalkCalls.{next_done, next_ended, next_read, next_same, undone}
+use Rattle.automata_hybrid.proofs.WalkCalls.{ended_at, next_done, next_ended, next_read, next_same, undone}
 use Rattle.automata_hybrid.proofs.WalkUnits.{units_in}
 use Rattle.automata_hybrid.proofs.dfa.DFA.call.Goals as goal
 
@@ -105,3 +105,47 @@ returns-then-is_lost-clause-idle c = λ knows. (
   still_same c.args.cache.now c.args.cache.now refl,
   λ kept. absurd (false_true (sym kept ∙ (sym (ap (λ (w : Walk). w.lost) c.forget_match.ensures) ∙ (sym c.is_lost.ensures.lost ∙ c.if-is_lost.true)))),
 )
+
+pub returns-then-has_ended-clause-units : goal.returns-then-has_ended-clause-units
+returns-then-has_ended-clause-units c = λ nothing j l h.
+    let same : c.forget_match.new.self.units ≡ c.args.walk.now.units = ap (λ (w : Walk). w.units) c.forget_match.ensures in
+    absurd (omega (arith, same, l, h))
+
+pub returns-then-is_done-clause-units : goal.returns-then-is_done-clause-units
+returns-then-is_done-clause-units c = λ nothing j l h.
+    let same : c.end.new.self.units ≡ c.args.walk.now.units = ap (λ (w : Walk). w.units) c.end.ensures ∙ (c.units.ensures ∙ ap (λ (w : Walk). w.units) c.forget_match.ensures) in
+    absurd (omega (arith, same, l, h))
+
+pub returns-in-Some-clause-units : goal.returns-in-Some-clause-units
+returns-in-Some-clause-units c = λ nothing j l h.
+    let same : c.tell.new.self.units ≡ c.args.walk.now.units = ap (λ (w : Walk). w.units) c.tell.ensures ∙ ap (λ (w : Walk). w.units) c.forget_match.ensures in
+    absurd (omega (arith, same, l, h))
+
+pub returns-then-units-last_place-clause-units : goal.returns-then-units-last_place-clause-units
+returns-then-units-last_place-clause-units c = λ nothing j l h.
+    let same : c.end-then-units-last_place.new.self.units ≡ c.args.walk.now.units = ap (λ (w : Walk). w.units) c.end-then-units-last_place.ensures ∙ (c.units-then-units-last_place.ensures ∙ ap (λ (w : Walk). w.units) c.forget_match.ensures) in
+    absurd (omega (arith, same, l, h))
+
+pub returns-clause-units : goal.returns-clause-units
+returns-clause-units c = λ nothing.
+    subst (λ (w : Walk). OnOk c.walk_on.result (HasLearnedUnits (way_of c.args.way) c.args.self.now c.walk_on.new.cache.store c.args.input.now w.units c.walk_on.new.walk.units)) c.forget_match.ensures (c.walk_on.ensures.units nothing)
+
+pub returns-then-has_ended-clause-stops : goal.returns-then-has_ended-clause-stops
+returns-then-has_ended-clause-stops c = λ undone on. absurd (on (subst (λ (w : Walk). w.stage ≡ Ended) c.forget_match.ensures (c.has_ended.ensures.yes c.if-has_ended.true)))
+
+pub returns-then-is_done-clause-stops : goal.returns-then-is_done-clause-stops
+returns-then-is_done-clause-stops c = λ undone on.
+    absurd (let done : c.args.input.now.end < c.args.input.now.start = c.is_done.ensures.done.0 c.if-is_done.true in omega (arith, done, undone))
+
+pub returns-in-Some-clause-stops : goal.returns-in-Some-clause-stops
+returns-in-Some-clause-stops c = λ undone on ended.
+    let left = c.in-Some.ensures.left in
+    let stage : c.tell.new.self.stage ≡ At left.0 = ap (λ (w : Walk). w.stage) c.tell.ensures ∙ left.1 in
+    absurd (ended_at left.0 (sym ended ∙ stage))
+
+pub returns-then-units-last_place-clause-stops : goal.returns-then-units-last_place-clause-stops
+returns-then-units-last_place-clause-stops c = λ undone on ended j l reads.
+    let units : c.args.input.now.end - c.args.input.now.start ≡ length (tape_in (way_of c.args.way) c.args.input.now).bytes = units_in (way_of c.args.way) c.args.input.now undone c.haystack-haystack.ensures.within.1 in
+    let same : c.end-then-units-last_place.new.self.units ≡ c.forget_match.new.self.units = ap (λ (w : Walk). w.units) c.end-then-units-last_place.ensures ∙ c.units-then-units-last_place.ensures in
+    let few : j ≤ length (tape_in (way_of c.args.way) c.args.input.now).bytes = reads.0 in
+    absurd (omega (arith, units, same, few, l, c.units-2.ensures, c.last_place.ensures, c.if-units-last_place.true))

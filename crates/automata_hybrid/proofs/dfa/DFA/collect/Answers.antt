@@ -1,4 +1,4 @@
-use Rattle.std.proofs.Common.{◌≡◌, ◌∙◌, List, Bool, true, length, set, Some, rules, sym, ap, subst, arith}
+use Rattle.std.proofs.Common.{inl, inr, length-set, ◌≡◌, ◌∙◌, List, Bool, true, length, set, Some, rules, sym, ap, subst, arith}
 use Rattle.std.specs.Prelude.{IsTrue}
 use Rattle.automata_base.specs.Answers.{ArePatterns, IsOverlapping}
 use Rattle.automata_base.specs.Engines.{engine_of}
@@ -6,11 +6,13 @@ use Rattle.automata_base.specs.PatternSet.{members}
 use Rattle.automata_base.specs.Selections.{Pair}
 use Rattle.automata_base.specs.Tapes.{Forward}
 use Rattle.automata_base.specs.WalkLaws.{WalkIsRight, WalksAreTold}
+use Rattle.automata_hybrid.specs.Growing.{ClearedNothing, IsGrown}
 use Rattle.automata_hybrid.specs.Walking.{AreWalked}
-use Rattle.automata_hybrid.specs.Walks.{Fresh}
-use Rattle.automata_hybrid.proofs.Growing.{grown_trans}
+use Rattle.automata_hybrid.specs.Walks.{Ended, Fresh}
+use Rattle.automata_hybrid.proofs.Growing.{grown_trans, nothing_first, nothing_second}
+use Rattle.automata_hybrid.proofs.LearningSets.{half_none, learned_call, open_stops, set_knows}
 use Rattle.automata_hybrid.proofs.Searching.{false_true, if_err, ok_err}
-use Rattle.automata_hybrid.proofs.WalkSets.{IsLacking, Joins, StandsWell, either, joins_all, joins_first, joins_full, joins_more, lacking, on_found, patterns_turn, stands_well, steps_less, which_still, which_walk}
+use Rattle.automata_hybrid.proofs.WalkSets.{IsLacking, Joins, StandsWell, either, joins_all, joins_first, joins_full, joined_more, joins_more, lacking, on_found, patterns_turn, stands_well, steps_less, which_still, which_walk}
 use Rattle.automata_hybrid.proofs.dfa.DFA.collect.Goals as goal
 
 pub returns-in_err-call-clause-errors : goal.returns-in_err-call-clause-errors
@@ -116,6 +118,13 @@ loop-walk-preserved c =
           let here = c.in_ok-call.ensures.idle (which_walk c.args.self.now c.loop-walk.cache.store c.args.input.now c.loop-walk.walk c.args.patset.now c.loop-walk.patset c.loop-walk.invariant.joins list c.loop-walk.invariant.holds
           (which_still c.args.self.now c.args.input.now c.args.patset.now c.args.cache.now c.loop-walk.cache c.loop-walk.invariant.grown count knows)) in
           here.0.0 ∙ count);
+      on = on.0;
+      learned = λ nothing undone may. (
+          let stepped : IsGrown c.loop-walk.cache c.call.new.cache = c.in_ok-call.ensures.there c.loop-walk.invariant.holds in
+          let first : ClearedNothing c.args.cache.now.store c.loop-walk.cache.store = nothing_first c.args.cache.now c.loop-walk.cache c.call.new.cache c.loop-walk.invariant.grown stepped nothing in
+          let second : ClearedNothing c.loop-walk.cache.store c.call.new.cache.store = nothing_second c.args.cache.now c.loop-walk.cache c.call.new.cache c.loop-walk.invariant.grown stepped nothing in
+          let all = learned_call c.args.self.now c.args.input.now c.loop-walk.cache c.call.new.cache c.loop-walk.walk c.call.new.walk j.k stepped second j.told undone may (c.loop-walk.invariant.learned first undone may) (c.in_ok-call.ensures.learned second) (c.in_ok-call.ensures.units second) in
+          inr all);
       begins = λ not. absurd (ok_err (c.in_ok-call.ensures.unsupported (c.loop-walk.invariant.begins not) not.0 not.1 not.2));
       joins =
           subst (Joins c.args.self.now c.args.input.now c.call.new.walk c.args.patset.now) (sym put)
@@ -177,3 +186,53 @@ returns-then-get_earliest-clause-idle c = λ knows.
     let here = c.in_ok-call.ensures.idle (which_walk c.args.self.now c.loop-walk.cache.store c.args.input.now c.loop-walk.walk c.args.patset.now c.loop-walk.patset c.loop-walk.invariant.joins list c.loop-walk.invariant.holds
     (which_still c.args.self.now c.args.input.now c.args.patset.now c.args.cache.now c.loop-walk.cache c.loop-walk.invariant.grown count knows)) in
     ((returns-then-get_earliest-clause-grown c).idle (here.0.0 ∙ count), tt)
+
+pub returns-in_default-clause-learned : goal.returns-in_default-clause-learned
+returns-in_default-clause-learned c = λ nothing undone may.
+    let stepped : IsGrown c.loop-walk.cache c.call.new.cache = c.in_ok-call.ensures.there c.loop-walk.invariant.holds in
+    let first : ClearedNothing c.args.cache.now.store c.loop-walk.cache.store = nothing_first c.args.cache.now c.loop-walk.cache c.call.new.cache c.loop-walk.invariant.grown stepped nothing in
+    let second : ClearedNothing c.loop-walk.cache.store c.call.new.cache.store = nothing_second c.args.cache.now c.loop-walk.cache c.call.new.cache c.loop-walk.invariant.grown stepped nothing in
+    let j = c.loop-walk.invariant.joins in
+    let all = learned_call c.args.self.now c.args.input.now c.loop-walk.cache c.call.new.cache c.loop-walk.walk c.call.new.walk j.k stepped second j.told undone may (c.loop-walk.invariant.learned first undone may) (c.in_ok-call.ensures.learned second) (c.in_ok-call.ensures.units second) in
+    let told : WalksAreTold c.args.self.now.nfa = subst WalksAreTold c.get_nfa.ensures c.walk_is_right.ensures.told in
+    let list : (pairs : List Pair) × AreWalked Forward c.args.self.now c.args.input.now pairs = told Forward c.args.self.now.kind c.args.input.now in
+    let next = (c.in_ok-call.ensures.tells j.k j.told).1 list.0 list.1 in
+    let ended : c.call.new.walk.stage ≡ Ended = next.1 (half_none list.0 j.k (sym next.0 ∙ (sym c.get_match.ensures ∙ c.in_default.«is»))) in
+    set_knows c.args.self.now c.call.new.cache.store c.args.input.now c.args.patset.now c.call.new.walk all
+    (λ n pairs l reads unsplit is_open. c.in_ok-call.ensures.stops undone c.loop-walk.invariant.on ended n l reads)
+
+pub returns-then-is_full-clause-learned : goal.returns-then-is_full-clause-learned
+returns-then-is_full-clause-learned c = λ nothing undone may.
+    let stepped : IsGrown c.loop-walk.cache c.call.new.cache = c.in_ok-call.ensures.there c.loop-walk.invariant.holds in
+    let first : ClearedNothing c.args.cache.now.store c.loop-walk.cache.store = nothing_first c.args.cache.now c.loop-walk.cache c.call.new.cache c.loop-walk.invariant.grown stepped nothing in
+    let second : ClearedNothing c.loop-walk.cache.store c.call.new.cache.store = nothing_second c.args.cache.now c.loop-walk.cache c.call.new.cache c.loop-walk.invariant.grown stepped nothing in
+    let j = c.loop-walk.invariant.joins in
+    let all = learned_call c.args.self.now c.args.input.now c.loop-walk.cache c.call.new.cache c.loop-walk.walk c.call.new.walk j.k stepped second j.told undone may (c.loop-walk.invariant.learned first undone may) (c.in_ok-call.ensures.learned second) (c.in_ok-call.ensures.units second) in
+    let told : WalksAreTold c.args.self.now.nfa = subst WalksAreTold c.get_nfa.ensures c.walk_is_right.ensures.told in
+    let list : (pairs : List Pair) × AreWalked Forward c.args.self.now c.args.input.now pairs = told Forward c.args.self.now.kind c.args.input.now in
+    let found : c.call.new.walk.found ≡ Some c.in-Some.half = sym c.get_match.ensures ∙ c.in-Some.«is» in
+    let put : c.try_insert.new.self ≡ set c.loop-walk.patset c.in-Some.half.pattern true = c.try_insert.ensures.inserted ∙ ap (λ n. set c.loop-walk.patset n true) c.pattern.ensures in
+    let on = on_found c.loop-walk.walk c.call.new.walk c.in-Some.half c.in_ok-call.ensures.goes_on found in
+    set_knows c.args.self.now c.call.new.cache.store c.args.input.now c.args.patset.now c.call.new.walk all
+    (open_stops c.args.self.now c.args.input.now c.call.new.walk j.k (c.in_ok-call.ensures.tells j.k j.told).0 on.0 c.args.patset.now (set c.loop-walk.patset c.in-Some.half.pattern true) list.0 undone list.1
+    (length-set c.loop-walk.patset c.in-Some.half.pattern true ∙ j.capacity)
+    (joined_more c.args.self.now c.args.input.now c.args.patset.now c.loop-walk.walk c.call.new.walk c.loop-walk.patset j c.in_ok-call.ensures.tells list c.in-Some.half found)
+    (inr (subst (λ (s : List Bool). length (members s) ≡ length s) put (c.is_full.ensures.0 c.if-is_full.true))))
+
+pub returns-then-get_earliest-clause-learned : goal.returns-then-get_earliest-clause-learned
+returns-then-get_earliest-clause-learned c = λ nothing undone may.
+    let stepped : IsGrown c.loop-walk.cache c.call.new.cache = c.in_ok-call.ensures.there c.loop-walk.invariant.holds in
+    let first : ClearedNothing c.args.cache.now.store c.loop-walk.cache.store = nothing_first c.args.cache.now c.loop-walk.cache c.call.new.cache c.loop-walk.invariant.grown stepped nothing in
+    let second : ClearedNothing c.loop-walk.cache.store c.call.new.cache.store = nothing_second c.args.cache.now c.loop-walk.cache c.call.new.cache c.loop-walk.invariant.grown stepped nothing in
+    let j = c.loop-walk.invariant.joins in
+    let all = learned_call c.args.self.now c.args.input.now c.loop-walk.cache c.call.new.cache c.loop-walk.walk c.call.new.walk j.k stepped second j.told undone may (c.loop-walk.invariant.learned first undone may) (c.in_ok-call.ensures.learned second) (c.in_ok-call.ensures.units second) in
+    let told : WalksAreTold c.args.self.now.nfa = subst WalksAreTold c.get_nfa.ensures c.walk_is_right.ensures.told in
+    let list : (pairs : List Pair) × AreWalked Forward c.args.self.now c.args.input.now pairs = told Forward c.args.self.now.kind c.args.input.now in
+    let found : c.call.new.walk.found ≡ Some c.in-Some.half = sym c.get_match.ensures ∙ c.in-Some.«is» in
+    let put : c.try_insert.new.self ≡ set c.loop-walk.patset c.in-Some.half.pattern true = c.try_insert.ensures.inserted ∙ ap (λ n. set c.loop-walk.patset n true) c.pattern.ensures in
+    let on = on_found c.loop-walk.walk c.call.new.walk c.in-Some.half c.in_ok-call.ensures.goes_on found in
+    set_knows c.args.self.now c.call.new.cache.store c.args.input.now c.args.patset.now c.call.new.walk all
+    (open_stops c.args.self.now c.args.input.now c.call.new.walk j.k (c.in_ok-call.ensures.tells j.k j.told).0 on.0 c.args.patset.now (set c.loop-walk.patset c.in-Some.half.pattern true) list.0 undone list.1
+    (length-set c.loop-walk.patset c.in-Some.half.pattern true ∙ j.capacity)
+    (joined_more c.args.self.now c.args.input.now c.args.patset.now c.loop-walk.walk c.call.new.walk c.loop-walk.patset j c.in_ok-call.ensures.tells list c.in-Some.half found)
+    (inl (sym c.get_earliest.ensures ∙ c.if-get_earliest.true)))

@@ -1,9 +1,13 @@
 use Rattle.std.proofs.Common.{◌≡◌, ◌≤◌, ◌+◌, ◌-◌}
 use Rattle.automata_hybrid.specs.Caches.{IsCacheOf}
-use Rattle.automata_hybrid.specs.Growing.{IsGrown}
+use Rattle.automata_hybrid.specs.Growing.{ClearedNothing, IsGrown}
 use Rattle.automata_hybrid.specs.KnowingWalks.{KnowsWhich}
+use Rattle.automata_base.specs.Tapes.{Forward}
+use Rattle.automata_hybrid.specs.Searches.{tape_in}
+use Rattle.automata_hybrid.specs.Starting.{MayStart}
 use Rattle.automata_hybrid.specs.Walking.{HasItsState, start_count}
-use Rattle.automata_hybrid.specs.Walks.{Fresh}
+use Rattle.automata_hybrid.specs.Walks.{Ended, Fresh}
+use Rattle.automata_hybrid.proofs.LearningSets.{HasLearnedWalk}
 use Rattle.automata_hybrid.proofs.WalkSets.{Joins, MayNotStart, steps_left}
 use Rattle.automata_hybrid.proofs.dfa.DFA.collect.Given as goal
 
@@ -16,6 +20,8 @@ invariant-loop-walk l = record {
   few : l.walk.units ≤ l.input.end - l.input.start + 1;
   begins : MayNotStart l.self l.input → l.walk.stage ≡ Fresh;
   idle : KnowsWhich l.self l.fn.cache.store l.input l.fn.patset → l.cache.count ≡ l.fn.cache.count;
+  on : l.walk.stage ≡ Ended → ⊥;
+  learned : ClearedNothing l.fn.cache.store l.cache.store → l.input.start ≤ l.input.end → MayStart l.self l.input.anchored (tape_in Forward l.input).before → HasLearnedWalk l.self l.cache.store l.input l.walk;
   joins : Joins l.self l.input l.walk l.fn.patset l.patset;
 }
 

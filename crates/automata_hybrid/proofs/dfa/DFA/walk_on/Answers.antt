@@ -6,8 +6,8 @@ use Rattle.automata_hybrid.specs.Growing.{ClearedNothing, IsGrown}
 use Rattle.automata_hybrid.specs.KnowingWalks.{HasLearnedUnits, IsToRead}
 use Rattle.automata_hybrid.specs.Searches.{HasReadNoQuit, state_in, tape_in}
 use Rattle.automata_hybrid.specs.Table.{Rows, Leads}
-use Rattle.automata_hybrid.specs.Walking.{Finishes, HasToldBy, IsAdvanceRefusal, IsArrival, TellsNext}
-use Rattle.automata_hybrid.specs.Walks.{Walk, way_of}
+use Rattle.automata_hybrid.specs.Walking.{Finishes, HasToldBy, IsAdvanceRefusal, IsArrival, TellsNext, WalkReads}
+use Rattle.automata_hybrid.specs.Walks.{Ended, Walk, way_of}
 use Rattle.automata_hybrid.proofs.Growing.{grown_after, grown_moved, grown_trans, nothing_second}
 use Rattle.automata_hybrid.proofs.KnowingWalks.{has_state, nothing_after, state_after, state_still, still_same, unit_knows, units_all}
 use Rattle.automata_hybrid.proofs.Searching.{dead_more, if_err}
@@ -178,3 +178,46 @@ returns-clause-learned c = λ nothing k told ready may.
       state_still d c.args.self.now c.resume.new.cache c.advance.new.cache c.args.input.now w.stage whole after c.in_ok-from.ensures.learned,
       units_all d c.args.self.now c.advance.new.cache.store c.args.input.now w.units k c.in_ok-arrival.arrival.id c.in_ok-arrival.arrival.units arrives here units,
     )
+
+pub returns-then-is_dead-clause-units : goal.returns-then-is_dead-clause-units
+returns-then-is_dead-clause-units c = λ nothing j l h.
+    let same : c.end.new.self.units ≡ c.args.walk.now.units = ap (λ (w : Walk). w.units) c.end.ensures ∙ c.units-then-is_dead.ensures in
+    absurd (omega (arith, same, l, h))
+
+pub returns-then-is_dead-clause-stops : goal.returns-then-is_dead-clause-stops
+returns-then-is_dead-clause-stops c = λ ended j l reads.
+    let d : Direction = way_of c.args.way in
+    let w : Walk = c.args.walk.now in
+    let same : c.end.new.self.units ≡ w.units = ap (λ (v : Walk). v.units) c.end.ensures ∙ c.units-then-is_dead.ensures in
+    let leads : Leads c.search_start.new.self.store.table c.in_ok-from.from (state_in d c.args.self.now c.args.input.now w.units) = subst (λ (t : Rows). Leads t c.in_ok-from.from (state_in d c.args.self.now c.args.input.now w.units)) (sym c.search_start.ensures.table) c.in_ok-from.ensures.leads in
+    let dies : state_in d c.args.self.now c.args.input.now w.units ≡ dead = (dead_tagged c.search_start.new.self.store.table c.in_ok-from.from (c.see_ids.ensures.low c.in_ok-from.from) c.see_ids.ensures.small _ leads).0 (c.if-is_dead.ensures.0 refl) in
+    reads.1 (dead_more d c.args.self.now c.args.input.now w.units j (omega (arith, same, l)) dies)
+
+pub returns-clause-units : goal.returns-clause-units
+returns-clause-units c = λ nothing.
+    let d : Direction = way_of c.args.way in
+    let w : Walk = c.args.walk.now in
+    let moved : IsGrown c.resume.new.cache c.search_start.new.self = grown_moved c.resume.new.cache c.search_start.new.self c.search_start.ensures.value in
+    let whole : IsGrown c.resume.new.cache c.advance.new.cache = grown_trans c.resume.new.cache c.search_start.new.self c.advance.new.cache moved c.in_ok-arrival.ensures.grown in
+    let after : ClearedNothing c.resume.new.cache.store c.advance.new.cache.store = nothing_after c.args.cache.now c.resume.new.cache c.advance.new.cache c.in_ok-from.ensures.grown whole nothing in
+    let second : ClearedNothing c.search_start.new.self.store c.advance.new.cache.store = nothing_second c.resume.new.cache c.search_start.new.self c.advance.new.cache moved c.in_ok-arrival.ensures.grown after in
+    let units : HasLearnedUnits d c.args.self.now c.advance.new.cache.store c.args.input.now w.units c.in_ok-arrival.arrival.units = subst (λ n. HasLearnedUnits d c.args.self.now c.advance.new.cache.store c.args.input.now n c.in_ok-arrival.arrival.units) c.units-2.ensures (c.in_ok-arrival.ensures.learned second) in
+    elim c.match-arrival.branch [
+      | in-None v ↦ subst (λ (x : Walk). HasLearnedUnits d c.args.self.now c.advance.new.cache.store c.args.input.now w.units x.units) (sym (v.walk-is ∙ v.end-in-None.ensures)) units
+      | in-Some v ↦
+          subst (λ (x : Walk). HasLearnedUnits d c.args.self.now c.advance.new.cache.store c.args.input.now w.units x.units) (sym v.walk-is)
+          (subst (HasLearnedUnits d c.args.self.now c.advance.new.cache.store c.args.input.now w.units) (sym v.stand.ensures.units) units)
+    ]
+
+pub returns-clause-stops : goal.returns-clause-stops
+returns-clause-stops c =
+    let d : Direction = way_of c.args.way in
+    let w : Walk = c.args.walk.now in
+    let arrives : IsArrival d c.args.self.now c.advance.new.cache.store.table c.args.input.now w.units c.in_ok-arrival.arrival.id c.in_ok-arrival.arrival.units = subst (λ n. IsArrival d c.args.self.now c.advance.new.cache.store.table c.args.input.now n c.in_ok-arrival.arrival.id c.in_ok-arrival.arrival.units) c.units-2.ensures c.in_ok-arrival.ensures.arrives in
+    elim c.match-arrival.branch [
+      | in-None v ↦
+          let finish : Finishes d c.args.self.now c.args.input.now w.units c.in_ok-arrival.arrival.units = subst (λ (o : Option ℕ). IsArrival d c.args.self.now c.advance.new.cache.store.table c.args.input.now w.units o c.in_ok-arrival.arrival.units) v.in-None.«is» arrives in
+          subst (λ (x : Walk). x.stage ≡ Ended → (j : ℕ) → x.units ≤ j → WalkReads d c.args.self.now c.args.input.now j → ⊥) (sym (v.walk-is ∙ v.end-in-None.ensures)) (λ ended. finish.stops)
+      | in-Some v ↦
+          subst (λ (x : Walk). x.stage ≡ Ended → (j : ℕ) → x.units ≤ j → WalkReads d c.args.self.now c.args.input.now j → ⊥) (sym v.walk-is) (λ ended. absurd (v.stand.ensures.on ended))
+    ]
