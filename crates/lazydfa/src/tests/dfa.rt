@@ -163,7 +163,7 @@ fn finds_date_after_date(rt: HostRuntime) -> Result<(), Fail> {
     Ok(())
 }
 
-fn dates(alloc: Global) -> Result<Vec<u8>, AllocError> {
+pub fn dates(alloc: Global) -> Result<Vec<u8>, AllocError> {
     let mut haystack = Vec::new(alloc);
     for _ in 0..10_000u32 {
         haystack.extend_from_slice(b"2018-12-24 ")?;

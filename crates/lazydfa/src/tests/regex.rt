@@ -1,0 +1,265 @@
+//! The calls of a regex over one cache, by rows with what they tell.
+
+ghost use Rattle.regex_automata.specs.RegexCaches.{AreCachesOf};
+
+use super::dfa::dates;
+use super::regex_bench::{Ask, Pair, RegexBench};
+use super::tells::{Automaton, built};
+use super::{same_of, same_text};
+use crate::catalogue::Entry;
+use Ask::{
+    Counts, Find, Forward, Is, Items, Memory, Patterns, ReplaceForward, ReplaceReverse, Reset,
+    ResetForward, ResetReverse, Reverse,
+};
+use Pair::{Barren, Mixed, Of};
+use regex_automata::hybrid::dfa::DFA;
+use regex_automata::hybrid::regex::{Builder, Cache, Regex};
+use regex_automata::hybrid::{BuildError, SearchError};
+use regex_automata::util::primitives::PatternID;
+use regex_automata::util::search::{HalfMatch, Input};
+use std::alloc::Global;
+use std::fmt::Write;
+use std::process::Abort;
+use std::test::Fail;
+
+/// What the row shows, the automata, their options as a script has them, the calls, and what they tell, or why the
+/// regex is refused.
+pub type Row = (
+    &'static str,
+    Pair,
+    &'static str,
+    &'static [Ask],
+    &'static str,
+);
+
+const DATES: &str = "2018-12-24 2016-10-08";
+
+const WORDS: &str = "@foo bar";
+
+/// Three times sixteen bytes.
+const SIXTEENS: &str = "aaaaaaaaaaaaaaaaaaaaaaaaaaaaaaaaaaaaaaaaaaaaaaaa";
+
+#[rattlefmt::skip]
+const PARTS: &[Row] = &[
+    ("the forward part is replaced", Of(Entry::Date), "", &[Items(DATES), ReplaceForward, Items(DATES)],
+        "match 0 0..10; match 0 11..21; -; -, -, match 0 0..10; match 0 11..21; -; -"),
+    ("the reverse part is replaced", Of(Entry::Date), "", &[Items(DATES), ReplaceReverse, Items(DATES)],
+        "match 0 0..10; match 0 11..21; -; -, -, match 0 0..10; match 0 11..21; -; -"),
+    ("the forward part is reset", Of(Entry::Date), "", &[Find(DATES), ResetForward, Counts, Find(DATES), Counts],
+        "match 0 0..10, -, (0, 549, 0) (0, 1580, 9), match 0 0..10, (0, 1745, 11) (0, 1580, 18)"),
+    ("the reverse part is reset", Of(Entry::Date), "", &[Find(DATES), ResetReverse, Counts, Find(DATES), Counts],
+        "match 0 0..10, -, (0, 1745, 11) (0, 549, 0), match 0 0..10, (0, 1745, 22) (0, 1580, 9)"),
+    ("each part serves searches of its own", Of(Entry::Words), "",
+        &[Forward(WORDS), Reverse(WORDS), Counts, Find(WORDS), Counts],
+        "half 1 4, half 1 0, (0, 1082, 5) (0, 1383, 7), match 1 0..4, (0, 1082, 10) (0, 1911, 10)"),
+    ("the memory of both", Of(Entry::Date), "", &[Memory, Find(DATES), Memory, Reset, Memory],
+        "1098 549 549, match 0 0..10, 3325 1745 1580, -, 1098 549 549"),
+    ("one clear after another", Of(Entry::A16), "noclasses capacity=37281", &[Items(SIXTEENS), Counts],
+        "match 0 0..16; match 0 16..32; match 0 32..48; -, (4, 15084, 1) (0, 6677, 0)"),
+    ("one clear is free", Of(Entry::A16), "noclasses capacity=37281 limit=1", &[Items(SIXTEENS), Counts],
+        "match 0 0..16; gaveup 24; -; -, (1, 36104, 12) (0, 6677, 0)"),
+];
+
+#[test]
+fn serves_calls_by_both_parts(rt: HostRuntime) -> Result<(), Fail> {
+    tells_all(&rt, PARTS)
+}
+
+#[rattlefmt::skip]
+const STARTS: &[Row] = &[
+    ("the search back finds no start", Barren(Entry::Date), "", &[Find(DATES), Is(DATES), Items(DATES)],
+        "notapair, true, notapair; -; -; -"),
+    ("there is no search back where all are anchored", Barren(Entry::Ab), "", &[Find("ab"), Items("abab"), Counts],
+        "match 0 0..2, match 0 0..2; match 0 2..4; -; -, (0, 678, 7) (0, 221, 0)"),
+    ("nor where a match is empty", Barren(Entry::Empty), "", &[Find("a"), Items("ab")],
+        "match 0 0..0, match 0 0..0; match 0 1..1; match 0 2..2; -"),
+    ("nor where it is asked whether there is a match", Of(Entry::Words), "", &[Is(WORDS), Counts],
+        "true, (0, 965, 1) (0, 577, 0)"),
+];
+
+#[test]
+fn searches_back_for_starts(rt: HostRuntime) -> Result<(), Fail> {
+    tells_all(&rt, STARTS)
+}
+
+#[rattlefmt::skip]
+const ENDS: &[Row] = &[
+    ("behind the last match", Of(Entry::Runs), "", &[Items("ab 1")], "match 0 0..2; match 1 3..4; -; -"),
+    ("behind an empty match", Of(Entry::Always), "", &[Items("ab")], "match 0 0..0; match 0 1..1; match 0 2..2; -"),
+    ("behind a refusal", Of(Entry::Runs), "quit=78", &[Items("ab12xcd"), Items("ab1xcd")],
+        "match 0 0..2; quit 78 4; -; -, quit 78 3; -; -; -"),
+    ("two patterns", Of(Entry::Runs), "", &[Patterns], "2"),
+    ("no pattern", Of(Entry::Never), "", &[Patterns, Items("ab")], "0, -; -; -; -"),
+];
+
+#[test]
+fn ends_for_good(rt: HostRuntime) -> Result<(), Fail> {
+    tells_all(&rt, ENDS)
+}
+
+const UNSUPPORTED: &str =
+    "unsupported regex feature for DFAs: cannot build lazy DFAs for regexes with Unicode word boundaries; switch to ASCII word boundaries, or heuristically enable Unicode word boundaries or use a different regex engine";
+
+#[rattlefmt::skip]
+const REFUSED: &[Row] = &[
+    ("unequal counts of patterns", Mixed(Entry::Aa, Entry::Ab), "", &[],
+        "forward DFA has 2 patterns and reverse DFA has 1"),
+    ("these before all else", Mixed(Entry::Bnum, Entry::Words), "capacity=0", &[],
+        "forward DFA has 1 patterns and reverse DFA has 2"),
+    ("the forward automaton", Of(Entry::Bound), "", &[], UNSUPPORTED),
+    ("its capacity, before the reverse automaton", Mixed(Entry::Ab, Entry::Bound), "capacity=1734", &[],
+        "given cache capacity (1734) is smaller than minimum required (1735)"),
+    ("the reverse automaton", Mixed(Entry::Ab, Entry::Bound), "capacity=1735", &[], UNSUPPORTED),
+    ("its capacity", Mixed(Entry::Ab, Entry::Date), "capacity=1735", &[],
+        "given cache capacity (1735) is smaller than minimum required (2649)"),
+];
+
+#[test]
+fn refuses_in_order(rt: HostRuntime) -> Result<(), Fail> {
+    tells_all(&rt, REFUSED)
+}
+
+fn tells_all<R: Abort + AllocGlobal>(rt: &R, rows: &[Row]) -> Result<(), Fail> {
+    for row in rows {
+        tells(rt, *row)?;
+    }
+    Ok(())
+}
+
+/// Makes the calls of a row.
+pub fn tells<R: Abort + AllocGlobal>(rt: &R, row: Row) -> Result<(), Fail> {
+    let (shows, pair, options, asks, told) = row;
+    let regex = pair.build(rt.alloc(), options)?;
+    let text = text_of(rt.alloc(), regex, asks)?;
+    same_text(rt, text.as_str(), told, shows);
+    Ok(())
+}
+
+/// What the calls tell, or why the regex is refused.
+fn text_of(alloc: Global, regex: Result<Regex, BuildError>, asks: &[Ask]) -> Result<String, Fail> {
+    let mut text = String::with_capacity(alloc, 1 << 10)?;
+    tell_into(alloc, regex, asks, &mut text)?;
+    Ok(text)
+}
+
+fn tell_into(
+    alloc: Global,
+    regex: Result<Regex, BuildError>,
+    asks: &[Ask],
+    text: &mut String,
+) -> Result<(), Fail> {
+    match regex {
+        Ok(regex) => {
+            let mut bench = RegexBench::new(regex)?;
+            bench.tell_all(alloc, asks, text)
+        }
+        Err(error) => Ok(write!(text, "{error}")?),
+    }
+}
+
+/// A cache of one regex serves another once it is reset to it.
+#[test]
+fn resets_to_another(rt: HostRuntime) -> Result<(), Fail> {
+    let mut text = String::new(rt.alloc());
+    reset_from_dates(rt.alloc(), &mut text)?;
+    let want = "match 0 0..10, (0, 335, 0) (0, 335, 0), match 0 0..2, (0, 678, 2) (0, 335, 0)";
+    same_text(&rt, text.as_str(), want, "a reset");
+    Ok(())
+}
+
+fn reset_from_dates(alloc: Global, text: &mut String) -> Result<(), Fail> {
+    let dates = Of(Entry::Date).build(alloc, "")??;
+    let mut bench = RegexBench::new(dates)?;
+    bench.tell_all(alloc, &[Find(DATES)], text)?;
+    reset_to_ab(alloc, bench, text)
+}
+
+fn reset_to_ab(alloc: Global, bench: RegexBench, text: &mut String) -> Result<(), Fail> {
+    let ab = Of(Entry::Ab).build(alloc, "")??;
+    let mut bench = bench.reset_to(ab)?;
+    bench.tell_all(alloc, &[Counts, Find("ab"), Counts], text)
+}
+
+/// A regex of two lazy automata that are there.
+#[test]
+fn joins_automata(rt: HostRuntime) -> Result<(), Fail> {
+    let forward = built(rt.alloc(), Automaton::Forward(Entry::Words), "")??;
+    let regex = joined(rt.alloc(), forward)?;
+    let text = text_of(rt.alloc(), Ok(regex), &[Items(WORDS)])?;
+    let want = "match 1 0..4; match 0 5..8; -; -";
+    same_text(&rt, text.as_str(), want, "a regex of two automata");
+    Ok(())
+}
+
+fn joined(alloc: Global, forward: DFA) -> Result<Regex, Fail> {
+    let reverse = built(alloc, Automaton::Reverse(Entry::Words), "all")??;
+    if forward.pattern_len() != reverse.pattern_len() {
+        return Err(Fail::from("unequal counts of patterns"));
+    }
+    Ok(Builder::default().build_from_dfas(forward, reverse))
+}
+
+/// Both parts of a cache, lent for writing at once.
+#[test]
+fn lends_both_parts(rt: HostRuntime) -> Result<(), Fail> {
+    let regex = Of(Entry::Words).build(rt.alloc(), "")??;
+    let mut cache = regex.create_cache()?;
+    let found = halves(&regex, &mut cache, &Input::new(WORDS.as_bytes()));
+    let pattern = PatternID::new(1).ok_or("a pattern")?;
+    let want = [4, 0].map(|offset| Ok(Some(HalfMatch::new(pattern, offset))));
+    same_of(&rt, &found, &want, &"both parts");
+    same_of(&rt, &usage(&mut cache), &(1082, 1383), &"their memory");
+    Ok(())
+}
+
+fn usage(cache: &mut Cache) -> (usize, usize) {
+    let forward = cache.forward().memory_usage();
+    let reverse = cache.reverse().memory_usage();
+    (forward, reverse)
+}
+
+/// Where a match ends, by the forward part, and where one starts, by the reverse part.
+fn halves(
+    regex: &Regex,
+    cache: &mut Cache,
+    input: &Input<'_>,
+) -> [Result<Option<HalfMatch>, SearchError>; 2]
+    requires { AreCachesOf cache.old regex.now }
+{
+    let (forward, reverse) = cache.as_parts_mut();
+    let end = regex.forward().try_search_fwd(forward, input);
+    let start = regex.reverse().try_search_rev(reverse, input);
+    [end, start]
+}
+
+/// Ten thousand dates, one after another.
+#[test]
+fn iterates_over_ten_thousand_dates(rt: HostRuntime) -> Result<(), Fail> {
+    let haystack = dates(rt.alloc())?;
+    let found = finds_dates(rt.alloc(), haystack.as_slice())?;
+    same_of(&rt, &found, &Ok(10_000), &"dates");
+    Ok(())
+}
+
+fn finds_dates(alloc: Global, haystack: &[u8]) -> Result<Result<usize, SearchError>, Fail> {
+    let regex = Of(Entry::Date).build(alloc, "")??;
+    let mut cache = regex.create_cache()?;
+    Ok(count_dates(&regex, &mut cache, haystack))
+}
+
+/// How many dates are found, each eleven bytes behind the one before. Another match isn't counted.
+fn count_dates(regex: &Regex, cache: &mut Cache, haystack: &[u8]) -> Result<usize, SearchError>
+    requires { AreCachesOf cache.old regex.now }
+{
+    let mut count = 0usize;
+    let mut start = 0usize;
+    for item in regex.find_iter(cache, Input::new(haystack)) {
+        let found = item?;
+        let is_next = found.start() == start && found.end() == start.saturating_add(10);
+        if is_next && found.pattern() == PatternID::ZERO {
+            count = count.saturating_add(1);
+        }
+        start = start.saturating_add(11);
+    }
+    Ok(count)
+}

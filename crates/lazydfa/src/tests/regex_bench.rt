@@ -1,0 +1,309 @@
+//! Calls of the library over one regex and its cache, and what they tell.
+
+ghost use Rattle.regex_automata.specs.RegexCaches.{AreCachesOf};
+
+use super::exhaust;
+use super::plans::ids_of;
+use super::tells::config;
+use crate::catalogue::Entry;
+use crate::reply::Reply;
+use regex_automata::hybrid::regex::iterate::collect_matches;
+use regex_automata::hybrid::regex::{Cache, Regex};
+use regex_automata::hybrid::{BuildError, SearchError};
+use regex_automata::nfa::thompson::{Flags, NFA, NfaError, State};
+use regex_automata::util::primitives::StateID;
+use regex_automata::util::search::{Input, Match};
+use std::alloc::{AllocError, Global};
+use std::fmt;
+use std::fmt::Write;
+use std::test::Fail;
+
+/// Two automata for a regex.
+#[derive(Clone, Copy)]
+pub enum Pair {
+    /// Those of an entry.
+    Of(Entry),
+    /// The forward one of an entry, and the reverse one of another.
+    Mixed(Entry, Entry),
+    /// The forward one of an entry, and a reverse one of one pattern that it never matches.
+    Barren(Entry),
+}
+
+impl Pair {
+    pub fn forward(self, alloc: Global) -> Result<NFA, NfaError> {
+        match self {
+            Pair::Of(entry) | Pair::Mixed(entry, _) | Pair::Barren(entry) => entry.forward(alloc),
+        }
+    }
+
+    pub fn reverse(self, alloc: Global) -> Result<NFA, NfaError> {
+        match self {
+            Pair::Of(entry) | Pair::Mixed(_, entry) => entry.reverse(alloc),
+            Pair::Barren(_) => barren(alloc),
+        }
+    }
+
+    /// The regex with these options, or why it is refused.
+    pub fn build(self, alloc: Global, options: &str) -> Result<Result<Regex, BuildError>, Fail> {
+        let config = config(alloc, options)?;
+        let forward = self.forward(alloc)?;
+        let reverse = self.reverse(alloc)?;
+        Ok(
+            Regex::builder()
+                .dfa(config)
+                .build_from_nfas(forward, reverse),
+        )
+    }
+}
+
+/// One state, which fails.
+fn barren(alloc: Global) -> Result<NFA, NfaError> {
+    let flags = Flags {
+        reverse: true,
+        ..Flags::default()
+    };
+    let states = failing(alloc)?;
+    let starts = ids_of(alloc, &[0])?;
+    NFA::from_states(alloc, states, StateID::ZERO, StateID::ZERO, starts, flags)
+}
+
+fn failing(alloc: Global) -> Result<Vec<State>, AllocError> {
+    Ok(vec![in alloc; State::Fail]?)
+}
+
+/// A call.
+#[derive(Clone, Copy)]
+pub enum Ask {
+    Find(&'static str),
+    FindEarliest(&'static str),
+    /// Whether there is a match.
+    Is(&'static str),
+    /// The first four items of an iteration.
+    Items(&'static str),
+    /// A search by a part of the cache that is lent for writing.
+    Forward(&'static str),
+    Reverse(&'static str),
+    /// A part of the cache is replaced by a new one.
+    ReplaceForward,
+    ReplaceReverse,
+    /// A part of the cache is reset.
+    ResetForward,
+    ResetReverse,
+    Reset,
+    /// The memory of the cache, and of each part.
+    Memory,
+    /// How often each part was cleared, its memory, and the bytes searched.
+    Counts,
+    /// How many patterns there are.
+    Patterns,
+    /// Takes all memory that is left.
+    Exhaust,
+}
+
+/// What a call tells.
+#[derive(Drop)]
+enum Told {
+    Nothing,
+    Replied(Reply),
+    Items([Item; 4]),
+    NoMemory,
+    Number(usize),
+    Memory(usize, usize, usize),
+    Counts(Counts),
+}
+
+/// An item of an iteration, if it hasn't ended.
+type Item = Option<Result<Match, SearchError>>;
+
+/// What is counted of each part of a cache: clears, memory, and bytes searched.
+pub type Counts = [(usize, usize, usize); 2];
+
+impl Told {
+    fn of_growth(grown: Result<(), AllocError>) -> Told {
+        match grown {
+            Ok(()) => Told::Nothing,
+            Err(AllocError) => Told::NoMemory,
+        }
+    }
+}
+
+impl fmt::Display for Told {
+    fn fmt<W: fmt::Write>(&self, f: &mut fmt::Formatter<W>) -> fmt::Result {
+        match self {
+            Told::Nothing => write!(f, "-"),
+            Told::Replied(reply) => write!(f, "{reply}"),
+            Told::Items([first, second, third, fourth]) => {
+                write_item(f, "", *first)?;
+                write_item(f, "; ", *second)?;
+                write_item(f, "; ", *third)?;
+                write_item(f, "; ", *fourth)
+            }
+            Told::NoMemory => write!(f, "out of memory"),
+            Told::Number(number) => write!(f, "{number}"),
+            Told::Memory(both, forward, reverse) => write!(f, "{both} {forward} {reverse}"),
+            Told::Counts([forward, reverse]) => write!(f, "{forward:?} {reverse:?}"),
+        }
+    }
+}
+
+fn write_item<W: fmt::Write>(f: &mut fmt::Formatter<W>, before: &str, item: Item) -> fmt::Result {
+    match item {
+        Some(item) => write!(f, "{before}{}", Reply::Span(item.map(Some))),
+        None => write!(f, "{before}-"),
+    }
+}
+
+/// A regex, and a cache of its own.
+#[derive(Drop)]
+pub struct RegexBench {
+    regex: Regex,
+    cache: Cache,
+    ghost of: { AreCachesOf cache regex },
+}
+
+impl RegexBench {
+    pub fn new(regex: Regex) -> Result<RegexBench, AllocError> {
+        let cache = regex.create_cache()?;
+        Ok(RegexBench { regex, cache })
+    }
+
+    /// Writes what the calls tell.
+    pub fn tell_all(&mut self, alloc: Global, asks: &[Ask], text: &mut String) -> Result<(), Fail> {
+        for ask in asks {
+            if !text.is_empty() {
+                text.push_str(", ")?;
+            }
+            let told = self.answer(alloc, *ask);
+            write!(text, "{told}")?;
+        }
+        Ok(())
+    }
+
+    fn answer(&mut self, alloc: Global, ask: Ask) -> Told {
+        match ask {
+            Ask::Find(haystack) => self.find(&Input::new(haystack.as_bytes())),
+            Ask::FindEarliest(haystack) => {
+                self.find(&Input::new(haystack.as_bytes()).earliest(true))
+            }
+            Ask::Is(haystack) => self.is_match(&Input::new(haystack.as_bytes())),
+            Ask::Items(haystack) => self.items(Input::new(haystack.as_bytes())),
+            Ask::Forward(haystack) => self.forward(&Input::new(haystack.as_bytes())),
+            Ask::Reverse(haystack) => self.reverse(&Input::new(haystack.as_bytes())),
+            Ask::ReplaceForward => Told::of_growth(self.replace_forward()),
+            Ask::ReplaceReverse => Told::of_growth(self.replace_reverse()),
+            Ask::ResetForward => Told::of_growth(self.reset_forward()),
+            Ask::ResetReverse => Told::of_growth(self.reset_reverse()),
+            Ask::Reset => Told::of_growth(self.reset()),
+            Ask::Memory => self.memory(),
+            Ask::Counts => Told::Counts(self.counts()),
+            Ask::Patterns => Told::Number(self.regex.pattern_len()),
+            Ask::Exhaust => {
+                exhaust(alloc);
+                Told::Nothing
+            }
+        }
+    }
+
+    pub fn search(&mut self, input: &Input<'_>) -> Result<Option<Match>, SearchError> {
+        self.regex.try_search(&mut self.cache, input)
+    }
+
+    pub fn holds(&mut self, input: &Input<'_>) -> Result<bool, SearchError> {
+        self.regex.is_match(&mut self.cache, input)
+    }
+
+    /// The matches, and the error that ended them, if one did.
+    pub fn matches(
+        &mut self,
+        alloc: Global,
+        input: Input<'_>,
+    ) -> Result<(Vec<Match>, Option<SearchError>), AllocError> {
+        collect_matches(alloc, &self.regex, &mut self.cache, input)
+    }
+
+    pub fn regex(&self) -> &Regex {
+        &self.regex
+    }
+
+    fn find(&mut self, input: &Input<'_>) -> Told {
+        Told::Replied(Reply::Span(self.regex.find(&mut self.cache, input)))
+    }
+
+    fn is_match(&mut self, input: &Input<'_>) -> Told {
+        Told::Replied(Reply::Truth(self.holds(input)))
+    }
+
+    fn items(&mut self, input: Input<'_>) -> Told {
+        let mut items = self.regex.find_iter(&mut self.cache, input);
+        Told::Items([items.next(), items.next(), items.next(), items.next()])
+    }
+
+    fn forward(&mut self, input: &Input<'_>) -> Told {
+        let dfa = self.regex.forward();
+        let found = dfa.try_search_fwd(self.cache.forward_mut(), input);
+        Told::Replied(Reply::Half(found))
+    }
+
+    fn reverse(&mut self, input: &Input<'_>) -> Told {
+        let dfa = self.regex.reverse();
+        let found = dfa.try_search_rev(self.cache.reverse_mut(), input);
+        Told::Replied(Reply::Half(found))
+    }
+
+    fn replace_forward(&mut self) -> Result<(), AllocError> {
+        let new = self.regex.forward().create_cache()?;
+        *self.cache.forward_mut() = new;
+        Ok(())
+    }
+
+    fn replace_reverse(&mut self) -> Result<(), AllocError> {
+        let new = self.regex.reverse().create_cache()?;
+        *self.cache.reverse_mut() = new;
+        Ok(())
+    }
+
+    fn reset_forward(&mut self) -> Result<(), AllocError> {
+        self.regex.forward().reset_cache(self.cache.forward_mut())
+    }
+
+    fn reset_reverse(&mut self) -> Result<(), AllocError> {
+        self.regex.reverse().reset_cache(self.cache.reverse_mut())
+    }
+
+    pub fn reset(&mut self) -> Result<(), AllocError> {
+        self.regex.reset_cache(&mut self.cache)
+    }
+
+    /// The same cache, reset to another regex.
+    pub fn reset_to(self, regex: Regex) -> Result<RegexBench, AllocError> {
+        let RegexBench { cache, .. } = self;
+        let mut cache = cache;
+        regex.reset_cache(&mut cache)?;
+        Ok(RegexBench { regex, cache })
+    }
+
+    fn memory(&self) -> Told {
+        let (forward, reverse) = self.cache.as_parts();
+        Told::Memory(
+            self.cache.memory_usage(),
+            forward.memory_usage(),
+            reverse.memory_usage(),
+        )
+    }
+
+    pub fn counts(&self) -> Counts {
+        let (forward, reverse) = self.cache.as_parts();
+        [
+            (
+                forward.clear_count(),
+                forward.memory_usage(),
+                forward.search_total_len(),
+            ),
+            (
+                reverse.clear_count(),
+                reverse.memory_usage(),
+                reverse.search_total_len(),
+            ),
+        ]
+    }
+}
