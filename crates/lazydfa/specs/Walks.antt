@@ -9,4 +9,5 @@ use Rattle.regex_automata.specs.Walks.{Walk}
 -- it is a walk over this input, backward where the automaton is for reverse searches
 abbrev pub IsWalkOver : Machine → Input → Walk → Type 0
 IsWalkOver m input w =
-    (m.nfa.flags.reverse ≡ false → IsWalkOf Forward m input w) × (m.nfa.flags.reverse ≡ true → IsWalkOf Backward m input w)
+    (m.nfa.flags.reverse ≡ false → IsWalkOf Forward m input w)
+    × (m.nfa.flags.reverse ≡ true → IsWalkOf Backward m input w)

@@ -6,6 +6,7 @@ ghost use Rattle.lazydfa.specs.Walks.{IsWalkOver};
 
 use super::exhaust;
 use super::memory::{Part, Turns, check};
+use super::plans::pattern_id;
 use super::tells::{Automaton, built};
 use super::walker::{Over, Turn, Walker};
 use super::walks::{Row, tells};
@@ -15,7 +16,6 @@ use Over::{Span, Text};
 use Turn::{Begin, Counts, Exhaust, Match, Next, Room, Switch};
 use regex_automata::hybrid::SearchError;
 use regex_automata::hybrid::dfa::OverlappingState;
-use regex_automata::util::primitives::PatternID;
 use regex_automata::util::search::{HalfMatch, Input, PatternSet};
 use std::alloc::Global;
 use std::test::Fail;
@@ -211,15 +211,15 @@ fn fill_short(
     set: &mut PatternSet,
     turns: &mut Turns,
 ) -> Result<(), Fail> {
-    let given = PatternID::new(2).ok_or("a pattern")?;
+    let (given, nearest) = (pattern_id(2), pattern_id(1));
     check(set.try_insert(given) == Ok(true))?;
     turns.lend(alloc)?;
     let input = Input::new(b"@a b");
     let told = walker.collect(&input, set);
     if told == Err(SearchError::OutOfMemory) {
-        let is_begun = set.len() == 2;
-        check(set.contains(given) && (is_begun || set.len() == 1))?;
-        turns.refuse(if is_begun { Part::Rest } else { Part::Set })?;
+        let count = set.len();
+        check(set.contains(given) && set.contains(nearest) == (count > 1))?;
+        turns.refuse(if count == 2 { Part::Rest } else { Part::Set })?;
         walker.collect(&input, set)?;
     }
     check(set.contains(given) && set.len() == 3)

@@ -154,6 +154,39 @@ impl Walker {
         &self.dfa
     }
 
+    /// Writes what three walks over one input tell that are called in turn, the third over another
+    /// cache.
+    pub fn tell_three(&mut self, input: &Input<'_>, text: &mut String) -> Result<(), Fail> {
+        let mut first = OverlappingState::start();
+        let mut second = OverlappingState::start();
+        let mut third = OverlappingState::start();
+        self.tell_in_turn(input, &mut first, &mut second, &mut third, text)
+    }
+
+    fn tell_in_turn(
+        &mut self,
+        input: &Input<'_>,
+        first: &mut OverlappingState,
+        second: &mut OverlappingState,
+        third: &mut OverlappingState,
+        text: &mut String,
+    ) -> Result<(), Fail>
+        requires first { IsWalkOver self.old.dfa input.now first.old }
+        requires second { IsWalkOver self.old.dfa input.now second.old }
+        requires third { IsWalkOver self.old.dfa input.now third.old }
+    {
+        for call in 0..5u32 {
+            let one = Reply::Half(self.next(input, first));
+            let two = Reply::Half(self.next(input, second));
+            self.switch();
+            let three = Reply::Half(self.next(input, third));
+            self.switch();
+            self.switch();
+            write!(text, "{call}: {one}, {two}, {three}; ")?;
+        }
+        Ok(())
+    }
+
     /// All matches of a walk. Each call is made over another cache, after a search of the same input.
     pub fn walk(&mut self, input: &Input<'_>, found: &mut Vec<HalfMatch>) -> Result<(), Fail> {
         found.clear();

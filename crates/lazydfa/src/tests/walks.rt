@@ -10,6 +10,7 @@ use Automaton::{Forward, Planned, Reverse};
 use Over::{Anchored, Earliest, Pattern, Span, Text};
 use Turn::{Counts, Find, Join, Match, Next, Reset, Switch, Which};
 use regex_automata::hybrid::dfa::DFA;
+use regex_automata::util::search::Input;
 use std::alloc::Global;
 use std::process::Abort;
 use std::test::Fail;
@@ -343,6 +344,23 @@ const CACHES: &[Row] = &[
 #[test]
 fn walks_go_on_over_any_cache(rt: HostRuntime) -> Result<(), Fail> {
     tells_all(&rt, CACHES)
+}
+
+/// Walks over one cache, called in turn, and a third over another cache between them.
+#[test]
+fn walks_keep_apart(rt: HostRuntime) -> Result<(), Fail> {
+    let mut text = String::with_capacity(rt.alloc(), 1 << 10)?;
+    tell_three_into(rt.alloc(), &mut text)?;
+    let told = "0: half 0 1, half 0 1, half 0 1; 1: half 1 1, half 1 1, half 1 1; \
+        2: half 0 2, half 0 2, half 0 2; 3: half 1 2, half 1 2, half 1 2; 4: none, none, none; ";
+    same_text(&rt, text.as_str(), told, "three walks");
+    Ok(())
+}
+
+fn tell_three_into(alloc: Global, text: &mut String) -> Result<(), Fail> {
+    let dfa = built(alloc, Forward(Entry::Aa), "all capacity=1895")??;
+    let mut walker = Walker::new(dfa)?;
+    walker.tell_three(&Input::new(b"aa"), text)
 }
 
 /// Over caches that are full.
