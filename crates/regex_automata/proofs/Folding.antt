@@ -1,68 +1,78 @@
 -- Replies one after another.
-use Rattle.std.proofs.Common.{◌≡◌, ℕ, suc, ◌+◌, ◌<◌, ◌≤◌, List, [], ◌∷◌, ◌++◌, length, drop, get_or, append_assoc, append-nil, add-one, arith, zero, drop-cons, refl, ap, sym, subst, ◌∙◌}
+use Rattle.std.proofs.Common.{◌≡◌, ◌∙◌, ℕ, zero, suc, ◌+◌, ◌<◌, ◌≤◌, List, [], ◌∷◌, ◌++◌, length, drop, get_or, append_assoc, append-nil, add-one, ap, arith, drop-cons, refl, subst, sym}
 use Rattle.std.proofs.Math.ListN.{drop_of_length-le}
-use Rattle.regex_automata.specs.declared.hybrid.regex.Regex.{Regex}
 use Rattle.regex_automata.specs.Histories.{History, start, after}
 use Rattle.regex_automata.specs.Replies.{IsReply, AreReplies, AreRepliesAfter}
+use Rattle.regex_automata.specs.declared.hybrid.regex.Regex.{Regex}
 use Rattle.regex_automata.specs.declared.replay.requests.Request.{Request}
 use Rattle.regex_automata.specs.declared.replay.replies.Reply.{Reply}
 use Rattle.regex_automata.specs.declared.replay.replies.Reply.TheVariants as reply
 use Rattle.regex_automata.specs.declared.replay.replies.Fault.TheVariants as fault
 
--- what is left to reply, after this history, completes the replies so far
-abbrev pub Completes : List Regex → List Request → List Reply → History → List Request → Type 0
-Completes regexes script done h left =
-    (rest : List Reply) → AreRepliesAfter regexes h left rest → AreReplies regexes script (done ++ rest)
+module _ (regexes : List Regex) (script : List Request) where
+  -- what is left to reply, after this history, completes the replies so far
+  abbrev pub Completes : List Reply → History → List Request → Type 0
+  Completes done h left =
+      (rest : List Reply) → AreRepliesAfter regexes h left rest → AreReplies regexes script (done ++ rest)
 
-pub Completes-next : (regexes : List Regex) (script : List Request) (done : List Reply) (h : History) (q : Request) (left : List Request) (r : Reply)
-    → Completes regexes script done h (q ∷ left) → IsReply regexes h q r → Completes regexes script (done ++ r ∷ []) (after h q r) left
-Completes-next regexes script done h q left r all own = λ rest more.
-    subst (λ (xs : List Reply). AreReplies regexes script xs) (sym (append_assoc done (r ∷ []) rest)) (all (r ∷ rest) (own, more))
+  completes_next :
+      (done : List Reply) (h : History) (q : Request) (left : List Request) (r : Reply)
+      → Completes done h (q ∷ left) → IsReply regexes h q r → Completes (done ++ r ∷ []) (after h q r) left
+  completes_next done h q left r all own = λ rest more.
+      subst (λ (xs : List Reply). AreReplies regexes script xs) (sym (append_assoc done (r ∷ []) rest))
+      (all (r ∷ rest) (own, more))
 
-pub Completes-all : (regexes : List Regex) (script : List Request) (done : List Reply) (h : History)
-    → Completes regexes script done h [] → AreReplies regexes script done
-Completes-all regexes script done h all = subst (λ (xs : List Reply). AreReplies regexes script xs) (append-nil done) (all [] tt)
+  -- one more reply, as a loop over the script makes it
+  pub completes_turn :
+      (done new : List Reply) (h : History) (i : ℕ) (q : Request) (r : Reply)
+      → i < length script → q ≡ get_or script i q → Completes done h (drop i script) → IsReply regexes h q r
+      → new ≡ done ++ r ∷ [] → Completes new (after h q r) (drop (i + 1) script)
+  completes_turn done new h i q r lt is all own e =
+      let cut : drop i script ≡ q ∷ drop (i + 1) script =
+      rw add-one (drop-cons script i q lt ∙ ap (λ (x : Request). x ∷ drop (suc i) script) (sym is)) in
+      subst (λ (xs : List Reply). Completes xs (after h q r) (drop (i + 1) script)) (sym e)
+      (completes_next done h q (drop (i + 1) script) r
+      (subst (λ (left : List Request). Completes done h left) cut all) own)
 
--- one more reply, as a loop over the script makes it
-pub Completes-turn : (regexes : List Regex) (script : List Request) (done new : List Reply) (h : History) (i : ℕ) (q : Request) (r : Reply)
-    → i < length script → q ≡ get_or script i q → Completes regexes script done h (drop i script) → IsReply regexes h q r
-    → new ≡ done ++ r ∷ [] → Completes regexes script new (after h q r) (drop (i + 1) script)
-Completes-turn regexes script done new h i q r lt is all own e =
-    let cut : drop i script ≡ q ∷ drop (i + 1) script = rw add-one (drop-cons script i q lt ∙ ap (λ (x : Request). x ∷ drop (suc i) script) (sym is)) in
-    subst (λ (xs : List Reply). Completes regexes script xs (after h q r) (drop (i + 1) script)) (sym e)
-    (Completes-next regexes script done h q (drop (i + 1) script) r (subst (λ (left : List Request). Completes regexes script done h left) cut all) own)
-
--- and the last
-pub Completes-end : (regexes : List Regex) (script : List Request) (done : List Reply) (h : History) (i : ℕ)
-    → length script ≤ i → Completes regexes script done h (drop i script) → AreReplies regexes script done
-Completes-end regexes script done h i le all =
-    Completes-all regexes script done h (subst (λ (left : List Request). Completes regexes script done h left) (drop_of_length-le script le) all)
-
-pub Completes-start : (regexes : List Regex) (script : List Request) (done : List Reply) → done ≡ [] → Completes regexes script done start script
-Completes-start regexes script done e = λ rest all. subst (λ (xs : List Reply). AreReplies regexes script (xs ++ rest)) (sym e) all
-
--- a script with no regex: what is left to reply, after any history, completes the replies so far
-abbrev pub AllBad : List Request → List Reply → List Request → Type 0
-AllBad script done left =
-    (rest : List Reply) → ((h : History) → AreRepliesAfter [] h left rest) → (h : History) → AreRepliesAfter [] h script (done ++ rest)
+  -- and the last
+  pub completes_end :
+      (done : List Reply) (h : History) (i : ℕ)
+      → length script ≤ i → Completes done h (drop i script) → AreReplies regexes script done
+  completes_end done h i le all =
+      let ended = subst (λ (left : List Request). Completes done h left) (drop_of_length-le script le) all in
+      subst (λ (xs : List Reply). AreReplies regexes script xs) (append-nil done) (ended [] tt)
 
 cut_at : (script : List Request) (i : ℕ) → i < length script → (q : Request) × (drop i script ≡ q ∷ drop (suc i) script)
 cut_at [] i lt = absurd (omega arith)
 cut_at (q ∷ qs) zero lt = (q, refl)
 cut_at (q ∷ qs) (suc i) lt = let (r, e) = cut_at qs i (omega arith) in (r, e)
 
-pub AllBad-turn : (script : List Request) (done new : List Reply) (i : ℕ) → i < length script
-    → AllBad script done (drop i script) → new ≡ done ++ reply.Bad fault.NoRegex ∷ [] → AllBad script new (drop (i + 1) script)
-AllBad-turn script done new i lt all e = λ rest more h.
-    let (q, at) = cut_at script i lt in
-    let cut : drop i script ≡ q ∷ drop (i + 1) script = subst (λ n. drop i script ≡ q ∷ drop n script) (sym (add-one i)) at in
-    let bad = reply.Bad fault.NoRegex in
-    let turned : AreRepliesAfter [] h script (done ++ (bad ∷ rest)) =
-    all (bad ∷ rest) (λ g. subst (λ (left : List Request). AreRepliesAfter [] g left (bad ∷ rest)) (sym cut) (refl, more (after g q bad))) h in
-    subst (λ (xs : List Reply). AreRepliesAfter [] h script (xs ++ rest)) (sym e)
-    (subst (λ (xs : List Reply). AreRepliesAfter [] h script xs) (sym (append_assoc done (bad ∷ []) rest)) turned)
+module _ (script : List Request) where
+  -- with no regex: what is left to reply, after any history, completes the replies so far
+  abbrev pub AllBad : List Reply → List Request → Type 0
+  AllBad done left =
+      (rest : List Reply) → ((h : History) → AreRepliesAfter [] h left rest)
+      → (h : History) → AreRepliesAfter [] h script (done ++ rest)
 
-pub AllBad-end : (script : List Request) (done : List Reply) (i : ℕ) → length script ≤ i → AllBad script done (drop i script) → AreReplies [] script done
-AllBad-end script done i le all =
-    subst (λ (xs : List Reply). AreReplies [] script xs) (append-nil done)
-    (all [] (λ g. subst (λ (left : List Request). AreRepliesAfter [] g left []) (sym (drop_of_length-le script le)) tt) start)
+  pub all_bad_turn :
+      (done new : List Reply) (i : ℕ) → i < length script
+      → AllBad done (drop i script) → new ≡ done ++ reply.Bad fault.NoRegex ∷ [] → AllBad new (drop (i + 1) script)
+  all_bad_turn done new i lt all e = λ rest more h.
+      let (q, at) = cut_at script i lt in
+      let cut : drop i script ≡ q ∷ drop (i + 1) script =
+      subst (λ n. drop i script ≡ q ∷ drop n script) (sym (add-one i)) at in
+      let bad = reply.Bad fault.NoRegex in
+      let turned : AreRepliesAfter [] h script (done ++ (bad ∷ rest)) =
+      all (bad ∷ rest)
+      (λ g. subst (λ (left : List Request). AreRepliesAfter [] g left (bad ∷ rest)) (sym cut) (refl, more (after g q bad)))
+      h in
+      subst (λ (xs : List Reply). AreRepliesAfter [] h script (xs ++ rest)) (sym e)
+      (subst (λ (xs : List Reply). AreRepliesAfter [] h script xs) (sym (append_assoc done (bad ∷ []) rest)) turned)
+
+  pub all_bad_end :
+      (done : List Reply) (i : ℕ) → length script ≤ i → AllBad done (drop i script) → AreReplies [] script done
+  all_bad_end done i le all =
+      subst (λ (xs : List Reply). AreReplies [] script xs) (append-nil done)
+      (all []
+      (λ g. subst (λ (left : List Request). AreRepliesAfter [] g left []) (sym (drop_of_length-le script le)) tt)
+      start)

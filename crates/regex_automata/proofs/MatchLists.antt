@@ -6,7 +6,7 @@ use Rattle.automata_base.specs.Spans.{from}
 use Rattle.automata_config.specs.declared.error.SearchError.{SearchError}
 use Rattle.regex_automata.specs.Iterating.{GivesItem, IsNextRefusal}
 use Rattle.regex_automata.specs.Outcomes.{FindsMatch}
-use Rattle.regex_automata.specs.Owing.{AreStoresOf, IsMemory, MayRefuseNext, end_behind, place_behind}
+use Rattle.regex_automata.specs.Owing.{AreStoresOf, IsMemory, IsRefusedBehind, MayRefuseNext, end_behind, place_behind}
 use Rattle.regex_automata.specs.declared.hybrid.regex.Regex.{Regex}
 use Rattle.regex_automata.specs.declared.hybrid.regex.caches.Cache.{Cache}
 use Rattle.regex_automata.proofs.Collecting.{ComesTo}
@@ -29,19 +29,19 @@ item_refused p c input input' last last' false ended' e g still = g.0
 pub refused_behind :
     (p q : Regex) (c d : Cache) (input now : Input) (ms : List Match) (last : Option ℕ) (e : SearchError)
     → p ≡ q → c ≡ d → now ≡ from now.start input → ComesTo (FindsMatch q) input input.start None ms now.start last
-    → IsNextRefusal p c now last e → IsNextRefusal q d (from (place_behind input.start ms) input) (end_behind None ms) e
+    → IsNextRefusal p c now last e → IsRefusedBehind q d input ms e
 refused_behind p q c d input now ms last e regex cache is comes refused =
     let behind = comes_behind (FindsMatch q) input input.start None ms now.start last comes in
     let place : now ≡ from (place_behind input.start ms) input = is ∙ ap (λ n. from n input) behind.0 in
-    subst (λ (r : Regex). IsNextRefusal r d (from (place_behind input.start ms) input) (end_behind None ms) e) regex
-    (subst (λ (x : Cache). IsNextRefusal p x (from (place_behind input.start ms) input) (end_behind None ms) e) cache
+    subst (λ (r : Regex). IsRefusedBehind r d input ms e) regex
+    (subst (λ (x : Cache). IsRefusedBehind p x input ms e) cache
     (subst (λ (i : Input). IsNextRefusal p c i (end_behind None ms) e) place
     (subst (λ (l : Option ℕ). IsNextRefusal p c now l e) behind.1 refused)))
 
 -- some caches refuse it so
 pub may_refuse_next :
     (p : Regex) (c : Cache) (input : Input) (ms : List Match) (error : Option SearchError) → AreStoresOf c p
-    → IfSome error (λ e. IsMemory e ⊎ IsNextRefusal p c (from (place_behind input.start ms) input) (end_behind None ms) e)
+    → IfSome error (λ e. IsMemory e ⊎ IsRefusedBehind p c input ms e)
     → IfSome error (MayRefuseNext p input ms)
 may_refuse_next p c input ms None of h = h
 may_refuse_next p c input ms (Some e) of (inl memory) = inl memory

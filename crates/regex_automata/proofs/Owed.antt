@@ -1,9 +1,9 @@
 -- What calls owe whatever the cache, from their clauses.
-use Rattle.std.proofs.Common.{◌≡◌, ◌∙◌, Result, Ok, Err, IfErr, ap}
+use Rattle.std.proofs.Common.{◌≡◌, Result, Ok, Err, IfErr, ap, subst}
 use Rattle.automata_base.specs.Input.{Input}
 use Rattle.automata_base.specs.Tapes.{Direction}
 use Rattle.automata_config.specs.declared.error.SearchError.{SearchError}
-use Rattle.automata_hybrid.specs.Bounds.{Stored, settings_of}
+use Rattle.automata_hybrid.specs.Bounds.{Stored}
 use Rattle.automata_hybrid.specs.Caches.{CacheView}
 use Rattle.automata_hybrid.specs.Machine.{Machine}
 use Rattle.automata_hybrid.specs.Searches.{IsRefused}
@@ -15,13 +15,12 @@ use Rattle.regex_automata.specs.declared.hybrid.regex.Regex.{Regex}
 use Rattle.regex_automata.specs.declared.hybrid.regex.caches.Cache.{Cache}
 
 -- a cache that is of its DFA and keeps its bounds is one of it, within its settings
-pub is_store : (c : Stored) (m : Machine) → c.table.of ≡ m → c.settings ≡ settings_of c.table.of → IsStoreOf c m
-is_store c m of bounds = (of, bounds ∙ ap settings_of of)
+pub is_store : (c : Stored) (m : Machine) → c.table.of ≡ m → IsStoreOf c c.table.of → IsStoreOf c m
+is_store c m of bounds = subst (λ (n : Machine). IsStoreOf c n) of bounds
 
 pub are_stores :
-    (c : Cache) (p : Regex) → AreCachesOf c p
-    → c.forward.store.settings ≡ settings_of c.forward.store.table.of
-    → c.reverse.store.settings ≡ settings_of c.reverse.store.table.of → AreStoresOf c p
+    (c : Cache) (p : Regex) → AreCachesOf c p → IsStoreOf c.forward.store c.forward.store.table.of
+    → IsStoreOf c.reverse.store c.reverse.store.table.of → AreStoresOf c p
 are_stores c p of forward reverse =
     (is_store c.forward.store p.forward of.0 forward, is_store c.reverse.store p.reverse of.1 reverse)
 

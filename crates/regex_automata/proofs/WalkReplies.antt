@@ -28,7 +28,7 @@ of_current : (h : History) (s : Session) (w : Begun) (k : KeptWalk)
 of_current h s w k a is e =
     ap (nth s.regexes.now) (sym is.regex ∙ e ∙ a.current) ∙ a.regex
 
-pub told_there : (h : History) (s : Session) (n : ℕ) (k : KeptWalk)
+told_there : (h : History) (s : Session) (n : ℕ) (k : KeptWalk)
     → IsAt h s → n < length s.walks.items → k ≡ get_or s.walks.items n k → k.regex ≡ s.current
     → (j : ℕ) × HasAnsweredBy s.regex.now k j
 told_there h s n k a lt is e =

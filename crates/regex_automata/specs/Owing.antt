@@ -8,14 +8,14 @@ use Rattle.automata_base.specs.Nodes.{nfa_of}
 use Rattle.automata_base.specs.Paths.{IsLookAcyclic}
 use Rattle.automata_base.specs.PatternSet.{members}
 use Rattle.automata_base.specs.Selections.{Pair}
-use Rattle.automata_base.specs.Spans.{AreSpans, Found, IsMatch, IsSpan, IsTrySearch, Rise, from}
+use Rattle.automata_base.specs.Spans.{AreSpans, IsMatch, IsSpan, Rise, TryFinds, from}
 use Rattle.automata_base.specs.Tapes.{Direction, Forward}
 use Rattle.automata_base.specs.Told.{IsNearestAnswer, IsFarthestAnswer}
 use Rattle.automata_base.specs.declared.util.search.MatchErrorKind.TheVariants.{UnsupportedAnchored as UnsupportedMode}
 use Rattle.automata_base.specs.declared.util.search.MatchKind.TheVariants.{All as KindAll}
 use Rattle.automata_config.specs.declared.error.SearchError.{SearchError}
 use Rattle.automata_config.specs.declared.error.SearchError.TheVariants as search
-use Rattle.automata_hybrid.specs.Bounds.{Stored, settings_of}
+use Rattle.automata_hybrid.specs.Bounds.{Stored, settings_of, usage}
 use Rattle.automata_hybrid.specs.Machine.{Machine}
 use Rattle.automata_hybrid.specs.Searches.{IsFound, IsRefused, NoQuitInReach, WithoutBase, tape_in}
 use Rattle.automata_hybrid.specs.Slots.{supports}
@@ -31,10 +31,13 @@ use Rattle.regex_automata.specs.SoundPairs.{AreLookAcyclic, IsSoundPair, forward
 use Rattle.regex_automata.specs.declared.hybrid.regex.Regex.{Regex}
 use Rattle.regex_automata.specs.declared.hybrid.regex.caches.Cache.{Cache}
 
--- a cache of this DFA, within its settings; and the two of a regex
-abbrev pub IsStoreOf : Stored → Machine → Type 0
-IsStoreOf c m = (c.table.of ≡ m) × (c.settings ≡ settings_of m)
+-- a cache of this DFA, whose accounted bytes are within its settings
+pub record IsStoreOf (c : Stored) (m : Machine) : Type 0 where
+  pub of : c.table.of ≡ m
+  pub settings : c.settings ≡ settings_of m
+  pub within : usage c ≤ m.capacity
 
+-- the two of a regex
 abbrev pub AreStoresOf : Cache → Regex → Type 0
 AreStoresOf c p = IsStoreOf c.forward.store p.forward × IsStoreOf c.reverse.store p.reverse
 
@@ -63,13 +66,16 @@ abbrev pub MayRefuse : Direction → Machine → Input → SearchError → Type 
 MayRefuse way m input e = (c : Stored) × IsStoreOf c m × IsRefused way m c input e
 
 -- what a search in a direction answers
-pub record IsHalf (way : Direction) (m : Machine) (input : Input) (result : Result (Option HalfMatch) SearchError) : Type 0 where
+pub record IsHalf (way : Direction) (m : Machine) (input : Input)
+    (result : Result (Option HalfMatch) SearchError) : Type 0 where
   -- for every automaton, what the passes tell
   pub found : IfOk result (WithoutBase (IsFound way m input))
   -- where no cycle passes a look, the answer of the ordered paths
-  pub answer : IsLookAcyclic (nfa_of m.nfa) → IfOk result (WithoutBase (IsAnswer way (engine_of m.nfa m.kind) input))
+  pub answer :
+      IsLookAcyclic (nfa_of m.nfa) → IfOk result (WithoutBase (IsAnswer way (engine_of m.nfa m.kind) input))
   -- for every automaton, the nearest end in an earliest search, and under kind all the farthest one in another
-  pub nearest : input.earliest ≡ true → IfOk result (WithoutBase (IsNearestAnswer way (engine_of m.nfa m.kind) input))
+  pub nearest :
+      input.earliest ≡ true → IfOk result (WithoutBase (IsNearestAnswer way (engine_of m.nfa m.kind) input))
   pub farthest :
       input.earliest ≡ false → m.kind ≡ KindAll
       → IfOk result (WithoutBase (IsFarthestAnswer way (engine_of m.nfa m.kind) input))
@@ -87,13 +93,15 @@ MayRefuseStep way m input told e =
     ⊎ ((c : Stored) × IsStoreOf c m × ((w : Walk) × HasTold way m input w told × IsWalkRefusal way m c input w told e))
 
 -- what a call of a walk answers after so many that answered Ok
-pub record IsStep (way : Direction) (m : Machine) (input : Input) (told : ℕ) (result : Result (Option HalfMatch) SearchError) : Type 0 where
+pub record IsStep (way : Direction) (m : Machine) (input : Input) (told : ℕ)
+    (result : Result (Option HalfMatch) SearchError) : Type 0 where
   -- for every automaton, the next pair of the list that its passes tell, and behind the last one none
   pub pair : IfOk result (λ found. (pairs : List Pair) → AreWalked way m input pairs → found ≡ half_nth pairs told)
   -- where no cycle passes a look, that of the list of the ordered paths
   pub paths :
       IsLookAcyclic (nfa_of m.nfa)
-      → IfOk result (λ found. (pairs : List Pair) → IsOverlapping way (engine_of m.nfa m.kind) input pairs → found ≡ half_nth pairs told)
+      → IfOk result (λ found.
+      (pairs : List Pair) → IsOverlapping way (engine_of m.nfa m.kind) input pairs → found ≡ half_nth pairs told)
   -- a refusal is one that some cache may give
   pub errors : IfErr result (MayRefuseStep way m input told)
   -- behind the end there is none
@@ -112,7 +120,7 @@ pub record IsSpanOf (p : Regex) (input : Input) (result : Result (Option Match) 
   -- for every two automata, what the passes of both tell
   pub found : IfOk result (FindsMatch p input)
   -- where no cycle passes a look, what the ordered paths through both define
-  pub answer : AreLookAcyclic p → IfOk result (λ o. IsTrySearch (forward_engine p) (reverse_engine p) input (Found o))
+  pub answer : AreLookAcyclic p → IfOk result (TryFinds (forward_engine p) (reverse_engine p) input)
   -- over a sound pair, the span of the path that the forward search chose
   pub span : IsSoundPair p → IfOk result (IsSpan (forward_engine p) input)
   -- it lies in the input's span
@@ -148,19 +156,24 @@ abbrev pub end_behind : Option ℕ → List Match → Option ℕ
 end_behind last [] = last
 end_behind last (m ∷ ms) = end_behind (Some m.end) ms
 
--- some caches of the regex refuse the search for the match behind these; or memory is wanting, there or for the list
+-- caches refuse the search for the match behind these
+abbrev pub IsRefusedBehind : Regex → Cache → Input → List Match → SearchError → Type 0
+IsRefusedBehind p c input ms e = IsNextRefusal p c (from (place_behind input.start ms) input) (end_behind None ms) e
+
+-- some caches of the regex refuse it so; or memory is wanting, there or for the list
 abbrev pub MayRefuseNext : Regex → Input → List Match → SearchError → Type 0
-MayRefuseNext p input ms e =
-    IsMemory e
-    ⊎ ((c : Cache) × AreStoresOf c p × IsNextRefusal p c (from (place_behind input.start ms) input) (end_behind None ms) e)
+MayRefuseNext p input ms e = IsMemory e ⊎ ((c : Cache) × AreStoresOf c p × IsRefusedBehind p c input ms e)
 
 -- the matches of an input, one after another; or the first ones, and the error that ended them
 pub record AreMatchesUpto (p : Regex) (input : Input) (ms : List Match) (error : Option SearchError) : Type 0 where
   -- for every two automata, what the passes of both tell
   pub found : AreCollected (FindsMatch p) input ms error
+  -- where no cycle passes a look, what the ordered paths through both define
+  pub answers : AreLookAcyclic p → AreCollected (TryFinds (forward_engine p) (reverse_engine p)) input ms error
   -- over a sound pair, the spans of the paths; and if there is an error, a beginning of them
   pub spans : IsSoundPair p → AreCollected (IsSpan (forward_engine p)) input ms error
-  pub beginning : IsSoundPair p → (whole : List Match) → AreSpans (forward_engine p) input whole → IsBeginning ms whole
+  pub beginning :
+      IsSoundPair p → (whole : List Match) → AreSpans (forward_engine p) input whole → IsBeginning ms whole
   -- their ends rise, so that they are at most one more than the span has bytes
   pub rise : Rise input.end None ms
   pub few : length ms ≤ input.end - input.start + 1
@@ -185,13 +198,16 @@ MayRefusePatterns m input capacity found e =
 
 -- the patterns below a capacity of all overlapping matches, in an earliest search of the first one; or those told before
 -- the error
-pub record ArePatternsUpto (m : Machine) (input : Input) (capacity : ℕ) (found : List ℕ) (error : Option SearchError) : Type 0 where
+pub record ArePatternsUpto (m : Machine) (input : Input) (capacity : ℕ) (found : List ℕ)
+    (error : Option SearchError) : Type 0 where
   -- in increasing order
   pub rise : AreRising 0 found
   -- for every automaton, those that the walk tells
   pub told : error ≡ None → ArePatterns (AreWalked Forward m input) input capacity [] found
   -- where no cycle passes a look, those of the ordered paths
-  pub paths : IsLookAcyclic (nfa_of m.nfa) → error ≡ None → ArePatternsFound (engine_of m.nfa m.kind) input capacity [] found
+  pub paths :
+      IsLookAcyclic (nfa_of m.nfa) → error ≡ None
+      → ArePatternsFound (engine_of m.nfa m.kind) input capacity [] found
   -- a refusal is one that some cache may give
   pub errors : IfSome error (MayRefusePatterns m input capacity found)
   -- where nothing stands in the way, only want of memory is a refusal

@@ -22,8 +22,8 @@ use Rattle.regex_automata.specs.declared.replay.replies.Reply.TheVariants as rep
 use Rattle.regex_automata.specs.declared.replay.replies.Fault.{Fault}
 use Rattle.regex_automata.specs.declared.replay.replies.Fault.TheVariants as fault
 
--- why a request is bad, in this order: there is no regex, or a reset names none; there is no such walk; the walk is of a
--- regex that isn't the current one
+-- why a request is bad, in this order: there is no regex, or a reset names none; there is no such walk; the walk is of
+-- a regex that isn't the current one
 abbrev pub walk_fault : (current : ℕ) → Option Begun → Option Fault
 walk_fault current None = Some fault.NoWalk
 walk_fault current (Some w) = if w.regex == current then None else Some fault.OtherRegex
@@ -105,7 +105,9 @@ IsOwnOf (Some r) walks q answer = IsOwn r walks q answer
 -- a reply after this history: bad exactly for the request's fault, and else its own value
 abbrev pub IsReply : List Regex → History → Request → Reply → Type 0
 IsReply regexes h q answer =
-    MatchOption (fault_of regexes h q) (IsOwnOf (nth regexes h.current) h.walks q answer) (λ why. answer ≡ reply.Bad why)
+    MatchOption (fault_of regexes h q)
+    (IsOwnOf (nth regexes h.current) h.walks q answer)
+    (λ why. answer ≡ reply.Bad why)
 
 -- one reply for each request, each after the history that the ones before it made
 abbrev pub AreRepliesAfter : List Regex → History → List Request → List Reply → Type 0
@@ -134,8 +136,8 @@ abbrev pub AreToldFrom : ℕ → List Pair → List (Option HalfMatch) → Type 
 AreToldFrom told pairs [] = Unit {0}
 AreToldFrom told pairs (found ∷ later) = (found ≡ half_nth pairs told) × AreToldFrom (suc told) pairs later
 
--- they are the pairs of the walk over an input, and then none: for every automaton those that its passes tell, and where
--- no cycle passes a look those of the ordered paths
+-- they are the pairs of the walk over an input, and then none: for every automaton those that its passes tell (there is
+-- one such list), and where no cycle passes a look those of the ordered paths
 pub record TellWalk (way : Direction) (m : Machine) (input : Input) (steps : List (Option HalfMatch)) : Type 0 where
   pub told : (pairs : List Pair) → AreWalked way m input pairs → AreToldFrom 0 pairs steps
   pub paths :

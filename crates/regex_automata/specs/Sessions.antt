@@ -1,5 +1,5 @@
 -- How what a replay keeps stands to the history of its requests and replies.
-use Rattle.std.specs.Prelude.{ℕ, ◌≡◌, ◌+◌, ◌<◌, List, [], ◌∷◌, length, Option, Some, Result, OnOk, OnErr}
+use Rattle.std.specs.Prelude.{ℕ, ◌≡◌, ◌+◌, ◌<◌, List, [], ◌∷◌, length, slice_index_or, slice_set, Option, Some, Result, OnOk, OnErr}
 use Rattle.automata_base.specs.Input.{Input}
 use Rattle.automata_base.specs.Lists.{nth}
 use Rattle.automata_base.specs.Matches.{HalfMatch}
@@ -9,11 +9,13 @@ use Rattle.automata_config.specs.declared.error.SearchError.{SearchError}
 use Rattle.automata_hybrid.specs.Machine.{Machine}
 use Rattle.automata_hybrid.specs.Walking.{AreWalked, HasTold}
 use Rattle.automata_hybrid.specs.Walks.{Walk, Ended}
-use Rattle.regex_automata.specs.Histories.{Begun, History}
+use Rattle.regex_automata.specs.Histories.{Begun, History, after}
 use Rattle.regex_automata.specs.Owing.{IsStep}
 use Rattle.regex_automata.specs.RegexCaches.{AreCachesOf}
-use Rattle.regex_automata.specs.Replies.{machine_of, way_of}
+use Rattle.regex_automata.specs.Replies.{IsReply, machine_of, way_of}
 use Rattle.regex_automata.specs.declared.hybrid.regex.Regex.{Regex}
+use Rattle.regex_automata.specs.declared.replay.replies.Reply.{Reply}
+use Rattle.regex_automata.specs.declared.replay.requests.Request.{Request}
 use Rattle.regex_automata.specs.declared.replay.sessions.Session.{Session}
 use Rattle.regex_automata.specs.declared.replay.walks.KeptWalk.{KeptWalk}
 
@@ -22,7 +24,14 @@ pub record HasAnswered (way : Direction) (m : Machine) (input : Input) (w : Walk
   pub told : HasTold way m input w k
   pub ended : (pairs : List Pair) → AreWalked way m input pairs → length pairs < k → w.stage ≡ Ended
 
--- the same of a walk of this regex
+-- one more call of it: what it answers, and what it leaves
+pub record IsCall (way : Direction) (m : Machine) (input : Input) (old new : Walk)
+    (result : Result (Option HalfMatch) SearchError) : Type 0 where
+  pub step : (k : ℕ) → HasAnswered way m input old k → IsStep way m input k result
+  pub told : (k : ℕ) → HasAnswered way m input old k → OnOk result (HasAnswered way m input new (k + 1))
+  pub kept : (k : ℕ) → HasAnswered way m input old k → OnErr result (HasAnswered way m input new k)
+
+-- a walk of this regex has answered so many calls
 abbrev pub HasAnsweredBy : Regex → KeptWalk → ℕ → Type 0
 HasAnsweredBy r kept k = HasAnswered (way_of kept.reverse) (machine_of kept.reverse r) kept.input kept.state k
 
@@ -30,13 +39,23 @@ HasAnsweredBy r kept k = HasAnswered (way_of kept.reverse) (machine_of kept.reve
 abbrev pub IsStepFrom : Regex → KeptWalk → ℕ → Result (Option HalfMatch) SearchError → Type 0
 IsStepFrom r kept k result = IsStep (way_of kept.reverse) (machine_of kept.reverse r) kept.input k result
 
--- what a call leaves of a walk
+-- one more call of it
 pub record Goes (r : Regex) (old new : KeptWalk) (result : Result (Option HalfMatch) SearchError) : Type 0 where
   pub regex : new.regex ≡ old.regex
   pub reverse : new.reverse ≡ old.reverse
   pub input : new.input ≡ old.input
+  pub step : (k : ℕ) → HasAnsweredBy r old k → IsStepFrom r old k result
   pub told : (k : ℕ) → HasAnsweredBy r old k → OnOk result (HasAnsweredBy r new (k + 1))
   pub kept : (k : ℕ) → HasAnsweredBy r old k → OnErr result (HasAnsweredBy r new k)
+
+-- the walk of this number; and one more call of it, which leaves the others
+abbrev pub IsKept : List KeptWalk → ℕ → KeptWalk → Type 0
+IsKept ks number kept = kept ≡ slice_index_or ks number kept
+
+abbrev pub GoesAt : Regex → ℕ → (olds news : List KeptWalk) → Result (Option HalfMatch) SearchError → Type 0
+GoesAt r number olds news result =
+    (old : KeptWalk) → IsKept olds number old
+    → (new : KeptWalk) × Goes r old new result × (news ≡ slice_set olds number new)
 
 -- what is kept of a walk is of the walk that was begun, and has answered as many calls
 pub record IsWalk (regexes : List Regex) (w : Begun) (kept : KeptWalk) : Type 0 where
@@ -58,3 +77,10 @@ pub record IsAt (h : History) (s : Session) : Type 0 where
   pub regex : nth s.regexes.now h.current ≡ Some s.regex.now
   pub of : AreCachesOf s.cache s.regex.now
   pub walks : AreWalks s.regexes.now h.walks s.walks.items
+
+-- the reply to a request is its own value, after whatever history; and the history goes on by it
+abbrev pub IsReplyTo : Session → Request → Reply → Type 0
+IsReplyTo s q answer = (h : History) → IsAt h s → IsReply s.regexes.now h q answer
+
+abbrev pub StandsAfter : (old : Session) → Request → Reply → (new : Session) → Type 0
+StandsAfter old q answer new = (h : History) → IsAt h old → IsAt (after h q answer) new

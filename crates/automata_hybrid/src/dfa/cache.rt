@@ -299,8 +299,8 @@ impl Cache {
         self.store.see_slots();
     }
 
-    /// The cache's bounds are those that the settings of its DFA say. It does nothing.
-    pub fn see_settings(&self)
+    /// The bounds are the DFA's.
+    pub(crate) fn see_settings(&self)
         ensures { self.now.store.settings ≡ settings_of self.now.store.table.of }
     {
         self.store.see_settings();
@@ -421,5 +421,13 @@ impl Cache {
     {
         self.store.see_settings();
         self.store.memory_usage()
+    }
+
+    /// The bounds are those that the settings of the DFA say, and the accounted bytes are within them. It does nothing.
+    pub fn see_bounds(&self)
+        ensures settings { self.now.store.settings ≡ settings_of self.now.store.table.of }
+        ensures within { usage self.now.store ≤ self.now.store.table.of.capacity }
+    {
+        self.store.see_bounds();
     }
 }

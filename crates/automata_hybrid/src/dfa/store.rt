@@ -167,6 +167,14 @@ impl Store {
         let _ = &self.settings;
     }
 
+    /// The bounds are the DFA's, and the accounted bytes are within them.
+    pub fn see_bounds(&self)
+        ensures settings { self.now.settings ≡ settings_of self.now.table.of }
+        ensures within { usage self.now ≤ self.now.table.of.capacity }
+    {
+        let _ = &self.settings;
+    }
+
     /// The start slots are as many as the DFA's.
     pub fn see_slots(&self)
         ensures { length self.now.starts ≡ self.now.table.of.slots }

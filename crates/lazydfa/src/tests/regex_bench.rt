@@ -7,7 +7,6 @@ use super::plans::ids_of;
 use super::tells::config;
 use crate::catalogue::Entry;
 use crate::reply::Reply;
-use regex_automata::hybrid::regex::iterate::collect_matches;
 use regex_automata::hybrid::regex::{Cache, Regex};
 use regex_automata::hybrid::{BuildError, SearchError};
 use regex_automata::nfa::thompson::{Flags, NFA, NfaError, State};
@@ -210,15 +209,6 @@ impl RegexBench {
 
     pub fn holds(&mut self, input: &Input<'_>) -> Result<bool, SearchError> {
         self.regex.is_match(&mut self.cache, input)
-    }
-
-    /// The matches, and the error that ended them, if one did.
-    pub fn matches(
-        &mut self,
-        alloc: Global,
-        input: Input<'_>,
-    ) -> Result<(Vec<Match>, Option<SearchError>), AllocError> {
-        collect_matches(alloc, &self.regex, &mut self.cache, input)
     }
 
     pub fn regex(&self) -> &Regex {

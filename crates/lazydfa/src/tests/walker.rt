@@ -74,7 +74,7 @@ pub enum Turn {
 }
 
 /// What a call tells.
-#[derive(Clone, Copy)]
+#[derive(Drop)]
 enum Told {
     Nothing,
     NoMemory,

@@ -20,8 +20,8 @@ use std::alloc::{AllocError, Global};
 
 /// One reply for each request, in order, each its request's own value, whatever came before.
 ///
-/// One cache serves them all. At first it is of regex 0, which is the current one. Want of memory is an error only where
-/// that cache or the list of replies found none; inside a request it is told in its reply.
+/// One cache serves them all. At first it is of regex 0, which is the current one. Want of memory is an error only
+/// where that cache or the list of replies found none; inside a request it is told in its reply.
 pub fn replay(
     alloc: Global,
     regexes: &[Regex],

@@ -1,9 +1,7 @@
 //! Searches by what they owe whatever the cache.
-ghost use Rattle.std.specs.Prelude.{◌≡◌};
 ghost use Rattle.automata_base.specs.Tapes.{Forward, Backward};
-ghost use Rattle.automata_hybrid.specs.Bounds.{settings_of};
 ghost use Rattle.automata_hybrid.specs.Caches.{IsCacheOf};
-ghost use Rattle.regex_automata.specs.Owing.{IsHalf, IsSpanOf, IsTruthOf};
+ghost use Rattle.regex_automata.specs.Owing.{IsHalf, IsStoreOf, IsSpanOf, IsTruthOf};
 ghost use Rattle.regex_automata.specs.RegexCaches.{AreCachesOf};
 
 use crate::hybrid::dfa;
@@ -12,14 +10,21 @@ use crate::hybrid::regex::{Cache, Regex};
 use automata_base::util::search::{HalfMatch, Input, Match};
 use automata_config::error::SearchError;
 
-/// The bounds of each cache are those of its DFA.
-pub fn see_settings(cache: &Cache)
-    ensures forward { cache.now.forward.store.settings ≡ settings_of cache.now.forward.store.table.of }
-    ensures reverse { cache.now.reverse.store.settings ≡ settings_of cache.now.reverse.store.table.of }
+/// A cache is within the settings of its DFA.
+pub fn see(cache: &dfa::Cache)
+    ensures { IsStoreOf cache.now.store cache.now.store.table.of }
+{
+    cache.see_bounds();
+}
+
+/// Both are.
+pub fn see_both(cache: &Cache)
+    ensures forward { IsStoreOf cache.now.forward.store cache.now.forward.store.table.of }
+    ensures reverse { IsStoreOf cache.now.reverse.store cache.now.reverse.store.table.of }
 {
     let (forward, reverse) = cache.as_parts();
-    forward.see_settings();
-    reverse.see_settings();
+    see(forward);
+    see(reverse);
 }
 
 /// A forward search.
@@ -33,7 +38,7 @@ pub fn search_fwd(
     ensures owed { IsHalf Forward dfa.now input.now result }
 {
     let found = dfa.try_search_fwd(cache, input);
-    cache.see_settings();
+    see(cache);
     found
 }
 
@@ -48,7 +53,7 @@ pub fn search_rev(
     ensures owed { IsHalf Backward dfa.now input.now result }
 {
     let found = dfa.try_search_rev(cache, input);
-    cache.see_settings();
+    see(cache);
     found
 }
 
@@ -63,7 +68,7 @@ pub fn find(
     ensures owed { IsSpanOf regex.now input.now result }
 {
     let found = regex.find(cache, input);
-    see_settings(cache);
+    see_both(cache);
     found
 }
 
@@ -74,6 +79,6 @@ pub fn is_match(regex: &Regex, cache: &mut Cache, input: &Input<'_>) -> Result<b
     ensures owed { IsTruthOf regex.now input.now result }
 {
     let found = regex.is_match(cache, input);
-    see_settings(cache);
+    see_both(cache);
     found
 }

@@ -1,9 +1,8 @@
 //! What a replay keeps between requests.
 ghost use Rattle.std.specs.Prelude.{◌≡◌, IfOk, Some};
 ghost use Rattle.automata_base.specs.Lists.{nth};
-ghost use Rattle.regex_automata.specs.Histories.{History, start, after, after_begin, after_reset, after_step};
-ghost use Rattle.regex_automata.specs.Replies.{IsReply};
-ghost use Rattle.regex_automata.specs.Sessions.{IsAt};
+ghost use Rattle.regex_automata.specs.Histories.{History, start};
+ghost use Rattle.regex_automata.specs.Sessions.{IsAt, IsReplyTo, StandsAfter};
 ghost use Rattle.regex_automata.specs.declared.replay.requests.Request.TheVariants as request;
 
 use crate::hybrid::dfa::OverlappingState;
@@ -56,8 +55,8 @@ impl<'r, 'h> Session<'r, 'h> {
     pub fn answer(&mut self, request: &Request<'h>) -> Reply
         requires { (h : History) × IsAt h self.old }
         ensures regexes { self.new.regexes.now ≡ self.old.regexes.now }
-        ensures reply { (h : History) → IsAt h self.old → IsReply self.old.regexes.now h request.now result }
-        ensures at { (h : History) → IsAt h self.old → IsAt (after h request.now result) self.new }
+        ensures reply { IsReplyTo self.old request.now result }
+        ensures at { StandsAfter self.old request.now result self.new }
     {
         let regex = self.regex;
         match request {
@@ -97,8 +96,8 @@ impl<'r, 'h> Session<'r, 'h> {
     fn begin(&mut self, reverse: bool, input: &Input<'h>) -> Reply
         requires { (h : History) × IsAt h self.old }
         ensures regexes { self.new.regexes.now ≡ self.old.regexes.now }
-        ensures reply { (h : History) → IsAt h self.old → IsReply self.old.regexes.now h (request.BeginWalk reverse input.now) result }
-        ensures at { (h : History) → IsAt h self.old → IsAt (after_begin h reverse input.now result) self.new }
+        ensures reply { IsReplyTo self.old (request.BeginWalk reverse input.now) result }
+        ensures at { StandsAfter self.old (request.BeginWalk reverse input.now) result self.new }
     {
         let number = self.walks.len();
         let walk = KeptWalk {
@@ -117,8 +116,8 @@ impl<'r, 'h> Session<'r, 'h> {
     fn step(&mut self, number: usize) -> Reply
         requires { (h : History) × IsAt h self.old }
         ensures regexes { self.new.regexes.now ≡ self.old.regexes.now }
-        ensures reply { (h : History) → IsAt h self.old → IsReply self.old.regexes.now h (request.StepWalk number) result }
-        ensures at { (h : History) → IsAt h self.old → IsAt (after_step h number result) self.new }
+        ensures reply { IsReplyTo self.old (request.StepWalk number) result }
+        ensures at { StandsAfter self.old (request.StepWalk number) result self.new }
     {
         let of = match self.walks.get(number) {
             Some(walk) => walk.regex,
@@ -136,8 +135,8 @@ impl<'r, 'h> Session<'r, 'h> {
     fn reset(&mut self, number: usize) -> Reply
         requires { (h : History) × IsAt h self.old }
         ensures regexes { self.new.regexes.now ≡ self.old.regexes.now }
-        ensures reply { (h : History) → IsAt h self.old → IsReply self.old.regexes.now h (request.Reset number) result }
-        ensures at { (h : History) → IsAt h self.old → IsAt (after_reset h number result) self.new }
+        ensures reply { IsReplyTo self.old (request.Reset number) result }
+        ensures at { StandsAfter self.old (request.Reset number) result self.new }
     {
         let regexes = self.regexes;
         match regexes.get(number) {

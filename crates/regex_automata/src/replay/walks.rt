@@ -1,16 +1,16 @@
 //! The walks that a script began.
-ghost use Rattle.std.specs.Prelude.{ℕ, ◌≡◌, ◌+◌, ◌<◌, OnOk, OnErr, length, slice_index_or, slice_set};
+ghost use Rattle.std.specs.Prelude.{ℕ, ◌<◌, length};
 ghost use Rattle.automata_base.specs.Tapes.{Forward, Backward};
 ghost use Rattle.automata_hybrid.specs.Caches.{IsCacheOf};
-ghost use Rattle.regex_automata.specs.Owing.{IsStep};
 ghost use Rattle.regex_automata.specs.RegexCaches.{AreCachesOf};
 ghost use Rattle.regex_automata.specs.Replies.{machine_of, way_of};
-ghost use Rattle.regex_automata.specs.Sessions.{Goes, HasAnswered, HasAnsweredBy, IsStepFrom};
+ghost use Rattle.regex_automata.specs.Sessions.{GoesAt, HasAnswered, HasAnsweredBy, IsCall, IsKept};
 ghost use Rattle.regex_automata.specs.declared.replay.walks.KeptWalk.{KeptWalk};
 
 use crate::hybrid::dfa;
 use crate::hybrid::dfa::{DFA, OverlappingState};
 use crate::hybrid::regex::{Cache, Regex};
+use crate::replay::searches::see;
 use automata_base::util::search::{HalfMatch, Input};
 use automata_config::error::SearchError;
 
@@ -33,12 +33,10 @@ fn step_fwd(
     requires of { IsCacheOf cache.old dfa.now }
     requires told { (k : ℕ) × HasAnswered Forward dfa.now input.now state.old k }
     ensures of { IsCacheOf cache.new dfa.now }
-    ensures owed { (k : ℕ) → HasAnswered Forward dfa.now input.now state.old k → IsStep Forward dfa.now input.now k result }
-    ensures told { (k : ℕ) → HasAnswered Forward dfa.now input.now state.old k → OnOk result (HasAnswered Forward dfa.now input.now state.new (k + 1)) }
-    ensures kept { (k : ℕ) → HasAnswered Forward dfa.now input.now state.old k → OnErr result (HasAnswered Forward dfa.now input.now state.new k) }
+    ensures call { IsCall Forward dfa.now input.now state.old state.new result }
 {
     let told = dfa.try_search_overlapping_fwd(cache, input, state);
-    cache.see_settings();
+    see(cache);
     match told {
         Ok(()) => Ok(state.get_match()),
         Err(error) => Err(error),
@@ -55,12 +53,10 @@ fn step_rev(
     requires of { IsCacheOf cache.old dfa.now }
     requires told { (k : ℕ) × HasAnswered Backward dfa.now input.now state.old k }
     ensures of { IsCacheOf cache.new dfa.now }
-    ensures owed { (k : ℕ) → HasAnswered Backward dfa.now input.now state.old k → IsStep Backward dfa.now input.now k result }
-    ensures told { (k : ℕ) → HasAnswered Backward dfa.now input.now state.old k → OnOk result (HasAnswered Backward dfa.now input.now state.new (k + 1)) }
-    ensures kept { (k : ℕ) → HasAnswered Backward dfa.now input.now state.old k → OnErr result (HasAnswered Backward dfa.now input.now state.new k) }
+    ensures call { IsCall Backward dfa.now input.now state.old state.new result }
 {
     let told = dfa.try_search_overlapping_rev(cache, input, state);
-    cache.see_settings();
+    see(cache);
     match told {
         Ok(()) => Ok(state.get_match()),
         Err(error) => Err(error),
@@ -78,9 +74,7 @@ fn step(
     requires of { AreCachesOf cache.old regex.now }
     requires told { (k : ℕ) × HasAnswered (way_of reverse) (machine_of reverse regex.now) input.now state.old k }
     ensures of { AreCachesOf cache.new regex.now }
-    ensures owed { (k : ℕ) → HasAnswered (way_of reverse) (machine_of reverse regex.now) input.now state.old k → IsStep (way_of reverse) (machine_of reverse regex.now) input.now k result }
-    ensures told { (k : ℕ) → HasAnswered (way_of reverse) (machine_of reverse regex.now) input.now state.old k → OnOk result (HasAnswered (way_of reverse) (machine_of reverse regex.now) input.now state.new (k + 1)) }
-    ensures kept { (k : ℕ) → HasAnswered (way_of reverse) (machine_of reverse regex.now) input.now state.old k → OnErr result (HasAnswered (way_of reverse) (machine_of reverse regex.now) input.now state.new k) }
+    ensures call { IsCall (way_of reverse) (machine_of reverse regex.now) input.now state.old state.new result }
 {
     if reverse {
         return step_rev(regex.reverse(), cache.reverse_mut(), input, state);
@@ -97,10 +91,9 @@ pub fn step_at(
 ) -> Result<Option<HalfMatch>, SearchError>
     requires number { number < length walks.old }
     requires of { AreCachesOf cache.old regex.now }
-    requires told { (old : KeptWalk) → old ≡ slice_index_or walks.old number old → (k : ℕ) × HasAnsweredBy regex.now old k }
+    requires told { (old : KeptWalk) → IsKept walks.old number old → (k : ℕ) × HasAnsweredBy regex.now old k }
     ensures of { AreCachesOf cache.new regex.now }
-    ensures owed { (old : KeptWalk) → old ≡ slice_index_or walks.old number old → (k : ℕ) → HasAnsweredBy regex.now old k → IsStepFrom regex.now old k result }
-    ensures goes { (old : KeptWalk) → old ≡ slice_index_or walks.old number old → (new : KeptWalk) × Goes regex.now old new result × (walks.new ≡ slice_set walks.old number new) }
+    ensures goes { GoesAt regex.now number walks.old walks.new result }
 {
     let walk = &mut walks[number];
     step(walk.reverse, regex, cache, &walk.input, &mut walk.state)

@@ -2,7 +2,7 @@ use Rattle.std.proofs.Common.{List, subst, ◌∙◌}
 use Rattle.regex_automata.specs.declared.hybrid.regex.Regex.{Regex}
 use Rattle.regex_automata.specs.Histories.{after}
 use Rattle.regex_automata.specs.Replies.{IsReply}
-use Rattle.regex_automata.proofs.Folding.{Completes-turn, Completes-end}
+use Rattle.regex_automata.proofs.Folding.{completes_turn, completes_end}
 use Rattle.regex_automata.proofs.replay.answer_all.Goals as goal
 
 pub loop-request-preserved : goal.loop-request-preserved
@@ -17,7 +17,7 @@ loop-request-preserved c =
       so_far = (
         after h q r,
         c.answer-reply.ensures.at h a,
-        Completes-turn regexes c.args.script.now c.loop-request.replies.items c.push.new.self.items h c.loop-request.request-index q r
+        completes_turn regexes c.args.script.now c.loop-request.replies.items c.push.new.self.items h c.loop-request.request-index q r
             c.loop-request-test.true c.request-item.is all
             (subst (λ (rs : List Regex). IsReply rs h q r) inv.regexes (c.answer-reply.ensures.reply h a)) c.in_ok-push.ensures.items,
       );
@@ -26,4 +26,4 @@ loop-request-preserved c =
 pub returns : goal.returns
 returns c =
     let (h, a, all) = c.loop-request.invariant.so_far in
-    Completes-end c.args.session.regexes.now c.args.script.now c.loop-request.replies.items h c.loop-request.request-index c.loop-request-test.false all
+    completes_end c.args.session.regexes.now c.args.script.now c.loop-request.replies.items h c.loop-request.request-index c.loop-request-test.false all

@@ -1,14 +1,14 @@
 use Rattle.std.proofs.Common.{◌∙◌, ap, subst}
 use Rattle.automata_base.specs.Nodes.{Automaton}
-use Rattle.automata_base.specs.Spans.{IsSpan, from}
+use Rattle.automata_base.specs.Spans.{Found, IsSpan, TryFinds, from}
 use Rattle.automata_base.specs.Told.{ToldIsRight}
 use Rattle.automata_hybrid.specs.Machine.{Machine}
 use Rattle.regex_automata.specs.Outcomes.{FindsMatch}
-use Rattle.regex_automata.specs.SoundPairs.{IsSoundPair, forward_engine}
+use Rattle.regex_automata.specs.SoundPairs.{IsSoundPair, forward_engine, reverse_engine}
 use Rattle.regex_automata.proofs.Collecting.{collected_begins, collected_right}
 use Rattle.regex_automata.proofs.MatchLists.{may_refuse_next}
 use Rattle.regex_automata.proofs.Owed.{are_stores}
-use Rattle.regex_automata.proofs.Right.{match_right}
+use Rattle.regex_automata.proofs.Right.{match_right, outcome_right}
 use Rattle.regex_automata.proofs.Rising.{collected_first, first_few, first_rise}
 use Rattle.regex_automata.proofs.replay.iteration.matches_upto.Goals as goal
 
@@ -30,9 +30,12 @@ returns-clause-owed c =
     (λ start o f. match_right p front rear c.start_is_right.ensures.starts sound (from start input) (c.haystack-haystack.ensures.bytes, within) o f)
     ms error s.found in
     let first = collected_first p input within ms error s.found in
-    let of = are_stores cache p (s.forward, s.reverse) c.see_settings.ensures.forward c.see_settings.ensures.reverse in
+    let of = are_stores cache p (s.forward, s.reverse) c.see_both.ensures.forward c.see_both.ensures.reverse in
     record {
       found = s.found;
+      answers = λ acyclic. collected_right (FindsMatch p) (TryFinds (forward_engine p) (reverse_engine p)) input
+          (λ start o f. outcome_right p front rear (from start input) (Found o) acyclic (c.haystack-haystack.ensures.bytes, within) f)
+          ms error s.found;
       spans = right;
       beginning = λ sound whole spans. collected_begins (IsSpan (forward_engine p)) (c.start_is_right.ensures.one_span (forward_engine p)) input ms whole error (right sound) spans;
       rise = first_rise p input within ms first;

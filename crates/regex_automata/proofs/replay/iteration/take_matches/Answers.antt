@@ -30,7 +30,7 @@ pub returns-in_default-clause-found : goal.returns-in_default-clause-found
 returns-in_default-clause-found c =
     let i = c.loop-item.invariant in
     let s = c.loop-item.item-iterator in
-    subst (λ (ms : List Match). AreFirst (FindsMatch c.args.regex.now) c.args.input c.args.input.start None ms) (sym c.in_default.ensures.items)
+    subst (λ (ms : List Match). AreFirst (FindsMatch c.args.regex.now) c.args.input c.args.input.start None ms) (sym {A = List Match} c.in_default.ensures.items)
     (comes_first (FindsMatch c.args.regex.now) c.args.input c.args.input.start None c.loop-item.found.items s.start s.last i.comes)
 
 pub returns-in_default-clause-errors : goal.returns-in_default-clause-errors

@@ -32,7 +32,7 @@ returns-in-Ok-list_members-clause-owed c =
       paths = λ acyclic none. patterns_told (IsOverlapping Forward (engine_of m.nfa m.kind) input) input c.args.capacity old new found c.in-Ok.ensures.capacity c.in-Ok.ensures.empty c.in-Ok-list_members.ensures
           (told_where told (ArePatternsFound (engine_of m.nfa m.kind) input _ _ _) (s.paths acyclic) (sym error ∙ none));
       errors = subst (λ (e : Option SearchError). IfSome e (MayRefusePatterns m input c.args.capacity found)) (sym error)
-          (refused_where told m store input c.args.capacity old new found (is_store store m s.of c.see_settings.ensures) c.in-Ok.ensures.capacity c.in-Ok-list_members.ensures s.errors);
+          (refused_where told m store input c.args.capacity old new found (is_store store m s.of c.see.ensures) c.in-Ok.ensures.capacity c.in-Ok-list_members.ensures s.errors);
       free = λ f. subst (λ (e : Option SearchError). IfSome e IsMemory) (sym error) (memory_where told (s.answers f.reach f.supported f.clears));
     }
 

@@ -4,7 +4,7 @@ use Rattle.regex_automata.proofs.replay.searches.find.Goals as goal
 pub returns-clause-owed : goal.returns-clause-owed
 returns-clause-owed c =
     let s = c.find-found.ensures in
-    let of = are_stores c.find-found.new.cache c.args.regex.now s.of c.see_settings.ensures.forward c.see_settings.ensures.reverse in
+    let of = are_stores c.find-found.new.cache c.args.regex.now s.of c.see_both.ensures.forward c.see_both.ensures.reverse in
     record {
       found = s.found;
       answer = s.answer;

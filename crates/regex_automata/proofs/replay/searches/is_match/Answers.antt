@@ -9,7 +9,7 @@ returns-clause-owed c =
     record {
       told = s.told;
       answer = s.answer;
-      errors = may_refuse_truth c.is_match-found.result m cache c.args.input.now (is_store cache m s.of.0 c.see_settings.ensures.forward) s.errors;
+      errors = may_refuse_truth c.is_match-found.result m cache c.args.input.now (is_store cache m s.of.0 c.see_both.ensures.forward) s.errors;
       unsupported = λ u. s.unsupported u.undone u.behind u.mode;
       free = λ f. s.answers f.reach f.supported f.clears;
     }

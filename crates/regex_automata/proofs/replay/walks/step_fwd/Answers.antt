@@ -4,26 +4,32 @@ use Rattle.regex_automata.proofs.Results.{ok_err, same_err}
 use Rattle.regex_automata.proofs.WalkCalls.{answered, stayed, step_answers, step_refused}
 use Rattle.regex_automata.proofs.replay.walks.step_fwd.Goals as goal
 
-pub returns-in-Ok-clause-owed : goal.returns-in-Ok-clause-owed
-returns-in-Ok-clause-owed c = λ k h.
+pub returns-in-Ok-clause-call : goal.returns-in-Ok-clause-call
+returns-in-Ok-clause-call c =
     let s = c.in-Ok.ensures in
+    let m = c.args.dfa.now in
+    let input = c.args.input.now in
+    let old = c.args.state.now in
     let new = c.try_search_overlapping_fwd-told.new.state in
-    step_answers Forward c.args.dfa.now c.args.input.now c.args.state.now k h new c.get_match.result c.get_match.ensures
-    s.tells s.paths (λ fresh u. ok_err (s.unsupported fresh u.undone u.behind u.mode))
+    record {
+      step = λ k h. step_answers Forward m input old k h new c.get_match.result c.get_match.ensures s.tells s.paths
+          (λ fresh u. ok_err (s.unsupported fresh u.undone u.behind u.mode));
+      told = λ k h. answered Forward m input old k h new s.tells;
+      kept = λ k h. tt;
+    }
 
-pub returns-in-Ok-clause-told : goal.returns-in-Ok-clause-told
-returns-in-Ok-clause-told c = λ k h.
-    answered Forward c.args.dfa.now c.args.input.now c.args.state.now k h c.try_search_overlapping_fwd-told.new.state c.in-Ok.ensures.tells
-
-pub returns-in-Err-clause-owed : goal.returns-in-Err-clause-owed
-returns-in-Err-clause-owed c = λ k h.
+pub returns-in-Err-clause-call : goal.returns-in-Err-clause-call
+returns-in-Err-clause-call c =
     let s = c.in-Err.ensures in
     let m = c.args.dfa.now in
+    let input = c.args.input.now in
+    let old = c.args.state.now in
+    let new = c.try_search_overlapping_fwd-told.new.state in
     let cache = c.try_search_overlapping_fwd-told.new.cache.store in
-    step_refused Forward m c.args.input.now c.args.state.now k h cache c.in-Err.error (is_store cache m s.of c.see_settings.ensures)
-    s.errors s.lost (λ ended. (s.ended ended).0) (λ fresh u. same_err (s.unsupported fresh u.undone u.behind u.mode))
-    (λ f. s.answers f.reach f.supported f.clears)
-
-pub returns-in-Err-clause-kept : goal.returns-in-Err-clause-kept
-returns-in-Err-clause-kept c = λ k h.
-    stayed Forward c.args.dfa.now c.args.input.now c.args.state.now k h c.try_search_overlapping_fwd-told.new.state c.in-Err.ensures.refused
+    record {
+      step = λ k h. step_refused Forward m input old k h cache c.in-Err.error (is_store cache m s.of c.see.ensures) s.errors s.lost
+          (λ ended. (s.ended ended).0) (λ fresh u. same_err (s.unsupported fresh u.undone u.behind u.mode))
+          (λ f. s.answers f.reach f.supported f.clears);
+      told = λ k h. tt;
+      kept = λ k h. stayed Forward m input old k h new s.refused;
+    }

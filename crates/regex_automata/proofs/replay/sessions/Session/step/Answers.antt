@@ -24,7 +24,7 @@ returns-clause-reply c = λ h a.
     let lt : c.args.number < length s.walks.items = search rules in
     let at : k ≡ get_or s.walks.items c.args.number k = search rules in
     step_reply h s c.args.number k c.step_at.result a lt at c.if-of-self.false
-    (c.step_at.ensures.owed k (at ∙ ap (λ (xs : List KeptWalk). get_or xs c.args.number k) (sym c.deref_mut.ensures.value)))
+    (c.step_at.ensures.goes k (at ∙ ap (λ (xs : List KeptWalk). get_or xs c.args.number k) (sym c.deref_mut.ensures.value))).1.step
 
 pub returns-clause-at : goal.returns-clause-at
 returns-clause-at c = λ h a.
