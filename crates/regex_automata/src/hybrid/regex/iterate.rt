@@ -1,22 +1,16 @@
-ghost use Rattle.std.specs.Prelude.{◌≡◌, ◌≤◌, ◌+◌, ◌-◌, length, IfOk, IfErr, IfSome, OnErr, OnOk, None, false, true, List};
+ghost use Rattle.std.specs.Prelude.{◌≡◌, ◌≤◌, ◌+◌, ◌-◌, IfOk, IfErr, IfSome, OnErr, OnOk, None, false, true};
 ghost use Rattle.std.specs.Iterator.{at_most};
 ghost use Rattle.automata_base.specs.Input.{Allows, IsAllowed};
-ghost use Rattle.automata_base.specs.Matches as specs;
-ghost use Rattle.automata_base.specs.Spans.{AreSpans, IsEmptyAt, IsSpan, Rise, from};
-ghost use Rattle.automata_hybrid.specs.Caches.{IsCacheOf};
-ghost use Rattle.regex_automata.specs.Iterating.{AreCollected, AreCostsTwice, GivesItem, GoesOn, IsBeginning, IsNextMatch, IsNextRefusal, KnowsNext, LearnsItem, input_at, most_left};
-ghost use Rattle.regex_automata.specs.Outcomes.{FindsMatch};
+ghost use Rattle.automata_base.specs.Spans.{IsEmptyAt, from};
+ghost use Rattle.regex_automata.specs.Iterating.{AreCostsTwice, GivesItem, GoesOn, IsNextMatch, IsNextRefusal, KnowsNext, LearnsItem, input_at, most_left};
 ghost use Rattle.regex_automata.specs.RegexRefusals.{IsOfGiven};
-ghost use Rattle.regex_automata.specs.SoundPairs.{IsSoundPair, forward_engine};
 ghost use Rattle.regex_automata.specs.RegexCaches.{AreCachesOf, AreGrown, AreStill, NothingCleared};
 
 use crate::hybrid::regex::{Cache, Regex};
 use crate::laws::matches_agree;
-use automata_base::laws::{start_is_right, told_is_right};
 use automata_base::util::search::{Anchored, Input, Match};
 use automata_config::error::SearchError;
 use automata_hybrid::laws::known_stays;
-use std::alloc::{AllocError, Global};
 
 /// The input from a place on.
 fn from<'h>(input: &Input<'h>, start: usize) -> Input<'h>
@@ -98,54 +92,6 @@ impl Regex {
             ended: false,
         }
     }
-}
-
-/// The matches of an input, and the error that ended them, if one did.
-pub fn collect_matches(
-    alloc: Global,
-    regex: &Regex,
-    cache: &mut Cache,
-    input: Input<'_>,
-) -> Result<(Vec<Match>, Option<SearchError>), AllocError>
-    requires { AreCachesOf cache.old regex.now }
-    ensures of { AreCachesOf cache.new regex.now }
-    ensures found { IfOk result (λ all. AreCollected (FindsMatch regex.now) input.entry all.0.items all.1) }
-    ensures rise { IfOk result (λ all. Rise input.entry.end None all.0.items) }
-    ensures few { IfOk result (λ all. length all.0.items ≤ input.entry.end - input.entry.start + 1) }
-    ensures spans { IsSoundPair regex.now
-        → IfOk result (λ all. AreCollected (IsSpan (forward_engine regex.now)) input.entry all.0.items all.1) }
-    ensures beginning { IsSoundPair regex.now
-        → IfOk result (λ all. (whole : List specs.Match) → AreSpans (forward_engine regex.now) input.entry whole
-        → IsBeginning all.0.items whole) }
-{
-    told_is_right(regex.forward.get_nfa());
-    told_is_right(regex.reverse.get_nfa());
-    start_is_right();
-    let _haystack = input.haystack();
-    collect(alloc, regex, cache, input)
-}
-
-/// The same, as the passes tell it.
-fn collect(
-    alloc: Global,
-    regex: &Regex,
-    cache: &mut Cache,
-    input: Input<'_>,
-) -> Result<(Vec<Match>, Option<SearchError>), AllocError>
-    requires { AreCachesOf cache.old regex.now }
-    ensures forward { IsCacheOf cache.new.forward regex.now.forward }
-    ensures reverse { IsCacheOf cache.new.reverse regex.now.reverse }
-    ensures found { IfOk result (λ all. AreCollected (FindsMatch regex.now) input.entry all.0.items all.1) }
-{
-    let mut found = Vec::new(alloc);
-    let mut error = None;
-    for item in regex.find_iter(cache, input) {
-        match item {
-            Ok(next) => found.push(next)?,
-            Err(refused) => error = Some(refused),
-        }
-    }
-    Ok((found, error))
 }
 
 /// The matches that are left of an input, until an error, which is the last item. After the end it gives none for good.

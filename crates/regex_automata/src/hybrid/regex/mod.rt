@@ -5,7 +5,7 @@ ghost use Rattle.regex_automata.specs.RegexCaches.{AreFresh};
 
 mod build;
 mod caches;
-pub(crate) mod iterate;
+mod iterate;
 mod matching;
 mod search;
 
