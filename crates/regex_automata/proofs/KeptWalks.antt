@@ -3,7 +3,7 @@ use Rattle.std.proofs.Common.{◌≡◌, ℕ, zero, suc, ◌<◌, ◌≤◌, Lis
 use Rattle.std.proofs.Math.ListN.{set}
 use Rattle.automata_base.specs.Lists.{nth}
 use Rattle.regex_automata.specs.Histories.{Begun, stepped, step_at}
-use Rattle.regex_automata.specs.Sessions.{IsWalk, AreWalks}
+use Rattle.regex_automata.specs.Players.{IsWalk, AreWalks}
 use Rattle.regex_automata.specs.declared.hybrid.regex.Regex.{Regex}
 use Rattle.regex_automata.specs.declared.replay.walks.KeptWalk.{KeptWalk}
 use Rattle.regex_automata.proofs.Results.{same_some}

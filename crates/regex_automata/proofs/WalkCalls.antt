@@ -17,7 +17,7 @@ use Rattle.automata_hybrid.specs.Starting.{MayStart}
 use Rattle.automata_hybrid.specs.Walking.{HasTold, HasToldAt, IsWalkRefusal, TellsNext, half_nth}
 use Rattle.automata_hybrid.specs.Walks.{At, Ended, Fresh, Stage, Walk, fresh_walk, without_match}
 use Rattle.regex_automata.specs.Owing.{IsMemory, IsStep, IsStoreOf, IsUnhindered, IsUnsupported, MayRefuseStep, unsupported_error}
-use Rattle.regex_automata.specs.Sessions.{HasAnswered}
+use Rattle.regex_automata.specs.Players.{HasAnswered}
 
 not_supported : (m : Machine) (mode : Anchored) (behind : Option ℕ) → MayStart m mode behind → supports m mode ≡ false → ⊥
 not_supported m mode behind may e = let f = may.1 in cc

@@ -12,23 +12,23 @@ use Rattle.regex_automata.specs.RegexCaches.{AreCachesOf}
 use Rattle.regex_automata.specs.Histories.{Begun, History, stepped, after_step}
 use Rattle.regex_automata.specs.Replies.{IsReply, IsStepOf, walk_fault}
 use Rattle.regex_automata.specs.Owing.{IsStep}
-use Rattle.regex_automata.specs.Sessions.{IsWalk, AreWalks, IsAt, HasAnsweredBy, IsStepFrom, Goes}
+use Rattle.regex_automata.specs.Players.{IsWalk, AreWalks, IsAt, HasAnsweredBy, IsStepFrom, Goes}
 use Rattle.regex_automata.specs.declared.replay.requests.Request.TheVariants as request
 use Rattle.regex_automata.specs.declared.replay.replies.Reply.TheVariants as reply
 use Rattle.regex_automata.specs.declared.replay.replies.Fault.{Fault}
 use Rattle.regex_automata.specs.declared.replay.replies.Fault.TheVariants as fault
-use Rattle.regex_automata.specs.declared.replay.sessions.Session.{Session}
+use Rattle.regex_automata.specs.declared.replay.players.Player.{Player}
 use Rattle.regex_automata.specs.declared.replay.walks.KeptWalk.{KeptWalk}
 use Rattle.regex_automata.proofs.Replying.{is_own, is_bad}
 use Rattle.regex_automata.proofs.KeptWalks.{no_walk, walk_at, same_at, walks_step, walks_same}
 
--- the walk that is kept under a number is of the session's regex
-of_current : (h : History) (s : Session) (w : Begun) (k : KeptWalk)
+-- the walk that is kept under a number is of the player's regex
+of_current : (h : History) (s : Player) (w : Begun) (k : KeptWalk)
     → IsAt h s → IsWalk s.regexes.now w k → k.regex ≡ s.current → nth s.regexes.now w.regex ≡ Some s.regex.now
 of_current h s w k a is e =
     ap (nth s.regexes.now) (sym is.regex ∙ e ∙ a.current) ∙ a.regex
 
-told_there : (h : History) (s : Session) (n : ℕ) (k : KeptWalk)
+told_there : (h : History) (s : Player) (n : ℕ) (k : KeptWalk)
     → IsAt h s → n < length s.walks.items → k ≡ get_or s.walks.items n k → k.regex ≡ s.current
     → (j : ℕ) × HasAnsweredBy s.regex.now k j
 told_there h s n k a lt is e =
@@ -36,7 +36,7 @@ told_there h s n k a lt is e =
     (w.told, walk.told s.regex.now (of_current h s w k a walk e))
 
 -- the same under another view of the list
-pub told_at : (h : History) (s : Session) (n : ℕ) (k old : KeptWalk) (ks : List KeptWalk) → ks ≡ s.walks.items
+pub told_at : (h : History) (s : Player) (n : ℕ) (k old : KeptWalk) (ks : List KeptWalk) → ks ≡ s.walks.items
     → IsAt h s → n < length s.walks.items → k ≡ get_or s.walks.items n k → k.regex ≡ s.current → old ≡ get_or ks n old
     → (j : ℕ) × HasAnsweredBy s.regex.now old j
 told_at h s n k old ks same a lt is e at =
@@ -44,7 +44,7 @@ told_at h s n k old ks same a lt is e at =
     (same_at s.walks.items n k old lt is (at ∙ ap (λ (xs : List KeptWalk). get_or xs n old) same))
     (told_there h s n k a lt is e)
 
-pub no_walk_reply : (h : History) (s : Session) (n : ℕ)
+pub no_walk_reply : (h : History) (s : Player) (n : ℕ)
     → IsAt h s → length s.walks.items ≤ n → IsReply s.regexes.now h (request.StepWalk n) (reply.Bad fault.NoWalk)
 no_walk_reply h s n a le =
     is_bad s.regexes.now h (request.StepWalk n) (reply.Bad fault.NoWalk) s.regex.now fault.NoWalk a.regex
@@ -59,7 +59,7 @@ same_regex current w e = ap unless_same (eq-eqb w.regex current e)
 other_regex : (current : ℕ) (w : Begun) → (w.regex ≡ current → ⊥) → walk_fault current (Some w) ≡ Some fault.OtherRegex
 other_regex current w ne = ap unless_same (ne_eqb w.regex current ne)
 
-pub other_reply : (h : History) (s : Session) (n : ℕ) (k : KeptWalk)
+pub other_reply : (h : History) (s : Player) (n : ℕ) (k : KeptWalk)
     → IsAt h s → n < length s.walks.items → k ≡ get_or s.walks.items n k → (k.regex ≡ s.current → ⊥)
     → IsReply s.regexes.now h (request.StepWalk n) (reply.Bad fault.OtherRegex)
 other_reply h s n k a lt is ne =
@@ -74,7 +74,7 @@ begun_step rs r w k result walk h =
     subst (λ (i : Input). IsStep (way_of w.reverse) (machine_of w.reverse r) i w.told result) walk.input
     (subst (λ b. IsStep (way_of b) (machine_of b r) k.input w.told result) walk.reverse h)
 
-pub step_reply : (h : History) (s : Session) (n : ℕ) (k : KeptWalk) (result : Result (Option HalfMatch) SearchError)
+pub step_reply : (h : History) (s : Player) (n : ℕ) (k : KeptWalk) (result : Result (Option HalfMatch) SearchError)
     → IsAt h s → n < length s.walks.items → k ≡ get_or s.walks.items n k → k.regex ≡ s.current
     → ((j : ℕ) → HasAnsweredBy s.regex.now k j → IsStepFrom s.regex.now k j result)
     → IsReply s.regexes.now h (request.StepWalk n) (reply.Half result)
@@ -120,7 +120,7 @@ current_after : (h : History) (n : ℕ) (result : Result (Option HalfMatch) Sear
 current_after h n (Ok found) = refl
 current_after h n (Err error) = refl
 
-pub at_stepped : (h : History) (s t : Session) (n : ℕ) (old : KeptWalk) (xs ks : List KeptWalk) (result : Result (Option HalfMatch) SearchError)
+pub at_stepped : (h : History) (s t : Player) (n : ℕ) (old : KeptWalk) (xs ks : List KeptWalk) (result : Result (Option HalfMatch) SearchError)
     → IsAt h s → n < length s.walks.items → old ≡ get_or s.walks.items n old → old.regex ≡ s.current
     → xs ≡ s.walks.items → (new : KeptWalk) × Goes s.regex.now old new result × (ks ≡ set xs n new)
     → t.regexes.now ≡ s.regexes.now → t.regex.now ≡ s.regex.now → t.current ≡ s.current → AreCachesOf t.cache s.regex.now

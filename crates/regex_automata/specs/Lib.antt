@@ -17,4 +17,4 @@ pub mod Matching
 pub mod Owing
 pub mod Histories
 pub mod Replies
-pub mod Sessions
+pub mod Players

@@ -2,20 +2,20 @@
 ghost use Rattle.std.specs.Prelude.{[], IfOk};
 ghost use Rattle.regex_automata.specs.Histories.{start};
 ghost use Rattle.regex_automata.specs.Replies.{AreReplies, TellWalks};
-ghost use Rattle.regex_automata.specs.Sessions.{IsAt};
+ghost use Rattle.regex_automata.specs.Players.{IsAt};
 
 mod iteration;
 mod patterns;
+mod players;
 pub mod replies;
 pub mod requests;
 mod searches;
-mod sessions;
 mod walks;
 
 use crate::hybrid::regex::Regex;
+use players::Player;
 pub use replies::{Fault, Reply};
 pub use requests::Request;
-use sessions::Session;
 use std::alloc::{AllocError, Global};
 
 /// One reply for each request, in order, each its request's own value, whatever came before.
@@ -35,7 +35,7 @@ pub fn replay(
     ensures walks { IfOk result (λ replies. TellWalks regexes.now script.now replies.items) }
 {
     match regexes.first() {
-        Some(regex) => answer_all(alloc, Session::new(alloc, regexes, regex)?, script),
+        Some(regex) => answer_all(alloc, Player::new(alloc, regexes, regex)?, script),
         None => refuse_all(alloc, script),
     }
 }
@@ -43,15 +43,15 @@ pub fn replay(
 /// Answers one request after another.
 fn answer_all<'h>(
     alloc: Global,
-    mut session: Session<'_, 'h>,
+    mut player: Player<'_, 'h>,
     script: &[Request<'h>],
 ) -> Result<Vec<Reply>, AllocError>
-    requires { IsAt start session }
-    ensures { IfOk result (λ replies. AreReplies session.entry.regexes.now script.now replies.items) }
+    requires { IsAt start player }
+    ensures { IfOk result (λ replies. AreReplies player.entry.regexes.now script.now replies.items) }
 {
     let mut replies = Vec::new(alloc);
     for request in script {
-        let reply = session.answer(request);
+        let reply = player.answer(request);
         replies.push(reply)?;
     }
     Ok(replies)

@@ -4,7 +4,7 @@ ghost use Rattle.automata_base.specs.Tapes.{Forward, Backward};
 ghost use Rattle.automata_hybrid.specs.Caches.{IsCacheOf};
 ghost use Rattle.regex_automata.specs.RegexCaches.{AreCachesOf};
 ghost use Rattle.regex_automata.specs.Replies.{machine_of, way_of};
-ghost use Rattle.regex_automata.specs.Sessions.{GoesAt, HasAnswered, HasAnsweredBy, IsCall, IsKept};
+ghost use Rattle.regex_automata.specs.Players.{GoesAt, HasAnswered, HasAnsweredBy, IsCall, IsKept};
 ghost use Rattle.regex_automata.specs.declared.replay.walks.KeptWalk.{KeptWalk};
 
 use crate::hybrid::dfa;

@@ -9,7 +9,7 @@ pub loop-request-preserved : goal.loop-request-preserved
 loop-request-preserved c =
     let inv = c.loop-request.invariant in
     let (h, a, all) = inv.so_far in
-    let regexes = c.args.session.regexes.now in
+    let regexes = c.args.player.regexes.now in
     let q = c.request-item.result in
     let r = c.answer-reply.result in
     record {
@@ -26,4 +26,4 @@ loop-request-preserved c =
 pub returns : goal.returns
 returns c =
     let (h, a, all) = c.loop-request.invariant.so_far in
-    completes_end c.args.session.regexes.now c.args.script.now c.loop-request.replies.items h c.loop-request.request-index c.loop-request-test.false all
+    completes_end c.args.player.regexes.now c.args.script.now c.loop-request.replies.items h c.loop-request.request-index c.loop-request-test.false all

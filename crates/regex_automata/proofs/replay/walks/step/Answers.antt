@@ -2,7 +2,7 @@ use Rattle.std.proofs.Common.{◌≡◌, ℕ, true, false, subst, sym}
 use Rattle.automata_base.specs.Tapes.{Forward, Backward}
 use Rattle.automata_hybrid.specs.Machine.{Machine}
 use Rattle.regex_automata.specs.Replies.{machine_of, way_of}
-use Rattle.regex_automata.specs.Sessions.{HasAnswered, IsCall}
+use Rattle.regex_automata.specs.Players.{HasAnswered, IsCall}
 use Rattle.regex_automata.proofs.replay.walks.step.Goals as goal
 
 pub step_rev-requires-clause-told : goal.step_rev-requires-clause-told

@@ -6,7 +6,7 @@ use Rattle.regex_automata.specs.declared.replay.requests.Request.{Request}
 use Rattle.regex_automata.specs.declared.replay.requests.Request.TheVariants as request
 use Rattle.regex_automata.specs.declared.replay.replies.Reply.TheVariants as reply
 use Rattle.regex_automata.proofs.Replying.{is_own}
-use Rattle.regex_automata.proofs.replay.sessions.Session.answer.Goals as goal
+use Rattle.regex_automata.proofs.replay.players.Player.answer.Goals as goal
 
 pub returns-in-Which-clause-reply : goal.returns-in-Which-clause-reply
 returns-in-Which-clause-reply c = λ h a.

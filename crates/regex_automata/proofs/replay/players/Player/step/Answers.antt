@@ -2,7 +2,7 @@ use Rattle.std.proofs.Common.{◌≡◌, ◌<◌, List, length, get_or, ap, refl
 use Rattle.std.proofs.lemmas.Grind.{common_steps}
 use Rattle.regex_automata.specs.declared.replay.walks.KeptWalk.{KeptWalk}
 use Rattle.regex_automata.proofs.WalkReplies.{told_at, no_walk_reply, other_reply, step_reply, at_stepped}
-use Rattle.regex_automata.proofs.replay.sessions.Session.step.Goals as goal
+use Rattle.regex_automata.proofs.replay.players.Player.step.Goals as goal
 
 pub returns-in-None-clause-reply : goal.returns-in-None-clause-reply
 returns-in-None-clause-reply c = λ h a. no_walk_reply h c.args.self.now _ a (search rules)

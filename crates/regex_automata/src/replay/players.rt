@@ -2,7 +2,7 @@
 ghost use Rattle.std.specs.Prelude.{◌≡◌, IfOk, Some};
 ghost use Rattle.automata_base.specs.Lists.{nth};
 ghost use Rattle.regex_automata.specs.Histories.{History, start};
-ghost use Rattle.regex_automata.specs.Sessions.{IsAt, IsReplyTo, StandsAfter};
+ghost use Rattle.regex_automata.specs.Players.{IsAt, IsReplyTo, StandsAfter};
 ghost use Rattle.regex_automata.specs.declared.replay.requests.Request.TheVariants as request;
 
 use crate::hybrid::dfa::OverlappingState;
@@ -19,7 +19,7 @@ use std::alloc::{AllocError, Global};
 
 /// The current regex, the caches that are of it, and the walks so far.
 #[derive(Drop)]
-pub struct Session<'r, 'h> {
+pub struct Player<'r, 'h> {
     alloc: Global,
     regexes: &'r [Regex],
     regex: &'r Regex,
@@ -28,20 +28,20 @@ pub struct Session<'r, 'h> {
     walks: Vec<KeptWalk<'h>>,
 }
 
-impl<'r, 'h> Session<'r, 'h> {
+impl<'r, 'h> Player<'r, 'h> {
     /// Before the first request: regex 0 is current.
     #[tactic(auto, using(crate::proofs::Owed::fresh_caches))]
     pub fn new(
         alloc: Global,
         regexes: &'r [Regex],
         regex: &'r Regex,
-    ) -> Result<Session<'r, 'h>, AllocError>
+    ) -> Result<Player<'r, 'h>, AllocError>
         requires { nth regexes.now 0 ≡ Some regex.now }
         ensures at { IfOk result (IsAt start) }
-        ensures regexes { IfOk result (λ session. session.regexes.now ≡ regexes.now) }
+        ensures regexes { IfOk result (λ player. player.regexes.now ≡ regexes.now) }
     {
         let cache = regex.create_cache()?;
-        Ok(Session {
+        Ok(Player {
             alloc,
             regexes,
             regex,

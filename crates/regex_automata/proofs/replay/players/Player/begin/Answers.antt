@@ -3,9 +3,9 @@ use Rattle.regex_automata.proofs.Replying.{is_own}
 use Rattle.regex_automata.proofs.WalkCalls.{fresh_answered}
 use Rattle.regex_automata.proofs.KeptWalks.{walks_push, length-walks}
 use Rattle.regex_automata.specs.Replies.{machine_of, way_of}
-use Rattle.regex_automata.specs.Sessions.{AreWalks}
+use Rattle.regex_automata.specs.Players.{AreWalks}
 use Rattle.regex_automata.specs.declared.replay.walks.KeptWalk.{KeptWalk}
-use Rattle.regex_automata.proofs.replay.sessions.Session.begin.Goals as goal
+use Rattle.regex_automata.proofs.replay.players.Player.begin.Goals as goal
 
 pub returns-clause-reply : goal.returns-clause-reply
 returns-clause-reply c = λ h a. is_own _ h _ _ _ a.regex refl (c.len-number.ensures ∙ c.args.self.now.walks.ok.0 ∙ length-walks _ _ _ a.walks)

@@ -16,7 +16,7 @@ use Rattle.regex_automata.specs.Replies.{IsReply, machine_of, way_of}
 use Rattle.regex_automata.specs.declared.hybrid.regex.Regex.{Regex}
 use Rattle.regex_automata.specs.declared.replay.replies.Reply.{Reply}
 use Rattle.regex_automata.specs.declared.replay.requests.Request.{Request}
-use Rattle.regex_automata.specs.declared.replay.sessions.Session.{Session}
+use Rattle.regex_automata.specs.declared.replay.players.Player.{Player}
 use Rattle.regex_automata.specs.declared.replay.walks.KeptWalk.{KeptWalk}
 
 -- a walk has answered so many calls, and behind its last pair it has ended
@@ -72,15 +72,15 @@ AreWalks regexes (w ∷ ws) [] = ⊥
 AreWalks regexes (w ∷ ws) (k ∷ ks) = IsWalk regexes w k × AreWalks regexes ws ks
 
 -- the current regex is the history's, the caches are of it, and the walks are the history's
-pub record IsAt (h : History) (s : Session) : Type 0 where
+pub record IsAt (h : History) (s : Player) : Type 0 where
   pub current : s.current ≡ h.current
   pub regex : nth s.regexes.now h.current ≡ Some s.regex.now
   pub of : AreCachesOf s.cache s.regex.now
   pub walks : AreWalks s.regexes.now h.walks s.walks.items
 
 -- the reply to a request is its own value, after whatever history; and the history goes on by it
-abbrev pub IsReplyTo : Session → Request → Reply → Type 0
+abbrev pub IsReplyTo : Player → Request → Reply → Type 0
 IsReplyTo s q answer = (h : History) → IsAt h s → IsReply s.regexes.now h q answer
 
-abbrev pub StandsAfter : (old : Session) → Request → Reply → (new : Session) → Type 0
+abbrev pub StandsAfter : (old : Player) → Request → Reply → (new : Player) → Type 0
 StandsAfter old q answer new = (h : History) → IsAt h old → IsAt (after h q answer) new
