@@ -45,7 +45,7 @@ const WALK_IN_REVERSE: &[Pair] = &[
     ("step 0", "none"),
 ];
 
-/// The second search finds no room, since it has the cache of the first one. A reset alone makes the cache as a new one.
+/// The second search finds no room, since it has the cache of the first one. Only a reset makes that as new.
 #[test]
 fn one_cache_for_the_script(rt: HostRuntime) -> Result<(), Fail> {
     replays(&rt, FULL)?;
