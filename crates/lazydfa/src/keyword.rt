@@ -17,15 +17,19 @@ pub enum Keyword {
     PerState,
     Quit,
     Regex,
+    Reset,
     Reverse,
     Skip,
     Span,
     Starts,
+    Step,
     Tags,
     Unicode,
+    Walk,
+    Which,
 }
 
-const KEYWORDS: [(&[u8], Keyword); 20] = [
+const KEYWORDS: [(&[u8], Keyword); 24] = [
     (b"all", Keyword::All),
     (b"anchored", Keyword::Anchored),
     (b"capacity", Keyword::Capacity),
@@ -40,12 +44,16 @@ const KEYWORDS: [(&[u8], Keyword); 20] = [
     (b"perstate", Keyword::PerState),
     (b"quit", Keyword::Quit),
     (b"regex", Keyword::Regex),
+    (b"reset", Keyword::Reset),
     (b"rev", Keyword::Reverse),
     (b"skip", Keyword::Skip),
     (b"span", Keyword::Span),
     (b"starts", Keyword::Starts),
+    (b"step", Keyword::Step),
     (b"tags", Keyword::Tags),
     (b"unicode", Keyword::Unicode),
+    (b"walk", Keyword::Walk),
+    (b"which", Keyword::Which),
 ];
 
 impl Keyword {

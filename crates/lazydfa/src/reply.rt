@@ -1,44 +1,42 @@
 //! What is printed for a request.
 
 use regex_automata::hybrid::SearchError;
+use regex_automata::replay::{Fault, Reply};
+use regex_automata::util::primitives::PatternID;
 use regex_automata::util::search::{HalfMatch, Match, MatchErrorKind};
 use std::fmt;
 
-/// The answer to a request, printed as its line of the output.
-#[derive(Debug, Drop)]
-pub enum Reply {
-    Half(Result<Option<HalfMatch>, SearchError>),
-    Span(Result<Option<Match>, SearchError>),
-    Truth(Result<bool, SearchError>),
-    /// The matches of an iteration, and the error that ended it, if one did.
-    Spans {
-        found: Vec<Match>,
-        error: Option<SearchError>,
-    },
-    NoRegex,
-}
+/// A reply, printed as its line of the output.
+#[derive(Drop)]
+pub struct Line<'a>(pub &'a Reply);
 
-impl fmt::Display for Reply {
+impl<'a> fmt::Display for Line<'a> {
     fn fmt<W: fmt::Write>(&self, f: &mut fmt::Formatter<W>) -> fmt::Result {
-        match self {
-            Reply::Half(Ok(Some(found))) => {
-                let pattern = found.pattern().as_usize();
-                let offset = found.offset();
-                write!(f, "half {pattern} {offset}")
-            }
+        match self.0 {
+            Reply::Half(Ok(Some(found))) => write_half(f, found),
             Reply::Span(Ok(Some(found))) => {
                 write!(f, "match ")?;
                 write_match(f, found)
             }
             Reply::Half(Ok(None)) | Reply::Span(Ok(None)) => write!(f, "none"),
             Reply::Truth(Ok(holds)) => write!(f, "{holds}"),
+            Reply::Spans { found, error } => write_matches(f, found.as_slice(), error.as_ref()),
+            Reply::Begun(Ok(number)) => write!(f, "walk {number}"),
+            Reply::Patterns { found, error } => write_patterns(f, found.as_slice(), error.as_ref()),
+            Reply::Done(Ok(())) => write!(f, "ok"),
             Reply::Half(Err(error)) | Reply::Span(Err(error)) | Reply::Truth(Err(error)) => {
                 write_error(f, error)
             }
-            Reply::Spans { found, error } => write_matches(f, found.as_slice(), error.as_ref()),
-            Reply::NoRegex => write!(f, "bad regex"),
+            Reply::Begun(Err(error)) | Reply::Done(Err(error)) => write_error(f, error),
+            Reply::Bad(fault) => write_fault(f, *fault),
         }
     }
+}
+
+fn write_half<W: fmt::Write>(f: &mut fmt::Formatter<W>, found: &HalfMatch) -> fmt::Result {
+    let pattern = found.pattern().as_usize();
+    let offset = found.offset();
+    write!(f, "half {pattern} {offset}")
 }
 
 fn write_matches<W: fmt::Write>(
@@ -51,11 +49,7 @@ fn write_matches<W: fmt::Write>(
         write!(f, " ")?;
         write_match(f, found)?;
     }
-    if let Some(error) = error {
-        write!(f, " ")?;
-        write_error(f, error)?;
-    }
-    Ok(())
+    write_end(f, error)
 }
 
 fn write_match<W: fmt::Write>(f: &mut fmt::Formatter<W>, found: &Match) -> fmt::Result {
@@ -63,6 +57,27 @@ fn write_match<W: fmt::Write>(f: &mut fmt::Formatter<W>, found: &Match) -> fmt::
     let start = found.start();
     let end = found.end();
     write!(f, "{pattern} {start}..{end}")
+}
+
+fn write_patterns<W: fmt::Write>(
+    f: &mut fmt::Formatter<W>,
+    patterns: &[PatternID],
+    error: Option<&SearchError>,
+) -> fmt::Result {
+    write!(f, "patterns")?;
+    for pattern in patterns {
+        write!(f, " {}", pattern.as_usize())?;
+    }
+    write_end(f, error)
+}
+
+/// The words of the error that ended a list, if one did.
+fn write_end<W: fmt::Write>(f: &mut fmt::Formatter<W>, error: Option<&SearchError>) -> fmt::Result {
+    if let Some(error) = error {
+        write!(f, " ")?;
+        write_error(f, error)?;
+    }
+    Ok(())
 }
 
 fn write_error<W: fmt::Write>(f: &mut fmt::Formatter<W>, error: &SearchError) -> fmt::Result {
@@ -74,5 +89,13 @@ fn write_error<W: fmt::Write>(f: &mut fmt::Formatter<W>, error: &SearchError) ->
         },
         SearchError::OutOfMemory => write!(f, "memory"),
         SearchError::NotAPair => write!(f, "notapair"),
+    }
+}
+
+fn write_fault<W: fmt::Write>(f: &mut fmt::Formatter<W>, fault: Fault) -> fmt::Result {
+    match fault {
+        Fault::NoRegex => write!(f, "bad regex"),
+        Fault::NoWalk => write!(f, "bad walk"),
+        Fault::OtherRegex => write!(f, "bad other"),
     }
 }

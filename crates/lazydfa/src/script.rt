@@ -6,6 +6,7 @@ use crate::catalogue::Entry;
 use crate::error::RunError;
 use crate::keyword::Keyword;
 use regex_automata::hybrid::dfa::Config;
+use regex_automata::replay::Request;
 use regex_automata::util::primitives::PatternID;
 use regex_automata::util::search::{Anchored, Input, MatchKind, Span};
 use std::alloc::{AllocError, Global};
@@ -14,7 +15,7 @@ use std::alloc::{AllocError, Global};
 #[derive(Drop)]
 pub struct Script {
     pub definitions: Vec<Definition>,
-    pub requests: Vec<Request>,
+    orders: Vec<Order>,
 }
 
 /// A line that builds a regex.
@@ -24,19 +25,23 @@ pub struct Definition {
     pub config: Config,
 }
 
-/// A line that asks something of a regex.
+/// A line that makes a request. It owns its haystack.
 #[derive(Drop)]
-pub enum Request {
-    Forward(Query),
-    Reverse(Query),
+enum Order {
+    SearchFwd(Query),
+    SearchRev(Query),
     Find(Query),
     IsMatch(Query),
     Iterate(Query),
+    BeginWalk { reverse: bool, query: Query },
+    StepWalk(usize),
+    Which { capacity: usize, query: Query },
+    Reset(usize),
 }
 
 /// A haystack, and how it is to be searched.
 #[derive(Drop)]
-pub struct Query {
+struct Query {
     haystack: Vec<u8>,
     span: Span,
     anchored: Anchored,
@@ -72,7 +77,7 @@ impl Script {
     pub fn parse(alloc: Global, text: &[u8]) -> Result<Script, RunError> {
         let mut script = Script {
             definitions: Vec::new(alloc),
-            requests: Vec::new(alloc),
+            orders: Vec::new(alloc),
         };
         let mut number = 0usize;
         for line in text.split(|byte| *byte == b'\n') {
@@ -87,6 +92,14 @@ impl Script {
         Ok(script)
     }
 
+    /// The requests, over the haystacks that the script owns.
+    pub fn requests(&self, alloc: Global) -> Result<Vec<Request<'_>>, AllocError> {
+        self.orders
+            .iter()
+            .map(|order| order.request())
+            .collect(alloc)
+    }
+
     fn add_line(&mut self, alloc: Global, line: &[u8]) -> Result<(), LineError> {
         let words: Vec<&[u8]> = line.split(|byte| *byte == b' ').collect(alloc)?;
         if words.iter().any(|word| word.is_empty()) {
@@ -98,23 +111,23 @@ impl Script {
         match Keyword::spelled(*first) {
             Some(Keyword::Regex) => self.add_definition(rest),
             Some(keyword) => {
-                let request = Request::parse(alloc, keyword, rest)?;
-                self.add_request(request)
+                let order = Order::parse(alloc, keyword, rest)?;
+                self.add_order(order)
             }
             None => Err(LineError::Bad),
         }
     }
 
     fn add_definition(&mut self, words: &[&[u8]]) -> Result<(), LineError> {
-        if !self.requests.is_empty() {
+        if !self.orders.is_empty() {
             return Err(LineError::Bad);
         }
         let definition = Definition::parse(words).ok_or(LineError::Bad)?;
         Ok(self.definitions.push(definition).map_err(AllocError::from)?)
     }
 
-    fn add_request(&mut self, request: Request) -> Result<(), LineError> {
-        Ok(self.requests.push(request).map_err(AllocError::from)?)
+    fn add_order(&mut self, order: Order) -> Result<(), LineError> {
+        Ok(self.orders.push(order).map_err(AllocError::from)?)
     }
 }
 
@@ -130,17 +143,67 @@ impl Definition {
     }
 }
 
-impl Request {
-    fn parse(alloc: Global, keyword: Keyword, words: &[&[u8]]) -> Result<Request, LineError> {
-        let request = match keyword {
-            Keyword::Forward => Request::Forward(Query::parse(alloc, words)?),
-            Keyword::Reverse => Request::Reverse(Query::parse(alloc, words)?),
-            Keyword::Find => Request::Find(Query::parse(alloc, words)?),
-            Keyword::IsMatch => Request::IsMatch(Query::parse(alloc, words)?),
-            Keyword::Iterate => Request::Iterate(Query::parse(alloc, words)?),
+impl Order {
+    fn parse(alloc: Global, keyword: Keyword, words: &[&[u8]]) -> Result<Order, LineError> {
+        let order = match keyword {
+            Keyword::Forward => Order::SearchFwd(Query::parse(alloc, words)?),
+            Keyword::Reverse => Order::SearchRev(Query::parse(alloc, words)?),
+            Keyword::Find => Order::Find(Query::parse(alloc, words)?),
+            Keyword::IsMatch => Order::IsMatch(Query::parse(alloc, words)?),
+            Keyword::Iterate => Order::Iterate(Query::parse(alloc, words)?),
+            Keyword::Walk => return Order::parse_walk(alloc, words),
+            Keyword::Step => Order::StepWalk(only_number(words)?),
+            Keyword::Which => return Order::parse_which(alloc, words),
+            Keyword::Reset => Order::Reset(only_number(words)?),
             _ => return Err(LineError::Bad),
         };
-        Ok(request)
+        Ok(order)
+    }
+
+    fn parse_walk(alloc: Global, words: &[&[u8]]) -> Result<Order, LineError> {
+        let (direction, rest) = words.split_first().ok_or(LineError::Bad)?;
+        let reverse = match Keyword::spelled(*direction) {
+            Some(Keyword::Forward) => false,
+            Some(Keyword::Reverse) => true,
+            _ => return Err(LineError::Bad),
+        };
+        let query = Query::parse(alloc, rest)?;
+        Ok(Order::BeginWalk { reverse, query })
+    }
+
+    fn parse_which(alloc: Global, words: &[&[u8]]) -> Result<Order, LineError> {
+        let (word, rest) = words.split_first().ok_or(LineError::Bad)?;
+        let capacity = number(*word).ok_or(LineError::Bad)?;
+        let query = Query::parse(alloc, rest)?;
+        Ok(Order::Which { capacity, query })
+    }
+
+    fn request(&self) -> Request<'_> {
+        match self {
+            Order::SearchFwd(query) => Request::SearchFwd(query.input()),
+            Order::SearchRev(query) => Request::SearchRev(query.input()),
+            Order::Find(query) => Request::Find(query.input()),
+            Order::IsMatch(query) => Request::IsMatch(query.input()),
+            Order::Iterate(query) => Request::Iterate(query.input()),
+            Order::BeginWalk { reverse, query } => Request::BeginWalk {
+                reverse: *reverse,
+                input: query.input(),
+            },
+            Order::StepWalk(number) => Request::StepWalk(*number),
+            Order::Which { capacity, query } => Request::Which {
+                capacity: *capacity,
+                input: query.input(),
+            },
+            Order::Reset(number) => Request::Reset(*number),
+        }
+    }
+}
+
+/// The number that is the one word of a line.
+fn only_number(words: &[&[u8]]) -> Result<usize, LineError> {
+    match words {
+        [word] => number(*word).ok_or(LineError::Bad),
+        _ => Err(LineError::Bad),
     }
 }
 
@@ -163,7 +226,7 @@ fn configured(config: Config, option: &[u8]) -> Option<Config> {
 
 impl Query {
     /// What is to be searched.
-    pub fn input(&self) -> Input<'_> {
+    fn input(&self) -> Input<'_> {
         Input::new(self.haystack.as_slice())
             .span(self.span)
             .anchored(self.anchored)

@@ -4,12 +4,13 @@ use super::bench::{Bench, Call};
 use super::plans::{Plan, Shape};
 use super::tells::{Automaton, Row, tells_all};
 use super::{same_of, same_text};
-use crate::reply::Reply;
+use crate::reply::Line;
 use Automaton::Planned;
 use Call::{Brief, Counts, Find, FindIn, Minimum};
 use Shape::{Accept, Assert, Capture, Dense, Either, Range, Sparse, Union};
 use regex_automata::hybrid::dfa::DFA;
 use regex_automata::nfa::thompson::{Flags, NFA, NfaError, State};
+use regex_automata::replay::Reply;
 use regex_automata::util::look::Look;
 use regex_automata::util::primitives::{PatternID, StateID};
 use regex_automata::util::search::Input;
@@ -221,7 +222,7 @@ fn searches_a_long_chain(rt: HostRuntime) -> Result<(), Fail> {
     let mut bench = Bench::new(dfa)?;
     let mut text = String::new(rt.alloc());
     let found = bench.search(&Input::new(haystack.as_slice()));
-    write!(text, "{}", Reply::Half(found))?;
+    write!(text, "{}", Line(&Reply::Half(found)))?;
     bench.tell_all(rt.alloc(), &[Counts], &mut text)?;
     same_text(
         &rt,

@@ -5,9 +5,10 @@ ghost use Rattle.regex_automata.specs.Caches.{IsCacheOf, HasRow};
 
 use super::exhaust;
 use super::plans::pattern_id;
-use crate::reply::Reply;
+use crate::reply::Line;
 use regex_automata::hybrid::dfa::{Cache, DFA};
 use regex_automata::hybrid::{BuildError, LazyStateID, SearchError, StartError, StepError};
+use regex_automata::replay::Reply;
 use regex_automata::util::primitives::PatternID;
 use regex_automata::util::search::{Anchored, HalfMatch, Input};
 use regex_automata::util::start;
@@ -105,7 +106,7 @@ impl fmt::Display for Told {
     fn fmt<W: fmt::Write>(&self, f: &mut fmt::Formatter<W>) -> fmt::Result {
         match self {
             Told::Nothing => write!(f, "-"),
-            Told::Found(reply) => write!(f, "{reply}"),
+            Told::Found(reply) => write!(f, "{}", Line(reply)),
             Told::NoStart(error) => write!(f, "{error}"),
             Told::NoStep(error) => write!(f, "{error}"),
             Told::NoMemory => write!(f, "out of memory"),

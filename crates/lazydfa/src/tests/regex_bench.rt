@@ -6,10 +6,11 @@ use super::exhaust;
 use super::plans::ids_of;
 use super::tells::config;
 use crate::catalogue::Entry;
-use crate::reply::Reply;
+use crate::reply::Line;
 use regex_automata::hybrid::regex::{Cache, Regex};
 use regex_automata::hybrid::{BuildError, SearchError};
 use regex_automata::nfa::thompson::{Flags, NFA, NfaError, State};
+use regex_automata::replay::Reply;
 use regex_automata::util::primitives::StateID;
 use regex_automata::util::search::{Input, Match};
 use std::alloc::{AllocError, Global};
@@ -130,7 +131,7 @@ impl fmt::Display for Told {
     fn fmt<W: fmt::Write>(&self, f: &mut fmt::Formatter<W>) -> fmt::Result {
         match self {
             Told::Nothing => write!(f, "-"),
-            Told::Replied(reply) => write!(f, "{reply}"),
+            Told::Replied(reply) => write!(f, "{}", Line(reply)),
             Told::Items([first, second, third, fourth]) => {
                 write_item(f, "", *first)?;
                 write_item(f, "; ", *second)?;
@@ -147,7 +148,7 @@ impl fmt::Display for Told {
 
 fn write_item<W: fmt::Write>(f: &mut fmt::Formatter<W>, before: &str, item: Item) -> fmt::Result {
     match item {
-        Some(item) => write!(f, "{before}{}", Reply::Span(item.map(Some))),
+        Some(item) => write!(f, "{before}{}", Line(&Reply::Span(item.map(Some)))),
         None => write!(f, "{before}-"),
     }
 }

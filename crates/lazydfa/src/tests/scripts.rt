@@ -3,6 +3,7 @@
 use super::{Sink, Source, printed, prints, same_of, same_text};
 use crate::error::RunError;
 use crate::run::run;
+use std::process::Abort;
 use std::test::Fail;
 
 const ANSWERED: &[(&str, &str)] = &[
@@ -151,10 +152,35 @@ const BAD: &[(&str, usize)] = &[
     ("iter 6162 pattern=2147483647", 1),
     ("regex ab iter", 1),
     ("regex ab\nfind 6162\nregex aa\n", 3),
-    ("regex ab\niter 6162\nwalk fwd 6162\n", 3),
-    ("step 0", 1),
-    ("which 1 6162", 1),
-    ("reset 0", 1),
+    ("walk", 1),
+    ("walk fwd", 1),
+    ("walk 6162", 1),
+    ("walk up 6162", 1),
+    ("walk find 6162", 1),
+    ("walk fwd rev 6162", 1),
+    ("walk fwd 616", 1),
+    ("walk fwd 6162 span=0..3", 1),
+    ("walk rev 6162 pattern=2147483647", 1),
+    ("walk rev 6162 6162", 1),
+    ("step", 1),
+    ("step -1", 1),
+    ("step 0 0", 1),
+    ("step x", 1),
+    ("step 18446744073709551616", 1),
+    ("which", 1),
+    ("which 1", 1),
+    ("which 6162 6g", 1),
+    ("which - 6162", 1),
+    ("which 18446744073709551616 6162", 1),
+    ("which 1 6162 span=2..0", 1),
+    ("which 1 6162 which", 1),
+    ("reset", 1),
+    ("reset -", 1),
+    ("reset 0 earliest", 1),
+    ("reset 000000000000000000001", 1),
+    ("regex ab\nreset 0\nregex aa\n", 3),
+    ("regex ab\nwalk fwd 6162\nstep 0\nregex aa\n", 4),
+    ("regex ab\nwhich 1 61\n\nstep 0 \n", 4),
     ("regex ab\nrev 6162\nregex aa\n", 3),
     ("regex ab\nfwd 6162\nrev 6162 \n", 3),
 ];
@@ -186,6 +212,12 @@ const ALLOWED: &[&str] = &[
     "find 6162 anchored pattern=0 earliest span=3..2",
     "is - span=1..0",
     "iter 6162 earliest earliest span=0..0 span=2..2",
+    "walk fwd - span=1..0",
+    "walk rev 6162 anchored pattern=0 earliest span=3..2",
+    "which 18446744073709551615 6162 earliest anchored",
+    "which 00000000000000000000 - span=1..0",
+    "step 18446744073709551615",
+    "reset 18446744073709551615",
 ];
 
 #[test]
@@ -197,37 +229,71 @@ fn takes_lines_at_the_edge(rt: HostRuntime) -> Result<(), Fail> {
     Ok(())
 }
 
+/// A script, and the calls that read it, three bytes a call.
+const READ: &[(&str, usize)] = &[
+    ("regex ab\n", 4),
+    ("regex ab\nwalk fwd 6162\nstep 0\nreset 0", 14),
+];
+
 #[test]
 fn tells_failed_reads(rt: HostRuntime) {
-    for call in 1..6usize {
-        let mut input = Source::new(b"regex ab\n");
-        input.fails_at = call;
-        let mut output = Sink::new(rt.alloc());
-        let fault = run(rt.alloc(), &mut input, &mut output).err();
-        let want = if call < 5 {
-            Some(RunError::Failed)
-        } else {
-            None
-        };
-        same_of(&rt, &fault, &want, &call);
-        same_of(&rt, &output.bytes.is_empty(), &(call < 5), &call);
+    for (script, calls) in READ.iter().copied() {
+        for call in 1..=calls {
+            fails_to_read(&rt, script, call, Some(RunError::Failed));
+        }
+        fails_to_read(&rt, script, calls.saturating_add(1), None);
     }
 }
 
+/// Nothing is written where a read fails.
+fn fails_to_read<R: Abort + AllocGlobal>(
+    rt: &R,
+    script: &str,
+    call: usize,
+    want: Option<RunError>,
+) {
+    let mut input = Source::new(script.as_bytes());
+    input.fails_at = call;
+    let mut output = Sink::new(rt.alloc());
+    let fault = run(rt.alloc(), &mut input, &mut output).err();
+    same_of(rt, &fault, &want, &call);
+    same_of(rt, &output.bytes.is_empty(), &want.is_some(), &call);
+}
+
+/// A script, its output, and the calls that write it, five bytes a call and a flush.
+const WRITTEN: &[(&str, &str, usize)] = &[
+    ("regex ab\nfwd 6162", "regex 0\nhalf 0 2\n", 5),
+    (
+        "regex ab\nwalk fwd 6162\nstep 0\nreset 0\n",
+        "regex 0\nwalk 0\nhalf 0 2\nok\n",
+        7,
+    ),
+];
+
 #[test]
 fn tells_failed_writes(rt: HostRuntime) {
-    for call in 1..7usize {
-        let mut input = Source::new(b"regex ab\nfwd 6162");
-        let mut output = Sink::new(rt.alloc());
-        output.fails_at = call;
-        let fault = run(rt.alloc(), &mut input, &mut output).err();
-        let want = if call < 6 {
-            Some(RunError::Failed)
-        } else {
-            None
-        };
-        same_of(&rt, &fault, &want, &call);
+    for (script, whole, calls) in WRITTEN.iter().copied() {
+        for call in 1..=calls {
+            fails_to_write(&rt, (script, whole), call, Some(RunError::Failed));
+        }
+        fails_to_write(&rt, (script, whole), calls.saturating_add(1), None);
     }
+}
+
+/// A beginning of the output is out where a write fails.
+fn fails_to_write<R: Abort + AllocGlobal>(
+    rt: &R,
+    (script, whole): (&str, &str),
+    call: usize,
+    want: Option<RunError>,
+) {
+    let mut input = Source::new(script.as_bytes());
+    let mut output = Sink::new(rt.alloc());
+    output.fails_at = call;
+    let fault = run(rt.alloc(), &mut input, &mut output).err();
+    same_of(rt, &fault, &want, &call);
+    let is_beginning = whole.as_bytes().starts_with(output.bytes.as_slice());
+    same_of(rt, &is_beginning, &true, &call);
 }
 
 /// A bad line is told before a failed write, and a failed read before a bad line.

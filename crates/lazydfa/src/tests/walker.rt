@@ -6,9 +6,10 @@ ghost use Rattle.regex_automata.specs.Caches.{IsCacheOf};
 
 use super::exhaust;
 use super::plans::pattern_id;
-use crate::reply::Reply;
+use crate::reply::Line;
 use regex_automata::hybrid::SearchError;
 use regex_automata::hybrid::dfa::{Cache, DFA, OverlappingState};
+use regex_automata::replay::Reply;
 use regex_automata::util::search::{Anchored, HalfMatch, Input, PatternSet};
 use std::alloc::{AllocError, Global};
 use std::fmt::Write;
@@ -90,10 +91,10 @@ impl fmt::Display for Told {
         match self {
             Told::Nothing => write!(f, "-"),
             Told::NoMemory => write!(f, "out of memory"),
-            Told::Found(reply) => write!(f, "{reply}"),
+            Told::Found(reply) => write!(f, "{}", Line(reply)),
             Told::Set(has, Ok(())) => write!(f, "{}", names(*has)),
             Told::Set(has, Err(error)) => {
-                write!(f, "{} {}", Reply::Half(Err(*error)), names(*has))
+                write!(f, "{} {}", Line(&Reply::Half(Err(*error))), names(*has))
             }
             Told::Counts(clears, memory, searched) => write!(f, "{clears} {memory} {searched}"),
             Told::Flag(yes) => write!(f, "{yes}"),
@@ -182,7 +183,13 @@ impl Walker {
             let three = Reply::Half(self.next(input, third));
             self.switch();
             self.switch();
-            write!(text, "{call}: {one}, {two}, {three}; ")?;
+            write!(
+                text,
+                "{call}: {}, {}, {}; ",
+                Line(&one),
+                Line(&two),
+                Line(&three)
+            )?;
         }
         Ok(())
     }
