@@ -29,6 +29,7 @@ mod reverse;
 mod rows;
 mod scripts;
 mod sets;
+mod span_paths;
 mod spans;
 mod states;
 mod steps;

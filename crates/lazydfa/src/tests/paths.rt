@@ -17,9 +17,12 @@ use std::test::Fail;
 /// A state at a place.
 type Stand = (StateID, usize);
 
+/// An accepting path: its pattern and end, and its start.
+pub type Path = (HalfMatch, usize);
+
 /// The answer of a search: what is selected over the span, or where that splits a character and
 /// the automaton is in UTF-8 mode and has an empty match, over the span without its first place.
-fn answer(nfa: &NFA, kind: MatchKind, input: &Input<'_>) -> Result<Option<HalfMatch>, AllocError> {
+pub fn answer(nfa: &NFA, kind: MatchKind, input: &Input<'_>) -> Result<Option<Path>, AllocError> {
     let haystack = input.haystack();
     let skips = nfa.is_utf8() && nfa.has_empty();
     let (mut start, mut end) = (input.start(), input.end());
@@ -31,7 +34,7 @@ fn answer(nfa: &NFA, kind: MatchKind, input: &Input<'_>) -> Result<Option<HalfMa
         let Some(found) = select(nfa, kind, &rest)? else {
             return Ok(None);
         };
-        if !skips || !splits(haystack, found.offset()) {
+        if !skips || !splits(haystack, found.0.offset()) {
             return Ok(Some(found));
         }
         if input.get_anchored() != Anchored::No || start == end {
@@ -53,15 +56,15 @@ pub fn splits(haystack: &[u8], place: usize) -> bool {
         .is_some_and(|byte| 0x80 <= *byte && *byte <= 0xBF)
 }
 
-/// The selected path's pattern and end.
-fn select(nfa: &NFA, kind: MatchKind, input: &Input<'_>) -> Result<Option<HalfMatch>, AllocError> {
-    let mut selected: Option<HalfMatch> = None;
-    for found in accepting(nfa, input)?.as_slice() {
-        let Some(best) = selected else {
-            selected = Some(*found);
-            continue;
-        };
-        let (found_at, best_at) = (found.offset(), best.offset());
+/// The selected path.
+fn select(nfa: &NFA, kind: MatchKind, input: &Input<'_>) -> Result<Option<Path>, AllocError> {
+    let found = listed(nfa, input)?;
+    let Some(first) = found.first() else {
+        return Ok(None);
+    };
+    let (mut selected, mut best_at) = (0usize, first.0.offset());
+    for (number, path) in found.iter().enumerate() {
+        let found_at = path.0.offset();
         let is_nearer = if nfa.is_reverse() {
             found_at > best_at
         } else {
@@ -73,14 +76,24 @@ fn select(nfa: &NFA, kind: MatchKind, input: &Input<'_>) -> Result<Option<HalfMa
             kind == MatchKind::All && found_at != best_at && !is_nearer
         };
         if is_better {
-            selected = Some(*found);
+            selected = number;
+            best_at = found_at;
         }
     }
-    Ok(selected)
+    Ok(found.get(selected).copied())
 }
 
 /// The patterns and ends of all accepting paths, in the order of the paths.
 pub fn accepting(nfa: &NFA, input: &Input<'_>) -> Result<Vec<HalfMatch>, AllocError> {
+    let mut halves = Vec::new(nfa.alloc());
+    for path in listed(nfa, input)?.as_slice() {
+        halves.push(path.0)?;
+    }
+    Ok(halves)
+}
+
+/// All accepting paths, in their order.
+fn listed(nfa: &NFA, input: &Input<'_>) -> Result<Vec<Path>, AllocError> {
     let mut found = Vec::new(nfa.alloc());
     let mut open = begun(nfa, input)?;
     for _ in 0..1_000_000u32 {
@@ -91,7 +104,8 @@ pub fn accepting(nfa: &NFA, input: &Input<'_>) -> Result<Vec<HalfMatch>, AllocEr
             continue;
         };
         if let Some(State::Match { pattern }) = nfa.states().get(state.as_usize()) {
-            found.push(HalfMatch::new(*pattern, place))?;
+            let start = start_of(nfa, input, path.as_slice());
+            found.push((HalfMatch::new(*pattern, place), start))?;
         }
         for next in edges(nfa, input, state, place)?.iter().rev() {
             if !path.contains(next) {
@@ -100,6 +114,17 @@ pub fn accepting(nfa: &NFA, input: &Input<'_>) -> Result<Vec<HalfMatch>, AllocEr
         }
     }
     Ok(found)
+}
+
+/// Where a path starts: its first place where it is anchored, else where it first stands on the anchored start.
+fn start_of(nfa: &NFA, input: &Input<'_>, path: &[Stand]) -> usize {
+    let is_anchored = input.get_anchored() != Anchored::No;
+    for (state, place) in path.iter().copied() {
+        if is_anchored || state == nfa.start_anchored() {
+            return place;
+        }
+    }
+    input.start()
 }
 
 /// The path of the start alone, if there is a start.
@@ -386,16 +411,21 @@ fn compare_one<R: Abort>(
     for end in 0..haystack.len() + 1 {
         for start in 0..end + 1 {
             let input = Input::new(haystack).range(start..end);
-            let want = Ok(answer(ample.dfa().get_nfa(), kind, &input)?);
+            let want = Ok(half(ample.dfa().get_nfa(), kind, &input)?);
             finds(rt, entry, ample, &input, &want);
             finds(rt, entry, tight, &input, &want);
         }
     }
     for input in modes(haystack) {
-        let want = Ok(answer(ample.dfa().get_nfa(), kind, &input)?);
+        let want = Ok(half(ample.dfa().get_nfa(), kind, &input)?);
         finds(rt, entry, ample, &input, &want);
     }
     Ok(())
+}
+
+/// The pattern and the end of the answer.
+fn half(nfa: &NFA, kind: MatchKind, input: &Input<'_>) -> Result<Option<HalfMatch>, AllocError> {
+    Ok(answer(nfa, kind, input)?.map(|path| path.0))
 }
 
 fn finds<R: Abort>(

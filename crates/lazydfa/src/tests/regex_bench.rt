@@ -113,7 +113,7 @@ enum Told {
 }
 
 /// An item of an iteration, if it hasn't ended.
-type Item = Option<Result<Match, SearchError>>;
+pub type Item = Option<Result<Match, SearchError>>;
 
 /// What is counted of each part of a cache: clears, memory, and bytes searched.
 pub type Counts = [(usize, usize, usize); 2];
@@ -210,6 +210,21 @@ impl RegexBench {
 
     pub fn holds(&mut self, input: &Input<'_>) -> Result<bool, SearchError> {
         self.regex.is_match(&mut self.cache, input)
+    }
+
+    /// The first eight items of an iteration.
+    pub fn first_items(&mut self, input: Input<'_>) -> [Item; 8] {
+        let mut items = self.regex.find_iter(&mut self.cache, input);
+        [
+            items.next(),
+            items.next(),
+            items.next(),
+            items.next(),
+            items.next(),
+            items.next(),
+            items.next(),
+            items.next(),
+        ]
     }
 
     pub fn regex(&self) -> &Regex {
