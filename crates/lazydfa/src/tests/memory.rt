@@ -220,6 +220,8 @@ pub enum Part {
     Set,
     /// A search for a set that has got some patterns.
     Rest,
+    /// The second of two calls that each grow a cache.
+    Second,
 }
 
 /// All memory but what a turn lends, in blocks, and which calls were refused in the turns so far.

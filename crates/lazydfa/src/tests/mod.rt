@@ -24,6 +24,7 @@ mod plans;
 mod regex;
 mod regex_bench;
 mod regex_memory;
+mod regex_turns;
 mod replays;
 mod reverse;
 mod rows;
