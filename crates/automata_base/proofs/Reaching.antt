@@ -1,4 +1,5 @@
 pub mod Adding
+pub mod Cycles
 pub mod Led
 pub mod Looped
 pub mod Matched

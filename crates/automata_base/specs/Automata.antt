@@ -3,7 +3,8 @@ use Rattle.std.specs.Prelude.{ℕ, ◌≡◌, ◌↔◌, IsTrue, List}
 use Rattle.automata_base.specs.declared.nfa.thompson.Data.{Data}
 use Rattle.automata_base.specs.declared.nfa.thompson.Flags.{Flags}
 use Rattle.automata_base.specs.declared.nfa.thompson.State.{State}
-use Rattle.automata_base.specs.Nodes.{Automaton, stack_room}
+use Rattle.automata_base.specs.Nodes.{Automaton, nfa_of, stack_room}
+use Rattle.automata_base.specs.Paths.{IsLookAcyclic}
 use Rattle.automata_base.specs.Door.{IsDoor, IsLooks}
 use Rattle.automata_base.specs.Getters.{HasEmpty, SkipsLazily}
 
@@ -31,3 +32,4 @@ pub record IsSound (d : Data) : Type 0 where
   pub room : d.room ≡ stack_room d.states.items
   pub empty : IsTrue d.has_empty ↔ HasEmpty (automaton_of d)
   pub skips : IsTrue d.skips_lazily ↔ SkipsLazily (automaton_of d)
+  pub acyclic : IsTrue d.is_look_acyclic ↔ IsLookAcyclic (nfa_of (automaton_of d))

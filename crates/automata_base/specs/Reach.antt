@@ -50,6 +50,22 @@ abbrev pub ReachesMatch : List State → List ℕ → Type 0
 ReachesMatch states roots =
     (q : ℕ) × IsReached Epsilon states roots q × IsMatchAt (node_in states q)
 
+-- Where a look leads.
+abbrev pub look_target : Node → Option ℕ
+look_target (Split alternates) = None
+look_target (Assert look next) = Some next
+look_target (Read ranges) = None
+look_target (Accept p) = None
+
+-- The state is a look, and edges that read nothing lead from it back to it.
+abbrev pub LeadsBack : List State → ℕ → Type 0
+LeadsBack states q =
+    (next : ℕ) × (look_target (node_in states q) ≡ Some next) × IsReached Epsilon states (next ∷ []) q
+
+-- None does.
+abbrev pub AreLooksAcyclic : List State → Type 0
+AreLooksAcyclic states = (q : ℕ) → LeadsBack states q → ⊥
+
 -- The second of two alternates, where the first is `first`.
 abbrev pub second_of : List ℕ → ℕ → Option ℕ
 second_of [] first = None

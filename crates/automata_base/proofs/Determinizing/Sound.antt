@@ -5,10 +5,10 @@ use Rattle.automata_base.specs.declared.nfa.thompson.Data.{Data}
 use Rattle.automata_base.specs.Nodes.{stack_room}
 use Rattle.automata_base.specs.Door.{IsLooks}
 use Rattle.automata_base.specs.Automata.{automaton_of, IsSound}
-use Rattle.automata_base.specs.Reach.{ReachesMatch, SkipsFrom}
+use Rattle.automata_base.specs.Reach.{AreLooksAcyclic, ReachesMatch, SkipsFrom}
 use Rattle.automata_base.specs.Refusals.{refusal}
 use Rattle.automata_base.proofs.Determinizing.Tests_of_lists.{door_range, door_starts, patterns_fit}
-use Rattle.automata_base.proofs.Reaching.Led.{empty_is, lazily_is}
+use Rattle.automata_base.proofs.Reaching.Led.{acyclic_is, empty_is, lazily_is}
 use Rattle.automata_base.proofs.Reaching.Refused.{passing, room_small}
 
 pub sound :
@@ -16,8 +16,9 @@ pub sound :
     → IsLooks (automaton_of d) d.looks → d.room ≡ stack_room d.states.items
     → IsTrue d.has_empty ↔ ReachesMatch d.states.items d.start_pattern.items
     → IsTrue d.skips_lazily ↔ SkipsFrom d.states.items d.start_anchored d.start_unanchored
+    → IsTrue d.is_look_acyclic ↔ AreLooksAcyclic d.states.items
     → IsSound d
-sound d none looks room empty skips =
+sound d none looks room empty skips acyclic =
     let tests = passing d.states.items d.start_anchored d.start_unanchored d.start_pattern.items none in
     record {
       door = record {
@@ -35,4 +36,5 @@ sound d none looks room empty skips =
       room = room;
       empty = empty_is (automaton_of d) (IsTrue d.has_empty) empty;
       skips = lazily_is (automaton_of d) tests.ordered (IsTrue d.skips_lazily) skips;
+      acyclic = acyclic_is (automaton_of d) (IsTrue d.is_look_acyclic) acyclic;
     }

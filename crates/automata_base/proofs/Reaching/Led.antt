@@ -9,17 +9,18 @@ use Rattle.automata_base.specs.declared.nfa.thompson.reach.Edges.TheVariants.{Ep
 use Rattle.automata_base.specs.Engines.{HasEdge, Road, Reaches}
 use Rattle.automata_base.specs.Getters.{HasEmpty, SkipsLazily}
 use Rattle.automata_base.specs.Lists.{In, nth}
-use Rattle.automata_base.specs.Looks.{within}
-use Rattle.automata_base.specs.Nfa.{Node, Range, Split, Assert, Read, Accept, hop, takes_in, takes_at}
+use Rattle.automata_base.specs.Looks.{Look, within}
+use Rattle.automata_base.specs.Nfa.{Node, Range, Split, Assert, Read, Accept, node, hop, hop_at, takes_in, takes_at}
 use Rattle.automata_base.specs.Nodes.{Automaton, nfa_of, node_of, ranges_of, dense_from}
-use Rattle.automata_base.specs.Paths.{all_true, Run, Leads}
-use Rattle.automata_base.specs.Reach.{node_in, nexts, byte_targets, targets_of, Way, IsReached, ReachesMatch, SkipsFrom}
+use Rattle.automata_base.specs.Paths.{all_true, Run, Leads, LeadsOn, IsLookAcyclic}
+use Rattle.automata_base.specs.Reach.{node_in, nexts, byte_targets, targets_of, look_target, Way, IsReached, LeadsBack, AreLooksAcyclic, ReachesMatch, SkipsFrom}
 use Rattle.automata_base.specs.Refusals.{ordered_from, state_ordered, states_ordered}
 use Rattle.automata_base.specs.Visits.{children}
 use Rattle.automata_base.proofs.Determinizing.Distinct.{In-left, In-right, In-either}
 use Rattle.automata_base.proofs.Paths.Checked.{both}
 use Rattle.automata_base.proofs.Paths.FirstVisits.{hop_children}
 use Rattle.automata_base.proofs.Paths.Orders.{some_inj, none_some}
+use Rattle.automata_base.proofs.Reaching.Cycles.{look_is}
 
 in_nth : (xs : List ℕ) (r : ℕ) → In r xs → (e : ℕ) × (nth xs e ≡ Some r)
 in_nth [] r i = absurd i
@@ -54,6 +55,32 @@ module _ (a : Automaton) where
   empty_is b found = (
     λ t. let h = found.0 t in (h.1.0, h.0, h.2.0, h.1.2, run_from h.1.0 h.1.1 h.0 h.1.3, h.2.1),
     λ h. let w = run_to h.0 h.4.0 h.1 h.4.1 in found.1 (h.1, (h.0, w.0, h.3, w.1), (h.2, h.5)),
+  )
+
+module _ (a : Automaton) where
+  goes_back : (q : ℕ) (look : Look) (next : ℕ) → node (nfa_of a) q ≡ Assert look next → LeadsOn (nfa_of a) q q → LeadsBack a.states q
+  goes_back q look next e h = go h.0 (ap (λ x. hop_at x all_true h.0) (sym e) ∙ h.2)
+    where
+      go : (k : ℕ) → hop_at (Assert look next) all_true k ≡ Some h.1 → LeadsBack a.states q
+      go zero f =
+          let w = run_to a h.1 h.3.0 q h.3.1 in
+          (next, ap look_target e, (h.1, w.0, inl (sym (some_inj f)), w.1))
+      go (suc k) f = absurd (none_some f)
+
+  comes_back : (q : ℕ) (look : Look) (next : ℕ) → node (nfa_of a) q ≡ Assert look next → IsReached Epsilon a.states (next ∷ []) q → LeadsOn (nfa_of a) q q
+  comes_back q look next e h = go h.2
+    where
+      go : In h.0 (next ∷ []) → LeadsOn (nfa_of a) q q
+      go (inl f) = (0, next, ap (λ x. hop_at x all_true 0) e, subst (λ v. Leads (nfa_of a) v q) f (run_from a h.0 h.1 q h.3))
+      go (inr i) = absurd i
+
+  -- No look leads back to itself exactly if no cycle passes one.
+  pub acyclic_is : (b : Type 0) → b ↔ AreLooksAcyclic a.states → b ↔ IsLookAcyclic (nfa_of a)
+  acyclic_is b found = (
+    λ t q look next e h. found.0 t q (goes_back q look next e h),
+    λ h. found.1 (λ q back.
+        let w = look_is (node (nfa_of a) q) back.0 back.1 in
+        h q w.0 back.0 w.1 (comes_back q w.0 back.0 w.1 back.2)),
   )
 
 -- What reads a byte leads to a target.

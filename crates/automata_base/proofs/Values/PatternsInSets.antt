@@ -1,5 +1,5 @@
 -- Sets of patterns as flags: how their members change, and how they are gone through.
-use Rattle.std.proofs.Common.{ℕ, zero, suc, ◌≡◌, ◌+◌, ◌<◌, ◌≤◌, ◌⊎◌, Bool, true, false, eqb, List, [], ◌∷◌, length, get_or, refl, sym, ap, ◌∙◌, inl, inr, subst, true≢false, arith, replicate, get_or-set_other, length-set}
+use Rattle.std.proofs.Common.{ℕ, zero, suc, ◌≡◌, ◌+◌, ◌<◌, ◌≤◌, ◌⊎◌, Bool, true, false, eqb, List, [], ◌∷◌, ◌++◌, drop, length, get_or, refl, sym, ap, ◌∙◌, inl, inr, subst, true≢false, arith, replicate, get_or-set_other, length-set}
 use Rattle.std.proofs.Math.ListN.{set}
 use Rattle.std.proofs.lemmas.Bool.Decides.{eqb_tells}
 use Rattle.automata_base.specs.Powerset.{IsId}
@@ -19,6 +19,27 @@ empty_counted n = record {
   counted = ap length (sym (members_from-replicate n 0));
   small = λ pattern e. absurd (true≢false (sym e ∙ has-replicate n pattern));
 }
+
+-- The flags below `at` taken out, and the others as they were.
+pub taken_out :
+    (xs : List Bool) (at : ℕ) → at < length xs
+    → set (replicate at false ++ drop at xs) at false ≡ replicate (at + 1) false ++ drop (at + 1) xs
+taken_out xs at l =
+    let more : suc at ≡ at + 1 = omega arith in
+    subst (λ k. set (replicate at false ++ drop at xs) at false ≡ replicate k false ++ drop k xs) more (next xs at l)
+  where
+    next :
+        (xs : List Bool) (at : ℕ) → at < length xs
+        → set (replicate at false ++ drop at xs) at false ≡ replicate (suc at) false ++ drop (suc at) xs
+    next [] at l = absurd (omega (arith, l))
+    next (x ∷ xs) zero l = refl
+    next (x ∷ xs) (suc at) l = ap (λ ys. false ∷ ys) (next xs at (omega (arith, l)))
+
+pub all_out : (xs : List Bool) (at : ℕ) → length xs ≤ at → at ≤ length xs → replicate at false ++ drop at xs ≡ replicate (length xs) false
+all_out [] zero l m = refl
+all_out [] (suc at) l m = absurd (omega (arith, m))
+all_out (x ∷ xs) zero l m = absurd (omega (arith, l))
+all_out (x ∷ xs) (suc at) l m = ap (λ ys. false ∷ ys) (all_out xs at (omega (arith, l)) (omega (arith, m)))
 
 pub members-few : (xs : List Bool) (k : ℕ) → length (members_from k xs) ≤ length xs
 members-few [] k = omega arith

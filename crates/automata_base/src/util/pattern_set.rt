@@ -76,6 +76,16 @@ impl PatternSet {
         Ok(true)
     }
 
+    /// Takes all patterns out. The capacity stays.
+    pub fn clear(&mut self)
+        ensures { self.new ≡ replicate (length self.old) false }
+    {
+        for at in 0..self.which.len() {
+            self.which[at] = false;
+        }
+        self.len = 0;
+    }
+
     pub fn contains(&self, pattern: PatternID) -> bool
         ensures { result ≡ has self.now pattern }
     {

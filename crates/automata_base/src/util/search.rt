@@ -13,6 +13,50 @@ pub struct Span {
     pub end: usize,
 }
 
+impl Span {
+    ghost use Rattle.std.specs.Prelude.{◌≡◌, ◌<◌, ◌≤◌, ◌+◌, ◌-◌, ◌^◌, ◌↔◌, IsTrue};
+
+    /// The bytes between its offsets. There are none where it starts behind its end.
+    pub fn len(&self) -> usize
+        ensures { result ≡ self.now.end - self.now.start }
+    {
+        self.end.saturating_sub(self.start)
+    }
+
+    pub fn is_empty(&self) -> bool
+        ensures { IsTrue result ↔ (self.now.end ≤ self.now.start) }
+    {
+        self.start >= self.end
+    }
+
+    /// The same as a range, which a slice takes as its index.
+    pub fn range(&self) -> Range<usize>
+        ensures start { result.start ≡ self.now.start }
+        ensures end { result.end ≡ self.now.end }
+    {
+        self.start..self.end
+    }
+
+    /// Whether it has the offset, its own two among those it has. An empty span has none.
+    pub fn contains(&self, offset: usize) -> bool
+        ensures { IsTrue result ↔ (self.now.start < self.now.end) × (self.now.start ≤ offset) × (offset ≤ self.now.end) }
+    {
+        !self.is_empty() && self.start <= offset && offset <= self.end
+    }
+
+    /// The same, so many bytes further on.
+    pub fn offset(&self, offset: usize) -> Span
+        requires start { self.now.start + offset < 2 ^ 64 }
+        requires end { self.now.end + offset < 2 ^ 64 }
+        ensures { result ≡ record { start = self.now.start + offset; end = self.now.end + offset } }
+    {
+        Span {
+            start: self.start + offset,
+            end: self.end + offset,
+        }
+    }
+}
+
 /// A pattern that matches, and the one offset of its match that is known: the end, or of a reverse search the start.
 #[derive(Clone, Copy, Debug, PartialEq, Eq)]
 pub struct HalfMatch {
@@ -299,6 +343,25 @@ impl<'h> Input<'h> {
         }
     }
 
+    /// Sets the span of one that is kept. It has to be one that `allows` takes.
+    pub fn set_span(&mut self, span: Span)
+        requires { Allows self.old.haystack span.start span.end }
+        ensures { self.new ≡ record self.old { start = span.start; end = span.end } }
+    {
+        self.span = span;
+    }
+
+    /// The same by a range.
+    pub fn set_range(&mut self, range: Range<usize>)
+        requires { Allows self.old.haystack range.start range.end }
+        ensures { self.new ≡ record self.old { start = range.start; end = range.end } }
+    {
+        self.span = Span {
+            start: range.start,
+            end: range.end,
+        };
+    }
+
     pub fn set_start(&mut self, start: usize)
         requires { Allows self.old.haystack start self.old.end }
         ensures { self.new ≡ record self.old { start = start } }
@@ -311,6 +374,18 @@ impl<'h> Input<'h> {
         ensures { self.new ≡ record self.old { end = end } }
     {
         self.span.end = end;
+    }
+
+    pub fn set_anchored(&mut self, mode: Anchored)
+        ensures { self.new ≡ record self.old { anchored = mode } }
+    {
+        self.anchored = mode;
+    }
+
+    pub fn set_earliest(&mut self, yes: bool)
+        ensures { self.new ≡ record self.old { earliest = yes } }
+    {
+        self.earliest = yes;
     }
 
     pub fn haystack(&self) -> &'h [u8]
@@ -343,6 +418,15 @@ impl<'h> Input<'h> {
         ensures within { IsAllowed self.now }
     {
         self.span
+    }
+
+    /// The span as a range.
+    pub fn get_range(&self) -> Range<usize>
+        ensures start { result.start ≡ self.now.start }
+        ensures end { result.end ≡ self.now.end }
+        ensures within { IsAllowed self.now }
+    {
+        self.span.start..self.span.end
     }
 
     pub fn get_anchored(&self) -> Anchored

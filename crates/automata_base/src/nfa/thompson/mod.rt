@@ -1,9 +1,11 @@
 //! Thompson NFAs.
 
+mod cycles;
 mod door;
 mod reach;
 pub(crate) mod reading;
 
+use crate::nfa::thompson::cycles::are_looks_acyclic;
 use crate::nfa::thompson::door::{looks_of, test};
 use crate::nfa::thompson::reach::{reaches_match, skips_lazily};
 use crate::util::look::{Look, LookSet};
@@ -145,6 +147,7 @@ struct Data {
     room: usize,
     has_empty: bool,
     skips_lazily: bool,
+    is_look_acyclic: bool,
 }
 
 /// A Thompson NFA: its states, its starts and its flags. Cloning shares them and takes no memory.
@@ -189,6 +192,7 @@ impl NFA {
     ghost use Rattle.automata_base.specs.Automata.{automaton};
     ghost use Rattle.automata_base.specs.Nodes.{nfa_of, stack_room};
     ghost use Rattle.automata_base.specs.Passes.{Occurs};
+    ghost use Rattle.automata_base.specs.Paths.{IsLookAcyclic};
     ghost use Rattle.automata_base.specs.Refusals.{refusal};
     ghost use Rattle.automata_base.specs.Starts.{mode_start};
     ghost use Rattle.automata_base.specs.Truths.{truth_of};
@@ -252,6 +256,7 @@ impl NFA {
             start_anchored,
             start_unanchored,
         )?;
+        let is_look_acyclic = are_looks_acyclic(alloc, states.as_slice())?;
         let looks = looks_of(states.as_slice());
         let data = Data {
             states,
@@ -263,6 +268,7 @@ impl NFA {
             room,
             has_empty,
             skips_lazily,
+            is_look_acyclic,
         };
         match Rc::new(alloc, data) {
             Ok(data) => Ok(NFA { data, alloc }),
@@ -384,6 +390,17 @@ impl NFA {
         ensures { IsTrue result ↔ SkipsLazily self.now }
     {
         self.data.skips_lazily
+    }
+
+    /// Whether no cycle of edges that read nothing passes a look: so it is that searches are said to answer by paths. It
+    /// is found when the NFA is made.
+    ///
+    /// An NFA of a regular expression passes a look twice at one place only where something that may be empty and has a
+    /// look is repeated, as in `(?:\b|a)*`.
+    pub fn is_look_acyclic(&self) -> bool
+        ensures { IsTrue result ↔ IsLookAcyclic (nfa_of self.now) }
+    {
+        self.data.is_look_acyclic
     }
 
     /// How many states may wait on the stack of a closure: one, and each alternate of a union but its first.

@@ -142,8 +142,26 @@ fn member(set: &SparseSet, at: usize) -> Option<StateID>
     Some(items[at])
 }
 
+/// Makes of the set the states that the edges lead to from the roots, the roots among them.
+pub fn walk(set: &mut SparseSet, states: &[State], roots: &[StateID], edges: Edges)
+    requires few { length states.now ≤ 2 ^ 27 }
+    requires range { states_below (length states.now) states.now ≡ true }
+    requires roots { all_below (length states.now) roots.now ≡ true }
+    requires capacity { set.old.capacity ≡ length states.now }
+    ensures reached { (q : ℕ) → In q set.new.items ↔ IsReached edges states.now roots.now q }
+    ensures capacity { set.new.capacity ≡ length states.now }
+{
+    set.clear();
+    add_ids(set, roots);
+    let mut at = 0;
+    while let Some(id) = member(set, at) {
+        add_targets(set, &states[id.as_usize()], edges);
+        at += 1;
+    }
+}
+
 /// The states that the edges lead to from the roots, the roots among them.
-pub fn reach(
+fn reach(
     alloc: Global,
     states: &[State],
     roots: &[StateID],
@@ -156,12 +174,7 @@ pub fn reach(
     ensures capacity { IfOk result (λ set. set.capacity ≡ length states.now) }
 {
     let mut set = SparseSet::new(alloc, states.len() as u32)?;
-    add_ids(&mut set, roots);
-    let mut at = 0;
-    while let Some(id) = member(&set, at) {
-        add_targets(&mut set, &states[id.as_usize()], edges);
-        at += 1;
-    }
+    walk(&mut set, states, roots, edges);
     Ok(set)
 }
 

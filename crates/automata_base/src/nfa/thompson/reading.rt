@@ -10,6 +10,7 @@ ghost use Rattle.automata_base.specs.Looks.{Look};
 ghost use Rattle.automata_base.specs.Nfa.{takes_in};
 ghost use Rattle.automata_base.specs.Looks.{within};
 ghost use Rattle.automata_base.specs.Computed.{is_in};
+ghost use Rattle.automata_base.specs.Reach.{look_target};
 ghost use Rattle.std.specs.Prelude.{vec_capacity, vec_len, cond};
 
 use crate::nfa::thompson::{NFA, State, Transition};
@@ -58,6 +59,23 @@ pub fn pattern_of(state: &State) -> Option<PatternID>
     match state {
         State::Match { pattern } => Some(*pattern),
         State::Look { .. } => None,
+        State::ByteRange { .. } => None,
+        State::Sparse(_) => None,
+        State::Dense(_) => None,
+        State::Union { .. } => None,
+        State::BinaryUnion { .. } => None,
+        State::Capture { .. } => None,
+        State::Fail => None,
+    }
+}
+
+// Where a look leads.
+pub fn look_target(state: &State) -> Option<StateID>
+    ensures { result ≡ look_target (node_of state.now) }
+{
+    match state {
+        State::Look { next, .. } => Some(*next),
+        State::Match { .. } => None,
         State::ByteRange { .. } => None,
         State::Sparse(_) => None,
         State::Dense(_) => None,

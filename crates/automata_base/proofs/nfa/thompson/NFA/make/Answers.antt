@@ -5,7 +5,7 @@ use Rattle.automata_base.specs.Checks.{all_below}
 use Rattle.automata_base.specs.Computed.{any_node}
 use Rattle.automata_base.specs.Looks.{look_index}
 use Rattle.automata_base.specs.Nodes.{nodes_of}
-use Rattle.automata_base.specs.Reach.{ReachesMatch, SkipsFrom}
+use Rattle.automata_base.specs.Reach.{AreLooksAcyclic, ReachesMatch, SkipsFrom}
 use Rattle.automata_base.specs.Refusals.{states_below}
 use Rattle.automata_base.specs.declared.nfa.thompson.Data.{Data}
 use Rattle.automata_base.proofs.Determinizing.Sound.{sound}
@@ -33,6 +33,14 @@ skips_lazily-requires c =
       unanchored = subst (λ s. c.args.start_unanchored < length s) (sym c.as_slice-3.ensures.value) tests.unanchored;
     }
 
+pub are_looks_acyclic-requires : goal.are_looks_acyclic-requires
+are_looks_acyclic-requires c =
+    let tests = passing c.args.states.items c.args.start_anchored c.args.start_unanchored c.args.start_pattern.items c.requires.passed in
+    record {
+      few = subst (λ s. length s ≤ 134217728) (sym c.as_slice-4.ensures.value) tests.small;
+      range = subst (λ s. states_below (length s) s ≡ true) (sym c.as_slice-4.ensures.value) tests.range;
+    }
+
 pub invariant_of-result : goal.invariant_of-result
 invariant_of-result c =
     let d : Data = record {
@@ -45,12 +53,15 @@ invariant_of-result c =
       room = c.args.room;
       has_empty = c.in_ok-has_empty.has_empty;
       skips_lazily = c.in_ok-skips_lazily.skips_lazily;
+      is_look_acyclic = c.in_ok-is_look_acyclic.is_look_acyclic;
     } in
     subst IsSound (sym c.in-Ok.ensures.ok)
     (sound d c.requires.passed
-    (λ look. c.looks_of-looks.ensures look ∙ ap (λ z. any_node (λ other. eqb (look_index other) (look_index look)) (nodes_of z)) c.as_slice-4.ensures.value)
+    (λ look. c.looks_of-looks.ensures look ∙ ap (λ z. any_node (λ other. eqb (look_index other) (look_index look)) (nodes_of z)) c.as_slice-5.ensures.value)
     c.requires.room
     (subst (λ s. IsTrue c.in_ok-has_empty.has_empty ↔ ReachesMatch s c.args.start_pattern.items) c.as_slice.ensures.value
     (subst (λ t. IsTrue c.in_ok-has_empty.has_empty ↔ ReachesMatch c.as_slice.result.now t) c.as_slice-2.ensures.value c.in_ok-has_empty.ensures))
     (subst (λ s. IsTrue c.in_ok-skips_lazily.skips_lazily ↔ SkipsFrom s c.args.start_anchored c.args.start_unanchored) c.as_slice-3.ensures.value
-    c.in_ok-skips_lazily.ensures))
+    c.in_ok-skips_lazily.ensures)
+    (subst (λ s. IsTrue c.in_ok-is_look_acyclic.is_look_acyclic ↔ AreLooksAcyclic s) c.as_slice-4.ensures.value
+    c.in_ok-is_look_acyclic.ensures))

@@ -1,7 +1,7 @@
 use Rattle.std.proofs.Common.{◌≡◌, ◌-◌, length}
 use Rattle.automata_base.specs.Reach.{targets_of}
 use Rattle.automata_base.proofs.Reaching.Walked.{IsWalked}
-use Rattle.automata_base.proofs.nfa.thompson.reach.reach.Given as goal
+use Rattle.automata_base.proofs.nfa.thompson.reach.walk.Given as goal
 
 abbrev pub invariant-loop-id : goal.invariant-loop-id
 invariant-loop-id l = record {

@@ -6,13 +6,13 @@ use Rattle.automata_base.specs.Refusals.{states_below}
 use Rattle.automata_base.proofs.Determinizing.Walking.{node_at}
 use Rattle.automata_base.proofs.Reaching.Adding.{state_at_below}
 use Rattle.automata_base.proofs.Reaching.Walked.{walk_starts, walk_steps, walk_ends}
-use Rattle.automata_base.proofs.nfa.thompson.reach.reach.Goals as goal
+use Rattle.automata_base.proofs.nfa.thompson.reach.walk.Goals as goal
 
 pub loop-id-init : goal.loop-id-init
 loop-id-init c = record {
-  walked = walk_starts (targets_of c.args.edges c.args.states.now) c.args.roots.now c.in_ok-set.set.items c.add_ids.new.set.items
-      c.in_ok-set.ensures.empty c.add_ids.ensures.items;
-  capacity = c.add_ids.ensures.capacity ∙ c.in_ok-set.ensures.capacity;
+  walked = walk_starts (targets_of c.args.edges c.args.states.now) c.args.roots.now c.clear.new.self.items c.add_ids.new.set.items
+      c.clear.ensures.empty c.add_ids.ensures.items;
+  capacity = c.add_ids.ensures.capacity ∙ (c.clear.ensures.capacity ∙ c.requires.capacity);
 }
 
 pub bounds-states-as_usize : goal.bounds-states-as_usize
