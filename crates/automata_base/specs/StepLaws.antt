@@ -1,5 +1,5 @@
 -- What every powerset automaton does alike, and what its passes tell: statements of laws.
-use Rattle.std.specs.Prelude.{ℕ, ◌≡◌, ◌<◌, Bool, true, false, List, length, Option, Some}
+use Rattle.std.specs.Prelude.{ℕ, ◌≡◌, ◌<◌, ◌↔◌, Bool, true, false, List, length, Option, Some}
 use Rattle.automata_base.specs.Alike.{behind_of}
 use Rattle.automata_base.specs.Classes.{class_of, is_quit}
 use Rattle.automata_base.specs.Computed.{IsInRange}
@@ -7,10 +7,10 @@ use Rattle.automata_base.specs.Cuts.{MatchKind, All}
 use Rattle.automata_base.specs.Engines.{Anchored}
 use Rattle.automata_base.specs.Nodes.{Automaton, nfa_of, nodes_of}
 use Rattle.automata_base.specs.Paths.{Tape, IsLookAcyclic}
-use Rattle.automata_base.specs.Passes.{IsTape}
+use Rattle.automata_base.specs.Passes.{IsSuccessor, IsTape}
 use Rattle.automata_base.specs.Powerset.{Powerset, dead}
 use Rattle.automata_base.specs.Selections.{Selects, IsNearest, IsFarthest}
-use Rattle.automata_base.specs.Starts.{mode_start}
+use Rattle.automata_base.specs.Starts.{IsOf, IsStartOf, mode_start}
 use Rattle.automata_base.specs.Steps.{start_state_of, successor, NeedsOwnLooks}
 use Rattle.automata_base.specs.Telling.{told_by}
 
@@ -58,3 +58,14 @@ PassesFindFarthest =
     (a : Automaton) (mode : Anchored) (t : Tape) (start : ℕ)
     → mode_start a mode ≡ Some start → IsInRange (nfa_of a) → start < length (nodes_of a.states) → IsTape t
     → IsFarthest (nfa_of a) t start (told_by All false a mode t)
+
+-- what `successor` gives of an own state is the successor, the only one
+abbrev pub SuccessorsAreRight : Automaton → Type 0
+SuccessorsAreRight a =
+    (kind : MatchKind) (q r : Powerset) (unit : Option ℕ)
+    → IsOf a q → IsSuccessor (nfa_of a) kind q unit r ↔ (r ≡ successor a kind q unit)
+
+-- what `start_state_of` gives is the start, the only one
+abbrev pub PowersetStartsAreRight : Automaton → Type 0
+PowersetStartsAreRight a =
+    (mode : Anchored) (prev : Option ℕ) (r : Powerset) → IsStartOf a mode prev r ↔ (r ≡ start_state_of a mode prev)

@@ -2,6 +2,7 @@
 ghost use Rattle.automata_base.specs.LateIsRight.{SearchesAreRight, WalksAreRight, NearestEndsAreRight, EndsAreRight, PairsAreRight};
 ghost use Rattle.automata_base.specs.StartIsRight.{StartsAreRight, SpansAreFound, SpansAreOne, AnswersAreOne, IterationsAreRight, IterationsAreOne, EndsRise, FoundEndsRise, MatchIffFound, BackMeetsNone};
 ghost use Rattle.automata_base.specs.StepLaws.{ClassesStepAlike, ClassesQuitAlike, StartsAreAlike, DeadStaysDead, PassesSelect, PassesFindNearest, PassesFindFarthest};
+ghost use Rattle.automata_base.specs.StepLaws.{PowersetStartsAreRight, SuccessorsAreRight};
 ghost use Rattle.automata_base.specs.Told.{ToldEndsAreRight, ToldIsOne, ToldIsRight};
 ghost use Rattle.automata_base.specs.WalkLaws.{AllPairsAreTold, OverlappingIsTold, WalkIsRight, WalksAreOne, WalksAreTold};
 
@@ -30,6 +31,15 @@ pub fn start_is_right()
     ensures matches { MatchIffFound }
     ensures quits { BackMeetsNone }
 {}
+
+/// The functions by which contracts retrace the powerset construction mean its relations: a step by `successor` goes to
+/// the one state that is the successor, and a search by `start_state_of` starts in the one that is the start.
+pub fn steps_are_right(nfa: &NFA)
+    ensures successors { SuccessorsAreRight nfa.now }
+    ensures starts { PowersetStartsAreRight nfa.now }
+{
+    let _states = nfa.states();
+}
 
 /// What a powerset automaton does not tell apart, so that one transition serves a class of bytes, and one start all
 /// bytes of a kind.

@@ -13,6 +13,7 @@ use Rattle.automata_base.proofs.Paths.LookSets.{truth_of_none}
 use Rattle.automata_base.specs.Powerset.{Powerset}
 use Rattle.automata_base.specs.Starts.{IsOf, IsStartAt, IsStartOf, mode_start}
 use Rattle.automata_base.specs.Steps.{start_or_dead, start_state_of, successor, NeedsOwnLooks}
+use Rattle.automata_base.specs.StepLaws.{PowersetStartsAreRight, SuccessorsAreRight}
 use Rattle.automata_base.proofs.Determinizing.Walking.{nodes_length}
 use Rattle.automata_base.proofs.Paths.Machines.{arrive_right, succ_right}
 use Rattle.automata_base.proofs.Paths.Unique.{arrival_one, succ_one}
@@ -46,6 +47,32 @@ unfolding start_state_of
 is_start a mode prev r range below h =
     start_at (nfa_of a) (mode_start a mode) prev r range
     (λ s e. subst (λ v. s < v) (sym (nodes_length a.states)) (below s e)) h
+
+pub successors_are_right : (a : Automaton) → IsInRange (nfa_of a) → SuccessorsAreRight a
+unfolding successor
+successors_are_right a range kind q r u of = (
+  is_successor a kind q u r range of,
+  λ e. subst (λ z. IsSuccessor (nfa_of a) kind q u z) (sym e)
+  (succ_right (nfa_of a) kind u q range (λ y i. subst (λ v. y < v) (sym (nodes_length a.states)) (of y i))).0,
+)
+
+start_is : (n : Nfa) (start prev : Option ℕ) → IsInRange n → ((s : ℕ) → start ≡ Some s → s < length n.nodes) → IsStartAt n start prev (start_or_dead n start prev)
+start_is n None prev range below = refl
+start_is n (Some s) prev range below = (arrive_right n [] (s ∷ []) prev range one).0
+  where
+    one : (y : ℕ) → In y (s ∷ []) → y < length n.nodes
+    one y (inl e) = subst (λ v. v < length n.nodes) (sym e) (below s refl)
+    one y (inr i) = absurd i
+
+pub starts_are_right :
+    (a : Automaton) → IsInRange (nfa_of a) → ((mode : Anchored) (s : ℕ) → mode_start a mode ≡ Some s → s < length a.states)
+    → PowersetStartsAreRight a
+unfolding start_state_of
+starts_are_right a range below mode prev r = (
+  is_start a mode prev r range (below mode),
+  λ e. subst (λ z. IsStartOf a mode prev z) (sym e)
+  (start_is (nfa_of a) (mode_start a mode) prev range (λ s f. subst (λ v. s < v) (sym (nodes_length a.states)) (below mode s f))),
+)
 
 -- what is made of a closure needs looks of the automaton
 made_needs :
