@@ -53,7 +53,7 @@ unfolding successor
 successors_are_right a range kind q r u of = (
   is_successor a kind q u r range of,
   λ e. subst (λ z. IsSuccessor (nfa_of a) kind q u z) (sym e)
-  (succ_right (nfa_of a) kind u q range (λ y i. subst (λ v. y < v) (sym (nodes_length a.states)) (of y i))).0,
+      (succ_right (nfa_of a) kind u q range (λ y i. subst (λ v. y < v) (sym (nodes_length a.states)) (of y i))).0,
 )
 
 start_is : (n : Nfa) (start prev : Option ℕ) → IsInRange n → ((s : ℕ) → start ≡ Some s → s < length n.nodes) → IsStartAt n start prev (start_or_dead n start prev)
@@ -71,7 +71,7 @@ unfolding start_state_of
 starts_are_right a range below mode prev r = (
   is_start a mode prev r range (below mode),
   λ e. subst (λ z. IsStartOf a mode prev z) (sym e)
-  (start_is (nfa_of a) (mode_start a mode) prev range (λ s f. subst (λ v. s < v) (sym (nodes_length a.states)) (below mode s f))),
+      (start_is (nfa_of a) (mode_start a mode) prev range (λ s f. subst (λ v. s < v) (sym (nodes_length a.states)) (below mode s f))),
 )
 
 -- what is made of a closure needs looks of the automaton

@@ -3,7 +3,7 @@
 use super::plans::{Plan, Shape};
 use super::same_of;
 use crate::catalogue::Entry;
-use Shape::{Accept, Either, Range};
+use Shape::{Accept, Assert, Either, Range};
 use regex_automata::nfa::thompson::NFA;
 use regex_automata::util::look::Look;
 use regex_automata::util::primitives::{PatternID, StateID};
@@ -29,12 +29,18 @@ fn describes_the_catalogue(rt: HostRuntime) -> Result<(), Fail> {
         let found = (
             (forward.has_empty(), forward.skips_lazily()),
             (forward.is_reverse(), reverse.is_reverse()),
+            (forward.is_look_acyclic(), reverse.is_look_acyclic()),
             (
                 forward.is_utf8() == reverse.is_utf8(),
                 forward.pattern_len() == reverse.pattern_len(),
             ),
         );
-        let want = ((EMPTY.contains(&entry), true), (false, true), (true, true));
+        let want = (
+            (EMPTY.contains(&entry), true),
+            (false, true),
+            (true, true),
+            (true, true),
+        );
         same_of(&rt, &found, &want, &entry);
     }
     Ok(())
@@ -134,6 +140,62 @@ fn tells_lazy_skipping(rt: HostRuntime) -> Result<(), Fail> {
         };
         let nfa = plan.build(rt.alloc())?;
         same_of(&rt, &nfa.skips_lazily(), &want, &shows);
+    }
+    Ok(())
+}
+
+/// What the row shows, the states, and whether no cycle of edges that read nothing passes a look.
+type Cycle = (&'static str, &'static [Shape], bool);
+
+const CYCLES: &[Cycle] = &[
+    ("no look", &[Range(b'a', b'a', 1), Accept(0)], true),
+    (
+        "a look before a byte",
+        &[Assert(Look::WordAscii, 1), Range(b'a', b'a', 2), Accept(0)],
+        true,
+    ),
+    (
+        "a look that leads to itself",
+        &[Assert(Look::Start, 0), Accept(0)],
+        false,
+    ),
+    (
+        "a look repeated",
+        &[Either(1, 2), Assert(Look::WordAscii, 0), Accept(0)],
+        false,
+    ),
+    (
+        "a look and a byte repeated",
+        &[
+            Either(1, 3),
+            Assert(Look::WordAscii, 2),
+            Range(b'a', b'a', 0),
+            Accept(0),
+        ],
+        true,
+    ),
+    (
+        "a look behind a cycle",
+        &[Either(0, 1), Assert(Look::Start, 2), Accept(0)],
+        true,
+    ),
+    (
+        "a look before a cycle",
+        &[Assert(Look::Start, 1), Either(1, 2), Accept(0)],
+        true,
+    ),
+];
+
+#[test]
+fn tells_cycles_of_looks(rt: HostRuntime) -> Result<(), Fail> {
+    for (shows, states, want) in CYCLES.iter().copied() {
+        let plan = Plan {
+            states,
+            starts: (0, 0),
+            patterns: &[0],
+        };
+        let nfa = plan.build(rt.alloc())?;
+        same_of(&rt, &nfa.is_look_acyclic(), &want, &shows);
     }
     Ok(())
 }

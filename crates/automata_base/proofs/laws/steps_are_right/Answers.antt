@@ -10,4 +10,4 @@ returns-clause-successors c = successors_are_right c.args.nfa.now c.states-state
 pub returns-clause-starts : goal.returns-clause-starts
 returns-clause-starts c = starts_are_right c.args.nfa.now c.states-states.ensures.door.range
     (λ mode s e.
-      subst (λ v. s < v) (nodes_length c.args.nfa.now.states) (start_below c.args.nfa.now mode s c.states-states.ensures.door e))
+    subst (λ v. s < v) (nodes_length c.args.nfa.now.states) (start_below c.args.nfa.now mode s c.states-states.ensures.door e))
