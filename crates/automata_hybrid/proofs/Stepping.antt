@@ -25,6 +25,12 @@ HasRow-valid t id (inl e) l = absurd (omega (arith, e, l))
 HasRow-valid t id (inr (inl e)) l = absurd (omega (arith, e, l))
 HasRow-valid t id (inr (inr h)) l = h
 
+-- an ID of a row with the match tag is neither dead nor quit
+pub HasRow-matched : (t : Rows) (id : ℕ) → t.of.stride ≤ 512 → HasRow t id → IsBitSet id 27 → IsValid t id
+HasRow-matched t id small (inl e) b = absurd (zero_one ((bit_of 27 t.of.stride 8 id (omega (arith, small)) (omega (arith, e))).0 b))
+HasRow-matched t id small (inr (inl e)) b = absurd (zero_one ((bit_of 27 (2 * t.of.stride) 4 id (omega (arith, small)) (omega (arith, e))).0 b))
+HasRow-matched t id small (inr (inr v)) b = v
+
 -- an untagged ID names a state without patterns
 pub Leads-silent : (t : Rows) (id : ℕ) (q : Powerset) → Leads t id q → id < 2 ^ 27 → q.patterns ≡ []
 Leads-silent t id q (inl (e, d)) l = absurd (omega (arith, e, l))

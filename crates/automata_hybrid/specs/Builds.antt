@@ -1,7 +1,10 @@
-use Rattle.std.specs.Prelude.{◌≡◌}
+use Rattle.std.specs.Prelude.{ℕ, ◌≡◌, List, [], ◌∷◌, false}
 use Rattle.automata_base.specs.Accounting.{fixed_cost, start_slots}
+use Rattle.automata_base.specs.Automata.{automaton}
 use Rattle.automata_base.specs.Classes.{stride_of}
 use Rattle.automata_base.specs.Nodes.{Automaton}
+use Rattle.automata_base.specs.declared.nfa.thompson.State.{State}
+use Rattle.automata_base.specs.declared.nfa.thompson.State.TheVariants.{Match, Fail}
 use Rattle.automata_config.specs.Options.{Options, match_kind_of, minimum_cache_clear_count_of, minimum_bytes_per_state_of, specialize_start_states_of, starts_for_each_pattern_of}
 use Rattle.automata_config.specs.Settled.{Settled}
 use Rattle.automata_config.specs.Settling.{IsSettled}
@@ -28,3 +31,16 @@ built o a s = record {
 -- the machine is what settings make of an automaton
 abbrev pub Builds : Options → Automaton → Machine → Type 0
 Builds o a m = (s : Settled) × IsSettled o a s × (m ≡ built o a s)
+
+-- the automaton of one state, by the default flags, and these starts of its patterns
+abbrev pub one_state : State → List ℕ → Automaton
+one_state state starts =
+    automaton (state ∷ []) 0 0 starts (record { utf8 = false; reverse = false; line_terminator = 10 })
+
+-- the automaton of one pattern, which matches everywhere
+abbrev pub always_matching : Automaton
+always_matching = one_state (Match 0) (0 ∷ [])
+
+-- the automaton of no pattern, which matches nowhere
+abbrev pub never_matching : Automaton
+never_matching = one_state Fail []

@@ -1,8 +1,7 @@
-ghost use Rattle.std.specs.Prelude.{◌≡◌, IfOk, IfErr, None, [], ◌∷◌, false};
-ghost use Rattle.automata_base.specs.Nodes.{Automaton};
+ghost use Rattle.std.specs.Prelude.{◌≡◌, IfOk, IfErr, None};
 ghost use Rattle.automata_config.specs.Options.{unset, overwritten};
 ghost use Rattle.automata_config.specs.Settling.{refusal};
-ghost use Rattle.automata_hybrid.specs.Builds.{Builds};
+ghost use Rattle.automata_hybrid.specs.Builds.{Builds, always_matching, never_matching, one_state};
 
 use crate::dfa::DFA;
 use automata_base::nfa::thompson::{Flags, NFA, State};
@@ -62,12 +61,9 @@ impl Builder {
 
 /// The DFA of an automaton of one state, by the default settings. It is refused for want of memory alone.
 fn of_state(alloc: Global, state: State, starts: Vec<StateID>) -> Result<DFA, BuildError>
-    requires { (a : Automaton) → a.states ≡ state ∷ [] → a.start_pattern ≡ starts.items → refusal unset a ≡ None }
+    requires { refusal unset (one_state state starts.items) ≡ None }
     ensures refused { IfErr result (λ e. e ≡ BuildError.OutOfMemory) }
-    ensures built { IfOk result (λ m. Builds unset m.nfa m) }
-    ensures states { IfOk result (λ m. m.nfa.states ≡ state ∷ []) }
-    ensures starts { IfOk result (λ m. m.nfa.start_pattern ≡ starts.items) }
-    ensures flags { IfOk result (λ m. m.nfa.flags ≡ record { utf8 = false; reverse = false; line_terminator = 10 }) }
+    ensures built { IfOk result (Builds unset (one_state state starts.items)) }
 {
     let mut states = Vec::new(alloc);
     states.push(state)?;
@@ -86,13 +82,10 @@ fn of_state(alloc: Global, state: State, starts: Vec<StateID>) -> Result<DFA, Bu
 }
 
 impl DFA {
-    /// A DFA of one pattern, which matches everywhere.
+    /// A DFA of one pattern, which matches everywhere. It is refused for want of memory alone.
     pub fn always_match(alloc: Global) -> Result<DFA, BuildError>
         ensures refused { IfErr result (λ e. e ≡ BuildError.OutOfMemory) }
-        ensures built { IfOk result (λ m. Builds unset m.nfa m) }
-        ensures states { IfOk result (λ m. m.nfa.states ≡ State.Match 0 ∷ []) }
-        ensures starts { IfOk result (λ m. m.nfa.start_pattern ≡ 0 ∷ []) }
-        ensures flags { IfOk result (λ m. m.nfa.flags ≡ record { utf8 = false; reverse = false; line_terminator = 10 }) }
+        ensures built { IfOk result (Builds unset always_matching) }
     {
         let mut starts = Vec::new(alloc);
         starts.push(StateID::ZERO)?;
@@ -106,13 +99,10 @@ impl DFA {
         Ok(dfa)
     }
 
-    /// A DFA of no pattern, which matches nowhere.
+    /// A DFA of no pattern, which matches nowhere. It is refused for want of memory alone.
     pub fn never_match(alloc: Global) -> Result<DFA, BuildError>
         ensures refused { IfErr result (λ e. e ≡ BuildError.OutOfMemory) }
-        ensures built { IfOk result (λ m. Builds unset m.nfa m) }
-        ensures states { IfOk result (λ m. m.nfa.states ≡ State.Fail ∷ []) }
-        ensures starts { IfOk result (λ m. m.nfa.start_pattern ≡ []) }
-        ensures flags { IfOk result (λ m. m.nfa.flags ≡ record { utf8 = false; reverse = false; line_terminator = 10 }) }
+        ensures built { IfOk result (Builds unset never_matching) }
     {
         let dfa = of_state(alloc, State::Fail, Vec::new(alloc))?;
         Ok(dfa)

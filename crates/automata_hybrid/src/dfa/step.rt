@@ -1,4 +1,4 @@
-ghost use Rattle.std.specs.Prelude.{ℕ, ◌≡◌, ◌+◌, ◌<◌, ◌≤◌, None, Some, IfOk, IfErr, OnOk, OnErr, length, slice_index, Ok, true, false, ◌⊎◌};
+ghost use Rattle.std.specs.Prelude.{ℕ, ◌≡◌, ◌+◌, ◌<◌, ◌≤◌, None, Some, IfOk, IfErr, IsBitSet, OnOk, OnErr, length, slice_index, Ok, true, false, ◌⊎◌};
 ghost use Rattle.automata_base.specs.Powerset.{Powerset, cost};
 ghost use Rattle.automata_base.specs.Steps.{successor};
 ghost use Rattle.automata_hybrid.specs.Owned.{IsOwn};
@@ -194,7 +194,7 @@ impl DFA {
     #[inline(always)]
     pub fn next_state_untagged(&self, cache: &Cache, id: LazyStateID, byte: u8) -> LazyStateID
         requires of { IsCacheOf cache.now self.now }
-        requires valid { IsValid cache.now.store.table id }
+        requires row { HasRow cache.now.store.table id }
         requires untagged { id < offset_limit }
         ensures value { result ≡ cell_of cache.now.store id (class_in self.now.classes byte) }
         ensures quit { is_quit self.now.quits byte ≡ true → result ≡ quit_id self.now.stride }
@@ -221,22 +221,28 @@ impl DFA {
         cache.cell(id, self.class_of(byte))
     }
 
-    /// How many patterns match at a match state.
+    /// How many patterns match at a match state: at least one. The ID is of a row that is there, and `is_match` of it.
     pub fn match_len(&self, cache: &Cache, id: LazyStateID) -> usize
         requires of { IsCacheOf cache.now self.now }
-        requires valid { IsValid cache.now.store.table id }
-        ensures { (q : Powerset) → Names cache.now.store.table id q → result ≡ length q.patterns }
+        requires row { HasRow cache.now.store.table id }
+        requires tagged { IsBitSet id 27 }
+        ensures number { (q : Powerset) → Names cache.now.store.table id q → result ≡ length q.patterns }
+        ensures some { 0 < result }
     {
+        cache.see_ids();
         cache.match_len(id)
     }
 
-    /// A pattern that matches at a match state.
+    /// A pattern that matches at a match state. The index is below `match_len`; the patterns stand in the order in which the
+    /// automaton's paths prefer them.
     pub fn match_pattern(&self, cache: &Cache, id: LazyStateID, index: usize) -> PatternID
         requires of { IsCacheOf cache.now self.now }
-        requires valid { IsValid cache.now.store.table id }
+        requires row { HasRow cache.now.store.table id }
+        requires tagged { IsBitSet id 27 }
         requires index { (q : Powerset) → Names cache.now.store.table id q → index < length q.patterns }
         ensures { (q : Powerset) → Names cache.now.store.table id q → result ≡ slice_index q.patterns index }
     {
+        cache.see_ids();
         cache.match_pattern(id, index)
     }
 }

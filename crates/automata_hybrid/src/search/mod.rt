@@ -210,7 +210,7 @@ impl DFA {
             return found;
         }
         if id.is_match() {
-            return Some(HalfMatch::new(self.match_pattern(cache, id, 0), at));
+            return Some(HalfMatch::new(cache.match_pattern(id, 0), at));
         }
         found
     }

@@ -647,7 +647,7 @@ impl DFA {
         let _haystack = input.haystack();
         cache.see_ids();
         let at = place_offset(input, way, units - 1);
-        let half = HalfMatch::new(self.match_pattern(cache, id, 0), at);
+        let half = HalfMatch::new(cache.match_pattern(id, 0), at);
         walk.go_to(cache.hold(id), units);
         walk.tell(half);
     }

@@ -349,10 +349,10 @@ impl Bench {
         if self.at.is_dead() || self.at.is_quit() || !self.has_state() {
             return Told::Nothing;
         }
-        let count = self.dfa.match_len(&self.cache, self.at);
-        if count == 0 {
+        if !self.at.is_match() {
             return Told::Patterns(0, None);
         }
+        let count = self.dfa.match_len(&self.cache, self.at);
         let last = self.dfa.match_pattern(&self.cache, self.at, count - 1);
         Told::Patterns(count, Some(last))
     }

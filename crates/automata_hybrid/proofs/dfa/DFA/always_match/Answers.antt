@@ -1,7 +1,7 @@
-use Rattle.std.proofs.Common.{◌∙◌, ◌++◌, ◌∷◌, [], ap, List, ℕ}
+use Rattle.std.proofs.Common.{◌∙◌, ◌++◌, ◌∷◌, [], ap, List, ℕ, refl}
 use Rattle.automata_hybrid.proofs.OneState.{match_settles}
 use Rattle.automata_hybrid.proofs.dfa.DFA.always_match.Goals as goal
 
 pub of_state-requires : goal.of_state-requires
-of_state-requires c = λ a states starts.
-    match_settles a states (starts ∙ (c.in_ok-push.ensures.items ∙ ap (λ (l : List ℕ). l ++ 0 ∷ []) c.new-starts.ensures.items))
+of_state-requires c =
+    match_settles _ refl (c.in_ok-push.ensures.items ∙ ap (λ (l : List ℕ). l ++ 0 ∷ []) c.new-starts.ensures.items)
