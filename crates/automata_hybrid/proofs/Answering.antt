@@ -12,8 +12,7 @@ use Rattle.automata_base.proofs.Paths.Orders.{some_inj, none_some}
 use Rattle.automata_config.specs.declared.error.StartError.TheVariants as start
 use Rattle.automata_config.specs.declared.error.SearchError.{SearchError}
 use Rattle.automata_config.specs.declared.error.SearchError.TheVariants as search
-use Rattle.automata_hybrid.specs.declared.dfa.settings.Settings.{Settings}
-use Rattle.automata_hybrid.specs.Bounds.{Stored, GivesUp, refuses_at, settings_of}
+use Rattle.automata_hybrid.specs.Bounds.{Stored, GivesUp, refuses_at}
 use Rattle.automata_hybrid.specs.Machine.{Machine}
 use Rattle.automata_hybrid.specs.Searches.{tape_in, NoQuitInReach, IsRefused, IsPassRefusal, IsStepRefusal}
 use Rattle.automata_hybrid.specs.Slots.{supports}
@@ -73,14 +72,14 @@ later_mode : (way : Direction) (k : ℕ) (input : Input) → (later way k input)
 later_mode Forward k input = refl
 later_mode Backward k input = refl
 
-pub no_limit : (m : Machine) (c : Stored) (q : Powerset) → c.settings ≡ settings_of m → m.minimum_clear_count ≡ None → GivesUp c q → ⊥
+pub no_limit : (m : Machine) (c : Stored) (q : Powerset) → c.table.of ≡ m → m.minimum_clear_count ≡ None → GivesUp c q → ⊥
 no_limit m c q same free gives =
-    let limit : c.settings.minimum_clear_count ≡ None = ap (λ (s : Settings). s.minimum_clear_count) same ∙ free in
-    let rule : refuses_at c.settings.minimum_clear_count c ≡ true = gives.2 in
+    let limit : c.table.of.minimum_clear_count ≡ None = ap (λ (n : Machine). n.minimum_clear_count) same ∙ free in
+    let rule : refuses_at c.table.of.minimum_clear_count c ≡ true = gives.2 in
     false_true (subst (λ o. refuses_at o c ≡ true) limit rule)
 
 module _ (way : Direction) (m : Machine) (c : Stored) (input : Input) (k : ℕ) (within : input.start + k ≤ input.end)
-    (few : input.end ≤ length input.haystack) (same : c.settings ≡ settings_of m) (reach : NoQuitInReach m input)
+    (few : input.end ≤ length input.haystack) (same : c.table.of ≡ m) (reach : NoQuitInReach m input)
     (mode : supports m input.anchored ≡ true) (free : m.minimum_clear_count ≡ None) where
   unquit : (byte : ℕ) → InReach (later way k input) byte → is_quit m.quits byte ≡ true → ⊥
   unquit byte r q =
@@ -124,6 +123,6 @@ module _ (way : Direction) (m : Machine) (c : Stored) (input : Input) (k : ℕ) 
 -- a search that no named cause forbids is refused by want of memory alone
 pub refused_memory :
     (way : Direction) (m : Machine) (c : Stored) (input : Input) (e : SearchError)
-    → input.end ≤ length input.haystack → c.settings ≡ settings_of m → NoQuitInReach m input → supports m input.anchored ≡ true
+    → input.end ≤ length input.haystack → c.table.of ≡ m → NoQuitInReach m input → supports m input.anchored ≡ true
     → m.minimum_clear_count ≡ None → IsRefused way m c input e → e ≡ search.OutOfMemory
 refused_memory way m c input e few same reach mode free r = pass_memory way m c input r.0 r.2 few same reach mode free e r.3

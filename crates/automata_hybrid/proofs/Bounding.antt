@@ -38,42 +38,42 @@ few_fits n cells most stride slots sum fixed capacity extra few whole cheap enou
     let f : (5 + slots) * stride ≡ (slots + 4) * stride + stride = omega arith in
     omega (arith, few, whole, cheap, enough, le, le2, e, f, little)
 
-pub Fits-few : (c : Stored) → IsCache c → length c.table.rows ≤ length c.starts + 1 → length c.table.cells ≡ (length c.table.rows + 3) * c.table.of.stride → sum_by row_cost c.table.rows ≤ length c.table.rows * greatest c.table.of
+pub Fits-few : (c : Stored) (settings : Settings) → IsCache c settings → length c.table.rows ≤ length c.starts + 1 → length c.table.cells ≡ (length c.table.rows + 3) * c.table.of.stride → sum_by row_cost c.table.rows ≤ length c.table.rows * greatest c.table.of
     → (extra : ℕ) → extra ≤ greatest c.table.of → Fits c extra
-Fits-few c i few whole cheap extra little =
+Fits-few c settings i few whole cheap extra little =
     let more : length c.table.rows + 3 ≤ length c.starts + 4 = omega (arith, few) in
     let le : (length c.table.rows + 3) * c.table.of.stride ≤ (length c.starts + 4) * c.table.of.stride = mul-le-mul_right c.table.of.stride more in
-    (few_fits (length c.table.rows) (length c.table.cells) (greatest c.table.of) c.table.of.stride (length c.starts) (sum_by row_cost c.table.rows) c.settings.fixed c.settings.capacity extra few whole cheap i.enough little, omega (arith, le, whole, i.offsets))
+    (few_fits (length c.table.rows) (length c.table.cells) (greatest c.table.of) c.table.of.stride (length c.starts) (sum_by row_cost c.table.rows) c.table.of.fixed c.table.of.capacity extra few whole cheap i.enough little, omega (arith, le, whole, i.offsets))
 
 -- one more row that fits
-pub IsCache-grown : (c : Stored) (t : Rows) (r : Row) → IsCache c → length (template_of c.table.of) ≡ c.table.of.stride → AllStarts t c.starts → t ≡ with_row c.table r → Fits c (cost r.state) → IsCache (with_table c t)
-IsCache-grown c t r i wide named e fits =
+pub IsCache-grown : (c : Stored) (settings : Settings) (t : Rows) (r : Row) → IsCache c settings → length (template_of c.table.of) ≡ c.table.of.stride → AllStarts t c.starts → t ≡ with_row c.table r → Fits c (cost r.state) → IsCache (with_table c t) settings
+IsCache-grown c settings t r i wide named e fits =
     let cells : length (c.table.cells ++ template_of c.table.of) ≡ length c.table.cells + c.table.of.stride = length-append c.table.cells (template_of c.table.of) ∙ ap (λ n. length c.table.cells + n) wide in
     let rows : length (c.table.rows ++ r ∷ []) ≡ length c.table.rows + 1 = length-append c.table.rows (r ∷ []) in
     let costs : sum_by row_cost (c.table.rows ++ r ∷ []) ≡ sum_by row_cost c.table.rows + cost r.state = sum_by_push row_cost c.table.rows r in
-    let used : usage (with_table c (with_row c.table r)) ≤ c.settings.capacity = omega (arith, cells, rows, costs, fits.0) in
+    let used : usage (with_table c (with_row c.table r)) ≤ c.table.of.capacity = omega (arith, cells, rows, costs, fits.0) in
     record {
       named = named;
-      within = subst (λ (u : Rows). usage (with_table c u) ≤ c.settings.capacity) (sym e) used;
+      within = subst (λ (u : Rows). usage (with_table c u) ≤ u.of.capacity) (sym e) used;
       enough = rw e i.enough;
       offsets = rw e i.offsets;
       slots = rw e i.slots;
-      settings = rw e i.settings;
-      bounded = i.bounded;
+      same = rw e i.same;
+      bounded = rw e i.bounded;
     }
 
 -- another table with few rows, which has what the slots name
-pub IsCache-few : (c : Stored) (t : Rows) → IsCache c → AllStarts t c.starts → t.of ≡ c.table.of → length t.rows ≤ length c.starts + 1 → length t.cells ≡ (length t.rows + 3) * t.of.stride → sum_by row_cost t.rows ≤ length t.rows * greatest t.of → IsCache (with_table c t)
-IsCache-few c t i named s few whole cheap =
-    let enough : minimum_capacity t.of.stride (length c.starts) (greatest t.of) c.settings.fixed ≤ c.settings.capacity = rw s i.enough in
+pub IsCache-few : (c : Stored) (settings : Settings) (t : Rows) → IsCache c settings → AllStarts t c.starts → t.of ≡ c.table.of → length t.rows ≤ length c.starts + 1 → length t.cells ≡ (length t.rows + 3) * t.of.stride → sum_by row_cost t.rows ≤ length t.rows * greatest t.of → IsCache (with_table c t) settings
+IsCache-few c settings t i named s few whole cheap =
+    let enough : minimum_capacity t.of.stride (length c.starts) (greatest t.of) t.of.fixed ≤ t.of.capacity = rw s i.enough in
     record {
       named = named;
-      within = few_within (length t.rows) (length t.cells) (greatest t.of) t.of.stride (length c.starts) (sum_by row_cost t.rows) c.settings.fixed c.settings.capacity few whole cheap enough;
+      within = few_within (length t.rows) (length t.cells) (greatest t.of) t.of.stride (length c.starts) (sum_by row_cost t.rows) t.of.fixed t.of.capacity few whole cheap enough;
       enough = enough;
       offsets = rw s i.offsets;
       slots = rw s i.slots;
-      settings = rw s i.settings;
-      bounded = i.bounded;
+      same = rw s i.same;
+      bounded = rw s i.bounded;
     }
 
 unknown_at : (n slot id : ℕ) → slice_get (replicate n (2 ^ 31)) slot ≡ Some id → id ≡ 2 ^ 31
@@ -81,7 +81,7 @@ unknown_at n slot id h =
     let within : slot < n = subst (λ m. slot < m) (length-replicate n (2 ^ 31)) (slice_get_within (replicate n (2 ^ 31)) slot id h) in
     sym (get_or_from_slice_get (replicate n (2 ^ 31)) slot id 0 h) ∙ get_or-replicate n slot (2 ^ 31) 0 within
 
-pub IsCache-fresh : (m : Machine) (settings : Settings) → settings ≡ settings_of m → minimum_capacity m.stride m.slots (greatest m) settings.fixed ≤ settings.capacity → (m.slots + 4) * m.stride < 2 ^ 27 → settings.capacity < 2 ^ 64 → IsCache (fresh_store m settings)
+pub IsCache-fresh : (m : Machine) (settings : Settings) → settings ≡ settings_of m → minimum_capacity m.stride m.slots (greatest m) m.fixed ≤ m.capacity → (m.slots + 4) * m.stride < 2 ^ 27 → m.capacity < 2 ^ 64 → IsCache (fresh_store m) settings
 IsCache-fresh m settings same enough offsets bounded =
     let n : length (replicate m.slots (2 ^ 31)) ≡ m.slots = length-replicate m.slots (2 ^ 31) in
     let a : length (replicate m.stride (2 ^ 31)) ≡ m.stride = length-replicate m.stride (2 ^ 31) in
@@ -90,46 +90,46 @@ IsCache-fresh m settings same enough offsets bounded =
     let cells : length (fixed_rows m.stride) ≡ (0 + 3) * m.stride = omega (arith, length-append (replicate m.stride (2 ^ 31)) (replicate m.stride (dead_id m.stride) ++ replicate m.stride (quit_id m.stride)), length-append (replicate m.stride (dead_id m.stride)) (replicate m.stride (quit_id m.stride)), a, b, d) in
     record {
       named = λ slot id h. inl (unknown_at m.slots slot id h);
-      within = subst (λ k. usage_by (fresh m) k settings.fixed ≤ settings.capacity) (sym n) (few_within 0 (length (fixed_rows m.stride)) (greatest m) m.stride m.slots 0 settings.fixed settings.capacity (omega arith) cells (omega arith) enough);
+      within = subst (λ k. usage_by (fresh m) k m.fixed ≤ m.capacity) (sym n) (few_within 0 (length (fixed_rows m.stride)) (greatest m) m.stride m.slots 0 m.fixed m.capacity (omega arith) cells (omega arith) enough);
       enough = rw n enough;
       offsets = rw n offsets;
       slots = n;
-      settings = same;
+      same = same;
       bounded = bounded;
     }
 
 -- the start states alone
-pub IsCache-cleared : (c : Stored) (t : Rows) (starts : List ℕ) (clears : ℕ) (searched : Searched) → IsCache c → AllStarts t starts → t.of ≡ c.table.of → length starts ≡ length c.starts → length t.rows ≤ length starts → length t.cells ≡ (length t.rows + 3) * t.of.stride → sum_by row_cost t.rows ≤ length t.rows * greatest t.of
-    → IsCache (record { table = t; starts = starts; settings = c.settings; clears = clears; searched = searched })
-IsCache-cleared c t starts clears searched i named s n few whole cheap =
-    let enough : minimum_capacity t.of.stride (length starts) (greatest t.of) c.settings.fixed ≤ c.settings.capacity = rw (s, n) i.enough in
+pub IsCache-cleared : (c : Stored) (settings : Settings) (t : Rows) (starts : List ℕ) (clears : ℕ) (searched : Searched) → IsCache c settings → AllStarts t starts → t.of ≡ c.table.of → length starts ≡ length c.starts → length t.rows ≤ length starts → length t.cells ≡ (length t.rows + 3) * t.of.stride → sum_by row_cost t.rows ≤ length t.rows * greatest t.of
+    → IsCache (record { table = t; starts = starts; clears = clears; searched = searched }) settings
+IsCache-cleared c settings t starts clears searched i named s n few whole cheap =
+    let enough : minimum_capacity t.of.stride (length starts) (greatest t.of) t.of.fixed ≤ t.of.capacity = rw (s, n) i.enough in
     record {
       named = named;
-      within = few_within (length t.rows) (length t.cells) (greatest t.of) t.of.stride (length starts) (sum_by row_cost t.rows) c.settings.fixed c.settings.capacity (omega (arith, few)) whole cheap enough;
+      within = few_within (length t.rows) (length t.cells) (greatest t.of) t.of.stride (length starts) (sum_by row_cost t.rows) t.of.fixed t.of.capacity (omega (arith, few)) whole cheap enough;
       enough = enough;
       offsets = rw (s, n) i.offsets;
       slots = rw (s, n) i.slots;
-      settings = rw s i.settings;
-      bounded = i.bounded;
+      same = rw s i.same;
+      bounded = rw s i.bounded;
     }
 
 -- the accounted cost of a state is a number of 64 bits
-pub small_cost : (c : Stored) (extra : ℕ) → IsCache c → extra ≤ greatest c.table.of → extra < 2 ^ 64
-small_cost c extra i little =
+pub small_cost : (c : Stored) (settings : Settings) (extra : ℕ) → IsCache c settings → extra ≤ greatest c.table.of → extra < 2 ^ 64
+small_cost c settings extra i little =
     let e : (2 + length c.starts) * greatest c.table.of ≡ length c.starts * greatest c.table.of + 2 * greatest c.table.of = omega arith in
     omega (arith, little, i.enough, i.bounded, e)
 
 -- a start that is written
-pub IsCache-start : (c : Stored) (slot id : ℕ) → IsCache c → MayLead c.table id (start_of c.table.of slot) → slot < length c.starts → IsCache (with_start c slot id)
-IsCache-start c slot id i leads within =
+pub IsCache-start : (c : Stored) (settings : Settings) (slot id : ℕ) → IsCache c settings → MayLead c.table id (start_of c.table.of slot) → slot < length c.starts → IsCache (with_start c slot id) settings
+IsCache-start c settings slot id i leads within =
     let n : length c.starts ≡ length (set c.starts slot id) = sym (length-set c.starts slot id) in
     record {
       named = named;
-      within = subst (λ k. usage_by c.table k c.settings.fixed ≤ c.settings.capacity) n i.within;
-      enough = subst (λ k. minimum_capacity c.table.of.stride k (greatest c.table.of) c.settings.fixed ≤ c.settings.capacity) n i.enough;
+      within = subst (λ k. usage_by c.table k c.table.of.fixed ≤ c.table.of.capacity) n i.within;
+      enough = subst (λ k. minimum_capacity c.table.of.stride k (greatest c.table.of) c.table.of.fixed ≤ c.table.of.capacity) n i.enough;
       offsets = subst (λ k. (k + 4) * c.table.of.stride < 2 ^ 27) n i.offsets;
       slots = sym n ∙ i.slots;
-      settings = i.settings;
+      same = i.same;
       bounded = i.bounded;
     } where
       named : AllStarts c.table (set c.starts slot id)

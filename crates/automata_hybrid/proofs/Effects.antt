@@ -99,14 +99,14 @@ rest_room used n stride most extra capacity little l = let e : (n + 1) * (4 * st
 
 pub HasRoom-less : (c : Stored) (states : ℕ) → HasRoom c (states + 1) → HasRoom c states
 HasRoom-less c states room = record {
-  capacity = more_room (usage c) states (4 * c.table.of.stride + 36 + greatest c.table.of) c.settings.capacity room.capacity;
+  capacity = more_room (usage c) states (4 * c.table.of.stride + 36 + greatest c.table.of) c.table.of.capacity room.capacity;
   offsets = λ k l. room.offsets k (omega (arith, l));
 }
 
 pub HasRoom-Fits : (c : Stored) (states extra : ℕ) → extra ≤ greatest c.table.of → HasRoom c (states + 1) → Fits c extra
 HasRoom-Fits c states extra little room =
     let first : length c.table.cells + 0 * c.table.of.stride < 2 ^ 27 = room.offsets 0 (omega arith) in
-    (one_room (usage c) states c.table.of.stride (greatest c.table.of) extra c.settings.capacity little room.capacity, omega (arith, first))
+    (one_room (usage c) states c.table.of.stride (greatest c.table.of) extra c.table.of.capacity little room.capacity, omega (arith, first))
 
 pub HasRoom-grown : (c : Stored) (r : Row) (states : ℕ) → length (template_of c.table.of) ≡ c.table.of.stride → cost r.state ≤ greatest c.table.of → HasRoom c (states + 1) → HasRoom (grown c r) states
 HasRoom-grown c r states wide little room =
@@ -115,7 +115,7 @@ HasRoom-grown c r states wide little room =
     let costs : sum_by row_cost (c.table.rows ++ r ∷ []) ≡ sum_by row_cost c.table.rows + cost r.state = sum_by_push row_cost c.table.rows r in
     let used : usage (grown c r) ≡ usage c + 4 * c.table.of.stride + 36 + cost r.state = omega (arith, cells, rows, costs) in
     record {
-      capacity = rw used (rest_room (usage c) states c.table.of.stride (greatest c.table.of) (cost r.state) c.settings.capacity little room.capacity);
+      capacity = rw used (rest_room (usage c) states c.table.of.stride (greatest c.table.of) (cost r.state) c.table.of.capacity little room.capacity);
       offsets = λ k l. (let e : (k + 1) * c.table.of.stride ≡ k * c.table.of.stride + c.table.of.stride = omega arith in omega (arith, cells, e, room.offsets (k + 1) (omega (arith, l))));
     }
 

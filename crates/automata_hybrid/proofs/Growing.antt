@@ -19,7 +19,7 @@ room_less c n k l r =
       capacity =
           (let times : k * (4 * c.table.of.stride + 36 + greatest c.table.of) ≤ n * (4 * c.table.of.stride + 36 + greatest c.table.of) =
           mul-le-mul_right (4 * c.table.of.stride + 36 + greatest c.table.of) l in
-          below (usage c) _ _ c.settings.capacity times r.capacity);
+          below (usage c) _ _ c.table.of.capacity times r.capacity);
       offsets = λ i h. r.offsets i (omega (arith, l, h));
     } where
       below : (u a b most : ℕ) → a ≤ b → u + b ≤ most → u + a ≤ most

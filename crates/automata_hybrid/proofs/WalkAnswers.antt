@@ -10,7 +10,7 @@ use Rattle.automata_base.specs.declared.util.search.MatchErrorKind.TheVariants.{
 use Rattle.automata_config.specs.declared.error.StartError.TheVariants as start
 use Rattle.automata_config.specs.declared.error.SearchError.{SearchError}
 use Rattle.automata_config.specs.declared.error.SearchError.TheVariants as search
-use Rattle.automata_hybrid.specs.Bounds.{Stored, settings_of}
+use Rattle.automata_hybrid.specs.Bounds.{Stored}
 use Rattle.automata_hybrid.specs.Machine.{Machine}
 use Rattle.automata_hybrid.specs.Searches.{IsStepRefusal, NoQuitInReach, tape_in}
 use Rattle.automata_hybrid.specs.Slots.{supports}
@@ -21,7 +21,7 @@ use Rattle.automata_hybrid.proofs.Answering.{InReach, behind_reach, is_behind, n
 use Rattle.automata_hybrid.proofs.Searching.{false_true}
 
 module _ (way : Direction) (m : Machine) (c : Stored) (input : Input)
-    (few : input.end ≤ length input.haystack) (same : c.settings ≡ settings_of m) (reach : NoQuitInReach m input)
+    (few : input.end ≤ length input.haystack) (same : c.table.of ≡ m) (reach : NoQuitInReach m input)
     (mode : supports m input.anchored ≡ true) (free : m.minimum_clear_count ≡ None) where
   unquit : (byte : ℕ) → InReach input byte → is_quit m.quits byte ≡ true → ⊥
   unquit byte r q = false_true (sym (reach r.0 byte r.1 r.2 r.3) ∙ q)

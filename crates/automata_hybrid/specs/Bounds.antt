@@ -16,11 +16,10 @@ use Rattle.automata_hybrid.specs.Progressing.{saturated, total_len, progress_cle
 pub record Stored : Type 0 where
   pub table : Rows
   pub starts : List ℕ
-  pub settings : Settings
   pub clears : ℕ
   pub searched : Searched
 
--- what the store of a machine is bounded by
+-- what the cache of a machine is bounded by
 abbrev pub settings_of : Machine → Settings
 settings_of m = record { capacity = m.capacity; fixed = m.fixed; minimum_clear_count = m.minimum_clear_count; minimum_bytes_per_state = m.minimum_bytes_per_state }
 
@@ -29,11 +28,11 @@ abbrev pub usage_by : Rows → ℕ → ℕ → ℕ
 usage_by t slots fixed = 4 * length t.cells + 4 * slots + 16 * (length t.rows + 3) + 20 * (length t.rows + 1) + 39 + sum_by row_cost t.rows + fixed
 
 abbrev pub usage : Stored → ℕ
-usage c = usage_by c.table (length c.starts) c.settings.fixed
+usage c = usage_by c.table (length c.starts) c.table.of.fixed
 
 -- a new state of this cost fits
 abbrev pub Fits : Stored → ℕ → Type 0
-Fits c extra = (usage c + 4 * c.table.of.stride + 36 + extra ≤ c.settings.capacity) × (length c.table.cells < offset_limit)
+Fits c extra = (usage c + 4 * c.table.of.stride + 36 + extra ≤ c.table.of.capacity) × (length c.table.cells < offset_limit)
 
 abbrev pub short_of : Option ℕ → ℕ → ℕ → Bool
 short_of None states searched = true
@@ -41,28 +40,29 @@ short_of (Some bytes) states searched = nat_lt searched (saturated (bytes * stat
 
 abbrev pub refuses_at : Option ℕ → Stored → Bool
 refuses_at None c = false
-refuses_at (Some limit) c = cond (nat_lt c.clears limit) false (short_of c.settings.minimum_bytes_per_state (length c.table.rows + 3) (total_len c.searched))
+refuses_at (Some limit) c = cond (nat_lt c.clears limit) false (short_of c.table.of.minimum_bytes_per_state (length c.table.rows + 3) (total_len c.searched))
 
 -- the clear rule
 abbrev pub refuses_to_clear : Stored → Bool
-refuses_to_clear c = refuses_at c.settings.minimum_clear_count c
+refuses_to_clear c = refuses_at c.table.of.minimum_clear_count c
 
 -- a clear that keeps the start states
 abbrev pub cleared : Stored → Stored
-cleared c = record { table = (kept c.table c.starts).table; starts = (kept c.table c.starts).starts; settings = c.settings; clears = saturated (c.clears + 1); searched = progress_cleared c.searched }
+cleared c = record { table = (kept c.table c.starts).table; starts = (kept c.table c.starts).starts; clears = saturated (c.clears + 1); searched = progress_cleared c.searched }
 
 abbrev pub with_table : Stored → Rows → Stored
-with_table c t = record { table = t; starts = c.starts; settings = c.settings; clears = c.clears; searched = c.searched }
+with_table c t = record { table = t; starts = c.starts; clears = c.clears; searched = c.searched }
 
--- the slots name their states, and the accounted bytes are within the capacity
-pub record IsCache (c : Stored) : Type 0 where
+-- the slots name their states, and the accounted bytes are within the capacity; these settings are those of the machine
+pub record IsCache (c : Stored) (settings : Settings) : Type 0 where
   pub named : AllStarts c.table c.starts
-  pub within : usage c ≤ c.settings.capacity
-  pub enough : minimum_capacity c.table.of.stride (length c.starts) (greatest c.table.of) c.settings.fixed ≤ c.settings.capacity
+  pub within : usage c ≤ c.table.of.capacity
+  pub enough :
+      minimum_capacity c.table.of.stride (length c.starts) (greatest c.table.of) c.table.of.fixed ≤ c.table.of.capacity
   pub offsets : (length c.starts + 4) * c.table.of.stride < offset_limit
   pub slots : length c.starts ≡ c.table.of.slots
-  pub settings : c.settings ≡ settings_of c.table.of
-  pub bounded : c.settings.capacity < 2 ^ 64
+  pub same : settings ≡ settings_of c.table.of
+  pub bounded : c.table.of.capacity < 2 ^ 64
 
 abbrev pub put_found : Rows → Option Row → Rows
 put_found t None = t
@@ -95,11 +95,11 @@ abbrev pub with_next : Stored → ℕ → ℕ → ℕ → Stored
 with_next c id class next = with_table c (with_cell c.table id class next)
 
 abbrev pub with_start : Stored → ℕ → ℕ → Stored
-with_start c slot id = record { table = c.table; starts = slice_set c.starts slot id; settings = c.settings; clears = c.clears; searched = c.searched }
+with_start c slot id = record { table = c.table; starts = slice_set c.starts slot id; clears = c.clears; searched = c.searched }
 
 -- a cache that nothing was done to
-abbrev pub fresh_store : Machine → Settings → Stored
-fresh_store m settings = record { table = fresh m; starts = replicate m.slots unknown_id; settings = settings; clears = 0; searched = record { bytes = 0; running = None } }
+abbrev pub fresh_store : Machine → Stored
+fresh_store m = record { table = fresh m; starts = replicate m.slots unknown_id; clears = 0; searched = record { bytes = 0; running = None } }
 
 -- the slot's start is known
 abbrev pub IsKnownStart : Stored → ℕ → Type 0
@@ -138,4 +138,4 @@ abbrev pub GivesUp : Stored → Powerset → Type 0
 GivesUp c q = Lacks c.table q × (Fits c (cost q) → ⊥) × (refuses_to_clear c ≡ true)
 
 abbrev pub with_searched : Stored → Searched → Stored
-with_searched c s = record { table = c.table; starts = c.starts; settings = c.settings; clears = c.clears; searched = s }
+with_searched c s = record { table = c.table; starts = c.starts; clears = c.clears; searched = s }

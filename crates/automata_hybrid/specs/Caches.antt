@@ -2,7 +2,7 @@ use Rattle.std.specs.Prelude.{◌≡◌, ℕ, ◌+◌, ◌⊎◌}
 use Rattle.automata_hybrid.specs.Ids.{unknown_id, dead_id, quit_id}
 use Rattle.automata_hybrid.specs.Machine.{Machine}
 use Rattle.automata_hybrid.specs.Table.{Rows, IsValid}
-use Rattle.automata_hybrid.specs.Bounds.{Stored, settings_of, fresh_store}
+use Rattle.automata_hybrid.specs.Bounds.{Stored, fresh_store}
 
 -- what contracts see of a cache: its states, and how often it determinised
 pub record CacheView : Type 0 where
@@ -15,7 +15,7 @@ IsCacheOf c m = c.store.table.of ≡ m
 
 -- a cache that nothing was done to
 abbrev pub fresh_cache : Machine → CacheView
-fresh_cache m = record { store = fresh_store m (settings_of m); count = 0 }
+fresh_cache m = record { store = fresh_store m; count = 0 }
 
 -- one more determinisation
 abbrev pub counted : CacheView → CacheView

@@ -19,7 +19,7 @@ ClearedNothing old new = (new.clears ≡ old.clears) × (old.clears < 2 ^ 64 - 1
 
 -- there is room for so many more states, whatever they cost
 pub record HasRoom (c : Stored) (states : ℕ) : Type 0 where
-  pub capacity : usage c + states * (4 * c.table.of.stride + 36 + greatest c.table.of) ≤ c.settings.capacity
+  pub capacity : usage c + states * (4 * c.table.of.stride + 36 + greatest c.table.of) ≤ c.table.of.capacity
   pub offsets : (k : ℕ) → k < states → length c.table.cells + k * c.table.of.stride < offset_limit
 
 -- nothing has changed but the progress of searches

@@ -15,7 +15,7 @@ use Rattle.automata_base.specs.declared.util.search.MatchErrorKind.TheVariants.{
 use Rattle.automata_base.specs.declared.util.search.MatchKind.TheVariants.{All as KindAll}
 use Rattle.automata_config.specs.declared.error.SearchError.{SearchError}
 use Rattle.automata_config.specs.declared.error.SearchError.TheVariants as search
-use Rattle.automata_hybrid.specs.Bounds.{Stored, settings_of, usage}
+use Rattle.automata_hybrid.specs.Bounds.{Stored, usage}
 use Rattle.automata_hybrid.specs.Machine.{Machine}
 use Rattle.automata_hybrid.specs.Searches.{IsFound, IsRefused, NoQuitInReach, WithoutBase, tape_in}
 use Rattle.automata_hybrid.specs.Slots.{supports}
@@ -34,7 +34,6 @@ use Rattle.regex_automata.specs.declared.hybrid.regex.caches.Cache.{Cache}
 -- a cache of this DFA, whose accounted bytes are within its settings
 pub record IsStoreOf (c : Stored) (m : Machine) : Type 0 where
   pub of : c.table.of ≡ m
-  pub settings : c.settings ≡ settings_of m
   pub within : usage c ≤ m.capacity
 
 -- the two of a regex

@@ -5,7 +5,7 @@ ghost use Rattle.automata_hybrid.specs.Owned.{IsOwn};
 ghost use Rattle.automata_hybrid.specs.Machine.{next_of, start_of, greatest, template_of};
 ghost use Rattle.automata_hybrid.specs.Ids.{dead_id, unknown_id, fixed_from, offset_limit};
 ghost use Rattle.automata_hybrid.specs.Table.{id_of, Names, IsValid, Leads, MayLead, IsCell, HasCells, Has};
-ghost use Rattle.automata_hybrid.specs.Bounds.{Fits, refuses_to_clear, IsCacheError, KeepsStarts, IsAdded, IsAddedStart, cell_of, with_next, with_start, with_searched, grown, cleared, usage, settings_of, GivesUp};
+ghost use Rattle.automata_hybrid.specs.Bounds.{Fits, refuses_to_clear, IsCacheError, KeepsStarts, IsAdded, IsAddedStart, cell_of, with_next, with_start, with_searched, grown, cleared, usage, GivesUp};
 ghost use Rattle.automata_hybrid.specs.Caches.{IsRow, IsCacheOf, fresh_cache, counted, with_store};
 ghost use Rattle.automata_hybrid.specs.Growing.{IsGrown};
 ghost use Rattle.automata_hybrid.specs.Walking.{IsRowState};
@@ -299,13 +299,6 @@ impl Cache {
         self.store.see_slots();
     }
 
-    /// The bounds are the DFA's.
-    pub(crate) fn see_settings(&self)
-        ensures { self.now.store.settings ≡ settings_of self.now.store.table.of }
-    {
-        self.store.see_settings();
-    }
-
     /// Rows are of one width, and each has a cell for each class; the count of clears is a number of 64 bits.
     pub(crate) fn see_cells(&self)
         ensures wide { length (template_of self.now.store.table.of) ≡ self.now.store.table.of.stride }
@@ -419,14 +412,12 @@ impl Cache {
         ensures usage { result ≡ usage self.now.store }
         ensures within { result ≤ self.now.store.table.of.capacity }
     {
-        self.store.see_settings();
         self.store.memory_usage()
     }
 
-    /// The bounds are those that the settings of the DFA say, and the accounted bytes are within them. It does nothing.
+    /// The accounted bytes are within the capacity of the DFA's settings. It does nothing.
     pub fn see_bounds(&self)
-        ensures settings { self.now.store.settings ≡ settings_of self.now.store.table.of }
-        ensures within { usage self.now.store ≤ self.now.store.table.of.capacity }
+        ensures { usage self.now.store ≤ self.now.store.table.of.capacity }
     {
         self.store.see_bounds();
     }

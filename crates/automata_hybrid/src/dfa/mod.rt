@@ -234,7 +234,7 @@ impl DFA {
 
     /// The fixed rows alone.
     pub(crate) fn fresh_store(&self) -> Result<Store, AllocError>
-        ensures { IfOk result (λ c. c ≡ fresh_store self.now (settings_of self.now)) }
+        ensures { IfOk result (λ c. c ≡ fresh_store self.now) }
     {
         let template = new_row(self.nfa.alloc(), &self.classes, &self.quits, self.stride)?;
         let store = Store::new(self, self.stride, template, self.slots, self.settings())?;

@@ -37,9 +37,9 @@ impl Model for Store {
 
     ghost Value = { Stored };
 
-    ghost view = { λ c. record { table = c.table; starts = c.starts.items; settings = c.settings; clears = c.clears; searched = c.searched } };
+    ghost view = { λ c. record { table = c.table; starts = c.starts.items; clears = c.clears; searched = c.searched } };
 
-    ghost invariant = { λ c. IsCache (record { table = c.table; starts = c.starts.items; settings = c.settings; clears = c.clears; searched = c.searched }) };
+    ghost invariant = { λ c. IsCache (record { table = c.table; starts = c.starts.items; clears = c.clears; searched = c.searched }) c.settings };
 }
 
 impl Store {
@@ -58,7 +58,7 @@ impl Store {
         requires settings { settings ≡ settings_of dfa.now }
         requires enough { minimum_capacity stride slots (greatest dfa.now) settings.fixed ≤ settings.capacity }
         requires offsets { (slots + 4) * stride < offset_limit }
-        ensures { IfOk result (λ c. c ≡ fresh_store dfa.now settings) }
+        ensures { IfOk result (λ c. c ≡ fresh_store dfa.now) }
     {
         let _capacity = settings.capacity;
         let table = Table::fresh(dfa, stride, template, 0)?;
@@ -136,7 +136,7 @@ impl Store {
     /// The accounted bytes.
     pub fn memory_usage(&self) -> usize
         ensures usage { result ≡ usage self.now }
-        ensures within { result ≤ self.now.settings.capacity }
+        ensures within { result ≤ self.now.table.of.capacity }
     {
         self.table.see_rows();
         let states = self.table.len();
@@ -160,17 +160,9 @@ impl Store {
         4 * self.table.stride() + 36 + extra <= room && self.table.cell_count() < 134217728
     }
 
-    /// The bounds are the DFA's.
-    pub fn see_settings(&self)
-        ensures { self.now.settings ≡ settings_of self.now.table.of }
-    {
-        let _ = &self.settings;
-    }
-
-    /// The bounds are the DFA's, and the accounted bytes are within them.
+    /// The accounted bytes are within the capacity.
     pub fn see_bounds(&self)
-        ensures settings { self.now.settings ≡ settings_of self.now.table.of }
-        ensures within { usage self.now ≤ self.now.table.of.capacity }
+        ensures { usage self.now ≤ self.now.table.of.capacity }
     {
         let _ = &self.settings;
     }

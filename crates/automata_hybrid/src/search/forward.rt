@@ -110,7 +110,6 @@ impl DFA {
         told_is_right(self.get_nfa());
         let _haystack = input.haystack();
         let found = self.search_fwd(cache, input);
-        cache.see_settings();
         found
     }
 

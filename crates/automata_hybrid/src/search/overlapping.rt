@@ -161,7 +161,6 @@ impl DFA {
         walk_is_right(self.get_nfa());
         let _haystack = input.haystack();
         let told = self.call(cache, input, Way::Forward, state);
-        cache.see_settings();
         told
     }
 
@@ -215,7 +214,6 @@ impl DFA {
         walk_is_right(self.get_nfa());
         let _haystack = input.haystack();
         let told = self.call(cache, input, Way::Backward, state);
-        cache.see_settings();
         told
     }
 
@@ -253,7 +251,6 @@ impl DFA {
     {
         let _haystack = input.haystack();
         let found = self.collect(cache, input, patset);
-        cache.see_settings();
         found
     }
 

@@ -76,7 +76,6 @@ impl DFA {
         told_is_right(self.get_nfa());
         let _haystack = input.haystack();
         let found = self.search_rev(cache, input);
-        cache.see_settings();
         found
     }
 

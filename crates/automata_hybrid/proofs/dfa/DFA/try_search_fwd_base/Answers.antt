@@ -1,9 +1,8 @@
-use Rattle.std.proofs.Common.{◌∙◌, ap, subst}
+use Rattle.std.proofs.Common.{subst}
 use Rattle.std.proofs.lemmas.Result.{IfErr-weaker, IfOk-weaker}
 use Rattle.automata_base.specs.Nodes.{Automaton}
 use Rattle.automata_base.specs.Tapes.{Forward}
 use Rattle.automata_base.specs.Told.{ToldEndsAreRight, ToldIsRight}
-use Rattle.automata_hybrid.specs.Bounds.{settings_of}
 use Rattle.automata_hybrid.proofs.Answering.{refused_memory}
 use Rattle.automata_hybrid.proofs.Growing.{clears_none}
 use Rattle.automata_hybrid.proofs.Skipping.{found_told}
@@ -19,7 +18,7 @@ returns-clause-answer c = λ acyclic.
 pub returns-clause-answers : goal.returns-clause-answers
 returns-clause-answers c = λ reach mode free.
     IfErr-weaker c.search_fwd-found.result _ _ (λ e r.
-    refused_memory Forward c.args.self.now c.search_fwd-found.new.cache.store c.args.input.now e c.haystack-haystack.ensures.within.1 (c.see_settings.ensures ∙ ap settings_of c.search_fwd-found.ensures.of) reach mode free r)
+    refused_memory Forward c.args.self.now c.search_fwd-found.new.cache.store c.args.input.now e c.haystack-haystack.ensures.within.1 c.search_fwd-found.ensures.of reach mode free r)
     c.search_fwd-found.ensures.errors
 
 pub returns-clause-roomy : goal.returns-clause-roomy

@@ -1,8 +1,7 @@
-use Rattle.std.proofs.Common.{◌∙◌, ap, subst}
+use Rattle.std.proofs.Common.{subst}
 use Rattle.automata_base.specs.Tapes.{Backward}
 use Rattle.automata_base.specs.WalkLaws.{OverlappingIsTold}
 use Rattle.automata_config.specs.declared.error.SearchError.{SearchError}
-use Rattle.automata_hybrid.specs.Bounds.{settings_of}
 use Rattle.automata_hybrid.proofs.WalkAnswers.{call_memory}
 use Rattle.automata_hybrid.proofs.WalkCalls.{paths_next, still_walk, walk_clears_none}
 use Rattle.automata_hybrid.proofs.dfa.DFA.try_search_overlapping_rev.Goals as goal
@@ -19,7 +18,7 @@ returns-clause-roomy c = λ room.
 
 pub returns-clause-answers : goal.returns-clause-answers
 returns-clause-answers c = λ reach mode free.
-    call_memory Backward c.args.self.now c.call-told.new.cache.store c.args.input.now c.haystack-haystack.ensures.within.1 (c.see_settings.ensures ∙ ap settings_of c.call-told.ensures.of) reach mode free c.args.state.now c.call-told.result
+    call_memory Backward c.args.self.now c.call-told.new.cache.store c.args.input.now c.haystack-haystack.ensures.within.1 c.call-told.ensures.of reach mode free c.args.state.now c.call-told.result
     c.requires.walk c.call-told.ensures.lost c.call-told.ensures.errors
 
 pub returns-clause-walk : goal.returns-clause-walk

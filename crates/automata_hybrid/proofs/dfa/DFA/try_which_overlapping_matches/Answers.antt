@@ -1,7 +1,6 @@
-use Rattle.std.proofs.Common.{◌∙◌, ap, ⊎_elim}
+use Rattle.std.proofs.Common.{⊎_elim}
 use Rattle.std.proofs.lemmas.Result.{IfErr-weaker}
 use Rattle.automata_base.specs.Tapes.{Forward}
-use Rattle.automata_hybrid.specs.Bounds.{settings_of}
 use Rattle.automata_hybrid.proofs.Growing.{clears_none}
 use Rattle.automata_hybrid.proofs.WalkAnswers.{walk_memory}
 use Rattle.automata_hybrid.proofs.dfa.DFA.try_which_overlapping_matches.Goals as goal
@@ -10,7 +9,7 @@ pub returns-clause-answers : goal.returns-clause-answers
 returns-clause-answers c = λ reach mode free.
     IfErr-weaker c.collect-found.result _ _ (λ e r.
     ⊎_elim (λ told. told) (λ told.
-    walk_memory Forward c.args.self.now c.collect-found.new.cache.store c.args.input.now c.haystack-haystack.ensures.within.1 (c.see_settings.ensures ∙ ap settings_of c.collect-found.ensures.of) reach mode free r.0 r.1 e told)
+    walk_memory Forward c.args.self.now c.collect-found.new.cache.store c.args.input.now c.haystack-haystack.ensures.within.1 c.collect-found.ensures.of reach mode free r.0 r.1 e told)
     r.3)
     c.collect-found.ensures.errors
 

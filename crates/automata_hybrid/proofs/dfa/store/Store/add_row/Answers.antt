@@ -6,6 +6,6 @@ use Rattle.automata_hybrid.proofs.dfa.store.Store.add_row.Goals as goal
 
 pub invariant_of-self-2 : goal.invariant_of-self-2
 invariant_of-self-2 c =
-    let old : Stored = record { table = c.self.inside.table; starts = c.self.inside.starts.items; settings = c.self.inside.settings; clears = c.self.inside.clears; searched = c.self.inside.searched } in
+    let old : Stored = record { table = c.self.inside.table; starts = c.self.inside.starts.items; clears = c.self.inside.clears; searched = c.self.inside.searched } in
     let fits : Fits old (cost c.args.state) = subst (λ (v : Stored). Fits v (cost c.args.state)) (sym c.self.view_is) c.requires.fits in
-    IsCache-grown old c.add.new.self (record { state = c.args.state; started = c.args.started }) c.self.invariant c.see_rows.ensures.template.whole (c.in_ok-added.ensures.starts old.starts c.self.invariant.named) c.in_ok-added.ensures.ok fits
+    IsCache-grown old c.self.inside.settings c.add.new.self (record { state = c.args.state; started = c.args.started }) c.self.invariant c.see_rows.ensures.template.whole (c.in_ok-added.ensures.starts old.starts c.self.invariant.named) c.in_ok-added.ensures.ok fits

@@ -8,7 +8,7 @@ pub invariant_of-result : goal.invariant_of-result
 invariant_of-result c =
     let e = c.in_ok-table.ensures in
     let n : length c.in_ok-table.starts.items ≡ length c.self.inside.starts.items = e.slots ∙ ap (λ (xs : List ℕ). length xs) c.as_slice.ensures.value in
-    IsCache-cleared (record { table = c.self.inside.table; starts = c.self.inside.starts.items; settings = c.self.inside.settings; clears = c.self.inside.clears; searched = c.self.inside.searched }) c.in_ok-table.table c.in_ok-table.starts.items c.saturating_add.result c.cleared.result c.self.invariant e.named e.of n (subst (λ k. length c.in_ok-table.table.rows ≤ k) (sym e.slots) e.few) c.see_rows-2.ensures.whole c.see_rows-2.ensures.costs
+    IsCache-cleared (record { table = c.self.inside.table; starts = c.self.inside.starts.items; clears = c.self.inside.clears; searched = c.self.inside.searched }) c.self.inside.settings c.in_ok-table.table c.in_ok-table.starts.items c.saturating_add.result c.cleared.result c.self.invariant e.named e.of n (subst (λ k. length c.in_ok-table.table.rows ≤ k) (sym e.slots) e.few) c.see_rows-2.ensures.whole c.see_rows-2.ensures.costs
 
 pub returns-clause-starts : goal.returns-clause-starts
 returns-clause-starts c =

@@ -9,4 +9,4 @@ invariant_of-self-2 c =
     let l = c.see_rows-2.ensures in
     let few : length c.keep_row.new.kept.rows ≤ length c.self.inside.starts.items + 1 = grind (arith, common_steps, n.few, c.requires.few, c.self.view_is) in
     let named = n.starts c.self.inside.starts.items c.self.invariant.named in
-    IsCache-few (record { table = c.self.inside.table; starts = c.self.inside.starts.items; settings = c.self.inside.settings; clears = c.self.inside.clears; searched = c.self.inside.searched }) c.keep_row.new.kept c.self.invariant named n.of few l.whole l.costs
+    IsCache-few (record { table = c.self.inside.table; starts = c.self.inside.starts.items; clears = c.self.inside.clears; searched = c.self.inside.searched }) c.self.inside.settings c.keep_row.new.kept c.self.invariant named n.of few l.whole l.costs

@@ -6,6 +6,6 @@ use Rattle.automata_hybrid.proofs.dfa.store.Store.see_costs.Goals as goal
 
 pub returns : goal.returns
 returns c =
-    let i : IsCache c.args.self.now = subst (λ (v : Stored). IsCache v) c.self.view_is c.self.invariant in
+    let i : IsCache c.args.self.now c.self.inside.settings = subst (λ (v : Stored). IsCache v c.self.inside.settings) c.self.view_is c.self.invariant in
     let same : greatest c.args.self.now.table.of ≤ greatest c.args.self.now.table.of = omega arith in
-    small_cost c.args.self.now (greatest c.args.self.now.table.of) i same
+    small_cost c.args.self.now c.self.inside.settings (greatest c.args.self.now.table.of) i same

@@ -5,6 +5,6 @@ use Rattle.automata_hybrid.proofs.dfa.store.Store.see_room.Goals as goal
 
 pub returns : goal.returns
 returns c =
-    let i : IsCache c.args.self.now = subst (λ (v : Stored). IsCache v) c.self.view_is c.self.invariant in
+    let i : IsCache c.args.self.now c.self.inside.settings = subst (λ (v : Stored). IsCache v c.self.inside.settings) c.self.view_is c.self.invariant in
     let e = c.see_rows.ensures in
-    record { fits = Fits-few c.args.self.now i c.requires (rw (← c.self.view_is) e.whole) (rw (← c.self.view_is) e.costs) }
+    record { fits = Fits-few c.args.self.now c.self.inside.settings i c.requires (rw (← c.self.view_is) e.whole) (rw (← c.self.view_is) e.costs) }
