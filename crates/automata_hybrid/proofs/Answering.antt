@@ -112,7 +112,7 @@ module _ (way : Direction) (m : Machine) (c : Stored) (input : Input) (k : ℕ) 
   step_memory j quit_at given_up_at q (search.Match (QuitAt byte offset)) l r =
       absurd (unquit byte (unit_reach way (later way k input) j byte ahead.0 ahead.1 l r.0) r.1)
   step_memory j quit_at given_up_at q (search.Match (UnsupportedMode told)) l r = absurd r
-  step_memory j quit_at given_up_at q (search.Match (GaveUp offset)) l r = absurd (no_limit m c _ same free r.0)
+  step_memory j quit_at given_up_at q (search.Match (GaveUp offset)) l r = absurd (no_limit m c _ same free r.1)
   step_memory j quit_at given_up_at q search.OutOfMemory l r = refl
   step_memory j quit_at given_up_at q search.NotAPair l r = absurd r
 

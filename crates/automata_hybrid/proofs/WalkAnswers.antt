@@ -43,7 +43,7 @@ module _ (way : Direction) (m : Machine) (c : Stored) (input : Input)
   step_memory j quit_at given_up_at q (search.Match (QuitAt byte offset)) s l r =
       absurd (unquit byte (unit_reach way input j byte s few l r.0) r.1)
   step_memory j quit_at given_up_at q (search.Match (UnsupportedMode told)) s l r = absurd r
-  step_memory j quit_at given_up_at q (search.Match (GaveUp offset)) s l r = absurd (no_limit m c _ same free r.0)
+  step_memory j quit_at given_up_at q (search.Match (GaveUp offset)) s l r = absurd (no_limit m c _ same free r.1)
   step_memory j quit_at given_up_at q search.OutOfMemory s l r = refl
   step_memory j quit_at given_up_at q search.NotAPair s l r = absurd r
 

@@ -49,15 +49,19 @@ MeetsNoQuit way m input =
     (quit_behind m (tape_in way input).before ≡ None)
     × ((k byte : ℕ) → Reads way m input k → next (tape_in way input) k ≡ Some byte → is_quit m.quits byte ≡ false)
 
--- why a step from a state on a unit is refused: at a quit byte, or where the state that it leads to isn't there, doesn't
--- fit, and the clear rule refuses; each is told at an offset
+-- the unit is no quit byte
+abbrev pub IsNoQuit : Machine → Option ℕ → Type 0
+IsNoQuit m unit = (byte : ℕ) → unit ≡ Some byte → is_quit m.quits byte ≡ false
+
+-- why a step from a state on a unit is refused: at a quit byte for that alone, and at another unit where the state that it
+-- leads to isn't there, doesn't fit, and the clear rule refuses, or where memory is wanting; each is told at an offset
 abbrev pub IsStepRefusal : Machine → Stored → Powerset → Option ℕ → (quit_at given_up_at : ℕ) → SearchError → Type 0
 IsStepRefusal m c q unit quit_at given_up_at (search.Match (QuitAt byte offset)) =
     (unit ≡ Some byte) × (is_quit m.quits byte ≡ true) × (offset ≡ quit_at)
 IsStepRefusal m c q unit quit_at given_up_at (search.Match (GaveUp offset)) =
-    GivesUp c (successor m.nfa m.kind q unit) × (offset ≡ given_up_at)
+    IsNoQuit m unit × GivesUp c (successor m.nfa m.kind q unit) × (offset ≡ given_up_at)
 IsStepRefusal m c q unit quit_at given_up_at (search.Match (UnsupportedMode mode)) = ⊥
-IsStepRefusal m c q unit quit_at given_up_at search.OutOfMemory = Unit {0}
+IsStepRefusal m c q unit quit_at given_up_at search.OutOfMemory = IsNoQuit m unit
 IsStepRefusal m c q unit quit_at given_up_at search.NotAPair = ⊥
 
 -- the offset of the unit at a place of a pass, and the one in the span that the giving up there is told at
