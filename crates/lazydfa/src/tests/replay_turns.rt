@@ -71,6 +71,9 @@ const BEHIND: &[Row] = &[
     ("is 3230", [&["false"], &["true"]]),
 ];
 
+/// The replies to the walks that are begun, in turn.
+const BEGUN: [&str; 4] = ["walk 0", "walk 1", "walk 2", "walk 3"];
+
 /// What the replies so far have made.
 #[derive(Clone, Copy)]
 struct History {
@@ -89,13 +92,14 @@ impl History {
         }
     }
 
-    /// Whether a reply is a refusal. Else it is the one that is owed.
+    /// Whether a reply is a refusal, behind a beginning of what is owed; no bad request is refused. Else it is the one
+    /// that is owed.
     fn hear(&mut self, request: &Request<'_>, row: Row, reply: &str) -> Result<bool, Fail> {
         let own = row.1[self.current.min(1)];
         let owed = self.owed(request, own);
         let told = reply.strip_suffix("memory");
         let is_owed = match told {
-            Some(told) => owed.starts_with(told.trim_end()),
+            Some(told) => owed.starts_with(told.trim_end()) && !owed.starts_with("bad"),
             None => reply == owed,
         };
         if !is_owed {
@@ -110,9 +114,7 @@ impl History {
 
     fn owed(&self, request: &Request<'_>, own: &'static [&'static str]) -> &'static str {
         match request {
-            Request::BeginWalk { .. } => ["walk 0", "walk 1", "walk 2", "walk 3"][self
-                .begun
-                .min(3)],
+            Request::BeginWalk { .. } => BEGUN[self.begun.min(3)],
             Request::StepWalk(number) => self.owed_by_walk(*number),
             Request::Reset(_) => "ok",
             _ => own.first().copied().unwrap_or("a reply"),
@@ -328,8 +330,8 @@ fn regexes(alloc: Global, options: &str) -> Result<[Regex; 2], Fail> {
     Ok([dates, runs])
 }
 
-/// Replays around each request of the middle, which is refused in some turn as so many requests are at least. It counts
-/// those that are refused alone in some turn.
+/// Replays around each request of `NEEDS`, and counts those that are refused alone in some turn. Each is refused in
+/// some turn, and so are at least so many requests of its script.
 fn refuse_each(alloc: Global, options: &str, step: usize, least: usize) -> Result<usize, Fail> {
     let regexes = regexes(alloc, options)?;
     let mut turns = Turns::new(alloc)?;
