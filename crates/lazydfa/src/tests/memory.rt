@@ -251,6 +251,11 @@ impl Turns {
         self.blocks.clear();
     }
 
+    /// The next turn lends so many bytes.
+    pub fn lend_from(&mut self, lent: usize) {
+        self.lent = lent;
+    }
+
     /// The next turn lends more.
     pub fn lend_more(&mut self) {
         self.lent = self.lent.saturating_add(16);

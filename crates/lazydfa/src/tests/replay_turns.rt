@@ -1,0 +1,363 @@
+//! A long script whose growths are refused in turn. Each test is a process of its own, so it may use up all memory for
+//! good.
+
+use super::memory::{Turns, check};
+use super::regex_bench::Pair;
+use crate::catalogue::Entry;
+use crate::reply::Line;
+use crate::script::Script;
+use regex_automata::hybrid::regex::Regex;
+use regex_automata::replay::{Reply, Request, replay};
+use std::alloc::Global;
+use std::fmt::Write;
+use std::test::Fail;
+
+/// A request, and what it owes where regex 0 is current and where regex 1 is: a walk the replies to its steps before
+/// `none`, a step or a reset nothing of its own, and another request its reply.
+type Row = (&'static str, [&'static [&'static str]; 2]);
+
+/// Requests of every kind that need a few states. They end over caches of regex 0 which know the ways of `20`.
+#[rattlefmt::skip]
+const BEFORE: &[Row] = &[
+    ("walk fwd 323031382D31322D3234",
+        [&["half 0 10"],
+            &["half 1 1", "half 1 2", "half 1 3", "half 1 4", "half 1 6", "half 1 7", "half 1 9", "half 1 10"]]),
+    ("walk fwd 32302061", [&[], &["half 1 1", "half 1 2", "half 0 4"]]),
+    ("walk rev 3230", [&[], &["half 1 1", "half 1 0"]]),
+    ("fwd 3230", [&["none"], &["half 1 2"]]),
+    ("rev 3230", [&["none"], &["half 1 0"]]),
+    ("find 3230", [&["none"], &["match 1 0..2"]]),
+    ("is 3230", [&["false"], &["true"]]),
+    ("iter 3230", [&["iter"], &["iter 1 0..2"]]),
+    ("which 2 3230", [&["patterns"], &["patterns 1"]]),
+    ("step 1", [&[], &[]]),
+    ("step 2", [&[], &[]]),
+    ("reset 1", [&[], &[]]),
+    ("fwd 3230", [&["none"], &["half 1 2"]]),
+    ("iter 6131", [&["iter"], &["iter 1 1..2"]]),
+    ("step 1", [&[], &[]]),
+    ("walk fwd 6131", [&[], &["half 0 1", "half 1 2"]]),
+    ("step 3", [&[], &[]]),
+    ("reset 0", [&[], &[]]),
+    ("fwd 3230", [&["none"], &["half 1 2"]]),
+    ("rev 3230", [&["none"], &["half 1 0"]]),
+];
+
+/// Requests of which each needs most memory where it stands in the middle.
+#[rattlefmt::skip]
+const NEEDS: &[Row] = &[
+    ("fwd 323031382D31322D3234", [&["half 0 10"], &["half 1 10"]]),
+    ("rev 323031382D31322D3234", [&["half 0 0"], &["half 1 0"]]),
+    ("find 323031382D31322D3234", [&["match 0 0..10"], &["match 1 8..10"]]),
+    ("is 323031382D31322D3234", [&["true"], &["true"]]),
+    ("iter 323031382D31322D3234", [&["iter 0 0..10"], &["iter 1 8..10"]]),
+    ("which 2 323031382D31322D3234", [&["patterns 0"], &["patterns 1"]]),
+    ("step 0", [&[], &[]]),
+];
+
+/// Requests that need no more than those in front.
+#[rattlefmt::skip]
+const BEHIND: &[Row] = &[
+    ("fwd 3230", [&["none"], &["half 1 2"]]),
+    ("find 3230", [&["none"], &["match 1 0..2"]]),
+    ("iter 3230", [&["iter"], &["iter 1 0..2"]]),
+    ("which 2 3230", [&["patterns"], &["patterns 1"]]),
+    ("step 2", [&[], &[]]),
+    ("reset 1", [&[], &[]]),
+    ("iter 6131", [&["iter"], &["iter 1 1..2"]]),
+    ("rev 6131", [&["none"], &["half 0 0"]]),
+    ("step 3", [&[], &[]]),
+    ("reset 0", [&[], &[]]),
+    ("is 3230", [&["false"], &["true"]]),
+];
+
+/// The replies to the walks that are begun, in turn.
+const BEGUN: [&str; 4] = ["walk 0", "walk 1", "walk 2", "walk 3"];
+
+/// What the replies so far have made.
+#[derive(Clone, Copy)]
+struct History {
+    current: usize,
+    begun: usize,
+    /// The regex of each walk, and the replies that its steps still owe.
+    walks: [(usize, &'static [&'static str]); 4],
+}
+
+impl History {
+    fn new() -> History {
+        History {
+            current: 0,
+            begun: 0,
+            walks: [(0, &[]); 4],
+        }
+    }
+
+    /// Whether a reply is a refusal, behind a beginning of what is owed; no bad request is refused. Else it is the one
+    /// that is owed.
+    fn hear(&mut self, request: &Request<'_>, row: Row, reply: &str) -> Result<bool, Fail> {
+        let own = row.1[self.current.min(1)];
+        let owed = self.owed(request, own);
+        let told = reply.strip_suffix("memory");
+        let is_owed = match told {
+            Some(told) => owed.starts_with(told.trim_end()) && !owed.starts_with("bad"),
+            None => reply == owed,
+        };
+        if !is_owed {
+            return Err(Fail::new(format_args!("{}: {reply} in place of {owed}", row.0)));
+        }
+        if told.is_some() {
+            return Ok(true);
+        }
+        self.go_on(request, own);
+        Ok(false)
+    }
+
+    fn owed(&self, request: &Request<'_>, own: &'static [&'static str]) -> &'static str {
+        match request {
+            Request::BeginWalk { .. } => BEGUN[self.begun.min(3)],
+            Request::StepWalk(number) => self.owed_by_walk(*number),
+            Request::Reset(_) => "ok",
+            _ => own.first().copied().unwrap_or("a reply"),
+        }
+    }
+
+    fn owed_by_walk(&self, number: usize) -> &'static str {
+        if number >= self.begun {
+            return "bad walk";
+        }
+        let (regex, left) = self.walks[number.min(3)];
+        if regex != self.current {
+            return "bad other";
+        }
+        left.first().copied().unwrap_or("none")
+    }
+
+    /// After a reply that is no refusal.
+    fn go_on(&mut self, request: &Request<'_>, own: &'static [&'static str]) {
+        match request {
+            Request::BeginWalk { .. } => {
+                self.walks[self.begun.min(3)] = (self.current, own);
+                self.begun = self.begun.saturating_add(1);
+            }
+            Request::StepWalk(number) => self.go_on_with_walk(*number),
+            Request::Reset(number) => self.current = *number,
+            _ => {}
+        }
+    }
+
+    fn go_on_with_walk(&mut self, number: usize) {
+        if number >= self.begun {
+            return;
+        }
+        let (regex, left) = self.walks[number.min(3)];
+        if regex != self.current {
+            return;
+        }
+        if let Some((_, rest)) = left.split_first() {
+            self.walks[number.min(3)] = (regex, rest);
+        }
+    }
+}
+
+/// What was refused in a turn.
+#[derive(Clone, Copy, PartialEq, Eq)]
+enum Refused {
+    /// The list of the replies.
+    Script,
+    /// The request in the middle alone.
+    Middle,
+    Others,
+    Nothing,
+}
+
+impl Refused {
+    /// A request was refused as well.
+    fn and(self, at: usize) -> Refused {
+        if self == Refused::Nothing && at == BEFORE.len() {
+            Refused::Middle
+        } else {
+            Refused::Others
+        }
+    }
+}
+
+/// The rows of a script with this one in its middle.
+fn rows_around(alloc: Global, middle: Row) -> Result<Vec<Row>, Fail> {
+    let mut rows = Vec::with_capacity(alloc, 32)?;
+    rows.extend_from_slice(BEFORE)?;
+    rows.push(middle)?;
+    rows.extend_from_slice(BEHIND)?;
+    Ok(rows)
+}
+
+fn script_of(alloc: Global, rows: &[Row]) -> Result<Script, Fail> {
+    let mut text = String::new(alloc);
+    write_all(rows, &mut text)?;
+    Ok(Script::parse(alloc, text.as_bytes())?)
+}
+
+fn write_all(rows: &[Row], text: &mut String) -> Result<(), Fail> {
+    for (line, _) in rows {
+        writeln!(text, "{line}")?;
+    }
+    Ok(())
+}
+
+/// Whether each reply is the one that is owed after those before, or want of memory. It marks the refused requests.
+fn compare(
+    alloc: Global,
+    requests: &[Request<'_>],
+    rows: &[Row],
+    replies: &[Reply],
+    marks: &mut [bool; 32],
+) -> Result<Refused, Fail> {
+    check(replies.len() == requests.len() && requests.len() == rows.len())?;
+    let mut text = String::with_capacity(alloc, 1 << 10)?;
+    let mut history = History::new();
+    let mut refused = Refused::Nothing;
+    for at in 0..rows.len().min(32) {
+        let (Some(request), Some(reply)) = (requests.get(at), replies.get(at)) else {
+            return Err(Fail::from("a reply"));
+        };
+        if is_refusal(&mut history, request, rows[at], reply, &mut text)? {
+            marks[at] = true;
+            refused = refused.and(at);
+        }
+    }
+    Ok(refused)
+}
+
+fn is_refusal(
+    history: &mut History,
+    request: &Request<'_>,
+    row: Row,
+    reply: &Reply,
+    text: &mut String,
+) -> Result<bool, Fail> {
+    text.clear();
+    write!(text, "{}", Line(reply))?;
+    history.hear(request, row, text.as_str())
+}
+
+/// One turn.
+fn replay_short(
+    alloc: Global,
+    regexes: &[Regex],
+    requests: &[Request<'_>],
+    rows: &[Row],
+    turns: &mut Turns,
+    marks: &mut [bool; 32],
+) -> Result<Refused, Fail> {
+    turns.lend(alloc)?;
+    let replies = replay(alloc, regexes, requests);
+    turns.release();
+    match replies {
+        Ok(replies) => compare(alloc, requests, rows, replies.as_slice(), marks),
+        Err(_) => Ok(Refused::Script),
+    }
+}
+
+/// What was refused in the turns of a script: by the kinds of turns, and by its requests.
+#[derive(Clone, Copy)]
+struct Seen {
+    turns: [bool; 4],
+    requests: [bool; 32],
+}
+
+impl Seen {
+    /// Whether the list of the replies was refused, the request in the middle, and at least so many requests.
+    fn has_refused(&self, least: usize) -> bool {
+        let mut count = 0usize;
+        for is_refused in &self.requests {
+            if *is_refused {
+                count = count.saturating_add(1);
+            }
+        }
+        let middle = self.requests.get(BEFORE.len()).copied().unwrap_or(false);
+        self.turns[Refused::Script as usize] && middle && count >= least
+    }
+}
+
+/// Replays turn by turn, each with so many bytes more, until nothing is refused.
+fn refuse_in_turn(
+    alloc: Global,
+    regexes: &[Regex],
+    requests: &[Request<'_>],
+    rows: &[Row],
+    turns: &mut Turns,
+    step: usize,
+) -> Result<Seen, Fail> {
+    let mut seen = Seen {
+        turns: [false; 4],
+        requests: [false; 32],
+    };
+    for turn in 1..4096usize {
+        turns.lend_from(step.saturating_mul(turn));
+        let refused = replay_short(alloc, regexes, requests, rows, turns, &mut seen.requests)?;
+        seen.turns[refused as usize] = true;
+        if refused == Refused::Nothing {
+            return Ok(seen);
+        }
+    }
+    Err(Fail::from("each turn was refused"))
+}
+
+/// The same, with this request in the middle.
+fn refuse_around(
+    alloc: Global,
+    regexes: &[Regex],
+    middle: Row,
+    turns: &mut Turns,
+    step: usize,
+) -> Result<Seen, Fail> {
+    turns.release();
+    let rows = rows_around(alloc, middle)?;
+    let script = script_of(alloc, rows.as_slice())?;
+    let requests = script.requests(alloc)?;
+    refuse_in_turn(
+        alloc,
+        regexes,
+        requests.as_slice(),
+        rows.as_slice(),
+        turns,
+        step,
+    )
+}
+
+fn regexes(alloc: Global, options: &str) -> Result<[Regex; 2], Fail> {
+    let dates = Pair::Of(Entry::Date).build(alloc, options)??;
+    let runs = Pair::Of(Entry::Runs).build(alloc, options)??;
+    Ok([dates, runs])
+}
+
+/// Replays around each request of `NEEDS`, and counts those that are refused alone in some turn. Each is refused in
+/// some turn, and so are at least so many requests of its script.
+fn refuse_each(alloc: Global, options: &str, step: usize, least: usize) -> Result<usize, Fail> {
+    let regexes = regexes(alloc, options)?;
+    let mut turns = Turns::new(alloc)?;
+    let mut alone = 0usize;
+    for middle in NEEDS.iter().copied() {
+        let seen = refuse_around(alloc, &regexes, middle, &mut turns, step)?;
+        if !seen.has_refused(least) {
+            return Err(Fail::new(format_args!("around {}", middle.0)));
+        }
+        if seen.turns[Refused::Middle as usize] {
+            alone = alone.saturating_add(1);
+        }
+    }
+    Ok(alone)
+}
+
+/// Rows are large, so in some turns a table's growth is refused alone, and all replies behind it are as owed.
+#[test]
+fn replays_around_a_refused_request(rt: HostRuntime) -> Result<(), Fail> {
+    let alone = refuse_each(rt.alloc(), "all noclasses", 512, 24)?;
+    check(alone >= 6)
+}
+
+/// Rows are small, and what is lent rises by sixteen bytes a turn.
+#[test]
+fn replays_after_each_refused_growth(rt: HostRuntime) -> Result<(), Fail> {
+    let _alone = refuse_each(rt.alloc(), "all", 16, 8)?;
+    Ok(())
+}
