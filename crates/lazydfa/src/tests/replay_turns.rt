@@ -357,7 +357,7 @@ fn replays_around_a_refused_request(rt: HostRuntime) -> Result<(), Fail> {
 
 /// Rows are small, and what is lent rises by sixteen bytes a turn.
 #[test]
-fn replays_after_each_refused_growth(rt: HostRuntime) -> Result<(), Fail> {
+fn replays_in_ever_more_memory(rt: HostRuntime) -> Result<(), Fail> {
     let _alone = refuse_each(rt.alloc(), "all", 16, 8)?;
     Ok(())
 }
