@@ -351,13 +351,13 @@ fn refuse_each(alloc: Global, options: &str, step: usize, least: usize) -> Resul
 /// Rows are large, so in some turns a table's growth is refused alone, and all replies behind it are as owed.
 #[test]
 fn replays_around_a_refused_request(rt: HostRuntime) -> Result<(), Fail> {
-    let alone = refuse_each(rt.alloc(), "all noclasses", 512, 24)?;
-    check(alone >= 6)
+    let alone = refuse_each(rt.alloc(), "all noclasses", 512, 16)?;
+    check(alone >= 3)
 }
 
 /// Rows are small, and what is lent rises by sixteen bytes a turn.
 #[test]
 fn replays_in_ever_more_memory(rt: HostRuntime) -> Result<(), Fail> {
-    let _alone = refuse_each(rt.alloc(), "all", 16, 8)?;
+    let _alone = refuse_each(rt.alloc(), "all", 16, 4)?;
     Ok(())
 }
