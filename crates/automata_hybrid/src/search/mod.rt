@@ -17,7 +17,9 @@ ghost use Rattle.automata_hybrid.specs.Table.{IsValid, Leads, Names};
 mod forward;
 mod overlapping;
 mod reverse;
+mod units;
 pub mod walk;
+mod which;
 
 use crate::dfa::DFA;
 use crate::dfa::cache::Cache;

@@ -2,7 +2,7 @@ use Rattle.std.proofs.Common.{ℕ, ◌≡◌, ◌∙◌, ◌-◌, List, length, 
 use Rattle.automata_base.specs.Tapes.{byte_before}
 use Rattle.automata_hybrid.proofs.Units.{nth_past, nth_read}
 use Rattle.automata_hybrid.proofs.WalkUnits.{backward_within, before_read, unit_backward, unit_forward}
-use Rattle.automata_hybrid.proofs.search.overlapping.unit_at.Goals as goal
+use Rattle.automata_hybrid.proofs.search.units.unit_at.Goals as goal
 
 pub returns-then-at-eq0 : goal.returns-then-at-eq0
 returns-then-at-eq0 c =

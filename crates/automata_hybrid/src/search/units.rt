@@ -1,0 +1,324 @@
+//! The units of a walk, in either direction, and going on over them to the next state that tells patterns.
+ghost use Rattle.std.specs.Prelude.{ℕ, ◌≡◌, ◌+◌, ◌-◌, ◌<◌, ◌≤◌, ◌⊎◌, IfOk, IfErr, OnOk, None, Some, Err, [], true, false, suc, length};
+ghost use Rattle.automata_base.specs.Answers.{offset_in};
+ghost use Rattle.automata_base.specs.Classes.{class_in, is_quit};
+ghost use Rattle.automata_base.specs.Paths.{next};
+ghost use Rattle.automata_base.specs.Powerset.{Powerset};
+ghost use Rattle.automata_base.specs.Steps.{successor};
+ghost use Rattle.automata_base.specs.Tapes.{is_split};
+ghost use Rattle.automata_hybrid.specs.Bounds.{IsKnownTransition};
+ghost use Rattle.automata_hybrid.specs.Caches.{IsCacheOf, counted};
+ghost use Rattle.automata_hybrid.specs.Growing.{ClearedNothing, IsGrown};
+ghost use Rattle.automata_hybrid.specs.Knowing.{IsOfInput, KnowsItsStart, KnowsUnit};
+ghost use Rattle.automata_hybrid.specs.KnowingWalks.{HasLearnedUnits, KnowsUnits};
+ghost use Rattle.automata_hybrid.specs.Passing.{HasLearnedUnit, IsFollowed};
+ghost use Rattle.automata_hybrid.specs.Searches.{HasReadNoQuit, IsStepRefusal, Skips, behind_offset, given_up_offset, state_in, tape_in, unit_offset};
+ghost use Rattle.automata_hybrid.specs.Slots.{supports};
+ghost use Rattle.automata_hybrid.specs.Starting.{IsStartRefusalAt, MayStart, quit_behind};
+ghost use Rattle.automata_base.specs.declared.util.search.MatchErrorKind.TheVariants.{UnsupportedAnchored as UnsupportedMode};
+ghost use Rattle.automata_hybrid.specs.Table.{IsValid, Leads, Names};
+ghost use Rattle.automata_hybrid.specs.Walking.{HasToldBy, IsAdvanceRefusal, IsArrival, IsUnitRefusal, WalkReads};
+ghost use Rattle.automata_hybrid.specs.Walks.{way_of};
+
+use crate::dfa::DFA;
+use crate::dfa::cache::Cache;
+use crate::id::LazyStateID;
+use crate::search::walk::Way;
+use crate::search::{Stop, quit};
+use automata_base::util::search::Input;
+use automata_config::error::SearchError;
+
+/// The last place of a walk.
+pub(crate) fn last_place(input: &Input<'_>) -> usize
+    requires { input.now.start ≤ input.now.end }
+    ensures { result ≡ input.now.end - input.now.start }
+{
+    input.end() - input.start()
+}
+
+/// The offset of a place of a walk.
+pub(crate) fn place_offset(input: &Input<'_>, way: Way, place: usize) -> usize
+    requires open { input.now.start ≤ input.now.end }
+    requires within { place ≤ input.now.end - input.now.start }
+    ensures { result ≡ offset_in (way_of way) input.now place }
+{
+    let _haystack = input.haystack();
+    match way {
+        Way::Forward => input.start() + place,
+        Way::Backward => input.end() - place,
+    }
+}
+
+/// The unit at a place of a walk: a byte, or none behind the haystack.
+fn unit_at(input: &Input<'_>, way: Way, place: usize) -> Option<u8>
+    requires open { input.now.start ≤ input.now.end }
+    requires within { place ≤ input.now.end - input.now.start }
+    ensures { result ≡ next (tape_in (way_of way) input.now) place }
+{
+    let haystack = input.haystack();
+    let at = place_offset(input, way, place);
+    match way {
+        Way::Forward => {
+            if at < haystack.len() {
+                Some(haystack[at])
+            } else {
+                None
+            }
+        }
+        Way::Backward => {
+            if at == 0 {
+                None
+            } else {
+                Some(haystack[at - 1])
+            }
+        }
+    }
+}
+
+/// The offset of the unit at a place of a walk.
+fn unit_offset(input: &Input<'_>, way: Way, place: usize) -> usize
+    requires open { input.now.start ≤ input.now.end }
+    requires within { place ≤ input.now.end - input.now.start }
+    ensures { result ≡ unit_offset (way_of way) input.now place }
+{
+    let at = place_offset(input, way, place);
+    match way {
+        Way::Forward => at,
+        Way::Backward => at.saturating_sub(1),
+    }
+}
+
+/// The same, or where that is before the span, the span's start.
+pub(crate) fn span_offset(input: &Input<'_>, way: Way, place: usize) -> usize
+    requires open { input.now.start ≤ input.now.end }
+    requires within { place ≤ input.now.end - input.now.start }
+    ensures { result ≡ given_up_offset (way_of way) input.now place }
+{
+    let at = place_offset(input, way, place);
+    match way {
+        Way::Forward => at,
+        Way::Backward => at.saturating_sub(1).max(input.start()),
+    }
+}
+
+/// Where a walk has come to: a state that tells patterns, or none at its end; and the units that it has read.
+#[derive(Clone, Copy)]
+pub(crate) struct Arrival {
+    pub(crate) id: Option<LazyStateID>,
+    pub(crate) units: usize,
+}
+
+impl DFA {
+    /// Split places are skipped, or they aren't.
+    pub(crate) fn see_skips(&self)
+        ensures { Skips self.now ⊎ (Skips self.now → ⊥) }
+    {
+        let nfa = self.get_nfa();
+        let _utf8 = nfa.is_utf8();
+        let _empty = nfa.has_empty();
+    }
+
+    /// The start state of a walk.
+    pub(crate) fn walk_start(
+        &self,
+        cache: &mut Cache,
+        input: &Input<'_>,
+        way: Way,
+    ) -> Result<LazyStateID, SearchError>
+        requires { IsCacheOf cache.old self.now }
+        ensures of { IsCacheOf cache.new self.now }
+        ensures leads { IfOk result (λ id. Leads cache.new.store.table id (state_in (way_of way) self.now input.now 0)) }
+        ensures may { OnOk result (MayStart self.now input.now.anchored (tape_in (way_of way) input.now).before) }
+        ensures errors { IfErr result (IsStartRefusalAt self.now cache.new.store input.now.anchored (tape_in (way_of way) input.now).before (behind_offset (way_of way) input.now) (offset_in (way_of way) input.now 0)) }
+        ensures counted { cache.new.count ≤ cache.old.count + 1 }
+        ensures grown { IsGrown cache.old cache.new }
+        ensures unsupported { quit_behind self.now (tape_in (way_of way) input.now).before ≡ None → supports self.now input.now.anchored ≡ false → result ≡ Err (SearchError.Match (UnsupportedMode input.now.anchored)) }
+        ensures idle { (MayStart self.now input.now.anchored (tape_in (way_of way) input.now).before → KnowsItsStart (way_of way) self.now cache.old.store input.now) → (cache.new ≡ cache.old) × IfErr result IsOfInput }
+        ensures learned { OnOk result (KnowsItsStart (way_of way) self.now cache.new.store input.now) }
+    {
+        cache.see_slots();
+        match way {
+            Way::Forward => self.start_state_forward(cache, input),
+            Way::Backward => self.start_state_reverse(cache, input),
+        }
+    }
+
+    /// The state after a byte. A quit byte and a refusal are each told at an offset.
+    fn read_byte(
+        &self,
+        cache: &mut Cache,
+        id: LazyStateID,
+        byte: u8,
+        quit_at: usize,
+        at: usize,
+    ) -> Result<LazyStateID, SearchError>
+        requires of { IsCacheOf cache.old self.now }
+        requires valid { IsValid cache.old.store.table id }
+        ensures of { IsCacheOf cache.new self.now }
+        ensures counted { cache.new.count ≤ cache.old.count + 1 }
+        ensures named { IfOk result (λ n. (q : Powerset) → Names cache.old.store.table id q → Leads cache.new.store.table n (successor self.now.nfa self.now.kind q (Some byte))) }
+        ensures clean { OnOk result (is_quit self.now.quits byte ≡ false) }
+        ensures errors { IfErr result (λ e. (q : Powerset) → Names cache.old.store.table id q → IsStepRefusal self.now cache.new.store q (Some byte) quit_at at e) }
+        ensures grown { IsGrown cache.old cache.new }
+        ensures idle { IsKnownTransition cache.old.store id (class_in self.now.classes byte) → (cache.new.count ≡ cache.old.count) × IfErr result IsOfInput }
+        ensures learned { ClearedNothing cache.old.store cache.new.store → OnOk result (IsKnownTransition cache.new.store id (class_in self.now.classes byte)) }
+        ensures below { class_in self.now.classes byte < self.now.stride }
+    {
+        self.see_classes();
+        let next = self.step(cache, id, byte, at)?;
+        cache.see_ids();
+        if next.is_quit() {
+            cache.end_search(at);
+            return Err(quit(byte, quit_at));
+        }
+        Ok(next)
+    }
+
+    /// The state after the unit at a place of a walk, to which the search moves.
+    fn read_unit(
+        &self,
+        cache: &mut Cache,
+        input: &Input<'_>,
+        way: Way,
+        id: LazyStateID,
+        place: usize,
+    ) -> Result<LazyStateID, SearchError>
+        requires of { IsCacheOf cache.old self.now }
+        requires open { input.now.start ≤ input.now.end }
+        requires within { place ≤ input.now.end - input.now.start }
+        requires named { Names cache.old.store.table id (state_in (way_of way) self.now input.now place) }
+        ensures of { IsCacheOf cache.new self.now }
+        ensures counted { cache.new.count ≤ cache.old.count + 1 }
+        ensures leads { IfOk result (λ n. Leads cache.new.store.table n (state_in (way_of way) self.now input.now (suc place))) }
+        ensures clean { OnOk result ((byte : ℕ) → next (tape_in (way_of way) input.now) place ≡ Some byte → is_quit self.now.quits byte ≡ false) }
+        ensures reads { WalkReads (way_of way) self.now input.now place }
+        ensures errors { IfErr result (IsUnitRefusal (way_of way) self.now cache.new.store input.now place) }
+        ensures grown { IsGrown cache.old cache.new }
+        ensures idle { KnowsUnit (way_of way) self.now cache.old.store input.now place → (cache.new.count ≡ cache.old.count) × IfErr result IsOfInput }
+        ensures learned { ClearedNothing cache.old.store cache.new.store → OnOk result (HasLearnedUnit (way_of way) self.now cache.new.store input.now place) }
+    {
+        let _haystack = input.haystack();
+        let at = span_offset(input, way, place);
+        let quit_at = unit_offset(input, way, place);
+        cache.see_ids();
+        cache.move_search(at);
+        match unit_at(input, way, place) {
+            Some(byte) => self.read_byte(cache, id, byte, quit_at, at),
+            None => self.read_end(cache, id, at),
+        }
+    }
+
+    /// Whether a state tells patterns at a place of a walk that isn't skipped.
+    fn tells(
+        &self,
+        cache: &Cache,
+        input: &Input<'_>,
+        way: Way,
+        id: LazyStateID,
+        place: usize,
+    ) -> bool
+        requires of { IsCacheOf cache.now self.now }
+        requires open { input.now.start ≤ input.now.end }
+        requires within { place ≤ input.now.end - input.now.start }
+        requires valid { IsValid cache.now.store.table id }
+        ensures yes { result ≡ true → (Skips self.now → is_split input.now.haystack (offset_in (way_of way) input.now place) ≡ false) × ((q : Powerset) → Names cache.now.store.table id q → 0 < length q.patterns) }
+        ensures no { result ≡ false → (Skips self.now × (is_split input.now.haystack (offset_in (way_of way) input.now place) ≡ true)) ⊎ ((q : Powerset) → Names cache.now.store.table id q → q.patterns ≡ []) }
+    {
+        cache.see_ids();
+        if !id.is_match() {
+            return false;
+        }
+        !self.skips_at(input, place_offset(input, way, place))
+    }
+
+    /// Follows known transitions without a tag, over units of a walk.
+    fn follow(
+        &self,
+        cache: &Cache,
+        input: &Input<'_>,
+        way: Way,
+        from: LazyStateID,
+        units: usize,
+    ) -> Stop
+        requires of { IsCacheOf cache.now self.now }
+        requires open { input.now.start ≤ input.now.end }
+        requires within { units ≤ input.now.end - input.now.start }
+        requires named { Names cache.now.store.table from (state_in (way_of way) self.now input.now units) }
+        ensures within { result.at ≤ input.now.end - input.now.start }
+        ensures followed { IsFollowed (way_of way) self.now cache.now.store input.now units result.at result.id }
+    {
+        let start = place_offset(input, way, units);
+        match way {
+            Way::Forward => {
+                let stop = self.follow_fwd(cache, input, start, from);
+                Stop {
+                    at: stop.at - input.start(),
+                    id: stop.id,
+                }
+            }
+            Way::Backward => {
+                let stop = self.follow_rev(cache, input, start, from);
+                Stop {
+                    at: input.end() - stop.at,
+                    id: stop.id,
+                }
+            }
+        }
+    }
+
+    /// Goes on over the units of a walk from a state that it stands at, to the next one that tells patterns.
+    pub(crate) fn advance(
+        &self,
+        cache: &mut Cache,
+        input: &Input<'_>,
+        way: Way,
+        from: LazyStateID,
+        units: usize,
+    ) -> Result<Arrival, SearchError>
+        requires of { IsCacheOf cache.old self.now }
+        requires open { input.now.start ≤ input.now.end }
+        requires within { units ≤ input.now.end - input.now.start }
+        requires named { Names cache.old.store.table from (state_in (way_of way) self.now input.now units) }
+        requires clean { HasReadNoQuit (way_of way) self.now input.now units }
+        ensures of { IsCacheOf cache.new self.now }
+        ensures grown { IsGrown cache.old cache.new }
+        ensures counted { IfOk result (λ a. cache.new.count + units ≤ cache.old.count + a.units) }
+        ensures most { cache.new.count + units ≤ cache.old.count + (input.now.end - input.now.start + 1) }
+        ensures arrives { IfOk result (λ a. IsArrival (way_of way) self.now cache.new.store.table input.now units a.id a.units) }
+        ensures errors { IfErr result (IsAdvanceRefusal (way_of way) self.now cache.new.store input.now units) }
+        ensures idle { (k : ℕ) → HasToldBy (way_of way) self.now input.now units k → KnowsUnits (way_of way) self.now cache.old.store input.now units k → (cache.new.count ≡ cache.old.count) × IfErr result IsOfInput }
+        ensures learned { ClearedNothing cache.old.store cache.new.store → IfOk result (λ a. HasLearnedUnits (way_of way) self.now cache.new.store input.now units a.units) }
+    {
+        let _haystack = input.haystack();
+        let last = last_place(input);
+        let mut id = from;
+        let mut read = units;
+        while read <= last {
+            let stop = self.follow(cache, input, way, id, read);
+            let next = self.read_unit(cache, input, way, stop.id, stop.at)?;
+            let at = span_offset(input, way, stop.at);
+            cache.see_ids();
+            if next.is_dead() {
+                cache.end_search(at);
+                return Ok(Arrival {
+                    id: None,
+                    units: stop.at + 1,
+                });
+            }
+            if self.tells(cache, input, way, next, stop.at) {
+                cache.end_search(at);
+                return Ok(Arrival {
+                    id: Some(next),
+                    units: stop.at + 1,
+                });
+            }
+            id = next;
+            read = stop.at + 1;
+        }
+        cache.end_search(span_offset(input, way, last));
+        Ok(Arrival {
+            id: None,
+            units: read,
+        })
+    }
+}
