@@ -26,7 +26,7 @@ use Rattle.automata_hybrid.specs.Which.{IsWhichRefusal}
 use Rattle.regex_automata.specs.Iterating.{AreCollected, IsBeginning, IsNextRefusal}
 use Rattle.regex_automata.specs.Matching.{IsMatchRefused, IsMatchTold}
 use Rattle.regex_automata.specs.Outcomes.{FindsMatch, LiesIn}
-use Rattle.regex_automata.specs.RegexRefusals.{IsRegexRefusal}
+use Rattle.regex_automata.specs.RegexRefusals.{IsFree, IsOfMemory, IsRegexRefusal}
 use Rattle.regex_automata.specs.SoundPairs.{AreLookAcyclic, IsSoundPair, forward_engine, reverse_engine}
 use Rattle.regex_automata.specs.declared.hybrid.regex.Regex.{Regex}
 use Rattle.regex_automata.specs.declared.hybrid.regex.caches.Cache.{Cache}
@@ -129,6 +129,9 @@ pub record IsSpanOf (p : Regex) (input : Input) (result : Result (Option Match) 
   pub errors : IfErr result (MayRefuseSpan p input)
   -- a mode that isn't supported is told
   pub unsupported : IsUnsupported Forward p.forward input → result ≡ Err (unsupported_error input)
+  -- where nothing stands in the way of either DFA, memory is wanting, or the two are no pair; of a sound pair only the first
+  pub free : IsFree p input → IfErr result IsOfMemory
+  pub free_sound : IsSoundPair p → IsFree p input → IfErr result IsMemory
 
 -- some cache of the forward DFA refuses the search for whether there is a match
 abbrev pub MayRefuseTruth : Machine → Input → SearchError → Type 0

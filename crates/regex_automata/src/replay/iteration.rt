@@ -7,7 +7,6 @@ ghost use Rattle.regex_automata.specs.Owing.{AreMatchesUpto, IsMemory, IsRefused
 ghost use Rattle.regex_automata.specs.RegexCaches.{AreCachesOf};
 
 use crate::hybrid::regex::{Cache, Regex};
-use crate::replay::searches::see_both;
 use automata_base::laws::{start_is_right, told_is_right};
 use automata_base::util::search::{Input, Match};
 use automata_config::error::SearchError;
@@ -29,7 +28,7 @@ pub fn matches_upto(
     start_is_right();
     let _haystack = input.haystack();
     let all = take_matches(alloc, regex, cache, input);
-    see_both(cache);
+    cache.see_bounds();
     all
 }
 

@@ -30,7 +30,7 @@ returns-clause-owed c =
     (λ start o f. match_right p front rear c.start_is_right.ensures.starts sound (from start input) (c.haystack-haystack.ensures.bytes, within) o f)
     ms error s.found in
     let first = collected_first p input within ms error s.found in
-    let of = are_stores cache p (s.forward, s.reverse) c.see_both.ensures.forward c.see_both.ensures.reverse in
+    let of = are_stores cache p (s.forward, s.reverse) c.see_bounds.ensures.forward c.see_bounds.ensures.reverse in
     record {
       found = s.found;
       answers = λ acyclic. collected_right (FindsMatch p) (TryFinds (forward_engine p) (reverse_engine p)) input
