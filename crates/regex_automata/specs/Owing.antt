@@ -129,7 +129,8 @@ pub record IsSpanOf (p : Regex) (input : Input) (result : Result (Option Match) 
   pub errors : IfErr result (MayRefuseSpan p input)
   -- a mode that isn't supported is told
   pub unsupported : IsUnsupported Forward p.forward input → result ≡ Err (unsupported_error input)
-  -- where nothing stands in the way of either DFA, memory is wanting, or the two are no pair; of a sound pair only the first
+  -- where nothing stands in the way of either DFA, only want of memory is a refusal, or that the two are no pair; and of
+  -- a sound pair the first alone
   pub free : IsFree p input → IfErr result IsOfMemory
   pub free_sound : IsSoundPair p → IsFree p input → IfErr result IsMemory
 
