@@ -4,13 +4,16 @@ use Rattle.std.specs.Prelude.{Result, Ok, Err, IfErr, IfSome, IsOk}
 use Rattle.automata_base.specs.Input.{Input}
 use Rattle.automata_base.specs.Matches.{Match}
 use Rattle.automata_base.specs.Spans.{from}
+use Rattle.automata_base.specs.Tapes.{Forward}
 use Rattle.automata_config.specs.declared.error.SearchError.{SearchError}
 use Rattle.regex_automata.specs.Iterating.{GivesItem, GoesOn, IsNextMatch, IsNextRefusal, KnowsNext, LearnsItem, most_left}
+use Rattle.regex_automata.specs.Owing.{IsUnsupported, TellsUnsupported, unsupported_error}
 use Rattle.regex_automata.specs.RegexCaches.{AreStill, NothingCleared}
 use Rattle.regex_automata.specs.RegexRefusals.{IsOfGiven}
 use Rattle.regex_automata.specs.declared.hybrid.regex.Regex.{Regex}
 use Rattle.regex_automata.specs.declared.hybrid.regex.caches.Cache.{Cache}
 use Rattle.regex_automata.proofs.Backing.{false_true}
+use Rattle.regex_automata.proofs.Results.{ok_err, same_err}
 
 -- a match is given
 pub gives_match :
@@ -48,6 +51,32 @@ learns_next p old new asked input last false item still same known learned =
       known = λ knows. known (subst (λ (i : Input). KnowsNext p old i last) (sym same) knows);
       learned = λ nothing good. subst (λ (i : Input). KnowsNext p new i last) same (learned nothing good);
     }
+
+-- an item that is no error tells that the mode is supported, and an error which one isn't
+pub tells_found :
+    (p : Regex) (asked input : Input) (ended : Bool) (o : Option Match) (item : Option (Result Match SearchError))
+    → asked ≡ input
+    → (IsUnsupported Forward p.forward asked
+    → ◌≡◌ {A = Result (Option Match) SearchError} (Ok o) (Err (unsupported_error asked)))
+    → TellsUnsupported p input ended item
+tells_found p asked input ended o item same tells =
+    λ on u. absurd (ok_err (tells (subst (λ (i : Input). IsUnsupported Forward p.forward i) (sym same) u)))
+
+pub tells_error :
+    (p : Regex) (asked input : Input) (ended : Bool) (e : SearchError)
+    → asked ≡ input
+    → (IsUnsupported Forward p.forward asked
+    → ◌≡◌ {A = Result (Option Match) SearchError} (Err e) (Err (unsupported_error asked)))
+    → TellsUnsupported p input ended (Some (Err e))
+tells_error p asked input ended e same tells = λ on u. told (same_err (for_input u)) where
+  for_input : IsUnsupported Forward p.forward input → ◌≡◌ {A = Result (Option Match) SearchError} (Err e) (Err (unsupported_error input))
+  for_input =
+      subst
+      (λ (i : Input). IsUnsupported Forward p.forward i → ◌≡◌ {A = Result (Option Match) SearchError} (Err e) (Err (unsupported_error i)))
+      same tells
+
+  told : {v : SearchError} → e ≡ v → ◌≡◌ {A = Option (Result Match SearchError)} (Some (Err e)) (Some (Err v))
+  told is = cc
 
 -- fewer items may come behind a match
 most_behind : (input input' : Input) (end : ℕ) → input' ≡ from end input → most_left false input' (Some end) ≡ input.end + 1 - end

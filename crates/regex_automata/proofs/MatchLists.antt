@@ -1,15 +1,19 @@
 -- The matches that a replay lists, and why the next one is refused.
-use Rattle.std.proofs.Common.{◌≡◌, ◌∙◌, ◌⊎◌, ℕ, Bool, true, false, List, [], ◌∷◌, Option, Some, None, Err, IfSome, inl, inr, ap, subst, sym}
+use Rattle.std.proofs.Common.{◌≡◌, ◌∙◌, ◌⊎◌, ◌≤◌, ℕ, suc, arith, Bool, Result, Ok, true, false, List, [], ◌∷◌, Option, Some, None, Err, IfSome, inl, inr, ap, subst, sym}
 use Rattle.automata_base.specs.Input.{Input}
 use Rattle.automata_base.specs.Matches.{Match}
 use Rattle.automata_base.specs.Spans.{from}
+use Rattle.automata_base.specs.Tapes.{Forward}
 use Rattle.automata_config.specs.declared.error.SearchError.{SearchError}
 use Rattle.regex_automata.specs.Iterating.{GivesItem, IsNextRefusal}
 use Rattle.regex_automata.specs.Outcomes.{FindsMatch}
-use Rattle.regex_automata.specs.Owing.{AreStoresOf, IsMemory, IsRefusedBehind, MayRefuseNext, end_behind, place_behind}
+use Rattle.regex_automata.specs.Owing.{AreStoresOf, IsMemory, IsRefusedBehind, IsUnsupported, MayRefuseNext, TellsUnsupported, end_behind, place_behind, unsupported_error}
+use Rattle.regex_automata.specs.RegexRefusals.{IsFree}
+use Rattle.regex_automata.specs.SoundPairs.{IsSoundPair}
 use Rattle.regex_automata.specs.declared.hybrid.regex.Regex.{Regex}
 use Rattle.regex_automata.specs.declared.hybrid.regex.caches.Cache.{Cache}
 use Rattle.regex_automata.proofs.Collecting.{ComesTo}
+use Rattle.regex_automata.proofs.Owed.{memory_of_sound}
 
 -- behind its first matches an iteration stands where the last one ended
 comes_behind :
@@ -37,6 +41,62 @@ refused_behind p q c d input now ms last e regex cache is comes refused =
     (subst (λ (x : Cache). IsRefusedBehind p x input ms e) cache
     (subst (λ (i : Input). IsNextRefusal p c i (end_behind None ms) e) place
     (subst (λ (l : Option ℕ). IsNextRefusal p c now l e) behind.1 refused)))
+
+-- where the mode isn't supported nothing is listed, and the next item is the error that tells it
+pub untold_turn :
+    (p q : Regex) (input now : Input) (ended : Bool) (item : Option (Result Match SearchError)) (ms : List Match)
+    → p ≡ q → now ≡ from now.start input → ended ≡ false → TellsUnsupported p now ended item
+    → (IsUnsupported Forward q.forward input → (now.start ≡ input.start) × (ms ≡ []))
+    → IsUnsupported Forward q.forward input → (ms ≡ []) × (item ≡ Some (Err (unsupported_error input)))
+untold_turn p q input now ended item ms regex is going tells untold u =
+    let at = untold u in
+    let same : now ≡ input = is ∙ ap (λ n. from n input) at.0 in (
+      at.1,
+      subst (λ (i : Input). TellsUnsupported q i ended item) same
+          (subst (λ (r : Regex). TellsUnsupported r now ended item) regex tells) going u,
+    )
+
+pub match_error : {m : Match} {e : SearchError} → ◌≡◌ {A = Option (Result Match SearchError)} (Some (Ok m)) (Some (Err e)) → ⊥
+match_error h = cc
+
+pub none_error : {e : SearchError} → ◌≡◌ {A = Option (Result Match SearchError)} None (Some (Err e)) → ⊥
+none_error h = cc
+
+pub same_error :
+    {e f : SearchError} → ◌≡◌ {A = Option (Result Match SearchError)} (Some (Err e)) (Some (Err f))
+    → ◌≡◌ {A = Option SearchError} (Some e) (Some f)
+same_error h = cc
+
+-- where nothing stands in the way of a search, nothing does from a later place
+free_from : (p : Regex) (input : Input) (start : ℕ) → input.start ≤ start → IsFree p input → IsFree p (from start input)
+free_from p input start le free = record {
+  forward = λ at byte l. free.forward at byte (omega (arith, le, l));
+  reverse = λ at byte l. free.reverse at byte (omega (arith, le, l));
+  supported = free.supported;
+  forward_clears = free.forward_clears;
+  reverse_clears = free.reverse_clears;
+}
+
+-- so over a sound pair memory is wanting
+pub memory_behind :
+    (p : Regex) (input : Input) (ms : List Match) (error : Option SearchError) → input.start ≤ place_behind input.start ms
+    → IfSome error (MayRefuseNext p input ms) → IsSoundPair p → IsFree p input → IfSome error IsMemory
+memory_behind p input ms None le refused sound free = tt
+memory_behind p input ms (Some e) le refused sound free = go refused where
+  place : ℕ
+  place = place_behind input.start ms
+
+  here : IsFree p (from place input)
+  here = free_from p input place le free
+
+  go : MayRefuseNext p input ms e → IsMemory e
+  go (inl memory) = memory
+  go (inr r) = next r.2 where
+    next : IsRefusedBehind p r.0 input ms e → IsMemory e
+    next (inl first) = memory_of_sound p r.0 (from place input) e sound here first
+    next (inr later) =
+        memory_of_sound p r.0 (from (suc place) (from place input)) e sound
+        (free_from p (from place input) (suc place) (omega arith) here) later.3
 
 -- some caches refuse it so
 pub may_refuse_next :

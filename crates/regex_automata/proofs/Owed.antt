@@ -1,16 +1,24 @@
 -- What calls owe whatever the cache, from their clauses.
-use Rattle.std.proofs.Common.{◌≡◌, Result, Ok, Err, IfErr, ap, subst}
+use Rattle.std.proofs.Common.{◌≡◌, ◌≤◌, Option, None, Result, Ok, Err, IfErr, IfOk, IfSome, Bool, true, false, inl, inr, ap, subst}
 use Rattle.automata_base.specs.Input.{Input}
-use Rattle.automata_base.specs.Tapes.{Direction}
+use Rattle.automata_base.specs.Matches.{Match}
+use Rattle.automata_base.specs.Nodes.{nfa_of}
+use Rattle.automata_base.specs.Paths.{IsLookAcyclic}
+use Rattle.automata_base.specs.Spans.{IsMatch, IsSpan, TryFinds}
+use Rattle.automata_base.specs.Tapes.{Direction, Forward}
 use Rattle.automata_config.specs.declared.error.SearchError.{SearchError}
 use Rattle.automata_hybrid.specs.Bounds.{Stored}
 use Rattle.automata_hybrid.specs.Caches.{CacheView}
 use Rattle.automata_hybrid.specs.Machine.{Machine}
-use Rattle.automata_hybrid.specs.Searches.{IsRefused}
-use Rattle.regex_automata.specs.Matching.{IsMatchRefused}
-use Rattle.regex_automata.specs.Owing.{AreStoresOf, IsStoreOf, MayRefuse, MayRefuseSpan, MayRefuseTruth}
+use Rattle.automata_hybrid.specs.Searches.{IsRefused, NoQuitInReach, tape_in}
+use Rattle.automata_hybrid.specs.Slots.{supports}
+use Rattle.automata_hybrid.specs.Starting.{quit_behind}
+use Rattle.regex_automata.specs.Matching.{IsMatchRefused, IsMatchTold}
+use Rattle.regex_automata.specs.Outcomes.{FindsMatch, LiesIn}
+use Rattle.regex_automata.specs.Owing.{AreStoresOf, IsMemory, IsSpanOf, IsStoreOf, IsTruthOf, MayRefuse, MayRefuseSpan, MayRefuseTruth, unsupported_error}
 use Rattle.regex_automata.specs.RegexCaches.{AreCachesOf, AreFresh}
-use Rattle.regex_automata.specs.RegexRefusals.{IsRegexRefusal}
+use Rattle.regex_automata.specs.RegexRefusals.{IsFree, IsOfMemory, IsRegexRefusal}
+use Rattle.regex_automata.specs.SoundPairs.{AreLookAcyclic, IsSoundPair, forward_engine, reverse_engine}
 use Rattle.regex_automata.specs.declared.hybrid.regex.Regex.{Regex}
 use Rattle.regex_automata.specs.declared.hybrid.regex.caches.Cache.{Cache}
 
@@ -42,6 +50,67 @@ pub may_refuse_truth :
     → IsStoreOf c m → IfErr r (IsMatchRefused m c input) → IfErr r (MayRefuseTruth m input)
 may_refuse_truth (Ok x) m c input of h = h
 may_refuse_truth (Err e) m c input of h = (c, of, h)
+
+-- where nothing stands in the way of a refused search
+pub refused_free :
+    {T : Type 0} (r : Result T SearchError) (p : Regex) (c : Cache) (input : Input)
+    → IsFree p input → IfErr r (IsRegexRefusal p c input) → IfErr r IsOfMemory
+refused_free (Ok x) p c input free h = tt
+refused_free (Err e) p c input free h = h.free free
+
+pub memory_of_sound :
+    (p : Regex) (c : Cache) (input : Input) (e : SearchError)
+    → IsSoundPair p → IsFree p input → IsRegexRefusal p c input e → IsMemory e
+memory_of_sound p c input e sound free h = go (h.free free) where
+  go : IsOfMemory e → IsMemory e
+  go (inl memory) = memory
+  go (inr apart) = absurd (h.sound sound apart)
+
+pub refused_sound :
+    {T : Type 0} (r : Result T SearchError) (p : Regex) (c : Cache) (input : Input)
+    → IsSoundPair p → IsFree p input → IfErr r (IsRegexRefusal p c input) → IfErr r IsMemory
+refused_sound (Ok x) p c input sound free h = tt
+refused_sound (Err e) p c input sound free h = memory_of_sound p c input e sound free h
+
+-- a search for a span
+pub span_owed :
+    (p : Regex) (input : Input) (r : Result (Option Match) SearchError) (c : Cache) → AreStoresOf c p
+    → IfOk r (FindsMatch p input)
+    → (AreLookAcyclic p → IfOk r (TryFinds (forward_engine p) (reverse_engine p) input))
+    → (IsSoundPair p → IfOk r (IsSpan (forward_engine p) input)) → IfOk r (λ o. IfSome o (LiesIn input))
+    → IfErr r (IsRegexRefusal p c input)
+    → (input.start ≤ input.end → quit_behind p.forward (tape_in Forward input).before ≡ None
+    → supports p.forward input.anchored ≡ false → r ≡ Err (unsupported_error input))
+    → IsSpanOf p input r
+span_owed p input r c of found answer span within errors unsupported = record {
+  found = found;
+  answer = answer;
+  span = span;
+  within = within;
+  errors = may_refuse_span r p c input of errors;
+  unsupported = λ u. unsupported u.undone u.behind u.mode;
+  free = λ free. refused_free r p c input free errors;
+  free_sound = λ sound free. refused_sound r p c input sound free errors;
+}
+
+-- a search for whether there is a match
+pub truth_owed :
+    (p : Regex) (input : Input) (r : Result Bool SearchError) (c : Cache) → IsStoreOf c.forward.store p.forward
+    → IfOk r (IsMatchTold p.forward input)
+    → (IsLookAcyclic (nfa_of p.forward.nfa) → IfOk r (IsMatch (forward_engine p) input))
+    → IfErr r (IsMatchRefused p.forward c.forward.store input)
+    → (input.start ≤ input.end → quit_behind p.forward (tape_in Forward input).before ≡ None
+    → supports p.forward input.anchored ≡ false → r ≡ Err (unsupported_error input))
+    → (NoQuitInReach p.forward input → supports p.forward input.anchored ≡ true → p.forward.minimum_clear_count ≡ None
+    → IfErr r IsMemory)
+    → IsTruthOf p input r
+truth_owed p input r c of told answer errors unsupported answers = record {
+  told = told;
+  answer = answer;
+  errors = may_refuse_truth r p.forward c.forward.store input of errors;
+  unsupported = λ u. unsupported u.undone u.behind u.mode;
+  free = λ f. answers f.reach f.supported f.clears;
+}
 
 -- fresh caches of a regex are of it
 pub fresh_caches : (p : Regex) (c : Cache) → AreFresh p c → AreCachesOf c p

@@ -7,6 +7,7 @@ use Rattle.automata_base.specs.Tapes.{Forward}
 use Rattle.automata_config.specs.declared.error.SearchError.{SearchError}
 use Rattle.regex_automata.specs.Iterating.{AreCollected, AreFirst}
 use Rattle.regex_automata.specs.Outcomes.{FindsMatch, IsStartFound, LiesIn}
+use Rattle.regex_automata.specs.Owing.{place_behind}
 use Rattle.regex_automata.specs.declared.hybrid.regex.Regex.{Regex}
 use Rattle.regex_automata.proofs.Finding.{back_within}
 use Rattle.regex_automata.proofs.Nexts.{goes_first}
@@ -48,6 +49,18 @@ module _ (p : Regex) where
     pub first_rise : (ms : List Match) → AreFirst (FindsMatch p) input input.start None ms → Rise input.end None ms
     first_rise [] f = tt
     first_rise (m ∷ ms) f = let n = next_lies input.start None m f.0 in (n.1, n.2, rise_on m.end ms f.1)
+
+    place_on :
+        (start : ℕ) (last : Option ℕ) (ms : List Match) → AreFirst (FindsMatch p) input start last ms → start ≤ place_behind start ms
+    place_on start last [] f = omega arith
+    place_on start last (m ∷ ms) f =
+        let n = next_lies start last m f.0 in
+        let g = place_on m.end (Some m.end) ms f.1 in
+        omega (arith, n.0, n.1, g)
+
+    -- the search behind them begins no earlier than the input
+    pub first_place : (ms : List Match) → AreFirst (FindsMatch p) input input.start None ms → input.start ≤ place_behind input.start ms
+    first_place ms f = place_on input.start None ms f
 
     count_on : (end start : ℕ) (ms : List Match) → start ≤ end → Rise end (Some start) ms → start + length ms ≤ end
     count_on end start [] l r = omega (arith, l)

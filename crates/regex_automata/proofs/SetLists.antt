@@ -64,5 +64,6 @@ no_patterns m input capacity found none = record {
   told = λ e. absurd (some_none e);
   paths = λ acyclic e. absurd (some_none e);
   errors = inl (refl, none);
+  unsupported = λ u. inl (none, refl);
   free = λ f. refl;
 }

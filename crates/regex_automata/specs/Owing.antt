@@ -26,7 +26,7 @@ use Rattle.automata_hybrid.specs.Which.{IsWhichRefusal}
 use Rattle.regex_automata.specs.Iterating.{AreCollected, IsBeginning, IsNextRefusal}
 use Rattle.regex_automata.specs.Matching.{IsMatchRefused, IsMatchTold}
 use Rattle.regex_automata.specs.Outcomes.{FindsMatch, LiesIn}
-use Rattle.regex_automata.specs.RegexRefusals.{IsRegexRefusal}
+use Rattle.regex_automata.specs.RegexRefusals.{IsFree, IsOfMemory, IsRegexRefusal}
 use Rattle.regex_automata.specs.SoundPairs.{AreLookAcyclic, IsSoundPair, forward_engine, reverse_engine}
 use Rattle.regex_automata.specs.declared.hybrid.regex.Regex.{Regex}
 use Rattle.regex_automata.specs.declared.hybrid.regex.caches.Cache.{Cache}
@@ -128,6 +128,10 @@ pub record IsSpanOf (p : Regex) (input : Input) (result : Result (Option Match) 
   pub errors : IfErr result (MayRefuseSpan p input)
   -- a mode that isn't supported is told
   pub unsupported : IsUnsupported Forward p.forward input → result ≡ Err (unsupported_error input)
+  -- where nothing stands in the way of either DFA, only want of memory is a refusal, or that the two are no pair; and of
+  -- a sound pair the first alone
+  pub free : IsFree p input → IfErr result IsOfMemory
+  pub free_sound : IsSoundPair p → IsFree p input → IfErr result IsMemory
 
 -- some cache of the forward DFA refuses the search for whether there is a match
 abbrev pub MayRefuseTruth : Machine → Input → SearchError → Type 0
@@ -145,6 +149,11 @@ pub record IsTruthOf (p : Regex) (input : Input) (result : Result Bool SearchErr
   pub unsupported : IsUnsupported Forward p.forward input → result ≡ Err (unsupported_error input)
   -- where nothing stands in the way, only want of memory is a refusal
   pub free : IsUnhindered p.forward input → IfErr result IsMemory
+
+-- an item of an iteration that goes on, where the mode isn't supported
+abbrev pub TellsUnsupported : Regex → Input → (ended : Bool) → Option (Result Match SearchError) → Type 0
+TellsUnsupported p input ended item =
+    ended ≡ false → IsUnsupported Forward p.forward input → item ≡ Some (Err (unsupported_error input))
 
 -- where the search for a match behind these begins, and where the last of these ended
 abbrev pub place_behind : ℕ → List Match → ℕ
@@ -178,6 +187,11 @@ pub record AreMatchesUpto (p : Regex) (input : Input) (ms : List Match) (error :
   pub few : length ms ≤ input.end - input.start + 1
   -- a refusal is one that some caches may give behind these
   pub errors : IfSome error (MayRefuseNext p input ms)
+  -- a mode that isn't supported is told, and no match
+  pub unsupported :
+      IsUnsupported Forward p.forward input → (ms ≡ []) × (error ≡ Some (unsupported_error input))
+  -- over a sound pair, where nothing stands in the way of either DFA, only want of memory is a refusal
+  pub free : IsSoundPair p → IsFree p input → IfSome error IsMemory
 
 -- each number is at least `low`, and greater than the one before
 abbrev pub AreRising : (low : ℕ) → List ℕ → Type 0
@@ -209,5 +223,9 @@ pub record ArePatternsUpto (m : Machine) (input : Input) (capacity : ℕ) (found
       → ArePatternsFound (engine_of m.nfa m.kind) input capacity [] found
   -- a refusal is one that some cache may give
   pub errors : IfSome error (MayRefusePatterns m input capacity found)
+  -- a mode that isn't supported is told, unless memory is wanting for the set or the list
+  pub unsupported :
+      IsUnsupported Forward m input
+      → ((found ≡ []) × (error ≡ Some search.OutOfMemory)) ⊎ (error ≡ Some (unsupported_error input))
   -- where nothing stands in the way, only want of memory is a refusal
   pub free : IsUnhindered m input → IfSome error IsMemory

@@ -1,13 +1,13 @@
 //! The matches of an input, one after another, as a list.
-ghost use Rattle.std.specs.Prelude.{◌≡◌, ◌⊎◌, IfSome};
+ghost use Rattle.std.specs.Prelude.{◌≡◌, ◌⊎◌, [], IfSome, Some};
+ghost use Rattle.automata_base.specs.Tapes.{Forward};
 ghost use Rattle.automata_hybrid.specs.Caches.{IsCacheOf};
 ghost use Rattle.regex_automata.specs.Iterating.{AreCollected};
 ghost use Rattle.regex_automata.specs.Outcomes.{FindsMatch};
-ghost use Rattle.regex_automata.specs.Owing.{AreMatchesUpto, IsMemory, IsRefusedBehind};
+ghost use Rattle.regex_automata.specs.Owing.{AreMatchesUpto, IsMemory, IsRefusedBehind, IsUnsupported, unsupported_error};
 ghost use Rattle.regex_automata.specs.RegexCaches.{AreCachesOf};
 
 use crate::hybrid::regex::{Cache, Regex};
-use crate::replay::searches::see_both;
 use automata_base::laws::{start_is_right, told_is_right};
 use automata_base::util::search::{Input, Match};
 use automata_config::error::SearchError;
@@ -29,7 +29,7 @@ pub fn matches_upto(
     start_is_right();
     let _haystack = input.haystack();
     let all = take_matches(alloc, regex, cache, input);
-    see_both(cache);
+    cache.see_bounds();
     all
 }
 
@@ -45,6 +45,8 @@ fn take_matches(
     ensures reverse { IsCacheOf cache.new.reverse regex.now.reverse }
     ensures found { AreCollected (FindsMatch regex.now) input.entry result.0.items result.1 }
     ensures errors { IfSome result.1 (λ e. IsMemory e ⊎ IsRefusedBehind regex.now cache.new input.entry result.0.items e) }
+    ensures unsupported { IsUnsupported Forward regex.now.forward input.entry
+        → (result.0.items ≡ []) × (result.1 ≡ Some (unsupported_error input.entry)) }
 {
     let mut found = Vec::new(alloc);
     for item in regex.find_iter(cache, input) {

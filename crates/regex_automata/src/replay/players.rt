@@ -11,7 +11,7 @@ use crate::replay::iteration::matches_upto;
 use crate::replay::patterns::patterns_below;
 use crate::replay::replies::{Fault, Reply};
 use crate::replay::requests::Request;
-use crate::replay::searches::{find, is_match, search_fwd, search_rev};
+use crate::replay::searches::{search_fwd, search_rev};
 use crate::replay::walks::{KeptWalk, step_at};
 use automata_base::util::search::Input;
 use automata_config::error::SearchError;
@@ -70,8 +70,8 @@ impl<'r, 'h> Player<'r, 'h> {
                 self.cache.reverse_mut(),
                 input,
             )),
-            Request::Find(input) => Reply::Span(find(regex, &mut self.cache, input)),
-            Request::IsMatch(input) => Reply::Truth(is_match(regex, &mut self.cache, input)),
+            Request::Find(input) => Reply::Span(regex.find(&mut self.cache, input)),
+            Request::IsMatch(input) => Reply::Truth(regex.is_match(&mut self.cache, input)),
             Request::Iterate(input) => {
                 let (found, error) = matches_upto(self.alloc, regex, &mut self.cache, same(input));
                 Reply::Spans { found, error }

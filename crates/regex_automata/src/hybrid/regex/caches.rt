@@ -2,6 +2,7 @@ ghost use Rattle.std.specs.Prelude.{◌≡◌, ◌+◌, ◌^◌, ◌-◌, IfOk, 
 ghost use Rattle.std.specs.Borrow.{sem};
 ghost use Rattle.automata_hybrid.specs.Bounds.{usage};
 ghost use Rattle.regex_automata.specs.RegexCaches.{AreFresh};
+ghost use Rattle.regex_automata.specs.Owing.{IsStoreOf};
 ghost use Rattle.regex_automata.specs.Lending.{LendsBothParts, LendsForward, LendsReverse};
 
 use crate::hybrid::dfa;
@@ -80,6 +81,15 @@ impl Cache {
         ensures reverse { result.1.now ≡ self.old.reverse }
     {
         (&mut self.forward, &mut self.reverse)
+    }
+
+    /// Each part is within the settings of the DFA that it is of. It does nothing.
+    pub fn see_bounds(&self)
+        ensures forward { IsStoreOf self.now.forward.store self.now.forward.store.table.of }
+        ensures reverse { IsStoreOf self.now.reverse.store self.now.reverse.store.table.of }
+    {
+        self.forward.see_bounds();
+        self.reverse.see_bounds();
     }
 
     /// The accounted bytes of both, or the greatest number.

@@ -1,8 +1,10 @@
-ghost use Rattle.std.specs.Prelude.{◌≡◌, ◌≤◌, ◌+◌, ◌-◌, IfOk, IfErr, IfSome, OnErr, OnOk, None, false, true};
+ghost use Rattle.std.specs.Prelude.{◌≡◌, ◌≤◌, ◌+◌, ◌-◌, IfOk, IfErr, IfSome, OnErr, OnOk, None, Err, false, true};
 ghost use Rattle.std.specs.Iterator.{at_most};
 ghost use Rattle.automata_base.specs.Input.{Allows, IsAllowed};
 ghost use Rattle.automata_base.specs.Spans.{IsEmptyAt, from};
+ghost use Rattle.automata_base.specs.Tapes.{Forward};
 ghost use Rattle.regex_automata.specs.Iterating.{AreCostsTwice, GivesItem, GoesOn, IsNextMatch, IsNextRefusal, KnowsNext, LearnsItem, input_at, most_left};
+ghost use Rattle.regex_automata.specs.Owing.{IsUnsupported, TellsUnsupported, unsupported_error};
 ghost use Rattle.regex_automata.specs.RegexRefusals.{IsOfGiven};
 ghost use Rattle.regex_automata.specs.RegexCaches.{AreCachesOf, AreGrown, AreStill, NothingCleared};
 
@@ -45,6 +47,8 @@ impl Regex {
         ensures next { IfOk result (IsNextMatch self.now input.now last) }
         ensures goes_on { IfOk result (λ o. IfSome o (GoesOn input.now last)) }
         ensures errors { IfErr result (IsNextRefusal self.now cache.new input.now last) }
+        ensures unsupported { IsUnsupported Forward self.now.forward input.now
+            → result ≡ Err (unsupported_error input.now) }
         ensures ahead { OnErr result (input.now.start ≤ input.now.end) }
         ensures allowed { IsAllowed input.now }
         ensures grown { AreGrown cache.old cache.new }
@@ -95,6 +99,7 @@ impl Regex {
 }
 
 /// The matches that are left of an input, until an error, which is the last item. After the end it gives none for good.
+/// Over a mode that isn't supported its one item is the error that tells it.
 /// It holds the parts of its input.
 #[derive(Drop)]
 pub struct FindMatches<'r, 'c, 'h> {
@@ -133,7 +138,8 @@ impl<'r, 'c, 'h> Iterator for FindMatches<'r, 'c, 'h> {
         × (t.regex.now ≡ s.regex.now) × (t.cache.ghost_name ≡ s.cache.ghost_name)
         × AreGrown s.cache.now t.cache.now × AreCostsTwice s.regex.now (s.end - s.start) s.cache.now t.cache.now
         × LearnsItem s.regex.now s.cache.now t.cache.now
-        (input_at s.haystack.now s.start s.end s.anchored s.earliest) s.last s.ended r };
+        (input_at s.haystack.now s.start s.end s.anchored s.earliest) s.last s.ended r
+        × TellsUnsupported s.regex.now (input_at s.haystack.now s.start s.end s.anchored s.earliest) s.ended r };
 
     ghost remaining = { λ s.
         at_most (most_left s.ended (input_at s.haystack.now s.start s.end s.anchored s.earliest) s.last) };

@@ -11,6 +11,7 @@ ghost use Rattle.automata_hybrid.specs.Slots.{supports};
 ghost use Rattle.automata_hybrid.specs.Starting.{quit_behind};
 ghost use Rattle.regex_automata.specs.Costs.{AreCostsOf};
 ghost use Rattle.regex_automata.specs.Matching.{IsAsked, IsMatchRefused, IsMatchTold, KnowsMatch};
+ghost use Rattle.regex_automata.specs.Owing.{IsTruthOf};
 ghost use Rattle.regex_automata.specs.RegexCaches.{AreCachesOf, AreGrown, AreStill};
 ghost use Rattle.regex_automata.specs.SoundPairs.{forward_engine};
 
@@ -59,6 +60,9 @@ impl Regex {
         ensures answers { NoQuitInReach self.now.forward input.now → supports self.now.forward input.now.anchored ≡ true
             → self.now.forward.minimum_clear_count ≡ None → IfErr result (λ e. e ≡ SearchError.OutOfMemory) }
 
+        // All that a result owes whatever the caches.
+        ensures owed { IsTruthOf self.now input.now result }
+
         // What it does to the caches.
         ensures cost { AreCostsOf self.now (input.now.end - input.now.start) cache.old cache.new }
         ensures grown { AreGrown cache.old cache.new }
@@ -72,7 +76,9 @@ impl Regex {
         told_is_right(self.forward.get_nfa());
         let _haystack = input.haystack();
         let asked = self.asked(input);
-        let found = self.forward.try_search_fwd(&mut cache.forward, &asked)?;
+        let told = self.forward.try_search_fwd(&mut cache.forward, &asked);
+        cache.forward.see_bounds();
+        let found = told?;
         Ok(found.is_some())
     }
 }

@@ -12,6 +12,7 @@ ghost use Rattle.automata_hybrid.specs.Starting.{quit_behind};
 ghost use Rattle.regex_automata.specs.SoundPairs.{AreLookAcyclic, IsSoundPair, forward_engine, reverse_engine};
 ghost use Rattle.regex_automata.specs.Costs.{AreCostsOf, IsPassCost};
 ghost use Rattle.regex_automata.specs.Outcomes.{FindsMatch, IsOutcome, IsStartFound, LiesIn};
+ghost use Rattle.regex_automata.specs.Owing.{IsSpanOf};
 ghost use Rattle.regex_automata.specs.RegexCaches.{AreCachesOf, AreGrown, AreStill, KnowsBack, KnowsBoth, NothingCleared};
 ghost use Rattle.regex_automata.specs.RegexRefusals.{HasReason, IsBackRefused, IsFree, IsOfGiven, IsOfMemory, IsRegexRefusal};
 
@@ -72,6 +73,9 @@ impl Regex {
             → supports self.now.forward input.now.anchored ≡ false
             → result ≡ Err (SearchError.Match (UnsupportedMode input.now.anchored)) }
 
+        // All that a result owes whatever the caches.
+        ensures owed { IsSpanOf self.now input.now result }
+
         // What it does to the caches: how often it determinises, what is kept, what is known afterwards, and what
         // happens where all was known or nothing is left to be searched.
         ensures cost { AreCostsOf self.now (input.now.end - input.now.start) cache.old cache.new }
@@ -84,7 +88,9 @@ impl Regex {
         told_is_right(self.reverse.get_nfa());
         start_is_right();
         let _haystack = input.haystack();
-        self.search(cache, input)
+        let found = self.search(cache, input);
+        cache.see_bounds();
+        found
     }
 
     /// What `try_search` answers.
@@ -104,6 +110,9 @@ impl Regex {
             → quit_behind self.now.forward (byte_before input.now.haystack input.now.start) ≡ None
             → supports self.now.forward input.now.anchored ≡ false
             → result ≡ Err (SearchError.Match (UnsupportedMode input.now.anchored)) }
+
+        // All that a result owes whatever the caches.
+        ensures owed { IsSpanOf self.now input.now result }
 
         // What it does to the caches: how often it determinises, what is kept, what is known afterwards, and what
         // happens where all was known or nothing is left to be searched.

@@ -6,10 +6,10 @@ use Rattle.automata_hybrid.specs.Machine.{Machine}
 use Rattle.regex_automata.specs.Outcomes.{FindsMatch}
 use Rattle.regex_automata.specs.SoundPairs.{IsSoundPair, forward_engine, reverse_engine}
 use Rattle.regex_automata.proofs.Collecting.{collected_begins, collected_right}
-use Rattle.regex_automata.proofs.MatchLists.{may_refuse_next}
+use Rattle.regex_automata.proofs.MatchLists.{may_refuse_next, memory_behind}
 use Rattle.regex_automata.proofs.Owed.{are_stores}
 use Rattle.regex_automata.proofs.Right.{match_right, outcome_right}
-use Rattle.regex_automata.proofs.Rising.{collected_first, first_few, first_rise}
+use Rattle.regex_automata.proofs.Rising.{collected_first, first_few, first_place, first_rise}
 use Rattle.regex_automata.proofs.replay.iteration.matches_upto.Goals as goal
 
 pub returns-clause-of : goal.returns-clause-of
@@ -30,7 +30,7 @@ returns-clause-owed c =
     (λ start o f. match_right p front rear c.start_is_right.ensures.starts sound (from start input) (c.haystack-haystack.ensures.bytes, within) o f)
     ms error s.found in
     let first = collected_first p input within ms error s.found in
-    let of = are_stores cache p (s.forward, s.reverse) c.see_both.ensures.forward c.see_both.ensures.reverse in
+    let of = are_stores cache p (s.forward, s.reverse) c.see_bounds.ensures.forward c.see_bounds.ensures.reverse in
     record {
       found = s.found;
       answers = λ acyclic. collected_right (FindsMatch p) (TryFinds (forward_engine p) (reverse_engine p)) input
@@ -41,4 +41,6 @@ returns-clause-owed c =
       rise = first_rise p input within ms first;
       few = first_few p input within ms first;
       errors = may_refuse_next p cache input ms error of s.errors;
+      unsupported = s.unsupported;
+      free = memory_behind p input ms error (first_place p input within ms first) (may_refuse_next p cache input ms error of s.errors);
     }

@@ -1,10 +1,10 @@
-use Rattle.std.proofs.Common.{◌≡◌, ◌∙◌, [], ◌∷◌, ◌++◌, None, Some, ap, inl, inr, refl, rules, sym, subst, List}
+use Rattle.std.proofs.Common.{◌≡◌, ◌∙◌, [], ◌∷◌, ◌++◌, None, Some, Ok, Err, ap, inl, inr, refl, rules, sym, subst, List}
 use Rattle.automata_base.specs.Input.{Input}
 use Rattle.automata_base.specs.Matches.{Match}
 use Rattle.regex_automata.specs.Iterating.{AreFirst, input_at}
 use Rattle.regex_automata.specs.Outcomes.{FindsMatch}
 use Rattle.regex_automata.proofs.Collecting.{collected, comes_first, comes_turn, input_turn, item_match, item_none, turn}
-use Rattle.regex_automata.proofs.MatchLists.{item_refused, refused_behind}
+use Rattle.regex_automata.proofs.MatchLists.{item_refused, match_error, none_error, refused_behind, same_error, untold_turn}
 use Rattle.regex_automata.proofs.replay.iteration.take_matches.Goals as goal
 
 pub loop-item-preserved : goal.loop-item-preserved
@@ -22,6 +22,8 @@ loop-item-preserved c =
           (turn s.regex.now c.args.regex.now c.args.input now s.last (Some c.in-Ok.next) i.regex i.input step.0) items (ap (λ (v : Input). v.start) step.1) step.2;
       regex = steps.1 ∙ i.regex;
       input = input_turn c.args.input now rest c.in-Ok.next.end i.input step.1;
+      untold = λ u. absurd (match_error (untold_turn s.regex.now c.args.regex.now c.args.input now s.ended (Some (Ok c.in-Ok.next)) c.loop-item.found.items
+          i.regex i.input i.going steps.6 i.untold u).1);
       going = step.4;
       same_cache = steps.2 ∙ i.same_cache;
     }
@@ -64,3 +66,26 @@ returns-clause-found c =
     collected (FindsMatch c.args.regex.now) c.args.input c.loop-item.found.items None s.start s.last i.comes
     (λ none. turn s.regex.now c.args.regex.now c.args.input now s.last None i.regex i.input
     (item_none s.regex.now t.cache.now now rest s.last t.last s.ended t.ended c.in-None.ensures.steps.0 i.going))
+
+pub returns-in_default-clause-unsupported : goal.returns-in_default-clause-unsupported
+returns-in_default-clause-unsupported c =
+    let i = c.loop-item.invariant in
+    let s = c.loop-item.item-iterator in
+    let now = input_at s.haystack.now s.start s.end s.anchored s.earliest in
+    let steps = rw c.in-Ok.is at c.in-Some.ensures.steps in
+    λ u. absurd (match_error (untold_turn s.regex.now c.args.regex.now c.args.input now s.ended (Some (Ok c.in-Ok.next)) c.loop-item.found.items i.regex i.input i.going steps.6 i.untold u).1)
+
+pub returns-in-Err-clause-unsupported : goal.returns-in-Err-clause-unsupported
+returns-in-Err-clause-unsupported c =
+    let i = c.loop-item.invariant in
+    let s = c.loop-item.item-iterator in
+    let now = input_at s.haystack.now s.start s.end s.anchored s.earliest in
+    let steps = rw c.in-Err.is at c.in-Some.ensures.steps in
+    λ u. (let told = untold_turn s.regex.now c.args.regex.now c.args.input now s.ended (Some (Err c.in-Err.error)) c.loop-item.found.items i.regex i.input i.going steps.6 i.untold u in (told.0, same_error told.1))
+
+pub returns-clause-unsupported : goal.returns-clause-unsupported
+returns-clause-unsupported c =
+    let i = c.loop-item.invariant in
+    let s = c.loop-item.item-iterator in
+    let now = input_at s.haystack.now s.start s.end s.anchored s.earliest in
+    λ u. absurd (none_error (untold_turn s.regex.now c.args.regex.now c.args.input now s.ended (None) c.loop-item.found.items i.regex i.input i.going c.in-None.ensures.steps.6 i.untold u).1)

@@ -1,7 +1,9 @@
-use Rattle.std.proofs.Common.{◌≡◌, None, false}
+use Rattle.std.proofs.Common.{◌≡◌, [], None, false}
 use Rattle.automata_base.specs.Spans.{from}
 use Rattle.regex_automata.specs.Iterating.{input_at}
+use Rattle.automata_base.specs.Tapes.{Forward}
 use Rattle.regex_automata.specs.Outcomes.{FindsMatch}
+use Rattle.regex_automata.specs.Owing.{IsUnsupported}
 use Rattle.regex_automata.proofs.Collecting.{ComesTo}
 use Rattle.regex_automata.proofs.replay.iteration.take_matches.Given as goal
 
@@ -10,6 +12,7 @@ invariant-loop-item l = record {
   comes : ComesTo (FindsMatch l.fn.regex) l.fn.input l.fn.input.start None l.found.items l.item-iterator.start l.item-iterator.last;
   regex : l.item-iterator.regex.now ≡ l.fn.regex;
   input : input_at l.item-iterator.haystack.now l.item-iterator.start l.item-iterator.end l.item-iterator.anchored l.item-iterator.earliest ≡ from l.item-iterator.start l.fn.input;
+  untold : IsUnsupported Forward l.fn.regex.forward l.fn.input → (l.item-iterator.start ≡ l.fn.input.start) × (l.found.items ≡ []);
   going : l.item-iterator.ended ≡ false;
   same_cache : l.item-iterator.cache.ghost_name ≡ l.initial.item-iterator.cache.ghost_name;
 }

@@ -1,4 +1,4 @@
-use Rattle.std.proofs.Common.{◌≡◌, ◌∙◌, Option, subst, sym, IfSome}
+use Rattle.std.proofs.Common.{◌≡◌, ◌∙◌, Option, ap, inr, subst, sym, IfSome}
 use Rattle.std.specs.Result.{result_err}
 use Rattle.automata_base.specs.Answers.{ArePatterns, ArePatternsFound}
 use Rattle.automata_base.specs.Engines.{engine_of}
@@ -33,6 +33,7 @@ returns-in-Ok-list_members-clause-owed c =
           (told_where told (ArePatternsFound (engine_of m.nfa m.kind) input _ _ _) (s.paths acyclic) (sym error ∙ none));
       errors = subst (λ (e : Option SearchError). IfSome e (MayRefusePatterns m input c.args.capacity found)) (sym error)
           (refused_where told m store input c.args.capacity old new found (is_store store m s.of c.see.ensures) c.in-Ok.ensures.capacity c.in-Ok-list_members.ensures s.errors);
+      unsupported = λ u. inr (error ∙ ap result_err (s.unsupported u.undone u.behind u.mode));
       free = λ f. subst (λ (e : Option SearchError). IfSome e IsMemory) (sym error) (memory_where told (s.answers f.reach f.supported f.clears));
     }
 

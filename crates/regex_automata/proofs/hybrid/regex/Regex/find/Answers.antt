@@ -35,3 +35,6 @@ returns-clause-known c = c.try_search.ensures.known
 
 pub returns-clause-done : goal.returns-clause-done
 returns-clause-done c = c.try_search.ensures.done
+
+pub returns-clause-owed : goal.returns-clause-owed
+returns-clause-owed c = c.try_search.ensures.owed

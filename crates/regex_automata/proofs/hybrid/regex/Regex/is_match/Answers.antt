@@ -17,12 +17,13 @@ use Rattle.automata_hybrid.proofs.Searching.{if_err}
 use Rattle.regex_automata.specs.Costs.{IsCostOf}
 use Rattle.regex_automata.proofs.Finding.{cache_of, cost_fewer, pass_none}
 use Rattle.regex_automata.proofs.Matching.{asked_from, asked_to, match_right, same_asked, truth_told}
+use Rattle.regex_automata.proofs.Owed.{is_store, truth_owed}
 use Rattle.regex_automata.proofs.Results.{err_ok, if_ok, is_err, ok_err, on_ok, same_err, same_ok}
 use Rattle.regex_automata.proofs.hybrid.regex.Regex.is_match.Goals as goal
 
 pub returns-in_err-found-clause-of : goal.returns-in_err-found-clause-of
 returns-in_err-found-clause-of c =
-    (c.try_search_fwd.ensures.of, c.requires.1)
+    (c.try_search_fwd-told.ensures.of, c.requires.1)
 
 pub returns-in_err-found-clause-told : goal.returns-in_err-found-clause-told
 returns-in_err-found-clause-told c =
@@ -50,14 +51,14 @@ returns-in_err-found-clause-answers c =
 
 pub returns-in_err-found-clause-cost : goal.returns-in_err-found-clause-cost
 returns-in_err-found-clause-cost c = (
-  asked_to (λ (i : Input). IsCostOf c.args.self.now.forward (i.end - i.start) c.args.cache.now.forward c.try_search_fwd.new.cache) c.args.self.now.forward c.args.input.now c.asked-asked.result c.asked-asked.ensures (λ x. x) (λ x. x)
-      (cost_fewer c.args.self.now.forward (c.asked-asked.result.end - c.asked-asked.result.start) (c.asked-asked.result.end - c.asked-asked.result.start) c.args.cache.now.forward c.try_search_fwd.new.cache (omega arith) c.try_search_fwd.ensures.bounded c.try_search_fwd.ensures.bounded_all c.try_search_fwd.ensures.grown),
+  asked_to (λ (i : Input). IsCostOf c.args.self.now.forward (i.end - i.start) c.args.cache.now.forward c.try_search_fwd-told.new.cache) c.args.self.now.forward c.args.input.now c.asked-asked.result c.asked-asked.ensures (λ x. x) (λ x. x)
+      (cost_fewer c.args.self.now.forward (c.asked-asked.result.end - c.asked-asked.result.start) (c.asked-asked.result.end - c.asked-asked.result.start) c.args.cache.now.forward c.try_search_fwd-told.new.cache (omega arith) c.try_search_fwd-told.ensures.bounded c.try_search_fwd-told.ensures.bounded_all c.try_search_fwd-told.ensures.grown),
   pass_none _ c.args.cache.now.reverse,
 )
 
 pub returns-in_err-found-clause-grown : goal.returns-in_err-found-clause-grown
 returns-in_err-found-clause-grown c =
-    (c.try_search_fwd.ensures.grown, grown_same c.args.cache.now.reverse c.args.cache.now.reverse refl)
+    (c.try_search_fwd-told.ensures.grown, grown_same c.args.cache.now.reverse c.args.cache.now.reverse refl)
 
 pub returns-in_err-found-clause-reverse : goal.returns-in_err-found-clause-reverse
 returns-in_err-found-clause-reverse c =
@@ -77,7 +78,7 @@ returns-in_err-found-clause-done c =
 
 pub returns-clause-of : goal.returns-clause-of
 returns-clause-of c =
-    (c.try_search_fwd.ensures.of, c.requires.1)
+    (c.try_search_fwd-told.ensures.of, c.requires.1)
 
 pub returns-clause-told : goal.returns-clause-told
 returns-clause-told c =
@@ -95,14 +96,14 @@ returns-clause-unsupported c =
 
 pub returns-clause-cost : goal.returns-clause-cost
 returns-clause-cost c = (
-  asked_to (λ (i : Input). IsCostOf c.args.self.now.forward (i.end - i.start) c.args.cache.now.forward c.try_search_fwd.new.cache) c.args.self.now.forward c.args.input.now c.asked-asked.result c.asked-asked.ensures (λ x. x) (λ x. x)
-      (cost_fewer c.args.self.now.forward (c.asked-asked.result.end - c.asked-asked.result.start) (c.asked-asked.result.end - c.asked-asked.result.start) c.args.cache.now.forward c.try_search_fwd.new.cache (omega arith) c.try_search_fwd.ensures.bounded c.try_search_fwd.ensures.bounded_all c.try_search_fwd.ensures.grown),
+  asked_to (λ (i : Input). IsCostOf c.args.self.now.forward (i.end - i.start) c.args.cache.now.forward c.try_search_fwd-told.new.cache) c.args.self.now.forward c.args.input.now c.asked-asked.result c.asked-asked.ensures (λ x. x) (λ x. x)
+      (cost_fewer c.args.self.now.forward (c.asked-asked.result.end - c.asked-asked.result.start) (c.asked-asked.result.end - c.asked-asked.result.start) c.args.cache.now.forward c.try_search_fwd-told.new.cache (omega arith) c.try_search_fwd-told.ensures.bounded c.try_search_fwd-told.ensures.bounded_all c.try_search_fwd-told.ensures.grown),
   pass_none _ c.args.cache.now.reverse,
 )
 
 pub returns-clause-grown : goal.returns-clause-grown
 returns-clause-grown c =
-    (c.try_search_fwd.ensures.grown, grown_same c.args.cache.now.reverse c.args.cache.now.reverse refl)
+    (c.try_search_fwd-told.ensures.grown, grown_same c.args.cache.now.reverse c.args.cache.now.reverse refl)
 
 pub returns-clause-reverse : goal.returns-clause-reverse
 returns-clause-reverse c =
@@ -110,7 +111,7 @@ returns-clause-reverse c =
 
 pub returns-clause-learned : goal.returns-clause-learned
 returns-clause-learned c =
-    λ nothing. λ other is. subst (Knows Forward c.args.self.now.forward c.try_search_fwd.new.cache.store) (same_asked c.args.self.now.forward c.args.input.now c.asked-asked.result other c.asked-asked.ensures is) (c.in_ok-found.ensures.learned nothing)
+    λ nothing. λ other is. subst (Knows Forward c.args.self.now.forward c.try_search_fwd-told.new.cache.store) (same_asked c.args.self.now.forward c.args.input.now c.asked-asked.result other c.asked-asked.ensures is) (c.in_ok-found.ensures.learned nothing)
 
 pub returns-clause-known : goal.returns-clause-known
 returns-clause-known c =
@@ -122,3 +123,19 @@ returns-clause-done c =
     let past' = asked_from (λ (i : Input). i.end < i.start) c.args.self.now.forward c.args.input.now c.asked-asked.result c.asked-asked.ensures past past in
     let d = c.in_ok-found.ensures.done past' in
     (ap (λ (b : Bool). Ok b) (c.is_some.ensures ∙ ap is_some (same_ok d.0)), ap (λ f. cache_of f c.args.cache.now.reverse) d.1)
+
+pub returns-in_err-found-clause-owed : goal.returns-in_err-found-clause-owed
+returns-in_err-found-clause-owed c =
+    let p = c.args.self.now in
+    let cache = cache_of c.try_search_fwd-told.new.cache c.args.cache.now.reverse in
+    truth_owed p c.args.input.now c.from_residual.result cache
+    (is_store c.try_search_fwd-told.new.cache.store p.forward c.try_search_fwd-told.ensures.of (record { of = refl; settings = c.see_bounds.ensures.settings; within = c.see_bounds.ensures.within }))
+    (returns-in_err-found-clause-told c) (returns-in_err-found-clause-answer c) (returns-in_err-found-clause-errors c) (returns-in_err-found-clause-unsupported c) (returns-in_err-found-clause-answers c)
+
+pub returns-clause-owed : goal.returns-clause-owed
+returns-clause-owed c =
+    let p = c.args.self.now in
+    let cache = cache_of c.try_search_fwd-told.new.cache c.args.cache.now.reverse in
+    truth_owed p c.args.input.now (Ok c.is_some.result) cache
+    (is_store c.try_search_fwd-told.new.cache.store p.forward c.try_search_fwd-told.ensures.of (record { of = refl; settings = c.see_bounds.ensures.settings; within = c.see_bounds.ensures.within }))
+    (returns-clause-told c) (returns-clause-answer c) tt (returns-clause-unsupported c) (λ reach mode free. tt)

@@ -1,13 +1,14 @@
 use Rattle.std.proofs.Common.{suc, ◌≡◌, ◌∙◌, ◌+◌, None, inl, refl, ap, subst, arith}
-use Rattle.std.specs.Prelude.{IfOk, IfErr, IfSome}
+use Rattle.std.specs.Prelude.{Err, IfOk, IfErr, IfSome}
 use Rattle.automata_base.specs.Input.{Input}
 use Rattle.automata_base.specs.Spans.{from}
+use Rattle.automata_config.specs.declared.error.SearchError.{SearchError}
 use Rattle.automata_hybrid.proofs.Searching.{if_err}
 use Rattle.regex_automata.specs.Outcomes.{FindsMatch, LiesIn}
 use Rattle.regex_automata.specs.RegexRefusals.{IsRegexRefusal}
 use Rattle.regex_automata.proofs.Nexts.{ahead_of, costs_twice, goes_first, goes_later, grown_twice, next_later, on_err, refused_later, some_of}
 use Rattle.regex_automata.proofs.Remembering.{alone_none, alone_some, both_stays, cleared_first, cleared_second, next_known, next_learned}
-use Rattle.regex_automata.proofs.Results.{if_ok, on_ok}
+use Rattle.regex_automata.proofs.Results.{if_ok, is_err, ok_err, on_ok, same_err}
 use Rattle.regex_automata.proofs.hybrid.regex.Regex.next_match.Goals as goal
 
 pub returns-in_err-found-clause-errors : goal.returns-in_err-found-clause-errors
@@ -142,3 +143,17 @@ returns-clause-known c =
     let found = subst (FindsMatch c.args.self.now c.args.input.now) c.in-Some.is c.in_ok-found.ensures.found in
     λ knows. next_known c.args.self.now c.args.input.now c.from-rest.result c.args.last c.args.cache.now c.try_search.new.cache c.try_search-2.new.cache c.try_search-2.result
     c.in-Some.found rest found (c.if-not-is_empty_at.ensures.yes refl) knows (c.in_ok-found.ensures.known knows.0).0 c.try_search-2.ensures.known
+
+pub returns-in_err-found-clause-unsupported : goal.returns-in_err-found-clause-unsupported
+returns-in_err-found-clause-unsupported c =
+    λ u. is_err c.from_residual.result _ c.from_residual.ensures.1
+    ∙ ap (λ (e : SearchError). Err e) (same_err (c.in_err-found.ensures.unsupported u.undone u.behind u.mode))
+
+pub returns-in_default-clause-unsupported : goal.returns-in_default-clause-unsupported
+returns-in_default-clause-unsupported c = λ u. absurd (ok_err (c.in_ok-found.ensures.unsupported u.undone u.behind u.mode))
+
+pub returns-then-not-is_empty_at-clause-unsupported : goal.returns-then-not-is_empty_at-clause-unsupported
+returns-then-not-is_empty_at-clause-unsupported c = λ u. absurd (ok_err (c.in_ok-found.ensures.unsupported u.undone u.behind u.mode))
+
+pub returns-clause-unsupported : goal.returns-clause-unsupported
+returns-clause-unsupported c = λ u. absurd (ok_err (c.in_ok-found.ensures.unsupported u.undone u.behind u.mode))

@@ -4,7 +4,7 @@ use Rattle.automata_base.specs.Input.{Input}
 use Rattle.automata_base.specs.Spans.{from}
 use Rattle.regex_automata.specs.Iterating.{AreCostsTwice, GoesOn, IsNextMatch, IsNextRefusal, input_at}
 use Rattle.regex_automata.proofs.Backing.{false_true}
-use Rattle.regex_automata.proofs.Items.{fewer_left, gives_error, gives_match, gives_none, learns_next, some_left}
+use Rattle.regex_automata.proofs.Items.{fewer_left, gives_error, gives_match, gives_none, learns_next, some_left, tells_error, tells_found}
 use Rattle.regex_automata.proofs.Nexts.{some_of}
 use Rattle.regex_automata.proofs.hybrid.regex.iterate.FindMatchesIterator.next.Goals as goal
 
@@ -22,6 +22,7 @@ returns-in-Ok-Some-clause-steps c =
       subst (λ (i : Input). AreCostsTwice s.regex.now (i.end - i.start) s.cache.now c.next_match.new.cache) c.input-input.ensures c.next_match.ensures.cost,
       learns_next s.regex.now s.cache.now c.next_match.new.cache c.input-input.result now s.last s.ended (Some (Ok c.in-Ok-Some.found)) c.if-self.false c.input-input.ensures
           c.in-Ok-Some.ensures.known (λ nothing good. c.in-Ok-Some.ensures.learned nothing),
+      tells_found s.regex.now c.input-input.result now s.ended _ (Some (Ok c.in-Ok-Some.found)) c.input-input.ensures c.in-Ok-Some.ensures.unsupported,
     )
 
 pub returns-in-Ok-Some-clause-goes : goal.returns-in-Ok-Some-clause-goes
@@ -47,6 +48,7 @@ returns-in-Err-clause-steps c =
       subst (λ (i : Input). AreCostsTwice s.regex.now (i.end - i.start) s.cache.now c.next_match.new.cache) c.input-input.ensures c.next_match.ensures.cost,
       learns_next s.regex.now s.cache.now c.next_match.new.cache c.input-input.result now s.last s.ended (Some (Err c.in-Err.error)) c.if-self.false c.input-input.ensures
           c.in-Err.ensures.known (λ nothing good. absurd (false_true good)),
+      tells_error s.regex.now c.input-input.result now s.ended c.in-Err.error c.input-input.ensures c.in-Err.ensures.unsupported,
     )
 
 pub returns-in-Err-clause-goes : goal.returns-in-Err-clause-goes
@@ -69,4 +71,5 @@ returns-in-Ok-None-clause-steps c =
       subst (λ (i : Input). AreCostsTwice s.regex.now (i.end - i.start) s.cache.now c.next_match.new.cache) c.input-input.ensures c.next_match.ensures.cost,
       learns_next s.regex.now s.cache.now c.next_match.new.cache c.input-input.result now s.last s.ended (None) c.if-self.false c.input-input.ensures
           c.in-Ok-None.ensures.known (λ nothing good. c.in-Ok-None.ensures.learned nothing),
+      tells_found s.regex.now c.input-input.result now s.ended _ None c.input-input.ensures c.in-Ok-None.ensures.unsupported,
     )
