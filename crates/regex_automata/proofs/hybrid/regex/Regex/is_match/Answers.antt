@@ -129,7 +129,7 @@ returns-in_err-found-clause-owed c =
     let p = c.args.self.now in
     let cache = cache_of c.try_search_fwd-told.new.cache c.args.cache.now.reverse in
     truth_owed p c.args.input.now c.from_residual.result cache
-    (is_store c.try_search_fwd-told.new.cache.store p.forward c.try_search_fwd-told.ensures.of (record { of = refl; settings = c.see_bounds.ensures.settings; within = c.see_bounds.ensures.within }))
+    (is_store c.try_search_fwd-told.new.cache.store p.forward c.try_search_fwd-told.ensures.of (record { of = refl; within = c.see_bounds.ensures }))
     (returns-in_err-found-clause-told c) (returns-in_err-found-clause-answer c) (returns-in_err-found-clause-errors c) (returns-in_err-found-clause-unsupported c) (returns-in_err-found-clause-answers c)
 
 pub returns-clause-owed : goal.returns-clause-owed
@@ -137,5 +137,5 @@ returns-clause-owed c =
     let p = c.args.self.now in
     let cache = cache_of c.try_search_fwd-told.new.cache c.args.cache.now.reverse in
     truth_owed p c.args.input.now (Ok c.is_some.result) cache
-    (is_store c.try_search_fwd-told.new.cache.store p.forward c.try_search_fwd-told.ensures.of (record { of = refl; settings = c.see_bounds.ensures.settings; within = c.see_bounds.ensures.within }))
+    (is_store c.try_search_fwd-told.new.cache.store p.forward c.try_search_fwd-told.ensures.of (record { of = refl; within = c.see_bounds.ensures }))
     (returns-clause-told c) (returns-clause-answer c) tt (returns-clause-unsupported c) (λ reach mode free. tt)
