@@ -339,10 +339,6 @@ pub patterns_turn :
     → ((pairs : List Pair) → T pairs → U pairs) → ArePatterns T input capacity given after → ArePatterns U input capacity given after
 patterns_turn T U input capacity given after turn h = (h.0, turn h.0 h.1, h.2)
 
-pub either : {A B : Type 0} (b : Bool) → (b ≡ true → A) → (b ≡ false → B) → A ⊎ B
-either true f g = inl (f refl)
-either false f g = inr (g refl)
-
 none_half : (half : HalfMatch) → ◌≡◌ {A = Option HalfMatch} None (Some half) → ⊥
 none_half half e = cc
 

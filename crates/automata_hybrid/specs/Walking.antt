@@ -168,6 +168,15 @@ HasItsState t Fresh = Unit {0}
 HasItsState t (At q) = Has t q
 HasItsState t Ended = Unit {0}
 
+-- the ID, where there is one, is that of the state at which a walk stands
+abbrev pub IsNamedAt : Rows → Stage → Option ℕ → Type 0
+IsNamedAt t stage None = Unit {0}
+IsNamedAt t stage (Some id) = (q : Powerset) × (stage ≡ At q) × Names t id q
+
+-- a walk can go on by an ID, or else by its state, which isn't lost
+abbrev pub CanGoOn : Walk → Option ℕ → Type 0
+CanGoOn w at = at ≡ None → w.lost ≡ false
+
 -- a call found no match, or the walk has read more units, or has told one pattern more
 abbrev pub GoesOn : Walk → Walk → Type 0
 GoesOn old new =

@@ -1,5 +1,5 @@
 -- What is made of a set of patterns.
-use Rattle.std.specs.Prelude.{ℕ, ◌≡◌, ◌<◌, ◌⊎◌, ◌↔◌, List, Bool, length, take}
+use Rattle.std.specs.Prelude.{ℕ, ◌<◌, ◌⊎◌, ◌↔◌, List, Bool, length, take}
 use Rattle.automata_base.specs.Answers.{HasPattern}
 use Rattle.automata_base.specs.Input.{Input}
 use Rattle.automata_base.specs.Lists.{In}
@@ -7,7 +7,6 @@ use Rattle.automata_base.specs.PatternSet.{members}
 use Rattle.automata_base.specs.Selections.{Pair}
 use Rattle.automata_base.specs.Tapes.{Forward}
 use Rattle.automata_config.specs.declared.error.SearchError.{SearchError}
-use Rattle.automata_config.specs.declared.error.SearchError.TheVariants as search
 use Rattle.automata_hybrid.specs.Bounds.{Stored}
 use Rattle.automata_hybrid.specs.Machine.{Machine}
 use Rattle.automata_hybrid.specs.Walking.{AreWalked, HasTold, IsWalkRefusal}
@@ -22,5 +21,5 @@ IsJoined pairs old new =
 abbrev pub IsWhichRefusal : Machine → Stored → Input → (old new : List Bool) → SearchError → Type 0
 IsWhichRefusal m c input old new e =
     (walk : Walk) × (k : ℕ) × HasTold Forward m input walk k
-    × ((e ≡ search.OutOfMemory) ⊎ IsWalkRefusal Forward m c input walk k e)
+    × IsWalkRefusal Forward m c input walk k e
     × ((pairs : List Pair) → AreWalked Forward m input pairs → IsJoined (take k pairs) old new)

@@ -1,5 +1,5 @@
 //! Overlapping walks: each call tells the next match, over whatever caches of the DFA.
-ghost use Rattle.std.specs.Prelude.{ℕ, ◌≡◌, ◌+◌, ◌-◌, ◌<◌, ◌≤◌, IfOk, IfErr, OnOk, OnErr, None, Err, List, true, false, length};
+ghost use Rattle.std.specs.Prelude.{ℕ, ◌≡◌, ◌+◌, ◌-◌, ◌<◌, ◌≤◌, ◌⊎◌, ◌^◌, IfOk, IfErr, IfNone, IfSome, OnOk, OnErr, None, Some, Err, List, true, false, length, slice_index};
 ghost use Rattle.automata_base.specs.Answers.{IsOverlapping};
 ghost use Rattle.automata_base.specs.Engines.{engine_of};
 ghost use Rattle.automata_base.specs.Nodes.{nfa_of};
@@ -17,7 +17,7 @@ ghost use Rattle.automata_hybrid.specs.Slots.{supports};
 ghost use Rattle.automata_hybrid.specs.Starting.{MayStart, quit_behind};
 ghost use Rattle.automata_base.specs.declared.util.search.MatchErrorKind.TheVariants.{UnsupportedAnchored as UnsupportedMode};
 ghost use Rattle.automata_hybrid.specs.Table.{Leads, Names};
-ghost use Rattle.automata_hybrid.specs.Walking.{Arrives, GoesOn, HasItsState, HasTold, HasToldBy, IsResumeRefusal, IsRowState, IsWalkOf, IsWalkRefusal, TellsNext, WalkReads, half_nth, start_count};
+ghost use Rattle.automata_hybrid.specs.Walking.{Arrives, CanGoOn, GoesOn, HasItsState, HasTold, HasToldBy, IsNamedAt, IsResumeRefusal, IsRowState, IsWalkOf, IsWalkRefusal, TellsNext, WalkReads, half_nth, start_count};
 ghost use Rattle.automata_hybrid.specs.Walks.{At, Ended, Fresh, way_of, without_match};
 
 use crate::dfa::DFA;
@@ -27,6 +27,7 @@ use crate::search::refusal;
 use crate::search::units::{last_place, place_offset, span_offset};
 use crate::search::walk::{OverlappingState, Way};
 use automata_base::laws::walk_is_right;
+use automata_base::util::primitives::PatternID;
 use automata_base::util::search::{HalfMatch, Input};
 use automata_config::error::{SearchError, StepError};
 
@@ -161,16 +162,18 @@ impl DFA {
         Ok(id)
     }
 
-    /// The ID of the state that a walk goes on from: its start, or the one that it holds.
+    /// The ID of the state that a walk goes on from: its start, the one that is given, or that of the state that it holds.
     fn resume(
         &self,
         cache: &mut Cache,
         input: &Input<'_>,
         way: Way,
         walk: &OverlappingState,
+        at: &Option<LazyStateID>,
     ) -> Result<LazyStateID, SearchError>
         requires of { IsCacheOf cache.old self.now }
-        requires kept { walk.now.lost ≡ false }
+        requires kept { CanGoOn walk.now at.now }
+        requires at { IsNamedAt cache.old.store.table walk.now.stage at.now }
         requires walk { IsWalkOf (way_of way) self.now input.now walk.now }
         requires goes_on { walk.now.stage ≡ Ended → ⊥ }
         requires open { input.now.start ≤ input.now.end }
@@ -189,28 +192,35 @@ impl DFA {
         if walk.is_fresh() {
             return self.walk_start(cache, input, way);
         }
+        if let Some(id) = at {
+            return Ok(*id);
+        }
         match self.put_back(cache, walk) {
             Ok(id) => Ok(id),
             Err(error) => Err(refusal(error, span_offset(input, way, walk.units()))),
         }
     }
 
-    /// Goes on with a walk that has told all of where it stands, to the next pair.
+    /// Goes on with a walk that has told all of where it stands, to the next pair, and answers the ID of the state there.
     fn walk_on(
         &self,
         cache: &mut Cache,
         input: &Input<'_>,
         way: Way,
         walk: &mut OverlappingState,
-    ) -> Result<(), SearchError>
+        at: &Option<LazyStateID>,
+    ) -> Result<Option<LazyStateID>, SearchError>
         requires of { IsCacheOf cache.old self.now }
-        requires kept { walk.old.lost ≡ false }
+        requires kept { CanGoOn walk.old at.now }
+        requires at { IsNamedAt cache.old.store.table walk.old.stage at.now }
         requires walk { IsWalkOf (way_of way) self.now input.now walk.old }
         requires goes_on { walk.old.stage ≡ Ended → ⊥ }
         requires all_told { (q : Powerset) → walk.old.stage ≡ At q → length q.patterns ≤ walk.old.told }
         requires open { input.now.start ≤ input.now.end }
         requires within { walk.old.units ≤ input.now.end - input.now.start }
         ensures of { IsCacheOf cache.new self.now }
+        ensures at { IfOk result (IsNamedAt cache.new.store.table walk.new.stage) }
+        ensures sure { IfOk result (λ next. next ≡ None → walk.new.stage ≡ Ended) }
         ensures tells { OnOk result (TellsNext (way_of way) self.now input.now walk.old walk.new) }
         ensures refused { OnErr result (walk.new ≡ walk.old) }
         ensures errors { (k : ℕ) → HasTold (way_of way) self.now input.now walk.old k → IfErr result (IsWalkRefusal (way_of way) self.now cache.new.store input.now walk.old k) }
@@ -229,21 +239,21 @@ impl DFA {
     {
         self.see_skips();
         let _haystack = input.haystack();
-        let from = self.resume(cache, input, way, walk)?;
-        let at = span_offset(input, way, walk.units());
-        cache.search_start(at);
+        let from = self.resume(cache, input, way, walk, at)?;
+        let place = span_offset(input, way, walk.units());
+        cache.search_start(place);
         cache.see_ids();
         if from.is_dead() {
-            cache.end_search(at);
+            cache.end_search(place);
             walk.end(walk.units());
-            return Ok(());
+            return Ok(None);
         }
         let arrival = self.advance(cache, input, way, from, walk.units())?;
         match arrival.id {
             None => walk.end(arrival.units),
             Some(id) => self.stand(cache, input, way, walk, id, arrival.units),
         }
-        Ok(())
+        Ok(arrival.id)
     }
 
     /// Takes a walk to a state that tells patterns, and tells the first one.
@@ -266,6 +276,7 @@ impl DFA {
         ensures units { walk.new.units ≡ units }
         ensures more { walk.old.units < units }
         ensures on { walk.new.stage ≡ Ended → ⊥ }
+        ensures at { (q : Powerset) × (walk.new.stage ≡ At q) × Names cache.now.store.table id q }
         ensures holds { HasItsState cache.now.store.table walk.new.stage }
     {
         let _haystack = input.haystack();
@@ -276,8 +287,8 @@ impl DFA {
         walk.tell(half);
     }
 
-    /// One call of a walk.
-    pub(crate) fn call(
+    /// One call of a walk by the state that it holds.
+    fn call(
         &self,
         cache: &mut Cache,
         input: &Input<'_>,
@@ -307,27 +318,101 @@ impl DFA {
         ensures units { ClearedNothing cache.old.store cache.new.store → OnOk result (HasLearnedUnits (way_of way) self.now cache.new.store input.now walk.old.units walk.new.units) }
         ensures stops { input.now.start ≤ input.now.end → (walk.old.stage ≡ Ended → ⊥) → OnOk result (walk.new.stage ≡ Ended → (j : ℕ) → walk.new.units ≤ j → WalkReads (way_of way) self.now input.now j → ⊥) }
     {
+        match self.go_on(cache, input, way, walk, &None) {
+            Ok(_) => Ok(()),
+            Err(error) => Err(error),
+        }
+    }
+
+    /// One call of a walk, which goes on by the ID of its state, where that is given, and else by the state that it holds. It
+    /// answers the ID of the state where the walk stands then.
+    pub(crate) fn go_on(
+        &self,
+        cache: &mut Cache,
+        input: &Input<'_>,
+        way: Way,
+        walk: &mut OverlappingState,
+        at: &Option<LazyStateID>,
+    ) -> Result<Option<LazyStateID>, SearchError>
+        requires of { IsCacheOf cache.old self.now }
+        requires at { IsNamedAt cache.old.store.table walk.old.stage at.now }
+        requires walk { IsWalkOf (way_of way) self.now input.now walk.old }
+        ensures of { IsCacheOf cache.new self.now }
+        ensures at { IfOk result (IsNamedAt cache.new.store.table walk.new.stage) }
+        ensures sure { IfOk result (λ next. next ≡ None → (walk.new.stage ≡ Ended) ⊎ (walk.new.lost ≡ false)) }
+        ensures tells { OnOk result (TellsNext (way_of way) self.now input.now walk.old walk.new) }
+        ensures refused { OnErr result (walk.new ≡ without_match walk.old) }
+        ensures errors { CanGoOn walk.old at.now → (k : ℕ) → HasTold (way_of way) self.now input.now walk.old k → IfErr result (IsWalkRefusal (way_of way) self.now cache.new.store input.now walk.old k) }
+        ensures lost { at.now ≡ None → walk.old.lost ≡ true → IfErr result (λ e. e ≡ SearchError.OutOfMemory) }
+        ensures rises { OnOk result (walk.old.units ≤ walk.new.units) }
+        ensures bounded { OnOk result (cache.new.count + walk.old.units ≤ cache.old.count + walk.new.units + start_count walk.old.stage) }
+        ensures most { cache.new.count ≤ cache.old.count + (input.now.end - input.now.start + 1 - walk.old.units) + start_count walk.old.stage }
+        ensures grown { IsGrown cache.old (counted cache.new) }
+        ensures there { HasItsState cache.old.store.table walk.old.stage → IsGrown cache.old cache.new }
+        ensures holds { HasItsState cache.old.store.table walk.old.stage → OnOk result (HasItsState cache.new.store.table walk.new.stage) }
+        ensures ended { walk.old.stage ≡ Ended → IfErr result (λ e. ⊥) × (cache.new ≡ cache.old) }
+        ensures same { (q : Powerset) → walk.old.stage ≡ At q → walk.old.told < length q.patterns → CanGoOn walk.old at.now → IfErr result (λ e. ⊥) × (cache.new ≡ cache.old) }
+        ensures done { input.now.end < input.now.start → IfErr result (λ e. ⊥) × (cache.new ≡ cache.old) }
+        ensures goes_on { OnOk result (GoesOn walk.old walk.new) }
+        ensures unsupported { walk.old.stage ≡ Fresh → input.now.start ≤ input.now.end → quit_behind self.now (tape_in (way_of way) input.now).before ≡ None → supports self.now input.now.anchored ≡ false → result ≡ Err (SearchError.Match (UnsupportedMode input.now.anchored)) }
+        ensures idle { KnowsWalk (way_of way) self.now cache.old.store input.now walk.old → IsStill cache.old cache.new × (CanGoOn walk.old at.now → IfErr result IsOfInput) }
+        ensures learned { ClearedNothing cache.old.store cache.new.store → OnOk result (KnowsWalk (way_of way) self.now cache.new.store input.now walk.old) }
+        ensures units { ClearedNothing cache.old.store cache.new.store → OnOk result (HasLearnedUnits (way_of way) self.now cache.new.store input.now walk.old.units walk.new.units) }
+        ensures stops { input.now.start ≤ input.now.end → (walk.old.stage ≡ Ended → ⊥) → OnOk result (walk.new.stage ≡ Ended → (j : ℕ) → walk.new.units ≤ j → WalkReads (way_of way) self.now input.now j → ⊥) }
+    {
         let _haystack = input.haystack();
         walk.forget_match();
         if walk.has_ended() {
-            return Ok(());
+            return Ok(None);
         }
         if input.is_done() {
             walk.end(walk.units());
-            return Ok(());
+            return Ok(None);
         }
-        if walk.is_lost() {
+        if is_stuck(walk, at) {
             return Err(SearchError::OutOfMemory);
         }
-        if let Some(pattern) = walk.next_pattern() {
-            let at = place_offset(input, way, walk.units() - 1);
-            walk.tell(HalfMatch::new(pattern, at));
-            return Ok(());
+        if let Some(pattern) = self.next_pattern(cache, walk, at) {
+            let place = place_offset(input, way, walk.units() - 1);
+            walk.tell(HalfMatch::new(pattern, place));
+            return Ok(*at);
         }
         if walk.units() > last_place(input) {
             walk.end(walk.units());
-            return Ok(());
+            return Ok(None);
         }
-        self.walk_on(cache, input, way, walk)
+        self.walk_on(cache, input, way, walk, at)
     }
+
+    /// The pattern that a walk tells next at the state where it stands, by the ID of that state, or by the state itself.
+    fn next_pattern(
+        &self,
+        cache: &Cache,
+        walk: &OverlappingState,
+        at: &Option<LazyStateID>,
+    ) -> Option<PatternID>
+        requires at { IsNamedAt cache.now.store.table walk.now.stage at.now }
+        requires kept { CanGoOn walk.now at.now }
+        ensures left { IfSome result (λ p. (q : Powerset) × (walk.now.stage ≡ At q) × (walk.now.told < length q.patterns) × (p ≡ slice_index q.patterns walk.now.told)) }
+        ensures room { IfSome result (λ p. walk.now.told + 1 < 2 ^ 64) }
+        ensures none { IfNone result ((q : Powerset) → walk.now.stage ≡ At q → length q.patterns ≤ walk.now.told) }
+    {
+        let Some(id) = at else {
+            return walk.next_pattern();
+        };
+        let told = walk.told();
+        if told >= cache.match_len(*id) {
+            return None;
+        }
+        Some(cache.match_pattern(*id, told))
+    }
+}
+
+/// Whether a walk has lost its state, and there is no ID of it.
+fn is_stuck(walk: &OverlappingState, at: &Option<LazyStateID>) -> bool
+    ensures yes { result ≡ true → (at.now ≡ None) × (walk.now.lost ≡ true) }
+    ensures no { result ≡ false → CanGoOn walk.now at.now }
+    ensures begun { result ≡ true → walk.now.stage ≡ Fresh → ⊥ }
+{
+    at.is_none() && walk.is_lost()
 }

@@ -105,6 +105,13 @@ impl OverlappingState {
         self.units
     }
 
+    /// How many patterns of its state it has told.
+    pub(crate) fn told(&self) -> usize
+        ensures { result ≡ self.now.told }
+    {
+        self.told
+    }
+
     pub(crate) fn is_fresh(&self) -> bool
         ensures yes { result ≡ true → self.now.stage ≡ Fresh }
         ensures no { result ≡ false → self.now.stage ≡ Fresh → ⊥ }

@@ -1,5 +1,5 @@
 //! The set of the patterns that match, told by one walk forward.
-ghost use Rattle.std.specs.Prelude.{◌≡◌, ◌+◌, ◌-◌, ◌≤◌, ◌⊎◌, IfErr, OnOk, None, Err, true, false, length};
+ghost use Rattle.std.specs.Prelude.{◌≡◌, ◌+◌, ◌-◌, ◌≤◌, IfErr, OnOk, None, Err, true, false, length};
 ghost use Rattle.automata_base.specs.Answers.{ArePatterns, ArePatternsFound};
 ghost use Rattle.automata_base.specs.Engines.{engine_of};
 ghost use Rattle.automata_base.specs.Nodes.{nfa_of};
@@ -53,14 +53,13 @@ impl DFA {
         ensures roomy { HasRoom cache.old.store (input.now.end - input.now.start + 2) → cache.new.store.clears ≡ cache.old.store.clears }
         ensures grown { IsGrown cache.old cache.new }
 
-        // After a call that cleared nothing what it used is known. With all that known it changes nothing but the progress; memory
-        // is wanting then only where a state of the walk couldn't be shared.
+        // After a call that cleared nothing what it used is known. With all that known it takes no memory, and changes nothing
+        // but the progress.
         ensures learned { ClearedNothing cache.old.store cache.new.store → OnOk result (KnowsWhich self.now cache.new.store input.now patset.old) }
-        ensures known { KnowsWhich self.now cache.old.store input.now patset.old → IsStill cache.old cache.new × IfErr result (λ e. (e ≡ SearchError.OutOfMemory) ⊎ IsOfInput e) }
+        ensures known { KnowsWhich self.now cache.old.store input.now patset.old → IsStill cache.old cache.new × IfErr result IsOfInput }
     {
         let _haystack = input.haystack();
-        let found = self.collect(cache, input, patset);
-        found
+        self.collect(cache, input, patset)
     }
 
     /// Takes one pair after another.
@@ -79,14 +78,15 @@ impl DFA {
         ensures unsupported { input.now.start ≤ input.now.end → quit_behind self.now (byte_before input.now.haystack input.now.start) ≡ None → supports self.now input.now.anchored ≡ false → result ≡ Err (SearchError.Match (UnsupportedMode input.now.anchored)) }
         ensures bounded { cache.new.count ≤ cache.old.count + (input.now.end - input.now.start + 2) }
         ensures grown { IsGrown cache.old cache.new }
-        ensures idle { KnowsWhich self.now cache.old.store input.now patset.old → IsStill cache.old cache.new × IfErr result (λ e. (e ≡ SearchError.OutOfMemory) ⊎ IsOfInput e) }
+        ensures idle { KnowsWhich self.now cache.old.store input.now patset.old → IsStill cache.old cache.new × IfErr result IsOfInput }
         ensures learned { ClearedNothing cache.old.store cache.new.store → OnOk result (KnowsWhich self.now cache.new.store input.now patset.old) }
     {
         walk_is_right(self.get_nfa());
         let _haystack = input.haystack();
         let mut walk = OverlappingState::start();
+        let mut at = None;
         loop {
-            self.call(cache, input, Way::Forward, &mut walk)?;
+            let next = self.go_on(cache, input, Way::Forward, &mut walk, &at)?;
             let Some(half) = walk.get_match() else {
                 return Ok(());
             };
@@ -97,6 +97,7 @@ impl DFA {
             if input.get_earliest() {
                 return Ok(());
             }
+            at = next;
         }
     }
 }

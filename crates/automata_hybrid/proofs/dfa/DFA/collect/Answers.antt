@@ -1,4 +1,4 @@
-use Rattle.std.proofs.Common.{inl, inr, length-set, ◌≡◌, ◌∙◌, List, Bool, true, length, set, Some, rules, sym, ap, subst, arith}
+use Rattle.std.proofs.Common.{⊎_elim, inl, inr, length-set, ◌≡◌, ◌∙◌, List, Bool, true, length, set, Some, rules, sym, ap, subst, arith}
 use Rattle.std.specs.Prelude.{IsTrue}
 use Rattle.automata_base.specs.Answers.{ArePatterns, IsOverlapping}
 use Rattle.automata_base.specs.Engines.{engine_of}
@@ -12,24 +12,24 @@ use Rattle.automata_hybrid.specs.Walks.{Ended, Fresh}
 use Rattle.automata_hybrid.proofs.Growing.{grown_trans, nothing_first, nothing_second}
 use Rattle.automata_hybrid.proofs.LearningSets.{half_none, learned_call, open_stops, set_knows}
 use Rattle.automata_hybrid.proofs.Searching.{false_true, if_err, ok_err}
-use Rattle.automata_hybrid.proofs.WalkSets.{IsLacking, Joins, StandsWell, either, joins_all, joins_first, joins_full, joined_more, joins_more, lacking, on_found, patterns_turn, stands_well, steps_less, which_still, which_walk}
+use Rattle.automata_hybrid.proofs.WalkSets.{IsLacking, Joins, StandsWell, joins_all, joins_first, joins_full, joined_more, joins_more, lacking, on_found, patterns_turn, stands_well, steps_less, which_still, which_walk}
 use Rattle.automata_hybrid.proofs.dfa.DFA.collect.Goals as goal
 
-pub returns-in_err-call-clause-errors : goal.returns-in_err-call-clause-errors
-returns-in_err-call-clause-errors c =
+pub returns-in_err-next-clause-errors : goal.returns-in_err-next-clause-errors
+returns-in_err-next-clause-errors c =
     let j = c.loop-walk.invariant.joins in
     if_err c.from_residual.result _ _ c.from_residual.ensures.1
-    (c.loop-walk.walk, j.k, j.told, either c.loop-walk.walk.lost c.in_err-call.ensures.lost (λ kept. c.in_err-call.ensures.errors kept j.k j.told), j.joined)
+    (c.loop-walk.walk, j.k, j.told, c.in_err-next.ensures.errors c.loop-walk.invariant.can j.k j.told, j.joined)
 
-pub returns-in_err-call-clause-grown : goal.returns-in_err-call-clause-grown
-returns-in_err-call-clause-grown c =
-    grown_trans c.args.cache.now c.loop-walk.cache c.call.new.cache c.loop-walk.invariant.grown (c.in_err-call.ensures.there c.loop-walk.invariant.holds)
+pub returns-in_err-next-clause-grown : goal.returns-in_err-next-clause-grown
+returns-in_err-next-clause-grown c =
+    grown_trans c.args.cache.now c.loop-walk.cache c.go_on.new.cache c.loop-walk.invariant.grown (c.in_err-next.ensures.there c.loop-walk.invariant.holds)
 
 pub returns-in_default-clause-found : goal.returns-in_default-clause-found
 returns-in_default-clause-found c =
     let told : WalksAreTold c.args.self.now.nfa = subst WalksAreTold c.get_nfa.ensures c.walk_is_right.ensures.told in
     let list : (pairs : List Pair) × AreWalked Forward c.args.self.now c.args.input.now pairs = told Forward c.args.self.now.kind c.args.input.now in
-    joins_all c.args.self.now c.args.input.now c.args.patset.now c.loop-walk.walk c.call.new.walk c.loop-walk.patset c.loop-walk.invariant.joins c.in_ok-call.ensures.tells list (sym c.get_match.ensures ∙ c.in_default.«is»)
+    joins_all c.args.self.now c.args.input.now c.args.patset.now c.loop-walk.walk c.go_on.new.walk c.loop-walk.patset c.loop-walk.invariant.joins c.in_ok-next.ensures.tells list (sym c.get_match.ensures ∙ c.in_default.«is»)
 
 pub returns-in_default-clause-paths : goal.returns-in_default-clause-paths
 returns-in_default-clause-paths c = λ free.
@@ -40,16 +40,16 @@ returns-in_default-clause-paths c = λ free.
 
 pub returns-in_default-clause-grown : goal.returns-in_default-clause-grown
 returns-in_default-clause-grown c =
-    grown_trans c.args.cache.now c.loop-walk.cache c.call.new.cache c.loop-walk.invariant.grown (c.in_ok-call.ensures.there c.loop-walk.invariant.holds)
+    grown_trans c.args.cache.now c.loop-walk.cache c.go_on.new.cache c.loop-walk.invariant.grown (c.in_ok-next.ensures.there c.loop-walk.invariant.holds)
 
 pub returns-then-is_full-clause-found : goal.returns-then-is_full-clause-found
 returns-then-is_full-clause-found c =
     let told : WalksAreTold c.args.self.now.nfa = subst WalksAreTold c.get_nfa.ensures c.walk_is_right.ensures.told in
     let list : (pairs : List Pair) × AreWalked Forward c.args.self.now c.args.input.now pairs = told Forward c.args.self.now.kind c.args.input.now in
-    let found : c.call.new.walk.found ≡ Some c.in-Some.half = sym c.get_match.ensures ∙ c.in-Some.«is» in
+    let found : c.go_on.new.walk.found ≡ Some c.in-Some.half = sym c.get_match.ensures ∙ c.in-Some.«is» in
     let put : c.try_insert.new.self ≡ set c.loop-walk.patset c.in-Some.half.pattern true = c.try_insert.ensures.inserted ∙ ap (λ n. set c.loop-walk.patset n true) c.pattern.ensures in
     subst (λ (s : List Bool). ArePatterns (AreWalked Forward c.args.self.now c.args.input.now) c.args.input.now (length c.args.patset.now) (members c.args.patset.now) (members s)) (sym put)
-    (joins_full c.args.self.now c.args.input.now c.args.patset.now c.loop-walk.walk c.call.new.walk c.loop-walk.patset c.loop-walk.invariant.joins c.in_ok-call.ensures.tells list c.in-Some.half found
+    (joins_full c.args.self.now c.args.input.now c.args.patset.now c.loop-walk.walk c.go_on.new.walk c.loop-walk.patset c.loop-walk.invariant.joins c.in_ok-next.ensures.tells list c.in-Some.half found
     (subst (λ (s : List Bool). length (members s) ≡ length s) put (c.is_full.ensures.0 c.if-is_full.true)))
 
 pub returns-then-is_full-clause-paths : goal.returns-then-is_full-clause-paths
@@ -61,16 +61,16 @@ returns-then-is_full-clause-paths c = λ free.
 
 pub returns-then-is_full-clause-grown : goal.returns-then-is_full-clause-grown
 returns-then-is_full-clause-grown c =
-    grown_trans c.args.cache.now c.loop-walk.cache c.call.new.cache c.loop-walk.invariant.grown (c.in_ok-call.ensures.there c.loop-walk.invariant.holds)
+    grown_trans c.args.cache.now c.loop-walk.cache c.go_on.new.cache c.loop-walk.invariant.grown (c.in_ok-next.ensures.there c.loop-walk.invariant.holds)
 
 pub returns-then-get_earliest-clause-found : goal.returns-then-get_earliest-clause-found
 returns-then-get_earliest-clause-found c =
     let told : WalksAreTold c.args.self.now.nfa = subst WalksAreTold c.get_nfa.ensures c.walk_is_right.ensures.told in
     let list : (pairs : List Pair) × AreWalked Forward c.args.self.now c.args.input.now pairs = told Forward c.args.self.now.kind c.args.input.now in
-    let found : c.call.new.walk.found ≡ Some c.in-Some.half = sym c.get_match.ensures ∙ c.in-Some.«is» in
+    let found : c.go_on.new.walk.found ≡ Some c.in-Some.half = sym c.get_match.ensures ∙ c.in-Some.«is» in
     let put : c.try_insert.new.self ≡ set c.loop-walk.patset c.in-Some.half.pattern true = c.try_insert.ensures.inserted ∙ ap (λ n. set c.loop-walk.patset n true) c.pattern.ensures in
     subst (λ (s : List Bool). ArePatterns (AreWalked Forward c.args.self.now c.args.input.now) c.args.input.now (length c.args.patset.now) (members c.args.patset.now) (members s)) (sym put)
-    (joins_first c.args.self.now c.args.input.now c.args.patset.now c.loop-walk.walk c.call.new.walk c.loop-walk.patset c.loop-walk.invariant.joins c.in_ok-call.ensures.tells list c.in-Some.half found (sym c.get_earliest.ensures ∙ c.if-get_earliest.true))
+    (joins_first c.args.self.now c.args.input.now c.args.patset.now c.loop-walk.walk c.go_on.new.walk c.loop-walk.patset c.loop-walk.invariant.joins c.in_ok-next.ensures.tells list c.in-Some.half found (sym c.get_earliest.ensures ∙ c.if-get_earliest.true))
 
 pub returns-then-get_earliest-clause-paths : goal.returns-then-get_earliest-clause-paths
 returns-then-get_earliest-clause-paths c = λ free.
@@ -81,83 +81,85 @@ returns-then-get_earliest-clause-paths c = λ free.
 
 pub returns-then-get_earliest-clause-grown : goal.returns-then-get_earliest-clause-grown
 returns-then-get_earliest-clause-grown c =
-    grown_trans c.args.cache.now c.loop-walk.cache c.call.new.cache c.loop-walk.invariant.grown (c.in_ok-call.ensures.there c.loop-walk.invariant.holds)
+    grown_trans c.args.cache.now c.loop-walk.cache c.go_on.new.cache c.loop-walk.invariant.grown (c.in_ok-next.ensures.there c.loop-walk.invariant.holds)
 
 pub loop-walk-smaller : goal.loop-walk-smaller
 loop-walk-smaller c =
-    let found : c.call.new.walk.found ≡ Some c.in-Some.half = sym c.get_match.ensures ∙ c.in-Some.«is» in
+    let found : c.go_on.new.walk.found ≡ Some c.in-Some.half = sym c.get_match.ensures ∙ c.in-Some.«is» in
     let put : c.try_insert.new.self ≡ set c.loop-walk.patset c.in-Some.half.pattern true = c.try_insert.ensures.inserted ∙ ap (λ n. set c.loop-walk.patset n true) c.pattern.ensures in
-    let on = on_found c.loop-walk.walk c.call.new.walk c.in-Some.half c.in_ok-call.ensures.goes_on found in
+    let on = on_found c.loop-walk.walk c.go_on.new.walk c.in-Some.half c.in_ok-next.ensures.goes_on found in
     let j = c.loop-walk.invariant.joins in
-    steps_less c.args.self.now c.args.input.now c.haystack-haystack.ensures.within.1 c.loop-walk.walk c.call.new.walk
-    (stands_well c.args.self.now c.args.input.now c.haystack-haystack.ensures.within.1 c.call.new.walk j.k (c.in_ok-call.ensures.tells j.k j.told).0 on.0) on.1
+    steps_less c.args.self.now c.args.input.now c.haystack-haystack.ensures.within.1 c.loop-walk.walk c.go_on.new.walk
+    (stands_well c.args.self.now c.args.input.now c.haystack-haystack.ensures.within.1 c.go_on.new.walk j.k (c.in_ok-next.ensures.tells j.k j.told).0 on.0) on.1
 
 pub loop-walk-preserved : goal.loop-walk-preserved
 loop-walk-preserved c =
     let told : WalksAreTold c.args.self.now.nfa = subst WalksAreTold c.get_nfa.ensures c.walk_is_right.ensures.told in
     let list : (pairs : List Pair) × AreWalked Forward c.args.self.now c.args.input.now pairs = told Forward c.args.self.now.kind c.args.input.now in
-    let found : c.call.new.walk.found ≡ Some c.in-Some.half = sym c.get_match.ensures ∙ c.in-Some.«is» in
+    let found : c.go_on.new.walk.found ≡ Some c.in-Some.half = sym c.get_match.ensures ∙ c.in-Some.«is» in
     let put : c.try_insert.new.self ≡ set c.loop-walk.patset c.in-Some.half.pattern true = c.try_insert.ensures.inserted ∙ ap (λ n. set c.loop-walk.patset n true) c.pattern.ensures in
-    let on = on_found c.loop-walk.walk c.call.new.walk c.in-Some.half c.in_ok-call.ensures.goes_on found in
+    let on = on_found c.loop-walk.walk c.go_on.new.walk c.in-Some.half c.in_ok-next.ensures.goes_on found in
     let j = c.loop-walk.invariant.joins in
-    let well : StandsWell c.args.self.now c.args.input.now c.haystack-haystack.ensures.within.1 c.call.new.walk =
-    stands_well c.args.self.now c.args.input.now c.haystack-haystack.ensures.within.1 c.call.new.walk j.k (c.in_ok-call.ensures.tells j.k j.told).0 on.0 in
+    let well : StandsWell c.args.self.now c.args.input.now c.haystack-haystack.ensures.within.1 c.go_on.new.walk =
+    stands_well c.args.self.now c.args.input.now c.haystack-haystack.ensures.within.1 c.go_on.new.walk j.k (c.in_ok-next.ensures.tells j.k j.told).0 on.0 in
     let lacks : IsLacking (set c.loop-walk.patset c.in-Some.half.pattern true) = lacking _ 0 (λ full.
     let whole : IsTrue c.is_full.result = c.is_full.ensures.1 (subst (λ (s : List Bool). length (members s) ≡ length s) (sym put) full) in
     false_true (sym c.if-is_full.false ∙ whole)) in
     record {
-      of = c.in_ok-call.ensures.of;
-      grown = grown_trans c.args.cache.now c.loop-walk.cache c.call.new.cache c.loop-walk.invariant.grown (c.in_ok-call.ensures.there c.loop-walk.invariant.holds);
-      holds = c.in_ok-call.ensures.holds c.loop-walk.invariant.holds;
-      counted = omega (arith, well.begun, c.in_ok-call.ensures.bounded, c.loop-walk.invariant.counted);
+      of = c.in_ok-next.ensures.of;
+      grown = grown_trans c.args.cache.now c.loop-walk.cache c.go_on.new.cache c.loop-walk.invariant.grown (c.in_ok-next.ensures.there c.loop-walk.invariant.holds);
+      holds = c.in_ok-next.ensures.holds c.loop-walk.invariant.holds;
+      counted = omega (arith, well.begun, c.in_ok-next.ensures.bounded, c.loop-walk.invariant.counted);
       few = well.units;
       idle = λ knows. (
           let told : WalksAreTold c.args.self.now.nfa = subst WalksAreTold c.get_nfa.ensures c.walk_is_right.ensures.told in
           let list : (pairs : List Pair) × AreWalked Forward c.args.self.now c.args.input.now pairs = told Forward c.args.self.now.kind c.args.input.now in
           let count : c.loop-walk.cache.count ≡ c.args.cache.now.count = c.loop-walk.invariant.idle knows in
-          let here = c.in_ok-call.ensures.idle (which_walk c.args.self.now c.loop-walk.cache.store c.args.input.now c.loop-walk.walk c.args.patset.now c.loop-walk.patset c.loop-walk.invariant.joins list c.loop-walk.invariant.holds
+          let here = c.in_ok-next.ensures.idle (which_walk c.args.self.now c.loop-walk.cache.store c.args.input.now c.loop-walk.walk c.args.patset.now c.loop-walk.patset c.loop-walk.invariant.joins list c.loop-walk.invariant.holds
           (which_still c.args.self.now c.args.input.now c.args.patset.now c.args.cache.now c.loop-walk.cache c.loop-walk.invariant.grown count knows)) in
           here.0.0 ∙ count);
       on = on.0;
+      at = c.in_ok-next.ensures.at;
+      can = λ none. ⊎_elim (λ ended. absurd (on.0 ended)) (λ kept. kept) (c.in_ok-next.ensures.sure none);
       learned = λ nothing undone may. (
-          let stepped : IsGrown c.loop-walk.cache c.call.new.cache = c.in_ok-call.ensures.there c.loop-walk.invariant.holds in
-          let first : ClearedNothing c.args.cache.now.store c.loop-walk.cache.store = nothing_first c.args.cache.now c.loop-walk.cache c.call.new.cache c.loop-walk.invariant.grown stepped nothing in
-          let second : ClearedNothing c.loop-walk.cache.store c.call.new.cache.store = nothing_second c.args.cache.now c.loop-walk.cache c.call.new.cache c.loop-walk.invariant.grown stepped nothing in
-          let all = learned_call c.args.self.now c.args.input.now c.loop-walk.cache c.call.new.cache c.loop-walk.walk c.call.new.walk j.k stepped second j.told undone may (c.loop-walk.invariant.learned first undone may) (c.in_ok-call.ensures.learned second) (c.in_ok-call.ensures.units second) in
+          let stepped : IsGrown c.loop-walk.cache c.go_on.new.cache = c.in_ok-next.ensures.there c.loop-walk.invariant.holds in
+          let first : ClearedNothing c.args.cache.now.store c.loop-walk.cache.store = nothing_first c.args.cache.now c.loop-walk.cache c.go_on.new.cache c.loop-walk.invariant.grown stepped nothing in
+          let second : ClearedNothing c.loop-walk.cache.store c.go_on.new.cache.store = nothing_second c.args.cache.now c.loop-walk.cache c.go_on.new.cache c.loop-walk.invariant.grown stepped nothing in
+          let all = learned_call c.args.self.now c.args.input.now c.loop-walk.cache c.go_on.new.cache c.loop-walk.walk c.go_on.new.walk j.k stepped second j.told undone may (c.loop-walk.invariant.learned first undone may) (c.in_ok-next.ensures.learned second) (c.in_ok-next.ensures.units second) in
           inr all);
-      begins = λ not. absurd (ok_err (c.in_ok-call.ensures.unsupported (c.loop-walk.invariant.begins not) not.0 not.1 not.2));
+      begins = λ not. absurd (ok_err (c.in_ok-next.ensures.unsupported (c.loop-walk.invariant.begins not) not.0 not.1 not.2));
       joins =
-          subst (Joins c.args.self.now c.args.input.now c.call.new.walk c.args.patset.now) (sym put)
-          (joins_more c.args.self.now c.args.input.now c.args.patset.now c.loop-walk.walk c.call.new.walk c.loop-walk.patset c.loop-walk.invariant.joins c.in_ok-call.ensures.tells list c.in-Some.half found (sym c.get_earliest.ensures ∙ c.if-get_earliest.false) lacks);
+          subst (Joins c.args.self.now c.args.input.now c.go_on.new.walk c.args.patset.now) (sym put)
+          (joins_more c.args.self.now c.args.input.now c.args.patset.now c.loop-walk.walk c.go_on.new.walk c.loop-walk.patset c.loop-walk.invariant.joins c.in_ok-next.ensures.tells list c.in-Some.half found (sym c.get_earliest.ensures ∙ c.if-get_earliest.false) lacks);
     }
 
-pub returns-in_err-call-clause-unsupported : goal.returns-in_err-call-clause-unsupported
-returns-in_err-call-clause-unsupported c = λ undone behind mode.
+pub returns-in_err-next-clause-unsupported : goal.returns-in_err-next-clause-unsupported
+returns-in_err-next-clause-unsupported c = λ undone behind mode.
     let fresh : c.loop-walk.walk.stage ≡ Fresh = c.loop-walk.invariant.begins (undone, behind, mode) in
-    let same = c.in_err-call.ensures.unsupported fresh undone behind mode in
+    let same = c.in_err-next.ensures.unsupported fresh undone behind mode in
     search rules
 
 pub returns-in_default-clause-unsupported : goal.returns-in_default-clause-unsupported
 returns-in_default-clause-unsupported c = λ undone behind mode.
-    absurd (ok_err (c.in_ok-call.ensures.unsupported (c.loop-walk.invariant.begins (undone, behind, mode)) undone behind mode))
+    absurd (ok_err (c.in_ok-next.ensures.unsupported (c.loop-walk.invariant.begins (undone, behind, mode)) undone behind mode))
 
 pub returns-then-is_full-clause-unsupported : goal.returns-then-is_full-clause-unsupported
 returns-then-is_full-clause-unsupported c = λ undone behind mode.
-    absurd (ok_err (c.in_ok-call.ensures.unsupported (c.loop-walk.invariant.begins (undone, behind, mode)) undone behind mode))
+    absurd (ok_err (c.in_ok-next.ensures.unsupported (c.loop-walk.invariant.begins (undone, behind, mode)) undone behind mode))
 
 pub returns-then-get_earliest-clause-unsupported : goal.returns-then-get_earliest-clause-unsupported
 returns-then-get_earliest-clause-unsupported c = λ undone behind mode.
-    absurd (ok_err (c.in_ok-call.ensures.unsupported (c.loop-walk.invariant.begins (undone, behind, mode)) undone behind mode))
+    absurd (ok_err (c.in_ok-next.ensures.unsupported (c.loop-walk.invariant.begins (undone, behind, mode)) undone behind mode))
 
-pub returns-in_err-call-clause-idle : goal.returns-in_err-call-clause-idle
-returns-in_err-call-clause-idle c = λ knows.
+pub returns-in_err-next-clause-idle : goal.returns-in_err-next-clause-idle
+returns-in_err-next-clause-idle c = λ knows.
     let told : WalksAreTold c.args.self.now.nfa = subst WalksAreTold c.get_nfa.ensures c.walk_is_right.ensures.told in
     let list : (pairs : List Pair) × AreWalked Forward c.args.self.now c.args.input.now pairs = told Forward c.args.self.now.kind c.args.input.now in
     let count : c.loop-walk.cache.count ≡ c.args.cache.now.count = c.loop-walk.invariant.idle knows in
-    let here = c.in_err-call.ensures.idle (which_walk c.args.self.now c.loop-walk.cache.store c.args.input.now c.loop-walk.walk c.args.patset.now c.loop-walk.patset c.loop-walk.invariant.joins list c.loop-walk.invariant.holds
+    let here = c.in_err-next.ensures.idle (which_walk c.args.self.now c.loop-walk.cache.store c.args.input.now c.loop-walk.walk c.args.patset.now c.loop-walk.patset c.loop-walk.invariant.joins list c.loop-walk.invariant.holds
     (which_still c.args.self.now c.args.input.now c.args.patset.now c.args.cache.now c.loop-walk.cache c.loop-walk.invariant.grown count knows)) in (
-      (returns-in_err-call-clause-grown c).idle (here.0.0 ∙ count),
-      if_err c.from_residual.result _ _ c.from_residual.ensures.1 (either c.loop-walk.walk.lost c.in_err-call.ensures.lost here.1),
+      (returns-in_err-next-clause-grown c).idle (here.0.0 ∙ count),
+      if_err c.from_residual.result _ _ c.from_residual.ensures.1 (here.1 c.loop-walk.invariant.can),
     )
 
 pub returns-in_default-clause-idle : goal.returns-in_default-clause-idle
@@ -165,7 +167,7 @@ returns-in_default-clause-idle c = λ knows.
     let told : WalksAreTold c.args.self.now.nfa = subst WalksAreTold c.get_nfa.ensures c.walk_is_right.ensures.told in
     let list : (pairs : List Pair) × AreWalked Forward c.args.self.now c.args.input.now pairs = told Forward c.args.self.now.kind c.args.input.now in
     let count : c.loop-walk.cache.count ≡ c.args.cache.now.count = c.loop-walk.invariant.idle knows in
-    let here = c.in_ok-call.ensures.idle (which_walk c.args.self.now c.loop-walk.cache.store c.args.input.now c.loop-walk.walk c.args.patset.now c.loop-walk.patset c.loop-walk.invariant.joins list c.loop-walk.invariant.holds
+    let here = c.in_ok-next.ensures.idle (which_walk c.args.self.now c.loop-walk.cache.store c.args.input.now c.loop-walk.walk c.args.patset.now c.loop-walk.patset c.loop-walk.invariant.joins list c.loop-walk.invariant.holds
     (which_still c.args.self.now c.args.input.now c.args.patset.now c.args.cache.now c.loop-walk.cache c.loop-walk.invariant.grown count knows)) in
     ((returns-in_default-clause-grown c).idle (here.0.0 ∙ count), tt)
 
@@ -174,7 +176,7 @@ returns-then-is_full-clause-idle c = λ knows.
     let told : WalksAreTold c.args.self.now.nfa = subst WalksAreTold c.get_nfa.ensures c.walk_is_right.ensures.told in
     let list : (pairs : List Pair) × AreWalked Forward c.args.self.now c.args.input.now pairs = told Forward c.args.self.now.kind c.args.input.now in
     let count : c.loop-walk.cache.count ≡ c.args.cache.now.count = c.loop-walk.invariant.idle knows in
-    let here = c.in_ok-call.ensures.idle (which_walk c.args.self.now c.loop-walk.cache.store c.args.input.now c.loop-walk.walk c.args.patset.now c.loop-walk.patset c.loop-walk.invariant.joins list c.loop-walk.invariant.holds
+    let here = c.in_ok-next.ensures.idle (which_walk c.args.self.now c.loop-walk.cache.store c.args.input.now c.loop-walk.walk c.args.patset.now c.loop-walk.patset c.loop-walk.invariant.joins list c.loop-walk.invariant.holds
     (which_still c.args.self.now c.args.input.now c.args.patset.now c.args.cache.now c.loop-walk.cache c.loop-walk.invariant.grown count knows)) in
     ((returns-then-is_full-clause-grown c).idle (here.0.0 ∙ count), tt)
 
@@ -183,56 +185,56 @@ returns-then-get_earliest-clause-idle c = λ knows.
     let told : WalksAreTold c.args.self.now.nfa = subst WalksAreTold c.get_nfa.ensures c.walk_is_right.ensures.told in
     let list : (pairs : List Pair) × AreWalked Forward c.args.self.now c.args.input.now pairs = told Forward c.args.self.now.kind c.args.input.now in
     let count : c.loop-walk.cache.count ≡ c.args.cache.now.count = c.loop-walk.invariant.idle knows in
-    let here = c.in_ok-call.ensures.idle (which_walk c.args.self.now c.loop-walk.cache.store c.args.input.now c.loop-walk.walk c.args.patset.now c.loop-walk.patset c.loop-walk.invariant.joins list c.loop-walk.invariant.holds
+    let here = c.in_ok-next.ensures.idle (which_walk c.args.self.now c.loop-walk.cache.store c.args.input.now c.loop-walk.walk c.args.patset.now c.loop-walk.patset c.loop-walk.invariant.joins list c.loop-walk.invariant.holds
     (which_still c.args.self.now c.args.input.now c.args.patset.now c.args.cache.now c.loop-walk.cache c.loop-walk.invariant.grown count knows)) in
     ((returns-then-get_earliest-clause-grown c).idle (here.0.0 ∙ count), tt)
 
 pub returns-in_default-clause-learned : goal.returns-in_default-clause-learned
 returns-in_default-clause-learned c = λ nothing undone may.
-    let stepped : IsGrown c.loop-walk.cache c.call.new.cache = c.in_ok-call.ensures.there c.loop-walk.invariant.holds in
-    let first : ClearedNothing c.args.cache.now.store c.loop-walk.cache.store = nothing_first c.args.cache.now c.loop-walk.cache c.call.new.cache c.loop-walk.invariant.grown stepped nothing in
-    let second : ClearedNothing c.loop-walk.cache.store c.call.new.cache.store = nothing_second c.args.cache.now c.loop-walk.cache c.call.new.cache c.loop-walk.invariant.grown stepped nothing in
+    let stepped : IsGrown c.loop-walk.cache c.go_on.new.cache = c.in_ok-next.ensures.there c.loop-walk.invariant.holds in
+    let first : ClearedNothing c.args.cache.now.store c.loop-walk.cache.store = nothing_first c.args.cache.now c.loop-walk.cache c.go_on.new.cache c.loop-walk.invariant.grown stepped nothing in
+    let second : ClearedNothing c.loop-walk.cache.store c.go_on.new.cache.store = nothing_second c.args.cache.now c.loop-walk.cache c.go_on.new.cache c.loop-walk.invariant.grown stepped nothing in
     let j = c.loop-walk.invariant.joins in
-    let all = learned_call c.args.self.now c.args.input.now c.loop-walk.cache c.call.new.cache c.loop-walk.walk c.call.new.walk j.k stepped second j.told undone may (c.loop-walk.invariant.learned first undone may) (c.in_ok-call.ensures.learned second) (c.in_ok-call.ensures.units second) in
+    let all = learned_call c.args.self.now c.args.input.now c.loop-walk.cache c.go_on.new.cache c.loop-walk.walk c.go_on.new.walk j.k stepped second j.told undone may (c.loop-walk.invariant.learned first undone may) (c.in_ok-next.ensures.learned second) (c.in_ok-next.ensures.units second) in
     let told : WalksAreTold c.args.self.now.nfa = subst WalksAreTold c.get_nfa.ensures c.walk_is_right.ensures.told in
     let list : (pairs : List Pair) × AreWalked Forward c.args.self.now c.args.input.now pairs = told Forward c.args.self.now.kind c.args.input.now in
-    let next = (c.in_ok-call.ensures.tells j.k j.told).1 list.0 list.1 in
-    let ended : c.call.new.walk.stage ≡ Ended = next.1 (half_none list.0 j.k (sym next.0 ∙ (sym c.get_match.ensures ∙ c.in_default.«is»))) in
-    set_knows c.args.self.now c.call.new.cache.store c.args.input.now c.args.patset.now c.call.new.walk all
-    (λ n pairs l reads unsplit is_open. c.in_ok-call.ensures.stops undone c.loop-walk.invariant.on ended n l reads)
+    let next = (c.in_ok-next.ensures.tells j.k j.told).1 list.0 list.1 in
+    let ended : c.go_on.new.walk.stage ≡ Ended = next.1 (half_none list.0 j.k (sym next.0 ∙ (sym c.get_match.ensures ∙ c.in_default.«is»))) in
+    set_knows c.args.self.now c.go_on.new.cache.store c.args.input.now c.args.patset.now c.go_on.new.walk all
+    (λ n pairs l reads unsplit is_open. c.in_ok-next.ensures.stops undone c.loop-walk.invariant.on ended n l reads)
 
 pub returns-then-is_full-clause-learned : goal.returns-then-is_full-clause-learned
 returns-then-is_full-clause-learned c = λ nothing undone may.
-    let stepped : IsGrown c.loop-walk.cache c.call.new.cache = c.in_ok-call.ensures.there c.loop-walk.invariant.holds in
-    let first : ClearedNothing c.args.cache.now.store c.loop-walk.cache.store = nothing_first c.args.cache.now c.loop-walk.cache c.call.new.cache c.loop-walk.invariant.grown stepped nothing in
-    let second : ClearedNothing c.loop-walk.cache.store c.call.new.cache.store = nothing_second c.args.cache.now c.loop-walk.cache c.call.new.cache c.loop-walk.invariant.grown stepped nothing in
+    let stepped : IsGrown c.loop-walk.cache c.go_on.new.cache = c.in_ok-next.ensures.there c.loop-walk.invariant.holds in
+    let first : ClearedNothing c.args.cache.now.store c.loop-walk.cache.store = nothing_first c.args.cache.now c.loop-walk.cache c.go_on.new.cache c.loop-walk.invariant.grown stepped nothing in
+    let second : ClearedNothing c.loop-walk.cache.store c.go_on.new.cache.store = nothing_second c.args.cache.now c.loop-walk.cache c.go_on.new.cache c.loop-walk.invariant.grown stepped nothing in
     let j = c.loop-walk.invariant.joins in
-    let all = learned_call c.args.self.now c.args.input.now c.loop-walk.cache c.call.new.cache c.loop-walk.walk c.call.new.walk j.k stepped second j.told undone may (c.loop-walk.invariant.learned first undone may) (c.in_ok-call.ensures.learned second) (c.in_ok-call.ensures.units second) in
+    let all = learned_call c.args.self.now c.args.input.now c.loop-walk.cache c.go_on.new.cache c.loop-walk.walk c.go_on.new.walk j.k stepped second j.told undone may (c.loop-walk.invariant.learned first undone may) (c.in_ok-next.ensures.learned second) (c.in_ok-next.ensures.units second) in
     let told : WalksAreTold c.args.self.now.nfa = subst WalksAreTold c.get_nfa.ensures c.walk_is_right.ensures.told in
     let list : (pairs : List Pair) × AreWalked Forward c.args.self.now c.args.input.now pairs = told Forward c.args.self.now.kind c.args.input.now in
-    let found : c.call.new.walk.found ≡ Some c.in-Some.half = sym c.get_match.ensures ∙ c.in-Some.«is» in
+    let found : c.go_on.new.walk.found ≡ Some c.in-Some.half = sym c.get_match.ensures ∙ c.in-Some.«is» in
     let put : c.try_insert.new.self ≡ set c.loop-walk.patset c.in-Some.half.pattern true = c.try_insert.ensures.inserted ∙ ap (λ n. set c.loop-walk.patset n true) c.pattern.ensures in
-    let on = on_found c.loop-walk.walk c.call.new.walk c.in-Some.half c.in_ok-call.ensures.goes_on found in
-    set_knows c.args.self.now c.call.new.cache.store c.args.input.now c.args.patset.now c.call.new.walk all
-    (open_stops c.args.self.now c.args.input.now c.call.new.walk j.k (c.in_ok-call.ensures.tells j.k j.told).0 on.0 c.args.patset.now (set c.loop-walk.patset c.in-Some.half.pattern true) list.0 undone list.1
+    let on = on_found c.loop-walk.walk c.go_on.new.walk c.in-Some.half c.in_ok-next.ensures.goes_on found in
+    set_knows c.args.self.now c.go_on.new.cache.store c.args.input.now c.args.patset.now c.go_on.new.walk all
+    (open_stops c.args.self.now c.args.input.now c.go_on.new.walk j.k (c.in_ok-next.ensures.tells j.k j.told).0 on.0 c.args.patset.now (set c.loop-walk.patset c.in-Some.half.pattern true) list.0 undone list.1
     (length-set c.loop-walk.patset c.in-Some.half.pattern true ∙ j.capacity)
-    (joined_more c.args.self.now c.args.input.now c.args.patset.now c.loop-walk.walk c.call.new.walk c.loop-walk.patset j c.in_ok-call.ensures.tells list c.in-Some.half found)
+    (joined_more c.args.self.now c.args.input.now c.args.patset.now c.loop-walk.walk c.go_on.new.walk c.loop-walk.patset j c.in_ok-next.ensures.tells list c.in-Some.half found)
     (inr (subst (λ (s : List Bool). length (members s) ≡ length s) put (c.is_full.ensures.0 c.if-is_full.true))))
 
 pub returns-then-get_earliest-clause-learned : goal.returns-then-get_earliest-clause-learned
 returns-then-get_earliest-clause-learned c = λ nothing undone may.
-    let stepped : IsGrown c.loop-walk.cache c.call.new.cache = c.in_ok-call.ensures.there c.loop-walk.invariant.holds in
-    let first : ClearedNothing c.args.cache.now.store c.loop-walk.cache.store = nothing_first c.args.cache.now c.loop-walk.cache c.call.new.cache c.loop-walk.invariant.grown stepped nothing in
-    let second : ClearedNothing c.loop-walk.cache.store c.call.new.cache.store = nothing_second c.args.cache.now c.loop-walk.cache c.call.new.cache c.loop-walk.invariant.grown stepped nothing in
+    let stepped : IsGrown c.loop-walk.cache c.go_on.new.cache = c.in_ok-next.ensures.there c.loop-walk.invariant.holds in
+    let first : ClearedNothing c.args.cache.now.store c.loop-walk.cache.store = nothing_first c.args.cache.now c.loop-walk.cache c.go_on.new.cache c.loop-walk.invariant.grown stepped nothing in
+    let second : ClearedNothing c.loop-walk.cache.store c.go_on.new.cache.store = nothing_second c.args.cache.now c.loop-walk.cache c.go_on.new.cache c.loop-walk.invariant.grown stepped nothing in
     let j = c.loop-walk.invariant.joins in
-    let all = learned_call c.args.self.now c.args.input.now c.loop-walk.cache c.call.new.cache c.loop-walk.walk c.call.new.walk j.k stepped second j.told undone may (c.loop-walk.invariant.learned first undone may) (c.in_ok-call.ensures.learned second) (c.in_ok-call.ensures.units second) in
+    let all = learned_call c.args.self.now c.args.input.now c.loop-walk.cache c.go_on.new.cache c.loop-walk.walk c.go_on.new.walk j.k stepped second j.told undone may (c.loop-walk.invariant.learned first undone may) (c.in_ok-next.ensures.learned second) (c.in_ok-next.ensures.units second) in
     let told : WalksAreTold c.args.self.now.nfa = subst WalksAreTold c.get_nfa.ensures c.walk_is_right.ensures.told in
     let list : (pairs : List Pair) × AreWalked Forward c.args.self.now c.args.input.now pairs = told Forward c.args.self.now.kind c.args.input.now in
-    let found : c.call.new.walk.found ≡ Some c.in-Some.half = sym c.get_match.ensures ∙ c.in-Some.«is» in
+    let found : c.go_on.new.walk.found ≡ Some c.in-Some.half = sym c.get_match.ensures ∙ c.in-Some.«is» in
     let put : c.try_insert.new.self ≡ set c.loop-walk.patset c.in-Some.half.pattern true = c.try_insert.ensures.inserted ∙ ap (λ n. set c.loop-walk.patset n true) c.pattern.ensures in
-    let on = on_found c.loop-walk.walk c.call.new.walk c.in-Some.half c.in_ok-call.ensures.goes_on found in
-    set_knows c.args.self.now c.call.new.cache.store c.args.input.now c.args.patset.now c.call.new.walk all
-    (open_stops c.args.self.now c.args.input.now c.call.new.walk j.k (c.in_ok-call.ensures.tells j.k j.told).0 on.0 c.args.patset.now (set c.loop-walk.patset c.in-Some.half.pattern true) list.0 undone list.1
+    let on = on_found c.loop-walk.walk c.go_on.new.walk c.in-Some.half c.in_ok-next.ensures.goes_on found in
+    set_knows c.args.self.now c.go_on.new.cache.store c.args.input.now c.args.patset.now c.go_on.new.walk all
+    (open_stops c.args.self.now c.args.input.now c.go_on.new.walk j.k (c.in_ok-next.ensures.tells j.k j.told).0 on.0 c.args.patset.now (set c.loop-walk.patset c.in-Some.half.pattern true) list.0 undone list.1
     (length-set c.loop-walk.patset c.in-Some.half.pattern true ∙ j.capacity)
-    (joined_more c.args.self.now c.args.input.now c.args.patset.now c.loop-walk.walk c.call.new.walk c.loop-walk.patset j c.in_ok-call.ensures.tells list c.in-Some.half found)
+    (joined_more c.args.self.now c.args.input.now c.args.patset.now c.loop-walk.walk c.go_on.new.walk c.loop-walk.patset j c.in_ok-next.ensures.tells list c.in-Some.half found)
     (inl (sym c.get_earliest.ensures ∙ c.if-get_earliest.true)))

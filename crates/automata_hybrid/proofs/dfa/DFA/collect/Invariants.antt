@@ -5,7 +5,7 @@ use Rattle.automata_hybrid.specs.KnowingWalks.{KnowsWhich}
 use Rattle.automata_base.specs.Tapes.{Forward}
 use Rattle.automata_hybrid.specs.Searches.{tape_in}
 use Rattle.automata_hybrid.specs.Starting.{MayStart}
-use Rattle.automata_hybrid.specs.Walking.{HasItsState, start_count}
+use Rattle.automata_hybrid.specs.Walking.{CanGoOn, HasItsState, IsNamedAt, start_count}
 use Rattle.automata_hybrid.specs.Walks.{Ended, Fresh}
 use Rattle.automata_hybrid.proofs.LearningSets.{HasLearnedWalk}
 use Rattle.automata_hybrid.proofs.WalkSets.{Joins, MayNotStart, steps_left}
@@ -21,6 +21,8 @@ invariant-loop-walk l = record {
   begins : MayNotStart l.self l.input → l.walk.stage ≡ Fresh;
   idle : KnowsWhich l.self l.fn.cache.store l.input l.fn.patset → l.cache.count ≡ l.fn.cache.count;
   on : l.walk.stage ≡ Ended → ⊥;
+  at : IsNamedAt l.cache.store.table l.walk.stage l.at;
+  can : CanGoOn l.walk l.at;
   learned : ClearedNothing l.fn.cache.store l.cache.store → l.input.start ≤ l.input.end → MayStart l.self l.input.anchored (tape_in Forward l.input).before → HasLearnedWalk l.self l.cache.store l.input l.walk;
   joins : Joins l.self l.input l.walk l.fn.patset l.patset;
 }
