@@ -10,6 +10,7 @@ pub mod Results
 pub mod Right
 pub mod Rising
 pub mod Telling
+pub mod Tokenising
 pub mod Owed
 pub mod WalkCalls
 pub mod KeptWalks

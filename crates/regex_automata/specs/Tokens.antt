@@ -1,0 +1,83 @@
+-- The tokens of an input, one behind another.
+use Rattle.std.specs.Prelude.{ℕ, ◌≡◌, ◌<◌, ◌≤◌, ◌⊎◌, ◌-◌, ◌++◌, Bool, true, false, if◌then◌else◌, nat_lt, List, [], ◌∷◌, Option, None, Some, Result, Ok, Err, slice_range}
+use Rattle.automata_base.specs.Input.{Input}
+use Rattle.automata_base.specs.Matches.{HalfMatch, Match}
+use Rattle.automata_base.specs.Tapes.{Forward}
+use Rattle.automata_base.specs.declared.util.search.Anchored.TheVariants.{Yes}
+use Rattle.automata_config.specs.declared.error.SearchError.{SearchError}
+use Rattle.automata_hybrid.specs.Bounds.{Stored}
+use Rattle.automata_hybrid.specs.Machine.{Machine}
+use Rattle.automata_hybrid.specs.Searches.{IsRefused}
+use Rattle.regex_automata.specs.Owing.{IsHalf}
+use Rattle.regex_automata.specs.declared.tokens.error.TokenError.{TokenError}
+use Rattle.regex_automata.specs.declared.tokens.error.TokenError.TheVariants.{NoToken, Search}
+use Rattle.regex_automata.specs.declared.tokens.token.Token.{Token}
+
+-- what is searched at a place: what is left of the span, anchored and in full
+abbrev pub asked : List ℕ → (end place : ℕ) → Input
+asked h end place = record { haystack = h; start = place; end = end; anchored = Yes; earliest = false }
+
+-- a match ends in what is searched
+abbrev pub EndsIn : Input → HalfMatch → Type 0
+EndsIn input half = (input.start ≤ half.offset) × (half.offset ≤ input.end)
+
+-- what the answer there makes: a token up to its end, where that is past the place; no token, where it ends at the
+-- place or there is none; and a refusal is told as it is
+abbrev pub item_of : (place : ℕ) → Result (Option HalfMatch) SearchError → Result Match TokenError
+item_of place (Ok (Some half)) =
+    if nat_lt place half.offset
+    then Ok (record { pattern = half.pattern; start = place; end = half.offset })
+    else Err (NoToken place)
+item_of place (Ok None) = Err (NoToken place)
+item_of place (Err e) = Err (Search e)
+
+-- an item at a place before the span's end: what an answer makes that the forward search there owes
+abbrev pub IsItemAt : Machine → List ℕ → (end place : ℕ) → Result Match TokenError → Type 0
+IsItemAt m h end place item =
+    (place < end)
+    × ((answer : Result (Option HalfMatch) SearchError)
+    × IsHalf Forward m (asked h end place) answer × (item ≡ item_of place answer))
+
+-- the bytes of a match; and of matches, joined
+abbrev pub bytes_of : List ℕ → Match → List ℕ
+bytes_of h t = slice_range h t.start t.end
+
+abbrev pub joined : List ℕ → List Match → List ℕ
+joined h [] = []
+joined h (t ∷ ts) = bytes_of h t ++ joined h ts
+
+-- a token at a place: the item there, with its bytes
+pub record IsTokenAt (m : Machine) (h : List ℕ) (end place : ℕ) (t : Token) : Type 0 where
+  pub item : IsItemAt m h end place (Ok t.found)
+  pub bytes : t.bytes.now ≡ bytes_of h t.found
+  -- it begins at the place, goes past it, and lies before the span's end
+  pub start : t.found.start ≡ place
+  pub past : place < t.found.end
+  pub within : t.found.end ≤ end
+
+-- a refused search is refused over this cache
+abbrev pub IsRefusedAt : Machine → Stored → List ℕ → (end place : ℕ) → TokenError → Type 0
+IsRefusedAt m c h end place (NoToken at) = Unit {0}
+IsRefusedAt m c h end place (Search e) = IsRefused Forward m c (asked h end place) e
+
+-- a token at a place, or the error there
+abbrev pub IsGivenAt : Machine → Stored → List ℕ → (end place : ℕ) → Result Token TokenError → Type 0
+IsGivenAt m c h end place (Ok t) = IsTokenAt m h end place t
+IsGivenAt m c h end place (Err e) = IsItemAt m h end place (Err e) × IsRefusedAt m c h end place e
+
+-- one item, and how the tokens stand before and behind it: the place, and whether an error was told. Nothing comes at
+-- the span's end, and nothing after an error
+abbrev pub GivesToken :
+    Machine → Stored → List ℕ → (end : ℕ) → Option (Result Token TokenError)
+    → (place place' : ℕ) → (failed failed' : Bool) → Type 0
+GivesToken m c h end None place place' failed failed' =
+    ((failed ≡ true) ⊎ (end ≤ place)) × (place' ≡ place) × (failed' ≡ failed)
+GivesToken m c h end (Some (Ok t)) place place' failed failed' =
+    IsTokenAt m h end place t × (place' ≡ t.found.end) × (failed ≡ false) × (failed' ≡ false)
+GivesToken m c h end (Some (Err e)) place place' failed failed' =
+    IsGivenAt m c h end place (Err e) × (place' ≡ place) × (failed ≡ false) × (failed' ≡ true)
+
+-- how many items may come
+abbrev pub most_left : (failed : Bool) → (end place : ℕ) → ℕ
+most_left true end place = 0
+most_left false end place = end - place
