@@ -1,5 +1,5 @@
 -- What a forward search tells a tokeniser.
-use Rattle.std.proofs.Common.{ℕ, ◌≡◌, ◌≤◌, length, Option, Some, None, ap, sym, subst}
+use Rattle.std.proofs.Common.{◌≡◌, ◌≤◌, length, Option, Some, None, sym, subst}
 use Rattle.std.specs.Prelude.{Result, Ok, Err, IfOk, IfSome, option_map}
 use Rattle.automata_base.specs.Answers.{Half}
 use Rattle.automata_base.specs.Input.{Input}

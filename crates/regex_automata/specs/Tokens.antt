@@ -1,14 +1,19 @@
 -- The tokens of an input, one behind another.
-use Rattle.std.specs.Prelude.{ℕ, ◌≡◌, ◌<◌, ◌≤◌, ◌⊎◌, ◌-◌, ◌++◌, Bool, true, false, if◌then◌else◌, nat_lt, List, [], ◌∷◌, Option, None, Some, Result, Ok, Err, slice_range}
+use Rattle.std.specs.Prelude.{ℕ, ◌≡◌, ◌<◌, ◌≤◌, ◌⊎◌, ◌-◌, ◌++◌, Bool, true, false, if◌then◌else◌, nat_lt, List, [], ◌∷◌, Option, None, Some, Result, Ok, Err, IfSome, slice_range}
+use Rattle.automata_base.specs.Answers.{IsAnswer}
+use Rattle.automata_base.specs.Engines.{engine_of}
 use Rattle.automata_base.specs.Input.{Input}
 use Rattle.automata_base.specs.Matches.{HalfMatch, Match}
+use Rattle.automata_base.specs.Nodes.{nfa_of}
+use Rattle.automata_base.specs.Paths.{IsLookAcyclic}
 use Rattle.automata_base.specs.Tapes.{Forward}
 use Rattle.automata_base.specs.declared.util.search.Anchored.TheVariants.{Yes}
 use Rattle.automata_config.specs.declared.error.SearchError.{SearchError}
+use Rattle.automata_config.specs.declared.error.SearchError.TheVariants as search
 use Rattle.automata_hybrid.specs.Bounds.{Stored}
 use Rattle.automata_hybrid.specs.Machine.{Machine}
-use Rattle.automata_hybrid.specs.Searches.{IsRefused}
-use Rattle.regex_automata.specs.Owing.{IsHalf}
+use Rattle.automata_hybrid.specs.Searches.{IsFound, IsRefused, WithoutBase}
+use Rattle.regex_automata.specs.Owing.{IsHalf, IsMemory, IsUnhindered}
 use Rattle.regex_automata.specs.declared.tokens.error.TokenError.{TokenError}
 use Rattle.regex_automata.specs.declared.tokens.error.TokenError.TheVariants.{NoToken, Search}
 use Rattle.regex_automata.specs.declared.tokens.token.Token.{Token}
@@ -81,3 +86,52 @@ GivesToken m c h end (Some (Err e)) place place' failed failed' =
 abbrev pub most_left : (failed : Bool) → (end place : ℕ) → ℕ
 most_left true end place = 0
 most_left false end place = end - place
+
+-- tokens one behind another, the first at this place: each is the item where the one before ended. Behind the last is
+-- the span's end, or an error, which is the item there or want of memory for the list
+abbrev pub AreGiven : Machine → List ℕ → (end place : ℕ) → List Match → Option TokenError → Type 0
+AreGiven m h end place [] None = end ≤ place
+AreGiven m h end place [] (Some e) = (e ≡ Search search.OutOfMemory) ⊎ IsItemAt m h end place (Err e)
+AreGiven m h end place (t ∷ ts) error = IsItemAt m h end place (Ok t) × AreGiven m h end t.end ts error
+
+-- the same by what searches find: a token ends where an answer does, past its place; there is no token where there is no
+-- answer, or one that ends at the place
+abbrev pub AreFoundBy :
+    (Finds : Input → Option HalfMatch → Type 0) → List ℕ → (end place : ℕ) → List Match → Option TokenError → Type 0
+AreFoundBy Finds h end place [] None = end ≤ place
+AreFoundBy Finds h end place [] (Some (NoToken at)) =
+    (at ≡ place) × (place < end)
+    × (Finds (asked h end place) None
+    ⊎ ((pattern : ℕ) × Finds (asked h end place) (Some (record { pattern = pattern; offset = place }))))
+AreFoundBy Finds h end place [] (Some (Search e)) = Unit {0}
+AreFoundBy Finds h end place (t ∷ ts) error =
+    (t.start ≡ place) × (place < t.end) × (t.end ≤ end)
+    × Finds (asked h end place) (Some (record { pattern = t.pattern; offset = t.end }))
+    × AreFoundBy Finds h end t.end ts error
+
+-- one list of bytes begins another
+abbrev pub IsBeginningOf : List ℕ → List ℕ → Type 0
+IsBeginningOf part whole = (rest : List ℕ) × (whole ≡ part ++ rest)
+
+-- there is no token, or memory is wanting
+abbrev pub IsNoTokenOrMemory : TokenError → Type 0
+IsNoTokenOrMemory (NoToken at) = Unit {0}
+IsNoTokenOrMemory (Search e) = IsMemory e
+
+-- the tokens of an input, one behind another; or the first ones, and the error that ended them
+pub record AreTokensUpto (m : Machine) (input : Input) (ts : List Match) (error : Option TokenError) : Type 0 where
+  -- each is what an answer makes that the search at its place owes
+  pub given : AreGiven m input.haystack input.end input.start ts error
+  -- for every automaton, what the passes tell
+  pub found : AreFoundBy (λ i. WithoutBase (IsFound Forward m i)) input.haystack input.end input.start ts error
+  -- where no cycle passes a look, the answers of the ordered paths
+  pub paths :
+      IsLookAcyclic (nfa_of m.nfa)
+      → AreFoundBy (λ i. WithoutBase (IsAnswer Forward (engine_of m.nfa m.kind) i)) input.haystack input.end input.start
+      ts error
+  -- their bytes joined are a beginning of the span's bytes, and without an error all of them
+  pub beginning :
+      IsBeginningOf (joined input.haystack ts) (slice_range input.haystack input.start input.end)
+  pub whole : error ≡ None → joined input.haystack ts ≡ slice_range input.haystack input.start input.end
+  -- where nothing stands in the way of an answer, there is no token or memory is wanting
+  pub free : IsUnhindered m (asked input.haystack input.end input.start) → IfSome error IsNoTokenOrMemory

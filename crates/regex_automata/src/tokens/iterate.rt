@@ -1,4 +1,4 @@
-ghost use Rattle.std.specs.Prelude.{◌≡◌, ◌≤◌, ◌<◌, ◌-◌, IfOk, IfErr, IfSome, false};
+ghost use Rattle.std.specs.Prelude.{◌≡◌, ◌<◌, ◌-◌, IfOk, IfErr, IfSome, false};
 ghost use Rattle.std.specs.Iterator.{at_most};
 ghost use Rattle.automata_base.specs.Input.{Allows};
 ghost use Rattle.automata_base.specs.Tapes.{Forward};
