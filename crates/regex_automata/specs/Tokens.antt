@@ -51,14 +51,18 @@ abbrev pub joined : List ℕ → List Match → List ℕ
 joined h [] = []
 joined h (t ∷ ts) = bytes_of h t ++ joined h ts
 
+-- a token by its pattern and its span
+abbrev pub match_of : Token → Match
+match_of t = record { pattern = t.pattern; start = t.span.start; end = t.span.end }
+
 -- a token at a place: the item there, with its bytes
 pub record IsTokenAt (m : Machine) (h : List ℕ) (end place : ℕ) (t : Token) : Type 0 where
-  pub item : IsItemAt m h end place (Ok t.found)
-  pub bytes : t.bytes.now ≡ bytes_of h t.found
+  pub item : IsItemAt m h end place (Ok (match_of t))
+  pub bytes : t.bytes.now ≡ bytes_of h (match_of t)
   -- it begins at the place, goes past it, and lies before the span's end
-  pub start : t.found.start ≡ place
-  pub past : place < t.found.end
-  pub within : t.found.end ≤ end
+  pub start : t.span.start ≡ place
+  pub past : place < t.span.end
+  pub within : t.span.end ≤ end
 
 -- a refused search is refused over this cache
 abbrev pub IsRefusedAt : Machine → Stored → List ℕ → (end place : ℕ) → TokenError → Type 0
@@ -78,7 +82,7 @@ abbrev pub GivesToken :
 GivesToken m c h end None place place' failed failed' =
     ((failed ≡ true) ⊎ (end ≤ place)) × (place' ≡ place) × (failed' ≡ failed)
 GivesToken m c h end (Some (Ok t)) place place' failed failed' =
-    IsTokenAt m h end place t × (place' ≡ t.found.end) × (failed ≡ false) × (failed' ≡ false)
+    IsTokenAt m h end place t × (place' ≡ t.span.end) × (failed ≡ false) × (failed' ≡ false)
 GivesToken m c h end (Some (Err e)) place place' failed failed' =
     IsGivenAt m c h end place (Err e) × (place' ≡ place) × (failed ≡ false) × (failed' ≡ true)
 

@@ -1,45 +1,53 @@
-ghost use Rattle.std.specs.Prelude.{◌≡◌, ◌<◌, ◌≤◌, length};
-ghost use Rattle.regex_automata.specs.Tokens.{bytes_of};
+ghost use Rattle.std.specs.Prelude.{◌≤◌};
+ghost use Rattle.automata_base.specs.Powerset.{IsId};
 
 use automata_base::util::primitives::PatternID;
-use automata_base::util::search::{Match, Span};
+use automata_base::util::search::Span;
+use std::alloc::AllocError;
 
 /// A pattern, and the bytes that it matches. They are borrowed from the haystack alone, so that a token may be kept when
 /// the iterator that gave it and its cache are gone.
-#[derive(Clone, Copy, Debug)]
+#[derive(Copy, Debug)]
 pub struct Token<'h> {
-    found: Match,
+    pattern: u32,
+    span: Span,
     bytes: &'h [u8],
+    ghost known: { IsId pattern },
+    ghost ordered: { span.start ≤ span.end },
 }
 
 impl<'h> Token<'h> {
+    ghost use Rattle.std.specs.Prelude.{◌≡◌, length};
+    ghost use Rattle.regex_automata.specs.Tokens.{bytes_of, match_of};
+
     /// The token of a pattern over a span of the haystack.
     pub(super) fn new(haystack: &'h [u8], pattern: PatternID, span: Span) -> Token<'h>
         requires ordered { span.start ≤ span.end }
         requires within { span.end ≤ length haystack.now }
-        ensures found { result.found ≡ record { pattern = pattern; start = span.start; end = span.end } }
-        ensures bytes { result.bytes.now ≡ bytes_of haystack.now result.found }
+        ensures found { match_of result ≡ record { pattern = pattern; start = span.start; end = span.end } }
+        ensures bytes { result.bytes.now ≡ bytes_of haystack.now (match_of result) }
     {
         Token {
-            found: Match::new(pattern, span),
+            pattern: pattern.as_u32(),
+            span,
             bytes: &haystack[span.start..span.end],
         }
     }
 
     /// The pattern that matches.
     pub fn pattern(&self) -> PatternID
-        ensures { result ≡ self.now.found.pattern }
+        ensures { result ≡ self.now.pattern }
     {
-        self.found.pattern()
+        PatternID::new_unchecked(self.pattern)
     }
 
     /// Where it stands in the haystack.
     pub fn span(&self) -> Span
-        ensures start { result.start ≡ self.now.found.start }
-        ensures end { result.end ≡ self.now.found.end }
+        ensures start { result.start ≡ self.now.span.start }
+        ensures end { result.end ≡ self.now.span.end }
         ensures ordered { result.start ≤ result.end }
     {
-        self.found.span()
+        self.span
     }
 
     /// The bytes that it matches: the part of the haystack at its span.
@@ -47,5 +55,11 @@ impl<'h> Token<'h> {
         ensures { result.now ≡ self.now.bytes.now }
     {
         self.bytes
+    }
+}
+
+impl<'h> Clone for Token<'h> {
+    fn clone(&self) -> Result<Token<'h>, AllocError> {
+        Ok(*self)
     }
 }

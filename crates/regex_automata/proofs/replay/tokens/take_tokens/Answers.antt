@@ -1,7 +1,7 @@
 use Rattle.std.proofs.Common.{◌≡◌, ◌∙◌, [], ◌∷◌, ◌++◌, None, Some, Err, Ok, ap, inl, inr, refl, sym, subst, List}
 use Rattle.automata_base.specs.Matches.{Match}
 use Rattle.automata_config.specs.declared.error.SearchError.TheVariants as search
-use Rattle.regex_automata.specs.Tokens.{AreGiven}
+use Rattle.regex_automata.specs.Tokens.{AreGiven, match_of}
 use Rattle.regex_automata.specs.declared.tokens.error.TokenError.TheVariants.{Search}
 use Rattle.regex_automata.proofs.Completing.{at_end, completes_end, completes_on, item_turn, match_is}
 use Rattle.regex_automata.proofs.replay.tokens.take_tokens.Goals as goal
@@ -10,15 +10,15 @@ pub loop-item-preserved : goal.loop-item-preserved
 loop-item-preserved c =
     let i = c.loop-item.invariant in
     let s = c.loop-item.item-iterator in
-    let t = c.in-Ok.token in
+    let t = match_of c.in-Ok.token in
     let input = c.args.input in
     let p = c.args.regex.now in
     let steps = rw c.in-Ok.is at c.in-Some.ensures.steps in
-    let same : c.new.result ≡ t.found = match_is c.new.result t.found c.pattern.result c.span.result.start c.span.result.end c.new.ensures c.pattern.ensures c.span.ensures.start c.span.ensures.end in
-    let items : c.push.new.self.items ≡ c.loop-item.found.items ++ t.found ∷ [] = c.in-Ok-push.ensures.items ∙ ap (λ (m : Match). c.loop-item.found.items ++ m ∷ []) same in
+    let same : c.new.result ≡ t = match_is c.new.result t c.pattern.result c.span.result.start c.span.result.end c.new.ensures c.pattern.ensures c.span.ensures.start c.span.ensures.end in
+    let items : c.push.new.self.items ≡ c.loop-item.found.items ++ t ∷ [] = c.in-Ok-push.ensures.items ∙ ap (λ (m : Match). c.loop-item.found.items ++ m ∷ []) same in
     record {
-      comes = completes_on p.forward input.haystack input.end input.start c.loop-item.found.items c.push.new.self.items s.place c.next.new.self.place t.found i.comes
-          (item_turn s.regex.now p s.haystack.now input.haystack s.end input.end s.place (Ok t.found) i.regex i.haystack i.end steps.0.0.item) items steps.0.1;
+      comes = completes_on p.forward input.haystack input.end input.start c.loop-item.found.items c.push.new.self.items s.place c.next.new.self.place t i.comes
+          (item_turn s.regex.now p s.haystack.now input.haystack s.end input.end s.place (Ok t) i.regex i.haystack i.end steps.0.0.item) items steps.0.1;
       regex = steps.1 ∙ i.regex;
       haystack = steps.3 ∙ i.haystack;
       end = steps.4 ∙ i.end;
