@@ -36,6 +36,7 @@ mod states;
 mod steps;
 mod tells;
 mod texts;
+mod tokens;
 mod walk_memory;
 mod walk_paths;
 mod walker;

@@ -9,6 +9,7 @@ use std::alloc::AllocError;
 /// the iterator that gave it and its cache are gone.
 #[derive(Copy, Debug)]
 pub struct Token<'h> {
+    // A plain number: with a field that has a model of its own, no proof is found for callers that pass a token by value.
     pattern: u32,
     span: Span,
     bytes: &'h [u8],
