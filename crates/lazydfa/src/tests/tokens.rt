@@ -53,7 +53,7 @@ const TOKENISED: &[Row] = &[
 ];
 
 #[test]
-fn tokenises(rt: HostRuntime) -> Result<(), Fail> {
+fn tells_tokens(rt: HostRuntime) -> Result<(), Fail> {
     answer_all(&rt, "tok", TOKENISED)
 }
 
