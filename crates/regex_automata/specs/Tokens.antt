@@ -98,8 +98,8 @@ AreGiven m h end place [] None = end ≤ place
 AreGiven m h end place [] (Some e) = (e ≡ Search search.OutOfMemory) ⊎ IsItemAt m h end place (Err e)
 AreGiven m h end place (t ∷ ts) error = IsItemAt m h end place (Ok t) × AreGiven m h end t.end ts error
 
--- the same by what searches find: a token ends where an answer does, past its place; there is no token where there is no
--- answer, or one that ends at the place
+-- the same by what searches find: a token ends where an answer does, past its place; there is no token where there is
+-- no answer, or one that ends at the place
 abbrev pub AreFoundBy :
     (Finds : Input → Option HalfMatch → Type 0) → List ℕ → (end place : ℕ) → List Match → Option TokenError → Type 0
 AreFoundBy Finds h end place [] None = end ≤ place

@@ -79,7 +79,8 @@ fn token_at<'h>(
 }
 
 impl Regex {
-    /// The tokens of an input's span, one behind another, whatever the input's mode and earliest flag. It takes no memory.
+    /// The tokens of an input's span, one behind another, whatever the input's mode and earliest flag. It takes no
+    /// memory.
     ///
     /// Each is the anchored match of the forward DFA at the place where the one before ended, by the DFA's kind.
     pub fn tokens<'r, 'c, 'h>(
@@ -107,8 +108,8 @@ impl Regex {
     }
 }
 
-/// The tokens that are left of a span, until an error, which is the last item. At the span's end, and after an error, it
-/// gives none for good.
+/// The tokens that are left of a span, until an error, which is the last item. At the span's end, and after an error,
+/// it gives none for good.
 #[derive(Drop)]
 pub struct Tokens<'r, 'c, 'h> {
     regex: &'r Regex,

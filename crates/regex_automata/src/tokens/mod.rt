@@ -1,5 +1,5 @@
-//! A tokeniser: the matches of a regex one behind another, each anchored where the one before ended, so that they leave no
-//! gap.
+//! A tokeniser: the matches of a regex one behind another, each anchored where the one before ended, so that they leave
+//! no gap.
 
 mod error;
 mod iterate;

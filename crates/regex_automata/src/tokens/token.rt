@@ -5,11 +5,11 @@ use automata_base::util::primitives::PatternID;
 use automata_base::util::search::Span;
 use std::alloc::AllocError;
 
-/// A pattern, and the bytes that it matches. They are borrowed from the haystack alone, so that a token may be kept when
-/// the iterator that gave it and its cache are gone.
+/// A pattern, and the bytes that it matches. They are borrowed from the haystack alone, so that a token may be kept
+/// when the iterator that gave it and its cache are gone.
 #[derive(Copy, Debug)]
 pub struct Token<'h> {
-    // A plain number: with a field that has a model of its own, no proof is found for callers that pass a token by value.
+    // A plain number: with a field that has a model of its own, callers that pass a token by value get no proof.
     pattern: u32,
     span: Span,
     bytes: &'h [u8],
