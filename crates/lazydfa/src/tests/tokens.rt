@@ -226,9 +226,9 @@ fn join_into(
 
 /// The test is a process of its own, so it may use up all memory for good.
 #[test]
-fn tokenises_without_memory(rt: HostRuntime) -> Result<(), Fail> {
+fn repeats_tokens_without_memory(rt: HostRuntime) -> Result<(), Fail> {
     let text = told_without_memory(rt.alloc())?;
-    let want = "1 12; 0 ab; 1 3; -; - 1 12; 0 ab; 1 3; -; - 1 12; out of memory; -; -; -";
+    let want = "1 12; 0 ab; 1 3; -; - 1 12; 0 ab; 1 3; -; -";
     same_text(&rt, text.as_str(), want, "tokens without memory");
     Ok(())
 }
@@ -241,7 +241,7 @@ fn told_without_memory(alloc: Global) -> Result<String, Fail> {
     Ok(text)
 }
 
-/// Writes tokens, then the same without memory, and then others.
+/// Writes tokens, and then the same without memory.
 fn write_without_memory(
     alloc: Global,
     regex: &Regex,
@@ -253,7 +253,5 @@ fn write_without_memory(
     write_items(regex, cache, "12ab3", text)?;
     text.push_str(" ")?;
     exhaust(alloc);
-    write_items(regex, cache, "12ab3", text)?;
-    text.push_str(" ")?;
-    write_items(regex, cache, "12ab_", text)
+    write_items(regex, cache, "12ab3", text)
 }
