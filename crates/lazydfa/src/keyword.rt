@@ -24,12 +24,13 @@ pub enum Keyword {
     Starts,
     Step,
     Tags,
+    Tokenise,
     Unicode,
     Walk,
     Which,
 }
 
-const KEYWORDS: [(&[u8], Keyword); 24] = [
+const KEYWORDS: [(&[u8], Keyword); 25] = [
     (b"all", Keyword::All),
     (b"anchored", Keyword::Anchored),
     (b"capacity", Keyword::Capacity),
@@ -51,6 +52,7 @@ const KEYWORDS: [(&[u8], Keyword); 24] = [
     (b"starts", Keyword::Starts),
     (b"step", Keyword::Step),
     (b"tags", Keyword::Tags),
+    (b"tok", Keyword::Tokenise),
     (b"unicode", Keyword::Unicode),
     (b"walk", Keyword::Walk),
     (b"which", Keyword::Which),

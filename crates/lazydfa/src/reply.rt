@@ -2,6 +2,7 @@
 
 use regex_automata::hybrid::SearchError;
 use regex_automata::replay::{Fault, Reply};
+use regex_automata::tokens::TokenError;
 use regex_automata::util::primitives::PatternID;
 use regex_automata::util::search::{HalfMatch, Match, MatchErrorKind};
 use std::fmt;
@@ -21,6 +22,7 @@ impl<'a> fmt::Display for Line<'a> {
             Reply::Half(Ok(None)) | Reply::Span(Ok(None)) => write!(f, "none"),
             Reply::Truth(Ok(holds)) => write!(f, "{holds}"),
             Reply::Spans { found, error } => write_matches(f, found.as_slice(), error.as_ref()),
+            Reply::Tokens { found, error } => write_tokens(f, found.as_slice(), error.as_ref()),
             Reply::Begun(Ok(number)) => write!(f, "walk {number}"),
             Reply::Patterns { found, error } => write_patterns(f, found.as_slice(), error.as_ref()),
             Reply::Done(Ok(())) => write!(f, "ok"),
@@ -45,11 +47,30 @@ fn write_matches<W: fmt::Write>(
     error: Option<&SearchError>,
 ) -> fmt::Result {
     write!(f, "iter")?;
+    write_each(f, matches)?;
+    write_end(f, error)
+}
+
+fn write_tokens<W: fmt::Write>(
+    f: &mut fmt::Formatter<W>,
+    tokens: &[Match],
+    error: Option<&TokenError>,
+) -> fmt::Result {
+    write!(f, "tokens")?;
+    write_each(f, tokens)?;
+    match error {
+        None => Ok(()),
+        Some(TokenError::NoToken(place)) => write!(f, " notoken {place}"),
+        Some(TokenError::Search(error)) => write_end(f, Some(error)),
+    }
+}
+
+fn write_each<W: fmt::Write>(f: &mut fmt::Formatter<W>, matches: &[Match]) -> fmt::Result {
     for found in matches {
         write!(f, " ")?;
         write_match(f, found)?;
     }
-    write_end(f, error)
+    Ok(())
 }
 
 fn write_match<W: fmt::Write>(f: &mut fmt::Formatter<W>, found: &Match) -> fmt::Result {

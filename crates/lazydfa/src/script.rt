@@ -33,6 +33,7 @@ enum Order {
     Find(Query),
     IsMatch(Query),
     Iterate(Query),
+    Tokenise(Query),
     BeginWalk { reverse: bool, query: Query },
     StepWalk(usize),
     Which { capacity: usize, query: Query },
@@ -151,6 +152,7 @@ impl Order {
             Keyword::Find => Order::Find(Query::parse(alloc, words)?),
             Keyword::IsMatch => Order::IsMatch(Query::parse(alloc, words)?),
             Keyword::Iterate => Order::Iterate(Query::parse(alloc, words)?),
+            Keyword::Tokenise => Order::Tokenise(Query::parse(alloc, words)?),
             Keyword::Walk => return Order::parse_walk(alloc, words),
             Keyword::Step => Order::StepWalk(only_number(words)?),
             Keyword::Which => return Order::parse_which(alloc, words),
@@ -185,6 +187,7 @@ impl Order {
             Order::Find(query) => Request::Find(query.input()),
             Order::IsMatch(query) => Request::IsMatch(query.input()),
             Order::Iterate(query) => Request::Iterate(query.input()),
+            Order::Tokenise(query) => Request::Tokenise(query.input()),
             Order::BeginWalk { reverse, query } => Request::BeginWalk {
                 reverse: *reverse,
                 input: query.input(),

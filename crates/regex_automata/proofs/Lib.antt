@@ -10,6 +10,9 @@ pub mod Results
 pub mod Right
 pub mod Rising
 pub mod Telling
+pub mod Tokenising
+pub mod Completing
+pub mod Tiling
 pub mod Owed
 pub mod WalkCalls
 pub mod KeptWalks

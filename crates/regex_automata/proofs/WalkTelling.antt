@@ -155,6 +155,7 @@ module _
   over_begins h reverse input (reply.Span x) steps more = more
   over_begins h reverse input (reply.Truth x) steps more = more
   over_begins h reverse input (reply.Spans x y) steps more = more
+  over_begins h reverse input (reply.Tokens x y) steps more = more
   over_begins h reverse input (reply.Patterns x y) steps more = more
   over_begins h reverse input (reply.Done x) steps more = more
   over_begins h reverse input (reply.Bad x) steps more = more
@@ -168,6 +169,7 @@ module _
   over_steps h j (reply.Span x) steps own more = more
   over_steps h j (reply.Truth x) steps own more = more
   over_steps h j (reply.Spans x y) steps own more = more
+  over_steps h j (reply.Tokens x y) steps own more = more
   over_steps h j (reply.Patterns x y) steps own more = more
   over_steps h j (reply.Done x) steps own more = more
   over_steps h j (reply.Bad x) steps own more = more
@@ -181,6 +183,7 @@ module _
   over_resets h n (reply.Span x) steps more = more
   over_resets h n (reply.Truth x) steps more = more
   over_resets h n (reply.Spans x y) steps more = more
+  over_resets h n (reply.Tokens x y) steps more = more
   over_resets h n (reply.Begun x) steps more = more
   over_resets h n (reply.Patterns x y) steps more = more
   over_resets h n (reply.Bad x) steps more = more
@@ -196,6 +199,7 @@ module _
   over_request h (request.Find i) a steps own more = more
   over_request h (request.IsMatch i) a steps own more = more
   over_request h (request.Iterate i) a steps own more = more
+  over_request h (request.Tokenise i) a steps own more = more
   over_request h (request.Which c i) a steps own more = more
 
   -- and over a script

@@ -14,6 +14,7 @@ use Rattle.automata_hybrid.specs.Machine.{Machine}
 use Rattle.automata_hybrid.specs.Walking.{AreWalked, half_nth}
 use Rattle.regex_automata.specs.Histories.{Begun, History, start, after, history}
 use Rattle.regex_automata.specs.Owing.{AreMatchesUpto, ArePatternsUpto, IsHalf, IsMemory, IsSpanOf, IsStep, IsTruthOf}
+use Rattle.regex_automata.specs.Tokens.{AreTokensUpto}
 use Rattle.regex_automata.specs.declared.hybrid.regex.Regex.{Regex}
 use Rattle.regex_automata.specs.declared.replay.requests.Request.{Request}
 use Rattle.regex_automata.specs.declared.replay.requests.Request.TheVariants as request
@@ -21,6 +22,7 @@ use Rattle.regex_automata.specs.declared.replay.replies.Reply.{Reply}
 use Rattle.regex_automata.specs.declared.replay.replies.Reply.TheVariants as reply
 use Rattle.regex_automata.specs.declared.replay.replies.Fault.{Fault}
 use Rattle.regex_automata.specs.declared.replay.replies.Fault.TheVariants as fault
+use Rattle.regex_automata.specs.declared.tokens.error.TokenError.{TokenError}
 
 -- why a request is bad, in this order: there is no regex, or a reset names none; there is no such walk; the walk is of
 -- a regex that isn't the current one
@@ -53,6 +55,10 @@ OnTruth P other = ⊥
 abbrev pub OnSpans : (List Match → Option SearchError → Type 0) → Reply → Type 0
 OnSpans P (reply.Spans found error) = P found.items error
 OnSpans P other = ⊥
+
+abbrev pub OnTokens : (List Match → Option TokenError → Type 0) → Reply → Type 0
+OnTokens P (reply.Tokens found error) = P found.items error
+OnTokens P other = ⊥
 
 abbrev pub OnBegun : (Result ℕ SearchError → Type 0) → Reply → Type 0
 OnBegun P (reply.Begun result) = P result
@@ -93,6 +99,7 @@ IsOwn r walks (request.SearchRev input) = OnHalf (IsHalf Backward r.reverse inpu
 IsOwn r walks (request.Find input) = OnSpan (IsSpanOf r input)
 IsOwn r walks (request.IsMatch input) = OnTruth (IsTruthOf r input)
 IsOwn r walks (request.Iterate input) = OnSpans (AreMatchesUpto r input)
+IsOwn r walks (request.Tokenise input) = OnTokens (AreTokensUpto r.forward input)
 IsOwn r walks (request.BeginWalk reverse input) = OnBegun (IsNumber (length walks))
 IsOwn r walks (request.StepWalk k) = OnHalf (IsStepOf r (nth walks k))
 IsOwn r walks (request.Which capacity input) = OnPatterns (ArePatternsUpto r.forward input capacity)

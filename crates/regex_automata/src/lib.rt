@@ -6,6 +6,7 @@ pub mod hybrid;
 pub mod laws;
 pub mod nfa;
 pub mod replay;
+pub mod tokens;
 pub mod util;
 
 pub use automata_base::util::pattern_set::{PatternSet, PatternSetInsertError, PatternSetIter};

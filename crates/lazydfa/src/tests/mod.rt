@@ -38,6 +38,7 @@ mod states;
 mod steps;
 mod tells;
 mod texts;
+mod tokens;
 mod walk_memory;
 mod walk_paths;
 mod walker;

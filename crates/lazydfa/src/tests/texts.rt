@@ -3,8 +3,9 @@
 use super::same_text;
 use crate::error::RunError;
 use regex_automata::hybrid::{BuildError, CacheError, SearchError, StartError, StepError};
+use regex_automata::tokens::TokenError;
 use regex_automata::util::primitives::PatternID;
-use regex_automata::util::search::Anchored;
+use regex_automata::util::search::{Anchored, MatchError};
 use std::fmt::Display;
 use std::process::Abort;
 use std::test::Fail;
@@ -111,6 +112,16 @@ fn prints_refused_steps_and_searches(rt: HostRuntime) -> Result<(), Fail> {
     prints(&rt, &SearchError::OutOfMemory, "out of memory")?;
     let no_start = "reverse DFA finds no start for the match of the forward DFA";
     prints(&rt, &SearchError::NotAPair, no_start)
+}
+
+#[test]
+fn prints_missing_tokens(rt: HostRuntime) -> Result<(), Fail> {
+    prints(&rt, &TokenError::NoToken(7), "no token at 7")?;
+    let refused = TokenError::Search(SearchError::OutOfMemory);
+    prints(&rt, &refused, "out of memory")?;
+    let quit = SearchError::Match(MatchError::quit(0x78, 4));
+    let text = "quit search after observing byte 0x78 at offset 4";
+    prints(&rt, &TokenError::Search(quit), text)
 }
 
 #[test]

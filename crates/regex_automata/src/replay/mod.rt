@@ -10,6 +10,7 @@ mod players;
 pub mod replies;
 pub mod requests;
 mod searches;
+mod tokens;
 mod walks;
 
 use crate::hybrid::regex::Regex;

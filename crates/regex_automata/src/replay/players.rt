@@ -12,6 +12,7 @@ use crate::replay::patterns::patterns_below;
 use crate::replay::replies::{Fault, Reply};
 use crate::replay::requests::Request;
 use crate::replay::searches::{search_fwd, search_rev};
+use crate::replay::tokens::tokens_upto;
 use crate::replay::walks::{KeptWalk, step_at};
 use automata_base::util::search::Input;
 use automata_config::error::SearchError;
@@ -75,6 +76,10 @@ impl<'r, 'h> Player<'r, 'h> {
             Request::Iterate(input) => {
                 let (found, error) = matches_upto(self.alloc, regex, &mut self.cache, same(input));
                 Reply::Spans { found, error }
+            }
+            Request::Tokenise(input) => {
+                let (found, error) = tokens_upto(self.alloc, regex, &mut self.cache, same(input));
+                Reply::Tokens { found, error }
             }
             Request::BeginWalk { reverse, input } => self.begin(*reverse, input),
             Request::StepWalk(number) => self.step(*number),

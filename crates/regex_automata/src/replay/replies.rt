@@ -1,3 +1,4 @@
+use crate::tokens::TokenError;
 use automata_base::util::primitives::PatternID;
 use automata_base::util::search::{HalfMatch, Match};
 use automata_config::error::SearchError;
@@ -26,6 +27,11 @@ pub enum Reply {
     Spans {
         found: Vec<Match>,
         error: Option<SearchError>,
+    },
+    /// The patterns and spans of the tokens so far, and the error that ended them, if any.
+    Tokens {
+        found: Vec<Match>,
+        error: Option<TokenError>,
     },
     /// The number of the walk that was begun.
     Begun(Result<usize, SearchError>),

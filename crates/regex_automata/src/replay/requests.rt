@@ -13,6 +13,8 @@ pub enum Request<'h> {
     IsMatch(Input<'h>),
     /// The matches, one after another.
     Iterate(Input<'h>),
+    /// The tokens, one behind another, anchored and in full whatever the input says of both.
+    Tokenise(Input<'h>),
     /// Begins an overlapping walk of the current regex. Walks are numbered from 0.
     BeginWalk { reverse: bool, input: Input<'h> },
     /// One step of a walk of the current regex.

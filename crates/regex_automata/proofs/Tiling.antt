@@ -1,0 +1,175 @@
+-- What the tokens of a span are, by the answers that its searches owe, and how they tile it.
+use Rattle.std.proofs.Common.{ℕ, ◌≡◌, ◌∙◌, ◌<◌, ◌≤◌, ◌+◌, ◌-◌, ◌⊎◌, inl, inr, Bool, true, false, List, [], ◌∷◌, ◌++◌, length, take, drop, append_assoc, Option, Some, None, refl, sym, ap, subst, arith}
+use Rattle.std.specs.Prelude.{Result, Ok, Err, IfSome, nat_lt, if◌then◌else◌, slice_range}
+use Rattle.std.proofs.Math.Seq.{take-add}
+use Rattle.std.proofs.lemmas.Bool.{ltb-true, ltb-false}
+use Rattle.std.proofs.lemmas.List.{drop-drop}
+use Rattle.automata_base.specs.Input.{Input}
+use Rattle.automata_base.specs.Matches.{HalfMatch, Match}
+use Rattle.automata_base.specs.Tapes.{Forward}
+use Rattle.automata_config.specs.declared.error.SearchError.{SearchError}
+use Rattle.automata_hybrid.specs.Machine.{Machine}
+use Rattle.regex_automata.specs.Owing.{IsHalf, IsUnhindered}
+use Rattle.regex_automata.specs.Tokens.{AreFoundBy, AreGiven, EndsIn, IsBeginningOf, IsItemAt, IsNoTokenOrMemory, asked, bytes_of, joined}
+use Rattle.regex_automata.specs.declared.tokens.error.TokenError.{TokenError}
+use Rattle.regex_automata.specs.declared.tokens.error.TokenError.TheVariants.{NoToken, Search}
+use Rattle.regex_automata.proofs.Results.{err_ok, ok_err, same_err, same_ok}
+use Rattle.regex_automata.proofs.Tokenising.{ends_in}
+
+no_search : (at : ℕ) (e : SearchError) → NoToken at ≡ Search e → ⊥
+no_search at e h = cc
+
+same_place : (a b : ℕ) → NoToken a ≡ NoToken b → a ≡ b
+same_place a b h = cc
+
+same_search : (d e : SearchError) → Search d ≡ Search e → d ≡ e
+same_search d e h = cc
+
+module _ (m : Machine) (h : List ℕ) (end : ℕ) (few : end ≤ length h) where
+  abbrev Owes : ℕ → Result (Option HalfMatch) SearchError → Type 0
+  Owes place r = IsHalf Forward m (asked h end place) r
+
+  half_in : (place : ℕ) (half : HalfMatch) → Owes place (Ok (Some half)) → EndsIn (asked h end place) half
+  half_in place half owed = ends_in m (asked h end place) (Ok (Some half)) few owed.found
+
+  -- a token is an answer past its place
+  abbrev pub Tells : ℕ → Match → Type 0
+  Tells place t =
+      Owes place (Ok (Some (record { pattern = t.pattern; offset = t.end })))
+      × (t.start ≡ place) × (place < t.end) × (t.end ≤ end)
+
+  past_place :
+      (place : ℕ) (half : HalfMatch) (t : Match) → place < half.offset → Owes place (Ok (Some half))
+      → t ≡ record { pattern = half.pattern; start = place; end = half.offset } → Tells place t
+  past_place place half t past owed is =
+      subst (λ (n : Match). Tells place n) (sym is) (owed, refl, past, (half_in place half owed).1)
+
+  token_is : (place : ℕ) (t : Match) → IsItemAt m h end place (Ok t) → Tells place t
+  token_is place t (ahead, (Ok (Some half), owed, is)) = go (nat_lt place half.offset) refl where
+    go : (past : Bool) → nat_lt place half.offset ≡ past → Tells place t
+    go true e =
+        past_place place half t (ltb-true place half.offset e) owed
+        (same_ok (is ∙ ap (λ (b : Bool). if b then Ok (record { pattern = half.pattern; start = place; end = half.offset }) else Err (NoToken place)) e))
+    go false e =
+        absurd (ok_err (is ∙ ap (λ (b : Bool). if b then Ok (record { pattern = half.pattern; start = place; end = half.offset }) else Err (NoToken place)) e))
+  token_is place t (ahead, (Ok None, owed, is)) = absurd (ok_err is)
+  token_is place t (ahead, (Err e, owed, is)) = absurd (ok_err is)
+
+  -- no token is no answer, or one at its place
+  abbrev pub TellsNone : ℕ → Type 0
+  TellsNone place =
+      Owes place (Ok None)
+      ⊎ ((pattern : ℕ) × Owes place (Ok (Some (record { pattern = pattern; offset = place }))))
+
+  at_place : (place : ℕ) (half : HalfMatch) → half.offset ≤ place → Owes place (Ok (Some half)) → TellsNone place
+  at_place place half upto owed =
+      let low = (half_in place half owed).0 in
+      let same : half.offset ≡ place = omega (arith, low, upto) in
+      inr (half.pattern, subst (λ n. Owes place (Ok (Some (record { pattern = half.pattern; offset = n })))) same owed)
+
+  no_token_is :
+      (place at : ℕ) → IsItemAt m h end place (Err (NoToken at)) → (at ≡ place) × (place < end) × TellsNone place
+  no_token_is place at (ahead, (Ok (Some half), owed, is)) = go (nat_lt place half.offset) refl where
+    go : (past : Bool) → nat_lt place half.offset ≡ past → (at ≡ place) × (place < end) × TellsNone place
+    go true e =
+        absurd (err_ok (is ∙ ap (λ (b : Bool). if b then Ok (record { pattern = half.pattern; start = place; end = half.offset }) else Err (NoToken place)) e))
+    go false e = (
+      same_place at place (same_err (is ∙ ap (λ (b : Bool). if b then Ok (record { pattern = half.pattern; start = place; end = half.offset }) else Err (NoToken place)) e)),
+      ahead,
+      at_place place half (ltb-false place half.offset e) owed,
+    )
+  no_token_is place at (ahead, (Ok None, owed, is)) = (same_place at place (same_err is), ahead, inl owed)
+  no_token_is place at (ahead, (Err e, owed, is)) = absurd (no_search at e (same_err is))
+
+  -- and a refusal is the search's own
+  refused_is : (place : ℕ) (e : SearchError) → IsItemAt m h end place (Err (Search e)) → Owes place (Err e)
+  refused_is place e (ahead, (Ok (Some half), owed, is)) = go (nat_lt place half.offset) refl where
+    go : (past : Bool) → nat_lt place half.offset ≡ past → Owes place (Err e)
+    go true k =
+        absurd (err_ok (is ∙ ap (λ (b : Bool). if b then Ok (record { pattern = half.pattern; start = place; end = half.offset }) else Err (NoToken place)) k))
+    go false k =
+        absurd (no_search place e (sym (same_err (is ∙ ap (λ (b : Bool). if b then Ok (record { pattern = half.pattern; start = place; end = half.offset }) else Err (NoToken place)) k))))
+  refused_is place e (ahead, (Ok None, owed, is)) = absurd (no_search place e (sym (same_err is)))
+  refused_is place e (ahead, (Err d, owed, is)) =
+      subst (λ (x : SearchError). Owes place (Err x)) (sym (same_search e d (same_err is))) owed
+
+  -- so the tokens are those that searches find, by whatever such an answer is
+  module _ (P : Input → Option HalfMatch → Type 0)
+      (right : (place : ℕ) (o : Option HalfMatch) → Owes place (Ok o) → P (asked h end place) o) where
+    none_by :
+        (place : ℕ) → TellsNone place
+        → P (asked h end place) None
+        ⊎ ((pattern : ℕ) × P (asked h end place) (Some (record { pattern = pattern; offset = place })))
+    none_by place (inl owed) = inl (right place None owed)
+    none_by place (inr (pattern, owed)) = inr (pattern, right place (Some (record { pattern = pattern; offset = place })) owed)
+
+    pub found_by :
+        (place : ℕ) (ts : List Match) (error : Option TokenError) → AreGiven m h end place ts error
+        → AreFoundBy P h end place ts error
+    found_by place [] None g = g
+    found_by place [] (Some (NoToken at)) (inl memory) = absurd (no_search at _ memory)
+    found_by place [] (Some (NoToken at)) (inr item) =
+        let n = no_token_is place at item in (n.0, n.1, none_by place n.2)
+    found_by place [] (Some (Search e)) g = tt
+    found_by place (t ∷ ts) error g =
+        let n = token_is place t g.0 in
+        (n.1, n.2, n.3, right place (Some (record { pattern = t.pattern; offset = t.end })) n.0, found_by t.end ts error g.1)
+
+  -- a part of the haystack is two, parted anywhere
+  parts : (a b c : ℕ) → a ≤ b → b ≤ c → slice_range h a b ++ slice_range h b c ≡ slice_range h a c
+  parts a b c low high =
+      let first : a + (b - a) ≡ b = omega (arith, low) in
+      let all : (b - a) + (c - b) ≡ c - a = omega (arith, low, high) in
+      let rest : drop (b - a) (drop a h) ≡ drop b h = drop-drop (b - a) a h ∙ ap (λ n. drop n h) first in
+      ap (λ (l : List ℕ). take (b - a) (drop a h) ++ take (c - b) l) (sym rest)
+      ∙ sym (take-add (b - a) (c - b) (drop a h))
+      ∙ ap (λ n. take n (drop a h)) all
+
+  token_then :
+      (place : ℕ) (t : Match) (more : List ℕ) → Tells place t → more ≡ slice_range h t.end end
+      → bytes_of h t ++ more ≡ slice_range h place end
+  token_then place t more n is =
+      ap (λ (l : List ℕ). bytes_of h t ++ l) is
+      ∙ ap (λ k. slice_range h k t.end ++ slice_range h t.end end) n.1
+      ∙ parts place t.end end (omega (arith, n.2)) n.3
+
+  -- the bytes of the tokens, joined, begin the span's bytes
+  pub begins :
+      (place : ℕ) (ts : List Match) (error : Option TokenError) → AreGiven m h end place ts error
+      → IsBeginningOf (joined h ts) (slice_range h place end)
+  begins place [] error g = (slice_range h place end, refl)
+  begins place (t ∷ ts) error g =
+      let n = token_is place t g.0 in
+      let rest = begins t.end ts error g.1 in (
+        rest.0,
+        sym (append_assoc (bytes_of h t) (joined h ts) rest.0 ∙ token_then place t (joined h ts ++ rest.0) n (sym rest.1)),
+      )
+
+  -- and without an error are all of them
+  pub tiles : (place : ℕ) (ts : List Match) → AreGiven m h end place ts None → joined h ts ≡ slice_range h place end
+  tiles place [] g =
+      let none : end - place ≡ 0 = omega (arith, g) in
+      sym (ap (λ n. take n (drop place h)) none)
+  tiles place (t ∷ ts) g =
+      let n = token_is place t g.0 in token_then place t (joined h ts) n (tiles t.end ts g.1)
+
+  -- where nothing stands in the way of an answer at the start, nothing does later
+  unhindered_later :
+      (start place : ℕ) → start ≤ place → IsUnhindered m (asked h end start) → IsUnhindered m (asked h end place)
+  unhindered_later start place later free =
+      record {
+        reach = λ at byte low high is. free.reach at byte (omega (arith, low, later)) high is;
+        supported = free.supported;
+        clears = free.clears;
+      }
+
+  pub free_of :
+      (start place : ℕ) (ts : List Match) (error : Option TokenError) → start ≤ place
+      → IsUnhindered m (asked h end start) → AreGiven m h end place ts error → IfSome error IsNoTokenOrMemory
+  free_of start place [] None later free g = tt
+  free_of start place [] (Some (NoToken at)) later free g = tt
+  free_of start place [] (Some (Search e)) later free (inl memory) = same_search e _ memory
+  free_of start place [] (Some (Search e)) later free (inr item) =
+      (refused_is place e item).free (unhindered_later start place later free)
+  free_of start place (t ∷ ts) error later free g =
+      let n = token_is place t g.0 in free_of start t.end ts error (omega (arith, n.2, later)) free g.1

@@ -1,0 +1,32 @@
+use Rattle.automata_base.specs.Answers.{IsAnswer}
+use Rattle.automata_base.specs.Engines.{engine_of}
+use Rattle.automata_base.specs.Tapes.{Forward}
+use Rattle.automata_hybrid.specs.Searches.{IsFound, WithoutBase}
+use Rattle.regex_automata.proofs.Tiling.{begins, found_by, free_of, tiles}
+use Rattle.std.proofs.Common.{Option, subst, arith}
+use Rattle.regex_automata.specs.Tokens.{AreGiven}
+use Rattle.regex_automata.specs.declared.tokens.error.TokenError.{TokenError}
+use Rattle.regex_automata.proofs.replay.tokens.tokens_upto.Goals as goal
+
+pub returns-clause-of : goal.returns-clause-of
+returns-clause-of c = (c.take_tokens.ensures.forward, c.take_tokens.ensures.reverse)
+
+pub returns-clause-owed : goal.returns-clause-owed
+returns-clause-owed c =
+    let m = c.args.regex.now.forward in
+    let input = c.args.input in
+    let ts = c.take_tokens.result.0.items in
+    let error = c.take_tokens.result.1 in
+    let few = c.haystack-haystack.ensures.within.1 in
+    let given = c.take_tokens.ensures.given in
+    record {
+      given = given;
+      found = found_by m input.haystack input.end few (λ i. WithoutBase (IsFound Forward m i)) (λ place o owed. owed.found)
+          input.start ts error given;
+      paths = λ acyclic. found_by m input.haystack input.end few (λ i. WithoutBase (IsAnswer Forward (engine_of m.nfa m.kind) i))
+          (λ place o owed. owed.answer acyclic) input.start ts error given;
+      beginning = begins m input.haystack input.end few input.start ts error given;
+      whole = λ none. tiles m input.haystack input.end few input.start ts
+          (subst (λ (e : Option TokenError). AreGiven m input.haystack input.end input.start ts e) none given);
+      free = λ free. free_of m input.haystack input.end few input.start input.start ts error (omega arith) free given;
+    }

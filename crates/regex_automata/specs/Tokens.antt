@@ -1,0 +1,141 @@
+-- The tokens of an input, one behind another.
+use Rattle.std.specs.Prelude.{ℕ, ◌≡◌, ◌<◌, ◌≤◌, ◌⊎◌, ◌-◌, ◌++◌, Bool, true, false, if◌then◌else◌, nat_lt, List, [], ◌∷◌, Option, None, Some, Result, Ok, Err, IfSome, slice_range}
+use Rattle.automata_base.specs.Answers.{IsAnswer}
+use Rattle.automata_base.specs.Engines.{engine_of}
+use Rattle.automata_base.specs.Input.{Input}
+use Rattle.automata_base.specs.Matches.{HalfMatch, Match}
+use Rattle.automata_base.specs.Nodes.{nfa_of}
+use Rattle.automata_base.specs.Paths.{IsLookAcyclic}
+use Rattle.automata_base.specs.Tapes.{Forward}
+use Rattle.automata_base.specs.declared.util.search.Anchored.TheVariants.{Yes}
+use Rattle.automata_config.specs.declared.error.SearchError.{SearchError}
+use Rattle.automata_config.specs.declared.error.SearchError.TheVariants as search
+use Rattle.automata_hybrid.specs.Bounds.{Stored}
+use Rattle.automata_hybrid.specs.Machine.{Machine}
+use Rattle.automata_hybrid.specs.Searches.{IsFound, IsRefused, WithoutBase}
+use Rattle.regex_automata.specs.Owing.{IsHalf, IsMemory, IsUnhindered}
+use Rattle.regex_automata.specs.declared.tokens.error.TokenError.{TokenError}
+use Rattle.regex_automata.specs.declared.tokens.error.TokenError.TheVariants.{NoToken, Search}
+use Rattle.regex_automata.specs.declared.tokens.token.Token.{Token}
+
+-- what is searched at a place: what is left of the span, anchored and in full
+abbrev pub asked : List ℕ → (end place : ℕ) → Input
+asked h end place = record { haystack = h; start = place; end = end; anchored = Yes; earliest = false }
+
+-- a match ends in what is searched
+abbrev pub EndsIn : Input → HalfMatch → Type 0
+EndsIn input half = (input.start ≤ half.offset) × (half.offset ≤ input.end)
+
+-- what the answer there makes: a token up to its end, where that is past the place; no token, where it ends at the
+-- place or there is none; and a refusal is told as it is
+abbrev pub item_of : (place : ℕ) → Result (Option HalfMatch) SearchError → Result Match TokenError
+item_of place (Ok (Some half)) =
+    if nat_lt place half.offset
+    then Ok (record { pattern = half.pattern; start = place; end = half.offset })
+    else Err (NoToken place)
+item_of place (Ok None) = Err (NoToken place)
+item_of place (Err e) = Err (Search e)
+
+-- an item at a place before the span's end: what an answer makes that the forward search there owes
+abbrev pub IsItemAt : Machine → List ℕ → (end place : ℕ) → Result Match TokenError → Type 0
+IsItemAt m h end place item =
+    (place < end)
+    × ((answer : Result (Option HalfMatch) SearchError)
+    × IsHalf Forward m (asked h end place) answer × (item ≡ item_of place answer))
+
+-- the bytes of a match; and of matches, joined
+abbrev pub bytes_of : List ℕ → Match → List ℕ
+bytes_of h t = slice_range h t.start t.end
+
+abbrev pub joined : List ℕ → List Match → List ℕ
+joined h [] = []
+joined h (t ∷ ts) = bytes_of h t ++ joined h ts
+
+-- a token by its pattern and its span
+abbrev pub match_of : Token → Match
+match_of t = record { pattern = t.pattern; start = t.span.start; end = t.span.end }
+
+-- a token at a place: the item there, with its bytes
+pub record IsTokenAt (m : Machine) (h : List ℕ) (end place : ℕ) (t : Token) : Type 0 where
+  pub item : IsItemAt m h end place (Ok (match_of t))
+  pub bytes : t.bytes.now ≡ bytes_of h (match_of t)
+  -- it begins at the place, goes past it, and lies before the span's end
+  pub start : t.span.start ≡ place
+  pub past : place < t.span.end
+  pub within : t.span.end ≤ end
+
+-- a refused search is refused over this cache
+abbrev pub IsRefusedAt : Machine → Stored → List ℕ → (end place : ℕ) → TokenError → Type 0
+IsRefusedAt m c h end place (NoToken at) = Unit {0}
+IsRefusedAt m c h end place (Search e) = IsRefused Forward m c (asked h end place) e
+
+-- a token at a place, or the error there
+abbrev pub IsGivenAt : Machine → Stored → List ℕ → (end place : ℕ) → Result Token TokenError → Type 0
+IsGivenAt m c h end place (Ok t) = IsTokenAt m h end place t
+IsGivenAt m c h end place (Err e) = IsItemAt m h end place (Err e) × IsRefusedAt m c h end place e
+
+-- one item, and how the tokens stand before and behind it: the place, and whether an error was told. Nothing comes at
+-- the span's end, and nothing after an error
+abbrev pub GivesToken :
+    Machine → Stored → List ℕ → (end : ℕ) → Option (Result Token TokenError)
+    → (place place' : ℕ) → (failed failed' : Bool) → Type 0
+GivesToken m c h end None place place' failed failed' =
+    ((failed ≡ true) ⊎ (end ≤ place)) × (place' ≡ place) × (failed' ≡ failed)
+GivesToken m c h end (Some (Ok t)) place place' failed failed' =
+    IsTokenAt m h end place t × (place' ≡ t.span.end) × (failed ≡ false) × (failed' ≡ false)
+GivesToken m c h end (Some (Err e)) place place' failed failed' =
+    IsGivenAt m c h end place (Err e) × (place' ≡ place) × (failed ≡ false) × (failed' ≡ true)
+
+-- how many items may come
+abbrev pub most_left : (failed : Bool) → (end place : ℕ) → ℕ
+most_left true end place = 0
+most_left false end place = end - place
+
+-- tokens one behind another, the first at this place: each is the item where the one before ended. Behind the last is
+-- the span's end, or an error, which is the item there or want of memory for the list
+abbrev pub AreGiven : Machine → List ℕ → (end place : ℕ) → List Match → Option TokenError → Type 0
+AreGiven m h end place [] None = end ≤ place
+AreGiven m h end place [] (Some e) = (e ≡ Search search.OutOfMemory) ⊎ IsItemAt m h end place (Err e)
+AreGiven m h end place (t ∷ ts) error = IsItemAt m h end place (Ok t) × AreGiven m h end t.end ts error
+
+-- the same by what searches find: a token ends where an answer does, past its place; there is no token where there is
+-- no answer, or one that ends at the place
+abbrev pub AreFoundBy :
+    (Finds : Input → Option HalfMatch → Type 0) → List ℕ → (end place : ℕ) → List Match → Option TokenError → Type 0
+AreFoundBy Finds h end place [] None = end ≤ place
+AreFoundBy Finds h end place [] (Some (NoToken at)) =
+    (at ≡ place) × (place < end)
+    × (Finds (asked h end place) None
+    ⊎ ((pattern : ℕ) × Finds (asked h end place) (Some (record { pattern = pattern; offset = place }))))
+AreFoundBy Finds h end place [] (Some (Search e)) = Unit {0}
+AreFoundBy Finds h end place (t ∷ ts) error =
+    (t.start ≡ place) × (place < t.end) × (t.end ≤ end)
+    × Finds (asked h end place) (Some (record { pattern = t.pattern; offset = t.end }))
+    × AreFoundBy Finds h end t.end ts error
+
+-- one list of bytes begins another
+abbrev pub IsBeginningOf : List ℕ → List ℕ → Type 0
+IsBeginningOf part whole = (rest : List ℕ) × (whole ≡ part ++ rest)
+
+-- there is no token, or memory is wanting
+abbrev pub IsNoTokenOrMemory : TokenError → Type 0
+IsNoTokenOrMemory (NoToken at) = Unit {0}
+IsNoTokenOrMemory (Search e) = IsMemory e
+
+-- the tokens of an input, one behind another; or the first ones, and the error that ended them
+pub record AreTokensUpto (m : Machine) (input : Input) (ts : List Match) (error : Option TokenError) : Type 0 where
+  -- each is what an answer makes that the search at its place owes
+  pub given : AreGiven m input.haystack input.end input.start ts error
+  -- for every automaton, what the passes tell
+  pub found : AreFoundBy (λ i. WithoutBase (IsFound Forward m i)) input.haystack input.end input.start ts error
+  -- where no cycle passes a look, the answers of the ordered paths
+  pub paths :
+      IsLookAcyclic (nfa_of m.nfa)
+      → AreFoundBy (λ i. WithoutBase (IsAnswer Forward (engine_of m.nfa m.kind) i)) input.haystack input.end input.start
+      ts error
+  -- their bytes joined are a beginning of the span's bytes, and without an error all of them
+  pub beginning :
+      IsBeginningOf (joined input.haystack ts) (slice_range input.haystack input.start input.end)
+  pub whole : error ≡ None → joined input.haystack ts ≡ slice_range input.haystack input.start input.end
+  -- where nothing stands in the way of an answer, there is no token or memory is wanting
+  pub free : IsUnhindered m (asked input.haystack input.end input.start) → IfSome error IsNoTokenOrMemory

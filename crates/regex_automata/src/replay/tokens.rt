@@ -1,0 +1,52 @@
+//! The tokens of an input, one behind another, as a list.
+ghost use Rattle.automata_hybrid.specs.Caches.{IsCacheOf};
+ghost use Rattle.regex_automata.specs.RegexCaches.{AreCachesOf};
+ghost use Rattle.regex_automata.specs.Tokens.{AreGiven, AreTokensUpto};
+
+use crate::hybrid::regex::{Cache, Regex};
+use crate::tokens::TokenError;
+use automata_base::util::search::{Input, Match};
+use automata_config::error::SearchError;
+use std::alloc::Global;
+
+/// The patterns and spans of the tokens, until an error: no token, a refused search, or want of memory for the list.
+pub fn tokens_upto(
+    alloc: Global,
+    regex: &Regex,
+    cache: &mut Cache,
+    input: Input<'_>,
+) -> (Vec<Match>, Option<TokenError>)
+    requires { AreCachesOf cache.old regex.now }
+    ensures of { AreCachesOf cache.new regex.now }
+    ensures owed { AreTokensUpto regex.now.forward input.entry result.0.items result.1 }
+{
+    let _haystack = input.haystack();
+    take_tokens(alloc, regex, cache, input)
+}
+
+/// The same, by what each search owes.
+fn take_tokens(
+    alloc: Global,
+    regex: &Regex,
+    cache: &mut Cache,
+    input: Input<'_>,
+) -> (Vec<Match>, Option<TokenError>)
+    requires { AreCachesOf cache.old regex.now }
+    ensures forward { IsCacheOf cache.new.forward regex.now.forward }
+    ensures reverse { IsCacheOf cache.new.reverse regex.now.reverse }
+    ensures given { AreGiven regex.now.forward input.entry.haystack input.entry.end input.entry.start
+        result.0.items result.1 }
+{
+    let mut found = Vec::new(alloc);
+    for item in regex.tokens(cache, input) {
+        match item {
+            Ok(token) => {
+                let Ok(()) = found.push(Match::new(token.pattern(), token.span())) else {
+                    return (found, Some(TokenError::Search(SearchError::OutOfMemory)));
+                };
+            }
+            Err(error) => return (found, Some(error)),
+        }
+    }
+    (found, None)
+}

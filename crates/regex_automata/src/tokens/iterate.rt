@@ -1,0 +1,152 @@
+ghost use Rattle.std.specs.Prelude.{◌≡◌, ◌<◌, ◌-◌, IfOk, IfErr, IfSome, false};
+ghost use Rattle.std.specs.Iterator.{at_most};
+ghost use Rattle.automata_base.specs.Input.{Allows};
+ghost use Rattle.automata_base.specs.Tapes.{Forward};
+ghost use Rattle.automata_hybrid.specs.Caches.{IsCacheOf};
+ghost use Rattle.automata_hybrid.specs.Growing.{IsGrown};
+ghost use Rattle.automata_hybrid.specs.Searches.{IsRefused};
+ghost use Rattle.regex_automata.specs.Costs.{IsCostOf};
+ghost use Rattle.regex_automata.specs.Owing.{IsHalf};
+ghost use Rattle.regex_automata.specs.RegexCaches.{AreCachesOf};
+ghost use Rattle.regex_automata.specs.Tokens.{EndsIn, GivesToken, IsGivenAt, asked, most_left};
+
+use crate::hybrid::dfa;
+use crate::hybrid::dfa::DFA;
+use crate::hybrid::regex::{Cache, Regex};
+use crate::tokens::{Token, TokenError};
+use automata_base::util::search::{Anchored, HalfMatch, Input, Span};
+use automata_config::error::SearchError;
+
+/// What is searched at a place: what is left of the span, anchored and in full.
+fn asked<'h>(haystack: &'h [u8], place: usize, end: usize) -> Input<'h>
+    requires { Allows haystack.now place end }
+    ensures { result ≡ asked haystack.now end place }
+{
+    Input::new(haystack)
+        .range(place..end)
+        .anchored(Anchored::Yes)
+}
+
+/// What a forward search answers, and what it owes whatever the cache.
+fn answer(
+    dfa: &DFA,
+    cache: &mut dfa::Cache,
+    input: &Input<'_>,
+) -> Result<Option<HalfMatch>, SearchError>
+    requires { IsCacheOf cache.old dfa.now }
+    ensures of { IsCacheOf cache.new dfa.now }
+    ensures owed { IsHalf Forward dfa.now input.now result }
+    ensures errors { IfErr result (IsRefused Forward dfa.now cache.new.store input.now) }
+    ensures within { IfOk result (λ o. IfSome o (EndsIn input.now)) }
+    ensures grown { IsGrown cache.old cache.new }
+    ensures cost { IsCostOf dfa.now (input.now.end - input.now.start) cache.old cache.new }
+{
+    let _haystack = input.haystack();
+    let found = dfa.try_search_fwd(cache, input);
+    cache.see_bounds();
+    found
+}
+
+/// The token at a place before the span's end.
+fn token_at<'h>(
+    regex: &Regex,
+    cache: &mut Cache,
+    haystack: &'h [u8],
+    place: usize,
+    end: usize,
+) -> Result<Token<'h>, TokenError>
+    requires of { AreCachesOf cache.old regex.now }
+    requires ahead { place < end }
+    requires within { Allows haystack.now place end }
+    ensures of { AreCachesOf cache.new regex.now }
+    ensures item { IsGivenAt regex.now.forward cache.new.forward.store haystack.now end place result }
+    ensures grown { IsGrown cache.old.forward cache.new.forward }
+    ensures cost { IsCostOf regex.now.forward (end - place) cache.old.forward cache.new.forward }
+    ensures reverse { cache.new.reverse ≡ cache.old.reverse }
+{
+    let input = asked(haystack, place, end);
+    match answer(regex.forward(), cache.forward_mut(), &input) {
+        Ok(Some(half)) if half.offset() > place => {
+            let span = Span {
+                start: place,
+                end: half.offset(),
+            };
+            Ok(Token::new(haystack, half.pattern(), span))
+        }
+        Ok(_) => Err(TokenError::NoToken(place)),
+        Err(error) => Err(TokenError::Search(error)),
+    }
+}
+
+impl Regex {
+    /// The tokens of an input's span, one behind another, whatever the input's mode and earliest flag. It takes no
+    /// memory.
+    ///
+    /// Each is the anchored match of the forward DFA at the place where the one before ended, by the DFA's kind.
+    pub fn tokens<'r, 'c, 'h>(
+        &'r self,
+        cache: &'c mut Cache,
+        input: Input<'h>,
+    ) -> Tokens<'r, 'c, 'h>
+        requires { AreCachesOf cache.old self.now }
+        ensures same_cache { result.cache.ghost_name ≡ cache.entry.ghost_name }
+        ensures cache { result.cache.now ≡ cache.old }
+        ensures regex { result.regex.now ≡ self.now }
+        ensures haystack { result.haystack.now ≡ input.entry.haystack }
+        ensures place { result.place ≡ input.entry.start }
+        ensures end { result.end ≡ input.entry.end }
+        ensures failed { result.failed ≡ false }
+    {
+        Tokens {
+            regex: self,
+            cache,
+            haystack: input.haystack(),
+            place: input.start(),
+            end: input.end(),
+            failed: false,
+        }
+    }
+}
+
+/// The tokens that are left of a span, until an error, which is the last item. At the span's end, and after an error,
+/// it gives none for good.
+#[derive(Drop)]
+pub struct Tokens<'r, 'c, 'h> {
+    regex: &'r Regex,
+    cache: &'c mut Cache,
+    haystack: &'h [u8],
+    place: usize,
+    end: usize,
+    failed: bool,
+    ghost within: { Allows haystack.now place end },
+    ghost of: { AreCachesOf cache.now regex.now },
+}
+
+impl<'r, 'c, 'h> Iterator for Tokens<'r, 'c, 'h> {
+    type Item = Result<Token<'h>, TokenError>;
+
+    ghost next_gives = { λ s r t. GivesToken s.regex.now.forward t.cache.now.forward.store s.haystack.now s.end r
+        s.place t.place s.failed t.failed
+        × (t.regex.now ≡ s.regex.now) × (t.cache.ghost_name ≡ s.cache.ghost_name)
+        × (t.haystack.now ≡ s.haystack.now) × (t.end ≡ s.end)
+        × IsGrown s.cache.now.forward t.cache.now.forward × (t.cache.now.reverse ≡ s.cache.now.reverse)
+        × IsCostOf s.regex.now.forward (s.end - s.place) s.cache.now.forward t.cache.now.forward };
+
+    ghost remaining = { λ s. at_most (most_left s.failed s.end s.place) };
+
+    fn next(&mut self) -> Option<Result<Token<'h>, TokenError>> {
+        if self.failed || self.place >= self.end {
+            return None;
+        }
+        match token_at(self.regex, self.cache, self.haystack, self.place, self.end) {
+            Ok(token) => {
+                self.place = token.span().end;
+                Some(Ok(token))
+            }
+            Err(error) => {
+                self.failed = true;
+                Some(Err(error))
+            }
+        }
+    }
+}

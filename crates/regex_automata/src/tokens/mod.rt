@@ -1,0 +1,10 @@
+//! A tokeniser: the matches of a regex one behind another, each anchored where the one before ended, so that they leave
+//! no gap.
+
+mod error;
+mod iterate;
+mod token;
+
+pub use error::TokenError;
+pub use iterate::Tokens;
+pub use token::Token;

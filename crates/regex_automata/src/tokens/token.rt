@@ -1,0 +1,66 @@
+ghost use Rattle.std.specs.Prelude.{◌≤◌};
+ghost use Rattle.automata_base.specs.Powerset.{IsId};
+
+use automata_base::util::primitives::PatternID;
+use automata_base::util::search::Span;
+use std::alloc::AllocError;
+
+/// A pattern, and the bytes that it matches. They are borrowed from the haystack alone, so that a token may be kept
+/// when the iterator that gave it and its cache are gone.
+#[derive(Copy, Debug)]
+pub struct Token<'h> {
+    // A plain number: with a field that has a model of its own, callers that pass a token by value get no proof.
+    pattern: u32,
+    span: Span,
+    bytes: &'h [u8],
+    ghost known: { IsId pattern },
+    ghost ordered: { span.start ≤ span.end },
+}
+
+impl<'h> Token<'h> {
+    ghost use Rattle.std.specs.Prelude.{◌≡◌, length};
+    ghost use Rattle.regex_automata.specs.Tokens.{bytes_of, match_of};
+
+    /// The token of a pattern over a span of the haystack.
+    pub(super) fn new(haystack: &'h [u8], pattern: PatternID, span: Span) -> Token<'h>
+        requires ordered { span.start ≤ span.end }
+        requires within { span.end ≤ length haystack.now }
+        ensures found { match_of result ≡ record { pattern = pattern; start = span.start; end = span.end } }
+        ensures bytes { result.bytes.now ≡ bytes_of haystack.now (match_of result) }
+    {
+        Token {
+            pattern: pattern.as_u32(),
+            span,
+            bytes: &haystack[span.start..span.end],
+        }
+    }
+
+    /// The pattern that matches.
+    pub fn pattern(&self) -> PatternID
+        ensures { result ≡ self.now.pattern }
+    {
+        PatternID::new_unchecked(self.pattern)
+    }
+
+    /// Where it stands in the haystack.
+    pub fn span(&self) -> Span
+        ensures start { result.start ≡ self.now.span.start }
+        ensures end { result.end ≡ self.now.span.end }
+        ensures ordered { result.start ≤ result.end }
+    {
+        self.span
+    }
+
+    /// The bytes that it matches: the part of the haystack at its span.
+    pub fn bytes(&self) -> &'h [u8]
+        ensures { result.now ≡ self.now.bytes.now }
+    {
+        self.bytes
+    }
+}
+
+impl<'h> Clone for Token<'h> {
+    fn clone(&self) -> Result<Token<'h>, AllocError> {
+        Ok(*self)
+    }
+}
