@@ -1,0 +1,37 @@
+#!/bin/sh
+# Tries what the lifetimes of tokens refuse and what they accept, in a copy of the repository: a cache that is used while
+# tokens over it still are, and a token that is kept when its cache is gone. The gate has no place for the first.
+set -eu
+top=$(cd "$(dirname "$0")/.." && pwd)
+copy=$(mktemp -d)
+trap 'rm -rf "$copy"' EXIT
+(cd "$top" && git ls-files -z | tar -c --null -T -) | tar -x -C "$copy"
+
+cd "$copy/crates/lazydfa"
+rt try --test -- keeps_tokens_behind_their_cache
+
+cat > src/tests/refused.rt <<'TEST'
+use crate::catalogue::Entry;
+use regex_automata::hybrid::regex::Regex;
+use regex_automata::util::search::Input;
+use std::test::Fail;
+
+#[test]
+fn uses_the_cache_of_tokens(rt: HostRuntime) -> Result<(), Fail> {
+    let forward = Entry::Runs.forward(rt.alloc())?;
+    let reverse = Entry::Runs.reverse(rt.alloc())?;
+    let regex = Regex::builder().build_from_nfas(forward, reverse)?;
+    let mut cache = regex.create_cache()?;
+    let mut tokens = regex.tokens(&mut cache, Input::new(b"12ab"));
+    let _first = tokens.next();
+    let _bytes = cache.memory_usage();
+    let _second = tokens.next();
+    Ok(())
+}
+TEST
+echo 'mod refused;' >> src/tests/mod.rt
+if rt try --test -- uses_the_cache_of_tokens > ../../told 2>&1; then
+    echo 'a cache under tokens that are still used was accepted'
+    exit 1
+fi
+grep 'refused.rt:14:18: error\[borrow-e0502\]' ../../told
