@@ -18,3 +18,4 @@ pub mod ToldPairs
 pub mod ToldWalks
 pub mod Tests_of_lists
 pub mod Walking
+pub mod Within

@@ -47,3 +47,4 @@ pub mod TruePairs
 pub mod Truths
 pub mod Visits
 pub mod WalkLaws
+pub mod Within

@@ -5,6 +5,7 @@ ghost use Rattle.automata_base.specs.StepLaws.{ClassesStepAlike, ClassesQuitAlik
 ghost use Rattle.automata_base.specs.StepLaws.{PowersetStartsAreRight, SuccessorsAreRight};
 ghost use Rattle.automata_base.specs.Told.{ToldEndsAreRight, ToldIsOne, ToldIsRight};
 ghost use Rattle.automata_base.specs.WalkLaws.{AllPairsAreTold, OverlappingIsTold, WalkIsRight, WalksAreOne, WalksAreTold};
+ghost use Rattle.automata_base.specs.Within.{StatesTellOwn, ToldLiesWithin, WalkLiesWithin};
 
 use crate::nfa::thompson::NFA;
 
@@ -33,10 +34,12 @@ pub fn start_is_right()
 {}
 
 /// The functions by which contracts retrace the powerset construction mean its relations: a step by `successor` goes to
-/// the one state that is the successor, and a search by `start_state_of` starts in the one that is the start.
+/// the one state that is the successor, and a search by `start_state_of` starts in the one that is the start. The
+/// patterns of each are the automaton's.
 pub fn steps_are_right(nfa: &NFA)
     ensures successors { SuccessorsAreRight nfa.now }
     ensures starts { PowersetStartsAreRight nfa.now }
+    ensures own { StatesTellOwn nfa.now }
 {
     let _states = nfa.states();
 }
@@ -60,22 +63,25 @@ pub fn passes_tell_paths()
 {}
 
 /// What passes tell is the answer of the ordered paths, split places skipped as by these; and for every automaton the
-/// nearest end, or under kind all the farthest one.
+/// nearest end, or under kind all the farthest one. It lies in the span, and its pattern is one of the automaton's.
 pub fn told_is_right(nfa: &NFA)
     ensures answer { ToldIsRight nfa.now }
     ensures ends { ToldEndsAreRight nfa.now }
+    ensures within { ToldLiesWithin nfa.now }
 {
     let _states = nfa.states();
 }
 
 /// What the pass of an overlapping walk tells is one list, and it is the list of the ordered paths; and for every automaton
-/// it has, under kind all, the pairs of all accepting paths.
+/// it has, under kind all, the pairs of all accepting paths. Each pair lies in the span, and its pattern is one of the
+/// automaton's.
 pub fn walk_is_right(nfa: &NFA)
     ensures told { WalksAreTold nfa.now }
     ensures one { WalksAreOne }
     ensures right { WalkIsRight nfa.now }
     ensures overlapping { OverlappingIsTold nfa.now }
     ensures all { AllPairsAreTold nfa.now }
+    ensures within { WalkLiesWithin nfa.now }
 {
     let _states = nfa.states();
     let _utf8 = nfa.is_utf8();

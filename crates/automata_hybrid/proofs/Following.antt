@@ -61,6 +61,29 @@ followed_more way m c input from k id id' byte low unit known below quit named f
       each here j l h (inl less) = f.quiet j l less
       each here j l h (inr more) = let same : k ≡ j = omega (arith, h, more) in subst (IsQuiet way m c input) same here
 
+-- the same behind as many units, counted otherwise
+pub followed_to :
+    {way : Direction} {m : Machine} {c : Stored} {input : Input} {from id k to : ℕ}
+    → k ≡ to → IsFollowed way m c input from k id → IsFollowed way m c input from to id
+followed_to {way} {m} {c} {input} {from} {id} same f = subst (λ n. IsFollowed way m c input from n id) same f
+
+-- what was followed is followed on
+pub followed_on :
+    {way : Direction} {m : Machine} {c : Stored} {input : Input} {from k to id id' : ℕ}
+    → IsFollowed way m c input from k id
+    → (Names c.table id (state_in way m input k) → IsFollowed way m c input k to id')
+    → IsFollowed way m c input from to id'
+followed_on {way} {m} {c} {input} {from} {k} {to} {id} {id'} f on = join (on f.named) where
+  join : IsFollowed way m c input k to id' → IsFollowed way m c input from to id'
+  join g = record {
+    more = omega (arith, f.more, g.more);
+    named = g.named;
+    quiet = λ j l h. each j l h (lt_or_le j k);
+  } where
+    each : (j : ℕ) → from ≤ j → j < to → (j < k) ⊎ (k ≤ j) → IsQuiet way m c input j
+    each j l h (inl less) = f.quiet j l less
+    each j l h (inr more) = g.quiet j more h
+
 module _ {way : Direction} {m : Machine} {c : Stored} {input : Input} {from to id : ℕ} (f : IsFollowed way m c input from to id) where
   -- a pass that met no quit byte before has met none
   pub followed_clean : HasReadNoQuit way m input from → HasReadNoQuit way m input to

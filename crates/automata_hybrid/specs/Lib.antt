@@ -20,3 +20,4 @@ pub mod Walking
 pub mod KnowingWalks
 pub mod Agreeing
 pub mod Which
+pub mod Within

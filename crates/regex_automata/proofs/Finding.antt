@@ -16,14 +16,15 @@ use Rattle.automata_hybrid.specs.Growing.{IsGrown}
 use Rattle.automata_hybrid.specs.Knowing.{Knows}
 use Rattle.automata_hybrid.specs.Machine.{Machine}
 use Rattle.automata_hybrid.specs.Searches.{IsFound, NoQuitInReach, Skips, WithoutBase, with_base}
+use Rattle.automata_hybrid.specs.Within.{LiesPast}
 use Rattle.automata_hybrid.proofs.Growing.{clears_none}
+use Rattle.automata_hybrid.proofs.Within.{found_within}
 use Rattle.regex_automata.specs.Costs.{IsCostOf, IsPassCost}
-use Rattle.regex_automata.specs.Outcomes.{FindsMatch, IsStartFound, LiesIn}
+use Rattle.regex_automata.specs.Outcomes.{FindsMatch, IsStartFound, MatchLiesIn}
 use Rattle.regex_automata.specs.RegexCaches.{KnowsBack, KnowsBoth}
 use Rattle.regex_automata.specs.declared.hybrid.regex.Regex.{Regex}
 use Rattle.regex_automata.specs.declared.hybrid.regex.caches.Cache.{Cache}
 use Rattle.regex_automata.proofs.Results.{none_some, same_some, some_none}
-use Rattle.regex_automata.proofs.Telling.{found_within}
 
 -- no search costs nothing
 pub pass_none : (bytes : ℕ) (c : CacheView) → IsPassCost bytes c c
@@ -95,7 +96,8 @@ back_none m rest o (Some half, f, e) is = absurd (none_some (sym is ∙ e))
 pub back_within :
     (m : Machine) (input : Input) (half found : Half) → half.offset ≤ input.end → input.end ≤ length input.haystack
     → IsFound Backward m (back input half) (Some found) → (half.base ≤ found.offset) × (found.offset ≤ half.offset)
-back_within m input half found within few f = found_within Backward m (back input half) found (omega (arith, within, few)) f
+back_within m input half found within few f =
+    (found_within Backward m (back input half) found (omega (arith, within, few)) f).0
 
 -- A forward search has one answer.
 module _ (agree : AnswersAgree) (p : Regex) (input : Input) where
@@ -149,9 +151,13 @@ match_of p input half start end pattern m found begun same_pattern same_end is =
     subst (λ (v : Match). FindsMatch p input (Some v)) (sym is) (half, found, begun, same_pattern, same_end)
 
 pub match_within :
-    (input : Input) (half : Half) (start end pattern : ℕ) (m : Match)
-    → input.start ≤ half.base → half.offset ≤ input.end → (half.base ≤ start) × (start ≤ half.offset)
-    → end ≡ half.offset → m ≡ match_at pattern start end → LiesIn input m
-match_within input half start end pattern m from to between same is =
-    subst (λ (v : Match). LiesIn input v) (sym is)
-    (omega (arith, from, between.0), omega (arith, between.1, same), omega (arith, to, same))
+    (p : Regex) (input : Input) (half : HalfMatch) (base start end pattern : ℕ) (m : Match)
+    → LiesPast p.forward input half base → (base ≤ start) × (start ≤ half.offset)
+    → pattern ≡ half.pattern → end ≡ half.offset → m ≡ match_at pattern start end → MatchLiesIn p input m
+match_within p input half base start end pattern m past between same_pattern same_end is =
+    subst (λ (v : Match). MatchLiesIn p input v) (sym is) (
+      omega (arith, past.from, between.0),
+      omega (arith, between.1, same_end),
+      omega (arith, past.lies.upto, same_end),
+      omega (arith, past.lies.pattern, same_pattern),
+    )

@@ -7,6 +7,7 @@ use Rattle.automata_base.specs.Spans.{from}
 use Rattle.automata_base.specs.Tapes.{Forward}
 use Rattle.automata_config.specs.declared.error.SearchError.{SearchError}
 use Rattle.regex_automata.specs.Iterating.{GivesItem, GoesOn, IsNextMatch, IsNextRefusal, KnowsNext, LearnsItem, most_left}
+use Rattle.regex_automata.specs.Outcomes.{MatchLiesIn}
 use Rattle.regex_automata.specs.Owing.{IsUnsupported, TellsUnsupported, unsupported_error}
 use Rattle.regex_automata.specs.RegexCaches.{AreStill, NothingCleared}
 use Rattle.regex_automata.specs.RegexRefusals.{IsOfGiven}
@@ -18,11 +19,11 @@ use Rattle.regex_automata.proofs.Results.{ok_err, same_err}
 -- a match is given
 pub gives_match :
     (p : Regex) (c : Cache) (input input' : Input) (last : Option ℕ) (ended : Bool) (m : Match) (start end : ℕ)
-    → ended ≡ false → IsNextMatch p input last (Some m) → input' ≡ from start input → start ≡ m.end → end ≡ m.end
-    → GivesItem p c (Some (Ok m)) input input' last (Some end) ended ended
-gives_match p c input input' last true m start end still next same begins ends = absurd (false_true (sym still))
-gives_match p c input input' last false m start end still next same begins ends =
-    (next, same ∙ ap (λ n. from n input) begins, ap (λ (n : ℕ). Some n) ends, refl)
+    → ended ≡ false → IsNextMatch p input last (Some m) → MatchLiesIn p input m → input' ≡ from start input → start ≡ m.end
+    → end ≡ m.end → GivesItem p c (Some (Ok m)) input input' last (Some end) ended ended
+gives_match p c input input' last true m start end still next lies same begins ends = absurd (false_true (sym still))
+gives_match p c input input' last false m start end still next lies same begins ends =
+    (next, lies, same ∙ ap (λ n. from n input) begins, ap (λ (n : ℕ). Some n) ends, refl)
 
 -- or there is none
 pub gives_none :
@@ -84,13 +85,15 @@ most_behind input input' end same =
     subst (λ (i : Input). most_left false i (Some end) ≡ input.end + 1 - end) (sym same)
     (ap (λ b. cond b (input.end + 1 - end) (input.end + 2 - end)) (eq-eqb end end refl))
 
-most_before : (input : Input) (last : Option ℕ) (m : Match) → GoesOn input last m → input.end + 1 - m.end < most_left false input last
-most_before input None m goes =
+most_before :
+    (p : Regex) (input : Input) (last : Option ℕ) (m : Match) → GoesOn p input last m
+    → input.end + 1 - m.end < most_left false input last
+most_before p input None m goes =
     let a : input.start ≤ m.start = goes.0.0 in
     let b : m.start ≤ m.end = goes.0.1 in
     let d : m.end ≤ input.end = goes.0.2 in
     omega (arith, a, b, d)
-most_before input (Some at) m goes = go (eqb at input.start) refl where
+most_before p input (Some at) m goes = go (eqb at input.start) refl where
   go : (same : Bool) → eqb at input.start ≡ same → input.end + 1 - m.end < cond same (input.end + 1 - input.start) (input.end + 2 - input.start)
   go true e =
       let past : input.start < m.end = goes.1 (ap (λ (n : ℕ). Some n) (eqb-true at input.start e)) in
@@ -103,14 +106,14 @@ most_before input (Some at) m goes = go (eqb at input.start) refl where
       omega (arith, a, b, d)
 
 pub fewer_left :
-    (input input' : Input) (last : Option ℕ) (ended : Bool) (m : Match) (start end : ℕ)
-    → ended ≡ false → input' ≡ from start input → start ≡ m.end → end ≡ m.end → GoesOn input last m
+    (p : Regex) (input input' : Input) (last : Option ℕ) (ended : Bool) (m : Match) (start end : ℕ)
+    → ended ≡ false → input' ≡ from start input → start ≡ m.end → end ≡ m.end → GoesOn p input last m
     → most_left ended input' (Some end) < most_left ended input last
-fewer_left input input' last true m start end still same begins ends goes = absurd (false_true (sym still))
-fewer_left input input' last false m start end still same begins ends goes =
+fewer_left p input input' last true m start end still same begins ends goes = absurd (false_true (sym still))
+fewer_left p input input' last false m start end still same begins ends goes =
     let behind : most_left false input' (Some end) ≡ input.end + 1 - end = most_behind input input' end (same ∙ ap (λ n. from n input) (begins ∙ sym ends)) in
     subst (λ n. n < most_left false input last) (sym behind)
-    (subst (λ n. input.end + 1 - n < most_left false input last) (sym ends) (most_before input last m goes))
+    (subst (λ n. input.end + 1 - n < most_left false input last) (sym ends) (most_before p input last m goes))
 
 -- and none behind an error
 pub some_left : (input : Input) (last : Option ℕ) (ended : Bool) → ended ≡ false → input.start ≤ input.end → 0 < most_left ended input last

@@ -12,7 +12,7 @@ use Rattle.automata_hybrid.proofs.Growing.{grown_trans}
 use Rattle.automata_hybrid.proofs.Searching.{lt_or_le}
 use Rattle.regex_automata.specs.Costs.{AreCostsOf, IsCostOf}
 use Rattle.regex_automata.specs.Iterating.{AreCostsTwice, GoesOn, IsNextMatch, IsNextRefusal}
-use Rattle.regex_automata.specs.Outcomes.{FindsMatch, LiesIn}
+use Rattle.regex_automata.specs.Outcomes.{FindsMatch, MatchLiesIn}
 use Rattle.regex_automata.specs.RegexCaches.{AreGrown}
 use Rattle.regex_automata.specs.RegexRefusals.{IsRegexRefusal}
 use Rattle.regex_automata.specs.declared.hybrid.regex.Regex.{Regex}
@@ -37,16 +37,21 @@ some_of None a P h is = absurd (none_some is)
 some_of (Some b) a P h is = subst P (same_some is) h
 
 -- the match found first stands
-pub goes_first : (input : Input) (last : Option ℕ) (m : Match) → LiesIn input m → (IsEmptyAt last m → ⊥) → GoesOn input last m
-goes_first input last m lies full = (lies, λ same. past same (lt_or_le input.start m.end)) where
-  past : last ≡ Some input.start → (input.start < m.end) ⊎ (m.end ≤ input.start) → input.start < m.end
-  past same (inl l) = l
-  past same (inr l) =
-      let a : input.start ≤ m.start = lies.0 in
-      let b : m.start ≤ m.end = lies.1 in
+pub past_last :
+    (input : Input) (last : Option ℕ) (m : Match) → input.start ≤ m.start → m.start ≤ m.end → (IsEmptyAt last m → ⊥)
+    → last ≡ Some input.start → input.start < m.end
+past_last input last m a b full same = past (lt_or_le input.start m.end) where
+  past : (input.start < m.end) ⊎ (m.end ≤ input.start) → input.start < m.end
+  past (inl l) = l
+  past (inr l) =
       let e : input.start ≡ m.end = omega (arith, a, b, l) in
       let f : m.start ≡ m.end = omega (arith, a, b, l) in
       absurd (full (f, same ∙ ap (λ (n : ℕ). Some n) e))
+
+pub goes_first :
+    (p : Regex) (input : Input) (last : Option ℕ) (m : Match) → MatchLiesIn p input m → (IsEmptyAt last m → ⊥)
+    → GoesOn p input last m
+goes_first p input last m lies full = (lies, past_last input last m lies.0 lies.1 full)
 
 -- an empty one where the last one ended gives way to what is found from one place later
 module _ (p : Regex) (input : Input) (last : Option ℕ) (m : Match) (found : FindsMatch p input (Some m)) (empty : IsEmptyAt last m) where
@@ -62,14 +67,14 @@ module _ (p : Regex) (input : Input) (last : Option ℕ) (m : Match) (found : Fi
   refused_later c (Err e) h = inr (m, found, empty, h)
 
 pub goes_later :
-    (input : Input) (last : Option ℕ) (r : Result (Option Match) SearchError)
-    → IfOk r (λ o. IfSome o (LiesIn (from (suc input.start) input))) → IfOk r (λ o. IfSome o (GoesOn input last))
-goes_later input last (Ok None) h = tt
-goes_later input last (Ok (Some n)) h =
+    (p : Regex) (input : Input) (last : Option ℕ) (r : Result (Option Match) SearchError)
+    → IfOk r (λ o. IfSome o (MatchLiesIn p (from (suc input.start) input))) → IfOk r (λ o. IfSome o (GoesOn p input last))
+goes_later p input last (Ok None) h = tt
+goes_later p input last (Ok (Some n)) h =
     let a : suc input.start ≤ n.start = h.0 in
     let b : n.start ≤ n.end = h.1 in
-    ((omega (arith, a), b, h.2), λ same. omega (arith, a, b))
-goes_later input last (Err e) h = tt
+    ((omega (arith, a), b, h.2, h.3), λ same. omega (arith, a, b))
+goes_later p input last (Err e) h = tt
 
 -- what a search over a shorter span costs, and two searches
 pub cost_shorter : (m : Machine) (few bytes : ℕ) (old new : CacheView) → few ≤ bytes → IsGrown old new → IsCostOf m few old new → IsCostOf m bytes old new

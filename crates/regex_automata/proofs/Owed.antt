@@ -14,7 +14,7 @@ use Rattle.automata_hybrid.specs.Searches.{IsRefused, NoQuitInReach, tape_in}
 use Rattle.automata_hybrid.specs.Slots.{supports}
 use Rattle.automata_hybrid.specs.Starting.{quit_behind}
 use Rattle.regex_automata.specs.Matching.{IsMatchRefused, IsMatchTold}
-use Rattle.regex_automata.specs.Outcomes.{FindsMatch, LiesIn}
+use Rattle.regex_automata.specs.Outcomes.{FindsMatch, MatchLiesIn}
 use Rattle.regex_automata.specs.Owing.{AreStoresOf, IsMemory, IsSpanOf, IsStoreOf, IsTruthOf, MayRefuse, MayRefuseSpan, MayRefuseTruth, unsupported_error}
 use Rattle.regex_automata.specs.RegexCaches.{AreCachesOf, AreFresh}
 use Rattle.regex_automata.specs.RegexRefusals.{IsFree, IsOfMemory, IsRegexRefusal}
@@ -77,7 +77,7 @@ pub span_owed :
     (p : Regex) (input : Input) (r : Result (Option Match) SearchError) (c : Cache) → AreStoresOf c p
     → IfOk r (FindsMatch p input)
     → (AreLookAcyclic p → IfOk r (TryFinds (forward_engine p) (reverse_engine p) input))
-    → (IsSoundPair p → IfOk r (IsSpan (forward_engine p) input)) → IfOk r (λ o. IfSome o (LiesIn input))
+    → (IsSoundPair p → IfOk r (IsSpan (forward_engine p) input)) → IfOk r (λ o. IfSome o (MatchLiesIn p input))
     → IfErr r (IsRegexRefusal p c input)
     → (input.start ≤ input.end → quit_behind p.forward (tape_in Forward input).before ≡ None
     → supports p.forward input.anchored ≡ false → r ≡ Err (unsupported_error input))

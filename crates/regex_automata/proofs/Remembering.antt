@@ -13,6 +13,7 @@ use Rattle.automata_hybrid.specs.Growing.{IsStill}
 use Rattle.automata_hybrid.specs.Knowing.{KnownStays, Knows}
 use Rattle.automata_hybrid.specs.Searches.{IsFound}
 use Rattle.automata_hybrid.proofs.Growing.{nothing_first, nothing_second}
+use Rattle.automata_hybrid.proofs.Within.{found_within}
 use Rattle.regex_automata.specs.Agreeing.{AreAlike, MatchesAgree}
 use Rattle.regex_automata.specs.Iterating.{KnowsNext}
 use Rattle.regex_automata.specs.Outcomes.{FindsMatch}
@@ -21,7 +22,6 @@ use Rattle.regex_automata.specs.RegexRefusals.{IsOfGiven}
 use Rattle.regex_automata.specs.declared.hybrid.regex.Regex.{Regex}
 use Rattle.regex_automata.specs.declared.hybrid.regex.caches.Cache.{Cache}
 use Rattle.regex_automata.proofs.Results.{none_some, same_some}
-use Rattle.regex_automata.proofs.Telling.{found_within}
 
 -- the progress of searches is no matter
 still_back : (p : Regex) (a b : CacheView) (input : Input) (half : Half) → IsStill a b → KnowsBack p a.store input half → KnowsBack p b.store input half
@@ -64,7 +64,7 @@ both_stays p front rear a b input given was is grown nothing knows = (
 ) where
   inside : (half : Half) → IsFound Forward p.forward input (Some half) → half.offset ≤ length input.haystack
   inside half found =
-      let to = (found_within Forward p.forward input half given.1 found).1 in
+      let to = (found_within Forward p.forward input half given.1 found).0.1 in
       let few = given.1 in
       omega (arith, to, few)
 

@@ -13,13 +13,13 @@ use Rattle.automata_config.specs.declared.error.SearchError.{SearchError}
 use Rattle.automata_config.specs.declared.error.SearchError.TheVariants as search
 use Rattle.automata_hybrid.specs.Searches.{IsFound, IsRefused}
 use Rattle.automata_hybrid.proofs.Skipping.{found_told}
+use Rattle.automata_hybrid.proofs.Within.{found_within}
 use Rattle.regex_automata.specs.Outcomes.{FindsMatch, IsOutcome, IsStartFound}
 use Rattle.regex_automata.specs.RegexRefusals.{HasReason, IsFree, IsOfMemory, IsRegexRefusal}
 use Rattle.regex_automata.specs.SoundPairs.{AreLookAcyclic, IsSoundPair, forward_engine, reverse_engine}
 use Rattle.regex_automata.specs.declared.hybrid.regex.Regex.{Regex}
 use Rattle.regex_automata.specs.declared.hybrid.regex.caches.Cache.{Cache}
 use Rattle.regex_automata.proofs.Backing.{back_free, never_pair}
-use Rattle.regex_automata.proofs.Telling.{base_within, found_within}
 
 module _ (p : Regex) (front : ToldIsRight p.forward.nfa) (rear : ToldIsRight p.reverse.nfa) where
   front_right :
@@ -31,7 +31,7 @@ module _ (p : Regex) (front : ToldIsRight p.forward.nfa) (rear : ToldIsRight p.r
       (input : Input) (half : Half) (o : Option Half) → AreLookAcyclic p → IsInput input → IsFound Forward p.forward input (Some half)
       → IsFound Backward p.reverse (back input half) o → IsAnswer Backward (reverse_engine p) (back input half) o
   rear_right input half o acyclic given f g =
-      let w = (found_within Forward p.forward input half given.1 f).1 in
+      let w = (found_within Forward p.forward input half given.1 f).0.1 in
       let few = given.1 in
       rear Backward p.reverse.kind (back input half) o acyclic.1 (given.0, omega (arith, w, few)) (found_told Backward p.reverse (back input half) o g)
 
@@ -95,8 +95,8 @@ module _ (p : Regex) (front : ToldIsRight p.forward.nfa) (rear : ToldIsRight p.r
           quits same byte at is (inl r) = r
           quits same byte at is (inr (inl r)) =
               absurd
-              (back_free law p.forward p.reverse c.reverse.store input r.0 byte at same given.1 (base_within p.forward input r.0 r.1).1
-              (found_within Forward p.forward input r.0 given.1 r.1).1 r.1
+              (back_free law p.forward p.reverse c.reverse.store input r.0 byte at same given.1 (found_within Forward p.forward input r.0 given.1 r.1).2
+              (found_within Forward p.forward input r.0 given.1 r.1).0.1 r.1
               (subst (λ (v : SearchError). IsRefused Backward p.reverse c.reverse.store (back input r.0) v) is r.2.1))
           quits same byte at is (inr (inr r)) = absurd (not_quit (sym is ∙ r.0)) where
             not_quit : ◌≡◌ {A = SearchError} (search.Match (QuitAt byte at)) search.NotAPair → ⊥

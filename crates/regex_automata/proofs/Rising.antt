@@ -5,25 +5,28 @@ use Rattle.automata_base.specs.Matches.{Match}
 use Rattle.automata_base.specs.Spans.{AreMatches, IsNext, Rise, from}
 use Rattle.automata_base.specs.Tapes.{Forward}
 use Rattle.automata_config.specs.declared.error.SearchError.{SearchError}
+use Rattle.automata_hybrid.proofs.Within.{found_within}
 use Rattle.regex_automata.specs.Iterating.{AreCollected, AreFirst}
-use Rattle.regex_automata.specs.Outcomes.{FindsMatch, IsStartFound, LiesIn}
+use Rattle.regex_automata.specs.Outcomes.{FindsMatch, IsStartFound}
 use Rattle.regex_automata.specs.Owing.{place_behind}
 use Rattle.regex_automata.specs.declared.hybrid.regex.Regex.{Regex}
 use Rattle.regex_automata.proofs.Finding.{back_within}
-use Rattle.regex_automata.proofs.Nexts.{goes_first}
-use Rattle.regex_automata.proofs.Telling.{base_within, found_within}
+use Rattle.regex_automata.proofs.Nexts.{past_last}
 
 module _ (p : Regex) where
   -- a match lies in the span
-  find_lies : (input : Input) (m : Match) → input.end ≤ length input.haystack → FindsMatch p input (Some m) → LiesIn input m
+  abbrev Lies : Input → Match → Type 0
+  Lies input m = (input.start ≤ m.start) × (m.start ≤ m.end) × (m.end ≤ input.end)
+
+  find_lies : (input : Input) (m : Match) → input.end ≤ length input.haystack → FindsMatch p input (Some m) → Lies input m
   find_lies input m few f = go f.2 where
     low : (input.start ≤ f.0.base) × (f.0.base ≤ f.0.offset)
-    low = base_within p.forward input f.0 f.1
+    low = let w = found_within Forward p.forward input f.0 few f.1 in (w.1, w.2)
 
     high : f.0.offset ≤ input.end
-    high = (found_within Forward p.forward input f.0 few f.1).1
+    high = (found_within Forward p.forward input f.0 few f.1).0.1
 
-    go : IsStartFound p input f.0 (Some m.start) → LiesIn input m
+    go : IsStartFound p input f.0 (Some m.start) → Lies input m
     go (inl s) = (omega (arith, low.0, s.1), omega (arith, low.1, s.1, f.4), omega (arith, high, f.4))
     go (inr s) =
         let w = back_within p.reverse input f.0 s.1.0 high few s.1.1 in
@@ -34,8 +37,8 @@ module _ (p : Regex) where
         (start : ℕ) (last : Option ℕ) (m : Match) → IsNext (FindsMatch p) input start last (Some m)
         → (start ≤ m.start) × (m.start ≤ m.end) × (m.end ≤ input.end) × (last ≡ Some start → start < m.end)
     next_lies start last m (inl s) =
-        let g = goes_first (from start input) last m (find_lies (from start input) m few s.0) s.1 in
-        (g.0.0, g.0.1, g.0.2, g.1)
+        let l = find_lies (from start input) m few s.0 in
+        (l.0, l.1, l.2, past_last (from start input) last m l.0 l.1 s.1)
     next_lies start last m (inr s) =
         let l = find_lies (from (suc start) input) m few s.3 in
         (omega (arith, l.0), l.1, l.2, λ e. omega (arith, l.0, l.1))

@@ -9,28 +9,24 @@ use Rattle.automata_base.specs.Matches.{HalfMatch, Match}
 use Rattle.automata_base.specs.Tapes.{Forward}
 use Rattle.automata_config.specs.declared.error.SearchError.{SearchError}
 use Rattle.automata_hybrid.specs.Machine.{Machine}
+use Rattle.automata_hybrid.specs.Within.{LiesIn}
 use Rattle.regex_automata.specs.Owing.{IsHalf, IsUnhindered}
-use Rattle.regex_automata.specs.Tokens.{AreFoundBy, AreGiven, EndsIn, IsBeginningOf, IsItemAt, IsNoTokenOrMemory, asked, bytes_of, joined}
+use Rattle.regex_automata.specs.Tokens.{AreFoundBy, AreGiven, IsBeginningOf, IsItemAt, IsNoTokenOrMemory, IsTokenAt, asked, bytes_of, item_of, joined, match_of}
 use Rattle.regex_automata.specs.declared.tokens.error.TokenError.{TokenError}
 use Rattle.regex_automata.specs.declared.tokens.error.TokenError.TheVariants.{NoToken, Search}
+use Rattle.regex_automata.specs.declared.tokens.token.Token.{Token}
 use Rattle.regex_automata.proofs.Results.{err_ok, ok_err, same_err, same_ok}
-use Rattle.regex_automata.proofs.Tokenising.{ends_in}
-
-no_search : (at : ℕ) (e : SearchError) → NoToken at ≡ Search e → ⊥
-no_search at e h = cc
+use Rattle.regex_automata.proofs.Tokenising.{no_search, same_search}
 
 same_place : (a b : ℕ) → NoToken a ≡ NoToken b → a ≡ b
 same_place a b h = cc
-
-same_search : (d e : SearchError) → Search d ≡ Search e → d ≡ e
-same_search d e h = cc
 
 module _ (m : Machine) (h : List ℕ) (end : ℕ) (few : end ≤ length h) where
   abbrev Owes : ℕ → Result (Option HalfMatch) SearchError → Type 0
   Owes place r = IsHalf Forward m (asked h end place) r
 
-  half_in : (place : ℕ) (half : HalfMatch) → Owes place (Ok (Some half)) → EndsIn (asked h end place) half
-  half_in place half owed = ends_in m (asked h end place) (Ok (Some half)) few owed.found
+  half_in : (place : ℕ) (half : HalfMatch) → Owes place (Ok (Some half)) → LiesIn m (asked h end place) half
+  half_in place half owed = owed.within
 
   -- a token is an answer past its place
   abbrev pub Tells : ℕ → Match → Type 0
@@ -42,7 +38,7 @@ module _ (m : Machine) (h : List ℕ) (end : ℕ) (few : end ≤ length h) where
       (place : ℕ) (half : HalfMatch) (t : Match) → place < half.offset → Owes place (Ok (Some half))
       → t ≡ record { pattern = half.pattern; start = place; end = half.offset } → Tells place t
   past_place place half t past owed is =
-      subst (λ (n : Match). Tells place n) (sym is) (owed, refl, past, (half_in place half owed).1)
+      subst (λ (n : Match). Tells place n) (sym is) (owed, refl, past, (half_in place half owed).upto)
 
   token_is : (place : ℕ) (t : Match) → IsItemAt m h end place (Ok t) → Tells place t
   token_is place t (ahead, (Ok (Some half), owed, is)) = go (nat_lt place half.offset) refl where
@@ -55,6 +51,16 @@ module _ (m : Machine) (h : List ℕ) (end : ℕ) (few : end ≤ length h) where
   token_is place t (ahead, (Ok None, owed, is)) = absurd (ok_err is)
   token_is place t (ahead, (Err e, owed, is)) = absurd (ok_err is)
 
+  -- with its bytes it is given
+  pub token_is_given :
+      (place : ℕ) (t : Token) (answer : Result (Option HalfMatch) SearchError) → place < end → Owes place answer
+      → ◌≡◌ {A = Result Match TokenError} (Ok (match_of t)) (item_of place answer)
+      → t.bytes.now ≡ bytes_of h (match_of t) → IsTokenAt m h end place t
+  token_is_given place t answer ahead owed is bytes =
+      let item : IsItemAt m h end place (Ok (match_of t)) = (ahead, (answer, owed, is)) in
+      let tells = token_is place (match_of t) item in
+      record { item = item; bytes = bytes; start = tells.1; past = tells.2; within = tells.3; pattern = tells.0.within.pattern }
+
   -- no token is no answer, or one at its place
   abbrev pub TellsNone : ℕ → Type 0
   TellsNone place =
@@ -63,7 +69,7 @@ module _ (m : Machine) (h : List ℕ) (end : ℕ) (few : end ≤ length h) where
 
   at_place : (place : ℕ) (half : HalfMatch) → half.offset ≤ place → Owes place (Ok (Some half)) → TellsNone place
   at_place place half upto owed =
-      let low = (half_in place half owed).0 in
+      let low = (half_in place half owed).from in
       let same : half.offset ≡ place = omega (arith, low, upto) in
       inr (half.pattern, subst (λ n. Owes place (Ok (Some (record { pattern = half.pattern; offset = n })))) same owed)
 

@@ -1,29 +1,44 @@
--- What a forward search tells a tokeniser.
-use Rattle.std.proofs.Common.{◌≡◌, ◌≤◌, length, Option, Some, None, sym, subst}
-use Rattle.std.specs.Prelude.{Result, Ok, Err, IfOk, IfSome, option_map}
-use Rattle.automata_base.specs.Answers.{Half}
-use Rattle.automata_base.specs.Input.{Input}
-use Rattle.automata_base.specs.Matches.{HalfMatch}
+-- Why no token comes.
+use Rattle.std.proofs.Common.{ℕ, ◌≡◌, ◌<◌, Bool, true, false, List, Option, Some, None, sym, subst}
+use Rattle.std.specs.Prelude.{Result, Ok, Err, IfErr, if◌then◌else◌, nat_lt}
+use Rattle.automata_base.specs.Matches.{HalfMatch, Match}
 use Rattle.automata_base.specs.Tapes.{Forward}
 use Rattle.automata_config.specs.declared.error.SearchError.{SearchError}
+use Rattle.automata_hybrid.specs.Bounds.{Stored}
 use Rattle.automata_hybrid.specs.Machine.{Machine}
-use Rattle.automata_hybrid.specs.Searches.{IsFound, WithoutBase, without_base}
-use Rattle.regex_automata.specs.Tokens.{EndsIn}
-use Rattle.regex_automata.proofs.Results.{same_some, some_none}
-use Rattle.regex_automata.proofs.Telling.{found_within}
+use Rattle.automata_hybrid.specs.Searches.{IsRefused}
+use Rattle.regex_automata.specs.Owing.{IsHalf}
+use Rattle.regex_automata.specs.Tokens.{IsGivenAt, asked, item_of}
+use Rattle.regex_automata.specs.declared.tokens.error.TokenError.{TokenError}
+use Rattle.regex_automata.specs.declared.tokens.error.TokenError.TheVariants.{NoToken, Search}
+use Rattle.regex_automata.proofs.Results.{err_ok, same_err}
 
-half_within :
-    (m : Machine) (input : Input) (half : HalfMatch) (answer : Option Half) → input.end ≤ length input.haystack
-    → IsFound Forward m input answer → Some half ≡ option_map without_base answer → EndsIn input half
-half_within m input half None few found same = absurd (some_none same)
-half_within m input half (Some told) few found same =
-    let e : half ≡ without_base told = same_some same in
-    subst (EndsIn input) (sym e) (found_within Forward m input told few found)
+pub no_search : (at : ℕ) (e : SearchError) → NoToken at ≡ Search e → ⊥
+no_search at e h = cc
 
--- an answer ends in what is searched
-pub ends_in :
-    (m : Machine) (input : Input) (r : Result (Option HalfMatch) SearchError) → input.end ≤ length input.haystack
-    → IfOk r (WithoutBase (IsFound Forward m input)) → IfOk r (λ o. IfSome o (EndsIn input))
-ends_in m input (Ok None) few f = tt
-ends_in m input (Ok (Some half)) few f = half_within m input half f.0 few f.1 f.2
-ends_in m input (Err e) few f = tt
+pub same_search : (d e : SearchError) → Search d ≡ Search e → d ≡ e
+same_search d e h = cc
+
+answer_is_no_refusal :
+    (place : ℕ) (o : Option HalfMatch) (e : SearchError)
+    → ◌≡◌ {A = Result Match TokenError} (Err (Search e)) (item_of place (Ok o)) → ⊥
+answer_is_no_refusal place None e is = no_search place e (sym (same_err is))
+answer_is_no_refusal place (Some half) e is = go (nat_lt place half.offset) is where
+  go : (past : Bool) → ◌≡◌ {A = Result Match TokenError} (Err (Search e)) (if past then Ok (record { pattern = half.pattern; start = place; end = half.offset }) else Err (NoToken place)) → ⊥
+  go true h = absurd (err_ok h)
+  go false h = no_search place e (sym (same_err h))
+
+-- what an answer makes that is no token is the error that is given
+pub error_is_given :
+    (m : Machine) (c : Stored) (h : List ℕ) (end place : ℕ) (answer : Result (Option HalfMatch) SearchError) (e : TokenError)
+    → place < end → IsHalf Forward m (asked h end place) answer
+    → IfErr answer (IsRefused Forward m c (asked h end place))
+    → ◌≡◌ {A = Result Match TokenError} (Err e) (item_of place answer)
+    → IsGivenAt m c h end place (Err e)
+error_is_given m c h end place (Ok o) (NoToken at) ahead owed refused is = ((ahead, (Ok o, owed, is)), tt)
+error_is_given m c h end place (Err d) (NoToken at) ahead owed refused is = ((ahead, (Err d, owed, is)), tt)
+error_is_given m c h end place (Ok o) (Search e) ahead owed refused is = absurd (answer_is_no_refusal place o e is)
+error_is_given m c h end place (Err d) (Search e) ahead owed refused is = (
+  (ahead, (Err d, owed, is)),
+  subst (IsRefused Forward m c (asked h end place)) (sym (same_search e d (same_err is))) refused,
+)

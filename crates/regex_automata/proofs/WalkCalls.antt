@@ -1,5 +1,5 @@
 -- Calls of a walk, by how many have answered before.
-use Rattle.std.proofs.Common.{◌≡◌, ◌∙◌, ◌+◌, ℕ, Bool, true, false, List, Option, Ok, Err, add-one, ap, arith, inl, inr, refl, subst, sym}
+use Rattle.std.proofs.Common.{◌≡◌, ◌∙◌, ◌+◌, ℕ, Bool, true, false, List, Option, Ok, Err, IfSome, add-one, ap, arith, inl, inr, refl, subst, sym}
 use Rattle.automata_base.specs.Answers.{IsOverlapping}
 use Rattle.automata_base.specs.Engines.{engine_of}
 use Rattle.automata_base.specs.Input.{Input}
@@ -16,6 +16,7 @@ use Rattle.automata_hybrid.specs.Slots.{supports}
 use Rattle.automata_hybrid.specs.Starting.{MayStart}
 use Rattle.automata_hybrid.specs.Walking.{HasTold, HasToldAt, IsWalkRefusal, TellsNext, half_nth}
 use Rattle.automata_hybrid.specs.Walks.{At, Ended, Fresh, Stage, Walk, fresh_walk, without_match}
+use Rattle.automata_hybrid.specs.Within.{LiesIn}
 use Rattle.regex_automata.specs.Owing.{IsMemory, IsStep, IsStoreOf, IsUnhindered, IsUnsupported, MayRefuseStep, unsupported_error}
 use Rattle.regex_automata.specs.Players.{HasAnswered}
 
@@ -37,11 +38,12 @@ module _ (way : Direction) (m : Machine) (input : Input) (old : Walk) (k : ℕ) 
       (new : Walk) (found : Option HalfMatch) → found ≡ new.found → TellsNext way m input old new
       → (IsLookAcyclic (nfa_of m.nfa) → (j : ℕ) (pairs : List Pair) → HasTold way m input old j
       → IsOverlapping way (engine_of m.nfa m.kind) input pairs → new.found ≡ half_nth pairs j)
-      → (old.stage ≡ Fresh → IsUnsupported way m input → ⊥)
+      → IfSome new.found (LiesIn m input) → (old.stage ≡ Fresh → IsUnsupported way m input → ⊥)
       → IsStep way m input k (Ok found)
-  step_answers new found is tells paths supported = record {
+  step_answers new found is tells paths within supported = record {
     pair = λ pairs all. is ∙ ((tells k h.told).1 pairs all).0;
     paths = λ acyclic pairs all. is ∙ paths acyclic k pairs h.told all;
+    within = subst (λ (o : Option HalfMatch). IfSome o (LiesIn m input)) (sym is) within;
     errors = tt;
     ended = λ pairs all lt. tt;
     unsupported = λ u. absurd (supported (still_fresh way m input old.stage old.units old.told k h.told u) u);
@@ -75,6 +77,7 @@ module _ (way : Direction) (m : Machine) (input : Input) (old : Walk) (k : ℕ) 
   step_refused c e of errors lost goes_on unsupported free = record {
     pair = tt;
     paths = λ acyclic. tt;
+    within = tt;
     errors = step_error old.lost refl c e of errors lost;
     ended = λ pairs all lt. goes_on (h.ended pairs all lt);
     unsupported = λ u. ap Err (unsupported (still_fresh way m input old.stage old.units old.told k h.told u) u);

@@ -6,7 +6,7 @@ use Rattle.automata_base.specs.declared.util.search.Anchored.{Anchored}
 use Rattle.automata_base.specs.Spans.{AreMatches, IsEmptyAt, IsNext, from}
 use Rattle.automata_config.specs.declared.error.SearchError.{SearchError}
 use Rattle.regex_automata.specs.Costs.{AreCostsOf}
-use Rattle.regex_automata.specs.Outcomes.{FindsMatch, LiesIn}
+use Rattle.regex_automata.specs.Outcomes.{FindsMatch, MatchLiesIn}
 use Rattle.regex_automata.specs.RegexCaches.{AreStill, KnowsBoth, NothingCleared}
 use Rattle.regex_automata.specs.RegexRefusals.{IsOfGiven, IsRegexRefusal}
 use Rattle.regex_automata.specs.declared.hybrid.regex.Regex.{Regex}
@@ -24,8 +24,8 @@ IsNextRefusal p c input last e =
     × IsRegexRefusal p c (from (suc input.start) input) e)
 
 -- a match goes past the last end
-abbrev pub GoesOn : Input → Option ℕ → Match → Type 0
-GoesOn input last m = LiesIn input m × (last ≡ Some input.start → input.start < m.end)
+abbrev pub GoesOn : Regex → Input → Option ℕ → Match → Type 0
+GoesOn p input last m = MatchLiesIn p input m × (last ≡ Some input.start → input.start < m.end)
 
 -- what one search costs, or two
 abbrev pub AreCostsTwice : Regex → ℕ → Cache → Cache → Type 0
@@ -63,7 +63,8 @@ GivesItem p c item input input' last last' true ended' =
 GivesItem p c None input input' last last' false ended' =
     IsNextMatch p input last None × (input' ≡ input) × (last' ≡ last) × (ended' ≡ true)
 GivesItem p c (Some (Ok m)) input input' last last' false ended' =
-    IsNextMatch p input last (Some m) × (input' ≡ from m.end input) × (last' ≡ Some m.end) × (ended' ≡ false)
+    IsNextMatch p input last (Some m) × MatchLiesIn p input m
+    × (input' ≡ from m.end input) × (last' ≡ Some m.end) × (ended' ≡ false)
 GivesItem p c (Some (Err e)) input input' last last' false ended' =
     IsNextRefusal p c input last e × (input' ≡ input) × (last' ≡ last) × (ended' ≡ true)
 

@@ -1,5 +1,5 @@
 -- What a search over two lazy DFAs tells, for every two: by what their passes tell.
-use Rattle.std.specs.Prelude.{ℕ, ◌≡◌, ◌≤◌, ◌⊎◌, None, Option, Some}
+use Rattle.std.specs.Prelude.{ℕ, ◌≡◌, ◌<◌, ◌≤◌, ◌⊎◌, None, Option, Some, length}
 use Rattle.automata_base.specs.Answers.{Half}
 use Rattle.automata_base.specs.Engines.{Engine}
 use Rattle.automata_base.specs.Input.{Input}
@@ -37,6 +37,8 @@ IsOutcome p input outcome =
 abbrev pub FindsMatch : Regex → Input → Option Match → Type 0
 FindsMatch p input answer = IsOutcome p input (Found answer)
 
--- the match lies in the span
-abbrev pub LiesIn : Input → Match → Type 0
-LiesIn input m = (input.start ≤ m.start) × (m.start ≤ m.end) × (m.end ≤ input.end)
+-- the match lies in the span, and its pattern is one of the automata's
+abbrev pub MatchLiesIn : Regex → Input → Match → Type 0
+MatchLiesIn p input m =
+    (input.start ≤ m.start) × (m.start ≤ m.end) × (m.end ≤ input.end)
+    × (m.pattern < length p.forward.nfa.start_pattern)

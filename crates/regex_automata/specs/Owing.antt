@@ -23,9 +23,10 @@ use Rattle.automata_hybrid.specs.Starting.{quit_behind}
 use Rattle.automata_hybrid.specs.Walking.{AreWalked, HasTold, IsWalkRefusal, half_nth}
 use Rattle.automata_hybrid.specs.Walks.{Walk}
 use Rattle.automata_hybrid.specs.Which.{IsWhichRefusal}
+use Rattle.automata_hybrid.specs.Within.{LiesIn}
 use Rattle.regex_automata.specs.Iterating.{AreCollected, IsBeginning, IsNextRefusal}
 use Rattle.regex_automata.specs.Matching.{IsMatchRefused, IsMatchTold}
-use Rattle.regex_automata.specs.Outcomes.{FindsMatch, LiesIn}
+use Rattle.regex_automata.specs.Outcomes.{FindsMatch, MatchLiesIn}
 use Rattle.regex_automata.specs.RegexRefusals.{IsFree, IsOfMemory, IsRegexRefusal}
 use Rattle.regex_automata.specs.SoundPairs.{AreLookAcyclic, IsSoundPair, forward_engine, reverse_engine}
 use Rattle.regex_automata.specs.declared.hybrid.regex.Regex.{Regex}
@@ -78,6 +79,8 @@ pub record IsHalf (way : Direction) (m : Machine) (input : Input)
   pub farthest :
       input.earliest ≡ false → m.kind ≡ KindAll
       → IfOk result (WithoutBase (IsFarthestAnswer way (engine_of m.nfa m.kind) input))
+  -- it lies in the input's span, and its pattern is one of the automaton's
+  pub within : IfOk result (λ o. IfSome o (LiesIn m input))
   -- a refusal is one that some cache may give
   pub errors : IfErr result (MayRefuse way m input)
   -- a mode that isn't supported is told
@@ -101,6 +104,8 @@ pub record IsStep (way : Direction) (m : Machine) (input : Input) (told : ℕ)
       IsLookAcyclic (nfa_of m.nfa)
       → IfOk result (λ found.
       (pairs : List Pair) → IsOverlapping way (engine_of m.nfa m.kind) input pairs → found ≡ half_nth pairs told)
+  -- it lies in the input's span, and its pattern is one of the automaton's
+  pub within : IfOk result (λ found. IfSome found (LiesIn m input))
   -- a refusal is one that some cache may give
   pub errors : IfErr result (MayRefuseStep way m input told)
   -- behind the end there is none
@@ -122,8 +127,8 @@ pub record IsSpanOf (p : Regex) (input : Input) (result : Result (Option Match) 
   pub answer : AreLookAcyclic p → IfOk result (TryFinds (forward_engine p) (reverse_engine p) input)
   -- over a sound pair, the span of the path that the forward search chose
   pub span : IsSoundPair p → IfOk result (IsSpan (forward_engine p) input)
-  -- it lies in the input's span
-  pub within : IfOk result (λ o. IfSome o (LiesIn input))
+  -- it lies in the input's span, and its pattern is one of the automata's
+  pub within : IfOk result (λ o. IfSome o (MatchLiesIn p input))
   -- a refusal is one that some caches may give
   pub errors : IfErr result (MayRefuseSpan p input)
   -- a mode that isn't supported is told

@@ -1,5 +1,5 @@
 -- The tokens of an input, one behind another.
-use Rattle.std.specs.Prelude.{ℕ, ◌≡◌, ◌<◌, ◌≤◌, ◌⊎◌, ◌-◌, ◌++◌, Bool, true, false, if◌then◌else◌, nat_lt, List, [], ◌∷◌, Option, None, Some, Result, Ok, Err, IfSome, slice_range}
+use Rattle.std.specs.Prelude.{ℕ, ◌≡◌, ◌<◌, ◌≤◌, ◌⊎◌, ◌-◌, ◌++◌, Bool, true, false, if◌then◌else◌, nat_lt, List, [], ◌∷◌, length, Option, None, Some, Result, Ok, Err, IfSome, slice_range}
 use Rattle.automata_base.specs.Answers.{IsAnswer}
 use Rattle.automata_base.specs.Engines.{engine_of}
 use Rattle.automata_base.specs.Input.{Input}
@@ -21,10 +21,6 @@ use Rattle.regex_automata.specs.declared.tokens.token.Token.{Token}
 -- what is searched at a place: what is left of the span, anchored and in full
 abbrev pub asked : List ℕ → (end place : ℕ) → Input
 asked h end place = record { haystack = h; start = place; end = end; anchored = Yes; earliest = false }
-
--- a match ends in what is searched
-abbrev pub EndsIn : Input → HalfMatch → Type 0
-EndsIn input half = (input.start ≤ half.offset) × (half.offset ≤ input.end)
 
 -- what the answer there makes: a token up to its end, where that is past the place; no token, where it ends at the
 -- place or there is none; and a refusal is told as it is
@@ -59,10 +55,11 @@ match_of t = record { pattern = t.pattern; start = t.span.start; end = t.span.en
 pub record IsTokenAt (m : Machine) (h : List ℕ) (end place : ℕ) (t : Token) : Type 0 where
   pub item : IsItemAt m h end place (Ok (match_of t))
   pub bytes : t.bytes.now ≡ bytes_of h (match_of t)
-  -- it begins at the place, goes past it, and lies before the span's end
+  -- it begins at the place, goes past it, and lies before the span's end, and its pattern is one of the automaton's
   pub start : t.span.start ≡ place
   pub past : place < t.span.end
   pub within : t.span.end ≤ end
+  pub pattern : t.pattern < length m.nfa.start_pattern
 
 -- a refused search is refused over this cache
 abbrev pub IsRefusedAt : Machine → Stored → List ℕ → (end place : ℕ) → TokenError → Type 0

@@ -61,7 +61,7 @@ pub record Raw (way : Direction) (input : Input) (pair : Pair) (ps : List Pair) 
   pub pattern : pair.pattern ≡ raw.pattern
   pub place : pair.place ≡ offset_in way input raw.place
 
-in_offsets : (way : Direction) (input : Input) (pair : Pair) (ps : List Pair) → InPairs pair (with_offsets way input ps) → Raw way input pair ps
+pub in_offsets : (way : Direction) (input : Input) (pair : Pair) (ps : List Pair) → InPairs pair (with_offsets way input ps) → Raw way input pair ps
 in_offsets way input pair [] h = absurd h
 in_offsets way input pair (x ∷ xs) (inl e) =
     record { raw = x; inside = inl refl; pattern = ap (λ (y : Pair). y.pattern) e; place = ap (λ (y : Pair). y.place) e }
@@ -81,7 +81,7 @@ unsplit_in h pair (x ∷ xs) i e = go (is_split h x.place) refl i (λ k. unsplit
   go false s (inl same) again = inl same
   go false s (inr k) again = inr (again k)
 
-in_unsplit : (h : List ℕ) (pair : Pair) (ps : List Pair) → InPairs pair (without_split h ps) → InPairs pair ps × (is_split h pair.place ≡ false)
+pub in_unsplit : (h : List ℕ) (pair : Pair) (ps : List Pair) → InPairs pair (without_split h ps) → InPairs pair ps × (is_split h pair.place ≡ false)
 in_unsplit h pair [] i = absurd i
 in_unsplit h pair (x ∷ xs) i = go (is_split h x.place) refl i (λ k. in_unsplit h pair xs k) where
   go :
@@ -107,7 +107,7 @@ told_in a kind mode t (suc k) i p l h = go (λ less. told_in a kind mode t k i p
       (subst (λ n. InPairs (record { pattern = p; place = i }) (at_place n (told_at a kind mode t n))) e (place_in i (told_at a kind mode t i) p h))
   go again (inr less) = in_left _ (pairs_told a kind mode t k) (at_place k (told_at a kind mode t k)) (again less)
 
-in_told :
+pub in_told :
     (a : Automaton) (kind : MatchKind) (mode : Anchored) (t : Tape) (k : ℕ) (pair : Pair)
     → InPairs pair (pairs_told a kind mode t k) → (pair.place < k) × In pair.pattern (told_at a kind mode t pair.place)
 unfolding pairs_told

@@ -1,4 +1,4 @@
-ghost use Rattle.std.specs.Prelude.{ℕ, ◌≡◌, ◌+◌, ◌-◌, ◌*◌, ◌^◌, ◌<◌, ◌≤◌, IfOk, IfErr, IsBitSet, OnOk, Option, None, Err, Ok, ◌*◌, true, false, length, option_map};
+ghost use Rattle.std.specs.Prelude.{ℕ, ◌≡◌, ◌+◌, ◌-◌, ◌*◌, ◌^◌, ◌<◌, ◌≤◌, IfOk, IfErr, IfSome, IsBitSet, IsTrue, OnOk, Option, None, Err, Ok, ◌*◌, true, false, length, option_map};
 ghost use Rattle.automata_base.specs.Answers.{IsAnswer};
 ghost use Rattle.automata_base.specs.declared.util.search.MatchKind.TheVariants.{All as KindAll};
 ghost use Rattle.automata_base.specs.Engines.{engine_of};
@@ -10,17 +10,19 @@ ghost use Rattle.automata_base.specs.Tapes.{Forward, byte_before};
 ghost use Rattle.automata_base.specs.declared.util.search.MatchErrorKind.TheVariants.{UnsupportedAnchored as UnsupportedMode};
 ghost use Rattle.automata_hybrid.specs.Caches.{IsCacheOf};
 ghost use Rattle.automata_hybrid.specs.Growing.{IsGrown, IsStill, ClearedNothing, HasRoom};
+ghost use Rattle.automata_hybrid.specs.Ids.{offset_limit};
 ghost use Rattle.automata_hybrid.specs.Knowing.{IsOfInput, KnowsItsStart, KnowsPass, Knows};
 ghost use Rattle.automata_hybrid.specs.Passing.{HasLearned, HasLearnedAll, IsAt, IsFollowed, IsLed, found_over};
 ghost use Rattle.automata_hybrid.specs.Searches.{IsFound, IsPassRefusal, IsRefused, MeetsNoQuit, NoQuitInReach, Skips, WithoutBase, state_in, tape_in, with_base};
 ghost use Rattle.automata_hybrid.specs.Slots.{supports};
 ghost use Rattle.automata_hybrid.specs.Starting.{MayStart, quit_behind};
 ghost use Rattle.automata_hybrid.specs.Table.{IsValid, Names};
+ghost use Rattle.automata_hybrid.specs.Within.{LiesIn, LiesPast};
 
 use crate::dfa::DFA;
 use crate::dfa::cache::Cache;
 use crate::id::LazyStateID;
-use crate::search::{Place, Stop, is_anchored, with_span};
+use crate::search::{PATIENCE, Place, Stop, is_anchored, with_span};
 use automata_base::laws::told_is_right;
 use automata_base::util::search::{HalfMatch, Input};
 use automata_config::error::SearchError;
@@ -40,11 +42,12 @@ impl DFA {
         ensures of { IsCacheOf cache.new self.now }
 
         // What the passes tell, for every automaton; and where no cycle passes a look, the answer of the ordered paths. Without
-        // that, the nearest end in an earliest search, and under kind all the farthest one.
+        // that, the nearest end in an earliest search, and under kind all the farthest one. It lies in the span.
         ensures found { IfOk result (WithoutBase (IsFound Forward self.now input.now)) }
         ensures answer { IsLookAcyclic (nfa_of self.now.nfa) → IfOk result (WithoutBase (IsAnswer Forward (engine_of self.now.nfa self.now.kind) input.now)) }
         ensures nearest { input.now.earliest ≡ true → IfOk result (WithoutBase (IsNearestAnswer Forward (engine_of self.now.nfa self.now.kind) input.now)) }
         ensures farthest { input.now.earliest ≡ false → self.now.kind ≡ KindAll → IfOk result (WithoutBase (IsFarthestAnswer Forward (engine_of self.now.nfa self.now.kind) input.now)) }
+        ensures within { IfOk result (λ o. IfSome o (LiesIn self.now input.now)) }
         ensures errors { IfErr result (IsRefused Forward self.now cache.new.store input.now) }
         ensures unsupported { input.now.start ≤ input.now.end → quit_behind self.now (byte_before input.now.haystack input.now.start) ≡ None → supports self.now input.now.anchored ≡ false → result ≡ Err (SearchError.Match (UnsupportedMode input.now.anchored)) }
 
@@ -82,11 +85,12 @@ impl DFA {
         ensures of { IsCacheOf cache.new self.now }
 
         // What the passes tell, for every automaton; and where no cycle passes a look, the answer of the ordered paths. Without
-        // that, the nearest end in an earliest search, and under kind all the farthest one.
+        // that, the nearest end in an earliest search, and under kind all the farthest one. It lies in the span.
         ensures found { IfOk result (λ o. IsFound Forward self.now input.now (option_map (λ p. with_base p.0 p.1) o)) }
         ensures answer { IsLookAcyclic (nfa_of self.now.nfa) → IfOk result (λ o. IsAnswer Forward (engine_of self.now.nfa self.now.kind) input.now (option_map (λ p. with_base p.0 p.1) o)) }
         ensures nearest { input.now.earliest ≡ true → IfOk result (λ o. IsNearestAnswer Forward (engine_of self.now.nfa self.now.kind) input.now (option_map (λ p. with_base p.0 p.1) o)) }
         ensures farthest { input.now.earliest ≡ false → self.now.kind ≡ KindAll → IfOk result (λ o. IsFarthestAnswer Forward (engine_of self.now.nfa self.now.kind) input.now (option_map (λ p. with_base p.0 p.1) o)) }
+        ensures within { IfOk result (λ o. IfSome o (λ p. LiesPast self.now input.now p.0 p.1)) }
         ensures errors { IfErr result (IsRefused Forward self.now cache.new.store input.now) }
         ensures unsupported { input.now.start ≤ input.now.end → quit_behind self.now (byte_before input.now.haystack input.now.start) ≡ None → supports self.now input.now.anchored ≡ false → result ≡ Err (SearchError.Match (UnsupportedMode input.now.anchored)) }
 
@@ -200,13 +204,168 @@ impl DFA {
                 id: from,
             };
         }
-        self.see_classes();
-        let haystack = input.haystack();
         let end = input.end();
         let mut at = start;
         let mut id = from;
-        while at < end {
-            let next = self.next_state_untagged(cache, id, haystack[at]);
+        let mut again = start;
+        'fours: while end - at >= 4 {
+            let four = self.follow_four_fwd(cache, input, at, id);
+            if four.at != at + 4 {
+                return four;
+            }
+            let same = four.id == id;
+            at = four.at;
+            id = four.id;
+            if !same || at < again {
+                continue;
+            }
+            let stop = self.follow_loop_fwd(cache, input, at, id);
+            if stop == at {
+                again = at.saturating_add(PATIENCE);
+            }
+            at = stop;
+        }
+        self.follow_rest_fwd(cache, input, at, id)
+    }
+
+    /// The ID after the byte at an offset, as far as it is known.
+    #[inline(always)]
+    fn follow_byte_fwd(
+        &self,
+        cache: &Cache,
+        input: &Input<'_>,
+        at: usize,
+        id: LazyStateID,
+    ) -> LazyStateID
+        requires of { IsCacheOf cache.now self.now }
+        requires valid { IsValid cache.now.store.table id }
+        requires untagged { id < offset_limit }
+        requires from { input.now.start ≤ at }
+        requires within { at < input.now.end }
+        ensures valid { result < offset_limit → IsValid cache.now.store.table result }
+        ensures followed { result < offset_limit
+            → Names cache.now.store.table id (state_in Forward self.now input.now (at - input.now.start))
+            → IsFollowed Forward self.now cache.now.store input.now
+            (at - input.now.start) (at + 1 - input.now.start) result }
+    {
+        self.see_classes();
+        let haystack = input.haystack();
+        self.next_state_untagged(cache, id, haystack[at])
+    }
+
+    /// Follows four known transitions without a tag, or those before the first other one.
+    #[inline(always)]
+    fn follow_four_fwd(
+        &self,
+        cache: &Cache,
+        input: &Input<'_>,
+        start: usize,
+        from: LazyStateID,
+    ) -> Stop
+        requires of { IsCacheOf cache.now self.now }
+        requires valid { IsValid cache.now.store.table from }
+        requires untagged { from < offset_limit }
+        requires from { input.now.start ≤ start }
+        requires within { start + 4 ≤ input.now.end }
+        ensures from { start ≤ result.at }
+        ensures within { result.at ≤ start + 4 }
+        ensures valid { IsValid cache.now.store.table result.id }
+        ensures untagged { result.id < offset_limit }
+        ensures followed { Names cache.now.store.table from (state_in Forward self.now input.now (start - input.now.start))
+            → IsFollowed Forward self.now cache.now.store input.now
+            (start - input.now.start) (result.at - input.now.start) result.id }
+    {
+        let _haystack = input.haystack();
+        let mut id = from;
+        for k in 0..4usize {
+            let next = self.follow_byte_fwd(cache, input, start + k, id);
+            if next.is_tagged() {
+                return Stop { at: start + k, id };
+            }
+            id = next;
+        }
+        Stop { at: start + 4, id }
+    }
+
+    /// Whether the ID's row leads back to itself on the eight bytes from an offset on. None of them waits for another.
+    #[inline(always)]
+    fn stays_fwd(&self, cache: &Cache, input: &Input<'_>, start: usize, id: LazyStateID) -> bool
+        requires of { IsCacheOf cache.now self.now }
+        requires valid { IsValid cache.now.store.table id }
+        requires untagged { id < offset_limit }
+        requires from { input.now.start ≤ start }
+        requires within { start + 8 ≤ input.now.end }
+        ensures followed { IsTrue result
+            → Names cache.now.store.table id (state_in Forward self.now input.now (start - input.now.start))
+            → IsFollowed Forward self.now cache.now.store input.now
+            (start - input.now.start) (start + 8 - input.now.start) id }
+    {
+        let _haystack = input.haystack();
+        for k in 0..8usize {
+            let next = self.follow_byte_fwd(cache, input, start + k, id);
+            if next != id {
+                return false;
+            }
+        }
+        true
+    }
+
+    /// Follows the transition of an ID to itself, eight bytes at once.
+    #[inline(always)]
+    fn follow_loop_fwd(
+        &self,
+        cache: &Cache,
+        input: &Input<'_>,
+        start: usize,
+        id: LazyStateID,
+    ) -> usize
+        requires of { IsCacheOf cache.now self.now }
+        requires valid { IsValid cache.now.store.table id }
+        requires untagged { id < offset_limit }
+        requires from { input.now.start ≤ start }
+        requires within { start ≤ input.now.end }
+        ensures from { start ≤ result }
+        ensures within { result ≤ input.now.end }
+        ensures followed { Names cache.now.store.table id (state_in Forward self.now input.now (start - input.now.start))
+            → IsFollowed Forward self.now cache.now.store input.now
+            (start - input.now.start) (result - input.now.start) id }
+    {
+        let end = input.end();
+        let mut at = start;
+        'eights: while end - at >= 8 {
+            if !self.stays_fwd(cache, input, at, id) {
+                return at;
+            }
+            at += 8;
+        }
+        at
+    }
+
+    /// Follows known transitions without a tag one by one.
+    #[inline(always)]
+    fn follow_rest_fwd(
+        &self,
+        cache: &Cache,
+        input: &Input<'_>,
+        start: usize,
+        from: LazyStateID,
+    ) -> Stop
+        requires of { IsCacheOf cache.now self.now }
+        requires valid { IsValid cache.now.store.table from }
+        requires untagged { from < offset_limit }
+        requires from { input.now.start ≤ start }
+        requires within { start ≤ input.now.end }
+        ensures from { start ≤ result.at }
+        ensures within { result.at ≤ input.now.end }
+        ensures followed { Names cache.now.store.table from (state_in Forward self.now input.now (start - input.now.start))
+            → IsFollowed Forward self.now cache.now.store input.now
+            (start - input.now.start) (result.at - input.now.start) result.id }
+    {
+        let end = input.end();
+        let mut at = start;
+        let mut id = from;
+        'rest: while at < end {
+            let next = self.follow_byte_fwd(cache, input, at, id);
             if next.is_tagged() {
                 return Stop { at, id };
             }

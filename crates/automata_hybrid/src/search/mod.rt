@@ -27,6 +27,9 @@ use crate::id::LazyStateID;
 use automata_base::util::search::{Anchored, HalfMatch, Input, MatchError};
 use automata_config::error::{SearchError, StepError};
 
+/// How many bytes are followed before a self-loop is looked for again, where one was looked for in vain.
+const PATIENCE: usize = 256;
+
 /// Where known transitions without a tag were followed to.
 #[derive(Clone, Copy)]
 struct Stop {

@@ -19,6 +19,7 @@ ghost use Rattle.automata_base.specs.declared.util.search.MatchErrorKind.TheVari
 ghost use Rattle.automata_hybrid.specs.Table.{Leads, Names};
 ghost use Rattle.automata_hybrid.specs.Walking.{Arrives, CanGoOn, GoesOn, HasItsState, HasTold, HasToldBy, IsNamedAt, IsResumeRefusal, IsRowState, IsWalkOf, IsWalkRefusal, TellsNext, WalkReads, half_nth, start_count};
 ghost use Rattle.automata_hybrid.specs.Walks.{At, Ended, Fresh, way_of, without_match};
+ghost use Rattle.automata_hybrid.specs.Within.{LiesIn};
 
 use crate::dfa::DFA;
 use crate::dfa::cache::Cache;
@@ -48,10 +49,11 @@ impl DFA {
         ensures of { IsCacheOf cache.new self.now }
 
         // The next pair that the passes tell, for every automaton; and where no cycle passes a look, of the list that the
-        // ordered paths define.
+        // ordered paths define. It lies in the span.
         ensures tells { OnOk result (TellsNext Forward self.now input.now state.old state.new) }
         ensures walk { IsWalkOf Forward self.now input.now state.new }
         ensures paths { IsLookAcyclic (nfa_of self.now.nfa) → (k : ℕ) (pairs : List Pair) → HasTold Forward self.now input.now state.old k → IsOverlapping Forward (engine_of self.now.nfa self.now.kind) input.now pairs → OnOk result (state.new.found ≡ half_nth pairs k) }
+        ensures within { IfSome state.new.found (LiesIn self.now input.now) }
         ensures refused { OnErr result (state.new ≡ without_match state.old) }
         ensures errors { state.old.lost ≡ false → (k : ℕ) → HasTold Forward self.now input.now state.old k → IfErr result (IsWalkRefusal Forward self.now cache.new.store input.now state.old k) }
         ensures lost { state.old.lost ≡ true → IfErr result (λ e. e ≡ SearchError.OutOfMemory) }
@@ -101,10 +103,11 @@ impl DFA {
         ensures of { IsCacheOf cache.new self.now }
 
         // The next pair that the passes tell, for every automaton; and where no cycle passes a look, of the list that the
-        // ordered paths define.
+        // ordered paths define. It lies in the span.
         ensures tells { OnOk result (TellsNext Backward self.now input.now state.old state.new) }
         ensures walk { IsWalkOf Backward self.now input.now state.new }
         ensures paths { IsLookAcyclic (nfa_of self.now.nfa) → (k : ℕ) (pairs : List Pair) → HasTold Backward self.now input.now state.old k → IsOverlapping Backward (engine_of self.now.nfa self.now.kind) input.now pairs → OnOk result (state.new.found ≡ half_nth pairs k) }
+        ensures within { IfSome state.new.found (LiesIn self.now input.now) }
         ensures refused { OnErr result (state.new ≡ without_match state.old) }
         ensures errors { state.old.lost ≡ false → (k : ℕ) → HasTold Backward self.now input.now state.old k → IfErr result (IsWalkRefusal Backward self.now cache.new.store input.now state.old k) }
         ensures lost { state.old.lost ≡ true → IfErr result (λ e. e ≡ SearchError.OutOfMemory) }

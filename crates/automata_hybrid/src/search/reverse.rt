@@ -1,4 +1,4 @@
-ghost use Rattle.std.specs.Prelude.{ℕ, ◌≡◌, ◌+◌, ◌-◌, ◌*◌, ◌^◌, ◌<◌, ◌≤◌, IfOk, IfErr, IsBitSet, OnOk, Option, None, Some, true, false, length, Err, Ok};
+ghost use Rattle.std.specs.Prelude.{ℕ, ◌≡◌, ◌+◌, ◌-◌, ◌*◌, ◌^◌, ◌<◌, ◌≤◌, IfOk, IfErr, IfSome, IsBitSet, IsTrue, OnOk, Option, None, Some, true, false, length, Err, Ok};
 ghost use Rattle.automata_base.specs.Answers.{IsAnswer};
 ghost use Rattle.automata_base.specs.Classes.{class_in, is_quit};
 ghost use Rattle.automata_base.specs.declared.util.search.MatchKind.TheVariants.{All as KindAll};
@@ -15,17 +15,19 @@ ghost use Rattle.automata_base.specs.declared.util.search.MatchErrorKind.TheVari
 ghost use Rattle.automata_hybrid.specs.Bounds.{IsKnownTransition};
 ghost use Rattle.automata_hybrid.specs.Caches.{IsCacheOf};
 ghost use Rattle.automata_hybrid.specs.Growing.{IsGrown, IsStill, ClearedNothing, HasRoom};
+ghost use Rattle.automata_hybrid.specs.Ids.{offset_limit};
 ghost use Rattle.automata_hybrid.specs.Knowing.{IsOfInput, KnowsItsStart, KnowsPass, Knows};
 ghost use Rattle.automata_hybrid.specs.Passing.{HasLearned, HasLearnedAll, IsAt, IsFollowed, IsLed, found_over};
 ghost use Rattle.automata_hybrid.specs.Searches.{IsFound, IsPassRefusal, IsRefused, IsStepRefusal, MeetsNoQuit, NoQuitInReach, Skips, WithoutBase, state_in, tape_in};
 ghost use Rattle.automata_hybrid.specs.Slots.{supports};
 ghost use Rattle.automata_hybrid.specs.Starting.{MayStart, quit_behind};
 ghost use Rattle.automata_hybrid.specs.Table.{IsValid, Leads, Names};
+ghost use Rattle.automata_hybrid.specs.Within.{LiesIn};
 
 use crate::dfa::DFA;
 use crate::dfa::cache::Cache;
 use crate::id::LazyStateID;
-use crate::search::{Place, Stop, is_anchored, quit, with_span};
+use crate::search::{PATIENCE, Place, Stop, is_anchored, quit, with_span};
 use automata_base::laws::told_is_right;
 use automata_base::util::search::{Anchored, HalfMatch, Input};
 use automata_config::error::SearchError;
@@ -48,11 +50,12 @@ impl DFA {
         ensures of { IsCacheOf cache.new self.now }
 
         // What the passes tell, for every automaton; and where no cycle passes a look, the answer of the ordered paths. Without
-        // that, the nearest end in an earliest search, and under kind all the farthest one.
+        // that, the nearest end in an earliest search, and under kind all the farthest one. It lies in the span.
         ensures found { IfOk result (WithoutBase (IsFound Backward self.now input.now)) }
         ensures answer { IsLookAcyclic (nfa_of self.now.nfa) → IfOk result (WithoutBase (IsAnswer Backward (engine_of self.now.nfa self.now.kind) input.now)) }
         ensures nearest { input.now.earliest ≡ true → IfOk result (WithoutBase (IsNearestAnswer Backward (engine_of self.now.nfa self.now.kind) input.now)) }
         ensures farthest { input.now.earliest ≡ false → self.now.kind ≡ KindAll → IfOk result (WithoutBase (IsFarthestAnswer Backward (engine_of self.now.nfa self.now.kind) input.now)) }
+        ensures within { IfOk result (λ o. IfSome o (LiesIn self.now input.now)) }
         ensures errors { IfErr result (IsRefused Backward self.now cache.new.store input.now) }
         ensures unsupported { input.now.start ≤ input.now.end → quit_behind self.now (nth input.now.haystack input.now.end) ≡ None → supports self.now input.now.anchored ≡ false → result ≡ Err (SearchError.Match (UnsupportedMode input.now.anchored)) }
 
@@ -175,13 +178,166 @@ impl DFA {
                 id: from,
             };
         }
-        self.see_classes();
-        let haystack = input.haystack();
         let first = input.start();
         let mut at = start;
         let mut id = from;
-        while at > first {
-            let next = self.next_state_untagged(cache, id, haystack[at - 1]);
+        let mut again = start;
+        'fours: while at - first >= 4 {
+            let four = self.follow_four_rev(cache, input, at, id);
+            if four.at != at - 4 {
+                return four;
+            }
+            let same = four.id == id;
+            at = four.at;
+            id = four.id;
+            if !same || at > again {
+                continue;
+            }
+            let stop = self.follow_loop_rev(cache, input, at, id);
+            if stop == at {
+                again = at.saturating_sub(PATIENCE);
+            }
+            at = stop;
+        }
+        self.follow_rest_rev(cache, input, at, id)
+    }
+
+    /// The ID after the byte before an offset, as far as it is known.
+    #[inline(always)]
+    fn follow_byte_rev(
+        &self,
+        cache: &Cache,
+        input: &Input<'_>,
+        at: usize,
+        id: LazyStateID,
+    ) -> LazyStateID
+        requires of { IsCacheOf cache.now self.now }
+        requires valid { IsValid cache.now.store.table id }
+        requires untagged { id < offset_limit }
+        requires from { input.now.start < at }
+        requires within { at ≤ input.now.end }
+        ensures valid { result < offset_limit → IsValid cache.now.store.table result }
+        ensures followed { result < offset_limit
+            → Names cache.now.store.table id (state_in Backward self.now input.now (input.now.end - at))
+            → IsFollowed Backward self.now cache.now.store input.now
+            (input.now.end - at) (input.now.end - (at - 1)) result }
+    {
+        self.see_classes();
+        let haystack = input.haystack();
+        self.next_state_untagged(cache, id, haystack[at - 1])
+    }
+
+    /// Follows four known transitions without a tag, or those before the first other one.
+    #[inline(always)]
+    fn follow_four_rev(
+        &self,
+        cache: &Cache,
+        input: &Input<'_>,
+        start: usize,
+        from: LazyStateID,
+    ) -> Stop
+        requires of { IsCacheOf cache.now self.now }
+        requires valid { IsValid cache.now.store.table from }
+        requires untagged { from < offset_limit }
+        requires from { input.now.start + 4 ≤ start }
+        requires within { start ≤ input.now.end }
+        ensures from { start ≤ result.at + 4 }
+        ensures within { result.at ≤ start }
+        ensures valid { IsValid cache.now.store.table result.id }
+        ensures untagged { result.id < offset_limit }
+        ensures followed { Names cache.now.store.table from (state_in Backward self.now input.now (input.now.end - start))
+            → IsFollowed Backward self.now cache.now.store input.now
+            (input.now.end - start) (input.now.end - result.at) result.id }
+    {
+        let mut id = from;
+        for k in 0..4usize {
+            let next = self.follow_byte_rev(cache, input, start - k, id);
+            if next.is_tagged() {
+                return Stop { at: start - k, id };
+            }
+            id = next;
+        }
+        Stop { at: start - 4, id }
+    }
+
+    /// Whether the ID's row leads back to itself on the eight bytes before an offset. None of them waits for another.
+    #[inline(always)]
+    fn stays_rev(&self, cache: &Cache, input: &Input<'_>, start: usize, id: LazyStateID) -> bool
+        requires of { IsCacheOf cache.now self.now }
+        requires valid { IsValid cache.now.store.table id }
+        requires untagged { id < offset_limit }
+        requires from { input.now.start + 8 ≤ start }
+        requires within { start ≤ input.now.end }
+        ensures followed { IsTrue result
+            → Names cache.now.store.table id (state_in Backward self.now input.now (input.now.end - start))
+            → IsFollowed Backward self.now cache.now.store input.now
+            (input.now.end - start) (input.now.end - (start - 8)) id }
+    {
+        for k in 0..8usize {
+            let next = self.follow_byte_rev(cache, input, start - k, id);
+            if next != id {
+                return false;
+            }
+        }
+        true
+    }
+
+    /// Follows the transition of an ID to itself, eight bytes at once.
+    #[inline(always)]
+    fn follow_loop_rev(
+        &self,
+        cache: &Cache,
+        input: &Input<'_>,
+        start: usize,
+        id: LazyStateID,
+    ) -> usize
+        requires of { IsCacheOf cache.now self.now }
+        requires valid { IsValid cache.now.store.table id }
+        requires untagged { id < offset_limit }
+        requires from { input.now.start ≤ start }
+        requires within { start ≤ input.now.end }
+        ensures from { input.now.start ≤ result }
+        ensures within { result ≤ start }
+        ensures followed { Names cache.now.store.table id (state_in Backward self.now input.now (input.now.end - start))
+            → IsFollowed Backward self.now cache.now.store input.now
+            (input.now.end - start) (input.now.end - result) id }
+    {
+        let first = input.start();
+        let mut at = start;
+        'eights: while at - first >= 8 {
+            if !self.stays_rev(cache, input, at, id) {
+                return at;
+            }
+            at -= 8;
+        }
+        at
+    }
+
+    /// Follows known transitions without a tag one by one.
+    #[inline(always)]
+    fn follow_rest_rev(
+        &self,
+        cache: &Cache,
+        input: &Input<'_>,
+        start: usize,
+        from: LazyStateID,
+    ) -> Stop
+        requires of { IsCacheOf cache.now self.now }
+        requires valid { IsValid cache.now.store.table from }
+        requires untagged { from < offset_limit }
+        requires from { input.now.start ≤ start }
+        requires within { start ≤ input.now.end }
+        ensures from { input.now.start ≤ result.at }
+        ensures within { result.at ≤ start }
+        ensures followed { Names cache.now.store.table from (state_in Backward self.now input.now (input.now.end - start))
+            → IsFollowed Backward self.now cache.now.store input.now
+            (input.now.end - start) (input.now.end - result.at) result.id }
+    {
+        let first = input.start();
+        let mut at = start;
+        let mut id = from;
+        'rest: while at > first {
+            let next = self.follow_byte_rev(cache, input, at, id);
             if next.is_tagged() {
                 return Stop { at, id };
             }

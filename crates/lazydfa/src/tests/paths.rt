@@ -188,54 +188,98 @@ fn edges(
     place: usize,
 ) -> Result<Vec<Stand>, AllocError> {
     let mut next = Vec::new(nfa.alloc());
+    let Some(state) = nfa.states().get(state.as_usize()) else {
+        return Ok(next);
+    };
     let at = beside(nfa, input, place);
-    match nfa.states().get(state.as_usize()) {
-        Some(State::ByteRange { lo, hi, next: to }) => {
-            if at.read.is_some_and(|byte| *lo <= byte && byte <= *hi) {
-                next.push((*to, at.behind))?;
-            }
-        }
-        Some(State::Sparse(transitions)) => {
-            for transition in transitions {
-                let (lo, hi) = (transition.lo, transition.hi);
-                if at.read.is_some_and(|byte| lo <= byte && byte <= hi) {
-                    next.push((transition.next, at.behind))?;
-                }
-            }
-        }
-        Some(State::Look { look, next: to }) => {
-            if holds(*look, at.before, at.after) {
+    if let Some(to) = at.read.and_then(|byte| target(state, byte)) {
+        next.push((to, at.behind))?;
+    }
+    match state {
+        State::Look { look, next: to } => {
+            if holds(nfa, *look, at.before, at.after) {
                 next.push((*to, place))?;
             }
         }
-        Some(State::BinaryUnion { alt1, alt2 }) => {
+        State::Union { alternates } => {
+            for alternate in alternates {
+                next.push((*alternate, place))?;
+            }
+        }
+        State::BinaryUnion { alt1, alt2 } => {
             next.push((*alt1, place))?;
             next.push((*alt2, place))?;
         }
+        State::Capture { next: to, .. } => next.push((*to, place))?,
         _ => {}
     }
     Ok(next)
 }
 
-/// The looks of the catalogue's automata, by the bytes beside a place in the direction of the
-/// walk. Walked in reverse, a CRLF begins with its line feed.
-fn holds(look: Look, before: Option<u8>, after: Option<u8>) -> bool {
+/// Where a byte leads to.
+fn target(state: &State, byte: u8) -> Option<StateID> {
+    match state {
+        State::ByteRange { lo, hi, next } if *lo <= byte && byte <= *hi => Some(*next),
+        State::Sparse(transitions) => {
+            for transition in transitions {
+                if transition.lo <= byte && byte <= transition.hi {
+                    return Some(transition.next);
+                }
+            }
+            None
+        }
+        State::Dense(targets) => {
+            let to = targets[usize::from(byte)];
+            if to == StateID::ZERO { None } else { Some(to) }
+        }
+        _ => None,
+    }
+}
+
+/// Whether a look holds, by the bytes beside a place in the direction of the walk. For reverse searches a CRLF begins
+/// with its line feed.
+fn holds(nfa: &NFA, look: Look, before: Option<u8>, after: Option<u8>) -> bool {
+    let terminator = nfa.flags().line_terminator;
     match look {
         Look::Start => before.is_none(),
         Look::End => after.is_none(),
-        Look::StartCRLF => match before {
-            None | Some(b'\r') => true,
-            Some(b'\n') => after != Some(b'\r'),
-            Some(_) => false,
-        },
-        Look::EndCRLF => match after {
-            None | Some(b'\r') => true,
-            Some(b'\n') => before != Some(b'\r'),
-            Some(_) => false,
-        },
-        Look::WordUnicode => is_word(before) != is_word(after),
-        Look::WordAsciiNegate => is_word(before) == is_word(after),
-        _ => false,
+        Look::StartLF => before.is_none() || before == Some(terminator),
+        Look::EndLF => after.is_none() || after == Some(terminator),
+        Look::StartCRLF => starts_line(nfa, before, after),
+        Look::EndCRLF => ends_line(nfa, before, after),
+        Look::WordAscii | Look::WordUnicode => is_word(before) != is_word(after),
+        Look::WordAsciiNegate | Look::WordUnicodeNegate => is_word(before) == is_word(after),
+        Look::WordStartAscii | Look::WordStartUnicode => !is_word(before) && is_word(after),
+        Look::WordEndAscii | Look::WordEndUnicode => is_word(before) && !is_word(after),
+        Look::WordStartHalfAscii | Look::WordStartHalfUnicode => !is_word(before),
+        Look::WordEndHalfAscii | Look::WordEndHalfUnicode => !is_word(after),
+    }
+}
+
+/// The two bytes of a CRLF, the one that is walked over first in front.
+fn crlf(nfa: &NFA) -> (u8, u8) {
+    if nfa.is_reverse() {
+        (b'\n', b'\r')
+    } else {
+        (b'\r', b'\n')
+    }
+}
+
+/// Behind a CRLF, or one of its bytes alone.
+fn starts_line(nfa: &NFA, before: Option<u8>, after: Option<u8>) -> bool {
+    let (first, second) = crlf(nfa);
+    match before {
+        None => true,
+        Some(byte) => byte == second || byte == first && after != Some(second),
+    }
+}
+
+/// Before a CRLF, or one of its bytes alone.
+fn ends_line(nfa: &NFA, before: Option<u8>, after: Option<u8>) -> bool {
+    let (first, second) = crlf(nfa);
+    match after {
+        None => true,
+        Some(byte) => byte == first || byte == second && before != Some(first),
     }
 }
 
@@ -424,7 +468,11 @@ fn compare_one<R: Abort>(
 }
 
 /// The pattern and the end of the answer.
-fn half(nfa: &NFA, kind: MatchKind, input: &Input<'_>) -> Result<Option<HalfMatch>, AllocError> {
+pub fn half(
+    nfa: &NFA,
+    kind: MatchKind,
+    input: &Input<'_>,
+) -> Result<Option<HalfMatch>, AllocError> {
     Ok(answer(nfa, kind, input)?.map(|path| path.0))
 }
 

@@ -123,7 +123,7 @@ pub fn ids_of(alloc: Global, numbers: &[u8]) -> Result<Vec<StateID>, AllocError>
     Ok(ids)
 }
 
-fn id(number: u8) -> StateID {
+pub fn id(number: u8) -> StateID {
     StateID::new(usize::from(number)).unwrap()
 }
 

@@ -1,5 +1,6 @@
 //! Calls of the library over one regex and its cache, and what they tell.
 
+ghost use Rattle.std.specs.Prelude.{◌≡◌};
 ghost use Rattle.regex_automata.specs.RegexCaches.{AreCachesOf};
 
 use super::exhaust;
@@ -11,8 +12,9 @@ use regex_automata::hybrid::regex::{Cache, Regex};
 use regex_automata::hybrid::{BuildError, SearchError};
 use regex_automata::nfa::thompson::{Flags, NFA, NfaError, State};
 use regex_automata::replay::Reply;
-use regex_automata::util::primitives::StateID;
-use regex_automata::util::search::{Input, Match};
+use regex_automata::tokens::{TokenError, Tokens};
+use regex_automata::util::primitives::{PatternID, StateID};
+use regex_automata::util::search::{Input, Match, Span};
 use std::alloc::{AllocError, Global};
 use std::fmt;
 use std::fmt::Write;
@@ -115,6 +117,9 @@ enum Told {
 /// An item of an iteration, if it hasn't ended.
 pub type Item = Option<Result<Match, SearchError>>;
 
+/// The pattern and the span of a token, or why none comes, if the tokens haven't ended.
+pub type TokenItem = Option<Result<(PatternID, Span), TokenError>>;
+
 /// What is counted of each part of a cache: clears, memory, and bytes searched.
 pub type Counts = [(usize, usize, usize); 2];
 
@@ -143,6 +148,17 @@ impl fmt::Display for Told {
             Told::Memory(both, forward, reverse) => write!(f, "{both} {forward} {reverse}"),
             Told::Counts([forward, reverse]) => write!(f, "{forward:?} {reverse:?}"),
         }
+    }
+}
+
+fn next_token(tokens: &mut Tokens<'_, '_, '_>) -> TokenItem
+    ensures same_cache { tokens.new.cache.ghost_name ≡ tokens.old.cache.ghost_name }
+    ensures regex { tokens.new.regex.now ≡ tokens.old.regex.now }
+{
+    match tokens.next() {
+        Some(Ok(token)) => Some(Ok((token.pattern(), token.span()))),
+        Some(Err(error)) => Some(Err(error)),
+        None => None,
     }
 }
 
@@ -224,6 +240,21 @@ impl RegexBench {
             items.next(),
             items.next(),
             items.next(),
+        ]
+    }
+
+    /// The first eight tokens.
+    pub fn first_tokens(&mut self, input: Input<'_>) -> [TokenItem; 8] {
+        let mut tokens = self.regex.tokens(&mut self.cache, input);
+        [
+            next_token(&mut tokens),
+            next_token(&mut tokens),
+            next_token(&mut tokens),
+            next_token(&mut tokens),
+            next_token(&mut tokens),
+            next_token(&mut tokens),
+            next_token(&mut tokens),
+            next_token(&mut tokens),
         ]
     }
 

@@ -28,6 +28,7 @@ enum Work {
     Create,
     Reset,
     Find,
+    Ask,
 }
 
 impl Work {
@@ -48,6 +49,7 @@ impl Work {
             Work::Create => create_short(alloc, bench.regex(), turns),
             Work::Reset => reset_short(alloc, bench, turns),
             Work::Find => find_short(alloc, bench, turns),
+            Work::Ask => ask_short(alloc, bench, turns),
         }
     }
 }
@@ -114,6 +116,18 @@ fn find_short(alloc: Global, bench: &mut RegexBench, turns: &mut Turns) -> Resul
     check(found == Ok(Some(first())))
 }
 
+/// Whether there is a match. Where that is refused, it is answered over the same caches once there is memory.
+fn ask_short(alloc: Global, bench: &mut RegexBench, turns: &mut Turns) -> Result<(), Fail> {
+    turns.lend(alloc)?;
+    let input = Input::new(HAYSTACK);
+    let mut found = bench.holds(&input);
+    if found == Err(SearchError::OutOfMemory) {
+        turns.refuse(Part::Search)?;
+        found = bench.holds(&input);
+    }
+    check(found == Ok(true))
+}
+
 /// Works turn by turn, and looks whether all of these calls were refused.
 fn refuse_in_turn(alloc: Global, work: Work, calls: &[Part]) -> Result<(), Fail> {
     let mut turns = Turns::new(alloc)?;
@@ -137,4 +151,9 @@ fn resets_caches_after_each_refused_growth(rt: HostRuntime) -> Result<(), Fail> 
 #[test]
 fn finds_after_each_refused_growth(rt: HostRuntime) -> Result<(), Fail> {
     refuse_in_turn(rt.alloc(), Work::Find, &[Part::Search, Part::Second])
+}
+
+#[test]
+fn asks_after_each_refused_growth(rt: HostRuntime) -> Result<(), Fail> {
+    refuse_in_turn(rt.alloc(), Work::Ask, &[Part::Search])
 }

@@ -95,7 +95,7 @@ struct Listed {
 }
 
 /// Anchored or not, and the nearest end or not.
-const MODES: [(Anchored, bool); 5] = [
+pub const MODES: [(Anchored, bool); 5] = [
     (Anchored::No, false),
     (Anchored::No, true),
     (Anchored::Yes, false),

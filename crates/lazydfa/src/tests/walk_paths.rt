@@ -16,7 +16,7 @@ use std::test::Fail;
 /// by its first path. Leftmost first, at each place the first path that ends there, where it comes
 /// before every path that ends at a place before. Then without the places that split a character,
 /// where those are passed.
-fn list(
+pub fn list(
     nfa: &NFA,
     kind: MatchKind,
     input: &Input<'_>,
@@ -79,15 +79,21 @@ fn patterns_of(pairs: &[HalfMatch], is_first_alone: bool, capacity: usize) -> [b
     has
 }
 
-/// What is compared: an entry's automaton in one direction, of one kind, with caches of the least
-/// capacity and of an ample one.
+/// What an automaton is told by: its entry, or its number.
+#[derive(Clone, Copy, Debug)]
+pub enum Name {
+    Of(Entry),
+    Numbered(u8),
+}
+
+/// What is compared: an automaton in one direction, of one kind, with caches of the least capacity and of an ample one.
 #[derive(Drop)]
-struct Listed {
-    entry: Entry,
-    tight: Walker,
-    ample: Walker,
-    want: Vec<HalfMatch>,
-    found: Vec<HalfMatch>,
+pub struct Listed {
+    pub name: Name,
+    pub tight: Walker,
+    pub ample: Walker,
+    pub want: Vec<HalfMatch>,
+    pub found: Vec<HalfMatch>,
 }
 
 impl Listed {
@@ -127,12 +133,17 @@ impl Listed {
         Ok(())
     }
 
-    fn compare<R: Abort + AllocGlobal>(&mut self, rt: &R, input: &Input<'_>) -> Result<(), Fail> {
+    /// Walks, and forward the sets of their patterns.
+    pub fn compare<R: Abort + AllocGlobal>(
+        &mut self,
+        rt: &R,
+        input: &Input<'_>,
+    ) -> Result<(), Fail> {
         let dfa = self.ample.dfa();
         let kind = dfa.get_config().get_match_kind();
         let is_reverse = dfa.get_nfa().is_reverse();
         list(dfa.get_nfa(), kind, input, &mut self.want)?;
-        let of = (self.entry, kind, input);
+        let of = (self.name, kind, input);
         self.ample.walk(input, &mut self.found)?;
         same_of(rt, &self.found.as_slice(), &self.want.as_slice(), &of);
         self.tight.walk(input, &mut self.found)?;
@@ -148,9 +159,9 @@ impl Listed {
         rt: &R,
         input: &Input<'_>,
     ) -> Result<(), Fail> {
-        for capacity in 1..3usize {
+        for capacity in 1..4usize {
             let want = patterns_of(self.want.as_slice(), input.get_earliest(), capacity);
-            let of = (self.entry, capacity, input);
+            let of = (self.name, capacity, input);
             let found = self.ample.patterns(rt.alloc(), input, capacity)?;
             same_of(rt, &found, &want, &of);
             let found = self.tight.patterns(rt.alloc(), input, capacity)?;
@@ -160,7 +171,7 @@ impl Listed {
     }
 }
 
-fn prepare(alloc: Global, entry: Entry, nfa: NFA, kind: MatchKind) -> Result<Listed, Fail> {
+pub fn prepare(alloc: Global, name: Name, nfa: NFA, kind: MatchKind) -> Result<Listed, Fail> {
     let config = Config::new()
         .match_kind(kind)
         .unicode_word_boundary(true)
@@ -169,7 +180,7 @@ fn prepare(alloc: Global, entry: Entry, nfa: NFA, kind: MatchKind) -> Result<Lis
     let tight = walker(nfa.clone()?, least)?;
     let ample = walker(nfa, config)?;
     Ok(Listed {
-        entry,
+        name,
         tight,
         ample,
         want: Vec::new(alloc),
@@ -200,7 +211,7 @@ fn compare<R: Abort + AllocGlobal>(
     kind: MatchKind,
     pieces: Pieces,
 ) -> Result<(), Fail> {
-    let mut listed = prepare(rt.alloc(), entry, nfa, kind)?;
+    let mut listed = prepare(rt.alloc(), Name::Of(entry), nfa, kind)?;
     listed.compare_all(rt, pieces)
 }
 

@@ -1,4 +1,4 @@
-ghost use Rattle.std.specs.Prelude.{◌≡◌, ◌<◌, ◌-◌, IfOk, IfErr, IfSome, false};
+ghost use Rattle.std.specs.Prelude.{◌≡◌, ◌<◌, ◌-◌, IfErr, false};
 ghost use Rattle.std.specs.Iterator.{at_most};
 ghost use Rattle.automata_base.specs.Input.{Allows};
 ghost use Rattle.automata_base.specs.Tapes.{Forward};
@@ -8,13 +8,13 @@ ghost use Rattle.automata_hybrid.specs.Searches.{IsRefused};
 ghost use Rattle.regex_automata.specs.Costs.{IsCostOf};
 ghost use Rattle.regex_automata.specs.Owing.{IsHalf};
 ghost use Rattle.regex_automata.specs.RegexCaches.{AreCachesOf};
-ghost use Rattle.regex_automata.specs.Tokens.{EndsIn, GivesToken, IsGivenAt, asked, most_left};
+ghost use Rattle.regex_automata.specs.Tokens.{GivesToken, IsGivenAt, asked, item_of, most_left};
 
 use crate::hybrid::dfa;
 use crate::hybrid::dfa::DFA;
 use crate::hybrid::regex::{Cache, Regex};
 use crate::tokens::{Token, TokenError};
-use automata_base::util::search::{Anchored, HalfMatch, Input, Span};
+use automata_base::util::search::{Anchored, HalfMatch, Input, Match, Span};
 use automata_config::error::SearchError;
 
 /// What is searched at a place: what is left of the span, anchored and in full.
@@ -37,7 +37,6 @@ fn answer(
     ensures of { IsCacheOf cache.new dfa.now }
     ensures owed { IsHalf Forward dfa.now input.now result }
     ensures errors { IfErr result (IsRefused Forward dfa.now cache.new.store input.now) }
-    ensures within { IfOk result (λ o. IfSome o (EndsIn input.now)) }
     ensures grown { IsGrown cache.old cache.new }
     ensures cost { IsCostOf dfa.now (input.now.end - input.now.start) cache.old cache.new }
 {
@@ -45,6 +44,23 @@ fn answer(
     let found = dfa.try_search_fwd(cache, input);
     cache.see_bounds();
     found
+}
+
+/// What an answer at a place makes.
+fn item(place: usize, answer: Result<Option<HalfMatch>, SearchError>) -> Result<Match, TokenError>
+    ensures { result ≡ item_of place answer }
+{
+    match answer {
+        Ok(Some(half)) if half.offset() > place => {
+            let span = Span {
+                start: place,
+                end: half.offset(),
+            };
+            Ok(Match::new(half.pattern(), span))
+        }
+        Ok(_) => Err(TokenError::NoToken(place)),
+        Err(error) => Err(TokenError::Search(error)),
+    }
 }
 
 /// The token at a place before the span's end.
@@ -65,17 +81,9 @@ fn token_at<'h>(
     ensures reverse { cache.new.reverse ≡ cache.old.reverse }
 {
     let input = asked(haystack, place, end);
-    match answer(regex.forward(), cache.forward_mut(), &input) {
-        Ok(Some(half)) if half.offset() > place => {
-            let span = Span {
-                start: place,
-                end: half.offset(),
-            };
-            Ok(Token::new(haystack, half.pattern(), span))
-        }
-        Ok(_) => Err(TokenError::NoToken(place)),
-        Err(error) => Err(TokenError::Search(error)),
-    }
+    let found = answer(regex.forward(), cache.forward_mut(), &input);
+    let token = item(place, found)?;
+    Ok(Token::new(haystack, token.pattern(), token.span()))
 }
 
 impl Regex {

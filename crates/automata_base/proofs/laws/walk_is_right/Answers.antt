@@ -1,5 +1,6 @@
 use Rattle.automata_base.proofs.Determinizing.ToldPairs.{all_pairs}
 use Rattle.automata_base.proofs.Determinizing.ToldWalks.{overlapping_told, walk_right, walks_one, walks_told}
+use Rattle.automata_base.proofs.Determinizing.Within.{walk_lies}
 use Rattle.automata_base.proofs.laws.walk_is_right.Goals as goal
 
 pub returns-clause-told : goal.returns-clause-told
@@ -16,3 +17,6 @@ returns-clause-overlapping c = overlapping_told c.args.nfa.now c.states-states.e
 
 pub returns-clause-all : goal.returns-clause-all
 returns-clause-all c = all_pairs c.args.nfa.now c.states-states.ensures.door
+
+pub returns-clause-within : goal.returns-clause-within
+returns-clause-within c = walk_lies c.args.nfa.now c.states-states.ensures.door

@@ -6,6 +6,7 @@ ghost use Rattle.automata_base.specs.Powerset.{cost};
 ghost use Rattle.automata_base.specs.Starts.{IsOf, IsStartOf};
 ghost use Rattle.automata_base.specs.Accounting.{max_cost};
 ghost use Rattle.automata_base.specs.Steps.{start_state_of, successor};
+ghost use Rattle.automata_base.specs.Within.{TellsOwn};
 
 pub(crate) mod closure;
 pub(crate) mod construct;
@@ -51,8 +52,8 @@ pub fn start(
     Ok(state)
 }
 
-/// The powerset state that a state leads to on a byte, or on the end of the haystack. It is refused for want of
-/// memory alone, and counts one in either case.
+/// The powerset state that a state leads to on a byte, or on the end of the haystack. Its patterns are the
+/// automaton's. It is refused for want of memory alone, and counts one in either case.
 pub fn next(
     nfa: &NFA,
     scratch: &mut Scratch,
@@ -64,6 +65,7 @@ pub fn next(
     requires is_of { IsOf nfa.now from.now }
     ensures successor { IfOk result (λ state. IsSuccessor (nfa_of nfa.now) kind from.now unit state) }
     ensures state { IfOk result (λ state. state ≡ successor nfa.now kind from.now unit) }
+    ensures own { IfOk result (TellsOwn nfa.now) }
     ensures is_of { IfOk result (λ state. IsOf nfa.now state) }
     ensures cost { IfOk result (λ state. cost state ≤ max_cost nfa.now) }
     ensures of { scratch.new.of ≡ scratch.old.of }

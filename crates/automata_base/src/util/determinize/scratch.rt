@@ -8,6 +8,7 @@ ghost use Rattle.automata_base.specs.Powerset.{cost};
 ghost use Rattle.automata_base.specs.Starts.{IsOf, IsStartOf};
 ghost use Rattle.automata_base.specs.Accounting.{max_cost};
 ghost use Rattle.automata_base.specs.Steps.{start_state_of, successor, NeedsOwnLooks};
+ghost use Rattle.automata_base.specs.Within.{TellsOwn};
 
 use crate::nfa::thompson::NFA;
 use crate::util::determinize::construct::{next_into, start_into};
@@ -142,6 +143,7 @@ pub fn next_key(
     requires is_of { IsOf nfa.now from.now }
     ensures successor { IfOk result (λ key. IsSuccessor (nfa_of nfa.now) kind from.now unit key) }
     ensures key { IfOk result (λ key. key ≡ successor nfa.now kind from.now unit) }
+    ensures own { IfOk result (TellsOwn nfa.now) }
     ensures looks { IfOk result (λ key. NeedsOwnLooks nfa.now key) }
     ensures is_of { IfOk result (λ key. IsOf nfa.now key) }
     ensures cost { IfOk result (λ key. cost key ≤ max_cost nfa.now) }

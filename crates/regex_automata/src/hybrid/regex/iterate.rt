@@ -45,7 +45,7 @@ impl Regex {
         requires { AreCachesOf cache.old self.now }
         ensures of { AreCachesOf cache.new self.now }
         ensures next { IfOk result (IsNextMatch self.now input.now last) }
-        ensures goes_on { IfOk result (λ o. IfSome o (GoesOn input.now last)) }
+        ensures goes_on { IfOk result (λ o. IfSome o (GoesOn self.now input.now last)) }
         ensures errors { IfErr result (IsNextRefusal self.now cache.new input.now last) }
         ensures unsupported { IsUnsupported Forward self.now.forward input.now
             → result ≡ Err (unsupported_error input.now) }

@@ -11,7 +11,7 @@ ghost use Rattle.automata_hybrid.specs.Slots.{supports};
 ghost use Rattle.automata_hybrid.specs.Starting.{quit_behind};
 ghost use Rattle.regex_automata.specs.SoundPairs.{AreLookAcyclic, IsSoundPair, forward_engine, reverse_engine};
 ghost use Rattle.regex_automata.specs.Costs.{AreCostsOf, IsPassCost};
-ghost use Rattle.regex_automata.specs.Outcomes.{FindsMatch, IsOutcome, IsStartFound, LiesIn};
+ghost use Rattle.regex_automata.specs.Outcomes.{FindsMatch, IsOutcome, IsStartFound, MatchLiesIn};
 ghost use Rattle.regex_automata.specs.Owing.{IsSpanOf};
 ghost use Rattle.regex_automata.specs.RegexCaches.{AreCachesOf, AreGrown, AreStill, KnowsBack, KnowsBoth, NothingCleared};
 ghost use Rattle.regex_automata.specs.RegexRefusals.{HasReason, IsBackRefused, IsFree, IsOfGiven, IsOfMemory, IsRegexRefusal};
@@ -66,7 +66,7 @@ impl Regex {
         ensures answer { AreLookAcyclic self.now
             → IfOk result (λ o. IsTrySearch (forward_engine self.now) (reverse_engine self.now) input.now (Found o)) }
         ensures span { IsSoundPair self.now → IfOk result (IsSpan (forward_engine self.now) input.now) }
-        ensures within { IfOk result (λ o. IfSome o (LiesIn input.now)) }
+        ensures within { IfOk result (λ o. IfSome o (MatchLiesIn self.now input.now)) }
         ensures errors { IfErr result (IsRegexRefusal self.now cache.new input.now) }
         ensures unsupported { input.now.start ≤ input.now.end
             → quit_behind self.now.forward (byte_before input.now.haystack input.now.start) ≡ None
@@ -104,7 +104,7 @@ impl Regex {
         ensures answer { AreLookAcyclic self.now
             → IfOk result (λ o. IsTrySearch (forward_engine self.now) (reverse_engine self.now) input.now (Found o)) }
         ensures span { IsSoundPair self.now → IfOk result (IsSpan (forward_engine self.now) input.now) }
-        ensures within { IfOk result (λ o. IfSome o (LiesIn input.now)) }
+        ensures within { IfOk result (λ o. IfSome o (MatchLiesIn self.now input.now)) }
         ensures errors { IfErr result (IsRegexRefusal self.now cache.new input.now) }
         ensures unsupported { input.now.start ≤ input.now.end
             → quit_behind self.now.forward (byte_before input.now.haystack input.now.start) ≡ None
@@ -182,7 +182,7 @@ impl Regex {
         requires { AreCachesOf cache.old self.now }
         ensures of { AreCachesOf cache.new self.now }
         ensures found { IfOk result (FindsMatch self.now input.now) }
-        ensures within { IfOk result (λ o. IfSome o (LiesIn input.now)) }
+        ensures within { IfOk result (λ o. IfSome o (MatchLiesIn self.now input.now)) }
         ensures errors { IfErr result (HasReason self.now cache.new input.now) }
         ensures free { IsFree self.now input.now → IfErr result IsOfMemory }
         ensures unsupported { input.now.start ≤ input.now.end

@@ -1,49 +1,54 @@
-use Rattle.std.proofs.Common.{◌≡◌, ◌∙◌, ◌-◌, ◌+◌, ◌<◌, ◌^◌, ℕ, suc, List, Some, ap, get_or, sym, subst, arith}
+use Rattle.std.proofs.Common.{◌<◌, ◌-◌, arith}
 use Rattle.std.proofs.lemmas.Grind.{common_steps}
-use Rattle.automata_base.specs.Classes.{class_in}
-use Rattle.automata_base.specs.Lists.{nth}
-use Rattle.automata_base.specs.Paths.{next}
 use Rattle.automata_base.specs.Tapes.{Forward}
-use Rattle.automata_hybrid.specs.Bounds.{IsKnownTransition}
-use Rattle.automata_hybrid.specs.Machine.{Machine}
-use Rattle.automata_hybrid.specs.Passing.{IsFollowed}
-use Rattle.automata_hybrid.specs.Searches.{tape_in}
-use Rattle.automata_hybrid.proofs.Following.{followed_more, followed_none}
-use Rattle.automata_hybrid.proofs.Stepping.{HasRow-valid}
-use Rattle.automata_hybrid.proofs.Units.{forward_unit, nth_read}
+use Rattle.automata_hybrid.proofs.Following.{followed_none, followed_on}
 use Rattle.automata_hybrid.proofs.dfa.DFA.follow_fwd.Goals as goal
 
-pub loop-at-preserved : goal.loop-at-preserved
-loop-at-preserved c =
-    let low : c.next_state_untagged-next.result < 2 ^ 27 = grind (arith, common_steps, c.if-is_tagged-2.ensures) in
-    let here : c.loop-at.at < c.args.input.now.end = omega (arith, c.loop-at-test.true, c.end-end.ensures.end) in
-    let k : ℕ = c.loop-at.at - c.args.input.now.start in
-    let next_k : suc k ≡ c.loop-at.at + 1 - c.args.input.now.start = omega (arith, c.requires.from, c.loop-at.invariant.from) in
-    let read : ℕ = get_or c.haystack-haystack.result.now c.loop-at.at 0 in
-    let byte : nth c.args.input.now.haystack c.loop-at.at ≡ Some read = nth_read c.args.input.now.haystack c.loop-at.at _ 0 (omega (arith, here, c.end-end.ensures.within.1)) (ap (λ (h : List ℕ). get_or h c.loop-at.at 0) c.haystack-haystack.ensures.same) in
-    let unit : next (tape_in Forward c.args.input.now) k ≡ Some read = forward_unit c.args.input.now c.loop-at.at (omega (arith, c.requires.from, c.loop-at.invariant.from)) (omega (arith, here)) c.end-end.ensures.within.1 ∙ byte in
-    let known : IsKnownTransition c.args.cache.now.store c.loop-at.id (class_in c.args.self.now.classes read) = subst (λ n. n < 2 ^ 31) c.next_state_untagged-next.ensures.value (omega (arith, low)) in
-    let below : class_in c.args.self.now.classes read < c.args.self.now.stride = c.see_classes.ensures.bytes read (c.haystack-haystack.ensures.bytes _ _ byte) in
+pub fours-preserved-then-not-same : goal.fours-preserved-then-not-same
+fours-preserved-then-not-same c =
     record {
-      valid = HasRow-valid c.args.cache.now.store.table c.next_state_untagged-next.result (c.next_state_untagged-next.ensures.row (omega (arith, low))) (omega (arith, low));
-      untagged = low;
-      from = omega (arith, c.loop-at.invariant.from);
-      within = omega (arith, c.loop-at-test.true);
-      followed = λ n. subst (λ k. IsFollowed Forward c.args.self.now c.args.cache.now.store c.args.input.now (c.args.start - c.args.input.now.start) k c.next_state_untagged-next.result) next_k
-          (followed_more Forward c.args.self.now c.args.cache.now.store c.args.input.now (c.args.start - c.args.input.now.start) k c.loop-at.id c.next_state_untagged-next.result read low unit known
-          (subst (λ (m : Machine). class_in c.args.self.now.classes read < m.stride) (sym c.requires.of) below)
-          c.next_state_untagged-next.ensures.quit c.next_state_untagged-next.ensures.named (c.loop-at.invariant.followed n));
+      valid = c.follow_four_fwd-four.ensures.valid;
+      untagged = c.follow_four_fwd-four.ensures.untagged;
+      from = omega (arith, c.fours.invariant.from, c.follow_four_fwd-four.ensures.from);
+      within = omega (arith, c.fours-test.true, c.follow_four_fwd-four.ensures.within);
+      followed = λ n. followed_on (c.fours.invariant.followed n) c.follow_four_fwd-four.ensures.followed;
     }
 
 pub returns-then-is_tagged-clause-followed : goal.returns-then-is_tagged-clause-followed
 returns-then-is_tagged-clause-followed c = λ n. followed_none Forward c.args.self.now c.args.cache.now.store c.args.input.now (c.args.start - c.args.input.now.start) c.args.from n
 
-pub loop-at-init : goal.loop-at-init
-loop-at-init c =
+pub fours-init : goal.fours-init
+fours-init c =
     record {
       valid = c.requires.valid;
       untagged = grind (arith, common_steps, c.if-is_tagged.ensures);
       from = omega arith;
       within = omega (arith, c.requires.within, c.end-end.ensures.end);
       followed = λ n. followed_none Forward c.args.self.now c.args.cache.now.store c.args.input.now (c.args.start - c.args.input.now.start) c.args.from n;
+    }
+
+pub returns-then-four-at-clause-followed : goal.returns-then-four-at-clause-followed
+returns-then-four-at-clause-followed c = λ n. followed_on (c.fours.invariant.followed n) c.follow_four_fwd-four.ensures.followed
+
+pub returns-clause-followed : goal.returns-clause-followed
+returns-clause-followed c = λ n. followed_on (c.fours.invariant.followed n) c.follow_rest_fwd.ensures.followed
+
+pub fours-preserved : goal.fours-preserved
+fours-preserved c =
+    record {
+      valid = c.follow_four_fwd-four.ensures.valid;
+      untagged = c.follow_four_fwd-four.ensures.untagged;
+      from = omega (arith, c.fours.invariant.from, c.follow_four_fwd-four.ensures.from, c.follow_loop_fwd-stop.ensures.from);
+      within = omega (arith, c.end-end.ensures.end, c.follow_loop_fwd-stop.ensures.within);
+      followed = λ n. followed_on (followed_on (c.fours.invariant.followed n) c.follow_four_fwd-four.ensures.followed) c.follow_loop_fwd-stop.ensures.followed;
+    }
+
+pub fours-preserved-then-stop-at : goal.fours-preserved-then-stop-at
+fours-preserved-then-stop-at c =
+    record {
+      valid = c.follow_four_fwd-four.ensures.valid;
+      untagged = c.follow_four_fwd-four.ensures.untagged;
+      from = omega (arith, c.fours.invariant.from, c.follow_four_fwd-four.ensures.from, c.follow_loop_fwd-stop.ensures.from);
+      within = omega (arith, c.end-end.ensures.end, c.follow_loop_fwd-stop.ensures.within);
+      followed = λ n. followed_on (followed_on (c.fours.invariant.followed n) c.follow_four_fwd-four.ensures.followed) c.follow_loop_fwd-stop.ensures.followed;
     }

@@ -6,8 +6,8 @@ use Rattle.automata_hybrid.specs.Searches.{state_in}
 use Rattle.automata_hybrid.specs.Table.{IsValid, Names}
 use Rattle.automata_hybrid.proofs.dfa.DFA.follow_fwd.Given as goal
 
-abbrev pub invariant-loop-at : goal.invariant-loop-at
-invariant-loop-at l = record {
+abbrev pub invariant-fours : goal.invariant-fours
+invariant-fours l = record {
   valid : IsValid l.cache.store.table l.id;
   untagged : l.id < offset_limit;
   from : l.fn.start ≤ l.at;
@@ -15,5 +15,5 @@ invariant-loop-at l = record {
   followed : Names l.cache.store.table l.fn.from (state_in Forward l.self l.input (l.fn.start - l.input.start)) → IsFollowed Forward l.self l.cache.store l.input (l.fn.start - l.input.start) (l.at - l.input.start) l.id;
 }
 
-abbrev pub decreases-loop-at : goal.decreases-loop-at
-decreases-loop-at l = l.end - l.at
+abbrev pub decreases-fours : goal.decreases-fours
+decreases-fours l = l.end - l.at

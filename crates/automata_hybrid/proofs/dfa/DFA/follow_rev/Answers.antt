@@ -1,50 +1,54 @@
-use Rattle.std.proofs.Common.{ℕ, ◌≡◌, ◌-◌, ◌<◌, ◌≤◌, ◌^◌, suc, Some, get_or, sym, subst, arith}
+use Rattle.std.proofs.Common.{◌<◌, ◌-◌, arith}
 use Rattle.std.proofs.lemmas.Grind.{common_steps}
-use Rattle.automata_base.specs.Classes.{class_in}
-use Rattle.automata_base.specs.Paths.{next}
 use Rattle.automata_base.specs.Tapes.{Backward}
-use Rattle.automata_hybrid.specs.Bounds.{IsKnownTransition}
-use Rattle.automata_hybrid.specs.Machine.{Machine}
-use Rattle.automata_hybrid.specs.Passing.{IsFollowed}
-use Rattle.automata_hybrid.specs.Searches.{tape_in}
-use Rattle.automata_hybrid.proofs.Following.{followed_more, followed_none}
-use Rattle.automata_hybrid.proofs.Stepping.{HasRow-valid}
-use Rattle.automata_hybrid.proofs.Units.{backward_byte, backward_read}
+use Rattle.automata_hybrid.proofs.Following.{followed_none, followed_on}
 use Rattle.automata_hybrid.proofs.dfa.DFA.follow_rev.Goals as goal
 
-pub loop-at-preserved : goal.loop-at-preserved
-loop-at-preserved c =
-    let low : c.next_state_untagged-next.result < 2 ^ 27 = grind (arith, common_steps, c.if-is_tagged-2.ensures) in
-    let from : c.args.input.now.start ≤ c.loop-at.at = omega (arith, c.start-first.ensures.start, c.loop-at.invariant.from) in
-    let some : suc (c.loop-at.at - 1) ≡ c.loop-at.at = omega (arith, c.loop-at-test.true) in
-    let within : c.loop-at.at ≤ c.args.input.now.end = omega (arith, c.loop-at.invariant.within, c.requires.within) in
-    let k : ℕ = c.args.input.now.end - c.loop-at.at in
-    let next_k : suc k ≡ c.args.input.now.end - (c.loop-at.at - 1) = omega (arith, within, some) in
-    let read : ℕ = get_or c.haystack-haystack.result.now (c.loop-at.at - 1) 0 in
-    let unit : next (tape_in Backward c.args.input.now) k ≡ Some read = backward_read c.args.input.now c.haystack-haystack.result.now c.loop-at.at (c.loop-at.at - 1) from within c.haystack-haystack.ensures.within.1 c.haystack-haystack.ensures.same some in
-    let byte : read < 256 = backward_byte c.args.input.now c.haystack-haystack.result.now c.loop-at.at (c.loop-at.at - 1) within c.haystack-haystack.ensures.within.1 c.haystack-haystack.ensures.same some c.haystack-haystack.ensures.bytes in
-    let known : IsKnownTransition c.args.cache.now.store c.loop-at.id (class_in c.args.self.now.classes read) = subst (λ n. n < 2 ^ 31) c.next_state_untagged-next.ensures.value (omega (arith, low)) in
-    let below : class_in c.args.self.now.classes read < c.args.self.now.stride = c.see_classes.ensures.bytes read byte in
+pub fours-preserved-then-not-same : goal.fours-preserved-then-not-same
+fours-preserved-then-not-same c =
     record {
-      valid = HasRow-valid c.args.cache.now.store.table c.next_state_untagged-next.result (c.next_state_untagged-next.ensures.row (omega (arith, low))) (omega (arith, low));
-      untagged = low;
-      from = omega (arith, c.loop-at-test.true);
-      within = omega (arith, c.loop-at.invariant.within);
-      followed = λ n. subst (λ k. IsFollowed Backward c.args.self.now c.args.cache.now.store c.args.input.now (c.args.input.now.end - c.args.start) k c.next_state_untagged-next.result) next_k
-          (followed_more Backward c.args.self.now c.args.cache.now.store c.args.input.now (c.args.input.now.end - c.args.start) k c.loop-at.id c.next_state_untagged-next.result read low unit known
-          (subst (λ (m : Machine). class_in c.args.self.now.classes read < m.stride) (sym c.requires.of) below)
-          c.next_state_untagged-next.ensures.quit c.next_state_untagged-next.ensures.named (c.loop-at.invariant.followed n));
+      valid = c.follow_four_rev-four.ensures.valid;
+      untagged = c.follow_four_rev-four.ensures.untagged;
+      from = omega (arith, c.fours-test.true, c.follow_four_rev-four.ensures.from);
+      within = omega (arith, c.fours.invariant.within, c.follow_four_rev-four.ensures.within);
+      followed = λ n. followed_on (c.fours.invariant.followed n) c.follow_four_rev-four.ensures.followed;
     }
 
 pub returns-then-is_tagged-clause-followed : goal.returns-then-is_tagged-clause-followed
 returns-then-is_tagged-clause-followed c = λ n. followed_none Backward c.args.self.now c.args.cache.now.store c.args.input.now (c.args.input.now.end - c.args.start) c.args.from n
 
-pub loop-at-init : goal.loop-at-init
-loop-at-init c =
+pub fours-init : goal.fours-init
+fours-init c =
     record {
       valid = c.requires.valid;
       untagged = grind (arith, common_steps, c.if-is_tagged.ensures);
       from = omega (arith, c.requires.from, c.start-first.ensures.start);
       within = omega arith;
       followed = λ n. followed_none Backward c.args.self.now c.args.cache.now.store c.args.input.now (c.args.input.now.end - c.args.start) c.args.from n;
+    }
+
+pub returns-then-four-at-clause-followed : goal.returns-then-four-at-clause-followed
+returns-then-four-at-clause-followed c = λ n. followed_on (c.fours.invariant.followed n) c.follow_four_rev-four.ensures.followed
+
+pub returns-clause-followed : goal.returns-clause-followed
+returns-clause-followed c = λ n. followed_on (c.fours.invariant.followed n) c.follow_rest_rev.ensures.followed
+
+pub fours-preserved : goal.fours-preserved
+fours-preserved c =
+    record {
+      valid = c.follow_four_rev-four.ensures.valid;
+      untagged = c.follow_four_rev-four.ensures.untagged;
+      from = omega (arith, c.fours-test.true, c.follow_loop_rev-stop.ensures.from, c.start-first.ensures.start);
+      within = omega (arith, c.fours.invariant.within, c.follow_four_rev-four.ensures.within, c.follow_loop_rev-stop.ensures.within);
+      followed = λ n. followed_on (followed_on (c.fours.invariant.followed n) c.follow_four_rev-four.ensures.followed) c.follow_loop_rev-stop.ensures.followed;
+    }
+
+pub fours-preserved-then-stop-at : goal.fours-preserved-then-stop-at
+fours-preserved-then-stop-at c =
+    record {
+      valid = c.follow_four_rev-four.ensures.valid;
+      untagged = c.follow_four_rev-four.ensures.untagged;
+      from = omega (arith, c.fours-test.true, c.follow_loop_rev-stop.ensures.from, c.start-first.ensures.start);
+      within = omega (arith, c.fours.invariant.within, c.follow_four_rev-four.ensures.within, c.follow_loop_rev-stop.ensures.within);
+      followed = λ n. followed_on (followed_on (c.fours.invariant.followed n) c.follow_four_rev-four.ensures.followed) c.follow_loop_rev-stop.ensures.followed;
     }

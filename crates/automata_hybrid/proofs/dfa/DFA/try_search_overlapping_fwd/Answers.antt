@@ -1,9 +1,11 @@
 use Rattle.std.proofs.Common.{subst}
 use Rattle.automata_base.specs.Tapes.{Forward}
-use Rattle.automata_base.specs.WalkLaws.{OverlappingIsTold}
+use Rattle.automata_base.specs.WalkLaws.{OverlappingIsTold, WalksAreTold}
+use Rattle.automata_base.specs.Within.{WalkLiesWithin}
 use Rattle.automata_config.specs.declared.error.SearchError.{SearchError}
 use Rattle.automata_hybrid.proofs.WalkAnswers.{call_memory}
 use Rattle.automata_hybrid.proofs.WalkCalls.{paths_next, still_walk, walk_clears_none}
+use Rattle.automata_hybrid.proofs.WalkWithin.{told_lies}
 use Rattle.automata_hybrid.proofs.dfa.DFA.try_search_overlapping_fwd.Goals as goal
 
 pub returns-clause-paths : goal.returns-clause-paths
@@ -24,3 +26,9 @@ returns-clause-answers c = λ reach mode free.
 pub returns-clause-walk : goal.returns-clause-walk
 returns-clause-walk c =
     still_walk Forward c.args.self.now c.args.input.now c.args.state.now SearchError c.call-told.result c.call-told.new.walk c.requires.walk c.call-told.ensures.tells c.call-told.ensures.refused
+
+pub returns-clause-within : goal.returns-clause-within
+returns-clause-within c =
+    told_lies Forward c.args.self.now c.args.input.now (subst WalksAreTold c.get_nfa.ensures c.walk_is_right.ensures.told)
+    (subst WalkLiesWithin c.get_nfa.ensures c.walk_is_right.ensures.within) c.haystack-haystack.ensures.within.1
+    c.args.state.now c.call-told.new.walk c.call-told.result c.requires.walk c.call-told.ensures.tells c.call-told.ensures.refused

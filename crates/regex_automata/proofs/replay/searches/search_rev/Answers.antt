@@ -12,6 +12,7 @@ returns-clause-owed c =
       answer = s.answer;
       nearest = s.nearest;
       farthest = s.farthest;
+      within = s.within;
       errors = may_refuse c.try_search_rev-found.result Backward m cache c.args.input.now (is_store cache m s.of c.see.ensures) s.errors;
       unsupported = λ u. s.unsupported u.undone u.behind u.mode;
       free = λ f. s.answers f.reach f.supported f.clears;

@@ -12,7 +12,7 @@ returns-in-Ok-clause-call c =
     let old = c.args.state.now in
     let new = c.try_search_overlapping_fwd-told.new.state in
     record {
-      step = λ k h. step_answers Forward m input old k h new c.get_match.result c.get_match.ensures s.tells s.paths
+      step = λ k h. step_answers Forward m input old k h new c.get_match.result c.get_match.ensures s.tells s.paths s.within
           (λ fresh u. ok_err (s.unsupported fresh u.undone u.behind u.mode));
       told = λ k h. answered Forward m input old k h new s.tells;
       kept = λ k h. tt;

@@ -12,7 +12,7 @@ returns-in-Ok-clause-call c =
     let old = c.args.state.now in
     let new = c.try_search_overlapping_rev-told.new.state in
     record {
-      step = λ k h. step_answers Backward m input old k h new c.get_match.result c.get_match.ensures s.tells s.paths
+      step = λ k h. step_answers Backward m input old k h new c.get_match.result c.get_match.ensures s.tells s.paths s.within
           (λ fresh u. ok_err (s.unsupported fresh u.undone u.behind u.mode));
       told = λ k h. answered Backward m input old k h new s.tells;
       kept = λ k h. tt;

@@ -1,20 +1,49 @@
-use Rattle.std.proofs.Common.{refl, subst}
-use Rattle.std.specs.Prelude.{Err}
-use Rattle.automata_base.specs.Input.{Input}
+use Rattle.std.proofs.Common.{ℕ, ◌≡◌, ◌∙◌, sym, ap, subst}
+use Rattle.std.specs.Prelude.{IfErr, Ok}
+use Rattle.automata_base.specs.Matches.{Match}
 use Rattle.automata_base.specs.Tapes.{Forward}
-use Rattle.automata_hybrid.specs.Machine.{Machine}
 use Rattle.automata_hybrid.specs.Searches.{IsRefused}
 use Rattle.regex_automata.specs.Owing.{IsHalf}
+use Rattle.regex_automata.specs.Tokens.{IsGivenAt, match_of}
+use Rattle.regex_automata.proofs.Results.{is_err}
+use Rattle.regex_automata.proofs.Tiling.{token_is_given}
+use Rattle.regex_automata.proofs.Tokenising.{error_is_given}
 use Rattle.regex_automata.proofs.tokens.iterate.token_at.Goals as goal
 
-pub returns-in-Err-clause-item : goal.returns-in-Err-clause-item
-returns-in-Err-clause-item c =
-    let e = c.in-Err.error in
+-- matches with equal parts are equal
+same_match :
+    (p q s t e f : ℕ) → p ≡ q → s ≡ t → e ≡ f
+    → ◌≡◌ {A = Match} (record { pattern = p; start = s; end = e }) (record { pattern = q; start = t; end = f })
+same_match p q s t e f a b d = cc
+
+pub returns-in_err-token-clause-item : goal.returns-in_err-token-clause-item
+returns-in_err-token-clause-item c =
     let m = c.args.regex.now.forward in
-    let input = c.asked-input.result in
-    let store = c.answer.new.cache.store in
-    let owed = subst (λ (n : Machine). IsHalf Forward n input (Err e)) c.forward.ensures c.in-Err.ensures.owed in
-    let refused = subst (λ (n : Machine). IsRefused Forward n store input e) c.forward.ensures c.in-Err.ensures.errors in (
-      (c.requires.ahead, (Err e, subst (λ (i : Input). IsHalf Forward m i (Err e)) c.asked-input.ensures owed, refl)),
-      subst (λ (i : Input). IsRefused Forward m store i e) c.asked-input.ensures refused,
-    )
+    let store = c.answer-found.new.cache.store in
+    let h = c.args.haystack.now in
+    let place = c.args.place in
+    let found = c.answer-found.result in
+    let owed =
+    subst (λ i. IsHalf Forward m i found) c.asked-input.ensures
+    (subst (λ n. IsHalf Forward n c.asked-input.result found) c.forward.ensures c.answer-found.ensures.owed) in
+    let errors =
+    subst (λ i. IfErr found (IsRefused Forward m store i)) c.asked-input.ensures
+    (subst (λ n. IfErr found (IsRefused Forward n store c.asked-input.result)) c.forward.ensures c.answer-found.ensures.errors) in
+    let given =
+    error_is_given m store h c.args.end place found c.in_err-token.field-0.0 c.requires.ahead owed errors
+    (sym c.in_err-token.was ∙ c.item.ensures) in
+    subst (IsGivenAt m store h c.args.end place) (sym (is_err c.from_residual.result _ c.from_residual.ensures.1)) given
+
+pub returns-clause-item : goal.returns-clause-item
+returns-clause-item c =
+    let m = c.args.regex.now.forward in
+    let found = c.answer-found.result in
+    let token = c.in_ok-token.token in
+    let owed =
+        subst (λ i. IsHalf Forward m i found) c.asked-input.ensures
+        (subst (λ n. IsHalf Forward n c.asked-input.result found) c.forward.ensures c.answer-found.ensures.owed) in
+    let same : match_of c.new.result ≡ token =
+        c.new.ensures.found
+        ∙ same_match _ token.pattern _ token.start _ token.end c.pattern.ensures c.span.ensures.start c.span.ensures.end in
+    token_is_given m c.args.haystack.now c.args.end c.requires.within.1 c.args.place c.new.result found c.requires.ahead owed
+    (ap (λ (t : Match). Ok t) same ∙ sym c.in_ok-token.was ∙ c.item.ensures) c.new.ensures.bytes

@@ -4,9 +4,11 @@ use Rattle.automata_base.specs.Tapes.{Backward}
 use Rattle.automata_hybrid.specs.Knowing.{Knows}
 use Rattle.automata_hybrid.specs.Slots.{supports}
 use Rattle.automata_hybrid.specs.Searches.{IsFound, IsRefused, NoQuitInReach, with_base}
+use Rattle.automata_hybrid.specs.Within.{LiesIn}
 use Rattle.automata_hybrid.proofs.Growing.{grown_same}
 use Rattle.automata_hybrid.proofs.Searching.{if_err}
-use Rattle.regex_automata.proofs.Finding.{back_none, back_reach, back_some, back_within, cost_back, pass_none}
+use Rattle.regex_automata.proofs.Finding.{back_none, back_reach, back_some, cost_back, pass_none}
+use Rattle.regex_automata.proofs.Nexts.{some_of}
 use Rattle.regex_automata.proofs.hybrid.regex.Regex.find_start.Goals as goal
 
 pub returns-then-short-clause-of : goal.returns-then-short-clause-of
@@ -84,11 +86,10 @@ returns-in-Some-clause-found c =
 
 pub returns-in-Some-clause-within : goal.returns-in-Some-clause-within
 returns-in-Some-clause-within c =
-    let s = back_some c.args.self.now.reverse c.backward-rest.result c.in_ok-found.field-0 c.in-Some.found c.in_ok-found.ensures.found c.in-Some.is in
-    let w = back_within c.args.self.now.reverse c.args.input.now (with_base c.args.half c.args.base) s.0 c.requires.within c.end.ensures.within.1
-    (subst (λ (i : Input). IsFound Backward c.args.self.now.reverse i (Some s.0)) c.backward-rest.ensures s.1) in
-    let e : c.offset.result ≡ s.0.offset = c.offset.ensures ∙ s.2 in
-    (rw e w.0, rw e w.1)
+    let lies = some_of c.in_ok-found.field-0 c.in-Some.found (LiesIn c.args.self.now.reverse c.backward-rest.result) c.in_ok-found.ensures.within c.in-Some.is in
+    let start : c.backward-rest.result.start ≡ c.args.base = ap (λ (i : Input). i.start) c.backward-rest.ensures in
+    let end : c.backward-rest.result.end ≡ c.args.half.offset = ap (λ (i : Input). i.end) c.backward-rest.ensures in
+    (omega (arith, c.offset.ensures, lies.from, start), omega (arith, c.offset.ensures, lies.upto, end))
 
 pub returns-in-Some-clause-cost : goal.returns-in-Some-clause-cost
 returns-in-Some-clause-cost c =

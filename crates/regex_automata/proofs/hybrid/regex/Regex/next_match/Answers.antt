@@ -4,7 +4,7 @@ use Rattle.automata_base.specs.Input.{Input}
 use Rattle.automata_base.specs.Spans.{from}
 use Rattle.automata_config.specs.declared.error.SearchError.{SearchError}
 use Rattle.automata_hybrid.proofs.Searching.{if_err}
-use Rattle.regex_automata.specs.Outcomes.{FindsMatch, LiesIn}
+use Rattle.regex_automata.specs.Outcomes.{FindsMatch, MatchLiesIn}
 use Rattle.regex_automata.specs.RegexRefusals.{IsRegexRefusal}
 use Rattle.regex_automata.proofs.Nexts.{ahead_of, costs_twice, goes_first, goes_later, grown_twice, next_later, on_err, refused_later, some_of}
 use Rattle.regex_automata.proofs.Remembering.{alone_none, alone_some, both_stays, cleared_first, cleared_second, next_known, next_learned}
@@ -42,21 +42,21 @@ returns-then-not-is_empty_at-clause-next c =
 
 pub returns-then-not-is_empty_at-clause-goes_on : goal.returns-then-not-is_empty_at-clause-goes_on
 returns-then-not-is_empty_at-clause-goes_on c =
-    goes_first c.args.input.now c.args.last c.in-Some.found
-    (some_of c.in_ok-found.field-0 c.in-Some.found (LiesIn c.args.input.now) c.in_ok-found.ensures.within c.in-Some.is) (c.if-not-is_empty_at.ensures.no refl)
+    goes_first c.args.self.now c.args.input.now c.args.last c.in-Some.found
+    (some_of c.in_ok-found.field-0 c.in-Some.found (MatchLiesIn c.args.self.now c.args.input.now) c.in_ok-found.ensures.within c.in-Some.is) (c.if-not-is_empty_at.ensures.no refl)
 
 pub returns-then-not-is_empty_at-clause-cost : goal.returns-then-not-is_empty_at-clause-cost
 returns-then-not-is_empty_at-clause-cost c = inl c.try_search.ensures.cost
 
 pub overflow_add-start : goal.overflow_add-start
 overflow_add-start c =
-    let lies = some_of c.in_ok-found.field-0 c.in-Some.found (LiesIn c.args.input.now) c.in_ok-found.ensures.within c.in-Some.is in
+    let lies = some_of c.in_ok-found.field-0 c.in-Some.found (MatchLiesIn c.args.self.now c.args.input.now) c.in_ok-found.ensures.within c.in-Some.is in
     let few = c.haystack-haystack.ensures.within.1 in
     omega (arith, lies.0, lies.1, lies.2, few, c.haystack-haystack.ensures.bound, c.start.ensures.start)
 
 pub from-rest-requires : goal.from-rest-requires
 from-rest-requires c =
-    let lies = some_of c.in_ok-found.field-0 c.in-Some.found (LiesIn c.args.input.now) c.in_ok-found.ensures.within c.in-Some.is in
+    let lies = some_of c.in_ok-found.field-0 c.in-Some.found (MatchLiesIn c.args.self.now c.args.input.now) c.in_ok-found.ensures.within c.in-Some.is in
     let few = c.haystack-haystack.ensures.within.1 in
     (omega (arith, lies.0, lies.1, lies.2, c.start.ensures.start), few)
 
@@ -72,8 +72,8 @@ pub returns-clause-goes_on : goal.returns-clause-goes_on
 returns-clause-goes_on c =
     let place : c.start.result + 1 ≡ suc c.args.input.now.start = omega (arith, c.start.ensures.start) in
     let rest : c.from-rest.result ≡ from (suc c.args.input.now.start) c.args.input.now = c.from-rest.ensures ∙ ap (λ n. from n c.args.input.now) place in
-    goes_later c.args.input.now c.args.last c.try_search-2.result
-    (subst (λ (i : Input). IfOk c.try_search-2.result (λ o. IfSome o (LiesIn i))) rest c.try_search-2.ensures.within)
+    goes_later c.args.self.now c.args.input.now c.args.last c.try_search-2.result
+    (subst (λ (i : Input). IfOk c.try_search-2.result (λ o. IfSome o (MatchLiesIn c.args.self.now i))) rest c.try_search-2.ensures.within)
 
 pub returns-clause-errors : goal.returns-clause-errors
 returns-clause-errors c =
@@ -85,7 +85,7 @@ returns-clause-errors c =
 
 pub returns-clause-ahead : goal.returns-clause-ahead
 returns-clause-ahead c =
-    let lies = some_of c.in_ok-found.field-0 c.in-Some.found (LiesIn c.args.input.now) c.in_ok-found.ensures.within c.in-Some.is in
+    let lies = some_of c.in_ok-found.field-0 c.in-Some.found (MatchLiesIn c.args.self.now c.args.input.now) c.in_ok-found.ensures.within c.in-Some.is in
     on_err c.try_search-2.result _ (omega (arith, lies.0, lies.1, lies.2))
 
 pub returns-clause-grown : goal.returns-clause-grown

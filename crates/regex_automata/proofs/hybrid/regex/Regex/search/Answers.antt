@@ -1,14 +1,14 @@
 use Rattle.std.proofs.Common.{◌∙◌, ◌-◌, ◌≤◌, inl, inr, refl, sym, ap, subst, arith}
 use Rattle.std.specs.Prelude.{Err}
-use Rattle.automata_base.specs.Tapes.{Forward}
 use Rattle.automata_config.specs.declared.error.SearchError.{SearchError}
 use Rattle.automata_hybrid.specs.Searches.{with_base}
+use Rattle.automata_hybrid.specs.Within.{LiesPast}
 use Rattle.automata_hybrid.proofs.Growing.{grown_same}
 use Rattle.automata_hybrid.proofs.Searching.{if_err}
 use Rattle.regex_automata.specs.Outcomes.{IsStartFound}
 use Rattle.regex_automata.proofs.Finding.{cache_of, cost_fewer, pass_none, front_none, front_some, knows_both, knows_front, match_of, match_within, start_within}
+use Rattle.regex_automata.proofs.Nexts.{some_of}
 use Rattle.regex_automata.proofs.Results.{err_ok, if_ok, is_err, ok_err, on_ok, same_err, same_ok, some_none}
-use Rattle.regex_automata.proofs.Telling.{base_within, found_within}
 use Rattle.regex_automata.proofs.hybrid.regex.Regex.search.Goals as goal
 
 pub try_search_fwd_base-requires : goal.try_search_fwd_base-requires
@@ -97,15 +97,15 @@ find_start-requires-clause-of c =
 
 pub find_start-requires-clause-from : goal.find_start-requires-clause-from
 find_start-requires-clause-from c =
-    (base_within c.args.self.now.forward c.args.input.now (with_base c.in-Some.front.0 c.in-Some.front.1) (front_some c.args.self.now.forward c.args.input.now c.in_ok-front.field-0 c.in-Some.front.0 c.in-Some.front.1 c.in_ok-front.ensures.found c.in-Some.is)).0
+    (some_of c.in_ok-front.field-0 c.in-Some.front (λ p. LiesPast c.args.self.now.forward c.args.input.now p.0 p.1) c.in_ok-front.ensures.within c.in-Some.is).from
 
 pub find_start-requires-clause-ordered : goal.find_start-requires-clause-ordered
 find_start-requires-clause-ordered c =
-    (base_within c.args.self.now.forward c.args.input.now (with_base c.in-Some.front.0 c.in-Some.front.1) (front_some c.args.self.now.forward c.args.input.now c.in_ok-front.field-0 c.in-Some.front.0 c.in-Some.front.1 c.in_ok-front.ensures.found c.in-Some.is)).1
+    (some_of c.in_ok-front.field-0 c.in-Some.front (λ p. LiesPast c.args.self.now.forward c.args.input.now p.0 p.1) c.in_ok-front.ensures.within c.in-Some.is).past
 
 pub find_start-requires-clause-within : goal.find_start-requires-clause-within
 find_start-requires-clause-within c =
-    (found_within Forward c.args.self.now.forward c.args.input.now (with_base c.in-Some.front.0 c.in-Some.front.1) c.end.ensures.within.1 (front_some c.args.self.now.forward c.args.input.now c.in_ok-front.field-0 c.in-Some.front.0 c.in-Some.front.1 c.in_ok-front.ensures.found c.in-Some.is)).1
+    (some_of c.in_ok-front.field-0 c.in-Some.front (λ p. LiesPast c.args.self.now.forward c.args.input.now p.0 p.1) c.in_ok-front.ensures.within c.in-Some.is).lies.upto
 
 pub returns-in_err-start-clause-of : goal.returns-in_err-start-clause-of
 returns-in_err-start-clause-of c =
@@ -197,7 +197,8 @@ returns-clause-found c =
 
 pub returns-clause-within : goal.returns-clause-within
 returns-clause-within c =
-    match_within c.args.input.now (with_base c.in-Some.front.0 c.in-Some.front.1) c.in-Some-2.start c.offset.result c.pattern.result c.new.result (base_within c.args.self.now.forward c.args.input.now (with_base c.in-Some.front.0 c.in-Some.front.1) (front_some c.args.self.now.forward c.args.input.now c.in_ok-front.field-0 c.in-Some.front.0 c.in-Some.front.1 c.in_ok-front.ensures.found c.in-Some.is)).0 (found_within Forward c.args.self.now.forward c.args.input.now (with_base c.in-Some.front.0 c.in-Some.front.1) c.end.ensures.within.1 (front_some c.args.self.now.forward c.args.input.now c.in_ok-front.field-0 c.in-Some.front.0 c.in-Some.front.1 c.in_ok-front.ensures.found c.in-Some.is)).1 (start_within (c.in-Some.front.1) (c.in-Some.front.0.offset) c.in_ok-start.field-0 c.in-Some-2.start c.in_ok-start.ensures.within c.in-Some-2.is) c.offset.ensures c.new.ensures
+    match_within c.args.self.now c.args.input.now c.in-Some.front.0 c.in-Some.front.1 c.in-Some-2.start c.offset.result c.pattern.result c.new.result (some_of c.in_ok-front.field-0 c.in-Some.front (λ p. LiesPast c.args.self.now.forward c.args.input.now p.0 p.1) c.in_ok-front.ensures.within c.in-Some.is)
+    (start_within (c.in-Some.front.1) (c.in-Some.front.0.offset) c.in_ok-start.field-0 c.in-Some-2.start c.in_ok-start.ensures.within c.in-Some-2.is) c.pattern.ensures c.offset.ensures c.new.ensures
 
 pub returns-clause-unsupported : goal.returns-clause-unsupported
 returns-clause-unsupported c =

@@ -11,11 +11,12 @@ use Rattle.regex_automata.proofs.hybrid.regex.iterate.FindMatchesIterator.next.G
 pub returns-in-Ok-Some-clause-steps : goal.returns-in-Ok-Some-clause-steps
 returns-in-Ok-Some-clause-steps c =
     let s = c.args.self.now in
-    let now = input_at s.haystack.now s.start s.end s.anchored s.earliest in (
+    let now = input_at s.haystack.now s.start s.end s.anchored s.earliest in
+    let goes = subst (λ (i : Input). GoesOn s.regex.now i s.last c.in-Ok-Some.found) c.input-input.ensures (some_of c.in-Ok-Some.field-0 c.in-Ok-Some.found (GoesOn s.regex.now c.input-input.result s.last) c.in-Ok-Some.ensures.goes_on c.in-Ok-Some.field-0-is) in (
       gives_match s.regex.now c.next_match.new.cache now (from c.end-self.result now) s.last s.ended c.in-Ok-Some.found c.end-self.result c.end.result c.if-self.false
           (subst (λ (i : Input). IsNextMatch s.regex.now i s.last (Some c.in-Ok-Some.found)) c.input-input.ensures
           (subst (IsNextMatch s.regex.now c.input-input.result s.last) c.in-Ok-Some.field-0-is c.in-Ok-Some.ensures.next))
-          refl c.end-self.ensures.end c.end.ensures.end,
+          goes.0 refl c.end-self.ensures.end c.end.ensures.end,
       refl,
       refl,
       c.next_match.ensures.grown,
@@ -29,9 +30,9 @@ pub returns-in-Ok-Some-clause-goes : goal.returns-in-Ok-Some-clause-goes
 returns-in-Ok-Some-clause-goes c =
     let s = c.args.self.now in
     let now = input_at s.haystack.now s.start s.end s.anchored s.earliest in
-    let goes = subst (λ (i : Input). GoesOn i s.last c.in-Ok-Some.found) c.input-input.ensures (some_of c.in-Ok-Some.field-0 c.in-Ok-Some.found (GoesOn c.input-input.result s.last) c.in-Ok-Some.ensures.goes_on c.in-Ok-Some.field-0-is) in
+    let goes = subst (λ (i : Input). GoesOn s.regex.now i s.last c.in-Ok-Some.found) c.input-input.ensures (some_of c.in-Ok-Some.field-0 c.in-Ok-Some.found (GoesOn s.regex.now c.input-input.result s.last) c.in-Ok-Some.ensures.goes_on c.in-Ok-Some.field-0-is) in
     record {
-      on = λ _. (tt, tt, fewer_left now (from c.end-self.result now) s.last s.ended c.in-Ok-Some.found c.end-self.result c.end.result c.if-self.false refl c.end-self.ensures.end c.end.ensures.end goes);
+      on = λ _. (tt, tt, fewer_left s.regex.now now (from c.end-self.result now) s.last s.ended c.in-Ok-Some.found c.end-self.result c.end.result c.if-self.false refl c.end-self.ensures.end c.end.ensures.end goes);
       keeps = tt;
       rests = λ _. tt;
     }
