@@ -59,6 +59,29 @@ led_more way m c input from k id id' byte low unit known below quit named f = go
       each here j l h (inl less) = f.taken j l less
       each here j l h (inr more) = let same : k ≡ j = omega (arith, h, more) in subst (IsTaken way m c input) same here
 
+-- the same behind as many units, counted otherwise
+pub led_to :
+    {way : Direction} {m : Machine} {c : Stored} {input : Input} {from id k to : ℕ}
+    → k ≡ to → IsLed way m c input from k id → IsLed way m c input from to id
+led_to {way} {m} {c} {input} {from} {id} same f = subst (λ n. IsLed way m c input from n id) same f
+
+-- what was followed is followed on
+pub led_on :
+    {way : Direction} {m : Machine} {c : Stored} {input : Input} {from k to id id' : ℕ}
+    → IsLed way m c input from k id
+    → (Names c.table id (state_in way m input k) → IsLed way m c input k to id')
+    → IsLed way m c input from to id'
+led_on {way} {m} {c} {input} {from} {k} {to} {id} {id'} f on = join (on f.named) where
+  join : IsLed way m c input k to id' → IsLed way m c input from to id'
+  join g = record {
+    more = omega (arith, f.more, g.more);
+    named = g.named;
+    taken = λ j l h. each j l h (lt_or_le j k);
+  } where
+    each : (j : ℕ) → from ≤ j → j < to → (j < k) ⊎ (k ≤ j) → IsTaken way m c input j
+    each j l h (inl less) = f.taken j l less
+    each j l h (inr more) = g.taken j more h
+
 half_any : (ps : List ℕ) (at : ℕ) (a b : Option HalfMatch) → 0 < length ps → half_at ps at a ≡ half_at ps at b
 half_any [] at a b l = absurd (omega (arith, l))
 half_any (p ∷ ps) at a b l = refl

@@ -10,7 +10,7 @@ ghost use Rattle.automata_base.specs.Tapes.{Forward, byte_before};
 ghost use Rattle.automata_base.specs.declared.util.search.MatchErrorKind.TheVariants.{UnsupportedAnchored as UnsupportedMode};
 ghost use Rattle.automata_hybrid.specs.Caches.{IsCacheOf};
 ghost use Rattle.automata_hybrid.specs.Growing.{IsGrown, IsStill, ClearedNothing, HasRoom};
-ghost use Rattle.automata_hybrid.specs.Ids.{offset_limit};
+ghost use Rattle.automata_hybrid.specs.Ids.{fixed_from, offset_limit};
 ghost use Rattle.automata_hybrid.specs.Knowing.{IsOfInput, KnowsItsStart, KnowsPass, Knows};
 ghost use Rattle.automata_hybrid.specs.Passing.{HasLearned, HasLearnedAll, IsAt, IsFollowed, IsLed, found_over};
 ghost use Rattle.automata_hybrid.specs.Searches.{IsFound, IsPassRefusal, IsRefused, MeetsNoQuit, NoQuitInReach, Skips, WithoutBase, state_in, tape_in, with_base};
@@ -375,7 +375,86 @@ impl DFA {
         Stop { at, id }
     }
 
-    /// Follows known transitions into states that have patterns.
+    /// The ID after the byte at an offset, as far as it is known, of an ID that may have a tag.
+    #[inline(always)]
+    fn lead_byte_fwd(
+        &self,
+        cache: &Cache,
+        input: &Input<'_>,
+        at: usize,
+        id: LazyStateID,
+    ) -> LazyStateID
+        requires of { IsCacheOf cache.now self.now }
+        requires valid { IsValid cache.now.store.table id }
+        requires from { input.now.start ≤ at }
+        requires within { at < input.now.end }
+        ensures valid { result < fixed_from → IsValid cache.now.store.table result }
+        ensures led { result < fixed_from
+            → Names cache.now.store.table id (state_in Forward self.now input.now (at - input.now.start))
+            → IsLed Forward self.now cache.now.store input.now
+            (at - input.now.start) (at + 1 - input.now.start) result }
+    {
+        self.see_classes();
+        let haystack = input.haystack();
+        self.next_state_known(cache, id, haystack[at])
+    }
+
+    /// Whether the row of an ID that may have a tag leads back to itself on the eight bytes from an offset on.
+    #[inline(always)]
+    fn stays_led_fwd(&self, cache: &Cache, input: &Input<'_>, start: usize, id: LazyStateID) -> bool
+        requires of { IsCacheOf cache.now self.now }
+        requires valid { IsValid cache.now.store.table id }
+        requires plain { id < fixed_from }
+        requires from { input.now.start ≤ start }
+        requires within { start + 8 ≤ input.now.end }
+        ensures led { IsTrue result
+            → Names cache.now.store.table id (state_in Forward self.now input.now (start - input.now.start))
+            → IsLed Forward self.now cache.now.store input.now
+            (start - input.now.start) (start + 8 - input.now.start) id }
+    {
+        let _haystack = input.haystack();
+        for k in 0..8usize {
+            let next = self.lead_byte_fwd(cache, input, start + k, id);
+            if next != id {
+                return false;
+            }
+        }
+        true
+    }
+
+    /// Follows the transition of an ID that may have a tag to itself, eight bytes at once.
+    #[inline(always)]
+    fn lead_loop_fwd(
+        &self,
+        cache: &Cache,
+        input: &Input<'_>,
+        start: usize,
+        id: LazyStateID,
+    ) -> usize
+        requires of { IsCacheOf cache.now self.now }
+        requires valid { IsValid cache.now.store.table id }
+        requires plain { id < fixed_from }
+        requires from { input.now.start ≤ start }
+        requires within { start ≤ input.now.end }
+        ensures from { start ≤ result }
+        ensures within { result ≤ input.now.end }
+        ensures led { Names cache.now.store.table id (state_in Forward self.now input.now (start - input.now.start))
+            → IsLed Forward self.now cache.now.store input.now
+            (start - input.now.start) (result - input.now.start) id }
+    {
+        let end = input.end();
+        let mut at = start;
+        'eights: while end - at >= 8 {
+            if !self.stays_led_fwd(cache, input, at, id) {
+                return at;
+            }
+            at += 8;
+        }
+        at
+    }
+
+    /// Follows known transitions into states that have patterns: one by one, and where such a state has led back to
+    /// itself behind a few bytes, eight at once.
     fn follow_matches_fwd(
         &self,
         cache: &Cache,
@@ -394,21 +473,29 @@ impl DFA {
             (start - input.now.start) (result.at - input.now.start) result.id }
         ensures tells { start < result.at → IsBitSet result.id 27 }
     {
-        self.see_classes();
-        let haystack = input.haystack();
         let end = input.end();
         let mut at = start;
         let mut id = from;
-        while at < end {
-            let next = self.next_state_known(cache, id, haystack[at]);
+        let mut again = start.saturating_add(8);
+        'matches: while at < end {
+            let next = self.lead_byte_fwd(cache, input, at, id);
             if next.is_fixed() {
                 return Stop { at, id };
             }
             if !next.is_match() {
                 return Stop { at, id };
             }
+            let same = next == id;
             id = next;
             at += 1;
+            if !same || at < again {
+                continue;
+            }
+            let stop = self.lead_loop_fwd(cache, input, at, id);
+            if stop == at {
+                again = at.saturating_add(PATIENCE);
+            }
+            at = stop;
         }
         Stop { at, id }
     }

@@ -15,7 +15,7 @@ ghost use Rattle.automata_base.specs.declared.util.search.MatchErrorKind.TheVari
 ghost use Rattle.automata_hybrid.specs.Bounds.{IsKnownTransition};
 ghost use Rattle.automata_hybrid.specs.Caches.{IsCacheOf};
 ghost use Rattle.automata_hybrid.specs.Growing.{IsGrown, IsStill, ClearedNothing, HasRoom};
-ghost use Rattle.automata_hybrid.specs.Ids.{offset_limit};
+ghost use Rattle.automata_hybrid.specs.Ids.{fixed_from, offset_limit};
 ghost use Rattle.automata_hybrid.specs.Knowing.{IsOfInput, KnowsItsStart, KnowsPass, Knows};
 ghost use Rattle.automata_hybrid.specs.Passing.{HasLearned, HasLearnedAll, IsAt, IsFollowed, IsLed, found_over};
 ghost use Rattle.automata_hybrid.specs.Searches.{IsFound, IsPassRefusal, IsRefused, IsStepRefusal, MeetsNoQuit, NoQuitInReach, Skips, WithoutBase, state_in, tape_in};
@@ -347,7 +347,85 @@ impl DFA {
         Stop { at, id }
     }
 
-    /// Follows known transitions into states that have patterns.
+    /// The ID after the byte before an offset, as far as it is known, of an ID that may have a tag.
+    #[inline(always)]
+    fn lead_byte_rev(
+        &self,
+        cache: &Cache,
+        input: &Input<'_>,
+        at: usize,
+        id: LazyStateID,
+    ) -> LazyStateID
+        requires of { IsCacheOf cache.now self.now }
+        requires valid { IsValid cache.now.store.table id }
+        requires from { input.now.start < at }
+        requires within { at ≤ input.now.end }
+        ensures valid { result < fixed_from → IsValid cache.now.store.table result }
+        ensures led { result < fixed_from
+            → Names cache.now.store.table id (state_in Backward self.now input.now (input.now.end - at))
+            → IsLed Backward self.now cache.now.store input.now
+            (input.now.end - at) (input.now.end - (at - 1)) result }
+    {
+        self.see_classes();
+        let haystack = input.haystack();
+        self.next_state_known(cache, id, haystack[at - 1])
+    }
+
+    /// Whether the row of an ID that may have a tag leads back to itself on the eight bytes before an offset.
+    #[inline(always)]
+    fn stays_led_rev(&self, cache: &Cache, input: &Input<'_>, start: usize, id: LazyStateID) -> bool
+        requires of { IsCacheOf cache.now self.now }
+        requires valid { IsValid cache.now.store.table id }
+        requires plain { id < fixed_from }
+        requires from { input.now.start + 8 ≤ start }
+        requires within { start ≤ input.now.end }
+        ensures led { IsTrue result
+            → Names cache.now.store.table id (state_in Backward self.now input.now (input.now.end - start))
+            → IsLed Backward self.now cache.now.store input.now
+            (input.now.end - start) (input.now.end - (start - 8)) id }
+    {
+        for k in 0..8usize {
+            let next = self.lead_byte_rev(cache, input, start - k, id);
+            if next != id {
+                return false;
+            }
+        }
+        true
+    }
+
+    /// Follows the transition of an ID that may have a tag to itself, eight bytes at once.
+    #[inline(always)]
+    fn lead_loop_rev(
+        &self,
+        cache: &Cache,
+        input: &Input<'_>,
+        start: usize,
+        id: LazyStateID,
+    ) -> usize
+        requires of { IsCacheOf cache.now self.now }
+        requires valid { IsValid cache.now.store.table id }
+        requires plain { id < fixed_from }
+        requires from { input.now.start ≤ start }
+        requires within { start ≤ input.now.end }
+        ensures from { input.now.start ≤ result }
+        ensures within { result ≤ start }
+        ensures led { Names cache.now.store.table id (state_in Backward self.now input.now (input.now.end - start))
+            → IsLed Backward self.now cache.now.store input.now
+            (input.now.end - start) (input.now.end - result) id }
+    {
+        let first = input.start();
+        let mut at = start;
+        'eights: while at - first >= 8 {
+            if !self.stays_led_rev(cache, input, at, id) {
+                return at;
+            }
+            at -= 8;
+        }
+        at
+    }
+
+    /// Follows known transitions into states that have patterns: one by one, and where such a state has led back to
+    /// itself behind a few bytes, eight at once.
     fn follow_matches_rev(
         &self,
         cache: &Cache,
@@ -366,21 +444,29 @@ impl DFA {
             (input.now.end - start) (input.now.end - result.at) result.id }
         ensures tells { result.at < start → IsBitSet result.id 27 }
     {
-        self.see_classes();
-        let haystack = input.haystack();
         let first = input.start();
         let mut at = start;
         let mut id = from;
-        while at > first {
-            let next = self.next_state_known(cache, id, haystack[at - 1]);
+        let mut again = start.saturating_sub(8);
+        'matches: while at > first {
+            let next = self.lead_byte_rev(cache, input, at, id);
             if next.is_fixed() {
                 return Stop { at, id };
             }
             if !next.is_match() {
                 return Stop { at, id };
             }
+            let same = next == id;
             id = next;
             at -= 1;
+            if !same || at > again {
+                continue;
+            }
+            let stop = self.lead_loop_rev(cache, input, at, id);
+            if stop == at {
+                again = at.saturating_sub(PATIENCE);
+            }
+            at = stop;
         }
         Stop { at, id }
     }

@@ -1,20 +1,11 @@
-use Rattle.std.proofs.Common.{◌≡◌, ◌∙◌, ◌-◌, ◌+◌, ◌<◌, ◌^◌, ℕ, suc, List, Some, refl, ap, get_or, sym, subst, arith}
+use Rattle.std.proofs.Common.{◌<◌, ◌^◌, ◌-◌, refl, arith}
 use Rattle.std.proofs.lemmas.Grind.{common_steps}
-use Rattle.automata_base.specs.Classes.{class_in}
-use Rattle.automata_base.specs.Lists.{nth}
-use Rattle.automata_base.specs.Paths.{next}
 use Rattle.automata_base.specs.Tapes.{Forward}
-use Rattle.automata_hybrid.specs.Bounds.{IsKnownTransition}
-use Rattle.automata_hybrid.specs.Machine.{Machine}
-use Rattle.automata_hybrid.specs.Passing.{IsLed}
-use Rattle.automata_hybrid.specs.Searches.{tape_in}
-use Rattle.automata_hybrid.proofs.Leading.{led_more, led_none}
-use Rattle.automata_hybrid.proofs.Stepping.{HasRow-valid}
-use Rattle.automata_hybrid.proofs.Units.{forward_unit, nth_read}
+use Rattle.automata_hybrid.proofs.Leading.{led_none, led_on}
 use Rattle.automata_hybrid.proofs.dfa.DFA.follow_matches_fwd.Goals as goal
 
-pub loop-at-init : goal.loop-at-init
-loop-at-init c =
+pub matches-init : goal.matches-init
+matches-init c =
     record {
       valid = c.requires.valid;
       from = omega arith;
@@ -23,42 +14,53 @@ loop-at-init c =
       tells = λ l. absurd (omega (arith, l));
     }
 
-pub loop-at-preserved : goal.loop-at-preserved
-loop-at-preserved c =
-    let low : c.next_state_known-next.result < 2 ^ 29 = grind (arith, common_steps, c.if-is_fixed.ensures) in
-    let here : c.loop-at.at < c.args.input.now.end = omega (arith, c.loop-at-test.true, c.end-end.ensures.end) in
-    let k : ℕ = c.loop-at.at - c.args.input.now.start in
-    let next_k : suc k ≡ c.loop-at.at + 1 - c.args.input.now.start = omega (arith, c.requires.from, c.loop-at.invariant.from) in
-    let read : ℕ = get_or c.haystack-haystack.result.now c.loop-at.at 0 in
-    let byte : nth c.args.input.now.haystack c.loop-at.at ≡ Some read = nth_read c.args.input.now.haystack c.loop-at.at _ 0 (omega (arith, here, c.end-end.ensures.within.1)) (ap (λ (h : List ℕ). get_or h c.loop-at.at 0) c.haystack-haystack.ensures.same) in
-    let unit : next (tape_in Forward c.args.input.now) k ≡ Some read = forward_unit c.args.input.now c.loop-at.at (omega (arith, c.requires.from, c.loop-at.invariant.from)) (omega (arith, here)) c.end-end.ensures.within.1 ∙ byte in
-    let known : IsKnownTransition c.args.cache.now.store c.loop-at.id (class_in c.args.self.now.classes read) = subst (λ n. n < 2 ^ 31) c.next_state_known-next.ensures.value (omega (arith, low)) in
-    let below : class_in c.args.self.now.classes read < c.args.self.now.stride = c.see_classes.ensures.bytes read (c.haystack-haystack.ensures.bytes _ _ byte) in
+pub matches-preserved-then-not-same : goal.matches-preserved-then-not-same
+matches-preserved-then-not-same c =
+    let low : c.lead_byte_fwd-next.result < 2 ^ 29 = grind (arith, common_steps, c.if-is_fixed.ensures) in
     record {
-      valid = HasRow-valid c.args.cache.now.store.table c.next_state_known-next.result (c.next_state_known-next.ensures.row (omega (arith, low))) (omega (arith, low));
-      from = omega (arith, c.loop-at.invariant.from);
-      within = omega (arith, c.loop-at-test.true);
-      led = λ n. subst (λ k. IsLed Forward c.args.self.now c.args.cache.now.store c.args.input.now (c.args.start - c.args.input.now.start) k c.next_state_known-next.result) next_k
-          (led_more Forward c.args.self.now c.args.cache.now.store c.args.input.now (c.args.start - c.args.input.now.start) k c.loop-at.id c.next_state_known-next.result read low unit known
-          (subst (λ (m : Machine). class_in c.args.self.now.classes read < m.stride) (sym c.requires.of) below)
-          c.next_state_known-next.ensures.quit c.next_state_known-next.ensures.named (c.loop-at.invariant.led n));
+      valid = c.lead_byte_fwd-next.ensures.valid low;
+      from = omega (arith, c.matches.invariant.from);
+      within = omega (arith, c.matches-test.true);
+      led = λ n. led_on (c.matches.invariant.led n) (c.lead_byte_fwd-next.ensures.led low);
+      tells = λ l. c.if-not-is_match.ensures.0 refl;
+    }
+
+pub matches-preserved-then-stop-at : goal.matches-preserved-then-stop-at
+matches-preserved-then-stop-at c =
+    let low : c.lead_byte_fwd-next.result < 2 ^ 29 = grind (arith, common_steps, c.if-is_fixed.ensures) in
+    record {
+      valid = c.lead_byte_fwd-next.ensures.valid low;
+      from = omega (arith, c.matches.invariant.from, c.lead_loop_fwd-stop.ensures.from);
+      within = omega (arith, c.end-end.ensures.end, c.lead_loop_fwd-stop.ensures.within);
+      led = λ n. led_on (led_on (c.matches.invariant.led n) (c.lead_byte_fwd-next.ensures.led low)) c.lead_loop_fwd-stop.ensures.led;
+      tells = λ l. c.if-not-is_match.ensures.0 refl;
+    }
+
+pub matches-preserved : goal.matches-preserved
+matches-preserved c =
+    let low : c.lead_byte_fwd-next.result < 2 ^ 29 = grind (arith, common_steps, c.if-is_fixed.ensures) in
+    record {
+      valid = c.lead_byte_fwd-next.ensures.valid low;
+      from = omega (arith, c.matches.invariant.from, c.lead_loop_fwd-stop.ensures.from);
+      within = omega (arith, c.end-end.ensures.end, c.lead_loop_fwd-stop.ensures.within);
+      led = λ n. led_on (led_on (c.matches.invariant.led n) (c.lead_byte_fwd-next.ensures.led low)) c.lead_loop_fwd-stop.ensures.led;
       tells = λ l. c.if-not-is_match.ensures.0 refl;
     }
 
 pub returns-then-is_fixed-clause-led : goal.returns-then-is_fixed-clause-led
-returns-then-is_fixed-clause-led c = c.loop-at.invariant.led
+returns-then-is_fixed-clause-led c = c.matches.invariant.led
 
 pub returns-then-not-is_match-clause-led : goal.returns-then-not-is_match-clause-led
-returns-then-not-is_match-clause-led c = c.loop-at.invariant.led
+returns-then-not-is_match-clause-led c = c.matches.invariant.led
 
 pub returns-clause-led : goal.returns-clause-led
-returns-clause-led c = c.loop-at.invariant.led
+returns-clause-led c = c.matches.invariant.led
 
 pub returns-then-is_fixed-clause-tells : goal.returns-then-is_fixed-clause-tells
-returns-then-is_fixed-clause-tells c = c.loop-at.invariant.tells
+returns-then-is_fixed-clause-tells c = c.matches.invariant.tells
 
 pub returns-then-not-is_match-clause-tells : goal.returns-then-not-is_match-clause-tells
-returns-then-not-is_match-clause-tells c = c.loop-at.invariant.tells
+returns-then-not-is_match-clause-tells c = c.matches.invariant.tells
 
 pub returns-clause-tells : goal.returns-clause-tells
-returns-clause-tells c = c.loop-at.invariant.tells
+returns-clause-tells c = c.matches.invariant.tells

@@ -6,8 +6,8 @@ use Rattle.automata_hybrid.specs.Searches.{state_in}
 use Rattle.automata_hybrid.specs.Table.{IsValid, Names}
 use Rattle.automata_hybrid.proofs.dfa.DFA.follow_matches_fwd.Given as goal
 
-abbrev pub invariant-loop-at : goal.invariant-loop-at
-invariant-loop-at l = record {
+abbrev pub invariant-matches : goal.invariant-matches
+invariant-matches l = record {
   valid : IsValid l.cache.store.table l.id;
   from : l.fn.start ≤ l.at;
   within : l.at ≤ l.end;
@@ -15,5 +15,5 @@ invariant-loop-at l = record {
   tells : l.fn.start < l.at → IsBitSet l.id 27;
 }
 
-abbrev pub decreases-loop-at : goal.decreases-loop-at
-decreases-loop-at l = l.end - l.at
+abbrev pub decreases-matches : goal.decreases-matches
+decreases-matches l = l.end - l.at
