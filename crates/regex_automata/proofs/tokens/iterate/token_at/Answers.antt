@@ -40,10 +40,10 @@ returns-clause-item c =
     let found = c.answer-found.result in
     let token = c.in_ok-token.token in
     let owed =
-        subst (λ i. IsHalf Forward m i found) c.asked-input.ensures
-        (subst (λ n. IsHalf Forward n c.asked-input.result found) c.forward.ensures c.answer-found.ensures.owed) in
+    subst (λ i. IsHalf Forward m i found) c.asked-input.ensures
+    (subst (λ n. IsHalf Forward n c.asked-input.result found) c.forward.ensures c.answer-found.ensures.owed) in
     let same : match_of c.new.result ≡ token =
-        c.new.ensures.found
-        ∙ same_match _ token.pattern _ token.start _ token.end c.pattern.ensures c.span.ensures.start c.span.ensures.end in
+    c.new.ensures.found
+    ∙ same_match _ token.pattern _ token.start _ token.end c.pattern.ensures c.span.ensures.start c.span.ensures.end in
     token_is_given m c.args.haystack.now c.args.end c.requires.within.1 c.args.place c.new.result found c.requires.ahead owed
     (ap (λ (t : Match). Ok t) same ∙ sym c.in_ok-token.was ∙ c.item.ensures) c.new.ensures.bytes
