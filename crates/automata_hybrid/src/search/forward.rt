@@ -22,7 +22,7 @@ ghost use Rattle.automata_hybrid.specs.Within.{LiesIn, LiesPast};
 use crate::dfa::DFA;
 use crate::dfa::cache::Cache;
 use crate::id::LazyStateID;
-use crate::search::{PATIENCE, Place, Stop, is_anchored, with_span};
+use crate::search::{FEW, PATIENCE, Place, Stop, is_anchored, with_span};
 use automata_base::laws::told_is_right;
 use automata_base::util::search::{HalfMatch, Input};
 use automata_config::error::SearchError;
@@ -453,9 +453,48 @@ impl DFA {
         at
     }
 
-    /// Follows known transitions into states that have patterns: one by one, and where such a state has led back to
-    /// itself behind a few bytes, eight at once.
-    fn follow_matches_fwd(
+    /// Follows known transitions into states that have patterns, one by one, up to a place.
+    #[inline(always)]
+    fn lead_few_fwd(
+        &self,
+        cache: &Cache,
+        input: &Input<'_>,
+        start: usize,
+        from: LazyStateID,
+        end: usize,
+    ) -> Stop
+        requires of { IsCacheOf cache.now self.now }
+        requires valid { IsValid cache.now.store.table from }
+        requires from { input.now.start ≤ start }
+        requires within { start ≤ end }
+        requires end { end ≤ input.now.end }
+        ensures from { start ≤ result.at }
+        ensures within { result.at ≤ end }
+        ensures valid { IsValid cache.now.store.table result.id }
+        ensures led { Names cache.now.store.table from (state_in Forward self.now input.now (start - input.now.start))
+            → IsLed Forward self.now cache.now.store input.now
+            (start - input.now.start) (result.at - input.now.start) result.id }
+        ensures tells { start < result.at → IsBitSet result.id 27 }
+    {
+        let mut at = start;
+        let mut id = from;
+        'few: while at < end {
+            let next = self.lead_byte_fwd(cache, input, at, id);
+            if next.is_fixed() {
+                return Stop { at, id };
+            }
+            if !next.is_match() {
+                return Stop { at, id };
+            }
+            id = next;
+            at += 1;
+        }
+        Stop { at, id }
+    }
+
+    /// Follows known transitions into states that have patterns, and where such a state leads back to itself, eight
+    /// bytes at once.
+    fn lead_many_fwd(
         &self,
         cache: &Cache,
         input: &Input<'_>,
@@ -471,13 +510,13 @@ impl DFA {
         ensures led { Names cache.now.store.table from (state_in Forward self.now input.now (start - input.now.start))
             → IsLed Forward self.now cache.now.store input.now
             (start - input.now.start) (result.at - input.now.start) result.id }
-        ensures tells { start < result.at → IsBitSet result.id 27 }
+        ensures tells { IsBitSet from 27 → IsBitSet result.id 27 }
     {
         let end = input.end();
         let mut at = start;
         let mut id = from;
-        let mut again = start.saturating_add(8);
-        'matches: while at < end {
+        let mut again = start;
+        'many: while at < end {
             let next = self.lead_byte_fwd(cache, input, at, id);
             if next.is_fixed() {
                 return Stop { at, id };
@@ -498,6 +537,34 @@ impl DFA {
             at = stop;
         }
         Stop { at, id }
+    }
+
+    /// Follows known transitions into states that have patterns: a few one by one, since most matches are short, and
+    /// then many.
+    fn follow_matches_fwd(
+        &self,
+        cache: &Cache,
+        input: &Input<'_>,
+        start: usize,
+        from: LazyStateID,
+    ) -> Stop
+        requires of { IsCacheOf cache.now self.now }
+        requires valid { IsValid cache.now.store.table from }
+        requires from { input.now.start ≤ start }
+        requires within { start ≤ input.now.end }
+        ensures from { start ≤ result.at }
+        ensures within { result.at ≤ input.now.end }
+        ensures led { Names cache.now.store.table from (state_in Forward self.now input.now (start - input.now.start))
+            → IsLed Forward self.now cache.now.store input.now
+            (start - input.now.start) (result.at - input.now.start) result.id }
+        ensures tells { start < result.at → IsBitSet result.id 27 }
+    {
+        let end = input.end().min(start.saturating_add(FEW));
+        let few = self.lead_few_fwd(cache, input, start, from, end);
+        if few.at - start < FEW {
+            return few;
+        }
+        self.lead_many_fwd(cache, input, few.at, few.id)
     }
 
     /// Follows known transitions as far as they tell nothing, and then into states that have patterns: the last of

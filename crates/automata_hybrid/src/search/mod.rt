@@ -30,6 +30,9 @@ use automata_config::error::{SearchError, StepError};
 /// How many bytes are followed before a self-loop is looked for again, where one was looked for in vain.
 const PATIENCE: usize = 256;
 
+/// How many bytes of a match are followed one by one, before a self-loop is looked for.
+const FEW: usize = 8;
+
 /// Where known transitions without a tag were followed to.
 #[derive(Clone, Copy)]
 struct Stop {

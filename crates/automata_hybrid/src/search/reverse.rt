@@ -27,7 +27,7 @@ ghost use Rattle.automata_hybrid.specs.Within.{LiesIn};
 use crate::dfa::DFA;
 use crate::dfa::cache::Cache;
 use crate::id::LazyStateID;
-use crate::search::{PATIENCE, Place, Stop, is_anchored, quit, with_span};
+use crate::search::{FEW, PATIENCE, Place, Stop, is_anchored, quit, with_span};
 use automata_base::laws::told_is_right;
 use automata_base::util::search::{Anchored, HalfMatch, Input};
 use automata_config::error::SearchError;
@@ -424,9 +424,48 @@ impl DFA {
         at
     }
 
-    /// Follows known transitions into states that have patterns: one by one, and where such a state has led back to
-    /// itself behind a few bytes, eight at once.
-    fn follow_matches_rev(
+    /// Follows known transitions into states that have patterns, one by one, down to a place.
+    #[inline(always)]
+    fn lead_few_rev(
+        &self,
+        cache: &Cache,
+        input: &Input<'_>,
+        start: usize,
+        from: LazyStateID,
+        first: usize,
+    ) -> Stop
+        requires of { IsCacheOf cache.now self.now }
+        requires valid { IsValid cache.now.store.table from }
+        requires first { input.now.start ≤ first }
+        requires from { first ≤ start }
+        requires within { start ≤ input.now.end }
+        ensures from { first ≤ result.at }
+        ensures within { result.at ≤ start }
+        ensures valid { IsValid cache.now.store.table result.id }
+        ensures led { Names cache.now.store.table from (state_in Backward self.now input.now (input.now.end - start))
+            → IsLed Backward self.now cache.now.store input.now
+            (input.now.end - start) (input.now.end - result.at) result.id }
+        ensures tells { result.at < start → IsBitSet result.id 27 }
+    {
+        let mut at = start;
+        let mut id = from;
+        'few: while at > first {
+            let next = self.lead_byte_rev(cache, input, at, id);
+            if next.is_fixed() {
+                return Stop { at, id };
+            }
+            if !next.is_match() {
+                return Stop { at, id };
+            }
+            id = next;
+            at -= 1;
+        }
+        Stop { at, id }
+    }
+
+    /// Follows known transitions into states that have patterns, and where such a state leads back to itself, eight
+    /// bytes at once.
+    fn lead_many_rev(
         &self,
         cache: &Cache,
         input: &Input<'_>,
@@ -442,13 +481,13 @@ impl DFA {
         ensures led { Names cache.now.store.table from (state_in Backward self.now input.now (input.now.end - start))
             → IsLed Backward self.now cache.now.store input.now
             (input.now.end - start) (input.now.end - result.at) result.id }
-        ensures tells { result.at < start → IsBitSet result.id 27 }
+        ensures tells { IsBitSet from 27 → IsBitSet result.id 27 }
     {
         let first = input.start();
         let mut at = start;
         let mut id = from;
-        let mut again = start.saturating_sub(8);
-        'matches: while at > first {
+        let mut again = start;
+        'many: while at > first {
             let next = self.lead_byte_rev(cache, input, at, id);
             if next.is_fixed() {
                 return Stop { at, id };
@@ -469,6 +508,34 @@ impl DFA {
             at = stop;
         }
         Stop { at, id }
+    }
+
+    /// Follows known transitions into states that have patterns: a few one by one, since most matches are short, and
+    /// then many.
+    fn follow_matches_rev(
+        &self,
+        cache: &Cache,
+        input: &Input<'_>,
+        start: usize,
+        from: LazyStateID,
+    ) -> Stop
+        requires of { IsCacheOf cache.now self.now }
+        requires valid { IsValid cache.now.store.table from }
+        requires from { input.now.start ≤ start }
+        requires within { start ≤ input.now.end }
+        ensures from { input.now.start ≤ result.at }
+        ensures within { result.at ≤ start }
+        ensures led { Names cache.now.store.table from (state_in Backward self.now input.now (input.now.end - start))
+            → IsLed Backward self.now cache.now.store input.now
+            (input.now.end - start) (input.now.end - result.at) result.id }
+        ensures tells { result.at < start → IsBitSet result.id 27 }
+    {
+        let first = input.start().max(start.saturating_sub(FEW));
+        let few = self.lead_few_rev(cache, input, start, from, first);
+        if start - few.at < FEW {
+            return few;
+        }
+        self.lead_many_rev(cache, input, few.at, few.id)
     }
 
     /// Follows known transitions as far as they tell nothing, and then into states that have patterns: the last of

@@ -1,66 +1,9 @@
-use Rattle.std.proofs.Common.{◌<◌, ◌^◌, ◌-◌, refl, arith}
-use Rattle.std.proofs.lemmas.Grind.{common_steps}
-use Rattle.automata_base.specs.Tapes.{Backward}
-use Rattle.automata_hybrid.proofs.Leading.{led_none, led_on}
+use Rattle.std.proofs.Common.{arith}
+use Rattle.automata_hybrid.proofs.Leading.{led_on}
 use Rattle.automata_hybrid.proofs.dfa.DFA.follow_matches_rev.Goals as goal
 
-pub matches-init : goal.matches-init
-matches-init c =
-    record {
-      valid = c.requires.valid;
-      from = omega (arith, c.requires.from, c.start-first.ensures.start);
-      within = omega arith;
-      led = λ n. led_none Backward c.args.self.now c.args.cache.now.store c.args.input.now (c.args.input.now.end - c.args.start) c.args.from n;
-      tells = λ l. absurd (omega (arith, l));
-    }
-
-pub matches-preserved-then-not-same : goal.matches-preserved-then-not-same
-matches-preserved-then-not-same c =
-    let low : c.lead_byte_rev-next.result < 2 ^ 29 = grind (arith, common_steps, c.if-is_fixed.ensures) in
-    record {
-      valid = c.lead_byte_rev-next.ensures.valid low;
-      from = omega (arith, c.matches-test.true);
-      within = omega (arith, c.matches.invariant.within);
-      led = λ n. led_on (c.matches.invariant.led n) (c.lead_byte_rev-next.ensures.led low);
-      tells = λ l. c.if-not-is_match.ensures.0 refl;
-    }
-
-pub matches-preserved-then-stop-at : goal.matches-preserved-then-stop-at
-matches-preserved-then-stop-at c =
-    let low : c.lead_byte_rev-next.result < 2 ^ 29 = grind (arith, common_steps, c.if-is_fixed.ensures) in
-    record {
-      valid = c.lead_byte_rev-next.ensures.valid low;
-      from = omega (arith, c.start-first.ensures.start, c.lead_loop_rev-stop.ensures.from);
-      within = omega (arith, c.matches.invariant.within, c.lead_loop_rev-stop.ensures.within);
-      led = λ n. led_on (led_on (c.matches.invariant.led n) (c.lead_byte_rev-next.ensures.led low)) c.lead_loop_rev-stop.ensures.led;
-      tells = λ l. c.if-not-is_match.ensures.0 refl;
-    }
-
-pub matches-preserved : goal.matches-preserved
-matches-preserved c =
-    let low : c.lead_byte_rev-next.result < 2 ^ 29 = grind (arith, common_steps, c.if-is_fixed.ensures) in
-    record {
-      valid = c.lead_byte_rev-next.ensures.valid low;
-      from = omega (arith, c.start-first.ensures.start, c.lead_loop_rev-stop.ensures.from);
-      within = omega (arith, c.matches.invariant.within, c.lead_loop_rev-stop.ensures.within);
-      led = λ n. led_on (led_on (c.matches.invariant.led n) (c.lead_byte_rev-next.ensures.led low)) c.lead_loop_rev-stop.ensures.led;
-      tells = λ l. c.if-not-is_match.ensures.0 refl;
-    }
-
-pub returns-then-is_fixed-clause-led : goal.returns-then-is_fixed-clause-led
-returns-then-is_fixed-clause-led c = c.matches.invariant.led
-
-pub returns-then-not-is_match-clause-led : goal.returns-then-not-is_match-clause-led
-returns-then-not-is_match-clause-led c = c.matches.invariant.led
-
 pub returns-clause-led : goal.returns-clause-led
-returns-clause-led c = c.matches.invariant.led
-
-pub returns-then-is_fixed-clause-tells : goal.returns-then-is_fixed-clause-tells
-returns-then-is_fixed-clause-tells c = c.matches.invariant.tells
-
-pub returns-then-not-is_match-clause-tells : goal.returns-then-not-is_match-clause-tells
-returns-then-not-is_match-clause-tells c = c.matches.invariant.tells
+returns-clause-led c = λ n. led_on (c.lead_few_rev-few.ensures.led n) c.lead_many_rev.ensures.led
 
 pub returns-clause-tells : goal.returns-clause-tells
-returns-clause-tells c = c.matches.invariant.tells
+returns-clause-tells c = λ l. c.lead_many_rev.ensures.tells (c.lead_few_rev-few.ensures.tells (omega (arith, c.if-start-few-lt-FEW.false)))

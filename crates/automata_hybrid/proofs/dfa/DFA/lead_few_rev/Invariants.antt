@@ -4,16 +4,16 @@ use Rattle.automata_base.specs.Tapes.{Backward}
 use Rattle.automata_hybrid.specs.Passing.{IsLed}
 use Rattle.automata_hybrid.specs.Searches.{state_in}
 use Rattle.automata_hybrid.specs.Table.{IsValid, Names}
-use Rattle.automata_hybrid.proofs.dfa.DFA.follow_matches_rev.Given as goal
+use Rattle.automata_hybrid.proofs.dfa.DFA.lead_few_rev.Given as goal
 
-abbrev pub invariant-matches : goal.invariant-matches
-invariant-matches l = record {
+abbrev pub invariant-few : goal.invariant-few
+invariant-few l = record {
   valid : IsValid l.cache.store.table l.id;
-  from : l.first ≤ l.at;
+  from : l.fn.first ≤ l.at;
   within : l.at ≤ l.fn.start;
   led : Names l.cache.store.table l.fn.from (state_in Backward l.self l.input (l.input.end - l.fn.start)) → IsLed Backward l.self l.cache.store l.input (l.input.end - l.fn.start) (l.input.end - l.at) l.id;
   tells : l.at < l.fn.start → IsBitSet l.id 27;
 }
 
-abbrev pub decreases-matches : goal.decreases-matches
-decreases-matches l = l.at - l.first
+abbrev pub decreases-few : goal.decreases-few
+decreases-few l = l.at - l.fn.first
