@@ -218,8 +218,8 @@ impl DFA {
         ensures tag { IfOk result (HasItsMatchTag cache.new.store.table) }
         ensures starts { KeepsStarts cache.old.store.starts cache.new.store.starts }
 
-        // A state that was there keeps its start tag or its lack of one, through a clear too. One that a start adds has
-        // the tag exactly if the settings specialize start states.
+        // A state that was there keeps its start tag or its lack of one, through a clear too. One that a start adds
+        // has the tag exactly if the settings specialize start states.
         ensures start_tags { KeepsStartTags cache.old.store.table cache.new.store.table }
         ensures added { TagsNewStates cache.old.store.table cache.new.store.table self.now.specialized }
 
@@ -320,8 +320,8 @@ impl DFA {
         ensures tag { IfOk result (HasItsMatchTag cache.new.store.table) }
         ensures starts { KeepsStarts cache.old.store.starts cache.new.store.starts }
 
-        // A state that was there keeps its start tag or its lack of one, through a clear too. One that a start adds has
-        // the tag exactly if the settings specialize start states.
+        // A state that was there keeps its start tag or its lack of one, through a clear too. One that a start adds
+        // has the tag exactly if the settings specialize start states.
         ensures start_tags { KeepsStartTags cache.old.store.table cache.new.store.table }
         ensures added { TagsNewStates cache.old.store.table cache.new.store.table self.now.specialized }
 
@@ -377,8 +377,8 @@ impl DFA {
         ensures tag { IfOk result (HasItsMatchTag cache.new.store.table) }
         ensures starts { KeepsStarts cache.old.store.starts cache.new.store.starts }
 
-        // A state that was there keeps its start tag or its lack of one, through a clear too. One that a start adds has
-        // the tag exactly if the settings specialize start states.
+        // A state that was there keeps its start tag or its lack of one, through a clear too. One that a start adds
+        // has the tag exactly if the settings specialize start states.
         ensures start_tags { KeepsStartTags cache.old.store.table cache.new.store.table }
         ensures added { TagsNewStates cache.old.store.table cache.new.store.table self.now.specialized }
 
