@@ -18,7 +18,7 @@ use Rattle.automata_hybrid.proofs.Rows.{Names-more, find_id-push_other}
 some_id : (a b : ℕ) → ◌≡◌ {A = Option ℕ} (Some a) (Some b) → a ≡ b
 some_id a b e = cc
 
-one_id : (t : Rows) (a b : ℕ) (q : Powerset) → Names t a q → Names t b q → a ≡ b
+pub one_id : (t : Rows) (a b : ℕ) (q : Powerset) → Names t a q → Names t b q → a ≡ b
 one_id t a b q f g = some_id a b (sym f ∙ g)
 
 -- a clear shows in the count

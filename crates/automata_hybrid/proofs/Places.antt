@@ -12,7 +12,7 @@ use Rattle.automata_hybrid.specs.Ids.{tags}
 use Rattle.automata_hybrid.specs.Machine.{next_of, greatest, template_of}
 use Rattle.std.specs.List.{sum_by}
 use Rattle.std.proofs.lemmas.List.Sums.{sum_by-cons}
-use Rattle.automata_hybrid.specs.Table.{Rows, has_patterns, find_id, Names, IsValid, Leads, IsCell, row_id, with_cell, cell_at, IsTable, IsStepped, HasState, StateMap, row_cost}
+use Rattle.automata_hybrid.specs.Table.{Rows, has_patterns, find_id, Names, IsValid, Leads, IsCell, row_id, with_cell, cell_at, HasRowIds, IsTable, IsStepped, HasState, StateMap, row_cost}
 use Rattle.automata_hybrid.proofs.Rows.{inside}
 
 -- the row that a look-up met
@@ -238,3 +238,10 @@ Names-silent t id q h l =
 pub Names-alive : (t : Rows) (m : StateMap) (costs id : ℕ) (q : Powerset) → IsTable t m costs → Names t id q → q ≡ dead → ⊥
 Names-alive t m costs id q i h d =
     let p = Names-Placed t m costs id q i h in (i.alive p.place p.row p.has).0 (p.state ∙ d)
+
+-- each row is found by its state, and stands below the limit of offsets
+pub IsTable-ids : (t : Rows) (m : StateMap) (costs : ℕ) → IsTable t m costs → HasRowIds t
+IsTable-ids t m costs i k r h =
+    let within : k < length t.rows = slice_get_within t.rows k r h in
+    let le : (k + 4) * t.of.stride ≤ (length t.rows + 3) * t.of.stride = mul-le-mul_right t.of.stride (omega (arith, within)) in
+    (i.distinct k r h, omega (arith, le, i.whole, i.small))

@@ -1,4 +1,4 @@
-use Rattle.std.specs.Prelude.{◌≡◌, ℕ, ◌+◌, ◌*◌, ◌%◌, ◌<◌, ◌≤◌, ◌⊎◌, List, [], ◌∷◌, ◌++◌, length, Bool, cond, nat_lt, Option, None, Some, slice_index, slice_set, slice_get, replicate, take, sum_by}
+use Rattle.std.specs.Prelude.{◌≡◌, ℕ, ◌+◌, ◌*◌, ◌%◌, ◌<◌, ◌≤◌, ◌⊎◌, ◌↔◌, IsBitSet, List, [], ◌∷◌, ◌++◌, length, Bool, true, cond, nat_lt, Option, None, Some, slice_index, slice_set, slice_get, replicate, take, sum_by}
 use Rattle.std.specs.HashMap.{HashMap, get}
 use Rattle.std.specs.declared.hash.FoldHasher.{FoldHasher}
 use Rattle.std.specs.declared.hash.BuildHasherDefault.{BuildHasherDefault}
@@ -44,6 +44,20 @@ Lacks t q = (id_of t q ≡ None) × (q ≡ dead → ⊥)
 abbrev pub Names : Rows → ℕ → Powerset → Type 0
 Names t id q = id_of t q ≡ Some id
 
+-- an ID has the match tag exactly if the state that it names has patterns
+abbrev pub HasItsMatchTag : Rows → ℕ → Type 0
+HasItsMatchTag t id = (q : Powerset) → Names t id q → IsBitSet id 27 ↔ (0 < length q.patterns)
+
+-- a state that was there and is there has the start tag now exactly if it had it
+abbrev pub KeepsStartTags : Rows → Rows → Type 0
+KeepsStartTags old new =
+    (q : Powerset) (before now : ℕ) → Names old before q → Names new now q → IsBitSet before 28 ↔ IsBitSet now 28
+
+-- a state that wasn't there and is there has the start tag exactly if it was to have it
+abbrev pub TagsNewStates : Rows → Rows → Bool → Type 0
+TagsNewStates old new started =
+    (q : Powerset) (id : ℕ) → id_of old q ≡ None → Names new id q → IsBitSet id 28 ↔ (started ≡ true)
+
 -- some row has this state
 pub record Has (t : Rows) (q : Powerset) : Type 0 where
   pub id : ℕ
@@ -85,6 +99,12 @@ IsStepped t = (k class : ℕ) (r : Row) → slice_get t.rows k ≡ Some r → cl
 -- each row is found by its state, so no two rows have one state
 abbrev pub IsDistinct : Rows → Type 0
 IsDistinct t = (k : ℕ) (r : Row) → slice_get t.rows k ≡ Some r → Names t (row_id ((k + 3) * t.of.stride) r) r.state
+
+-- each row is found by its state, and stands below the limit of offsets
+abbrev pub HasRowIds : Rows → Type 0
+HasRowIds t =
+    (k : ℕ) (r : Row) → slice_get t.rows k ≡ Some r
+    → Names t (row_id ((k + 3) * t.of.stride) r) r.state × ((k + 3) * t.of.stride < offset_limit)
 
 abbrev pub IsAlive : Rows → Type 0
 IsAlive t = (k : ℕ) (r : Row) → slice_get t.rows k ≡ Some r → (r.state ≡ dead → ⊥) × (cost r.state ≤ greatest t.of) × IsOwn t.of.nfa r.state

@@ -4,7 +4,7 @@ ghost use Rattle.automata_base.specs.Steps.{successor, start_state_of};
 ghost use Rattle.automata_hybrid.specs.Owned.{IsOwn};
 ghost use Rattle.automata_hybrid.specs.Machine.{next_of, start_of, greatest, template_of};
 ghost use Rattle.automata_hybrid.specs.Ids.{dead_id, unknown_id, fixed_from, offset_limit};
-ghost use Rattle.automata_hybrid.specs.Table.{id_of, Names, IsValid, Leads, MayLead, IsCell, HasCells, Has};
+ghost use Rattle.automata_hybrid.specs.Table.{id_of, Names, IsValid, Leads, MayLead, IsCell, HasCells, HasItsMatchTag, HasRowIds, Has};
 ghost use Rattle.automata_hybrid.specs.Bounds.{Fits, refuses_to_clear, IsCacheError, KeepsStarts, IsAdded, IsAddedStart, cell_of, with_next, with_start, with_searched, grown, cleared, usage, GivesUp};
 ghost use Rattle.automata_hybrid.specs.Caches.{IsRow, IsCacheOf, fresh_cache, counted, with_store};
 ghost use Rattle.automata_hybrid.specs.Growing.{IsGrown};
@@ -165,8 +165,10 @@ impl Cache {
         requires class { class < self.now.store.table.of.stride }
         ensures value { result ≡ cell_of self.now.store id class }
         ensures named { (q : Powerset) → Names self.now.store.table id q → IsCell self.now.store.table q class result }
+        ensures tag { HasItsMatchTag self.now.store.table result }
         ensures stride { self.now.store.table.of.stride ≤ 512 }
     {
+        self.see_ids();
         self.store.cell(id, class)
     }
 
@@ -178,8 +180,10 @@ impl Cache {
         requires untagged { id < offset_limit }
         ensures value { result ≡ cell_of self.now.store id class }
         ensures named { (q : Powerset) → Names self.now.store.table id q → IsCell self.now.store.table q class result }
+        ensures tag { HasItsMatchTag self.now.store.table result }
         ensures stride { self.now.store.table.of.stride ≤ 512 }
     {
+        self.see_ids();
         self.store.cell_untagged(id, class)
     }
 
@@ -226,7 +230,9 @@ impl Cache {
         requires { slot < length self.now.store.starts }
         ensures value { result ≡ slice_index self.now.store.starts slot }
         ensures leads { MayLead self.now.store.table result (start_of self.now.store.table.of slot) }
+        ensures tag { HasItsMatchTag self.now.store.table result }
     {
+        self.see_ids();
         self.store.start_slot(slot)
     }
 
@@ -310,6 +316,7 @@ impl Cache {
 
     /// IDs of rows have no high tag, and the match tag exactly where their state has patterns; no row has the dead state.
     pub(crate) fn see_ids(&self)
+        ensures ids { HasRowIds self.now.store.table }
         ensures low { (id : ℕ) (q : Powerset) → Names self.now.store.table id q → id < fixed_from }
         ensures tagged { (id : ℕ) (q : Powerset) → Names self.now.store.table id q → IsBitSet id 27 ↔ (0 < length q.patterns) }
         ensures small { self.now.store.table.of.stride ≤ 512 }

@@ -9,7 +9,7 @@ ghost use Rattle.automata_base.specs.Lists.{nth};
 ghost use Rattle.automata_base.specs.declared.util.search.MatchErrorKind.TheVariants.{Quit as QuitAt, UnsupportedAnchored as UnsupportedMode};
 ghost use Rattle.automata_hybrid.specs.Starting.{quit_behind, start_refusal, search_refusal, KnowsStart, known_start, MayStart, IsStartRefusal, IsStartRefusalAt};
 ghost use Rattle.automata_hybrid.specs.Slots.{supports, slot_of, slot_behind};
-ghost use Rattle.automata_hybrid.specs.Table.{Leads, Has};
+ghost use Rattle.automata_hybrid.specs.Table.{Leads, Has, HasItsMatchTag, KeepsStartTags, TagsNewStates};
 ghost use Rattle.automata_hybrid.specs.Bounds.{IsCacheError, IsKnownStart, IsStarted, KeepsStarts, GivesUp};
 ghost use Rattle.automata_hybrid.specs.Growing.{IsGrown, Keeps, ClearedNothing, HasRoom};
 ghost use Rattle.automata_hybrid.specs.Caches.{IsCacheOf, counted, HasRow};
@@ -38,8 +38,11 @@ impl Cache {
         ensures known { IsKnownStart self.old.store slot → result ≡ Ok (slice_index self.old.store.starts slot) }
         ensures unchanged { IsKnownStart self.old.store slot → self.new ≡ self.old }
         ensures named { IfOk result (λ n. Leads self.new.store.table n (start_state_of dfa.now.nfa mode prev)) }
+        ensures tag { IfOk result (HasItsMatchTag self.new.store.table) }
         ensures counted { self.new.count ≤ self.old.count + 1 }
         ensures starts { KeepsStarts self.old.store.starts self.new.store.starts }
+        ensures start_tags { KeepsStartTags self.old.store.table self.new.store.table }
+        ensures added { TagsNewStates self.old.store.table self.new.store.table dfa.now.specialized }
         ensures found { OnOk result (IsKnownStart self.new.store slot) }
         ensures written { IfOk result (λ n. slice_index self.new.store.starts slot ≡ n) }
         ensures effect { (IsKnownStart self.old.store slot → ⊥) → IfOk result (λ n. IsStarted self.old.store slot (record { state = start_state_of dfa.now.nfa mode prev; started = dfa.now.specialized }) self.new.store n) }
@@ -51,11 +54,13 @@ impl Cache {
         ensures grown { IsGrown self.old self.new }
     {
         self.see_cells();
+        self.see_ids();
         let found = self.start_slot(slot);
         if !found.is_unknown() {
             return Ok(found);
         }
         let id = self.compute_start(dfa, slot, mode, prev)?;
+        self.see_ids();
         Ok(id)
     }
 
@@ -210,7 +215,13 @@ impl DFA {
         ensures barred { (MayStart self.now config.now.anchored config.now.look_behind → ⊥) → cache.new ≡ cache.old }
 
         ensures named { IfOk result (λ n. Leads cache.new.store.table n (start_state_of self.now.nfa config.now.anchored config.now.look_behind)) }
+        ensures tag { IfOk result (HasItsMatchTag cache.new.store.table) }
         ensures starts { KeepsStarts cache.old.store.starts cache.new.store.starts }
+
+        // A state that was there keeps its start tag or its lack of one, through a clear too. One that a start adds
+        // has the tag exactly if the settings specialize start states.
+        ensures start_tags { KeepsStartTags cache.old.store.table cache.new.store.table }
+        ensures added { TagsNewStates cache.old.store.table cache.new.store.table self.now.specialized }
 
         // A known start takes no memory, and changes nothing.
         ensures known { KnowsStart self.now cache.old.store config.now.anchored config.now.look_behind → result ≡ Ok (known_start self.now cache.old.store config.now.anchored config.now.look_behind) }
@@ -235,6 +246,7 @@ impl DFA {
             return Err(StartError::Quit { byte });
         }
         cache.see_slots();
+        cache.see_ids();
         match self.mode_slot(config.get_anchored(), config.get_look_behind())? {
             None => Ok(cache.dead()),
             Some(slot) => {
@@ -262,7 +274,10 @@ impl DFA {
         ensures row { IfOk result (HasRow cache.new.store.table) }
         ensures counted { cache.new.count ≤ cache.old.count + 1 }
         ensures named { IfOk result (λ n. Leads cache.new.store.table n (start_state_of self.now.nfa mode prev)) }
+        ensures tag { IfOk result (HasItsMatchTag cache.new.store.table) }
         ensures starts { KeepsStarts cache.old.store.starts cache.new.store.starts }
+        ensures start_tags { KeepsStartTags cache.old.store.table cache.new.store.table }
+        ensures added { TagsNewStates cache.old.store.table cache.new.store.table self.now.specialized }
         ensures known { IsKnownStart cache.old.store slot → result ≡ Ok (slice_index cache.old.store.starts slot) }
         ensures unchanged { IsKnownStart cache.old.store slot → cache.new ≡ cache.old }
         ensures errors { MayStart self.now mode prev → IfErr result (IsStartRefusal self.now cache.old.store mode prev) }
@@ -302,7 +317,13 @@ impl DFA {
         ensures barred { (MayStart self.now input.now.anchored (byte_before input.now.haystack input.now.start) → ⊥) → cache.new ≡ cache.old }
 
         ensures named { IfOk result (λ n. Leads cache.new.store.table n (start_state_of self.now.nfa input.now.anchored (byte_before input.now.haystack input.now.start))) }
+        ensures tag { IfOk result (HasItsMatchTag cache.new.store.table) }
         ensures starts { KeepsStarts cache.old.store.starts cache.new.store.starts }
+
+        // A state that was there keeps its start tag or its lack of one, through a clear too. One that a start adds
+        // has the tag exactly if the settings specialize start states.
+        ensures start_tags { KeepsStartTags cache.old.store.table cache.new.store.table }
+        ensures added { TagsNewStates cache.old.store.table cache.new.store.table self.now.specialized }
 
         // A known start takes no memory, and changes nothing.
         ensures known { KnowsStart self.now cache.old.store input.now.anchored (byte_before input.now.haystack input.now.start) → result ≡ Ok (known_start self.now cache.old.store input.now.anchored (byte_before input.now.haystack input.now.start)) }
@@ -353,7 +374,13 @@ impl DFA {
         ensures barred { (MayStart self.now input.now.anchored (nth input.now.haystack input.now.end) → ⊥) → cache.new ≡ cache.old }
 
         ensures named { IfOk result (λ n. Leads cache.new.store.table n (start_state_of self.now.nfa input.now.anchored (nth input.now.haystack input.now.end))) }
+        ensures tag { IfOk result (HasItsMatchTag cache.new.store.table) }
         ensures starts { KeepsStarts cache.old.store.starts cache.new.store.starts }
+
+        // A state that was there keeps its start tag or its lack of one, through a clear too. One that a start adds
+        // has the tag exactly if the settings specialize start states.
+        ensures start_tags { KeepsStartTags cache.old.store.table cache.new.store.table }
+        ensures added { TagsNewStates cache.old.store.table cache.new.store.table self.now.specialized }
 
         // A known start takes no memory, and changes nothing.
         ensures known { KnowsStart self.now cache.old.store input.now.anchored (nth input.now.haystack input.now.end) → result ≡ Ok (known_start self.now cache.old.store input.now.anchored (nth input.now.haystack input.now.end)) }

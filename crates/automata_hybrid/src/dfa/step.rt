@@ -3,7 +3,7 @@ ghost use Rattle.automata_base.specs.Powerset.{Powerset, cost};
 ghost use Rattle.automata_base.specs.Steps.{successor};
 ghost use Rattle.automata_hybrid.specs.Owned.{IsOwn};
 ghost use Rattle.automata_hybrid.specs.Machine.{next_of, template_of, greatest};
-ghost use Rattle.automata_hybrid.specs.Table.{Names, IsValid, Leads, Has};
+ghost use Rattle.automata_hybrid.specs.Table.{Names, IsValid, Leads, Has, HasItsMatchTag, KeepsStartTags, TagsNewStates};
 ghost use Rattle.automata_hybrid.specs.Bounds.{GivesUp, IsCacheError, IsKnownTransition, cell_of, IsNext, KeepsStarts, IsComputed};
 ghost use Rattle.automata_hybrid.specs.Growing.{IsGrown, Keeps, ClearedNothing, HasRoom};
 ghost use Rattle.automata_hybrid.specs.Caches.{IsCacheOf, HasRow, counted};
@@ -34,9 +34,12 @@ impl Cache {
         ensures unchanged { IsKnownTransition self.old.store id class → self.new ≡ self.old }
         ensures quit { slice_index (template_of dfa.now) class ≡ quit_id dfa.now.stride → (result ≡ Ok (quit_id dfa.now.stride)) × (self.new ≡ self.old) }
         ensures named { IfOk result (λ n. (q : Powerset) → Names self.old.store.table id q → IsNext self.new.store.table q class n) }
+        ensures tag { IfOk result (HasItsMatchTag self.new.store.table) }
         ensures effect { (IsKnownTransition self.old.store id class → ⊥) → IfOk result (λ n. (q : Powerset) → Names self.old.store.table id q → IsComputed self.old.store id class q (successor dfa.now.nfa dfa.now.kind q unit) self.new.store n) }
         ensures counted { (IsKnownTransition self.old.store id class → ⊥) → self.new.count ≡ self.old.count + 1 }
         ensures starts { KeepsStarts self.old.store.starts self.new.store.starts }
+        ensures start_tags { KeepsStartTags self.old.store.table self.new.store.table }
+        ensures added { TagsNewStates self.old.store.table self.new.store.table false }
         ensures gives_up { IfErr result (λ e. IsCacheError e → (q : Powerset) → Names self.old.store.table id q → GivesUp self.old.store (successor dfa.now.nfa dfa.now.kind q unit)) }
         ensures err { OnErr result (self.new ≡ counted self.old) }
         ensures learned { ClearedNothing self.old.store self.new.store → IfOk result (λ n. IsKnownTransition self.new.store id class) }
@@ -46,6 +49,7 @@ impl Cache {
         ensures grown { IsGrown self.old self.new }
     {
         self.see_cells();
+        self.see_ids();
         let cell = self.cell(id, class);
         if !cell.is_unknown() {
             return Ok(cell);
@@ -115,6 +119,7 @@ impl DFA {
         ensures quit_unchanged { is_quit self.now.quits byte ≡ true → cache.new ≡ cache.old }
 
         ensures named { is_quit self.now.quits byte ≡ false → IfOk result (λ n. (q : Powerset) → Names cache.old.store.table id q → Leads cache.new.store.table n (successor self.now.nfa self.now.kind q (Some byte))) }
+        ensures tag { IfOk result (HasItsMatchTag cache.new.store.table) }
         ensures row { IfOk result (HasRow cache.new.store.table) }
         ensures counted { cache.new.count ≤ cache.old.count + 1 }
 
@@ -127,6 +132,11 @@ impl DFA {
         ensures refused { (q : Powerset) → Names cache.old.store.table id q → (IsKnownTransition cache.old.store id (class_in self.now.classes byte) → ⊥) → GivesUp cache.old.store (successor self.now.nfa self.now.kind q (Some byte)) → OnOk result ⊥ }
         ensures only { (q : Powerset) → Names cache.old.store.table id q → (p : Powerset) → Has cache.new.store.table p → Has cache.old.store.table p ⊎ (p ≡ successor self.now.nfa self.now.kind q (Some byte)) }
         ensures starts { KeepsStarts cache.old.store.starts cache.new.store.starts }
+
+        // A state that was there keeps its start tag or its lack of one, through a clear too. One that a step adds has none.
+        ensures start_tags { KeepsStartTags cache.old.store.table cache.new.store.table }
+        ensures added { TagsNewStates cache.old.store.table cache.new.store.table false }
+
         ensures gives_up { IfErr result (λ e. IsCacheError e → (q : Powerset) → Names cache.old.store.table id q → GivesUp cache.old.store (successor self.now.nfa self.now.kind q (Some byte))) }
         ensures err { OnErr result (cache.new ≡ counted cache.old) }
 
@@ -160,6 +170,7 @@ impl DFA {
         ensures fixed_unchanged { fixed_from ≤ id → cache.new ≡ cache.old }
 
         ensures named { IfOk result (λ n. (q : Powerset) → Names cache.old.store.table id q → Leads cache.new.store.table n (successor self.now.nfa self.now.kind q None)) }
+        ensures tag { IfOk result (HasItsMatchTag cache.new.store.table) }
         ensures row { IfOk result (HasRow cache.new.store.table) }
         ensures counted { cache.new.count ≤ cache.old.count + 1 }
 
@@ -172,6 +183,11 @@ impl DFA {
         ensures refused { (q : Powerset) → Names cache.old.store.table id q → (IsKnownTransition cache.old.store id (eoi_class self.now.classes) → ⊥) → GivesUp cache.old.store (successor self.now.nfa self.now.kind q None) → OnOk result ⊥ }
         ensures only { (q : Powerset) → Names cache.old.store.table id q → (p : Powerset) → Has cache.new.store.table p → Has cache.old.store.table p ⊎ (p ≡ successor self.now.nfa self.now.kind q None) }
         ensures starts { KeepsStarts cache.old.store.starts cache.new.store.starts }
+
+        // A state that was there keeps its start tag or its lack of one, through a clear too. One that a step adds has none.
+        ensures start_tags { KeepsStartTags cache.old.store.table cache.new.store.table }
+        ensures added { TagsNewStates cache.old.store.table cache.new.store.table false }
+
         ensures gives_up { IfErr result (λ e. IsCacheError e → (q : Powerset) → Names cache.old.store.table id q → GivesUp cache.old.store (successor self.now.nfa self.now.kind q None)) }
         ensures err { OnErr result (cache.new ≡ counted cache.old) }
 
@@ -199,6 +215,7 @@ impl DFA {
         ensures value { result ≡ cell_of cache.now.store id (class_in self.now.classes byte) }
         ensures quit { is_quit self.now.quits byte ≡ true → result ≡ quit_id self.now.stride }
         ensures named { is_quit self.now.quits byte ≡ false → result < unknown_id → (q : Powerset) → Names cache.now.store.table id q → Leads cache.now.store.table result (successor self.now.nfa self.now.kind q (Some byte)) }
+        ensures tag { HasItsMatchTag cache.now.store.table result }
         ensures row { result < unknown_id → HasRow cache.now.store.table result }
     {
         cache.see_state(id);

@@ -4,7 +4,7 @@ ghost use Rattle.automata_base.specs.Accounting.{minimum_capacity};
 ghost use Rattle.automata_hybrid.specs.Owned.{IsOwn};
 ghost use Rattle.automata_hybrid.specs.Ids.{dead_id, unknown_id, fixed_from, offset_limit};
 ghost use Rattle.automata_hybrid.specs.Machine.{next_of, start_of, greatest, template_of, IsTemplate};
-ghost use Rattle.automata_hybrid.specs.Table.{id_of, Names, IsValid, Leads, MayLead, IsCell, HasCells, Has};
+ghost use Rattle.automata_hybrid.specs.Table.{id_of, Names, IsValid, Leads, MayLead, IsCell, HasCells, HasRowIds, Has};
 ghost use Rattle.automata_hybrid.specs.Clears.{row_of};
 ghost use Rattle.automata_hybrid.specs.Bounds.{usage, Fits, refuses_to_clear, cleared, with_table, grown, put_found, cleared_saving, IsCacheError, cell_of, with_next, fresh_store, settings_of, with_start, IsAdded, IsAddedStart, KeepsStarts};
 ghost use Rattle.automata_hybrid.specs.Caches.{IsRow};
@@ -176,6 +176,7 @@ impl Store {
 
     /// IDs of rows have no high tag.
     pub fn see_ids(&self)
+        ensures ids { HasRowIds self.now.table }
         ensures low { (id : ℕ) (q : Powerset) → Names self.now.table id q → id < fixed_from }
         ensures tagged { (id : ℕ) (q : Powerset) → Names self.now.table id q → IsBitSet id 27 ↔ (0 < length q.patterns) }
         ensures small { self.now.table.of.stride ≤ 512 }

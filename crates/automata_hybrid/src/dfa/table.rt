@@ -5,7 +5,7 @@ ghost use Rattle.automata_base.specs.Powerset.{dead};
 ghost use Rattle.automata_hybrid.specs.Owned.{IsOwn};
 ghost use Rattle.automata_hybrid.specs.Ids.{unknown_id, fixed_from, offset_limit};
 ghost use Rattle.automata_hybrid.specs.Machine.{next_of, greatest, template_of, IsTemplate, marked};
-ghost use Rattle.automata_hybrid.specs.Table.{id_of, with_row, fresh, Names, Leads, row_cost, IsValid, HasState, IsCell, cell_at, with_cell, HasCells};
+ghost use Rattle.automata_hybrid.specs.Table.{id_of, with_row, fresh, Names, Leads, row_cost, IsValid, HasState, IsCell, cell_at, with_cell, HasCells, HasRowIds};
 ghost use Rattle.automata_hybrid.specs.Clears.{AllStarts};
 
 use crate::dfa::row::Row;
@@ -70,6 +70,7 @@ impl Table {
         ensures whole { length self.now.cells ≡ (length self.now.rows + 3) * self.now.of.stride }
         ensures template { IsTemplate self.now.of.stride (template_of self.now.of) }
         ensures costs { sum_by row_cost self.now.rows ≤ length self.now.rows * greatest self.now.of }
+        ensures ids { HasRowIds self.now }
         ensures low { (id : ℕ) (q : Powerset) → Names self.now id q → id < fixed_from }
         ensures tagged { (id : ℕ) (q : Powerset) → Names self.now id q → IsBitSet id 27 ↔ (0 < length q.patterns) }
         ensures alive { (id : ℕ) (q : Powerset) → Names self.now id q → q ≡ dead → ⊥ }

@@ -1,0 +1,7 @@
+use Rattle.std.proofs.Common.{subst}
+use Rattle.automata_hybrid.specs.Bounds.{Stored}
+use Rattle.automata_hybrid.specs.Table.{HasRowIds}
+use Rattle.automata_hybrid.proofs.dfa.store.Store.see_ids.Goals as goal
+
+pub returns-clause-ids : goal.returns-clause-ids
+returns-clause-ids c = subst (λ (v : Stored). HasRowIds v.table) c.self.view_is c.see_rows.ensures.ids
