@@ -8,6 +8,7 @@ use Rattle.std.proofs.Math.Nat.{mul-le-mul_right}
 use Rattle.automata_base.specs.Powerset.{Powerset, cost, dead}
 use Rattle.automata_base.specs.Equal.{powerset_eq, powerset_eq-Decides}
 use Rattle.automata_hybrid.specs.declared.dfa.row.Row.{Row}
+use Rattle.automata_hybrid.specs.Owned.{IsOwn}
 use Rattle.automata_hybrid.specs.Ids.{tags}
 use Rattle.automata_hybrid.specs.Machine.{next_of, greatest, template_of}
 use Rattle.std.specs.List.{sum_by}
@@ -238,6 +239,12 @@ Names-silent t id q h l =
 pub Names-alive : (t : Rows) (m : StateMap) (costs id : ℕ) (q : Powerset) → IsTable t m costs → Names t id q → q ≡ dead → ⊥
 Names-alive t m costs id q i h d =
     let p = Names-Placed t m costs id q i h in (i.alive p.place p.row p.has).0 (p.state ∙ d)
+
+-- the states of rows are the automaton's own
+pub Names-own : (t : Rows) (m : StateMap) (costs id : ℕ) (q : Powerset) → IsTable t m costs → Names t id q → IsOwn t.of.nfa q
+Names-own t m costs id q i h =
+    let p = Names-Placed t m costs id q i h in
+    subst (IsOwn t.of.nfa) p.state (i.alive p.place p.row p.has).2
 
 -- each row is found by its state, and stands below the limit of offsets
 pub IsTable-ids : (t : Rows) (m : StateMap) (costs : ℕ) → IsTable t m costs → HasRowIds t

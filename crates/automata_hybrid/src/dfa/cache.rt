@@ -330,7 +330,7 @@ impl Cache {
         requires { IsValid self.now.store.table id }
         ensures { (q : Powerset) → Names self.now.store.table id q → IsOwn self.now.store.table.of.nfa q }
     {
-        let _ = self.store.state(id);
+        self.store.see_own();
     }
 
     /// The number of patterns of a row's state.

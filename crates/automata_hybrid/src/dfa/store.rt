@@ -185,6 +185,13 @@ impl Store {
         self.table.see_rows();
     }
 
+    /// The states of rows are the automaton's own.
+    pub fn see_own(&self)
+        ensures { (id : ℕ) (q : Powerset) → Names self.now.table id q → IsOwn self.now.table.of.nfa q }
+    {
+        self.table.see_own();
+    }
+
     /// Rows are of one width, and each has a cell for each class; the count of clears is a number of 64 bits.
     pub fn see_cells(&self)
         ensures wide { length (template_of self.now.table.of) ≡ self.now.table.of.stride }
