@@ -1,4 +1,5 @@
-use Rattle.std.proofs.Common.{◌≡◌, ℕ, Bool, true, false, None, Some, [], ◌+◌, ◌*◌, ◌^◌, ◌<◌, ◌≤◌, inl, inr, refl, sym, ap, subst, arith, get_or, Option}
+use Rattle.std.proofs.Common.{◌≡◌, ℕ, List, ◌∷◌, length, Bool, true, false, None, Some, [], ◌+◌, ◌*◌, ◌^◌, ◌<◌, ◌≤◌, inl, inr, refl, sym, ap, subst, arith, get_or, Option}
+use Rattle.automata_base.specs.Lists.{In}
 use Rattle.automata_base.specs.Powerset.{Powerset}
 use Rattle.automata_hybrid.specs.Machine.{Machine, template_of}
 use Rattle.automata_hybrid.specs.Table.{Rows, IsCell, IsValid, Leads, Names}
@@ -9,7 +10,7 @@ use Rattle.automata_hybrid.specs.Passing.{IsDeadTagged, step_refusal}
 use Rattle.automata_hybrid.specs.Searches.{IsNoQuit, IsStepRefusal}
 use Rattle.automata_config.specs.declared.error.StepError.{StepError}
 use Rattle.automata_config.specs.declared.error.StepError.TheVariants.{Cache, OutOfMemory}
-use Rattle.std.specs.Prelude.{IsBitSet, length, ◌↔◌, Result, Ok, Err}
+use Rattle.std.specs.Prelude.{IsBitSet, ◌↔◌, Result, Ok, Err}
 use Rattle.automata_hybrid.proofs.Places.{Names-silent, no_patterns, bit_of, zero_one}
 use Rattle.automata_base.specs.Classes.{is_quit}
 use Rattle.automata_base.proofs.Paths.Orders.{some_inj, none_some}
@@ -125,3 +126,8 @@ quits m t t' id id' byte q small low bit named h = go (is_quit m.quits byte) ref
   go true e = e
   go false e =
       absurd (Leads-quit t' id' (successor m.nfa m.kind q (Some byte)) (named e q h) (low (successor m.nfa m.kind q (Some byte))) small bit)
+
+-- of one pattern the first that a list tells is that one
+pub only_pattern : (ps : List ℕ) → 0 < length ps → ((p : ℕ) → In p ps → p < 1) → 0 ≡ get_or ps 0 0
+only_pattern [] some own = absurd (omega (arith, some))
+only_pattern (p ∷ ps) some own = let low : p < 1 = own p (inl refl) in omega (arith, low)

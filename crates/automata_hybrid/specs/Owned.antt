@@ -2,7 +2,8 @@ use Rattle.automata_base.specs.Nodes.{Automaton}
 use Rattle.automata_base.specs.Powerset.{Powerset}
 use Rattle.automata_base.specs.Starts.{IsOf}
 use Rattle.automata_base.specs.Steps.{NeedsOwnLooks}
+use Rattle.automata_base.specs.Within.{TellsOwn}
 
--- the states and the looks of a powerset state are the automaton's
+-- the states, the looks and the patterns of a powerset state are the automaton's
 unfoldable pub IsOwn : Automaton → Powerset → Type 0
-IsOwn a q = IsOf a q × NeedsOwnLooks a q
+IsOwn a q = IsOf a q × NeedsOwnLooks a q × TellsOwn a q

@@ -50,7 +50,7 @@ step_own a d kind q unit p h =
     let s = picked (accepts (nfa_of a)) _ p (once_in [] _ p h) in d.patterns s.0 p s.1
 
 -- and a start none
-start_own : (a : Automaton) (mode : Anchored) (prev : Option ℕ) → TellsOwn a (start_state_of a mode prev)
+pub start_own : (a : Automaton) (mode : Anchored) (prev : Option ℕ) → TellsOwn a (start_state_of a mode prev)
 unfolding start_state_of
 start_own a mode prev p h = go (mode_start a mode) h where
   go : (o : Option ℕ) → In p (start_or_dead (nfa_of a) o prev).patterns → IsPatternOf a p

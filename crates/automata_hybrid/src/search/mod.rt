@@ -1,4 +1,4 @@
-ghost use Rattle.std.specs.Prelude.{ℕ, ◌≡◌, ◌+◌, ◌^◌, ◌<◌, ◌≤◌, ◌↔◌, ◌⊎◌, IfOk, IfErr, OnOk, IsTrue, Some, None, true, false};
+ghost use Rattle.std.specs.Prelude.{ℕ, ◌≡◌, IsBitSet, slice_index, ◌+◌, ◌^◌, ◌<◌, ◌≤◌, ◌↔◌, ◌⊎◌, IfOk, IfErr, OnOk, IsTrue, Some, None, true, false};
 ghost use Rattle.automata_base.specs.Classes.{class_in, eoi_class, is_quit};
 ghost use Rattle.automata_base.specs.Input.{Allows};
 ghost use Rattle.automata_base.specs.Powerset.{Powerset, dead};
@@ -24,6 +24,7 @@ mod which;
 use crate::dfa::DFA;
 use crate::dfa::cache::Cache;
 use crate::id::LazyStateID;
+use automata_base::util::primitives::PatternID;
 use automata_base::util::search::{Anchored, HalfMatch, Input, MatchError};
 use automata_config::error::{SearchError, StepError};
 
@@ -201,6 +202,21 @@ impl DFA {
         }
     }
 
+    /// The first pattern of a match state. An automaton with one pattern needs no look-up.
+    fn first_pattern(&self, cache: &Cache, id: LazyStateID) -> PatternID
+        requires of { IsCacheOf cache.now self.now }
+        requires valid { IsValid cache.now.store.table id }
+        requires tagged { IsBitSet id 27 }
+        ensures { (q : Powerset) → Names cache.now.store.table id q → result ≡ slice_index q.patterns 0 }
+    {
+        cache.see_ids();
+        cache.see_state(id);
+        if self.pattern_len() == 1 {
+            return PatternID::ZERO;
+        }
+        cache.match_pattern(id, 0)
+    }
+
     /// What was found last, once the state of an ID told its patterns at an offset.
     fn found_at(
         &self,
@@ -218,7 +234,7 @@ impl DFA {
             return found;
         }
         if id.is_match() {
-            return Some(HalfMatch::new(cache.match_pattern(id, 0), at));
+            return Some(HalfMatch::new(self.first_pattern(cache, id), at));
         }
         found
     }

@@ -110,6 +110,7 @@ pub fn start_key(
     requires of { scratch.old.of ≡ nfa.now }
     ensures start { IfOk result (λ key. IsStartOf nfa.now mode prev key) }
     ensures key { IfOk result (λ key. key ≡ start_state_of nfa.now mode prev) }
+    ensures own { IfOk result (TellsOwn nfa.now) }
     ensures looks { IfOk result (λ key. NeedsOwnLooks nfa.now key) }
     ensures is_of { IfOk result (λ key. IsOf nfa.now key) }
     ensures cost { IfOk result (λ key. cost key ≤ max_cost nfa.now) }

@@ -1,7 +1,9 @@
 use Rattle.std.proofs.Common.{sym, subst, ◌∙◌}
 use Rattle.automata_base.specs.Starts.{IsOf, IsStartAt}
 use Rattle.automata_base.specs.Nodes.{nfa_of}
+use Rattle.automata_base.specs.Within.{TellsOwn}
 use Rattle.automata_base.proofs.Determinizing.Stepping.{is_start, start_of_needs}
+use Rattle.automata_base.proofs.Determinizing.Within.{start_own}
 use Rattle.automata_base.proofs.util.determinize.scratch.start_key.Goals as goal
 
 pub returns-clause-start : goal.returns-clause-start
@@ -19,3 +21,7 @@ returns-clause-looks c = start_of_needs c.args.nfa.now c.args.mode c.args.prev c
 
 pub returns-clause-is_of : goal.returns-clause-is_of
 returns-clause-is_of c = subst (IsOf c.args.nfa.now) (sym c.in_ok-key.ensures) c.start_into.ensures.below
+
+pub returns-clause-own : goal.returns-clause-own
+returns-clause-own c =
+    subst (TellsOwn c.args.nfa.now) (sym (returns-clause-key c)) (start_own c.args.nfa.now c.args.mode c.args.prev)

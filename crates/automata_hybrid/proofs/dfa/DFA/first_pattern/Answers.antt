@@ -1,0 +1,14 @@
+use Rattle.std.proofs.Common.{◌≡◌, ◌∙◌, ◌<◌, ℕ, length, ap, sym, subst}
+use Rattle.automata_base.specs.Lists.{In}
+use Rattle.automata_base.specs.Within.{TellsOwn}
+use Rattle.automata_hybrid.specs.Machine.{Machine}
+use Rattle.automata_hybrid.specs.Owned.{IsOwn}
+use Rattle.automata_hybrid.proofs.Stepping.{only_pattern}
+use Rattle.automata_hybrid.proofs.dfa.DFA.first_pattern.Goals as goal
+
+pub returns-then-pattern_len-eq1 : goal.returns-then-pattern_len-eq1
+unfolding IsOwn
+returns-then-pattern_len-eq1 c = λ q n.
+    let own : IsOwn c.args.self.now.nfa q = subst (λ (m : Machine). IsOwn m.nfa q) c.requires.of (c.see_state.ensures q n) in
+    let one : length c.args.self.now.nfa.start_pattern ≡ 1 = sym c.pattern_len.ensures ∙ c.if-pattern_len-eq1.true in
+    only_pattern q.patterns ((c.see_ids.ensures.tagged _ q n).0 c.requires.tagged) (λ p i. subst (λ k. p < k) one (own.2 p i))
