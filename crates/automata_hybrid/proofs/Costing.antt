@@ -1,6 +1,5 @@
 -- What the passes of a search cost.
-use Rattle.std.proofs.Common.{ℕ, zero, suc, ◌≡◌, ◌<◌, ◌≤◌, ◌+◌, ◌*◌, ◌-◌, ◌⊎◌, inl, inr, Option, refl, arith}
-use Rattle.std.proofs.Math.Nat.{mul-le-mul_right}
+use Rattle.std.proofs.Common.{ℕ, zero, suc, ◌≡◌, ◌<◌, ◌≤◌, ◌+◌, ◌*◌, ◌-◌, ◌⊎◌, inl, inr, Option, refl, sym, subst, arith, eq-or-lt_of_le}
 use Rattle.automata_base.specs.Answers.{Tries}
 use Rattle.automata_base.specs.declared.util.search.Anchored.TheVariants.{No}
 use Rattle.automata_base.specs.Input.{Input}
@@ -22,6 +21,21 @@ most_more passes bytes units old between new before pass few =
     let one : passes_most (suc passes) bytes ≡ passes_most passes bytes + (bytes - passes + 2) = refl in
     omega (arith, one, before, pass, few)
 
+-- fewer passes
+pub most_fewer : (few passes bytes : ℕ) → few ≤ passes → passes_most few bytes ≤ passes_most passes bytes
+most_fewer few zero bytes l =
+    let none : few ≡ 0 = omega (arith, l) in
+    subst (λ n. passes_most n bytes ≤ 0) (sym none) (omega arith)
+most_fewer few (suc passes) bytes l = go (λ less. most_fewer few passes bytes less) (eq-or-lt_of_le l) where
+  go :
+      (few ≤ passes → passes_most few bytes ≤ passes_most passes bytes) → (few ≡ suc passes) ⊎ (few < suc passes)
+      → passes_most few bytes ≤ passes_most (suc passes) bytes
+  go before (inl same) = subst (λ n. passes_most few bytes ≤ passes_most n bytes) same (omega arith)
+  go before (inr less) =
+      let most : passes_most few bytes ≤ passes_most passes bytes = before (omega (arith, less)) in
+      let one : passes_most (suc passes) bytes ≡ passes_most passes bytes + (bytes - passes + 2) = refl in
+      omega (arith, most, one)
+
 -- each costs at most what the first may
 pub most_times : (passes bytes : ℕ) → passes_most passes bytes ≤ passes * (bytes + 2)
 most_times zero bytes = omega arith
@@ -30,13 +44,6 @@ most_times (suc passes) bytes =
     let most : passes_most (suc passes) bytes ≡ passes_most passes bytes + (bytes - passes + 2) = refl in
     let one : suc passes * (bytes + 2) ≡ passes * (bytes + 2) + (bytes + 2) = grind arith in
     omega (arith, before, most, one)
-
--- and no more than there are spans
-pub most_all : (passes bytes : ℕ) → passes ≤ bytes + 1 → passes_most passes bytes ≤ (bytes + 1) * (bytes + 2)
-most_all passes bytes few =
-    let times : passes_most passes bytes ≤ passes * (bytes + 2) = most_times passes bytes in
-    let all : passes * (bytes + 2) ≤ (bytes + 1) * (bytes + 2) = mul-le-mul_right (bytes + 2) few in
-    omega (arith, times, all)
 
 -- where the spans tried come to one, they came to each before it
 pub tries_before :
@@ -92,17 +99,26 @@ module _ (way : Direction) (m : Machine) (input : Input) (old new : CacheView) w
       second (inr free) = whole free
 
   -- and a pass over each span at most
-  pub cost_all : IsCostOfSearch way m input old new → new.count ≤ old.count + (input.end - input.start + 1) * (input.end - input.start + 2)
-  cost_all (passes, cost) =
-      let most : passes_most passes (input.end - input.start) ≤ (input.end - input.start + 1) * (input.end - input.start + 2) =
-      most_all passes (input.end - input.start) (few passes cost.tried) in
+  pub passes_few : (passes : ℕ) → IsCostOfPasses way m input passes old new → passes ≤ input.end - input.start + 1
+  passes_few zero cost = omega arith
+  passes_few (suc k) cost =
+      let within : input.start + k ≤ input.end = (cost.tried k (omega arith)).1 in
+      omega (arith, within)
+
+  pub cost_spans :
+      IsCostOfSearch way m input old new
+      → new.count ≤ old.count + passes_most (input.end - input.start + 1) (input.end - input.start)
+  cost_spans (passes, cost) =
       let counted : new.count ≤ old.count + passes_most passes (input.end - input.start) = cost.counted in
+      let most : passes_most passes (input.end - input.start) ≤ passes_most (input.end - input.start + 1) (input.end - input.start) =
+      most_fewer passes (input.end - input.start + 1) (input.end - input.start) (passes_few passes cost) in
       omega (arith, counted, most)
-    where
-      few :
-          (passes : ℕ) → ((k : ℕ) → k < passes → Tries (Finds way m) (Skips m) way input k × (input.start + k ≤ input.end))
-          → passes ≤ input.end - input.start + 1
-      few zero tried = omega arith
-      few (suc k) tried =
-          let within : input.start + k ≤ input.end = (tried k (omega arith)).1 in
-          omega (arith, within)
+
+  pub cost_all :
+      IsCostOfSearch way m input old new
+      → new.count ≤ old.count + (input.end - input.start + 1) * (input.end - input.start + 2)
+  cost_all cost =
+      let spans : new.count ≤ old.count + passes_most (input.end - input.start + 1) (input.end - input.start) = cost_spans cost in
+      let times : passes_most (input.end - input.start + 1) (input.end - input.start) ≤ (input.end - input.start + 1) * (input.end - input.start + 2) =
+      most_times (input.end - input.start + 1) (input.end - input.start) in
+      omega (arith, spans, times)
