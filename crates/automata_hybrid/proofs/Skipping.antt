@@ -1,6 +1,5 @@
 -- Spans tried one after another.
-use Rattle.std.proofs.Common.{ℕ, suc, ◌≡◌, ◌<◌, ◌≤◌, ◌+◌, ◌*◌, ◌⊎◌, inl, inr, true, Option, Some, None, false, refl, sym, ap, ap₂, ◌∙◌, subst, arith}
-use Rattle.std.proofs.Math.Nat.{mul-le-mul_right}
+use Rattle.std.proofs.Common.{ℕ, suc, ◌≡◌, ◌<◌, ◌≤◌, ◌+◌, ◌⊎◌, inl, inr, true, Option, Some, None, false, refl, sym, ap, ap₂, ◌∙◌, subst, arith}
 use Rattle.automata_base.specs.Answers.{Half, later, offset_in, IsSplit, Tries}
 use Rattle.automata_base.specs.declared.util.search.Anchored.TheVariants.{No}
 use Rattle.automata_base.specs.Input.{Input}
@@ -35,21 +34,6 @@ some_none e = cc
 
 some_eq : {A : Type 0} {a b : A} → ◌≡◌ {A = Option A} (Some a) (Some b) → a ≡ b
 some_eq e = cc
-
--- the determinisations of passes over later and later spans of at most `m` units
-pub steps_more :
-    (k m units a b n : ℕ) → b ≤ a + k * (m + 2) → n ≤ b + (units + 2) → units ≤ m → n ≤ a + suc k * (m + 2)
-steps_more k m units a b n before pass few =
-    let one : suc k * (m + 2) ≡ k * (m + 2) + (m + 2) = grind arith in
-    omega (arith, one, before, pass, few)
-
-pub steps_all :
-    (k m units a b n : ℕ)
-    → b ≤ a + k * (m + 2) → n ≤ b + (units + 2) → units ≤ m → k ≤ m → n ≤ a + (m + 1) * (m + 2)
-steps_all k m units a b n before pass few l =
-    let more : n ≤ a + suc k * (m + 2) = steps_more k m units a b n before pass few in
-    let most : suc k * (m + 2) ≤ (m + 1) * (m + 2) = mul-le-mul_right (m + 2) (omega (arith, l)) in
-    omega (arith, more, most)
 
 module _ (T : Input → Option Pair → Type 0) (S : Type 0) (way : Direction) (input : Input) where
   pub tries_first : Tries T S way input 0

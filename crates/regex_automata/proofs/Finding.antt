@@ -12,11 +12,13 @@ use Rattle.automata_base.specs.declared.util.search.Anchored.{Anchored}
 use Rattle.automata_base.specs.declared.util.search.Anchored.TheVariants.{No, Yes}
 use Rattle.automata_hybrid.specs.Agreeing.{AnswersAgree}
 use Rattle.automata_hybrid.specs.Caches.{CacheView}
+use Rattle.automata_hybrid.specs.Costs.{IsCostOfSearch}
 use Rattle.automata_hybrid.specs.Growing.{IsGrown}
 use Rattle.automata_hybrid.specs.Knowing.{Knows}
 use Rattle.automata_hybrid.specs.Machine.{Machine}
 use Rattle.automata_hybrid.specs.Searches.{IsFound, NoQuitInReach, Skips, WithoutBase, with_base}
 use Rattle.automata_hybrid.specs.Within.{LiesPast}
+use Rattle.automata_hybrid.proofs.Costing.{cost_all, cost_once}
 use Rattle.automata_hybrid.proofs.Growing.{clears_none}
 use Rattle.automata_hybrid.proofs.Within.{found_within}
 use Rattle.regex_automata.specs.Costs.{IsCostOf, IsPassCost}
@@ -59,6 +61,14 @@ cost_fewer m few bytes old new l one more grown =
           let times : (few + 1) * (few + 2) ≤ (bytes + 1) * (bytes + 2) = mul-le _ _ _ _ a b in
           omega (arith, more, times)
 
+-- what a search costs, by its passes
+pub cost_search :
+    (m : Machine) (input : Input) (old new : CacheView)
+    → IsCostOfSearch Forward m input old new → IsGrown old new → IsCostOf m (input.end - input.start) old new
+cost_search m input old new passes grown =
+    cost_fewer m (input.end - input.start) (input.end - input.start) old new (omega arith)
+    (λ whole. cost_once Forward m input old new passes (λ s. whole s.0)) (cost_all Forward m input old new passes) grown
+
 -- in reach of the search back is nothing that was not in reach before
 pub back_reach :
     (m : Machine) (input : Input) (half : Half) → input.start ≤ half.base → half.offset ≤ input.end
@@ -69,13 +79,12 @@ back_reach m input half from within reach = λ at byte s e n. reach at byte (ome
 pub cost_back :
     (m : Machine) (input rest : Input) (half : Half) (old new : CacheView) → rest ≡ back input half
     → input.start ≤ half.base → half.offset ≤ input.end
-    → ((Skips m × (rest.anchored ≡ No) → ⊥) → new.count ≤ old.count + (rest.end - rest.start + 2))
-    → IsGrown old new → IsPassCost (input.end - input.start) old new
-cost_back m input rest half old new same from within one grown =
+    → IsCostOfSearch Backward m rest old new → IsGrown old new → IsPassCost (input.end - input.start) old new
+cost_back m input rest half old new same from within passes grown =
     let start : rest.start ≡ half.base = ap (λ (i : Input). i.start) same in
     let end : rest.end ≡ half.offset = ap (λ (i : Input). i.end) same in
     pass_fewer (rest.end - rest.start) (input.end - input.start) old new (omega (arith, start, end, from, within))
-    (one (λ s. yes_no (sym (ap (λ (i : Input). i.anchored) same) ∙ s.1))) grown
+    (cost_once Backward m rest old new passes (λ s. yes_no (sym (ap (λ (i : Input). i.anchored) same) ∙ s.1))) grown
   where
     yes_no : ◌≡◌ {A = Anchored} Yes No → ⊥
     yes_no e = cc

@@ -1,4 +1,4 @@
-ghost use Rattle.std.specs.Prelude.{ℕ, ◌≡◌, ◌+◌, ◌-◌, ◌*◌, ◌^◌, ◌<◌, ◌≤◌, IfOk, IfErr, IfSome, IsBitSet, IsTrue, OnOk, Option, None, Err, Ok, ◌*◌, true, false, length, option_map};
+ghost use Rattle.std.specs.Prelude.{ℕ, ◌≡◌, ◌+◌, ◌-◌, ◌^◌, ◌<◌, ◌≤◌, IfOk, IfErr, IfSome, IsBitSet, IsTrue, OnOk, Option, None, Err, Ok, true, false, length, option_map};
 ghost use Rattle.automata_base.specs.Answers.{IsAnswer};
 ghost use Rattle.automata_base.specs.declared.util.search.MatchKind.TheVariants.{All as KindAll};
 ghost use Rattle.automata_base.specs.Engines.{engine_of};
@@ -9,11 +9,12 @@ ghost use Rattle.automata_base.specs.Paths.{IsLookAcyclic};
 ghost use Rattle.automata_base.specs.Tapes.{Forward, byte_before};
 ghost use Rattle.automata_base.specs.declared.util.search.MatchErrorKind.TheVariants.{UnsupportedAnchored as UnsupportedMode};
 ghost use Rattle.automata_hybrid.specs.Caches.{IsCacheOf};
-ghost use Rattle.automata_hybrid.specs.Growing.{IsGrown, IsStill, ClearedNothing, HasRoom};
+ghost use Rattle.automata_hybrid.specs.Costs.{IsCostOfSearch, IsCostUpto};
+ghost use Rattle.automata_hybrid.specs.Growing.{IsGrown, IsStill, ClearedNothing};
 ghost use Rattle.automata_hybrid.specs.Ids.{fixed_from, offset_limit};
 ghost use Rattle.automata_hybrid.specs.Knowing.{IsOfInput, KnowsItsStart, KnowsPass, Knows};
 ghost use Rattle.automata_hybrid.specs.Passing.{HasLearned, HasLearnedAll, IsAt, IsFollowed, IsLed, found_over};
-ghost use Rattle.automata_hybrid.specs.Searches.{IsFound, IsPassRefusal, IsRefused, MeetsNoQuit, NoQuitInReach, Skips, WithoutBase, state_in, tape_in, with_base};
+ghost use Rattle.automata_hybrid.specs.Searches.{IsFound, IsPassRefusal, IsRefused, MeetsNoQuit, NoQuitInReach, WithoutBase, state_in, tape_in, with_base};
 ghost use Rattle.automata_hybrid.specs.Slots.{supports};
 ghost use Rattle.automata_hybrid.specs.Starting.{MayStart, quit_behind};
 ghost use Rattle.automata_hybrid.specs.Table.{IsValid, Names};
@@ -54,12 +55,9 @@ impl DFA {
         // It does answer where no quit byte is in reach, the mode is supported, no clear limit is set, and memory is found.
         ensures answers { NoQuitInReach self.now input.now → supports self.now input.now.anchored ≡ true → self.now.minimum_clear_count ≡ None → IfErr result (λ e. e ≡ SearchError.OutOfMemory) }
 
-        // Over a span of m bytes it makes at most m + 2 determinisations, where no place is skipped, and clears nothing where
-        // there is room for as many states.
-        ensures bounded { (Skips self.now → ⊥) → cache.new.count ≤ cache.old.count + (input.now.end - input.now.start + 2) }
-        ensures bounded_all { cache.new.count ≤ cache.old.count + (input.now.end - input.now.start + 1) * (input.now.end - input.now.start + 2) }
-        ensures roomy { (Skips self.now → ⊥) → HasRoom cache.old.store (input.now.end - input.now.start + 2) → cache.new.store.clears ≡ cache.old.store.clears }
-        ensures roomy_all { HasRoom cache.old.store ((input.now.end - input.now.start + 1) * (input.now.end - input.now.start + 2)) → cache.new.store.clears ≡ cache.old.store.clears }
+        // A pass over n bytes makes at most n + 2 determinisations, and each is over another span that is tried: one, where no
+        // place is skipped or the search is anchored. Nothing is cleared where there is room for as many states.
+        ensures bounded { IsCostOfSearch Forward self.now input.now cache.old cache.new }
 
         // Until the next clear nothing is lost, and what it used is known. With all that known it takes no memory, and changes
         // nothing but the progress; with a span that is done, nothing at all.
@@ -97,12 +95,11 @@ impl DFA {
         // It does answer where no quit byte is in reach, the mode is supported, no clear limit is set, and memory is found.
         ensures answers { NoQuitInReach self.now input.now → supports self.now input.now.anchored ≡ true → self.now.minimum_clear_count ≡ None → IfErr result (λ e. e ≡ SearchError.OutOfMemory) }
 
-        // Over a span of m bytes it makes at most m + 2 determinisations, where no place is skipped, and clears nothing where
-        // there is room for as many states.
-        ensures bounded { (Skips self.now → ⊥) → cache.new.count ≤ cache.old.count + (input.now.end - input.now.start + 2) }
-        ensures bounded_all { cache.new.count ≤ cache.old.count + (input.now.end - input.now.start + 1) * (input.now.end - input.now.start + 2) }
-        ensures roomy { (Skips self.now → ⊥) → HasRoom cache.old.store (input.now.end - input.now.start + 2) → cache.new.store.clears ≡ cache.old.store.clears }
-        ensures roomy_all { HasRoom cache.old.store ((input.now.end - input.now.start + 1) * (input.now.end - input.now.start + 2)) → cache.new.store.clears ≡ cache.old.store.clears }
+        // A pass over n bytes makes at most n + 2 determinisations, and each is over another span that is tried: one, where no
+        // place is skipped or the search is anchored, and up to an answer's own span. Nothing is cleared where there is room for
+        // as many states.
+        ensures bounded { IsCostOfSearch Forward self.now input.now cache.old cache.new }
+        ensures based { IfOk result (λ o. IfSome o (λ p. IsCostUpto self.now input.now p.1 cache.old cache.new)) }
 
         // Until the next clear nothing is lost, and what it used is known. With all that known it takes no memory, and changes
         // nothing but the progress; with a span that is done, nothing at all.
@@ -127,12 +124,12 @@ impl DFA {
         ensures of { IsCacheOf cache.new self.now }
         ensures found { IfOk result (λ o. IsFound Forward self.now input.now (option_map (λ p. with_base p.0 p.1) o)) }
         ensures errors { IfErr result (IsRefused Forward self.now cache.new.store input.now) }
-        ensures bounded { (Skips self.now → ⊥) → cache.new.count ≤ cache.old.count + (input.now.end - input.now.start + 2) }
+        ensures bounded { IsCostOfSearch Forward self.now input.now cache.old cache.new }
+        ensures based { IfOk result (λ o. IfSome o (λ p. IsCostUpto self.now input.now p.1 cache.old cache.new)) }
         ensures unsupported { input.now.start ≤ input.now.end → quit_behind self.now (byte_before input.now.haystack input.now.start) ≡ None → supports self.now input.now.anchored ≡ false → result ≡ Err (SearchError.Match (UnsupportedMode input.now.anchored)) }
         ensures grown { IsGrown cache.old cache.new }
         ensures known { Knows Forward self.now cache.old.store input.now → (cache.new.count ≡ cache.old.count) × IfErr result IsOfInput }
         ensures learned { ClearedNothing cache.old.store cache.new.store → OnOk result (Knows Forward self.now cache.new.store input.now) }
-        ensures bounded_all { cache.new.count ≤ cache.old.count + (input.now.end - input.now.start + 1) * (input.now.end - input.now.start + 2) }
         ensures done { input.now.end < input.now.start → (result ≡ Ok None) × (cache.new ≡ cache.old) }
     {
         let mut later = with_span(input, input.start(), input.end());

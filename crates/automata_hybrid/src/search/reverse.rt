@@ -1,4 +1,4 @@
-ghost use Rattle.std.specs.Prelude.{ℕ, ◌≡◌, ◌+◌, ◌-◌, ◌*◌, ◌^◌, ◌<◌, ◌≤◌, IfOk, IfErr, IfSome, IsBitSet, IsTrue, OnOk, Option, None, Some, true, false, length, Err, Ok};
+ghost use Rattle.std.specs.Prelude.{ℕ, ◌≡◌, ◌+◌, ◌-◌, ◌^◌, ◌<◌, ◌≤◌, IfOk, IfErr, IfSome, IsBitSet, IsTrue, OnOk, Option, None, Some, true, false, length, Err, Ok};
 ghost use Rattle.automata_base.specs.Answers.{IsAnswer};
 ghost use Rattle.automata_base.specs.Classes.{class_in, is_quit};
 ghost use Rattle.automata_base.specs.declared.util.search.MatchKind.TheVariants.{All as KindAll};
@@ -14,11 +14,12 @@ ghost use Rattle.automata_base.specs.Tapes.{Backward};
 ghost use Rattle.automata_base.specs.declared.util.search.MatchErrorKind.TheVariants.{UnsupportedAnchored as UnsupportedMode};
 ghost use Rattle.automata_hybrid.specs.Bounds.{IsKnownTransition};
 ghost use Rattle.automata_hybrid.specs.Caches.{IsCacheOf};
-ghost use Rattle.automata_hybrid.specs.Growing.{IsGrown, IsStill, ClearedNothing, HasRoom};
+ghost use Rattle.automata_hybrid.specs.Costs.{IsCostOfSearch};
+ghost use Rattle.automata_hybrid.specs.Growing.{IsGrown, IsStill, ClearedNothing};
 ghost use Rattle.automata_hybrid.specs.Ids.{fixed_from, offset_limit};
 ghost use Rattle.automata_hybrid.specs.Knowing.{IsOfInput, KnowsItsStart, KnowsPass, Knows};
 ghost use Rattle.automata_hybrid.specs.Passing.{HasLearned, HasLearnedAll, IsAt, IsFollowed, IsLed, found_over};
-ghost use Rattle.automata_hybrid.specs.Searches.{IsFound, IsPassRefusal, IsRefused, IsStepRefusal, MeetsNoQuit, NoQuitInReach, Skips, WithoutBase, state_in, tape_in};
+ghost use Rattle.automata_hybrid.specs.Searches.{IsFound, IsPassRefusal, IsRefused, IsStepRefusal, MeetsNoQuit, NoQuitInReach, WithoutBase, state_in, tape_in};
 ghost use Rattle.automata_hybrid.specs.Slots.{supports};
 ghost use Rattle.automata_hybrid.specs.Starting.{MayStart, quit_behind};
 ghost use Rattle.automata_hybrid.specs.Table.{IsValid, Leads, Names};
@@ -29,7 +30,7 @@ use crate::dfa::cache::Cache;
 use crate::id::LazyStateID;
 use crate::search::{FEW, PATIENCE, Place, Stop, is_anchored, quit, with_span};
 use automata_base::laws::told_is_right;
-use automata_base::util::search::{Anchored, HalfMatch, Input};
+use automata_base::util::search::{HalfMatch, Input};
 use automata_config::error::SearchError;
 
 impl DFA {
@@ -62,12 +63,9 @@ impl DFA {
         // It does answer where no quit byte is in reach, the mode is supported, no clear limit is set, and memory is found.
         ensures answers { NoQuitInReach self.now input.now → supports self.now input.now.anchored ≡ true → self.now.minimum_clear_count ≡ None → IfErr result (λ e. e ≡ SearchError.OutOfMemory) }
 
-        // Over a span of m bytes it makes at most m + 2 determinisations, where no place is skipped or the search is
-        // anchored, and clears nothing where there is room for as many states.
-        ensures bounded { (Skips self.now × (input.now.anchored ≡ Anchored.No) → ⊥) → cache.new.count ≤ cache.old.count + (input.now.end - input.now.start + 2) }
-        ensures bounded_all { cache.new.count ≤ cache.old.count + (input.now.end - input.now.start + 1) * (input.now.end - input.now.start + 2) }
-        ensures roomy { (Skips self.now × (input.now.anchored ≡ Anchored.No) → ⊥) → HasRoom cache.old.store (input.now.end - input.now.start + 2) → cache.new.store.clears ≡ cache.old.store.clears }
-        ensures roomy_all { HasRoom cache.old.store ((input.now.end - input.now.start + 1) * (input.now.end - input.now.start + 2)) → cache.new.store.clears ≡ cache.old.store.clears }
+        // A pass over n bytes makes at most n + 2 determinisations, and each is over another span that is tried: one, where no
+        // place is skipped or the search is anchored. Nothing is cleared where there is room for as many states.
+        ensures bounded { IsCostOfSearch Backward self.now input.now cache.old cache.new }
 
         // Until the next clear nothing is lost, and what it used is known. With all that known it takes no memory, and changes
         // nothing but the progress; with a span that is done, nothing at all.
@@ -92,12 +90,11 @@ impl DFA {
         ensures of { IsCacheOf cache.new self.now }
         ensures found { IfOk result (WithoutBase (IsFound Backward self.now input.now)) }
         ensures errors { IfErr result (IsRefused Backward self.now cache.new.store input.now) }
-        ensures bounded { (Skips self.now × (input.now.anchored ≡ Anchored.No) → ⊥) → cache.new.count ≤ cache.old.count + (input.now.end - input.now.start + 2) }
+        ensures bounded { IsCostOfSearch Backward self.now input.now cache.old cache.new }
         ensures unsupported { input.now.start ≤ input.now.end → quit_behind self.now (nth input.now.haystack input.now.end) ≡ None → supports self.now input.now.anchored ≡ false → result ≡ Err (SearchError.Match (UnsupportedMode input.now.anchored)) }
         ensures grown { IsGrown cache.old cache.new }
         ensures known { Knows Backward self.now cache.old.store input.now → (cache.new.count ≡ cache.old.count) × IfErr result IsOfInput }
         ensures learned { ClearedNothing cache.old.store cache.new.store → OnOk result (Knows Backward self.now cache.new.store input.now) }
-        ensures bounded_all { cache.new.count ≤ cache.old.count + (input.now.end - input.now.start + 1) * (input.now.end - input.now.start + 2) }
         ensures done { input.now.end < input.now.start → (result ≡ Ok None) × (cache.new ≡ cache.old) }
     {
         let mut later = with_span(input, input.start(), input.end());

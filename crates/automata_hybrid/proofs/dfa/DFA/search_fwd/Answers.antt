@@ -1,4 +1,4 @@
-use Rattle.std.proofs.Common.{ℕ, suc, ◌≡◌, ◌∙◌, ◌+◌, ◌*◌, ◌-◌, ◌≤◌, Some, true, false, refl, sym, ap, subst, arith}
+use Rattle.std.proofs.Common.{ℕ, suc, ◌≡◌, ◌∙◌, ◌+◌, ◌-◌, ◌≤◌, Some, true, false, refl, sym, ap, subst, arith}
 use Rattle.std.proofs.lemmas.Grind.{common_steps}
 use Rattle.automata_base.specs.Answers.{later, Tries}
 use Rattle.automata_base.specs.Input.{Input}
@@ -8,10 +8,12 @@ use Rattle.automata_hybrid.specs.Searches.{Finds, IsFound, Skips, with_base}
 use Rattle.automata_hybrid.specs.Slots.{supports}
 use Rattle.automata_hybrid.specs.Growing.{ClearedNothing}
 use Rattle.automata_hybrid.specs.Knowing.{Knows, KnowsPass}
+use Rattle.automata_hybrid.specs.Costs.{IsCostOfPasses, passes_most}
+use Rattle.automata_hybrid.proofs.Costing.{cost_before, cost_more, most_more}
 use Rattle.automata_hybrid.proofs.Growing.{grown_trans, nothing_first, nothing_second}
 use Rattle.automata_hybrid.proofs.Knowing.{LearnedSpans, search_still, spans_all, spans_more, spans_still}
 use Rattle.automata_hybrid.proofs.Searching.{if_err, false_true}
-use Rattle.automata_hybrid.proofs.Skipping.{anchored_stops, none_stops, some_stops, steps_all, steps_more, finds_none, finds_some, finds_split, tries_on, refuses}
+use Rattle.automata_hybrid.proofs.Skipping.{anchored_stops, none_stops, some_stops, finds_none, finds_some, finds_split, tries_on, refuses}
 use Rattle.automata_hybrid.proofs.dfa.DFA.search_fwd.Goals as goal
 
 pub returns-in_err-half-clause-errors : goal.returns-in_err-half-clause-errors
@@ -71,7 +73,6 @@ loop-later-preserved c =
       of = c.in_ok-half.ensures.of;
       from = omega (arith, start, c.loop-later.invariant.from);
       same = set ∙ (ap (λ (i : Input). record i { start = c.loop-later.later.start + 1 }) c.loop-later.invariant.same ∙ ap (λ (n : ℕ). record c.args.input.now { start = n }) (sym start));
-      whole = λ n. absurd (n (c.if-not-skips_at.ensures.yes refl).0);
       first = λ u. absurd (false_true (sym u ∙ (ap (λ (i : Input). supports c.args.self.now i.anchored) (sym c.loop-later.invariant.same) ∙ c.in_ok-half.ensures.supported)));
       grown = grown_trans c.args.cache.now c.loop-later.cache c.pass_fwd.new.cache c.loop-later.invariant.grown c.in_ok-half.ensures.grown;
       known = λ knows. (
@@ -83,8 +84,8 @@ loop-later-preserved c =
           let second = nothing_second c.args.cache.now c.loop-later.cache c.pass_fwd.new.cache c.loop-later.invariant.grown c.in_ok-half.ensures.grown nothing in
           subst (LearnedSpans Forward c.args.self.now c.pass_fwd.new.cache.store c.args.input.now) next
           (spans_more Forward c.args.self.now c.pass_fwd.new.cache.store c.args.input.now c.loop-later.later k same (spans_still Forward c.args.self.now c.loop-later.cache.store c.pass_fwd.new.cache.store c.args.input.now k c.in_ok-half.ensures.grown.of (c.in_ok-half.ensures.grown.kept second) (c.loop-later.invariant.learned first)) (c.in_ok-half.ensures.learned second)));
-      bounded = subst (λ n. c.pass_fwd.new.cache.count ≤ c.args.cache.now.count + n * (c.args.input.now.end - c.args.input.now.start + 2)) next
-          (steps_more k (c.args.input.now.end - c.args.input.now.start) (c.loop-later.later.end - c.loop-later.later.start) c.args.cache.now.count c.loop-later.cache.count c.pass_fwd.new.cache.count c.loop-later.invariant.bounded c.in_ok-half.ensures.counted (omega (arith, end, place)));
+      bounded = subst (λ n. c.pass_fwd.new.cache.count ≤ c.args.cache.now.count + passes_most n (c.args.input.now.end - c.args.input.now.start)) next
+          (most_more k (c.args.input.now.end - c.args.input.now.start) (c.loop-later.later.end - c.loop-later.later.start) c.args.cache.now.count c.loop-later.cache.count c.pass_fwd.new.cache.count c.loop-later.invariant.bounded c.in_ok-half.ensures.counted (omega (arith, end, place)));
       done = λ e. absurd (omega (arith, e, start, c.loop-later.invariant.from));
       tries = subst (λ n. Tries (Finds Forward c.args.self.now) (Skips c.args.self.now) Forward c.args.input.now n) next (tries_on Forward c.args.self.now c.args.input.now c.loop-later.later k same c.loop-later.invariant.tries within c.in-Some.half (sym c.in-Some.is ∙ c.in_ok-half.ensures.found) c.in_ok-half.ensures.clean (c.if-not-skips_at.ensures.yes refl).0 (subst (λ n. is_split c.loop-later.later.haystack n ≡ true) c.offset.ensures (c.if-not-skips_at.ensures.yes refl).1) mode);
     }
@@ -106,30 +107,14 @@ returns-in_err-half-clause-known c = λ knows.
     (idle.0 ∙ c.loop-later.invariant.known knows, if_err c.from_residual.result _ _ c.from_residual.ensures.1 idle.1)
 
 pub returns-in_err-half-clause-bounded : goal.returns-in_err-half-clause-bounded
-returns-in_err-half-clause-bounded c = λ whole.
+returns-in_err-half-clause-bounded c =
     let k : ℕ = c.loop-later.later.start - c.args.input.now.start in
     let place : c.loop-later.later.start ≡ c.args.input.now.start + k = omega (arith, c.loop-later.invariant.from) in
-    let same : c.loop-later.later ≡ later Forward k c.args.input.now = c.loop-later.invariant.same ∙ ap (λ (s : ℕ). record c.args.input.now { start = s }) place in
     let end : c.loop-later.later.end ≡ c.args.input.now.end = ap (λ (i : Input). i.end) c.loop-later.invariant.same in
     let ahead : c.loop-later.later.start ≤ c.loop-later.later.end = grind (arith, common_steps, c.loop-later-test.ensures.done) in
     let within : c.args.input.now.start + k ≤ c.args.input.now.end = omega (arith, ahead, end, place) in
-    let shorter : c.loop-later.later.end - c.loop-later.later.start ≤ c.args.input.now.end - c.args.input.now.start = omega (arith, end, place) in
-    let units : c.loop-later.later.end - c.loop-later.later.start ≤ c.args.input.now.end - c.args.input.now.start = omega (arith, shorter) in
-    let most : k ≤ c.args.input.now.end - c.args.input.now.start = omega (arith, within) in
-    omega (arith, c.in_err-half.ensures.counted, (c.loop-later.invariant.whole whole).1, units)
-
-pub returns-in_err-half-clause-bounded_all : goal.returns-in_err-half-clause-bounded_all
-returns-in_err-half-clause-bounded_all c =
-    let k : ℕ = c.loop-later.later.start - c.args.input.now.start in
-    let place : c.loop-later.later.start ≡ c.args.input.now.start + k = omega (arith, c.loop-later.invariant.from) in
-    let same : c.loop-later.later ≡ later Forward k c.args.input.now = c.loop-later.invariant.same ∙ ap (λ (s : ℕ). record c.args.input.now { start = s }) place in
-    let end : c.loop-later.later.end ≡ c.args.input.now.end = ap (λ (i : Input). i.end) c.loop-later.invariant.same in
-    let ahead : c.loop-later.later.start ≤ c.loop-later.later.end = grind (arith, common_steps, c.loop-later-test.ensures.done) in
-    let within : c.args.input.now.start + k ≤ c.args.input.now.end = omega (arith, ahead, end, place) in
-    let shorter : c.loop-later.later.end - c.loop-later.later.start ≤ c.args.input.now.end - c.args.input.now.start = omega (arith, end, place) in
-    let units : c.loop-later.later.end - c.loop-later.later.start ≤ c.args.input.now.end - c.args.input.now.start = omega (arith, shorter) in
-    let most : k ≤ c.args.input.now.end - c.args.input.now.start = omega (arith, within) in
-    steps_all k (c.args.input.now.end - c.args.input.now.start) (c.loop-later.later.end - c.loop-later.later.start) c.args.cache.now.count c.loop-later.cache.count c.pass_fwd.new.cache.count c.loop-later.invariant.bounded c.in_err-half.ensures.counted units most
+    let units : c.loop-later.later.end - c.loop-later.later.start ≤ c.args.input.now.end - c.args.input.now.start - k = omega (arith, end, place) in
+    (suc k, cost_more Forward c.args.self.now c.args.input.now c.args.cache.now c.pass_fwd.new.cache c.loop-later.cache k (c.loop-later.later.end - c.loop-later.later.start) c.loop-later.invariant.tries within c.loop-later.invariant.grown c.loop-later.invariant.bounded c.in_err-half.ensures.grown c.in_err-half.ensures.counted units)
 
 pub returns-in_err-half-clause-done : goal.returns-in_err-half-clause-done
 returns-in_err-half-clause-done c = λ past.
@@ -159,30 +144,14 @@ returns-in_default-clause-known c = λ knows.
     (idle.0 ∙ c.loop-later.invariant.known knows, tt)
 
 pub returns-in_default-clause-bounded : goal.returns-in_default-clause-bounded
-returns-in_default-clause-bounded c = λ whole.
+returns-in_default-clause-bounded c =
     let k : ℕ = c.loop-later.later.start - c.args.input.now.start in
     let place : c.loop-later.later.start ≡ c.args.input.now.start + k = omega (arith, c.loop-later.invariant.from) in
-    let same : c.loop-later.later ≡ later Forward k c.args.input.now = c.loop-later.invariant.same ∙ ap (λ (s : ℕ). record c.args.input.now { start = s }) place in
     let end : c.loop-later.later.end ≡ c.args.input.now.end = ap (λ (i : Input). i.end) c.loop-later.invariant.same in
     let ahead : c.loop-later.later.start ≤ c.loop-later.later.end = grind (arith, common_steps, c.loop-later-test.ensures.done) in
     let within : c.args.input.now.start + k ≤ c.args.input.now.end = omega (arith, ahead, end, place) in
-    let shorter : c.loop-later.later.end - c.loop-later.later.start ≤ c.args.input.now.end - c.args.input.now.start = omega (arith, end, place) in
-    let units : c.loop-later.later.end - c.loop-later.later.start ≤ c.args.input.now.end - c.args.input.now.start = omega (arith, shorter) in
-    let most : k ≤ c.args.input.now.end - c.args.input.now.start = omega (arith, within) in
-    omega (arith, c.in_ok-half.ensures.counted, (c.loop-later.invariant.whole whole).1, units)
-
-pub returns-in_default-clause-bounded_all : goal.returns-in_default-clause-bounded_all
-returns-in_default-clause-bounded_all c =
-    let k : ℕ = c.loop-later.later.start - c.args.input.now.start in
-    let place : c.loop-later.later.start ≡ c.args.input.now.start + k = omega (arith, c.loop-later.invariant.from) in
-    let same : c.loop-later.later ≡ later Forward k c.args.input.now = c.loop-later.invariant.same ∙ ap (λ (s : ℕ). record c.args.input.now { start = s }) place in
-    let end : c.loop-later.later.end ≡ c.args.input.now.end = ap (λ (i : Input). i.end) c.loop-later.invariant.same in
-    let ahead : c.loop-later.later.start ≤ c.loop-later.later.end = grind (arith, common_steps, c.loop-later-test.ensures.done) in
-    let within : c.args.input.now.start + k ≤ c.args.input.now.end = omega (arith, ahead, end, place) in
-    let shorter : c.loop-later.later.end - c.loop-later.later.start ≤ c.args.input.now.end - c.args.input.now.start = omega (arith, end, place) in
-    let units : c.loop-later.later.end - c.loop-later.later.start ≤ c.args.input.now.end - c.args.input.now.start = omega (arith, shorter) in
-    let most : k ≤ c.args.input.now.end - c.args.input.now.start = omega (arith, within) in
-    steps_all k (c.args.input.now.end - c.args.input.now.start) (c.loop-later.later.end - c.loop-later.later.start) c.args.cache.now.count c.loop-later.cache.count c.pass_fwd.new.cache.count c.loop-later.invariant.bounded c.in_ok-half.ensures.counted units most
+    let units : c.loop-later.later.end - c.loop-later.later.start ≤ c.args.input.now.end - c.args.input.now.start - k = omega (arith, end, place) in
+    (suc k, cost_more Forward c.args.self.now c.args.input.now c.args.cache.now c.pass_fwd.new.cache c.loop-later.cache k (c.loop-later.later.end - c.loop-later.later.start) c.loop-later.invariant.tries within c.loop-later.invariant.grown c.loop-later.invariant.bounded c.in_ok-half.ensures.grown c.in_ok-half.ensures.counted units)
 
 pub returns-in_default-clause-learned : goal.returns-in_default-clause-learned
 returns-in_default-clause-learned c = λ nothing.
@@ -226,30 +195,26 @@ returns-then-not-skips_at-clause-known c = λ knows.
     (idle.0 ∙ c.loop-later.invariant.known knows, tt)
 
 pub returns-then-not-skips_at-clause-bounded : goal.returns-then-not-skips_at-clause-bounded
-returns-then-not-skips_at-clause-bounded c = λ whole.
+returns-then-not-skips_at-clause-bounded c =
     let k : ℕ = c.loop-later.later.start - c.args.input.now.start in
     let place : c.loop-later.later.start ≡ c.args.input.now.start + k = omega (arith, c.loop-later.invariant.from) in
-    let same : c.loop-later.later ≡ later Forward k c.args.input.now = c.loop-later.invariant.same ∙ ap (λ (s : ℕ). record c.args.input.now { start = s }) place in
     let end : c.loop-later.later.end ≡ c.args.input.now.end = ap (λ (i : Input). i.end) c.loop-later.invariant.same in
     let ahead : c.loop-later.later.start ≤ c.loop-later.later.end = grind (arith, common_steps, c.loop-later-test.ensures.done) in
     let within : c.args.input.now.start + k ≤ c.args.input.now.end = omega (arith, ahead, end, place) in
-    let shorter : c.loop-later.later.end - c.loop-later.later.start ≤ c.args.input.now.end - c.args.input.now.start = omega (arith, end, place) in
-    let units : c.loop-later.later.end - c.loop-later.later.start ≤ c.args.input.now.end - c.args.input.now.start = omega (arith, shorter) in
-    let most : k ≤ c.args.input.now.end - c.args.input.now.start = omega (arith, within) in
-    omega (arith, c.in_ok-half.ensures.counted, (c.loop-later.invariant.whole whole).1, units)
+    let units : c.loop-later.later.end - c.loop-later.later.start ≤ c.args.input.now.end - c.args.input.now.start - k = omega (arith, end, place) in
+    (suc k, cost_more Forward c.args.self.now c.args.input.now c.args.cache.now c.pass_fwd.new.cache c.loop-later.cache k (c.loop-later.later.end - c.loop-later.later.start) c.loop-later.invariant.tries within c.loop-later.invariant.grown c.loop-later.invariant.bounded c.in_ok-half.ensures.grown c.in_ok-half.ensures.counted units)
 
-pub returns-then-not-skips_at-clause-bounded_all : goal.returns-then-not-skips_at-clause-bounded_all
-returns-then-not-skips_at-clause-bounded_all c =
+pub returns-then-not-skips_at-clause-based : goal.returns-then-not-skips_at-clause-based
+returns-then-not-skips_at-clause-based c =
     let k : ℕ = c.loop-later.later.start - c.args.input.now.start in
     let place : c.loop-later.later.start ≡ c.args.input.now.start + k = omega (arith, c.loop-later.invariant.from) in
-    let same : c.loop-later.later ≡ later Forward k c.args.input.now = c.loop-later.invariant.same ∙ ap (λ (s : ℕ). record c.args.input.now { start = s }) place in
     let end : c.loop-later.later.end ≡ c.args.input.now.end = ap (λ (i : Input). i.end) c.loop-later.invariant.same in
     let ahead : c.loop-later.later.start ≤ c.loop-later.later.end = grind (arith, common_steps, c.loop-later-test.ensures.done) in
     let within : c.args.input.now.start + k ≤ c.args.input.now.end = omega (arith, ahead, end, place) in
-    let shorter : c.loop-later.later.end - c.loop-later.later.start ≤ c.args.input.now.end - c.args.input.now.start = omega (arith, end, place) in
-    let units : c.loop-later.later.end - c.loop-later.later.start ≤ c.args.input.now.end - c.args.input.now.start = omega (arith, shorter) in
-    let most : k ≤ c.args.input.now.end - c.args.input.now.start = omega (arith, within) in
-    steps_all k (c.args.input.now.end - c.args.input.now.start) (c.loop-later.later.end - c.loop-later.later.start) c.args.cache.now.count c.loop-later.cache.count c.pass_fwd.new.cache.count c.loop-later.invariant.bounded c.in_ok-half.ensures.counted units most
+    let units : c.loop-later.later.end - c.loop-later.later.start ≤ c.args.input.now.end - c.args.input.now.start - k = omega (arith, end, place) in
+    let base : suc k ≡ c.start-then-not-skips_at.result - c.args.input.now.start + 1 = omega (arith, c.start-then-not-skips_at.ensures.start) in
+    subst (λ n. IsCostOfPasses Forward c.args.self.now c.args.input.now n c.args.cache.now c.pass_fwd.new.cache) base
+    (cost_more Forward c.args.self.now c.args.input.now c.args.cache.now c.pass_fwd.new.cache c.loop-later.cache k (c.loop-later.later.end - c.loop-later.later.start) c.loop-later.invariant.tries within c.loop-later.invariant.grown c.loop-later.invariant.bounded c.in_ok-half.ensures.grown c.in_ok-half.ensures.counted units)
 
 pub returns-then-not-skips_at-clause-learned : goal.returns-then-not-skips_at-clause-learned
 returns-then-not-skips_at-clause-learned c = λ nothing.
@@ -293,30 +258,14 @@ returns-then-is_anchored-clause-known c = λ knows.
     (idle.0 ∙ c.loop-later.invariant.known knows, tt)
 
 pub returns-then-is_anchored-clause-bounded : goal.returns-then-is_anchored-clause-bounded
-returns-then-is_anchored-clause-bounded c = λ whole.
+returns-then-is_anchored-clause-bounded c =
     let k : ℕ = c.loop-later.later.start - c.args.input.now.start in
     let place : c.loop-later.later.start ≡ c.args.input.now.start + k = omega (arith, c.loop-later.invariant.from) in
-    let same : c.loop-later.later ≡ later Forward k c.args.input.now = c.loop-later.invariant.same ∙ ap (λ (s : ℕ). record c.args.input.now { start = s }) place in
     let end : c.loop-later.later.end ≡ c.args.input.now.end = ap (λ (i : Input). i.end) c.loop-later.invariant.same in
     let ahead : c.loop-later.later.start ≤ c.loop-later.later.end = grind (arith, common_steps, c.loop-later-test.ensures.done) in
     let within : c.args.input.now.start + k ≤ c.args.input.now.end = omega (arith, ahead, end, place) in
-    let shorter : c.loop-later.later.end - c.loop-later.later.start ≤ c.args.input.now.end - c.args.input.now.start = omega (arith, end, place) in
-    let units : c.loop-later.later.end - c.loop-later.later.start ≤ c.args.input.now.end - c.args.input.now.start = omega (arith, shorter) in
-    let most : k ≤ c.args.input.now.end - c.args.input.now.start = omega (arith, within) in
-    omega (arith, c.in_ok-half.ensures.counted, (c.loop-later.invariant.whole whole).1, units)
-
-pub returns-then-is_anchored-clause-bounded_all : goal.returns-then-is_anchored-clause-bounded_all
-returns-then-is_anchored-clause-bounded_all c =
-    let k : ℕ = c.loop-later.later.start - c.args.input.now.start in
-    let place : c.loop-later.later.start ≡ c.args.input.now.start + k = omega (arith, c.loop-later.invariant.from) in
-    let same : c.loop-later.later ≡ later Forward k c.args.input.now = c.loop-later.invariant.same ∙ ap (λ (s : ℕ). record c.args.input.now { start = s }) place in
-    let end : c.loop-later.later.end ≡ c.args.input.now.end = ap (λ (i : Input). i.end) c.loop-later.invariant.same in
-    let ahead : c.loop-later.later.start ≤ c.loop-later.later.end = grind (arith, common_steps, c.loop-later-test.ensures.done) in
-    let within : c.args.input.now.start + k ≤ c.args.input.now.end = omega (arith, ahead, end, place) in
-    let shorter : c.loop-later.later.end - c.loop-later.later.start ≤ c.args.input.now.end - c.args.input.now.start = omega (arith, end, place) in
-    let units : c.loop-later.later.end - c.loop-later.later.start ≤ c.args.input.now.end - c.args.input.now.start = omega (arith, shorter) in
-    let most : k ≤ c.args.input.now.end - c.args.input.now.start = omega (arith, within) in
-    steps_all k (c.args.input.now.end - c.args.input.now.start) (c.loop-later.later.end - c.loop-later.later.start) c.args.cache.now.count c.loop-later.cache.count c.pass_fwd.new.cache.count c.loop-later.invariant.bounded c.in_ok-half.ensures.counted units most
+    let units : c.loop-later.later.end - c.loop-later.later.start ≤ c.args.input.now.end - c.args.input.now.start - k = omega (arith, end, place) in
+    (suc k, cost_more Forward c.args.self.now c.args.input.now c.args.cache.now c.pass_fwd.new.cache c.loop-later.cache k (c.loop-later.later.end - c.loop-later.later.start) c.loop-later.invariant.tries within c.loop-later.invariant.grown c.loop-later.invariant.bounded c.in_ok-half.ensures.grown c.in_ok-half.ensures.counted units)
 
 pub returns-then-is_anchored-clause-learned : goal.returns-then-is_anchored-clause-learned
 returns-then-is_anchored-clause-learned c = λ nothing.
@@ -342,3 +291,8 @@ returns-then-is_anchored-clause-done c = λ past.
     let within : c.args.input.now.start + k ≤ c.args.input.now.end = omega (arith, ahead, end, place) in
     let shorter : c.loop-later.later.end - c.loop-later.later.start ≤ c.args.input.now.end - c.args.input.now.start = omega (arith, end, place) in
     absurd (omega (arith, past, within))
+
+pub returns-clause-bounded : goal.returns-clause-bounded
+returns-clause-bounded c =
+    let k : ℕ = c.loop-later.later.start - c.args.input.now.start in
+    (k, cost_before Forward c.args.self.now c.args.input.now c.args.cache.now c.loop-later.cache k c.loop-later.invariant.tries c.loop-later.invariant.grown c.loop-later.invariant.bounded)

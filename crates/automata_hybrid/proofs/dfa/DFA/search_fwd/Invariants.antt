@@ -1,7 +1,8 @@
-use Rattle.std.proofs.Common.{false, ◌≡◌, ◌≤◌, ◌+◌, ◌*◌, ◌-◌}
+use Rattle.std.proofs.Common.{false, ◌≡◌, ◌≤◌, ◌+◌, ◌-◌}
 use Rattle.automata_base.specs.Answers.{Tries}
 use Rattle.automata_base.specs.Tapes.{Forward}
 use Rattle.automata_hybrid.specs.Caches.{IsCacheOf}
+use Rattle.automata_hybrid.specs.Costs.{passes_most}
 use Rattle.automata_hybrid.specs.Growing.{IsGrown, ClearedNothing}
 use Rattle.automata_hybrid.specs.Knowing.{Knows}
 use Rattle.automata_hybrid.specs.Searches.{Finds, Skips}
@@ -15,11 +16,10 @@ invariant-loop-later l = record {
   from : l.input.start ≤ l.later.start;
   same : l.later ≡ record l.input { start = l.later.start };
   first : supports l.self l.input.anchored ≡ false → l.later.start ≡ l.input.start;
-  whole : (Skips l.self → ⊥) → (l.later.start ≡ l.input.start) × (l.cache.count ≡ l.fn.cache.count);
   grown : IsGrown l.fn.cache l.cache;
   known : Knows Forward l.self l.fn.cache.store l.input → l.cache.count ≡ l.fn.cache.count;
   learned : ClearedNothing l.fn.cache.store l.cache.store → LearnedSpans Forward l.self l.cache.store l.input (l.later.start - l.input.start);
-  bounded : l.cache.count ≤ l.fn.cache.count + (l.later.start - l.input.start) * (l.input.end - l.input.start + 2);
+  bounded : l.cache.count ≤ l.fn.cache.count + passes_most (l.later.start - l.input.start) (l.input.end - l.input.start);
   done : l.later.start ≡ l.input.start → l.cache ≡ l.fn.cache;
   tries : Tries (Finds Forward l.self) (Skips l.self) Forward l.input (l.later.start - l.input.start);
 }

@@ -1,4 +1,4 @@
-use Rattle.std.proofs.Common.{ℕ, suc, ◌≡◌, ◌∙◌, ◌+◌, ◌*◌, ◌-◌, ◌≤◌, Some, None, true, false, refl, sym, ap, subst, arith}
+use Rattle.std.proofs.Common.{ℕ, suc, ◌≡◌, ◌∙◌, ◌+◌, ◌-◌, ◌≤◌, Some, None, true, false, refl, sym, ap, subst, arith}
 use Rattle.std.proofs.lemmas.Grind.{common_steps}
 use Rattle.automata_base.specs.Answers.{later, Tries}
 use Rattle.automata_base.specs.Input.{Input}
@@ -9,10 +9,12 @@ use Rattle.automata_hybrid.proofs.Backward.{ended, ended_start, ended_within}
 use Rattle.automata_hybrid.specs.Slots.{supports}
 use Rattle.automata_hybrid.specs.Growing.{ClearedNothing}
 use Rattle.automata_hybrid.specs.Knowing.{Knows, KnowsPass}
+use Rattle.automata_hybrid.specs.Costs.{passes_most}
+use Rattle.automata_hybrid.proofs.Costing.{cost_before, cost_more, most_more}
 use Rattle.automata_hybrid.proofs.Growing.{grown_trans, nothing_first, nothing_second}
 use Rattle.automata_hybrid.proofs.Knowing.{LearnedSpans, search_still, spans_all, spans_more, spans_still}
 use Rattle.automata_hybrid.proofs.Searching.{false_true, if_err}
-use Rattle.automata_hybrid.proofs.Skipping.{anchored_stops, none_stops, some_stops, steps_all, steps_more, finds_none, finds_some, finds_split, finds_no_more, tries_on, refuses}
+use Rattle.automata_hybrid.proofs.Skipping.{anchored_stops, none_stops, some_stops, finds_none, finds_some, finds_split, finds_no_more, tries_on, refuses}
 use Rattle.automata_hybrid.proofs.dfa.DFA.search_rev.Goals as goal
 
 pub returns-in_err-half-clause-errors : goal.returns-in_err-half-clause-errors
@@ -81,12 +83,10 @@ loop-later-preserved c =
     let some : 1 ≤ c.loop-later.later.end = omega (arith, c.end-in-loop-later.ensures.end, c.if-end-eq0.false) in
     let next : suc k ≡ c.args.input.now.end - c.set_end.new.self.end = omega (arith, c.loop-later.invariant.to, end, some) in
     let begin : c.loop-later.later.start ≡ c.args.input.now.start = ap (λ (i : Input). i.start) c.loop-later.invariant.same in
-    let shorter : c.loop-later.later.end - c.loop-later.later.start ≤ c.args.input.now.end - c.args.input.now.start = omega (arith, begin, c.loop-later.invariant.to) in
     record {
       of = c.in_ok-half.ensures.of;
       to = omega (arith, end, c.loop-later.invariant.to);
       same = set ∙ (ap (λ (i : Input). record i { end = c.loop-later.later.end - 1 }) c.loop-later.invariant.same ∙ ap (λ (n : ℕ). record c.args.input.now { end = n }) (sym end));
-      whole = λ n. absurd (n ((c.if-not-skips_at.ensures.yes refl).0, mode));
       first = λ u. absurd (false_true (sym u ∙ (ap (λ (i : Input). supports c.args.self.now i.anchored) (sym c.loop-later.invariant.same) ∙ c.in_ok-half.ensures.supported)));
       grown = grown_trans c.args.cache.now c.loop-later.cache c.pass_rev.new.cache c.loop-later.invariant.grown c.in_ok-half.ensures.grown;
       known = λ knows. (
@@ -98,8 +98,8 @@ loop-later-preserved c =
           let second = nothing_second c.args.cache.now c.loop-later.cache c.pass_rev.new.cache c.loop-later.invariant.grown c.in_ok-half.ensures.grown nothing in
           subst (LearnedSpans Backward c.args.self.now c.pass_rev.new.cache.store c.args.input.now) next
           (spans_more Backward c.args.self.now c.pass_rev.new.cache.store c.args.input.now c.loop-later.later k same (spans_still Backward c.args.self.now c.loop-later.cache.store c.pass_rev.new.cache.store c.args.input.now k c.in_ok-half.ensures.grown.of (c.in_ok-half.ensures.grown.kept second) (c.loop-later.invariant.learned first)) (c.in_ok-half.ensures.learned second)));
-      bounded = subst (λ n. c.pass_rev.new.cache.count ≤ c.args.cache.now.count + n * (c.args.input.now.end - c.args.input.now.start + 2)) next
-          (steps_more k (c.args.input.now.end - c.args.input.now.start) (c.loop-later.later.end - c.loop-later.later.start) c.args.cache.now.count c.loop-later.cache.count c.pass_rev.new.cache.count c.loop-later.invariant.bounded c.in_ok-half.ensures.counted shorter);
+      bounded = subst (λ n. c.pass_rev.new.cache.count ≤ c.args.cache.now.count + passes_most n (c.args.input.now.end - c.args.input.now.start)) next
+          (most_more k (c.args.input.now.end - c.args.input.now.start) (c.loop-later.later.end - c.loop-later.later.start) c.args.cache.now.count c.loop-later.cache.count c.pass_rev.new.cache.count c.loop-later.invariant.bounded c.in_ok-half.ensures.counted (omega (arith, begin, c.loop-later.invariant.to)));
       done = λ e. absurd (omega (arith, e, end, some, c.loop-later.invariant.to));
       tries = subst (λ n. Tries (Finds Backward c.args.self.now) (Skips c.args.self.now) Backward c.args.input.now n) next
           (tries_on Backward c.args.self.now c.args.input.now c.loop-later.later k same c.loop-later.invariant.tries within c.in-Some.half (sym c.in-Some.is ∙ c.in_ok-half.ensures.found) c.in_ok-half.ensures.clean (c.if-not-skips_at.ensures.yes refl).0 (subst (λ n. is_split c.loop-later.later.haystack n ≡ true) c.offset.ensures (c.if-not-skips_at.ensures.yes refl).1) mode);
@@ -121,28 +121,13 @@ returns-in_err-half-clause-known c = λ knows.
     (idle.0 ∙ c.loop-later.invariant.known knows, if_err c.from_residual.result _ _ c.from_residual.ensures.1 idle.1)
 
 pub returns-in_err-half-clause-bounded : goal.returns-in_err-half-clause-bounded
-returns-in_err-half-clause-bounded c = λ whole.
+returns-in_err-half-clause-bounded c =
     let k : ℕ = c.args.input.now.end - c.loop-later.later.end in
     let ahead : c.loop-later.later.start ≤ c.loop-later.later.end = grind (arith, common_steps, c.loop-later-test.ensures.done) in
-    let same : c.loop-later.later ≡ later Backward k c.args.input.now = ended c.args.input.now c.loop-later.later c.loop-later.invariant.same c.loop-later.invariant.to ahead in
     let within : c.args.input.now.start + k ≤ c.args.input.now.end = ended_within c.args.input.now c.loop-later.later c.loop-later.invariant.same c.loop-later.invariant.to ahead in
     let begin : c.loop-later.later.start ≡ c.args.input.now.start = ap (λ (i : Input). i.start) c.loop-later.invariant.same in
-    let shorter : c.loop-later.later.end - c.loop-later.later.start ≤ c.args.input.now.end - c.args.input.now.start = omega (arith, begin, c.loop-later.invariant.to) in
-    let units : c.loop-later.later.end - c.loop-later.later.start ≤ c.args.input.now.end - c.args.input.now.start = omega (arith, shorter) in
-    let most : k ≤ c.args.input.now.end - c.args.input.now.start = omega (arith, within) in
-    omega (arith, c.in_err-half.ensures.counted, (c.loop-later.invariant.whole whole).1, units)
-
-pub returns-in_err-half-clause-bounded_all : goal.returns-in_err-half-clause-bounded_all
-returns-in_err-half-clause-bounded_all c =
-    let k : ℕ = c.args.input.now.end - c.loop-later.later.end in
-    let ahead : c.loop-later.later.start ≤ c.loop-later.later.end = grind (arith, common_steps, c.loop-later-test.ensures.done) in
-    let same : c.loop-later.later ≡ later Backward k c.args.input.now = ended c.args.input.now c.loop-later.later c.loop-later.invariant.same c.loop-later.invariant.to ahead in
-    let within : c.args.input.now.start + k ≤ c.args.input.now.end = ended_within c.args.input.now c.loop-later.later c.loop-later.invariant.same c.loop-later.invariant.to ahead in
-    let begin : c.loop-later.later.start ≡ c.args.input.now.start = ap (λ (i : Input). i.start) c.loop-later.invariant.same in
-    let shorter : c.loop-later.later.end - c.loop-later.later.start ≤ c.args.input.now.end - c.args.input.now.start = omega (arith, begin, c.loop-later.invariant.to) in
-    let units : c.loop-later.later.end - c.loop-later.later.start ≤ c.args.input.now.end - c.args.input.now.start = omega (arith, shorter) in
-    let most : k ≤ c.args.input.now.end - c.args.input.now.start = omega (arith, within) in
-    steps_all k (c.args.input.now.end - c.args.input.now.start) (c.loop-later.later.end - c.loop-later.later.start) c.args.cache.now.count c.loop-later.cache.count c.pass_rev.new.cache.count c.loop-later.invariant.bounded c.in_err-half.ensures.counted units most
+    let units : c.loop-later.later.end - c.loop-later.later.start ≤ c.args.input.now.end - c.args.input.now.start - k = omega (arith, begin, c.loop-later.invariant.to) in
+    (suc k, cost_more Backward c.args.self.now c.args.input.now c.args.cache.now c.pass_rev.new.cache c.loop-later.cache k (c.loop-later.later.end - c.loop-later.later.start) c.loop-later.invariant.tries within c.loop-later.invariant.grown c.loop-later.invariant.bounded c.in_err-half.ensures.grown c.in_err-half.ensures.counted units)
 
 pub returns-in_err-half-clause-done : goal.returns-in_err-half-clause-done
 returns-in_err-half-clause-done c = λ past.
@@ -170,28 +155,13 @@ returns-in_default-clause-known c = λ knows.
     (idle.0 ∙ c.loop-later.invariant.known knows, tt)
 
 pub returns-in_default-clause-bounded : goal.returns-in_default-clause-bounded
-returns-in_default-clause-bounded c = λ whole.
+returns-in_default-clause-bounded c =
     let k : ℕ = c.args.input.now.end - c.loop-later.later.end in
     let ahead : c.loop-later.later.start ≤ c.loop-later.later.end = grind (arith, common_steps, c.loop-later-test.ensures.done) in
-    let same : c.loop-later.later ≡ later Backward k c.args.input.now = ended c.args.input.now c.loop-later.later c.loop-later.invariant.same c.loop-later.invariant.to ahead in
     let within : c.args.input.now.start + k ≤ c.args.input.now.end = ended_within c.args.input.now c.loop-later.later c.loop-later.invariant.same c.loop-later.invariant.to ahead in
     let begin : c.loop-later.later.start ≡ c.args.input.now.start = ap (λ (i : Input). i.start) c.loop-later.invariant.same in
-    let shorter : c.loop-later.later.end - c.loop-later.later.start ≤ c.args.input.now.end - c.args.input.now.start = omega (arith, begin, c.loop-later.invariant.to) in
-    let units : c.loop-later.later.end - c.loop-later.later.start ≤ c.args.input.now.end - c.args.input.now.start = omega (arith, shorter) in
-    let most : k ≤ c.args.input.now.end - c.args.input.now.start = omega (arith, within) in
-    omega (arith, c.in_ok-half.ensures.counted, (c.loop-later.invariant.whole whole).1, units)
-
-pub returns-in_default-clause-bounded_all : goal.returns-in_default-clause-bounded_all
-returns-in_default-clause-bounded_all c =
-    let k : ℕ = c.args.input.now.end - c.loop-later.later.end in
-    let ahead : c.loop-later.later.start ≤ c.loop-later.later.end = grind (arith, common_steps, c.loop-later-test.ensures.done) in
-    let same : c.loop-later.later ≡ later Backward k c.args.input.now = ended c.args.input.now c.loop-later.later c.loop-later.invariant.same c.loop-later.invariant.to ahead in
-    let within : c.args.input.now.start + k ≤ c.args.input.now.end = ended_within c.args.input.now c.loop-later.later c.loop-later.invariant.same c.loop-later.invariant.to ahead in
-    let begin : c.loop-later.later.start ≡ c.args.input.now.start = ap (λ (i : Input). i.start) c.loop-later.invariant.same in
-    let shorter : c.loop-later.later.end - c.loop-later.later.start ≤ c.args.input.now.end - c.args.input.now.start = omega (arith, begin, c.loop-later.invariant.to) in
-    let units : c.loop-later.later.end - c.loop-later.later.start ≤ c.args.input.now.end - c.args.input.now.start = omega (arith, shorter) in
-    let most : k ≤ c.args.input.now.end - c.args.input.now.start = omega (arith, within) in
-    steps_all k (c.args.input.now.end - c.args.input.now.start) (c.loop-later.later.end - c.loop-later.later.start) c.args.cache.now.count c.loop-later.cache.count c.pass_rev.new.cache.count c.loop-later.invariant.bounded c.in_ok-half.ensures.counted units most
+    let units : c.loop-later.later.end - c.loop-later.later.start ≤ c.args.input.now.end - c.args.input.now.start - k = omega (arith, begin, c.loop-later.invariant.to) in
+    (suc k, cost_more Backward c.args.self.now c.args.input.now c.args.cache.now c.pass_rev.new.cache c.loop-later.cache k (c.loop-later.later.end - c.loop-later.later.start) c.loop-later.invariant.tries within c.loop-later.invariant.grown c.loop-later.invariant.bounded c.in_ok-half.ensures.grown c.in_ok-half.ensures.counted units)
 
 pub returns-in_default-clause-learned : goal.returns-in_default-clause-learned
 returns-in_default-clause-learned c = λ nothing.
@@ -232,28 +202,13 @@ returns-then-not-skips_at-clause-known c = λ knows.
     (idle.0 ∙ c.loop-later.invariant.known knows, tt)
 
 pub returns-then-not-skips_at-clause-bounded : goal.returns-then-not-skips_at-clause-bounded
-returns-then-not-skips_at-clause-bounded c = λ whole.
+returns-then-not-skips_at-clause-bounded c =
     let k : ℕ = c.args.input.now.end - c.loop-later.later.end in
     let ahead : c.loop-later.later.start ≤ c.loop-later.later.end = grind (arith, common_steps, c.loop-later-test.ensures.done) in
-    let same : c.loop-later.later ≡ later Backward k c.args.input.now = ended c.args.input.now c.loop-later.later c.loop-later.invariant.same c.loop-later.invariant.to ahead in
     let within : c.args.input.now.start + k ≤ c.args.input.now.end = ended_within c.args.input.now c.loop-later.later c.loop-later.invariant.same c.loop-later.invariant.to ahead in
     let begin : c.loop-later.later.start ≡ c.args.input.now.start = ap (λ (i : Input). i.start) c.loop-later.invariant.same in
-    let shorter : c.loop-later.later.end - c.loop-later.later.start ≤ c.args.input.now.end - c.args.input.now.start = omega (arith, begin, c.loop-later.invariant.to) in
-    let units : c.loop-later.later.end - c.loop-later.later.start ≤ c.args.input.now.end - c.args.input.now.start = omega (arith, shorter) in
-    let most : k ≤ c.args.input.now.end - c.args.input.now.start = omega (arith, within) in
-    omega (arith, c.in_ok-half.ensures.counted, (c.loop-later.invariant.whole whole).1, units)
-
-pub returns-then-not-skips_at-clause-bounded_all : goal.returns-then-not-skips_at-clause-bounded_all
-returns-then-not-skips_at-clause-bounded_all c =
-    let k : ℕ = c.args.input.now.end - c.loop-later.later.end in
-    let ahead : c.loop-later.later.start ≤ c.loop-later.later.end = grind (arith, common_steps, c.loop-later-test.ensures.done) in
-    let same : c.loop-later.later ≡ later Backward k c.args.input.now = ended c.args.input.now c.loop-later.later c.loop-later.invariant.same c.loop-later.invariant.to ahead in
-    let within : c.args.input.now.start + k ≤ c.args.input.now.end = ended_within c.args.input.now c.loop-later.later c.loop-later.invariant.same c.loop-later.invariant.to ahead in
-    let begin : c.loop-later.later.start ≡ c.args.input.now.start = ap (λ (i : Input). i.start) c.loop-later.invariant.same in
-    let shorter : c.loop-later.later.end - c.loop-later.later.start ≤ c.args.input.now.end - c.args.input.now.start = omega (arith, begin, c.loop-later.invariant.to) in
-    let units : c.loop-later.later.end - c.loop-later.later.start ≤ c.args.input.now.end - c.args.input.now.start = omega (arith, shorter) in
-    let most : k ≤ c.args.input.now.end - c.args.input.now.start = omega (arith, within) in
-    steps_all k (c.args.input.now.end - c.args.input.now.start) (c.loop-later.later.end - c.loop-later.later.start) c.args.cache.now.count c.loop-later.cache.count c.pass_rev.new.cache.count c.loop-later.invariant.bounded c.in_ok-half.ensures.counted units most
+    let units : c.loop-later.later.end - c.loop-later.later.start ≤ c.args.input.now.end - c.args.input.now.start - k = omega (arith, begin, c.loop-later.invariant.to) in
+    (suc k, cost_more Backward c.args.self.now c.args.input.now c.args.cache.now c.pass_rev.new.cache c.loop-later.cache k (c.loop-later.later.end - c.loop-later.later.start) c.loop-later.invariant.tries within c.loop-later.invariant.grown c.loop-later.invariant.bounded c.in_ok-half.ensures.grown c.in_ok-half.ensures.counted units)
 
 pub returns-then-not-skips_at-clause-learned : goal.returns-then-not-skips_at-clause-learned
 returns-then-not-skips_at-clause-learned c = λ nothing.
@@ -294,28 +249,13 @@ returns-then-is_anchored-clause-known c = λ knows.
     (idle.0 ∙ c.loop-later.invariant.known knows, tt)
 
 pub returns-then-is_anchored-clause-bounded : goal.returns-then-is_anchored-clause-bounded
-returns-then-is_anchored-clause-bounded c = λ whole.
+returns-then-is_anchored-clause-bounded c =
     let k : ℕ = c.args.input.now.end - c.loop-later.later.end in
     let ahead : c.loop-later.later.start ≤ c.loop-later.later.end = grind (arith, common_steps, c.loop-later-test.ensures.done) in
-    let same : c.loop-later.later ≡ later Backward k c.args.input.now = ended c.args.input.now c.loop-later.later c.loop-later.invariant.same c.loop-later.invariant.to ahead in
     let within : c.args.input.now.start + k ≤ c.args.input.now.end = ended_within c.args.input.now c.loop-later.later c.loop-later.invariant.same c.loop-later.invariant.to ahead in
     let begin : c.loop-later.later.start ≡ c.args.input.now.start = ap (λ (i : Input). i.start) c.loop-later.invariant.same in
-    let shorter : c.loop-later.later.end - c.loop-later.later.start ≤ c.args.input.now.end - c.args.input.now.start = omega (arith, begin, c.loop-later.invariant.to) in
-    let units : c.loop-later.later.end - c.loop-later.later.start ≤ c.args.input.now.end - c.args.input.now.start = omega (arith, shorter) in
-    let most : k ≤ c.args.input.now.end - c.args.input.now.start = omega (arith, within) in
-    omega (arith, c.in_ok-half.ensures.counted, (c.loop-later.invariant.whole whole).1, units)
-
-pub returns-then-is_anchored-clause-bounded_all : goal.returns-then-is_anchored-clause-bounded_all
-returns-then-is_anchored-clause-bounded_all c =
-    let k : ℕ = c.args.input.now.end - c.loop-later.later.end in
-    let ahead : c.loop-later.later.start ≤ c.loop-later.later.end = grind (arith, common_steps, c.loop-later-test.ensures.done) in
-    let same : c.loop-later.later ≡ later Backward k c.args.input.now = ended c.args.input.now c.loop-later.later c.loop-later.invariant.same c.loop-later.invariant.to ahead in
-    let within : c.args.input.now.start + k ≤ c.args.input.now.end = ended_within c.args.input.now c.loop-later.later c.loop-later.invariant.same c.loop-later.invariant.to ahead in
-    let begin : c.loop-later.later.start ≡ c.args.input.now.start = ap (λ (i : Input). i.start) c.loop-later.invariant.same in
-    let shorter : c.loop-later.later.end - c.loop-later.later.start ≤ c.args.input.now.end - c.args.input.now.start = omega (arith, begin, c.loop-later.invariant.to) in
-    let units : c.loop-later.later.end - c.loop-later.later.start ≤ c.args.input.now.end - c.args.input.now.start = omega (arith, shorter) in
-    let most : k ≤ c.args.input.now.end - c.args.input.now.start = omega (arith, within) in
-    steps_all k (c.args.input.now.end - c.args.input.now.start) (c.loop-later.later.end - c.loop-later.later.start) c.args.cache.now.count c.loop-later.cache.count c.pass_rev.new.cache.count c.loop-later.invariant.bounded c.in_ok-half.ensures.counted units most
+    let units : c.loop-later.later.end - c.loop-later.later.start ≤ c.args.input.now.end - c.args.input.now.start - k = omega (arith, begin, c.loop-later.invariant.to) in
+    (suc k, cost_more Backward c.args.self.now c.args.input.now c.args.cache.now c.pass_rev.new.cache c.loop-later.cache k (c.loop-later.later.end - c.loop-later.later.start) c.loop-later.invariant.tries within c.loop-later.invariant.grown c.loop-later.invariant.bounded c.in_ok-half.ensures.grown c.in_ok-half.ensures.counted units)
 
 pub returns-then-is_anchored-clause-learned : goal.returns-then-is_anchored-clause-learned
 returns-then-is_anchored-clause-learned c = λ nothing.
@@ -356,21 +296,13 @@ returns-then-end-eq0-clause-known c = λ knows.
     (idle.0 ∙ c.loop-later.invariant.known knows, tt)
 
 pub returns-then-end-eq0-clause-bounded : goal.returns-then-end-eq0-clause-bounded
-returns-then-end-eq0-clause-bounded c = λ whole.
-    let mode : c.args.input.now.anchored ≡ No = sym (c.get_anchored.ensures ∙ ap (λ (i : Input). i.anchored) c.loop-later.invariant.same) ∙ c.if-is_anchored.ensures.no refl in
-    absurd (whole ((c.if-not-skips_at.ensures.yes refl).0, mode))
-
-pub returns-then-end-eq0-clause-bounded_all : goal.returns-then-end-eq0-clause-bounded_all
-returns-then-end-eq0-clause-bounded_all c =
+returns-then-end-eq0-clause-bounded c =
     let k : ℕ = c.args.input.now.end - c.loop-later.later.end in
     let ahead : c.loop-later.later.start ≤ c.loop-later.later.end = grind (arith, common_steps, c.loop-later-test.ensures.done) in
-    let same : c.loop-later.later ≡ later Backward k c.args.input.now = ended c.args.input.now c.loop-later.later c.loop-later.invariant.same c.loop-later.invariant.to ahead in
     let within : c.args.input.now.start + k ≤ c.args.input.now.end = ended_within c.args.input.now c.loop-later.later c.loop-later.invariant.same c.loop-later.invariant.to ahead in
     let begin : c.loop-later.later.start ≡ c.args.input.now.start = ap (λ (i : Input). i.start) c.loop-later.invariant.same in
-    let shorter : c.loop-later.later.end - c.loop-later.later.start ≤ c.args.input.now.end - c.args.input.now.start = omega (arith, begin, c.loop-later.invariant.to) in
-    let units : c.loop-later.later.end - c.loop-later.later.start ≤ c.args.input.now.end - c.args.input.now.start = omega (arith, shorter) in
-    let most : k ≤ c.args.input.now.end - c.args.input.now.start = omega (arith, within) in
-    steps_all k (c.args.input.now.end - c.args.input.now.start) (c.loop-later.later.end - c.loop-later.later.start) c.args.cache.now.count c.loop-later.cache.count c.pass_rev.new.cache.count c.loop-later.invariant.bounded c.in_ok-half.ensures.counted units most
+    let units : c.loop-later.later.end - c.loop-later.later.start ≤ c.args.input.now.end - c.args.input.now.start - k = omega (arith, begin, c.loop-later.invariant.to) in
+    (suc k, cost_more Backward c.args.self.now c.args.input.now c.args.cache.now c.pass_rev.new.cache c.loop-later.cache k (c.loop-later.later.end - c.loop-later.later.start) c.loop-later.invariant.tries within c.loop-later.invariant.grown c.loop-later.invariant.bounded c.in_ok-half.ensures.grown c.in_ok-half.ensures.counted units)
 
 pub returns-then-end-eq0-clause-learned : goal.returns-then-end-eq0-clause-learned
 returns-then-end-eq0-clause-learned c = λ nothing.
@@ -395,3 +327,8 @@ returns-then-end-eq0-clause-done c = λ past.
     let begin : c.loop-later.later.start ≡ c.args.input.now.start = ap (λ (i : Input). i.start) c.loop-later.invariant.same in
     let shorter : c.loop-later.later.end - c.loop-later.later.start ≤ c.args.input.now.end - c.args.input.now.start = omega (arith, begin, c.loop-later.invariant.to) in
     absurd (omega (arith, past, within))
+
+pub returns-clause-bounded : goal.returns-clause-bounded
+returns-clause-bounded c =
+    let k : ℕ = c.args.input.now.end - c.loop-later.later.end in
+    (k, cost_before Backward c.args.self.now c.args.input.now c.args.cache.now c.loop-later.cache k c.loop-later.invariant.tries c.loop-later.invariant.grown c.loop-later.invariant.bounded)

@@ -1,8 +1,8 @@
-use Rattle.std.proofs.Common.{false, ◌≡◌, ◌≤◌, ◌+◌, ◌*◌, ◌-◌}
+use Rattle.std.proofs.Common.{false, ◌≡◌, ◌≤◌, ◌+◌, ◌-◌}
 use Rattle.automata_base.specs.Answers.{Tries}
-use Rattle.automata_base.specs.declared.util.search.Anchored.TheVariants.{No}
 use Rattle.automata_base.specs.Tapes.{Backward}
 use Rattle.automata_hybrid.specs.Caches.{IsCacheOf}
+use Rattle.automata_hybrid.specs.Costs.{passes_most}
 use Rattle.automata_hybrid.specs.Growing.{IsGrown, ClearedNothing}
 use Rattle.automata_hybrid.specs.Knowing.{Knows}
 use Rattle.automata_hybrid.specs.Searches.{Finds, Skips}
@@ -16,11 +16,10 @@ invariant-loop-later l = record {
   to : l.later.end ≤ l.input.end;
   same : l.later ≡ record l.input { end = l.later.end };
   first : supports l.self l.input.anchored ≡ false → l.later.end ≡ l.input.end;
-  whole : (Skips l.self × (l.input.anchored ≡ No) → ⊥) → (l.later.end ≡ l.input.end) × (l.cache.count ≡ l.fn.cache.count);
   grown : IsGrown l.fn.cache l.cache;
   known : Knows Backward l.self l.fn.cache.store l.input → l.cache.count ≡ l.fn.cache.count;
   learned : ClearedNothing l.fn.cache.store l.cache.store → LearnedSpans Backward l.self l.cache.store l.input (l.input.end - l.later.end);
-  bounded : l.cache.count ≤ l.fn.cache.count + (l.input.end - l.later.end) * (l.input.end - l.input.start + 2);
+  bounded : l.cache.count ≤ l.fn.cache.count + passes_most (l.input.end - l.later.end) (l.input.end - l.input.start);
   done : l.later.end ≡ l.input.end → l.cache ≡ l.fn.cache;
   tries : Tries (Finds Backward l.self) (Skips l.self) Backward l.input (l.input.end - l.later.end);
 }

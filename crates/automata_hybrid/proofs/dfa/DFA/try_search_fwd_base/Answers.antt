@@ -5,7 +5,6 @@ use Rattle.automata_base.specs.Tapes.{Forward}
 use Rattle.automata_base.specs.Told.{ToldEndsAreRight, ToldIsRight}
 use Rattle.automata_base.specs.Within.{ToldLiesWithin}
 use Rattle.automata_hybrid.proofs.Answering.{refused_memory}
-use Rattle.automata_hybrid.proofs.Growing.{clears_none}
 use Rattle.automata_hybrid.proofs.Skipping.{found_told}
 use Rattle.automata_hybrid.proofs.Within.{lies_past}
 use Rattle.automata_hybrid.proofs.dfa.DFA.try_search_fwd_base.Goals as goal
@@ -22,14 +21,6 @@ returns-clause-answers c = λ reach mode free.
     IfErr-weaker c.search_fwd-found.result _ _ (λ e r.
     refused_memory Forward c.args.self.now c.search_fwd-found.new.cache.store c.args.input.now e c.haystack-haystack.ensures.within.1 c.search_fwd-found.ensures.of reach mode free r)
     c.search_fwd-found.ensures.errors
-
-pub returns-clause-roomy : goal.returns-clause-roomy
-returns-clause-roomy c = λ whole room.
-    clears_none c.args.cache.now c.search_fwd-found.new.cache _ c.search_fwd-found.ensures.grown (c.search_fwd-found.ensures.bounded whole) room
-
-pub returns-clause-roomy_all : goal.returns-clause-roomy_all
-returns-clause-roomy_all c = λ room.
-    clears_none c.args.cache.now c.search_fwd-found.new.cache _ c.search_fwd-found.ensures.grown c.search_fwd-found.ensures.bounded_all room
 
 pub returns-clause-nearest : goal.returns-clause-nearest
 returns-clause-nearest c = λ early.

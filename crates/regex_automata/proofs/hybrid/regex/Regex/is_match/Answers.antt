@@ -15,7 +15,7 @@ use Rattle.automata_hybrid.specs.Starting.{quit_behind}
 use Rattle.automata_hybrid.proofs.Growing.{grown_same}
 use Rattle.automata_hybrid.proofs.Searching.{if_err}
 use Rattle.regex_automata.specs.Costs.{IsCostOf}
-use Rattle.regex_automata.proofs.Finding.{cache_of, cost_fewer, pass_none}
+use Rattle.regex_automata.proofs.Finding.{cache_of, cost_search, pass_none}
 use Rattle.regex_automata.proofs.Matching.{asked_from, asked_to, match_right, same_asked, truth_told}
 use Rattle.regex_automata.proofs.Owed.{is_store, truth_owed}
 use Rattle.regex_automata.proofs.Results.{err_ok, if_ok, is_err, ok_err, on_ok, same_err, same_ok}
@@ -52,7 +52,7 @@ returns-in_err-found-clause-answers c =
 pub returns-in_err-found-clause-cost : goal.returns-in_err-found-clause-cost
 returns-in_err-found-clause-cost c = (
   asked_to (λ (i : Input). IsCostOf c.args.self.now.forward (i.end - i.start) c.args.cache.now.forward c.try_search_fwd-told.new.cache) c.args.self.now.forward c.args.input.now c.asked-asked.result c.asked-asked.ensures (λ x. x) (λ x. x)
-      (cost_fewer c.args.self.now.forward (c.asked-asked.result.end - c.asked-asked.result.start) (c.asked-asked.result.end - c.asked-asked.result.start) c.args.cache.now.forward c.try_search_fwd-told.new.cache (omega arith) c.try_search_fwd-told.ensures.bounded c.try_search_fwd-told.ensures.bounded_all c.try_search_fwd-told.ensures.grown),
+      (cost_search c.args.self.now.forward c.asked-asked.result c.args.cache.now.forward c.try_search_fwd-told.new.cache c.try_search_fwd-told.ensures.bounded c.try_search_fwd-told.ensures.grown),
   pass_none _ c.args.cache.now.reverse,
 )
 
@@ -97,7 +97,7 @@ returns-clause-unsupported c =
 pub returns-clause-cost : goal.returns-clause-cost
 returns-clause-cost c = (
   asked_to (λ (i : Input). IsCostOf c.args.self.now.forward (i.end - i.start) c.args.cache.now.forward c.try_search_fwd-told.new.cache) c.args.self.now.forward c.args.input.now c.asked-asked.result c.asked-asked.ensures (λ x. x) (λ x. x)
-      (cost_fewer c.args.self.now.forward (c.asked-asked.result.end - c.asked-asked.result.start) (c.asked-asked.result.end - c.asked-asked.result.start) c.args.cache.now.forward c.try_search_fwd-told.new.cache (omega arith) c.try_search_fwd-told.ensures.bounded c.try_search_fwd-told.ensures.bounded_all c.try_search_fwd-told.ensures.grown),
+      (cost_search c.args.self.now.forward c.asked-asked.result c.args.cache.now.forward c.try_search_fwd-told.new.cache c.try_search_fwd-told.ensures.bounded c.try_search_fwd-told.ensures.grown),
   pass_none _ c.args.cache.now.reverse,
 )
 

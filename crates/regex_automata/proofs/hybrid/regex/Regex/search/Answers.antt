@@ -6,7 +6,7 @@ use Rattle.automata_hybrid.specs.Within.{LiesPast}
 use Rattle.automata_hybrid.proofs.Growing.{grown_same}
 use Rattle.automata_hybrid.proofs.Searching.{if_err}
 use Rattle.regex_automata.specs.Outcomes.{IsStartFound}
-use Rattle.regex_automata.proofs.Finding.{cache_of, cost_fewer, pass_none, front_none, front_some, knows_both, knows_front, match_of, match_within, start_within}
+use Rattle.regex_automata.proofs.Finding.{cache_of, cost_search, pass_none, front_none, front_some, knows_both, knows_front, match_of, match_within, start_within}
 use Rattle.regex_automata.proofs.Nexts.{some_of}
 use Rattle.regex_automata.proofs.Results.{err_ok, if_ok, is_err, ok_err, on_ok, same_err, same_ok, some_none}
 use Rattle.regex_automata.proofs.hybrid.regex.Regex.search.Goals as goal
@@ -41,7 +41,7 @@ returns-in_err-front-clause-unsupported c =
 
 pub returns-in_err-front-clause-cost : goal.returns-in_err-front-clause-cost
 returns-in_err-front-clause-cost c =
-    (cost_fewer c.args.self.now.forward (c.args.input.now.end - c.args.input.now.start) (c.args.input.now.end - c.args.input.now.start) c.args.cache.now.forward c.try_search_fwd_base.new.cache (omega arith) c.try_search_fwd_base.ensures.bounded c.try_search_fwd_base.ensures.bounded_all c.try_search_fwd_base.ensures.grown, pass_none _ c.args.cache.now.reverse)
+    (cost_search c.args.self.now.forward c.args.input.now c.args.cache.now.forward c.try_search_fwd_base.new.cache c.try_search_fwd_base.ensures.bounded c.try_search_fwd_base.ensures.grown, pass_none _ c.args.cache.now.reverse)
 
 pub returns-in_err-front-clause-grown : goal.returns-in_err-front-clause-grown
 returns-in_err-front-clause-grown c =
@@ -73,7 +73,7 @@ returns-in_default-clause-unsupported c =
 
 pub returns-in_default-clause-cost : goal.returns-in_default-clause-cost
 returns-in_default-clause-cost c =
-    (cost_fewer c.args.self.now.forward (c.args.input.now.end - c.args.input.now.start) (c.args.input.now.end - c.args.input.now.start) c.args.cache.now.forward c.try_search_fwd_base.new.cache (omega arith) c.try_search_fwd_base.ensures.bounded c.try_search_fwd_base.ensures.bounded_all c.try_search_fwd_base.ensures.grown, pass_none _ c.args.cache.now.reverse)
+    (cost_search c.args.self.now.forward c.args.input.now c.args.cache.now.forward c.try_search_fwd_base.new.cache c.try_search_fwd_base.ensures.bounded c.try_search_fwd_base.ensures.grown, pass_none _ c.args.cache.now.reverse)
 
 pub returns-in_default-clause-grown : goal.returns-in_default-clause-grown
 returns-in_default-clause-grown c =
@@ -133,7 +133,7 @@ returns-in_err-start-clause-unsupported c =
 
 pub returns-in_err-start-clause-cost : goal.returns-in_err-start-clause-cost
 returns-in_err-start-clause-cost c =
-    (cost_fewer c.args.self.now.forward (c.args.input.now.end - c.args.input.now.start) (c.args.input.now.end - c.args.input.now.start) c.args.cache.now.forward c.try_search_fwd_base.new.cache (omega arith) c.try_search_fwd_base.ensures.bounded c.try_search_fwd_base.ensures.bounded_all c.try_search_fwd_base.ensures.grown, c.find_start.ensures.cost)
+    (cost_search c.args.self.now.forward c.args.input.now c.args.cache.now.forward c.try_search_fwd_base.new.cache c.try_search_fwd_base.ensures.bounded c.try_search_fwd_base.ensures.grown, c.find_start.ensures.cost)
 
 pub returns-in_err-start-clause-grown : goal.returns-in_err-start-clause-grown
 returns-in_err-start-clause-grown c =
@@ -169,7 +169,7 @@ returns-in_default-2-clause-unsupported c =
 
 pub returns-in_default-2-clause-cost : goal.returns-in_default-2-clause-cost
 returns-in_default-2-clause-cost c =
-    (cost_fewer c.args.self.now.forward (c.args.input.now.end - c.args.input.now.start) (c.args.input.now.end - c.args.input.now.start) c.args.cache.now.forward c.try_search_fwd_base.new.cache (omega arith) c.try_search_fwd_base.ensures.bounded c.try_search_fwd_base.ensures.bounded_all c.try_search_fwd_base.ensures.grown, c.find_start.ensures.cost)
+    (cost_search c.args.self.now.forward c.args.input.now c.args.cache.now.forward c.try_search_fwd_base.new.cache c.try_search_fwd_base.ensures.bounded c.try_search_fwd_base.ensures.grown, c.find_start.ensures.cost)
 
 pub returns-in_default-2-clause-grown : goal.returns-in_default-2-clause-grown
 returns-in_default-2-clause-grown c =
@@ -206,7 +206,7 @@ returns-clause-unsupported c =
 
 pub returns-clause-cost : goal.returns-clause-cost
 returns-clause-cost c =
-    (cost_fewer c.args.self.now.forward (c.args.input.now.end - c.args.input.now.start) (c.args.input.now.end - c.args.input.now.start) c.args.cache.now.forward c.try_search_fwd_base.new.cache (omega arith) c.try_search_fwd_base.ensures.bounded c.try_search_fwd_base.ensures.bounded_all c.try_search_fwd_base.ensures.grown, c.find_start.ensures.cost)
+    (cost_search c.args.self.now.forward c.args.input.now c.args.cache.now.forward c.try_search_fwd_base.new.cache c.try_search_fwd_base.ensures.bounded c.try_search_fwd_base.ensures.grown, c.find_start.ensures.cost)
 
 pub returns-clause-grown : goal.returns-clause-grown
 returns-clause-grown c =

@@ -1,0 +1,124 @@
+-- What the passes of a search cost.
+use Rattle.std.proofs.Common.{ℕ, zero, suc, ◌≡◌, ◌<◌, ◌≤◌, ◌+◌, ◌*◌, ◌-◌, ◌⊎◌, inl, inr, Option, refl, sym, subst, arith, eq-or-lt_of_le}
+use Rattle.automata_base.specs.Answers.{Tries}
+use Rattle.automata_base.specs.declared.util.search.Anchored.TheVariants.{No}
+use Rattle.automata_base.specs.Input.{Input}
+use Rattle.automata_base.specs.Selections.{Pair}
+use Rattle.automata_base.specs.Tapes.{Direction}
+use Rattle.automata_hybrid.specs.Caches.{CacheView}
+use Rattle.automata_hybrid.specs.Costs.{IsCostOfPasses, IsCostOfSearch, passes_most}
+use Rattle.automata_hybrid.specs.Growing.{IsGrown}
+use Rattle.automata_hybrid.specs.Machine.{Machine}
+use Rattle.automata_hybrid.specs.Searches.{Finds, Skips}
+use Rattle.automata_hybrid.proofs.Growing.{clears_none, grown_trans}
+
+-- one pass more
+pub most_more :
+    (passes bytes units old between new : ℕ)
+    → between ≤ old + passes_most passes bytes → new ≤ between + (units + 2) → units ≤ bytes - passes
+    → new ≤ old + passes_most (suc passes) bytes
+most_more passes bytes units old between new before pass few =
+    let one : passes_most (suc passes) bytes ≡ passes_most passes bytes + (bytes - passes + 2) = refl in
+    omega (arith, one, before, pass, few)
+
+-- fewer passes
+pub most_fewer : (few passes bytes : ℕ) → few ≤ passes → passes_most few bytes ≤ passes_most passes bytes
+most_fewer few zero bytes l =
+    let none : few ≡ 0 = omega (arith, l) in
+    subst (λ n. passes_most n bytes ≤ 0) (sym none) (omega arith)
+most_fewer few (suc passes) bytes l = go (λ less. most_fewer few passes bytes less) (eq-or-lt_of_le l) where
+  go :
+      (few ≤ passes → passes_most few bytes ≤ passes_most passes bytes) → (few ≡ suc passes) ⊎ (few < suc passes)
+      → passes_most few bytes ≤ passes_most (suc passes) bytes
+  go before (inl same) = subst (λ n. passes_most few bytes ≤ passes_most n bytes) same (omega arith)
+  go before (inr less) =
+      let most : passes_most few bytes ≤ passes_most passes bytes = before (omega (arith, less)) in
+      let one : passes_most (suc passes) bytes ≡ passes_most passes bytes + (bytes - passes + 2) = refl in
+      omega (arith, most, one)
+
+-- each costs at most what the first may
+pub most_times : (passes bytes : ℕ) → passes_most passes bytes ≤ passes * (bytes + 2)
+most_times zero bytes = omega arith
+most_times (suc passes) bytes =
+    let before : passes_most passes bytes ≤ passes * (bytes + 2) = most_times passes bytes in
+    let most : passes_most (suc passes) bytes ≡ passes_most passes bytes + (bytes - passes + 2) = refl in
+    let one : suc passes * (bytes + 2) ≡ passes * (bytes + 2) + (bytes + 2) = grind arith in
+    omega (arith, before, most, one)
+
+-- where the spans tried come to one, they came to each before it
+pub tries_before :
+    (T : Input → Option Pair → Type 0) (S : Type 0) (way : Direction) (input : Input) (j k : ℕ)
+    → j ≤ k → Tries T S way input k → Tries T S way input j
+tries_before T S way input j k l tries = (first tries.0, λ i less. tries.1 i (omega (arith, less, l))) where
+  first : (k ≡ 0) ⊎ (S × (input.anchored ≡ No)) → (j ≡ 0) ⊎ (S × (input.anchored ≡ No))
+  first (inl e) = inl (omega (arith, e, l))
+  first (inr free) = inr free
+
+module _ (way : Direction) (m : Machine) (input : Input) (old new : CacheView) where
+  -- the passes before a span that the spans tried come to
+  pub cost_before :
+      (k : ℕ) → Tries (Finds way m) (Skips m) way input k → IsGrown old new
+      → new.count ≤ old.count + passes_most k (input.end - input.start) → IsCostOfPasses way m input k old new
+  cost_before k tries grown counted =
+      record {
+        tried = λ j less. (tries_before (Finds way m) (Skips m) way input j k (omega (arith, less)) tries, (tries.1 j less).0);
+        counted = counted;
+        room = λ room. clears_none old new (passes_most k (input.end - input.start)) grown counted room;
+      }
+
+  -- and the one over it
+  pub cost_more :
+      (between : CacheView) (k units : ℕ) → Tries (Finds way m) (Skips m) way input k → input.start + k ≤ input.end
+      → IsGrown old between → between.count ≤ old.count + passes_most k (input.end - input.start)
+      → IsGrown between new → new.count ≤ between.count + (units + 2) → units ≤ input.end - input.start - k
+      → IsCostOfPasses way m input (suc k) old new
+  cost_more between k units tries within first before second pass few =
+      let counted : new.count ≤ old.count + passes_most (suc k) (input.end - input.start) =
+      most_more k (input.end - input.start) units old.count between.count new.count before pass few in
+      record {
+        tried = λ j less. (tries_before (Finds way m) (Skips m) way input j k (omega (arith, less)) tries, omega (arith, less, within));
+        counted = counted;
+        room = λ room. clears_none old new (passes_most (suc k) (input.end - input.start)) (grown_trans old between new first second) counted room;
+      }
+
+  -- one pass, where no place is skipped or the search is anchored
+  pub cost_once :
+      IsCostOfSearch way m input old new → (Skips m × (input.anchored ≡ No) → ⊥)
+      → new.count ≤ old.count + (input.end - input.start + 2)
+  cost_once (passes, cost) whole = go passes cost where
+    go : (passes : ℕ) → IsCostOfPasses way m input passes old new → new.count ≤ old.count + (input.end - input.start + 2)
+    go zero cost =
+        let counted : new.count ≤ old.count + 0 = cost.counted in
+        omega (arith, counted)
+    go (suc zero) cost =
+        let counted : new.count ≤ old.count + (0 + (input.end - input.start - 0 + 2)) = cost.counted in
+        omega (arith, counted)
+    go (suc (suc k)) cost = absurd (second (cost.tried (suc k) (omega arith)).0.0) where
+      second : (suc k ≡ 0) ⊎ (Skips m × (input.anchored ≡ No)) → ⊥
+      second (inl e) = omega (arith, e)
+      second (inr free) = whole free
+
+  -- and a pass over each span at most
+  pub passes_few : (passes : ℕ) → IsCostOfPasses way m input passes old new → passes ≤ input.end - input.start + 1
+  passes_few zero cost = omega arith
+  passes_few (suc k) cost =
+      let within : input.start + k ≤ input.end = (cost.tried k (omega arith)).1 in
+      omega (arith, within)
+
+  pub cost_spans :
+      IsCostOfSearch way m input old new
+      → new.count ≤ old.count + passes_most (input.end - input.start + 1) (input.end - input.start)
+  cost_spans (passes, cost) =
+      let counted : new.count ≤ old.count + passes_most passes (input.end - input.start) = cost.counted in
+      let most : passes_most passes (input.end - input.start) ≤ passes_most (input.end - input.start + 1) (input.end - input.start) =
+      most_fewer passes (input.end - input.start + 1) (input.end - input.start) (passes_few passes cost) in
+      omega (arith, counted, most)
+
+  pub cost_all :
+      IsCostOfSearch way m input old new
+      → new.count ≤ old.count + (input.end - input.start + 1) * (input.end - input.start + 2)
+  cost_all cost =
+      let spans : new.count ≤ old.count + passes_most (input.end - input.start + 1) (input.end - input.start) = cost_spans cost in
+      let times : passes_most (input.end - input.start + 1) (input.end - input.start) ≤ (input.end - input.start + 1) * (input.end - input.start + 2) =
+      most_times (input.end - input.start + 1) (input.end - input.start) in
+      omega (arith, spans, times)

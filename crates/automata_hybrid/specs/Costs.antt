@@ -1,0 +1,32 @@
+-- How often searches determinise, and when they clear nothing.
+use Rattle.std.specs.Prelude.{ℕ, zero, suc, ◌≡◌, ◌+◌, ◌-◌, ◌<◌, ◌≤◌}
+use Rattle.automata_base.specs.Answers.{Tries}
+use Rattle.automata_base.specs.Input.{Input}
+use Rattle.automata_base.specs.Tapes.{Direction, Forward}
+use Rattle.automata_hybrid.specs.Caches.{CacheView}
+use Rattle.automata_hybrid.specs.Growing.{HasRoom}
+use Rattle.automata_hybrid.specs.Machine.{Machine}
+use Rattle.automata_hybrid.specs.Searches.{Finds, Skips}
+
+-- the most determinisations of so many passes, the first over so many bytes and each later one over one byte less: a
+-- pass determinises at most once for each byte, for its start and at its end
+abbrev pub passes_most : (passes bytes : ℕ) → ℕ
+passes_most zero bytes = 0
+passes_most (suc passes) bytes = passes_most passes bytes + (bytes - passes + 2)
+
+-- what so many passes of a search cost a cache
+pub record IsCostOfPasses (way : Direction) (m : Machine) (input : Input) (passes : ℕ)
+    (old new : CacheView) : Type 0 where
+  -- each is over a span that the search tries
+  pub tried : (k : ℕ) → k < passes → Tries (Finds way m) (Skips m) way input k × (input.start + k ≤ input.end)
+  pub counted : new.count ≤ old.count + passes_most passes (input.end - input.start)
+  -- where there is room for as many states, nothing is cleared
+  pub room : HasRoom old.store (passes_most passes (input.end - input.start)) → new.store.clears ≡ old.store.clears
+
+-- a search costs what its passes do: one, where no place is skipped or it is anchored
+abbrev pub IsCostOfSearch : Direction → Machine → Input → CacheView → CacheView → Type 0
+IsCostOfSearch way m input old new = (passes : ℕ) × IsCostOfPasses way m input passes old new
+
+-- a forward search with an answer costs its passes up to the span that gave it, which begins at a base
+abbrev pub IsCostUpto : Machine → Input → (base : ℕ) → (old new : CacheView) → Type 0
+IsCostUpto m input base old new = IsCostOfPasses Forward m input (base - input.start + 1) old new
