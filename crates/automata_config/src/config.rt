@@ -184,24 +184,28 @@ impl Config {
         }
     }
 
+    /// Which matches are told. By default `MatchKind::LeftmostFirst`.
     pub fn get_match_kind(&self) -> MatchKind
         ensures { result ≡ options.match_kind_of self.now }
     {
         self.match_kind.unwrap_or(MatchKind::LeftmostFirst)
     }
 
+    /// Whether each pattern has anchored starts of its own. By default it hasn't.
     pub fn get_starts_for_each_pattern(&self) -> bool
         ensures { result ≡ options.starts_for_each_pattern_of self.now }
     {
         self.starts_for_each_pattern.unwrap_or(false)
     }
 
+    /// Whether bytes that nothing tells apart share a class. By default they do.
     pub fn get_byte_classes(&self) -> bool
         ensures { result ≡ options.byte_classes_of self.now }
     {
         self.byte_classes.unwrap_or(true)
     }
 
+    /// Whether Unicode word boundaries are decided as ASCII ones, with every other byte a quit byte. By default not.
     pub fn get_unicode_word_boundary(&self) -> bool
         ensures { result ≡ options.unicode_word_boundary_of self.now }
     {
@@ -215,30 +219,35 @@ impl Config {
         self.quit_set()[usize::from(byte)]
     }
 
+    /// Whether IDs of start states are tagged. By default they aren't.
     pub fn get_specialize_start_states(&self) -> bool
         ensures { result ≡ options.specialize_start_states_of self.now }
     {
         self.specialize_start_states.unwrap_or(false)
     }
 
+    /// The most bytes that a cache may account for. By default 2 MiB.
     pub fn get_cache_capacity(&self) -> usize
         ensures { result ≡ options.cache_capacity_of self.now }
     {
         self.cache_capacity.unwrap_or(2 * (1 << 20))
     }
 
+    /// Whether a capacity below the minimum is raised to it, and not refused. By default it is refused.
     pub fn get_skip_cache_capacity_check(&self) -> bool
         ensures { result ≡ options.skip_cache_capacity_check_of self.now }
     {
         self.skip_cache_capacity_check.unwrap_or(false)
     }
 
+    /// How many clears are allowed before the next one may be refused. By default none is refused.
     pub fn get_minimum_cache_clear_count(&self) -> Option<usize>
         ensures { result ≡ options.minimum_cache_clear_count_of self.now }
     {
         self.minimum_cache_clear_count.unwrap_or(None)
     }
 
+    /// How many bytes must have been searched for each state since the last clear, so that the next isn't refused.
     pub fn get_minimum_bytes_per_state(&self) -> Option<usize>
         ensures { result ≡ options.minimum_bytes_per_state_of self.now }
     {
@@ -424,6 +433,7 @@ impl Settled {
     ghost use Rattle.std.specs.Prelude.{◌≡◌};
     ghost use Rattle.automata_base.specs.Classes.{is_quit};
 
+    /// The classes of bytes that the automaton and the quit set tell apart.
     pub fn classes(&self) -> &ByteClasses
         ensures { result.now ≡ self.now.classes }
     {

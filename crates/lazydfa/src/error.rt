@@ -16,6 +16,7 @@ pub enum RunError {
 }
 
 impl RunError {
+    /// A read or a write that failed.
     pub fn of_io(error: io::Error) -> RunError {
         match error.kind() {
             io::ErrorKind::OutOfMemory => RunError::OutOfMemory,

@@ -104,6 +104,7 @@ impl Look {
 }
 
 impl LookSet {
+    /// The set without a look.
     pub fn empty() -> LookSet
         ensures { result ≡ 0 }
     {
@@ -141,18 +142,21 @@ impl LookSet {
         self.bits
     }
 
+    /// Whether it has no look.
     pub fn is_empty(self) -> bool
         ensures { result ≡ eqb self 0 }
     {
         self.bits == 0
     }
 
+    /// Whether a look is in it.
     pub fn contains(self, look: Look) -> bool
         ensures { result ≡ truth_of self look }
     {
         self.bits >> look.index() & 1 == 1
     }
 
+    /// The set with a look added.
     pub fn insert(self, look: Look) -> LookSet
         ensures { (other : Look) → truth_of result other ≡ (eqb (look_index other) (look_index look) || truth_of self other) }
     {

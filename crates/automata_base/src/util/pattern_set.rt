@@ -86,30 +86,35 @@ impl PatternSet {
         self.len = 0;
     }
 
+    /// Whether a pattern is in the set. One past the capacity isn't.
     pub fn contains(&self, pattern: PatternID) -> bool
         ensures { result ≡ has self.now pattern }
     {
         self.which.get(pattern.as_usize()).copied().unwrap_or(false)
     }
 
+    /// Whether no pattern is in it.
     pub fn is_empty(&self) -> bool
         ensures { IsTrue result ↔ (members self.now ≡ []) }
     {
         self.len == 0
     }
 
+    /// Whether each pattern below the capacity is in it.
     pub fn is_full(&self) -> bool
         ensures { IsTrue result ↔ (length (members self.now) ≡ length self.now) }
     {
         self.len == self.capacity()
     }
 
+    /// How many patterns are in it.
     pub fn len(&self) -> usize
         ensures { result ≡ length (members self.now) }
     {
         self.len
     }
 
+    /// How many patterns it can hold: those of smaller numbers.
     pub fn capacity(&self) -> usize
         ensures { result ≡ length self.now }
     {

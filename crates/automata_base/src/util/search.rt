@@ -23,6 +23,7 @@ impl Span {
         self.end.saturating_sub(self.start)
     }
 
+    /// Whether it holds no byte: its start isn't below its end.
     pub fn is_empty(&self) -> bool
         ensures { IsTrue result ↔ (self.now.end ≤ self.now.start) }
     {
@@ -77,18 +78,21 @@ impl Model for HalfMatch {
 impl HalfMatch {
     ghost use Rattle.std.specs.Prelude.{◌≡◌};
 
+    /// A match of a pattern, of which one side is known.
     pub fn new(pattern: PatternID, offset: usize) -> HalfMatch
         ensures { result ≡ record { pattern = pattern; offset = offset } }
     {
         HalfMatch { pattern, offset }
     }
 
+    /// The pattern that matched.
     pub fn pattern(&self) -> PatternID
         ensures { result ≡ self.now.pattern }
     {
         self.pattern
     }
 
+    /// Where in the haystack the match ends; for a reverse search, where it starts.
     pub fn offset(&self) -> usize
         ensures { result ≡ self.now.offset }
     {
@@ -119,6 +123,7 @@ impl Model for Match {
 impl Match {
     ghost use Rattle.std.specs.Prelude.{◌≡◌, ◌≤◌};
 
+    /// A match of a pattern. The span's start isn't behind its end.
     pub fn new(pattern: PatternID, span: Span) -> Match
         requires { span.start ≤ span.end }
         ensures { result ≡ record { pattern = pattern; start = span.start; end = span.end } }
@@ -126,12 +131,14 @@ impl Match {
         Match { pattern, span }
     }
 
+    /// The pattern that matched.
     pub fn pattern(&self) -> PatternID
         ensures { result ≡ self.now.pattern }
     {
         self.pattern
     }
 
+    /// Where in the haystack it lies.
     pub fn span(&self) -> Span
         ensures start { result.start ≡ self.now.start }
         ensures end { result.end ≡ self.now.end }
@@ -140,6 +147,7 @@ impl Match {
         self.span
     }
 
+    /// The offset of its first byte.
     pub fn start(&self) -> usize
         ensures start { result ≡ self.now.start }
         ensures ordered { self.now.start ≤ self.now.end }
@@ -147,6 +155,7 @@ impl Match {
         self.span.start
     }
 
+    /// The offset behind its last byte.
     pub fn end(&self) -> usize
         ensures end { result ≡ self.now.end }
         ensures ordered { self.now.start ≤ self.now.end }
@@ -222,6 +231,7 @@ impl Model for MatchError {
 impl MatchError {
     ghost use Rattle.std.specs.Prelude.{◌≡◌};
 
+    /// A search that met a quit byte, at this offset of the haystack.
     pub fn quit(byte: u8, offset: usize) -> MatchError
         ensures { result ≡ MatchErrorKind.Quit byte offset }
     {
@@ -230,6 +240,7 @@ impl MatchError {
         }
     }
 
+    /// A search whose cache is full and may not be cleared, at this offset of the haystack.
     pub fn gave_up(offset: usize) -> MatchError
         ensures { result ≡ MatchErrorKind.GaveUp offset }
     {
@@ -238,6 +249,7 @@ impl MatchError {
         }
     }
 
+    /// A search in a mode that the automaton has no starts for.
     pub fn unsupported_anchored(mode: Anchored) -> MatchError
         ensures { result ≡ MatchErrorKind.UnsupportedAnchored mode }
     {
@@ -246,6 +258,7 @@ impl MatchError {
         }
     }
 
+    /// Why the search failed.
     pub fn kind(&self) -> &MatchErrorKind
         ensures { result.now ≡ self.now }
     {
@@ -299,6 +312,7 @@ impl<'h> Input<'h> {
         end <= self.haystack.len() && start <= end + 1
     }
 
+    /// With this span of the haystack. By default it is the whole one.
     pub fn span(self, span: Span) -> Input<'h>
         requires { Allows self.haystack span.start span.end }
         ensures { result ≡ record self.entry { start = span.start; end = span.end } }
@@ -311,6 +325,7 @@ impl<'h> Input<'h> {
         }
     }
 
+    /// With the span of this range.
     pub fn range(self, range: Range<usize>) -> Input<'h>
         requires { Allows self.haystack range.start range.end }
         ensures { result ≡ record self.entry { start = range.start; end = range.end } }
@@ -321,6 +336,7 @@ impl<'h> Input<'h> {
         })
     }
 
+    /// With this mode. By default it is `Anchored::No`.
     pub fn anchored(self, mode: Anchored) -> Input<'h>
         ensures { result ≡ record self.entry { anchored = mode } }
     {
@@ -332,6 +348,7 @@ impl<'h> Input<'h> {
         }
     }
 
+    /// Whether a search may stop at the first end that it comes to. By default it may not.
     pub fn earliest(self, yes: bool) -> Input<'h>
         ensures { result ≡ record self.entry { earliest = yes } }
     {
@@ -362,6 +379,7 @@ impl<'h> Input<'h> {
         };
     }
 
+    /// Moves the span's start; at most one behind its end.
     pub fn set_start(&mut self, start: usize)
         requires { Allows self.old.haystack start self.old.end }
         ensures { self.new ≡ record self.old { start = start } }
@@ -369,6 +387,7 @@ impl<'h> Input<'h> {
         self.span.start = start;
     }
 
+    /// Moves the span's end; at most one before its start.
     pub fn set_end(&mut self, end: usize)
         requires { Allows self.old.haystack self.old.start end }
         ensures { self.new ≡ record self.old { end = end } }
@@ -376,18 +395,21 @@ impl<'h> Input<'h> {
         self.span.end = end;
     }
 
+    /// Sets the mode.
     pub fn set_anchored(&mut self, mode: Anchored)
         ensures { self.new ≡ record self.old { anchored = mode } }
     {
         self.anchored = mode;
     }
 
+    /// Sets whether a search may stop at the first end that it comes to.
     pub fn set_earliest(&mut self, yes: bool)
         ensures { self.new ≡ record self.old { earliest = yes } }
     {
         self.earliest = yes;
     }
 
+    /// The whole haystack, not the span alone: looks see beyond the span.
     pub fn haystack(&self) -> &'h [u8]
         ensures same { result.now ≡ self.now.haystack }
         ensures bytes { IsHaystack self.now.haystack }
@@ -398,6 +420,7 @@ impl<'h> Input<'h> {
         self.haystack
     }
 
+    /// The offset of the span's first byte.
     pub fn start(&self) -> usize
         ensures start { result ≡ self.now.start }
         ensures within { IsAllowed self.now }
@@ -405,6 +428,7 @@ impl<'h> Input<'h> {
         self.span.start
     }
 
+    /// The offset behind the span's last byte.
     pub fn end(&self) -> usize
         ensures end { result ≡ self.now.end }
         ensures within { IsAllowed self.now }
@@ -412,6 +436,7 @@ impl<'h> Input<'h> {
         self.span.end
     }
 
+    /// The span that is searched.
     pub fn get_span(&self) -> Span
         ensures start { result.start ≡ self.now.start }
         ensures end { result.end ≡ self.now.end }
@@ -429,12 +454,14 @@ impl<'h> Input<'h> {
         self.span.start..self.span.end
     }
 
+    /// The mode: where a match may begin, and of which pattern.
     pub fn get_anchored(&self) -> Anchored
         ensures { result ≡ self.now.anchored }
     {
         self.anchored
     }
 
+    /// Whether a search may stop at the first end that it comes to.
     pub fn get_earliest(&self) -> bool
         ensures { result ≡ self.now.earliest }
     {

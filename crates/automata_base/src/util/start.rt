@@ -62,6 +62,7 @@ impl Config {
         }
     }
 
+    /// With this byte behind the start, or none, as at the haystack's edge.
     pub fn look_behind(self, byte: Option<u8>) -> Config
         ensures { result ≡ record self { look_behind = byte } }
     {
@@ -71,6 +72,7 @@ impl Config {
         }
     }
 
+    /// With this mode.
     pub fn anchored(self, mode: Anchored) -> Config
         ensures { result ≡ record self { anchored = mode } }
     {
@@ -80,12 +82,14 @@ impl Config {
         }
     }
 
+    /// The byte behind the start: the one before it going forward, the one at the span's end going backward.
     pub fn get_look_behind(&self) -> Option<u8>
         ensures { result ≡ self.now.look_behind }
     {
         self.look_behind
     }
 
+    /// The mode of the search.
     pub fn get_anchored(&self) -> Anchored
         ensures { result ≡ self.now.anchored }
     {

@@ -16,6 +16,7 @@ pub struct Searched {
 }
 
 impl Progress {
+    /// How many bytes lie between its two offsets.
     pub fn distance(self) -> usize
         ensures { result ≡ distance self }
     {
@@ -28,6 +29,7 @@ impl Progress {
 }
 
 impl Searched {
+    /// The searched bytes, those of the open search among them.
     pub fn total_len(&self) -> usize
         ensures { result ≡ total_len self.now }
     {
@@ -37,6 +39,7 @@ impl Searched {
         }
     }
 
+    /// A search begins at an offset.
     pub fn start(&mut self, at: usize)
         ensures { self.new ≡ started self.old at }
     {
@@ -47,6 +50,7 @@ impl Searched {
         });
     }
 
+    /// The open search is at an offset.
     pub fn update(&mut self, at: usize)
         ensures { self.new ≡ updated self.old at }
     {
@@ -58,6 +62,7 @@ impl Searched {
         }
     }
 
+    /// The open search ends at an offset; none is open then.
     pub fn finish(&mut self, at: usize)
         ensures { self.new ≡ finished self.old at }
     {

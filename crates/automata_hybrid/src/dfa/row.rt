@@ -35,6 +35,7 @@ pub fn cost(state: &State) -> usize
     13 + 4 * state.match_len() + 5 * state.nfa().count()
 }
 
+/// Whether nothing can match behind a state.
 pub fn is_dead(state: &State) -> bool
     ensures { IsTrue result ↔ (state.now ≡ dead) }
 {
@@ -46,6 +47,7 @@ pub fn is_dead(state: &State) -> bool
         && !state.half()
 }
 
+/// Whether a state has patterns.
 pub fn has_patterns(state: &State) -> bool
     ensures { result ≡ has_patterns state.now }
 {

@@ -76,36 +76,42 @@ impl Store {
         })
     }
 
+    /// How often it was cleared.
     pub fn clear_count(&self) -> usize
         ensures { result ≡ self.now.clears }
     {
         self.clears
     }
 
+    /// Whether a search is in progress.
     pub fn in_progress(&self) -> bool
         ensures { result ≡ is_some self.now.searched.running }
     {
         self.searched.running.is_some()
     }
 
+    /// How many bytes were searched since the last clear.
     pub fn search_total_len(&self) -> usize
         ensures { result ≡ total_len self.now.searched }
     {
         self.searched.total_len()
     }
 
+    /// A search begins at an offset.
     pub fn search_start(&mut self, at: usize)
         ensures { self.new ≡ record self.old { searched = started self.old.searched at } }
     {
         self.searched.start(at);
     }
 
+    /// The open search is at an offset.
     pub fn search_update(&mut self, at: usize)
         ensures { self.new ≡ record self.old { searched = updated self.old.searched at } }
     {
         self.searched.update(at);
     }
 
+    /// The open search ends at an offset.
     pub fn search_finish(&mut self, at: usize)
         ensures { self.new ≡ record self.old { searched = finished self.old.searched at } }
     {
@@ -273,6 +279,7 @@ impl Store {
             || self.table.has_row(id)
     }
 
+    /// The ID of the dead state.
     pub fn dead(&self) -> LazyStateID
         ensures { result ≡ dead_id self.now.table.of.stride }
     {

@@ -59,6 +59,7 @@ impl Table {
         self.map.get(state).copied()
     }
 
+    /// The number of rows.
     pub fn len(&self) -> usize
         ensures { result ≡ length self.now.rows }
     {
@@ -93,12 +94,14 @@ impl Table {
         let _ = self.rows.len();
     }
 
+    /// How many cells a row has.
     pub fn stride(&self) -> usize
         ensures { result ≡ self.now.of.stride }
     {
         self.stride
     }
 
+    /// The number of cells of all rows.
     pub fn cell_count(&self) -> usize
         ensures { result ≡ length self.now.cells }
     {
@@ -117,6 +120,7 @@ impl Table {
         &row.state
     }
 
+    /// The accounted bytes of all rows' states.
     pub fn costs(&self) -> usize
         ensures { result ≡ sum_by row_cost self.now.rows }
     {

@@ -18,7 +18,7 @@ use crate::util::look::LookSet;
 use crate::util::primitives::{PatternID, StateID};
 use crate::util::search::MatchKind;
 
-// Whether a powerset state keeps the state.
+/// Whether a powerset state keeps the state.
 pub fn stays(state: &State) -> bool
     ensures { result ≡ stays_at (node_of state.now) }
 {
@@ -35,7 +35,7 @@ pub fn stays(state: &State) -> bool
     }
 }
 
-// The set with the state's look, if it is a look.
+/// The set with the state's look, if it is a look.
 pub fn add_look(set: LookSet, state: &State) -> LookSet
     ensures { (other : Look) → truth_of result other ≡ (looks_at (λ look. eqb (look_index look) (look_index other)) (node_of state.now) || truth_of set other) }
 {
@@ -52,7 +52,7 @@ pub fn add_look(set: LookSet, state: &State) -> LookSet
     }
 }
 
-// The pattern of a match state.
+/// The pattern of a match state.
 pub fn pattern_of(state: &State) -> Option<PatternID>
     ensures { result ≡ accepts_at (node_of state.now) }
 {
@@ -69,7 +69,7 @@ pub fn pattern_of(state: &State) -> Option<PatternID>
     }
 }
 
-// Where a look leads.
+/// Where a look leads.
 pub fn look_target(state: &State) -> Option<StateID>
     ensures { result ≡ look_target (node_of state.now) }
 {
@@ -119,7 +119,7 @@ fn dense_target(targets: &[StateID], u: u8) -> Option<StateID>
     if is_zero(next) { None } else { Some(next) }
 }
 
-// Where the byte edge leads on a byte.
+/// Where the byte edge leads on a byte.
 pub fn target(state: &State, u: u8) -> Option<StateID>
     ensures { result ≡ takes_at (node_of state.now) u }
 {

@@ -10,12 +10,14 @@ use crate::nfa::thompson::NFA;
 use crate::util::determinize::state::State;
 use crate::util::look::{Look, LookSet};
 
+/// Whether a byte is an ASCII word byte.
 pub fn is_word_u8(u: u8) -> bool
     ensures { result ≡ is_word_byte u }
 {
     48 <= u && u <= 57 || 65 <= u && u <= 90 || u == 95 || 97 <= u && u <= 122
 }
 
+/// Whether a unit is an ASCII word byte. The end isn't.
 pub fn is_word_unit(u: Option<u8>) -> bool
     ensures { result ≡ is_word u }
 {
@@ -25,6 +27,7 @@ pub fn is_word_unit(u: Option<u8>) -> bool
     }
 }
 
+/// Whether a unit is this byte.
 pub fn is_unit(b: u8, u: Option<u8>) -> bool
     ensures { result ≡ is_byte b u }
 {
@@ -34,12 +37,14 @@ pub fn is_unit(b: u8, u: Option<u8>) -> bool
     }
 }
 
+/// The byte of a CRLF pair that is read first.
 pub fn first_of(reverse: bool) -> u8
     ensures { result ≡ first_half reverse }
 {
     if reverse { 10 } else { 13 }
 }
 
+/// The byte of a CRLF pair that is read second.
 pub fn second_of(reverse: bool) -> u8
     ensures { result ≡ second_half reverse }
 {

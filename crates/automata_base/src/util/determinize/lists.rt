@@ -28,7 +28,7 @@ fn push_if(kept: &mut Vec<StateID>, id: StateID, passes: bool)
     }
 }
 
-// Puts the kept states of a list into another, and gives the looks among them.
+/// Puts the kept states of a list into another, and gives the looks among them.
 pub fn keep_states(nfa: &NFA, states: &[StateID], kept: &mut Vec<StateID>) -> LookSet
     requires below { (q : ℕ) → In q states.now → q < length nfa.now.states }
     requires room { length states.now ≤ vec_capacity kept.old }
@@ -63,7 +63,7 @@ fn cut_first(nfa: &NFA, states: &[StateID]) -> usize
     states.len()
 }
 
-// How many states of a list count under the kind.
+/// How many states of a list count under the kind.
 pub fn cut_length(nfa: &NFA, kind: MatchKind, states: &[StateID]) -> usize
     requires below { (q : ℕ) → In q states.now → q < length nfa.now.states }
     ensures below { result ≤ length states.now }
@@ -81,7 +81,7 @@ fn is_same(p: PatternID, q: PatternID) -> bool
     p.as_usize() == q.as_usize()
 }
 
-// Whether the pattern is in the list.
+/// Whether the pattern is in the list.
 pub fn has_pattern(patterns: &[PatternID], p: PatternID) -> bool
     ensures { result ≡ is_in p patterns.now }
 {

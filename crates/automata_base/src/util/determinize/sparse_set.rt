@@ -26,7 +26,7 @@ impl Model for SparseSet {
 }
 
 impl SparseSet {
-    // An empty set with room for the numbers below `capacity`.
+    /// An empty set with room for the numbers below `capacity`.
     pub fn new(alloc: Global, capacity: u32) -> Result<Self, AllocError>
         ensures empty { IfOk result (λ set. set.items ≡ []) }
         ensures capacity { IfOk result (λ set. set.capacity ≡ capacity) }
@@ -40,6 +40,7 @@ impl SparseSet {
         })
     }
 
+    /// Takes each number out, without touching what holds them.
     pub fn clear(&mut self)
         ensures empty { self.new.items ≡ [] }
         ensures capacity { self.new.capacity ≡ self.old.capacity }
@@ -47,6 +48,7 @@ impl SparseSet {
         self.len = 0;
     }
 
+    /// Its numbers, in the order they came in.
     pub fn as_slice(&self) -> &[StateID]
         ensures items { result.now ≡ self.now.items }
         ensures below { (q : ℕ) → In q self.now.items → q < self.now.capacity }
@@ -55,6 +57,7 @@ impl SparseSet {
         &self.dense[..self.len]
     }
 
+    /// Whether a number is in it.
     pub fn contains(&self, id: StateID) -> bool
         requires { id < self.now.capacity }
         ensures had { IsTrue result → Contains self.now.items id }
@@ -64,7 +67,7 @@ impl SparseSet {
         i < self.len && self.dense[i] == id
     }
 
-    // Whether the number is new. It then comes last.
+    /// Whether the number is new. It then comes last.
     pub fn insert(&mut self, id: StateID) -> bool
         requires { id < self.old.capacity }
         ensures new { IsTrue result → Contains self.old.items id → ⊥ }
