@@ -212,7 +212,7 @@ impl NFA {
         ensures same { IfOk result (λ nfa. nfa ≡ automaton
             states.items start_anchored start_unanchored start_pattern.items flags) }
         ensures refused { (error : NfaError)
-            → refusal states.items start_anchored start_unanchored start_pattern.items ≡ Some error
+            → door_refusal states.items start_anchored start_unanchored start_pattern.items ≡ Some error
             → result ≡ Err error }
         ensures memory { door_refusal states.items start_anchored start_unanchored start_pattern.items ≡ None
             → IsOkUnless result NfaError.OutOfMemory }
