@@ -13,6 +13,7 @@ pub mod Starting
 pub mod Slots
 pub mod Founds
 pub mod Searches
+pub mod Searched
 pub mod Costs
 pub mod Knowing
 pub mod Passing

@@ -1,4 +1,4 @@
-ghost use Rattle.std.specs.Prelude.{ℕ, ◌≡◌, ◌+◌, ◌-◌, ◌^◌, ◌<◌, ◌≤◌, IfOk, IfErr, IfSome, IsBitSet, IsTrue, OnOk, Option, None, Err, Ok, true, false, length, option_map};
+ghost use Rattle.std.specs.Prelude.{ℕ, ◌≡◌, ◌+◌, ◌-◌, ◌^◌, ◌<◌, ◌≤◌, ◌⊎◌, IfOk, IfErr, IfSome, IsBitSet, IsTrue, OnOk, Option, None, Err, Ok, true, false, length, option_map};
 ghost use Rattle.automata_base.specs.Answers.{IsAnswer};
 ghost use Rattle.automata_base.specs.declared.util.search.MatchKind.TheVariants.{All as KindAll};
 ghost use Rattle.automata_base.specs.Engines.{engine_of};
@@ -14,7 +14,12 @@ ghost use Rattle.automata_hybrid.specs.Growing.{IsGrown, IsStill, ClearedNothing
 ghost use Rattle.automata_hybrid.specs.Ids.{fixed_from, offset_limit};
 ghost use Rattle.automata_hybrid.specs.Knowing.{IsOfInput, KnowsItsStart, KnowsPass, Knows};
 ghost use Rattle.automata_hybrid.specs.Passing.{HasLearned, HasLearnedAll, IsAt, IsFollowed, IsLed, found_over};
-ghost use Rattle.automata_hybrid.specs.Searches.{IsFound, IsPassRefusal, IsRefused, MeetsNoQuit, NoQuitInReach, WithoutBase, state_in, tape_in, with_base};
+ghost use Rattle.automata_base.specs.Paths.{next};
+ghost use Rattle.automata_base.specs.Powerset.{Powerset, dead};
+ghost use Rattle.automata_hybrid.specs.Progressing.{started};
+ghost use Rattle.automata_hybrid.specs.Searched.{EndsAtLast, HasEnded, IsEndedBy, IsLeft, IsLeftAt, IsLeftOpen};
+ghost use Rattle.automata_hybrid.specs.declared.dfa.progress.Searched.{Searched};
+ghost use Rattle.automata_hybrid.specs.Searches.{given_up_offset, IsFound, IsPassRefusal, IsRefused, MeetsNoQuit, NoQuitInReach, WithoutBase, state_in, tape_in, with_base};
 ghost use Rattle.automata_hybrid.specs.Slots.{supports};
 ghost use Rattle.automata_hybrid.specs.Starting.{MayStart, quit_behind};
 ghost use Rattle.automata_hybrid.specs.Table.{IsValid, Names};
@@ -166,6 +171,8 @@ impl DFA {
         ensures learned { ClearedNothing cache.old.store cache.new.store → OnOk result (HasLearnedAll Forward self.now cache.new.store input.now) }
         ensures unsupported { quit_behind self.now (byte_before input.now.haystack input.now.start) ≡ None → supports self.now input.now.anchored ≡ false → result ≡ Err (SearchError.Match (UnsupportedMode input.now.anchored)) }
         ensures supported { OnOk result (supports self.now input.now.anchored ≡ true) }
+        ensures ended { OnOk result (HasEnded Forward self.now input.now cache.old.store cache.new.store) }
+        ensures left { IfErr result (IsLeft Forward self.now input.now cache.old.store cache.new.store) }
     {
         cache.see_slots();
         let start = self.start_state_forward(cache, input)?;
@@ -628,6 +635,14 @@ impl DFA {
         ensures grown { IsGrown cache.old cache.new }
         ensures idle { KnowsPass Forward self.now cache.old.store input.now → (cache.new.count ≡ cache.old.count) × IfErr result IsOfInput }
         ensures learned { KnowsItsStart Forward self.now cache.old.store input.now → ClearedNothing cache.old.store cache.new.store → OnOk result (HasLearnedAll Forward self.now cache.new.store input.now) }
+        ensures ended { (before : Searched)
+            → cache.old.store.searched ≡ started before (given_up_offset Forward input.now 0)
+            → OnOk result (EndsAtLast Forward self.now input.now before cache.old.store cache.new.store) }
+        ensures left { (before : Searched)
+            → cache.old.store.searched ≡ started before (given_up_offset Forward input.now 0)
+            → IfErr result (λ e.
+            EndsAtLast Forward self.now input.now before cache.old.store cache.new.store
+            ⊎ IsLeftOpen Forward self.now input.now before cache.old.store cache.new.store e) }
     {
         let mut at = input.start();
         let mut id = start;
@@ -673,6 +688,11 @@ impl DFA {
         ensures grown { IsGrown cache.old cache.new }
         ensures idle { KnowsPass Forward self.now cache.old.store input.now → (cache.new.count ≡ cache.old.count) × IfErr result IsOfInput }
         ensures learned { KnowsItsStart Forward self.now cache.old.store input.now → HasLearned Forward self.now cache.old.store input.now (input.now.end - input.now.start) → ClearedNothing cache.old.store cache.new.store → OnOk result (HasLearnedAll Forward self.now cache.new.store input.now) }
+        ensures alive { (q : Powerset) → Names cache.old.store.table id q → q ≡ dead → ⊥ }
+        ensures ended { OnOk result (IsEndedBy input.now.end cache.old.store cache.new.store) }
+        ensures left { IfErr result (IsLeftAt self.now
+            (next (tape_in Forward input.now) (input.now.end - input.now.start)) input.now.end
+            cache.old.store cache.new.store) }
     {
         let end = input.end();
         if end < input.haystack().len() {

@@ -10,6 +10,7 @@ ghost use Rattle.automata_hybrid.specs.Knowing.{IsOfInput};
 ghost use Rattle.automata_hybrid.specs.Ids.{quit_id};
 ghost use Rattle.automata_base.specs.Tapes.{is_split};
 ghost use Rattle.automata_hybrid.specs.Passing.{IsDeadTagged, half_at, step_refusal};
+ghost use Rattle.automata_hybrid.specs.Searched.{IsKeptOrCleared, IsLeftAt, IsMovedTo, IsOfRoom};
 ghost use Rattle.automata_hybrid.specs.Searches.{Skips, IsStepRefusal};
 ghost use Rattle.automata_base.specs.declared.util.search.MatchErrorKind.TheVariants.{Quit as QuitAt};
 ghost use Rattle.automata_hybrid.specs.Table.{IsValid, Leads, Names};
@@ -132,6 +133,9 @@ impl DFA {
         ensures quit { IfOk result (λ n. is_quit self.now.quits byte ≡ true → n ≡ quit_id self.now.stride) }
         ensures named { IfOk result (λ n. is_quit self.now.quits byte ≡ false → (q : Powerset) → Names cache.old.store.table id q → Leads cache.new.store.table n (successor self.now.nfa self.now.kind q (Some byte))) }
         ensures errors { IfErr result (λ e. (q : Powerset) (quit_at : ℕ) → Names cache.old.store.table id q → IsStepRefusal self.now cache.new.store q (Some byte) quit_at at e) }
+        ensures room { IfErr result (IsOfRoom at) }
+        ensures progress { IsKeptOrCleared cache.old.store cache.new.store
+            cache.old.store.searched cache.new.store.searched }
     {
         cache.see_ids();
         match self.next_state(cache, id, byte) {
@@ -162,6 +166,8 @@ impl DFA {
         ensures idle { IsKnownTransition cache.old.store id (class_in self.now.classes byte) → (cache.new.count ≡ cache.old.count) × IfErr result IsOfInput }
         ensures learned { ClearedNothing cache.old.store cache.new.store → OnOk result (IsKnownTransition cache.new.store id (class_in self.now.classes byte)) }
         ensures below { class_in self.now.classes byte < self.now.stride }
+        ensures moved { OnOk result (IsMovedTo at cache.old.store cache.new.store) }
+        ensures left { IfErr result (IsLeftAt self.now (Some byte) at cache.old.store cache.new.store) }
     {
         self.see_classes();
         cache.see_ids();
@@ -193,6 +199,9 @@ impl DFA {
         ensures idle { IsKnownTransition cache.old.store id (eoi_class self.now.classes) → (cache.new.count ≡ cache.old.count) × IfErr result IsOfInput }
         ensures learned { ClearedNothing cache.old.store cache.new.store → OnOk result (IsKnownTransition cache.new.store id (eoi_class self.now.classes)) }
         ensures below { eoi_class self.now.classes < self.now.stride }
+        ensures room { IfErr result (IsOfRoom at) }
+        ensures progress { IsKeptOrCleared cache.old.store cache.new.store
+            cache.old.store.searched cache.new.store.searched }
     {
         self.see_classes();
         cache.see_ids();

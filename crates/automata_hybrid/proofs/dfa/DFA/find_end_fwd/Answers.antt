@@ -1,4 +1,4 @@
-use Rattle.std.proofs.Common.{ℕ, ◌∙◌, ◌≡◌, ◌+◌, ◌-◌, false, List, length, Some, None, sym, ap, subst, arith}
+use Rattle.std.proofs.Common.{ℕ, ◌∙◌, ◌≡◌, ◌+◌, ◌-◌, false, inr, List, length, Some, None, sym, ap, subst, arith}
 use Rattle.automata_base.specs.Classes.{is_quit}
 use Rattle.automata_base.specs.Paths.{next}
 use Rattle.automata_base.specs.Tapes.{Forward}
@@ -8,10 +8,12 @@ use Rattle.automata_hybrid.specs.Caches.{CacheView}
 use Rattle.automata_hybrid.specs.Growing.{IsGrown}
 use Rattle.automata_hybrid.specs.Knowing.{unit_class}
 use Rattle.automata_hybrid.specs.Passing.{IsAt}
+use Rattle.automata_hybrid.specs.Searched.{IsEndedBy, IsLeftAt}
 use Rattle.automata_hybrid.specs.Searches.{tape_in}
 use Rattle.automata_hybrid.specs.Table.{Rows, Leads, Names}
 use Rattle.automata_hybrid.proofs.Growing.{grown_moved, grown_trans, nothing_second}
 use Rattle.automata_hybrid.proofs.Knowing.{knows_here, learned_ends, learned_moved}
+use Rattle.automata_hybrid.proofs.Searched.{ended_after, ended_by, moved_by}
 use Rattle.automata_hybrid.proofs.Searching.{more_last, clean_last, step_refuses, stops_last, if_err}
 use Rattle.automata_hybrid.proofs.Units.{forward_read, forward_end, forward_units}
 use Rattle.automata_hybrid.proofs.dfa.DFA.find_end_fwd.Goals as goal
@@ -144,3 +146,28 @@ returns-clause-learned c = λ begin learned.
     (grown_trans c.args.cache.now c.move_search.new.self c.read_end.new.cache moved c.in_ok-last-2.ensures.grown) c.in_ok-last-2.ensures.of c.requires.at.named past
     (λ n. c.in_ok-last-2.ensures.learned (nothing_second c.args.cache.now c.move_search.new.self c.read_end.new.cache moved c.in_ok-last-2.ensures.grown n)) c.in_ok-last-2.ensures.below
     (stops_last Forward c.args.self.now c.args.input.now k units) begin learned)
+
+pub returns-then-end-haystack-clause-ended : goal.returns-then-end-haystack-clause-ended
+returns-then-end-haystack-clause-ended c =
+    subst (λ at. IsEndedBy at c.args.cache.now.store c.end_search.new.self.store) c.end-end.ensures.end
+    (ended_after c.args.cache.now c.read.new.cache c.end_search.new.self c.end-end.result c.in_ok-last.ensures.moved c.end_search.ensures.value)
+
+pub returns-clause-ended : goal.returns-clause-ended
+returns-clause-ended c =
+    subst (λ at. IsEndedBy at c.args.cache.now.store c.end_search-2.new.self.store) c.end-end.ensures.end
+    (ended_by c.args.cache.now c.move_search.new.self c.read_end.new.cache c.end_search-2.new.self c.end-end.result c.move_search.ensures.value c.in_ok-last-2.ensures.progress c.end_search-2.ensures.value)
+
+pub returns-in_err-last-clause-left : goal.returns-in_err-last-clause-left
+returns-in_err-last-clause-left c =
+    let k : ℕ = c.args.input.now.end - c.args.input.now.start in
+    let read : next (tape_in Forward c.args.input.now) k ≡ Some _ = forward_read c.args.input.now c.haystack-then-end-haystack.result.now c.args.input.now.end c.end-end.result c.requires.open (omega arith) c.end-end.ensures.within.1 (let h : length c.haystack.result.now ≡ length c.args.input.now.haystack = ap (λ (x : List ℕ). length x) c.haystack.ensures.same in omega (arith, h, c.if-end-haystack.true, c.end-end.ensures.end)) c.haystack-then-end-haystack.ensures.same c.end-end.ensures.end in
+    if_err c.from_residual.result _ _ c.from_residual.ensures.1
+    (subst (λ at. IsLeftAt c.args.self.now (next (tape_in Forward c.args.input.now) k) at c.args.cache.now.store c.read.new.cache.store c.in_err-last.field-0.0) c.end-end.ensures.end
+    (subst (λ u. IsLeftAt c.args.self.now u c.end-end.result c.args.cache.now.store c.read.new.cache.store c.in_err-last.field-0.0) (sym read) c.in_err-last.ensures.left))
+
+pub returns-in_err-last-2-clause-left : goal.returns-in_err-last-2-clause-left
+returns-in_err-last-2-clause-left c =
+    let k : ℕ = c.args.input.now.end - c.args.input.now.start in
+    if_err c.from_residual-in_err-last-2.result _ _ c.from_residual-in_err-last-2.ensures.1
+    (subst (λ at. IsLeftAt c.args.self.now (next (tape_in Forward c.args.input.now) k) at c.args.cache.now.store c.read_end.new.cache.store c.in_err-last-2.field-0.0) c.end-end.ensures.end
+    (inr (c.in_err-last-2.ensures.room, moved_by c.args.cache.now c.move_search.new.self c.read_end.new.cache c.end-end.result c.move_search.ensures.value c.in_err-last-2.ensures.progress)))

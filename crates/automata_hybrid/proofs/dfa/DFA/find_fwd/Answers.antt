@@ -1,15 +1,18 @@
-use Rattle.std.proofs.Common.{ℕ, suc, ◌≡◌, ◌∙◌, ◌+◌, ◌-◌, ◌<◌, ◌≤◌, true, false, length, Some, None, refl, sym, subst, arith}
+use Rattle.std.proofs.Common.{ℕ, suc, ◌≡◌, ◌∙◌, ◌+◌, ◌-◌, ◌<◌, ◌≤◌, true, false, length, Some, None, inl, refl, sym, subst, arith}
 use Rattle.automata_base.specs.Classes.{is_quit}
 use Rattle.automata_base.specs.Paths.{next}
 use Rattle.automata_base.specs.Tapes.{Forward}
 use Rattle.automata_base.proofs.Paths.Orders.{some_inj}
-use Rattle.automata_hybrid.specs.Growing.{ClearedNothing}
+use Rattle.automata_hybrid.specs.Growing.{ClearedNothing, IsGrown}
 use Rattle.automata_hybrid.specs.Knowing.{KnowsPass}
 use Rattle.automata_hybrid.specs.Passing.{HasLearned, IsAt}
-use Rattle.automata_hybrid.specs.Searches.{tape_in}
+use Rattle.automata_hybrid.specs.Searched.{IsOpenAt}
+use Rattle.automata_hybrid.specs.Searches.{Reads, given_up_offset, tape_in}
 use Rattle.automata_hybrid.proofs.Growing.{grown_moved, grown_same, grown_trans, nothing_first, nothing_second}
 use Rattle.automata_hybrid.proofs.Knowing.{knows_here, knows_still, learned_ends, learned_moved, learned_none, learned_step}
-use Rattle.automata_hybrid.proofs.Searching.{stops_dead, stops_ends, more_leads, more_at, more_dead, clean_dead, more_ends, clean_ends, starts_at, step_refuses, if_err, false_true, some_is, none_is}
+use Rattle.std.proofs.lemmas.Result.{IfErr-weaker, IfOk-weaker}
+use Rattle.automata_hybrid.proofs.Searched.{ended_after, last_here, left_here, stays_open}
+use Rattle.automata_hybrid.proofs.Searching.{stops_dead, stops_ends, stops_last, more_leads, more_at, more_dead, clean_dead, more_ends, clean_ends, starts_at, step_refuses, if_err, false_true, some_is, none_is}
 use Rattle.automata_hybrid.proofs.Units.{forward_read, forward_units}
 use Rattle.automata_hybrid.proofs.dfa.DFA.find_fwd.Goals as goal
 use Rattle.automata_hybrid.proofs.dfa.DFA.find_fwd.Goals.{else-get_earliest-via-then-get_earliest+else-is_some, else-get_earliest-via-else-get_earliest}
@@ -26,6 +29,7 @@ loop-at-init c =
       from = omega (arith, c.start-at.ensures.start);
       within = omega (arith, c.start-at.ensures.start, c.requires.open);
       at = subst (λ k. IsAt Forward c.args.self.now c.args.cache.now.store.table c.args.input.now k c.args.start None) z (starts_at Forward c.args.self.now c.args.cache.now.store.table c.args.input.now c.args.start c.requires.named);
+      progress = λ s e. (given_up_offset Forward c.args.input.now 0, (s, given_up_offset Forward c.args.input.now 0, inl (refl, refl), e));
     }
 
 pub find_end_fwd-requires-clause-at : goal.find_end_fwd-requires-clause-at
@@ -133,6 +137,10 @@ loop-at-preserved c =
       from = omega (arith, from);
       within = omega (arith, inside);
       at = subst (λ n. IsAt Forward c.args.self.now c.read.new.cache.store.table c.args.input.now n c.in_ok-next.next c.found_at-found.result) more (more_at Forward c.args.self.now c.loop-at.cache.store.table c.read.new.cache.store.table c.args.input.now k c.run_fwd-run.result.id c.in_ok-next.next _ c.run_fwd-run.result.found c.found_at-found.result at read c.in_ok-next.ensures.named (λ byte e. subst (λ v. is_quit c.args.self.now.quits v ≡ false) (some_inj e) c.in_ok-next.ensures.clean) (c.run_fwd-run.result.at, place, c.found_at-found.ensures) first (λ l. (c.in_ok-next.ensures.dead _ l).1 (λ b. false_true (c.if-is_dead.ensures.1 b))));
+      progress = λ s e.
+          (let underway : (x : ℕ) × IsOpenAt c.args.input.now s (given_up_offset Forward c.args.input.now 0) x c.args.cache.now.store c.loop-at.cache.store = c.loop-at.invariant.progress s e in
+          (c.run_fwd-run.result.at, stays_open c.args.input.now s (given_up_offset Forward c.args.input.now 0) c.args.cache.now c.loop-at.cache c.read.new.cache c.loop-at.invariant.grown c.in_ok-next.ensures.grown
+          underway.0 c.run_fwd-run.result.at from (omega (arith, inside)) underway.1 c.in_ok-next.ensures.moved));
     }
 
 pub returns-then-is_dead-clause-grown : goal.returns-then-is_dead-clause-grown
@@ -260,3 +268,98 @@ returns-clause-learned c = λ begin nothing.
     let before = c.loop-at.invariant.learned begin (nothing_first c.args.cache.now c.loop-at.cache c.find_end_fwd-2.new.cache c.loop-at.invariant.grown c.find_end_fwd-2.ensures.grown nothing) in
     c.find_end_fwd-2.ensures.learned before.0 (subst (HasLearned Forward c.args.self.now c.loop-at.cache.store c.args.input.now) same before.1)
     (nothing_second c.args.cache.now c.loop-at.cache c.find_end_fwd-2.new.cache c.loop-at.invariant.grown c.find_end_fwd-2.ensures.grown nothing)
+
+pub returns-in_err-next-clause-left : goal.returns-in_err-next-clause-left
+returns-in_err-next-clause-left c = λ s e.
+    let from : c.args.input.now.start ≤ c.run_fwd-run.result.at = omega (arith, c.loop-at.invariant.from, c.run_fwd-run.ensures.from) in
+    let inside : c.run_fwd-run.result.at < c.args.input.now.end = omega (arith, c.if-run-end.false, c.end-in-loop-at.ensures.end) in
+    let k : ℕ = c.run_fwd-run.result.at - c.args.input.now.start in
+    let place : c.run_fwd-run.result.at ≡ c.args.input.now.start + k = omega (arith, from) in
+    let at : IsAt Forward c.args.self.now c.loop-at.cache.store.table c.args.input.now k c.run_fwd-run.result.id c.run_fwd-run.result.found = c.run_fwd-run.ensures.at in
+    let read : next (tape_in Forward c.args.input.now) k ≡ Some _ = forward_read c.args.input.now c.haystack.result.now c.run_fwd-run.result.at c.run_fwd-run.result.at from (omega (arith, inside)) c.end-in-loop-at.ensures.within.1 (omega (arith, inside, c.end-in-loop-at.ensures.within.1)) c.haystack.ensures.same refl in
+    let few : k ≤ length (tape_in Forward c.args.input.now).bytes = (let u : c.args.input.now.end - c.args.input.now.start ≡ length (tape_in Forward c.args.input.now).bytes = forward_units c.args.input.now c.requires.open c.end-in-loop-at.ensures.within.1 in omega (arith, u, inside)) in
+    let underway : (x : ℕ) × IsOpenAt c.args.input.now s (given_up_offset Forward c.args.input.now 0) x c.args.cache.now.store c.loop-at.cache.store = c.loop-at.invariant.progress s e in
+    if_err c.from_residual.result _ _ c.from_residual.ensures.1
+    (left_here Forward c.args.self.now c.args.input.now s c.args.cache.now c.loop-at.cache c.read.new.cache c.loop-at.invariant.grown c.in_err-next.ensures.grown
+    k c.run_fwd-run.result.id c.run_fwd-run.result.at underway.0 (Some _) c.run_fwd-run.result.found at few c.in_err-next.ensures.alive read (sym place) from (omega (arith, inside)) underway.1
+    c.in_err-next.field-0.0 c.in_err-next.ensures.left)
+
+pub returns-then-is_dead-clause-ended : goal.returns-then-is_dead-clause-ended
+returns-then-is_dead-clause-ended c = λ s e.
+    let from : c.args.input.now.start ≤ c.run_fwd-run.result.at = omega (arith, c.loop-at.invariant.from, c.run_fwd-run.ensures.from) in
+    let inside : c.run_fwd-run.result.at < c.args.input.now.end = omega (arith, c.if-run-end.false, c.end-in-loop-at.ensures.end) in
+    let k : ℕ = c.run_fwd-run.result.at - c.args.input.now.start in
+    let place : c.run_fwd-run.result.at ≡ c.args.input.now.start + k = omega (arith, from) in
+    let at : IsAt Forward c.args.self.now c.loop-at.cache.store.table c.args.input.now k c.run_fwd-run.result.id c.run_fwd-run.result.found = c.run_fwd-run.ensures.at in
+    let read : next (tape_in Forward c.args.input.now) k ≡ Some _ = forward_read c.args.input.now c.haystack.result.now c.run_fwd-run.result.at c.run_fwd-run.result.at from (omega (arith, inside)) c.end-in-loop-at.ensures.within.1 (omega (arith, inside, c.end-in-loop-at.ensures.within.1)) c.haystack.ensures.same refl in
+    let few : k ≤ length (tape_in Forward c.args.input.now).bytes = (let u : c.args.input.now.end - c.args.input.now.start ≡ length (tape_in Forward c.args.input.now).bytes = forward_units c.args.input.now c.requires.open c.end-in-loop-at.ensures.within.1 in omega (arith, u, inside)) in
+    let underway : (x : ℕ) × IsOpenAt c.args.input.now s (given_up_offset Forward c.args.input.now 0) x c.args.cache.now.store c.loop-at.cache.store = c.loop-at.invariant.progress s e in
+    let stops : Reads Forward c.args.self.now c.args.input.now (suc k) → ⊥ = stops_dead Forward c.args.self.now c.loop-at.cache.store.table c.read.new.cache.store.table c.args.input.now k c.run_fwd-run.result.id c.in_ok-next.next _ c.run_fwd-run.result.found None at read c.in_ok-next.ensures.named (λ byte e. subst (λ v. is_quit c.args.self.now.quits v ≡ false) (some_inj e) c.in_ok-next.ensures.clean) (λ l. (c.in_ok-next.ensures.dead _ l).0 (c.if-is_dead.ensures.0 refl)) (suc k) (omega arith) in
+    let grown : IsGrown c.loop-at.cache c.end_search.new.self = grown_trans c.loop-at.cache c.read.new.cache c.end_search.new.self c.in_ok-next.ensures.grown (grown_moved c.read.new.cache c.end_search.new.self c.end_search.ensures.value) in
+    last_here Forward c.args.self.now c.args.input.now s c.args.cache.now c.loop-at.cache c.end_search.new.self c.loop-at.invariant.grown grown
+    k c.run_fwd-run.result.id c.run_fwd-run.result.at underway.0 (Some _) c.run_fwd-run.result.found at few c.in_ok-next.ensures.alive read (sym place) from (omega (arith, inside)) underway.1
+    (ended_after c.loop-at.cache c.read.new.cache c.end_search.new.self c.run_fwd-run.result.at c.in_ok-next.ensures.moved c.end_search.ensures.value) (inl stops)
+
+pub returns-then-is_some-clause-ended : goal.returns-then-is_some-clause-ended
+returns-then-is_some-clause-ended c = λ s e.
+    let from : c.args.input.now.start ≤ c.run_fwd-run.result.at = omega (arith, c.loop-at.invariant.from, c.run_fwd-run.ensures.from) in
+    let inside : c.run_fwd-run.result.at < c.args.input.now.end = omega (arith, c.if-run-end.false, c.end-in-loop-at.ensures.end) in
+    let k : ℕ = c.run_fwd-run.result.at - c.args.input.now.start in
+    let place : c.run_fwd-run.result.at ≡ c.args.input.now.start + k = omega (arith, from) in
+    let at : IsAt Forward c.args.self.now c.loop-at.cache.store.table c.args.input.now k c.run_fwd-run.result.id c.run_fwd-run.result.found = c.run_fwd-run.ensures.at in
+    let read : next (tape_in Forward c.args.input.now) k ≡ Some _ = forward_read c.args.input.now c.haystack.result.now c.run_fwd-run.result.at c.run_fwd-run.result.at from (omega (arith, inside)) c.end-in-loop-at.ensures.within.1 (omega (arith, inside, c.end-in-loop-at.ensures.within.1)) c.haystack.ensures.same refl in
+    let few : k ≤ length (tape_in Forward c.args.input.now).bytes = (let u : c.args.input.now.end - c.args.input.now.start ≡ length (tape_in Forward c.args.input.now).bytes = forward_units c.args.input.now c.requires.open c.end-in-loop-at.ensures.within.1 in omega (arith, u, inside)) in
+    let underway : (x : ℕ) × IsOpenAt c.args.input.now s (given_up_offset Forward c.args.input.now 0) x c.args.cache.now.store c.loop-at.cache.store = c.loop-at.invariant.progress s e in
+    let stops : Reads Forward c.args.self.now c.args.input.now (suc k) → ⊥ = stops_ends Forward c.args.self.now c.loop-at.cache.store.table c.read.new.cache.store.table c.args.input.now k c.run_fwd-run.result.id c.in_ok-next.next _ c.run_fwd-run.result.found c.found_at-found.result at read c.in_ok-next.ensures.named (λ byte e. subst (λ v. is_quit c.args.self.now.quits v ≡ false) (some_inj e) c.in_ok-next.ensures.clean) (c.run_fwd-run.result.at, place, c.found_at-found.ensures) (sym c.get_earliest.ensures ∙ c.if-get_earliest.true) (some_is c.found_at-found.result c.if-is_some.ensures) (suc k) (omega arith) in
+    let grown : IsGrown c.loop-at.cache c.end_search-then-is_some.new.self = grown_trans c.loop-at.cache c.read.new.cache c.end_search-then-is_some.new.self c.in_ok-next.ensures.grown (grown_moved c.read.new.cache c.end_search-then-is_some.new.self c.end_search-then-is_some.ensures.value) in
+    last_here Forward c.args.self.now c.args.input.now s c.args.cache.now c.loop-at.cache c.end_search-then-is_some.new.self c.loop-at.invariant.grown grown
+    k c.run_fwd-run.result.id c.run_fwd-run.result.at underway.0 (Some _) c.run_fwd-run.result.found at few c.in_ok-next.ensures.alive read (sym place) from (omega (arith, inside)) underway.1
+    (ended_after c.loop-at.cache c.read.new.cache c.end_search-then-is_some.new.self c.run_fwd-run.result.at c.in_ok-next.ensures.moved c.end_search-then-is_some.ensures.value) (inl stops)
+
+pub returns-then-run-end-clause-ended : goal.returns-then-run-end-clause-ended
+returns-then-run-end-clause-ended c = λ s e.
+    let same : c.run_fwd-run.result.at - c.args.input.now.start ≡ c.args.input.now.end - c.args.input.now.start = omega (arith, c.if-run-end.true, c.run_fwd-run.ensures.within, c.end-in-loop-at.ensures.end) in
+    let k : ℕ = c.args.input.now.end - c.args.input.now.start in
+    let at : IsAt Forward c.args.self.now c.loop-at.cache.store.table c.args.input.now k c.run_fwd-run.result.id c.run_fwd-run.result.found = subst (λ k. IsAt Forward c.args.self.now c.loop-at.cache.store.table c.args.input.now k c.run_fwd-run.result.id c.run_fwd-run.result.found) same c.run_fwd-run.ensures.at in
+    let units : k ≡ length (tape_in Forward c.args.input.now).bytes = forward_units c.args.input.now c.requires.open c.end-in-loop-at.ensures.within.1 in
+    let underway : (x : ℕ) × IsOpenAt c.args.input.now s (given_up_offset Forward c.args.input.now 0) x c.args.cache.now.store c.loop-at.cache.store = c.loop-at.invariant.progress s e in
+    IfOk-weaker c.find_end_fwd.result _ _
+    (λ _ ended. last_here Forward c.args.self.now c.args.input.now s c.args.cache.now c.loop-at.cache c.find_end_fwd.new.cache c.loop-at.invariant.grown c.find_end_fwd.ensures.grown
+    k c.run_fwd-run.result.id c.args.input.now.end underway.0 (next (tape_in Forward c.args.input.now) k) c.run_fwd-run.result.found at (omega (arith, units)) c.find_end_fwd.ensures.alive refl (omega (arith, c.requires.open)) c.requires.open (omega arith) underway.1 ended (inl (λ r. stops_last Forward c.args.self.now c.args.input.now k units (suc k) (omega arith) r)))
+    c.find_end_fwd.ensures.ended
+
+pub returns-then-run-end-clause-left : goal.returns-then-run-end-clause-left
+returns-then-run-end-clause-left c = λ s e.
+    let same : c.run_fwd-run.result.at - c.args.input.now.start ≡ c.args.input.now.end - c.args.input.now.start = omega (arith, c.if-run-end.true, c.run_fwd-run.ensures.within, c.end-in-loop-at.ensures.end) in
+    let k : ℕ = c.args.input.now.end - c.args.input.now.start in
+    let at : IsAt Forward c.args.self.now c.loop-at.cache.store.table c.args.input.now k c.run_fwd-run.result.id c.run_fwd-run.result.found = subst (λ k. IsAt Forward c.args.self.now c.loop-at.cache.store.table c.args.input.now k c.run_fwd-run.result.id c.run_fwd-run.result.found) same c.run_fwd-run.ensures.at in
+    let units : k ≡ length (tape_in Forward c.args.input.now).bytes = forward_units c.args.input.now c.requires.open c.end-in-loop-at.ensures.within.1 in
+    let underway : (x : ℕ) × IsOpenAt c.args.input.now s (given_up_offset Forward c.args.input.now 0) x c.args.cache.now.store c.loop-at.cache.store = c.loop-at.invariant.progress s e in
+    IfErr-weaker c.find_end_fwd.result _ _
+    (λ error left. left_here Forward c.args.self.now c.args.input.now s c.args.cache.now c.loop-at.cache c.find_end_fwd.new.cache c.loop-at.invariant.grown c.find_end_fwd.ensures.grown
+    k c.run_fwd-run.result.id c.args.input.now.end underway.0 (next (tape_in Forward c.args.input.now) k) c.run_fwd-run.result.found at (omega (arith, units)) c.find_end_fwd.ensures.alive refl (omega (arith, c.requires.open)) c.requires.open (omega arith) underway.1 error left)
+    c.find_end_fwd.ensures.left
+
+pub returns-clause-ended : goal.returns-clause-ended
+returns-clause-ended c = λ s e.
+    let same : c.loop-at.at - c.args.input.now.start ≡ c.args.input.now.end - c.args.input.now.start = omega (arith, c.loop-at-test.false, c.loop-at.invariant.within, c.end.ensures.end) in
+    let k : ℕ = c.args.input.now.end - c.args.input.now.start in
+    let at : IsAt Forward c.args.self.now c.loop-at.cache.store.table c.args.input.now k c.loop-at.id c.loop-at.found = subst (λ k. IsAt Forward c.args.self.now c.loop-at.cache.store.table c.args.input.now k c.loop-at.id c.loop-at.found) same c.loop-at.invariant.at in
+    let units : k ≡ length (tape_in Forward c.args.input.now).bytes = forward_units c.args.input.now c.requires.open c.end.ensures.within.1 in
+    let underway : (x : ℕ) × IsOpenAt c.args.input.now s (given_up_offset Forward c.args.input.now 0) x c.args.cache.now.store c.loop-at.cache.store = c.loop-at.invariant.progress s e in
+    IfOk-weaker c.find_end_fwd-2.result _ _
+    (λ _ ended. last_here Forward c.args.self.now c.args.input.now s c.args.cache.now c.loop-at.cache c.find_end_fwd-2.new.cache c.loop-at.invariant.grown c.find_end_fwd-2.ensures.grown
+    k c.loop-at.id c.args.input.now.end underway.0 (next (tape_in Forward c.args.input.now) k) c.loop-at.found at (omega (arith, units)) c.find_end_fwd-2.ensures.alive refl (omega (arith, c.requires.open)) c.requires.open (omega arith) underway.1 ended (inl (λ r. stops_last Forward c.args.self.now c.args.input.now k units (suc k) (omega arith) r)))
+    c.find_end_fwd-2.ensures.ended
+
+pub returns-clause-left : goal.returns-clause-left
+returns-clause-left c = λ s e.
+    let same : c.loop-at.at - c.args.input.now.start ≡ c.args.input.now.end - c.args.input.now.start = omega (arith, c.loop-at-test.false, c.loop-at.invariant.within, c.end.ensures.end) in
+    let k : ℕ = c.args.input.now.end - c.args.input.now.start in
+    let at : IsAt Forward c.args.self.now c.loop-at.cache.store.table c.args.input.now k c.loop-at.id c.loop-at.found = subst (λ k. IsAt Forward c.args.self.now c.loop-at.cache.store.table c.args.input.now k c.loop-at.id c.loop-at.found) same c.loop-at.invariant.at in
+    let units : k ≡ length (tape_in Forward c.args.input.now).bytes = forward_units c.args.input.now c.requires.open c.end.ensures.within.1 in
+    let underway : (x : ℕ) × IsOpenAt c.args.input.now s (given_up_offset Forward c.args.input.now 0) x c.args.cache.now.store c.loop-at.cache.store = c.loop-at.invariant.progress s e in
+    IfErr-weaker c.find_end_fwd-2.result _ _
+    (λ error left. left_here Forward c.args.self.now c.args.input.now s c.args.cache.now c.loop-at.cache c.find_end_fwd-2.new.cache c.loop-at.invariant.grown c.find_end_fwd-2.ensures.grown
+    k c.loop-at.id c.args.input.now.end underway.0 (next (tape_in Forward c.args.input.now) k) c.loop-at.found at (omega (arith, units)) c.find_end_fwd-2.ensures.alive refl (omega (arith, c.requires.open)) c.requires.open (omega arith) underway.1 error left)
+    c.find_end_fwd-2.ensures.left

@@ -1,8 +1,9 @@
-use Rattle.std.proofs.Common.{refl, sym, subst}
+use Rattle.std.proofs.Common.{inl, refl, sym, subst}
 use Rattle.automata_hybrid.specs.Searches.{IsStepRefusal}
 use Rattle.automata_hybrid.specs.Table.{Rows, Names}
 use Rattle.automata_hybrid.proofs.Searching.{false_true, if_err}
 use Rattle.automata_hybrid.proofs.Growing.{grown_moved, grown_trans}
+use Rattle.automata_hybrid.proofs.Searched.{ended_by}
 use Rattle.automata_hybrid.proofs.Stepping.{dead_tagged, unquit, quits}
 use Rattle.automata_hybrid.proofs.dfa.DFA.read.Goals as goal
 
@@ -46,3 +47,12 @@ pub returns-in_err-next-clause-errors : goal.returns-in_err-next-clause-errors
 returns-in_err-next-clause-errors c =
     if_err c.from_residual.result _ _ c.from_residual.ensures.1
     (λ q n. c.in_err-next.ensures.errors q c.args.at (subst (λ (t : Rows). Names t c.args.id q) (sym c.move_search.ensures.table) n))
+
+pub returns-then-is_quit-clause-left : goal.returns-then-is_quit-clause-left
+returns-then-is_quit-clause-left c =
+    inl (
+      (_, refl, quits c.args.self.now c.move_search.new.self.store.table c.step.new.cache.store.table c.args.id c.in_ok-next.next c.args.byte c.requires.valid.0
+          c.see_ids-2.ensures.small (λ p. c.see_ids-2.ensures.low c.in_ok-next.next p) (c.if-is_quit.ensures.0 refl) c.in_ok-next.ensures.named
+          (subst (λ (t : Rows). Names t c.args.id c.requires.valid.0) (sym c.move_search.ensures.table) c.requires.valid.1)),
+      ended_by c.args.cache.now c.move_search.new.self c.step.new.cache c.end_search.new.self c.args.at c.move_search.ensures.value c.in_ok-next.ensures.progress c.end_search.ensures.value,
+    )

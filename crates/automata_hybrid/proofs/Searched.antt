@@ -1,0 +1,173 @@
+-- What steps, moves and ends make of the progress of a pass.
+use Rattle.std.proofs.Common.{ℕ, suc, ◌≡◌, ◌∙◌, ◌+◌, ◌-◌, ◌<◌, ◌≤◌, ◌⊎◌, length, Option, None, Some, inl, inr, refl, sym, ap, subst, arith}
+use Rattle.automata_base.specs.Input.{Input}
+use Rattle.automata_base.specs.Matches.{HalfMatch}
+use Rattle.automata_base.specs.Paths.{next}
+use Rattle.automata_base.specs.Powerset.{Powerset, dead}
+use Rattle.automata_base.specs.Tapes.{Direction}
+use Rattle.automata_config.specs.declared.error.SearchError.{SearchError}
+use Rattle.automata_hybrid.specs.declared.dfa.progress.Searched.{Searched}
+use Rattle.automata_hybrid.specs.declared.dfa.row.Row.{Row}
+use Rattle.automata_hybrid.specs.Bounds.{Stored, IsComputed, IsStarted, with_searched}
+use Rattle.automata_hybrid.specs.Caches.{CacheView, with_store}
+use Rattle.automata_hybrid.specs.Growing.{IsGrown, ClearedNothing}
+use Rattle.automata_hybrid.specs.Machine.{Machine}
+use Rattle.automata_hybrid.specs.Passing.{IsAt}
+use Rattle.automata_hybrid.specs.Progressing.{finished, progress_cleared, saturated, started, updated}
+use Rattle.automata_hybrid.specs.Searched.{CountsFrom, EndsAtLast, IsEndedAt, IsEndedBy, IsKeptOrCleared, IsLastPlace, IsLeftAt, IsLeftOpen, IsMovedTo, IsOfRoom, IsOpenAt, IsQuitUnit, none_searched}
+use Rattle.automata_hybrid.specs.Searches.{Reads, given_up_offset, tape_in}
+use Rattle.automata_hybrid.specs.Table.{Names}
+use Rattle.automata_hybrid.proofs.Effects.{counts_up}
+use Rattle.automata_hybrid.proofs.Growing.{nothing_first, nothing_second}
+use Rattle.automata_hybrid.proofs.Searching.{at_reads}
+
+-- a clear of the states keeps the progress as a clear makes it
+clears_progress :
+    (old new : Stored) → new.clears ≡ saturated (old.clears + 1) → new.searched ≡ progress_cleared old.searched
+    → IsKeptOrCleared old new old.searched new.searched
+clears_progress old new clears searched =
+    inr (λ nothing. counts_up old.clears new.clears clears nothing.0 nothing.1, searched)
+
+pub computed_progress :
+    (old new : Stored) (id class next : ℕ) (q target : Powerset)
+    → IsComputed old id class q target new next → IsKeptOrCleared old new old.searched new.searched
+computed_progress old new id class next q target (inl (leads, e)) = inl (ap (λ (s : Stored). s.searched) e)
+computed_progress old new id class next q target (inr (lacks, from, between, inl (fits, g), n, e)) =
+    inl (ap (λ (s : Stored). s.searched) e ∙ ap (λ (s : Stored). s.searched) g)
+computed_progress old new id class next q target (inr (lacks, from, between, inr (full, may, g), n, e)) =
+    clears_progress old new (ap (λ (s : Stored). s.clears) e ∙ ap (λ (s : Stored). s.clears) g)
+    (ap (λ (s : Stored). s.searched) e ∙ ap (λ (s : Stored). s.searched) g)
+
+pub started_progress :
+    (old new : Stored) (slot id : ℕ) (r : Row)
+    → IsStarted old slot r new id → IsKeptOrCleared old new old.searched new.searched
+started_progress old new slot id r (inl (leads, e)) = inl (ap (λ (s : Stored). s.searched) e)
+started_progress old new slot id r (inr (lacks, between, inl (fits, g), e)) =
+    inl (ap (λ (s : Stored). s.searched) e ∙ ap (λ (s : Stored). s.searched) g)
+started_progress old new slot id r (inr (lacks, between, inr (full, may, g), e)) =
+    clears_progress old new (ap (λ (s : Stored). s.clears) e ∙ ap (λ (s : Stored). s.clears) g)
+    (ap (λ (s : Stored). s.searched) e ∙ ap (λ (s : Stored). s.searched) g)
+
+-- what came before a step, a step, and what it left
+module _ (input : Input) (s : Searched) (first : ℕ) (old mid new : CacheView) (before : IsGrown old mid) (after : IsGrown mid new) where
+  still :
+      {beside : Searched} {from : ℕ}
+      → CountsFrom input s first old.store mid.store beside from → CountsFrom input s first old.store new.store beside from
+  still (inl c) = inl c
+  still (inr c) = inr (λ nothing. c.0 (nothing_first old mid new before after nothing), c.1, c.2, c.3)
+
+  -- an open pass moves to an offset of the span, and a step is made there
+  moves :
+      (x at : ℕ) (to : Searched) → input.start ≤ at → at ≤ input.end
+      → IsOpenAt input s first x old.store mid.store
+      → IsKeptOrCleared mid.store new.store (updated mid.store.searched at) to
+      → (beside : Searched) × (from : ℕ) × CountsFrom input s first old.store new.store beside from
+      × (to ≡ updated (started beside from) at)
+  moves x at to low high (b, from, counts, e) (inl same) =
+      (b, from, still counts, same ∙ ap (λ (v : Searched). updated v at) e)
+  moves x at to low high (b, from, counts, e) (inr (cleared, same)) =
+      (none_searched, at, inr (λ nothing. cleared (nothing_second old mid new before after nothing), refl, low, high),
+      same ∙ ap (λ (v : Searched). progress_cleared (updated v at)) e)
+
+  pub stays_open :
+      (x at : ℕ) → input.start ≤ at → at ≤ input.end
+      → IsOpenAt input s first x old.store mid.store → IsMovedTo at mid.store new.store
+      → IsOpenAt input s first at old.store new.store
+  stays_open x at low high o moved = moves x at new.store.searched low high o moved
+
+  pub ends_open :
+      (x at : ℕ) → input.start ≤ at → at ≤ input.end
+      → IsOpenAt input s first x old.store mid.store → IsEndedBy at mid.store new.store
+      → IsEndedAt input s first at old.store new.store
+  ends_open x at low high o (left, kept, e) = go (moves x at left low high o kept) where
+    go :
+        ((beside : Searched) × (from : ℕ) × CountsFrom input s first old.store new.store beside from
+        × (left ≡ updated (started beside from) at)) → IsEndedAt input s first at old.store new.store
+    go (b, from, counts, same) = (b, from, counts, e ∙ ap (λ (v : Searched). finished v at) same)
+
+-- a search moved to an offset, made a step, and ended there
+pub ended_by :
+    (old mid next new : CacheView) (at : ℕ)
+    → mid ≡ with_store old (with_searched old.store (updated old.store.searched at))
+    → IsKeptOrCleared mid.store next.store mid.store.searched next.store.searched
+    → new ≡ with_store next (with_searched next.store (finished next.store.searched at))
+    → IsEndedBy at old.store new.store
+ended_by old mid next new at m kept e =
+    (next.store.searched, go kept, ap (λ (v : CacheView). v.store.searched) e) where
+  first : mid.store.clears ≡ old.store.clears
+  first = ap (λ (v : CacheView). v.store.clears) m
+  last : new.store.clears ≡ next.store.clears
+  last = ap (λ (v : CacheView). v.store.clears) e
+  go :
+      IsKeptOrCleared mid.store next.store mid.store.searched next.store.searched
+      → IsKeptOrCleared old.store new.store (updated old.store.searched at) next.store.searched
+  go (inl same) = inl (same ∙ ap (λ (v : CacheView). v.store.searched) m)
+  go (inr (cleared, same)) =
+      inr (λ nothing. cleared (omega (arith, nothing.0, first, last), omega (arith, nothing.1, first)),
+      same ∙ ap (λ (v : CacheView). progress_cleared v.store.searched) m)
+
+-- it moved and made a step
+pub moved_by :
+    (old mid next : CacheView) (at : ℕ)
+    → mid ≡ with_store old (with_searched old.store (updated old.store.searched at))
+    → IsKeptOrCleared mid.store next.store mid.store.searched next.store.searched
+    → IsMovedTo at old.store next.store
+moved_by old mid next at m (inl same) = inl (same ∙ ap (λ (v : CacheView). v.store.searched) m)
+moved_by old mid next at m (inr (cleared, same)) =
+    inr (λ nothing. cleared (omega (arith, nothing.0, first), omega (arith, nothing.1, first)),
+    same ∙ ap (λ (v : CacheView). progress_cleared v.store.searched) m) where
+  first : mid.store.clears ≡ old.store.clears
+  first = ap (λ (v : CacheView). v.store.clears) m
+
+-- it had moved and made a step, and ended there
+pub ended_after :
+    (old next new : CacheView) (at : ℕ)
+    → IsMovedTo at old.store next.store
+    → new ≡ with_store next (with_searched next.store (finished next.store.searched at))
+    → IsEndedBy at old.store new.store
+ended_after old next new at (inl same) e =
+    (next.store.searched, inl same, ap (λ (v : CacheView). v.store.searched) e)
+ended_after old next new at (inr (cleared, same)) e =
+    (next.store.searched,
+    inr (λ nothing. cleared (omega (arith, nothing.0, last), nothing.1), same), ap (λ (v : CacheView). v.store.searched) e) where
+  last : new.store.clears ≡ next.store.clears
+  last = ap (λ (v : CacheView). v.store.clears) e
+
+-- an open pass stands at a place, and makes the step on its unit there
+module _ (way : Direction) (m : Machine) (input : Input) (s : Searched) (old mid new : CacheView)
+    (before : IsGrown old mid) (after : IsGrown mid new) (k id at x : ℕ) (u : Option ℕ) (found : Option HalfMatch)
+    (stands : IsAt way m mid.store.table input k id found) (few : k ≤ length (tape_in way input).bytes)
+    (alive : (q : Powerset) → Names mid.store.table id q → q ≡ dead → ⊥)
+    (unit : next (tape_in way input) k ≡ u) (place : given_up_offset way input k ≡ at)
+    (low : input.start ≤ at) (high : at ≤ input.end)
+    (o : IsOpenAt input s (given_up_offset way input 0) x old.store mid.store) where
+  -- which is its last one
+  pub last_here :
+      IsEndedBy at mid.store new.store → (Reads way m input (suc k) → ⊥) ⊎ IsQuitUnit m u
+      → EndsAtLast way m input s old.store new.store
+  last_here ended stops =
+      (
+        k,
+        record {
+          reads = inr (at_reads way m mid.store.table input k id found stands few alive);
+          clean = stands.clean;
+          stops = subst (λ v. (Reads way m input (suc k) → ⊥) ⊎ IsQuitUnit m v) (sym unit) stops;
+        },
+        subst (λ a. IsEndedAt input s (given_up_offset way input 0) a old.store new.store) (sym place)
+            (ends_open input s (given_up_offset way input 0) old mid new before after x at low high o ended),
+      )
+
+  -- which is refused
+  pub left_here :
+      (e : SearchError) → IsLeftAt m u at mid.store new.store e
+      → EndsAtLast way m input s old.store new.store ⊎ IsLeftOpen way m input s old.store new.store e
+  left_here e (inl (quits, ended)) = inl (last_here ended (inr quits))
+  left_here e (inr (room, moved)) =
+      inr (
+        k,
+        at_reads way m mid.store.table input k id found stands few alive,
+        stands.clean,
+        subst (λ a. IsOfRoom a e) (sym place) room,
+        subst (λ a. IsOpenAt input s (given_up_offset way input 0) a old.store new.store) (sym place)
+            (stays_open input s (given_up_offset way input 0) old mid new before after x at low high o moved),
+      )

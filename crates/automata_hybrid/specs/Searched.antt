@@ -1,0 +1,130 @@
+-- What the passes of a search leave of the progress: the searched bytes, and the search that is open.
+use Rattle.std.specs.Prelude.{ℕ, zero, suc, ◌≡◌, ◌<◌, ◌≤◌, ◌+◌, ◌⊎◌, true, Option, None, Some}
+use Rattle.automata_base.specs.Answers.{Tries, later}
+use Rattle.automata_base.specs.Classes.{is_quit}
+use Rattle.automata_base.specs.Input.{Input}
+use Rattle.automata_base.specs.Paths.{next}
+use Rattle.automata_base.specs.Tapes.{Direction, Forward, Backward}
+use Rattle.automata_base.specs.declared.util.search.MatchErrorKind.TheVariants.{GaveUp}
+use Rattle.automata_config.specs.declared.error.SearchError.{SearchError}
+use Rattle.automata_config.specs.declared.error.SearchError.TheVariants as search
+use Rattle.automata_hybrid.specs.declared.dfa.progress.Searched.{Searched}
+use Rattle.automata_hybrid.specs.Bounds.{Stored}
+use Rattle.automata_hybrid.specs.Growing.{ClearedNothing}
+use Rattle.automata_hybrid.specs.Machine.{Machine}
+use Rattle.automata_hybrid.specs.Progressing.{finished, progress_cleared, started, updated}
+use Rattle.automata_hybrid.specs.Searches.{Finds, HasReadNoQuit, Reads, Skips, behind_offset, given_up_offset, tape_in}
+use Rattle.automata_hybrid.specs.Starting.{IsStartRefusalAt}
+
+-- a step or a start leaves the progress as it was, or as a clear makes it
+abbrev pub IsKeptOrCleared : (old new : Stored) → (from to : Searched) → Type 0
+IsKeptOrCleared old new from to =
+    (to ≡ from) ⊎ ((ClearedNothing old new → ⊥) × (to ≡ progress_cleared from))
+
+-- a step from an offset leaves a search at that offset
+abbrev pub IsMovedTo : (at : ℕ) → (old new : Stored) → Type 0
+IsMovedTo at old new = IsKeptOrCleared old new (updated old.searched at) new.searched
+
+-- a step from an offset was the last one
+abbrev pub IsEndedBy : (at : ℕ) → (old new : Stored) → Type 0
+IsEndedBy at old new =
+    (left : Searched) × IsKeptOrCleared old new (updated old.searched at) left × (new.searched ≡ finished left at)
+
+-- a step found no room or no memory, which is told at an offset
+abbrev pub IsOfRoom : (at : ℕ) → SearchError → Type 0
+IsOfRoom at (search.Match (GaveUp offset)) = offset ≡ at
+IsOfRoom at (search.Match kind) = ⊥
+IsOfRoom at search.OutOfMemory = Unit {0}
+IsOfRoom at search.NotAPair = ⊥
+
+-- the unit is a quit byte
+abbrev pub IsQuitUnit : Machine → Option ℕ → Type 0
+IsQuitUnit m unit = (byte : ℕ) × (unit ≡ Some byte) × (is_quit m.quits byte ≡ true)
+
+-- a refused step ends the search where its unit is a quit byte, and else leaves it open
+abbrev pub IsLeftAt : Machine → (unit : Option ℕ) → (at : ℕ) → (old new : Stored) → SearchError → Type 0
+IsLeftAt m unit at old new e =
+    (IsQuitUnit m unit × IsEndedBy at old new) ⊎ (IsOfRoom at e × IsMovedTo at old new)
+
+-- nothing was searched since a clear
+abbrev pub none_searched : Searched
+none_searched = record { bytes = 0; running = None }
+
+-- an open search counts its bytes from its first one, beside those that were searched before; once a clear came, from
+-- where in the span it was then, beside none
+abbrev pub CountsFrom : Input → (before : Searched) (first : ℕ) → (old new : Stored) → (beside : Searched) (from : ℕ) → Type 0
+CountsFrom input before first old new beside from =
+    ((beside ≡ before) × (from ≡ first))
+    ⊎ ((ClearedNothing old new → ⊥) × (beside ≡ none_searched) × (input.start ≤ from) × (from ≤ input.end))
+
+-- a pass that began at `first` is open at an offset
+abbrev pub IsOpenAt : Input → (before : Searched) (first at : ℕ) → (old new : Stored) → Type 0
+IsOpenAt input before first at old new =
+    (beside : Searched) × (from : ℕ) × CountsFrom input before first old new beside from
+    × (new.searched ≡ updated (started beside from) at)
+
+-- a pass that began at `first` has ended at an offset
+abbrev pub IsEndedAt : Input → (before : Searched) (first at : ℕ) → (old new : Stored) → Type 0
+IsEndedAt input before first at old new =
+    (beside : Searched) × (from : ℕ) × CountsFrom input before first old new beside from
+    × (new.searched ≡ finished (started beside from) at)
+
+-- the place of the last unit that a pass reads: past it the pass reads none, or its unit is a quit byte; 0 where the
+-- start is dead, so that the pass reads none
+pub record IsLastPlace (way : Direction) (m : Machine) (input : Input) (k : ℕ) : Type 0 where
+  pub reads : (k ≡ 0) ⊎ Reads way m input k
+  pub clean : HasReadNoQuit way m input k
+  pub stops : (Reads way m input (suc k) → ⊥) ⊎ IsQuitUnit m (next (tape_in way input) k)
+
+-- a pass has ended at its last place, counted from its first
+abbrev pub EndsAtLast : Direction → Machine → Input → (before : Searched) → (old new : Stored) → Type 0
+EndsAtLast way m input before old new =
+    (k : ℕ) × IsLastPlace way m input k
+    × IsEndedAt input before (given_up_offset way input 0) (given_up_offset way input k) old new
+
+-- a pass is left open at a place that it reads, where it was refused
+abbrev pub IsLeftOpen : Direction → Machine → Input → (before : Searched) → (old new : Stored) → SearchError → Type 0
+IsLeftOpen way m input before old new e =
+    (k : ℕ) × Reads way m input k × HasReadNoQuit way m input k × IsOfRoom (given_up_offset way input k) e
+    × IsOpenAt input before (given_up_offset way input 0) (given_up_offset way input k) old new
+
+-- a pass back over an empty span keeps no progress
+abbrev pub KeepsNone : Direction → Input → Type 0
+KeepsNone Forward input = ⊥
+KeepsNone Backward input = input.start ≡ input.end
+
+-- a pass has ended
+abbrev pub HasEnded : Direction → Machine → Input → (old new : Stored) → Type 0
+HasEnded way m input old new =
+    (KeepsNone way input × IsKeptOrCleared old new old.searched new.searched)
+    ⊎ ((KeepsNone way input → ⊥) × EndsAtLast way m input old.searched old new)
+
+-- a pass was refused: at its start, which leaves the progress as it was; or it has ended; or it is left open
+abbrev pub IsLeft : Direction → Machine → Input → (old new : Stored) → SearchError → Type 0
+IsLeft way m input old new e =
+    (IsStartRefusalAt m new input.anchored (tape_in way input).before (behind_offset way input)
+    (given_up_offset way input 0) e × (new.searched ≡ old.searched))
+    ⊎ (HasEnded way m input old new
+    ⊎ ((KeepsNone way input → ⊥) × IsLeftOpen way m input old.searched old new e))
+
+-- a search tries so many spans
+abbrev pub TriesSpans : Direction → Machine → Input → (passes : ℕ) → Type 0
+TriesSpans way m input passes =
+    (k : ℕ) → k < passes → Tries (Finds way m) (Skips m) way input k × (input.start + k ≤ input.end)
+
+-- so many passes of a search have ended, one after another
+abbrev pub HaveEnded : Direction → Machine → Input → (passes : ℕ) → (old new : Stored) → Type 0
+HaveEnded way m input zero old new = new ≡ old
+HaveEnded way m input (suc passes) old new =
+    (mid : Stored) × HaveEnded way m input passes old mid × HasEnded way m (later way passes input) mid new
+
+-- a search that answers has ended the passes over the spans that it tried
+abbrev pub EndsProgress : Direction → Machine → Input → (old new : Stored) → Type 0
+EndsProgress way m input old new =
+    (passes : ℕ) × TriesSpans way m input passes × HaveEnded way m input passes old new
+
+-- one that is refused has ended some passes, and the next one was refused
+abbrev pub LeavesProgress : Direction → Machine → Input → (old new : Stored) → SearchError → Type 0
+LeavesProgress way m input old new e =
+    (passes : ℕ) × (mid : Stored) × TriesSpans way m input (suc passes) × HaveEnded way m input passes old mid
+    × IsLeft way m (later way passes input) mid new e
