@@ -142,7 +142,7 @@ impl<'r, 'c, 'h> Iterator for FindMatches<'r, 'c, 'h> {
         × TellsUnsupported s.regex.now (input_at s.haystack.now s.start s.end s.anchored s.earliest) s.ended r };
 
     ghost remaining = { λ s.
-        at_most (most_left s.ended (input_at s.haystack.now s.start s.end s.anchored s.earliest) s.last) };
+        at_most (most_items s.ended (input_at s.haystack.now s.start s.end s.anchored s.earliest) s.last) };
 
     fn next(&mut self) -> Option<Result<Match, SearchError>> {
         if self.ended {
