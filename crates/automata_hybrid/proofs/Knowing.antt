@@ -17,7 +17,8 @@ use Rattle.automata_hybrid.specs.declared.dfa.progress.Searched.{Searched}
 use Rattle.automata_hybrid.specs.Bounds.{Stored, IsKnownStart, IsKnownTransition, with_searched}
 use Rattle.automata_hybrid.specs.Caches.{CacheView, with_store}
 use Rattle.automata_hybrid.specs.Growing.{IsGrown, ClearedNothing, Keeps}
-use Rattle.automata_hybrid.specs.Knowing.{IsOfInput, Knows, KnowsItsStart, KnowsPass, KnowsUnit, unit_class}
+use Rattle.automata_hybrid.specs.Knowing.{IsOfInput, Knows, KnowsItsStart, KnowsPass, KnowsUnit}
+use Rattle.automata_hybrid.specs.Stepping.{unit_class}
 use Rattle.automata_hybrid.specs.Machine.{Machine}
 use Rattle.automata_hybrid.specs.Passing.{HasLearned, HasLearnedAll, HasLearnedUnit, IsAt}
 use Rattle.automata_hybrid.specs.Searches.{Finds, Reads, Skips, state_in, tape_in}

@@ -43,12 +43,16 @@ impl Cache {
         ensures added { TagsNewStates self.old.store.table self.new.store.table dfa.now.specialized }
         ensures found { OnOk result (IsKnownStart self.new.store slot) }
         ensures written { IfOk result (λ n. slice_index self.new.store.starts slot ≡ n) }
-        ensures effect { (IsKnownStart self.old.store slot → ⊥) → IfOk result (λ n. IsStarted self.old.store slot (record { state = start_state_of dfa.now.nfa mode prev; started = dfa.now.specialized }) self.new.store n) }
-        ensures gives_up { IfErr result (λ e. IsCacheError e → GivesUp self.old.store (start_state_of dfa.now.nfa mode prev)) }
+        ensures effect { (IsKnownStart self.old.store slot → ⊥) → IfOk result (λ n. IsStarted self.old.store slot
+            (record { state = start_state_of dfa.now.nfa mode prev; started = dfa.now.specialized }) self.new.store n) }
+        ensures gives_up { IfErr result (λ e. IsCacheError e
+            → GivesUp self.old.store (start_state_of dfa.now.nfa mode prev)) }
         ensures err { OnErr result (self.new ≡ counted self.old) }
-        ensures only { (p : Powerset) → Has self.new.store.table p → Has self.old.store.table p ⊎ (p ≡ start_state_of dfa.now.nfa mode prev) }
+        ensures only { (p : Powerset) → Has self.new.store.table p → Has self.old.store.table p
+            ⊎ (p ≡ start_state_of dfa.now.nfa mode prev) }
         ensures computed { (IsKnownStart self.old.store slot → ⊥) → self.new.count ≡ self.old.count + 1 }
-        ensures refused { (IsKnownStart self.old.store slot → ⊥) → GivesUp self.old.store (start_state_of dfa.now.nfa mode prev) → OnOk result ⊥ }
+        ensures refused { (IsKnownStart self.old.store slot → ⊥)
+            → GivesUp self.old.store (start_state_of dfa.now.nfa mode prev) → OnOk result ⊥ }
         ensures grown { IsGrown self.old self.new }
     {
         self.see_cells();
@@ -80,10 +84,13 @@ impl Cache {
         ensures starts { OnOk result (KeepsStarts self.old.store.starts self.new.store.starts) }
         ensures found { OnOk result (IsKnownStart self.new.store slot) }
         ensures written { IfOk result (λ n. slice_index self.new.store.starts slot ≡ n) }
-        ensures effect { IfOk result (λ n. IsStarted self.old.store slot (record { state = start_state_of dfa.now.nfa mode prev; started = dfa.now.specialized }) self.new.store n) }
-        ensures only { OnOk result ((p : Powerset) → Has self.new.store.table p → Has self.old.store.table p ⊎ (p ≡ start_state_of dfa.now.nfa mode prev)) }
+        ensures effect { IfOk result (λ n. IsStarted self.old.store slot
+            (record { state = start_state_of dfa.now.nfa mode prev; started = dfa.now.specialized }) self.new.store n) }
+        ensures only { OnOk result ((p : Powerset) → Has self.new.store.table p → Has self.old.store.table p
+            ⊎ (p ≡ start_state_of dfa.now.nfa mode prev)) }
         ensures cheap { OnOk result (cost (start_state_of dfa.now.nfa mode prev) ≤ greatest dfa.now) }
-        ensures gives_up { IfErr result (λ e. IsCacheError e → GivesUp self.old.store (start_state_of dfa.now.nfa mode prev)) }
+        ensures gives_up { IfErr result (λ e. IsCacheError e
+            → GivesUp self.old.store (start_state_of dfa.now.nfa mode prev)) }
         ensures err { OnErr result (self.new ≡ counted self.old) }
     {
         let key = self.determinise_start(dfa, mode, prev)?;
@@ -138,10 +145,13 @@ impl DFA {
     /// The start slot of a mode. Past the last pattern there is none.
     fn mode_slot(&self, mode: Anchored, prev: Option<u8>) -> Result<Option<usize>, StartError>
         ensures within { IfOk result (λ o. IfSome o (λ slot. slot < self.now.slots)) }
-        ensures same { IfOk result (λ o. IfSome o (λ slot. start_state_of self.now.nfa mode prev ≡ start_of self.now slot)) }
+        ensures same { IfOk result (λ o. IfSome o
+            (λ slot. start_state_of self.now.nfa mode prev ≡ start_of self.now slot)) }
         ensures past { IfOk result (λ o. IfNone o (start_state_of self.now.nfa mode prev ≡ dead)) }
-        ensures slot { IfOk result (λ o. IfSome o (λ slot. slot ≡ slot_of mode (behind_of self.now.nfa.flags.line_terminator prev))) }
-        ensures behind { IfOk result (λ o. IfNone o (self.now.slots ≤ slot_of mode (behind_of self.now.nfa.flags.line_terminator prev))) }
+        ensures slot { IfOk result (λ o. IfSome o
+            (λ slot. slot ≡ slot_of mode (behind_of self.now.nfa.flags.line_terminator prev))) }
+        ensures behind { IfOk result
+            (λ o. IfNone o (self.now.slots ≤ slot_of mode (behind_of self.now.nfa.flags.line_terminator prev))) }
         ensures refused { (result ≡ Err (StartError.UnsupportedAnchored mode)) ↔ (supports self.now mode ≡ false) }
         ensures only { IfErr result (λ e. e ≡ StartError.UnsupportedAnchored mode) }
     {
