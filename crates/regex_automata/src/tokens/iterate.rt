@@ -8,7 +8,7 @@ ghost use Rattle.automata_hybrid.specs.Searches.{IsRefused};
 ghost use Rattle.regex_automata.specs.Costs.{IsCostOf};
 ghost use Rattle.regex_automata.specs.Owing.{IsHalf};
 ghost use Rattle.regex_automata.specs.RegexCaches.{AreCachesOf};
-ghost use Rattle.regex_automata.specs.Tokens.{GivesToken, IsGivenAt, asked, item_of, most_left};
+ghost use Rattle.regex_automata.specs.Tokens.{GivesToken, IsGivenAt, asked, item_of, most_tokens};
 
 use crate::hybrid::dfa;
 use crate::hybrid::dfa::DFA;
@@ -140,7 +140,7 @@ impl<'r, 'c, 'h> Iterator for Tokens<'r, 'c, 'h> {
         × IsGrown s.cache.now.forward t.cache.now.forward × (t.cache.now.reverse ≡ s.cache.now.reverse)
         × IsCostOf s.regex.now.forward (s.end - s.place) s.cache.now.forward t.cache.now.forward };
 
-    ghost remaining = { λ s. at_most (most_left s.failed s.end s.place) };
+    ghost remaining = { λ s. at_most (most_tokens s.failed s.end s.place) };
 
     fn next(&mut self) -> Option<Result<Token<'h>, TokenError>> {
         if self.failed || self.place >= self.end {
