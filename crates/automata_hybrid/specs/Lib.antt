@@ -10,6 +10,7 @@ pub mod Builds
 pub mod Caches
 pub mod Growing
 pub mod Starting
+pub mod Stepping
 pub mod Slots
 pub mod Founds
 pub mod Searches
