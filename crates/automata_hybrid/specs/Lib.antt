@@ -22,3 +22,4 @@ pub mod KnowingWalks
 pub mod Agreeing
 pub mod Which
 pub mod Within
+pub mod Owing
