@@ -10,9 +10,10 @@ use Rattle.automata_config.specs.declared.error.SearchError.{SearchError}
 use Rattle.automata_config.specs.declared.error.SearchError.TheVariants as search
 use Rattle.automata_hybrid.specs.Bounds.{Stored}
 use Rattle.automata_hybrid.specs.Machine.{Machine}
+use Rattle.automata_hybrid.specs.Owing.{IsMemory, IsStoreOf}
 use Rattle.automata_hybrid.specs.Which.{IsWhichRefusal}
 use Rattle.regex_automata.proofs.Results.{some_none}
-use Rattle.regex_automata.specs.Owing.{AreRising, ArePatternsUpto, IsMemory, IsStoreOf, MayRefusePatterns, empty_set}
+use Rattle.regex_automata.specs.Owing.{AreRising, ArePatternsUpto, MayRefusePatterns, empty_set}
 
 -- what rises from a number rises from a lower one
 rising_from : (low k : ℕ) (ks : List ℕ) → low ≤ k → AreRising k ks → AreRising low ks

@@ -5,9 +5,10 @@ use Rattle.automata_base.specs.Engines.{engine_of}
 use Rattle.automata_base.specs.Answers.{IsOverlapping}
 use Rattle.automata_base.specs.Tapes.{Forward}
 use Rattle.automata_config.specs.declared.error.SearchError.{SearchError}
+use Rattle.automata_hybrid.specs.Owing.{IsMemory}
 use Rattle.automata_hybrid.specs.Walking.{AreWalked}
-use Rattle.regex_automata.specs.Owing.{IsMemory, MayRefusePatterns}
-use Rattle.regex_automata.proofs.Owed.{is_store}
+use Rattle.regex_automata.specs.Owing.{MayRefusePatterns}
+use Rattle.automata_hybrid.proofs.Owing.{is_store}
 use Rattle.regex_automata.proofs.SetLists.{members_rise, memory_where, no_patterns, patterns_told, refused_where, told_where}
 use Rattle.regex_automata.proofs.replay.patterns.patterns_below.Goals as goal
 
@@ -32,7 +33,7 @@ returns-in-Ok-list_members-clause-owed c =
       paths = λ acyclic none. patterns_told (IsOverlapping Forward (engine_of m.nfa m.kind) input) input c.args.capacity old new found c.in-Ok.ensures.capacity c.in-Ok.ensures.empty c.in-Ok-list_members.ensures
           (told_where told (ArePatternsFound (engine_of m.nfa m.kind) input _ _ _) (s.paths acyclic) (sym error ∙ none));
       errors = subst (λ (e : Option SearchError). IfSome e (MayRefusePatterns m input c.args.capacity found)) (sym error)
-          (refused_where told m store input c.args.capacity old new found (is_store store m s.of c.see.ensures) c.in-Ok.ensures.capacity c.in-Ok-list_members.ensures s.errors);
+          (refused_where told m store input c.args.capacity old new found (is_store store m s.of c.see_bounds.ensures) c.in-Ok.ensures.capacity c.in-Ok-list_members.ensures s.errors);
       unsupported = λ u. inr (error ∙ ap result_err (s.unsupported u.undone u.behind u.mode));
       free = λ f. subst (λ (e : Option SearchError). IfSome e IsMemory) (sym error) (memory_where told (s.answers f.reach f.supported f.clears));
     }

@@ -1,5 +1,5 @@
 use Rattle.automata_base.specs.Tapes.{Forward}
-use Rattle.regex_automata.proofs.Owed.{is_store}
+use Rattle.automata_hybrid.proofs.Owing.{is_store}
 use Rattle.regex_automata.proofs.Results.{ok_err, same_err}
 use Rattle.regex_automata.proofs.WalkCalls.{answered, stayed, step_answers, step_refused}
 use Rattle.regex_automata.proofs.replay.walks.step_fwd.Goals as goal
@@ -27,7 +27,7 @@ returns-in-Err-clause-call c =
     let new = c.try_search_overlapping_fwd-told.new.state in
     let cache = c.try_search_overlapping_fwd-told.new.cache.store in
     record {
-      step = λ k h. step_refused Forward m input old k h cache c.in-Err.error (is_store cache m s.of c.see.ensures) s.errors s.lost
+      step = λ k h. step_refused Forward m input old k h cache c.in-Err.error (is_store cache m s.of c.see_bounds.ensures) s.errors s.lost
           (λ ended. (s.ended ended).0) (λ fresh u. same_err (s.unsupported fresh u.undone u.behind u.mode))
           (λ f. s.answers f.reach f.supported f.clears);
       told = λ k h. tt;
