@@ -23,3 +23,4 @@ pub mod Agreeing
 pub mod Which
 pub mod Within
 pub mod Owing
+pub mod OwingWalks

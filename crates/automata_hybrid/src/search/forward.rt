@@ -1,25 +1,18 @@
-ghost use Rattle.std.specs.Prelude.{ℕ, ◌≡◌, ◌+◌, ◌-◌, ◌^◌, ◌<◌, ◌≤◌, IfOk, IfErr, IfSome, IsBitSet, IsTrue, OnOk, Option, None, Err, Ok, true, false, length, option_map};
-ghost use Rattle.automata_base.specs.Answers.{IsAnswer};
-ghost use Rattle.automata_base.specs.declared.util.search.MatchKind.TheVariants.{All as KindAll};
-ghost use Rattle.automata_base.specs.Engines.{engine_of};
-ghost use Rattle.automata_base.specs.Told.{IsFarthestAnswer, IsNearestAnswer};
+ghost use Rattle.std.specs.Prelude.{◌≡◌, ◌+◌, ◌-◌, ◌<◌, ◌≤◌, IfOk, IfErr, IfSome, IsBitSet, IsTrue, OnOk, Option, None, Err, Ok, true, false, option_map};
 ghost use Rattle.automata_base.specs.Matches as matches;
-ghost use Rattle.automata_base.specs.Nodes.{nfa_of};
-ghost use Rattle.automata_base.specs.Paths.{IsLookAcyclic};
 ghost use Rattle.automata_base.specs.Tapes.{Forward, byte_before};
 ghost use Rattle.automata_base.specs.declared.util.search.MatchErrorKind.TheVariants.{UnsupportedAnchored as UnsupportedMode};
 ghost use Rattle.automata_hybrid.specs.Caches.{IsCacheOf};
 ghost use Rattle.automata_hybrid.specs.Costs.{IsCostOfSearch, IsCostUpto};
-ghost use Rattle.automata_hybrid.specs.Growing.{IsGrown, IsStill, ClearedNothing};
+ghost use Rattle.automata_hybrid.specs.Growing.{IsGrown, ClearedNothing};
 ghost use Rattle.automata_hybrid.specs.Ids.{fixed_from, offset_limit};
 ghost use Rattle.automata_hybrid.specs.Knowing.{IsOfInput, KnowsItsStart, KnowsPass, Knows};
 ghost use Rattle.automata_hybrid.specs.Owing.{IsBased, IsHalf, IsSearchEffect};
 ghost use Rattle.automata_hybrid.specs.Passing.{HasLearned, HasLearnedAll, IsAt, IsFollowed, IsLed, found_over};
-ghost use Rattle.automata_hybrid.specs.Searches.{IsFound, IsPassRefusal, IsRefused, MeetsNoQuit, NoQuitInReach, WithoutBase, state_in, tape_in, with_base};
+ghost use Rattle.automata_hybrid.specs.Searches.{IsFound, IsPassRefusal, IsRefused, MeetsNoQuit, state_in, tape_in, with_base};
 ghost use Rattle.automata_hybrid.specs.Slots.{supports};
 ghost use Rattle.automata_hybrid.specs.Starting.{MayStart, quit_behind};
 ghost use Rattle.automata_hybrid.specs.Table.{IsValid, Names};
-ghost use Rattle.automata_hybrid.specs.Within.{LiesIn, LiesPast};
 
 use crate::dfa::DFA;
 use crate::dfa::cache::Cache;
