@@ -28,7 +28,6 @@ pub fn patterns_below(
         return (Vec::new(alloc), Some(SearchError::OutOfMemory));
     };
     let told = dfa.try_which_overlapping_matches(cache, input, &mut set);
-    cache.see_bounds();
     match list_members(alloc, &set) {
         Ok(found) => (found, told.err()),
         Err(_) => (Vec::new(alloc), Some(SearchError::OutOfMemory)),

@@ -34,9 +34,7 @@ fn step_fwd(
     ensures of { IsCacheOf cache.new dfa.now }
     ensures call { IsCall Forward dfa.now input.now state.old state.new result }
 {
-    let told = dfa.try_search_overlapping_fwd(cache, input, state);
-    cache.see_bounds();
-    match told {
+    match dfa.try_search_overlapping_fwd(cache, input, state) {
         Ok(()) => Ok(state.get_match()),
         Err(error) => Err(error),
     }
@@ -54,9 +52,7 @@ fn step_rev(
     ensures of { IsCacheOf cache.new dfa.now }
     ensures call { IsCall Backward dfa.now input.now state.old state.new result }
 {
-    let told = dfa.try_search_overlapping_rev(cache, input, state);
-    cache.see_bounds();
-    match told {
+    match dfa.try_search_overlapping_rev(cache, input, state) {
         Ok(()) => Ok(state.get_match()),
         Err(error) => Err(error),
     }
