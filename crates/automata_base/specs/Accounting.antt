@@ -17,8 +17,8 @@ start_slots a each = 12 + (if each then 6 * length a.start_pattern else 0)
 
 -- The bytes of a cache: its cells, its start slots, its states with what they cost together, and the fixed cost. Three
 -- states stand for the rows that every table begins with; two of them, being unknown and quit, are in no map.
-abbrev pub usage : (cells slots states costs fixed : ℕ) → ℕ
-usage cells slots states costs fixed = 4 * cells + 4 * slots + 16 * states + 20 * (states - 2) + costs + fixed
+abbrev pub accounted : (cells slots states costs fixed : ℕ) → ℕ
+accounted cells slots states costs fixed = 4 * cells + 4 * slots + 16 * states + 20 * (states - 2) + costs + fixed
 
 -- Room for the three first rows, for a state in each start slot, and for two states more.
 abbrev pub minimum_capacity : (stride slots greatest fixed : ℕ) → ℕ

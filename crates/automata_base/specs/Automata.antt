@@ -26,7 +26,7 @@ automaton_of d = record {
   flags = d.flags;
 }
 
-pub record IsSound (d : Data) : Type 0 where
+pub record IsConsistent (d : Data) : Type 0 where
   pub door : IsDoor (automaton_of d)
   pub looks : IsLooks (automaton_of d) d.looks
   pub room : d.room ≡ stack_room d.states.items

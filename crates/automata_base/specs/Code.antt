@@ -110,13 +110,13 @@ pub record IsCode (bytes : List ℕ) : Type 0 where
 -- ---- reading
 
 -- one group and these many more have room for the number
-abbrev pub HasRoom : ℕ → ℕ → Type 0
-HasRoom zero n = n < 128
-HasRoom (suc more) n = HasRoom more (n / 128)
+abbrev pub FitsGroups : ℕ → ℕ → Type 0
+FitsGroups zero n = n < 128
+FitsGroups (suc more) n = FitsGroups more (n / 128)
 
 -- the bytes begin with the groups of the number, and these come after it
 abbrev pub IsFront : List ℕ → ℕ → List ℕ → Type 0
-IsFront bytes n tail = (more : ℕ) × (n < 2 ^ 35) × HasRoom more n × (bytes ≡ groups more n ++ tail)
+IsFront bytes n tail = (more : ℕ) × (n < 2 ^ 35) × FitsGroups more n × (bytes ≡ groups more n ++ tail)
 
 -- the bytes are those of NFA states behind this one
 pub record AreIds (before : ℕ) (bytes : List ℕ) : Type 0 where

@@ -90,8 +90,8 @@ make n patterns C prev =
 abbrev pub arrive : Nfa → List ℕ → List ℕ → Option ℕ → Powerset
 arrive n patterns roots prev = make n patterns (closure_of n (known_looks n prev) roots) prev
 
-abbrev pub start_of : Nfa → ℕ → Option ℕ → Powerset
-start_of n start prev = arrive n [] (start ∷ []) prev
+abbrev pub start_behind : Nfa → ℕ → Option ℕ → Powerset
+start_behind n start prev = arrive n [] (start ∷ []) prev
 
 abbrev pub any_look : (Look → Bool) → List Look → Bool
 any_look f [] = false
@@ -110,7 +110,7 @@ successor_of n kind Q u =
     arrive n (once_past [] (pick (accepts n) L)) (targets n u L) u
 
 abbrev pub pass_of : Nfa → MatchKind → ℕ → Tape → ℕ → Powerset
-pass_of n kind start t zero = start_of n start t.before
+pass_of n kind start t zero = start_behind n start t.before
 pass_of n kind start t (suc k) = successor_of n kind (pass_of n kind start t k) (next t k)
 
 abbrev pub told_of : Nfa → MatchKind → ℕ → Tape → ℕ → List ℕ
@@ -144,6 +144,6 @@ IsInRange n =
     × ((q u r : ℕ) → takes n q u ≡ Some r → r < length n.nodes)
 
 -- The pairs that a walk tells at the first `k` places.
-abbrev pub walk_of : Nfa → MatchKind → ℕ → Tape → ℕ → List Pair
-walk_of n kind start t zero = []
-walk_of n kind start t (suc k) = walk_of n kind start t k ++ at_place k (told_of n kind start t k)
+abbrev pub pairs_upto : Nfa → MatchKind → ℕ → Tape → ℕ → List Pair
+pairs_upto n kind start t zero = []
+pairs_upto n kind start t (suc k) = pairs_upto n kind start t k ++ at_place k (told_of n kind start t k)

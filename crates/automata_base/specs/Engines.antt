@@ -2,7 +2,7 @@
 use Rattle.std.specs.Prelude.{ℕ, ◌≡◌, Bool, true, List, [], ◌∷◌, ◌⊎◌, Option, Some}
 use Rattle.automata_base.specs.Lists.{In, nth}
 use Rattle.automata_base.specs.Nfa.{Nfa, Node, Split, Read, node, hop, takes, accepts}
-use Rattle.automata_base.specs.Paths.{all_true, Leads}
+use Rattle.automata_base.specs.Paths.{all_true, HasEpsilonPath}
 use Rattle.automata_base.specs.Cuts.{MatchKind}
 use Rattle.automata_base.specs.Nodes.{Automaton, nfa_of}
 pub use Rattle.automata_base.specs.declared.util.search.Anchored.{Anchored}
@@ -23,12 +23,12 @@ first_state d Yes = Some d.anchored
 first_state d (Pattern k) = nth d.starts k
 
 -- A match is reached by edges that read nothing from some pattern's start, looks taken as true.
-abbrev pub HasEmpty : Engine → Type 0
-HasEmpty d = (start q p : ℕ) × In start d.starts × Leads d.nfa start q × (accepts d.nfa q ≡ Some p)
+abbrev pub HasEmptyMatch : Engine → Type 0
+HasEmptyMatch d = (start q p : ℕ) × In start d.starts × HasEpsilonPath d.nfa start q × (accepts d.nfa q ≡ Some p)
 
 -- Split places are skipped where the NFA has the empty match and is in UTF-8 mode.
 abbrev pub IsSkipping : Engine → Type 0
-IsSkipping d = (d.utf8 ≡ true) × HasEmpty d
+IsSkipping d = (d.utf8 ≡ true) × HasEmptyMatch d
 
 -- `q` has an edge to `r`, one of a byte or one that reads nothing, looks taken as true.
 abbrev pub HasEdge : Nfa → ℕ → ℕ → Type 0
@@ -42,8 +42,8 @@ Road n q (r ∷ rs) z = HasEdge n q r × Road n r rs z
 abbrev pub Reaches : Nfa → ℕ → ℕ → Type 0
 Reaches n q z = (rs : List ℕ) × Road n q rs z
 
-abbrev pub IsAlwaysStartAnchored : Engine → Type 0
-IsAlwaysStartAnchored d = d.unanchored ≡ d.anchored
+abbrev pub BeginsAnchored : Engine → Type 0
+BeginsAnchored d = d.unanchored ≡ d.anchored
 
 -- Any byte leads to `next`.
 abbrev pub any_byte : ℕ → Node
@@ -51,13 +51,13 @@ any_byte next = Read (record { lo = 0; hi = 255; next = next } ∷ [])
 
 -- The unanchored start is a union that first tries the anchored start and then, after any byte, itself, and no edge
 -- leads back to it from the anchored start.
-abbrev pub IsLazyLoop : Engine → ℕ → Type 0
-IsLazyLoop d skip =
+abbrev pub LoopsLazily : Engine → ℕ → Type 0
+LoopsLazily d skip =
     (node d.nfa d.unanchored ≡ Split (d.anchored ∷ skip ∷ [])) × (node d.nfa skip ≡ any_byte d.unanchored)
     × (Reaches d.nfa d.anchored d.unanchored → ⊥)
 
-abbrev pub SkipsLazily : Engine → Type 0
-SkipsLazily d = IsAlwaysStartAnchored d ⊎ ((skip : ℕ) × IsLazyLoop d skip)
+abbrev pub BeginsLazily : Engine → Type 0
+BeginsLazily d = BeginsAnchored d ⊎ ((skip : ℕ) × LoopsLazily d skip)
 
 -- An automaton, searched under a kind.
 abbrev pub engine_of : Automaton → MatchKind → Engine

@@ -6,7 +6,7 @@ use Rattle.automata_base.specs.Paths.{Tape, IsLookAcyclic}
 use Rattle.automata_base.specs.Cuts.{MatchKind, All}
 use Rattle.automata_base.specs.Passes.{IsTape}
 use Rattle.automata_base.specs.Selections.{Accepts, Selects, IsOverlappingOn, IsNearest, IsFarthest}
-use Rattle.automata_base.specs.Computed.{search_of, walk_of, told_of, IsInRange}
+use Rattle.automata_base.specs.Computed.{search_of, pairs_upto, told_of, IsInRange}
 
 abbrev pub SearchesAreRight : Type 0
 SearchesAreRight =
@@ -18,7 +18,7 @@ abbrev pub WalksAreRight : Type 0
 WalksAreRight =
     (kind : MatchKind) (n : Nfa) (t : Tape) (start : ℕ)
     → IsInRange n → start < length n.nodes → IsLookAcyclic n → IsTape t
-    → IsOverlappingOn kind n t start (walk_of n kind start t (suc (length t.bytes)))
+    → IsOverlappingOn kind n t start (pairs_upto n kind start t (suc (length t.bytes)))
 
 abbrev pub NearestEndsAreRight : Type 0
 NearestEndsAreRight =

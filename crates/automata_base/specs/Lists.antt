@@ -22,14 +22,14 @@ Sorted P (q ∷ rest) =
 abbrev pub IsListOf : (ℕ → List ℕ → Type 0) → List ℕ → Type 0
 IsListOf P xs = ((q : ℕ) (key : List ℕ) → P q key → In q xs) × Sorted P xs
 
-abbrev pub put : Option ℕ → List ℕ → List ℕ
-put None ys = ys
-put (Some y) ys = y ∷ ys
+abbrev pub cons_some : Option ℕ → List ℕ → List ℕ
+cons_some None ys = ys
+cons_some (Some y) ys = y ∷ ys
 
 -- What `g` makes of the states of a list, in order.
 abbrev pub pick : (ℕ → Option ℕ) → List ℕ → List ℕ
 pick g [] = []
-pick g (x ∷ xs) = put (g x) (pick g xs)
+pick g (x ∷ xs) = cons_some (g x) (pick g xs)
 
 -- A key that begins with a root's index goes on with a path from that root.
 abbrev pub From : (ℕ → List ℕ → ℕ → Type 0) → List ℕ → ℕ → List ℕ → Type 0

@@ -90,18 +90,18 @@ IsDecided n Q u L =
     (IsNews n Q u × IsClosure n (true_looks n Q u) Q.nfa L) ⊎ ((IsNews n Q u → ⊥) × (L ≡ Q.nfa))
 
 -- The closure of the roots under the looks known behind `prev`, made a powerset state.
-abbrev pub IsArrival : Nfa → List ℕ → List ℕ → Option ℕ → Powerset → Type 0
-IsArrival n patterns roots prev Q =
+abbrev pub IsClosureOf : Nfa → List ℕ → List ℕ → Option ℕ → Powerset → Type 0
+IsClosureOf n patterns roots prev Q =
     (K : Truth) × (C : List ℕ) × ((look : Look) → (K look ≡ true) ↔ IsKnownLook n prev look)
     × IsClosure n K roots C × IsMake n patterns C prev Q
 
 abbrev pub IsStart : Nfa → ℕ → Option ℕ → Powerset → Type 0
-IsStart n start prev Q = IsArrival n [] (start ∷ []) prev Q
+IsStart n start prev Q = IsClosureOf n [] (start ∷ []) prev Q
 
 abbrev pub IsSuccessor : Nfa → MatchKind → Powerset → Option ℕ → Powerset → Type 0
 IsSuccessor n kind Q u Q' =
     (L patterns : List ℕ) × IsDecided n Q u L × IsOnce (pick (accepts n) (cut_for kind n L)) patterns
-    × IsArrival n patterns (targets n u (cut_for kind n L)) u Q'
+    × IsClosureOf n patterns (targets n u (cut_for kind n L)) u Q'
 
 -- The state after `k` units.
 abbrev pub IsPass : Nfa → MatchKind → ℕ → Tape → ℕ → Powerset → Type 0

@@ -60,11 +60,11 @@ abbrev pub Run : Nfa → ℕ → List ℕ → ℕ → Type 0
 Run n q [] z = q ≡ z
 Run n q (e ∷ path) z = (r : ℕ) × (hop n all_true q e ≡ Some r) × Run n r path z
 
-abbrev pub Leads : Nfa → ℕ → ℕ → Type 0
-Leads n q z = (path : List ℕ) × Run n q path z
+abbrev pub HasEpsilonPath : Nfa → ℕ → ℕ → Type 0
+HasEpsilonPath n q z = (path : List ℕ) × Run n q path z
 
 abbrev pub LeadsOn : Nfa → ℕ → ℕ → Type 0
-LeadsOn n q z = (e r : ℕ) × (hop n all_true q e ≡ Some r) × Leads n r z
+LeadsOn n q z = (e r : ℕ) × (hop n all_true q e ≡ Some r) × HasEpsilonPath n r z
 
 -- No cycle of such edges passes a look.
 abbrev pub IsLookAcyclic : Nfa → Type 0

@@ -28,9 +28,9 @@ IsFirstAt n t start i patterns =
     × ((other : ℕ) (more : List ℕ) → Accepts n t start i other more → Upto path more)
     × ((j other : ℕ) (more : List ℕ) → j < i → Accepts n t start j other more → Before path more))
 
-abbrev pub IsAt : MatchKind → Nfa → Tape → ℕ → ℕ → List ℕ → Type 0
-IsAt All n t start i patterns = IsAllAt n t start i patterns
-IsAt LeftmostFirst n t start i patterns = IsFirstAt n t start i patterns
+abbrev pub ArePatternsAt : MatchKind → Nfa → Tape → ℕ → ℕ → List ℕ → Type 0
+ArePatternsAt All n t start i patterns = IsAllAt n t start i patterns
+ArePatternsAt LeftmostFirst n t start i patterns = IsFirstAt n t start i patterns
 
 -- A pattern and a place.
 pub record Pair : Type 0 where
@@ -49,7 +49,7 @@ Pairs At (suc i) pairs =
 
 -- The whole list of a walk, by paths.
 abbrev pub IsOverlappingOn : MatchKind → Nfa → Tape → ℕ → List Pair → Type 0
-IsOverlappingOn kind n t start pairs = Pairs (IsAt kind n t start) (suc (length t.bytes)) pairs
+IsOverlappingOn kind n t start pairs = Pairs (ArePatternsAt kind n t start) (suc (length t.bytes)) pairs
 
 -- What the pass tells of place `i`: the patterns of the state that the unit there gave.
 abbrev pub Tells : MatchKind → Nfa → Tape → ℕ → ℕ → List ℕ → Type 0

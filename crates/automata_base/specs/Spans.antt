@@ -4,7 +4,7 @@ use Rattle.automata_base.specs.Order.{Begins}
 use Rattle.automata_base.specs.Paths.{Tape, IsPath}
 use Rattle.automata_base.specs.Selections.{Accepts, IsChosen}
 use Rattle.automata_base.specs.Tapes.{Forward, Backward, forward_tape}
-use Rattle.automata_base.specs.Engines.{Engine, Anchored, No, Yes, Pattern, first_state, IsAlwaysStartAnchored}
+use Rattle.automata_base.specs.Engines.{Engine, Anchored, No, Yes, Pattern, first_state, BeginsAnchored}
 use Rattle.automata_base.specs.Answers.{Half, IsAnswer}
 use Rattle.automata_base.specs.Input.{Input}
 use Rattle.automata_base.specs.Matches.{Match}
@@ -45,7 +45,7 @@ IsSpan d input (Some m) =
 -- The start is where the forward search began, and no reverse search is made: the match is empty there, or the
 -- search is anchored by its mode or by its NFA.
 abbrev pub IsShort : Engine → Input → Half → Type 0
-IsShort f input half = (half.base ≡ half.offset) ⊎ ((input.anchored ≡ No → ⊥) ⊎ IsAlwaysStartAnchored f)
+IsShort f input half = (half.base ≡ half.offset) ⊎ ((input.anchored ≡ No → ⊥) ⊎ BeginsAnchored f)
 
 -- What the reverse search is asked: the span that the forward search left, anchored and in full.
 abbrev pub back : Input → Half → Input
@@ -80,20 +80,20 @@ IsEmptyAt last m = (m.start ≡ m.end) × (last ≡ Some m.end)
 
 -- The next match of an iteration that stands at `start`, the last match having ended at `last`: an empty one there is
 -- replaced by that of the search one place later. `Finds` says what a search finds.
-abbrev pub IsNext : (Finds : Input → Option Match → Type 0) → Input → ℕ → Option ℕ → Option Match → Type 0
-IsNext Finds input start last None =
+abbrev pub IsNextItem : (Finds : Input → Option Match → Type 0) → Input → ℕ → Option ℕ → Option Match → Type 0
+IsNextItem Finds input start last None =
     Finds (from start input) None
     ⊎ ((m : Match) × Finds (from start input) (Some m) × IsEmptyAt last m × Finds (from (suc start) input) None)
-IsNext Finds input start last (Some found) =
+IsNextItem Finds input start last (Some found) =
     (Finds (from start input) (Some found) × (IsEmptyAt last found → ⊥))
     ⊎ ((m : Match) × Finds (from start input) (Some m) × IsEmptyAt last m
     × Finds (from (suc start) input) (Some found))
 
 -- The matches of an iteration from there on.
 abbrev pub AreMatches : (Finds : Input → Option Match → Type 0) → Input → ℕ → Option ℕ → List Match → Type 0
-AreMatches Finds input start last [] = IsNext Finds input start last None
+AreMatches Finds input start last [] = IsNextItem Finds input start last None
 AreMatches Finds input start last (m ∷ ms) =
-    IsNext Finds input start last (Some m) × AreMatches Finds input m.end (Some m.end) ms
+    IsNextItem Finds input start last (Some m) × AreMatches Finds input m.end (Some m.end) ms
 
 -- The matches of an input, one after another: by the spans of its paths, and by the search over two DFAs.
 abbrev pub AreSpans : Engine → Input → List Match → Type 0

@@ -1,7 +1,7 @@
 -- The powerset construction as functions: each state has one start and one successor on a unit.
 use Rattle.std.specs.Prelude.{ℕ, ◌≡◌, true, Option, Some, None}
 use Rattle.automata_base.specs.declared.util.search.Anchored.{Anchored}
-use Rattle.automata_base.specs.Computed.{start_of, successor_of}
+use Rattle.automata_base.specs.Computed.{start_behind, successor_of}
 use Rattle.automata_base.specs.Cuts.{MatchKind}
 use Rattle.automata_base.specs.Looks.{Look}
 use Rattle.automata_base.specs.Nfa.{Nfa}
@@ -13,7 +13,7 @@ use Rattle.automata_base.specs.Truths.{truth_of}
 
 abbrev pub start_or_dead : Nfa → Option ℕ → Option ℕ → Powerset
 start_or_dead n None prev = dead
-start_or_dead n (Some start) prev = start_of n start prev
+start_or_dead n (Some start) prev = start_behind n start prev
 
 -- the start of a mode behind a byte, or behind none; past the last pattern it is the dead state
 unfoldable pub start_state_of : Automaton → Anchored → Option ℕ → Powerset

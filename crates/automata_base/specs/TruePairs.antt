@@ -3,7 +3,7 @@ use Rattle.std.specs.Prelude.{ℕ, ◌≡◌, ◌<◌, ◌≤◌, ◌-◌, true,
 use Rattle.automata_base.specs.Cuts.{All}
 use Rattle.automata_base.specs.Selections.{Accepts}
 use Rattle.automata_base.specs.Tapes.{IsHaystack, between, Direction, Forward, Backward, tape_of}
-use Rattle.automata_base.specs.Engines.{Engine, Anchored, No, first_state, HasEmpty, SkipsLazily}
+use Rattle.automata_base.specs.Engines.{Engine, Anchored, No, first_state, HasEmptyMatch, BeginsLazily}
 
 -- An accepting path of the pattern from the anchored start goes from `i` to `j`, backward from `j` to `i`.
 abbrev pub Joins : Direction → Engine → List ℕ → (i j pattern : ℕ) → Type 0
@@ -12,10 +12,10 @@ Joins way d h i j pattern = (path : List ℕ) × Accepts d.nfa (tape_of way h i 
 -- Over every haystack the two accept the same, each in its direction.
 abbrev pub IsTruePair : Engine → Engine → Type 0
 IsTruePair f r =
-    (r.kind ≡ All) × (f.utf8 ≡ r.utf8) × (HasEmpty f ↔ HasEmpty r)
+    (r.kind ≡ All) × (f.utf8 ≡ r.utf8) × (HasEmptyMatch f ↔ HasEmptyMatch r)
     × ((h : List ℕ) (i j pattern : ℕ) → IsHaystack h → i ≤ j → j ≤ length h
     → Joins Forward f h i j pattern ↔ Joins Backward r h i j pattern)
-    × SkipsLazily f
+    × BeginsLazily f
 
 -- In UTF-8 mode every accepting path of an anchored mode that reads something reads UTF-8.
 abbrev pub KeepsUtf8 : Direction → Engine → Type 0

@@ -12,13 +12,13 @@ use Rattle.automata_base.specs.Tapes.{Direction, is_split, tape_of}
 use Rattle.automata_base.specs.Telling.{pairs_told}
 
 -- what the pass over the span of an input tells, which is not done; the places are the walk's
-abbrev pub PassTells : Direction → Automaton → MatchKind → Input → List Pair → Type 0
-PassTells way a kind input pairs =
+abbrev pub SpanTells : Direction → Automaton → MatchKind → Input → List Pair → Type 0
+SpanTells way a kind input pairs =
     pairs ≡ pairs_told a kind input.anchored (tape_of way input.haystack input.start input.end) (suc (length (tape_of way input.haystack input.start input.end).bytes))
 
 -- the whole list of a walk: what its pass tells, by offsets, without the split places where they are skipped
 abbrev pub AreTold : Direction → Automaton → MatchKind → Input → List Pair → Type 0
-AreTold way a kind input found = Walks (PassTells way a kind) (IsSkipping (engine_of a kind)) way input found
+AreTold way a kind input found = Walks (SpanTells way a kind) (IsSkipping (engine_of a kind)) way input found
 
 -- each walk has such a list, and one alone
 abbrev pub WalksAreTold : Automaton → Type 0

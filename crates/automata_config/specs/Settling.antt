@@ -59,8 +59,8 @@ abbrev pub is_too_small : Options → Automaton → Bool
 is_too_small o a = not (skip_cache_capacity_check_of o) && nat_lt (cache_capacity_of o) (settled_minimum o a)
 
 -- Why no DFA is built of the automaton, if none is.
-abbrev pub refusal : Options → Automaton → Option BuildError
-refusal o a =
+abbrev pub settling_refusal : Options → Automaton → Option BuildError
+settling_refusal o a =
     if is_unsupported o a then Some Unsupported
     else (if is_too_small o a then Some (InsufficientCacheCapacity (settled_minimum o a) (cache_capacity_of o))
     else (if nat_lt 134217727 (greatest_offset o a) then Some (InsufficientStateIDCapacity (greatest_offset o a))

@@ -62,7 +62,7 @@ impl Model for Config {
 impl Config {
     ghost use Rattle.std.specs.Prelude.{◌≡◌, ◌≤◌, ◌&&◌, not, nat_lt, length, Some, None, if◌then◌else◌, IfOk, IsTrue, slice_set};
     ghost use Rattle.std.specs.Result.{result_err};
-    ghost use Rattle.automata_config.specs.Settling.{settled_minimum, settled_stride, settled_quits, greatest_offset, is_unsupported, refusal, IsSettled};
+    ghost use Rattle.automata_config.specs.Settling.{settled_minimum, settled_stride, settled_quits, greatest_offset, is_unsupported, settling_refusal, IsSettled};
     ghost use Rattle.automata_base.specs.Classes.{is_quit};
     ghost use Rattle.automata_config.specs.Options.{unset, overwritten};
     ghost use Rattle.automata_config.specs.Options as options;
@@ -283,7 +283,7 @@ impl Config {
     /// minimum of which a row would have too great an offset.
     pub fn settle(&self, nfa: &NFA) -> Result<Settled, BuildError>
         ensures ok { IfOk result (IsSettled self.now nfa.now) }
-        ensures refused { result_err result ≡ refusal self.now nfa.now }
+        ensures refused { result_err result ≡ settling_refusal self.now nfa.now }
     {
         let quits = self.settled_quits(nfa)?;
         let classes = ByteClasses::of(nfa, &quits, self.get_byte_classes());

@@ -7,7 +7,7 @@ use Rattle.automata_base.specs.Nodes.{Automaton, stack_room}
 use Rattle.automata_base.specs.declared.nfa.thompson.State.{State}
 use Rattle.automata_base.specs.declared.nfa.thompson.State.TheVariants.{Match, Fail}
 use Rattle.automata_config.specs.Options.{quits_of, unicode_word_boundary_of, unset}
-use Rattle.automata_config.specs.Settling.{greatest_offset, has_unicode_word, holds_non_ascii, is_too_small, is_unsupported, refusal, settled_minimum, settled_stride}
+use Rattle.automata_config.specs.Settling.{greatest_offset, has_unicode_word, holds_non_ascii, is_too_small, is_unsupported, settling_refusal, settled_minimum, settled_stride}
 
 stride_few : (n : ℕ) → stride_for n ≤ 512
 unfolding stride_for
@@ -32,14 +32,14 @@ offset_fits a = let stride : settled_stride unset a ≤ 512 = stride_few _ in om
 
 one_settles :
     (a : Automaton) → length a.states ≡ 1 → length a.start_pattern ≤ 1 → stack_room a.states ≤ 1 → has_unicode_word a ≡ false
-    → refusal unset a ≡ None
+    → settling_refusal unset a ≡ None
 one_settles a one few room word =
     no_reason (is_unsupported unset a) (is_too_small unset a) (ltb 134217727 (greatest_offset unset a)) _ _ _
     (ap (λ b. b && not (unicode_word_boundary_of unset || holds_non_ascii (quits_of unset))) word)
     (le-ltb 2097152 (settled_minimum unset a) (minimum_fits a one few room))
     (le-ltb 134217727 (greatest_offset unset a) (offset_fits a))
 
-pub match_settles : (a : Automaton) → a.states ≡ Match 0 ∷ [] → a.start_pattern ≡ 0 ∷ [] → refusal unset a ≡ None
+pub match_settles : (a : Automaton) → a.states ≡ Match 0 ∷ [] → a.start_pattern ≡ 0 ∷ [] → settling_refusal unset a ≡ None
 unfolding stack_room has_unicode_word
 match_settles a states starts =
     one_settles a (ap (λ (s : List State). length s) states)
@@ -47,7 +47,7 @@ match_settles a states starts =
     (subst (λ (s : List State). stack_room s ≤ 1) (sym states) (omega arith))
     (subst (λ (s : List State). has_unicode_word (record a { states = s }) ≡ false) (sym states) refl)
 
-pub fail_settles : (a : Automaton) → a.states ≡ Fail ∷ [] → a.start_pattern ≡ [] → refusal unset a ≡ None
+pub fail_settles : (a : Automaton) → a.states ≡ Fail ∷ [] → a.start_pattern ≡ [] → settling_refusal unset a ≡ None
 unfolding stack_room has_unicode_word
 fail_settles a states starts =
     one_settles a (ap (λ (s : List State). length s) states)

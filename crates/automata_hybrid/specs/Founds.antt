@@ -5,6 +5,6 @@ use Rattle.automata_hybrid.specs.declared.dfa.cache.Found.{Found}
 use Rattle.automata_hybrid.specs.declared.dfa.cache.Found.TheVariants.{Known, New}
 
 -- what a look-up of a state gives: an ID that leads to it, or the state itself, which no row has
-abbrev pub IsFound : Rows → Powerset → Found → Type 0
-IsFound t q (Known id) = Leads t id q
-IsFound t q (New state) = (state ≡ q) × Lacks t q
+abbrev pub IsLookedUp : Rows → Powerset → Found → Type 0
+IsLookedUp t q (Known id) = Leads t id q
+IsLookedUp t q (New state) = (state ≡ q) × Lacks t q

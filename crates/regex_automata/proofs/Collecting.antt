@@ -3,7 +3,7 @@ use Rattle.std.proofs.Common.{ℕ, suc, ◌≡◌, ◌∙◌, inl, inr, Bool, tr
 use Rattle.std.specs.Prelude.{Ok, Err, MatchOption}
 use Rattle.automata_base.specs.Input.{Input}
 use Rattle.automata_base.specs.Matches.{Match}
-use Rattle.automata_base.specs.Spans.{AreMatches, IsEmptyAt, IsNext, from}
+use Rattle.automata_base.specs.Spans.{AreMatches, IsEmptyAt, IsNextItem, from}
 use Rattle.automata_config.specs.declared.error.SearchError.{SearchError}
 use Rattle.regex_automata.specs.Iterating.{AreCollected, AreFirst, GivesItem, IsBeginning, IsNextMatch}
 use Rattle.regex_automata.specs.Outcomes.{FindsMatch}
@@ -15,24 +15,24 @@ use Rattle.regex_automata.proofs.Results.{none_some, same_some}
 abbrev pub ComesTo : (Finds : Input → Option Match → Type 0) → Input → ℕ → Option ℕ → List Match → ℕ → Option ℕ → Type 0
 ComesTo Finds input start last [] start' last' = (start ≡ start') × (last ≡ last')
 ComesTo Finds input start last (m ∷ ms) start' last' =
-    IsNext Finds input start last (Some m) × ComesTo Finds input m.end (Some m.end) ms start' last'
+    IsNextItem Finds input start last (Some m) × ComesTo Finds input m.end (Some m.end) ms start' last'
 
 module _ (Finds : Input → Option Match → Type 0) (input : Input) where
   -- one more
   pub comes_on :
       (start : ℕ) (last : Option ℕ) (ms : List Match) (at : ℕ) (before : Option ℕ) (m : Match)
-      → ComesTo Finds input start last ms at before → IsNext Finds input at before (Some m)
+      → ComesTo Finds input start last ms at before → IsNextItem Finds input at before (Some m)
       → ComesTo Finds input start last (ms ++ m ∷ []) m.end (Some m.end)
   comes_on start last [] at before m c next =
-      (subst (λ l. IsNext Finds input start l (Some m)) (sym c.1) (subst (λ s. IsNext Finds input s before (Some m)) (sym c.0) next), (refl, refl))
+      (subst (λ l. IsNextItem Finds input start l (Some m)) (sym c.1) (subst (λ s. IsNextItem Finds input s before (Some m)) (sym c.0) next), (refl, refl))
   comes_on start last (n ∷ ms) at before m c next = (c.0, comes_on n.end (Some n.end) ms at before m c.1 next)
 
   -- the last one
   pub comes_all :
       (start : ℕ) (last : Option ℕ) (ms : List Match) (at : ℕ) (before : Option ℕ)
-      → ComesTo Finds input start last ms at before → IsNext Finds input at before None → AreMatches Finds input start last ms
+      → ComesTo Finds input start last ms at before → IsNextItem Finds input at before None → AreMatches Finds input start last ms
   comes_all start last [] at before c next =
-      subst (λ l. IsNext Finds input start l None) (sym c.1) (subst (λ s. IsNext Finds input s before None) (sym c.0) next)
+      subst (λ l. IsNextItem Finds input start l None) (sym c.1) (subst (λ s. IsNextItem Finds input s before None) (sym c.0) next)
   comes_all start last (n ∷ ms) at before c next = (c.0, comes_all n.end (Some n.end) ms at before c.1 next)
 
   pub comes_first :
@@ -43,13 +43,13 @@ module _ (Finds : Input → Option Match → Type 0) (input : Input) where
 
   pub collected :
       (ms : List Match) (error : Option SearchError) (at : ℕ) (before : Option ℕ)
-      → ComesTo Finds input input.start None ms at before → (error ≡ None → IsNext Finds input at before None) → AreCollected Finds input ms error
+      → ComesTo Finds input input.start None ms at before → (error ≡ None → IsNextItem Finds input at before None) → AreCollected Finds input ms error
   collected ms None at before c next = comes_all input.start None ms at before c (next refl)
   collected ms (Some e) at before c next = comes_first input.start None ms at before c
 
 -- what searches find that are right is right
 module _ (F G : Input → Option Match → Type 0) (input : Input) (right : (start : ℕ) (o : Option Match) → F (from start input) o → G (from start input) o) where
-  next_right : (start : ℕ) (last : Option ℕ) (o : Option Match) → IsNext F input start last o → IsNext G input start last o
+  next_right : (start : ℕ) (last : Option ℕ) (o : Option Match) → IsNextItem F input start last o → IsNextItem G input start last o
   next_right start last None (inl f) = inl (right start None f)
   next_right start last None (inr f) = inr (f.0, right start (Some f.0) f.1, f.2, right (suc start) None f.3)
   next_right start last (Some m) (inl f) = inl (right start (Some m) f.0, f.1)
@@ -91,15 +91,15 @@ item_none p c input input' last last' false ended' g still = g.0
 -- one turn of the loop
 pub turn :
     (p q : Regex) (input now : Input) (last : Option ℕ) (o : Option Match) → p ≡ q → now ≡ from now.start input
-    → IsNextMatch p now last o → IsNext (FindsMatch q) input now.start last o
+    → IsNextMatch p now last o → IsNextItem (FindsMatch q) input now.start last o
 turn p q input now last None e same f =
-    subst (λ (i : Input). IsNext (FindsMatch q) i now.start last None) same (subst (λ (r : Regex). IsNext (FindsMatch r) now now.start last None) e f)
+    subst (λ (i : Input). IsNextItem (FindsMatch q) i now.start last None) same (subst (λ (r : Regex). IsNextItem (FindsMatch r) now now.start last None) e f)
 turn p q input now last (Some m) e same f =
-    subst (λ (i : Input). IsNext (FindsMatch q) i now.start last (Some m)) same (subst (λ (r : Regex). IsNext (FindsMatch r) now now.start last (Some m)) e f)
+    subst (λ (i : Input). IsNextItem (FindsMatch q) i now.start last (Some m)) same (subst (λ (r : Regex). IsNextItem (FindsMatch r) now now.start last (Some m)) e f)
 
 pub comes_turn :
     (F : Input → Option Match → Type 0) (input : Input) (start : ℕ) (last : Option ℕ) (ms more : List Match) (at at' : ℕ) (before before' : Option ℕ) (m : Match)
-    → ComesTo F input start last ms at before → IsNext F input at before (Some m) → more ≡ ms ++ m ∷ [] → at' ≡ m.end → before' ≡ Some m.end
+    → ComesTo F input start last ms at before → IsNextItem F input at before (Some m) → more ≡ ms ++ m ∷ [] → at' ≡ m.end → before' ≡ Some m.end
     → ComesTo F input start last more at' before'
 comes_turn F input start last ms more at at' before before' m c next items place past =
     subst (λ (l : Option ℕ). ComesTo F input start last more at' l) (sym past)
@@ -127,7 +127,7 @@ FindsOnce F = (input : Input) (a b : Option Match) → F input a → F input b �
 
 module _ (F : Input → Option Match → Type 0) (one : FindsOnce F) (input : Input) where
   next_none :
-      (start : ℕ) (last : Option ℕ) (m : Match) → IsNext F input start last None → IsNext F input start last (Some m) → ⊥
+      (start : ℕ) (last : Option ℕ) (m : Match) → IsNextItem F input start last None → IsNextItem F input start last (Some m) → ⊥
   next_none start last m (inl s) (inl t) = none_some (one (from start input) None (Some m) s t.0)
   next_none start last m (inl s) (inr t) = none_some (one (from start input) None (Some t.0) s t.1)
   next_none start last m (inr s) (inl t) =
@@ -135,7 +135,7 @@ module _ (F : Input → Option Match → Type 0) (one : FindsOnce F) (input : In
   next_none start last m (inr s) (inr t) = none_some (one (from (suc start) input) None (Some m) s.3 t.3)
 
   next_some :
-      (start : ℕ) (last : Option ℕ) (m n : Match) → IsNext F input start last (Some m) → IsNext F input start last (Some n) → m ≡ n
+      (start : ℕ) (last : Option ℕ) (m n : Match) → IsNextItem F input start last (Some m) → IsNextItem F input start last (Some n) → m ≡ n
   next_some start last m n (inl s) (inl t) = same_some (one (from start input) (Some m) (Some n) s.0 t.0)
   next_some start last m n (inl s) (inr t) =
       absurd (s.1 (subst (λ (v : Match). IsEmptyAt last v) (same_some (one (from start input) (Some t.0) (Some m) t.1 s.0)) t.2))

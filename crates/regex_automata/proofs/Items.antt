@@ -7,7 +7,7 @@ use Rattle.automata_base.specs.Spans.{from}
 use Rattle.automata_base.specs.Tapes.{Forward}
 use Rattle.automata_config.specs.declared.error.SearchError.{SearchError}
 use Rattle.automata_hybrid.specs.Owing.{IsUnsupported, unsupported_error}
-use Rattle.regex_automata.specs.Iterating.{GivesItem, GoesOn, IsNextMatch, IsNextRefusal, KnowsNext, LearnsItem, most_left}
+use Rattle.regex_automata.specs.Iterating.{GivesItem, GoesPast, IsNextMatch, IsNextRefusal, KnowsNext, LearnsItem, most_items}
 use Rattle.regex_automata.specs.Outcomes.{MatchLiesIn}
 use Rattle.regex_automata.specs.Owing.{TellsUnsupported}
 use Rattle.regex_automata.specs.RegexCaches.{AreStill, NothingCleared}
@@ -81,14 +81,14 @@ tells_error p asked input ended e same tells = λ on u. told (same_err (for_inpu
   told is = cc
 
 -- fewer items may come behind a match
-most_behind : (input input' : Input) (end : ℕ) → input' ≡ from end input → most_left false input' (Some end) ≡ input.end + 1 - end
+most_behind : (input input' : Input) (end : ℕ) → input' ≡ from end input → most_items false input' (Some end) ≡ input.end + 1 - end
 most_behind input input' end same =
-    subst (λ (i : Input). most_left false i (Some end) ≡ input.end + 1 - end) (sym same)
+    subst (λ (i : Input). most_items false i (Some end) ≡ input.end + 1 - end) (sym same)
     (ap (λ b. cond b (input.end + 1 - end) (input.end + 2 - end)) (eq-eqb end end refl))
 
 most_before :
-    (p : Regex) (input : Input) (last : Option ℕ) (m : Match) → GoesOn p input last m
-    → input.end + 1 - m.end < most_left false input last
+    (p : Regex) (input : Input) (last : Option ℕ) (m : Match) → GoesPast p input last m
+    → input.end + 1 - m.end < most_items false input last
 most_before p input None m goes =
     let a : input.start ≤ m.start = goes.0.0 in
     let b : m.start ≤ m.end = goes.0.1 in
@@ -108,16 +108,16 @@ most_before p input (Some at) m goes = go (eqb at input.start) refl where
 
 pub fewer_left :
     (p : Regex) (input input' : Input) (last : Option ℕ) (ended : Bool) (m : Match) (start end : ℕ)
-    → ended ≡ false → input' ≡ from start input → start ≡ m.end → end ≡ m.end → GoesOn p input last m
-    → most_left ended input' (Some end) < most_left ended input last
+    → ended ≡ false → input' ≡ from start input → start ≡ m.end → end ≡ m.end → GoesPast p input last m
+    → most_items ended input' (Some end) < most_items ended input last
 fewer_left p input input' last true m start end still same begins ends goes = absurd (false_true (sym still))
 fewer_left p input input' last false m start end still same begins ends goes =
-    let behind : most_left false input' (Some end) ≡ input.end + 1 - end = most_behind input input' end (same ∙ ap (λ n. from n input) (begins ∙ sym ends)) in
-    subst (λ n. n < most_left false input last) (sym behind)
-    (subst (λ n. input.end + 1 - n < most_left false input last) (sym ends) (most_before p input last m goes))
+    let behind : most_items false input' (Some end) ≡ input.end + 1 - end = most_behind input input' end (same ∙ ap (λ n. from n input) (begins ∙ sym ends)) in
+    subst (λ n. n < most_items false input last) (sym behind)
+    (subst (λ n. input.end + 1 - n < most_items false input last) (sym ends) (most_before p input last m goes))
 
 -- and none behind an error
-pub some_left : (input : Input) (last : Option ℕ) (ended : Bool) → ended ≡ false → input.start ≤ input.end → 0 < most_left ended input last
+pub some_left : (input : Input) (last : Option ℕ) (ended : Bool) → ended ≡ false → input.start ≤ input.end → 0 < most_items ended input last
 some_left input last true still ahead = absurd (false_true (sym still))
 some_left input None false still ahead = omega (arith, ahead)
 some_left input (Some at) false still ahead = go (eqb at input.start) where

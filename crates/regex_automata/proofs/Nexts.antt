@@ -11,7 +11,7 @@ use Rattle.automata_hybrid.specs.Machine.{Machine}
 use Rattle.automata_hybrid.proofs.Growing.{grown_trans}
 use Rattle.automata_hybrid.proofs.Searching.{lt_or_le}
 use Rattle.regex_automata.specs.Costs.{AreCostsOf, IsCostOf}
-use Rattle.regex_automata.specs.Iterating.{AreCostsTwice, GoesOn, IsNextMatch, IsNextRefusal}
+use Rattle.regex_automata.specs.Iterating.{AreCostsTwice, GoesPast, IsNextMatch, IsNextRefusal}
 use Rattle.regex_automata.specs.Outcomes.{FindsMatch, MatchLiesIn}
 use Rattle.regex_automata.specs.RegexCaches.{AreGrown}
 use Rattle.regex_automata.specs.RegexRefusals.{IsRegexRefusal}
@@ -50,7 +50,7 @@ past_last input last m a b full same = past (lt_or_le input.start m.end) where
 
 pub goes_first :
     (p : Regex) (input : Input) (last : Option ℕ) (m : Match) → MatchLiesIn p input m → (IsEmptyAt last m → ⊥)
-    → GoesOn p input last m
+    → GoesPast p input last m
 goes_first p input last m lies full = (lies, past_last input last m lies.0 lies.1 full)
 
 -- an empty one where the last one ended gives way to what is found from one place later
@@ -68,7 +68,7 @@ module _ (p : Regex) (input : Input) (last : Option ℕ) (m : Match) (found : Fi
 
 pub goes_later :
     (p : Regex) (input : Input) (last : Option ℕ) (r : Result (Option Match) SearchError)
-    → IfOk r (λ o. IfSome o (MatchLiesIn p (from (suc input.start) input))) → IfOk r (λ o. IfSome o (GoesOn p input last))
+    → IfOk r (λ o. IfSome o (MatchLiesIn p (from (suc input.start) input))) → IfOk r (λ o. IfSome o (GoesPast p input last))
 goes_later p input last (Ok None) h = tt
 goes_later p input last (Ok (Some n)) h =
     let a : suc input.start ≤ n.start = h.0 in

@@ -3,7 +3,7 @@ use Rattle.std.proofs.Common.{◌≡◌, ℕ, List, [], ◌∷◌, Option, Some,
 use Rattle.automata_base.specs.Lists.{nth}
 use Rattle.regex_automata.specs.declared.hybrid.regex.Regex.{Regex}
 use Rattle.regex_automata.specs.Histories.{History}
-use Rattle.regex_automata.specs.Replies.{IsReply, IsOwn, IsOwnOf, own_fault}
+use Rattle.regex_automata.specs.Replies.{IsReply, IsOwed, IsOwedBy, own_fault}
 use Rattle.regex_automata.specs.declared.replay.requests.Request.{Request}
 use Rattle.regex_automata.specs.declared.replay.replies.Reply.{Reply}
 use Rattle.regex_automata.specs.declared.replay.replies.Reply.TheVariants as reply
@@ -20,18 +20,18 @@ none_some e = cc
 
 -- a request with no fault of its own
 pub is_own : (rs : List Regex) (h : History) (q : Request) (answer : Reply) (r : Regex)
-    → nth rs h.current ≡ Some r → own_fault rs h q ≡ None → IsOwn r h.walks q answer → IsReply rs h q answer
+    → nth rs h.current ≡ Some r → own_fault rs h q ≡ None → IsOwed r h.walks q answer → IsReply rs h q answer
 is_own [] h q answer r at fine own = absurd (none_some at)
 is_own (x ∷ xs) h q answer r at fine own =
-    subst (λ (o : Option Fault). MatchOption o (IsOwnOf (nth (x ∷ xs) h.current) h.walks q answer) (λ why. answer ≡ reply.Bad why)) (sym fine)
-    (subst (λ (o : Option Regex). IsOwnOf o h.walks q answer) (sym at) own)
+    subst (λ (o : Option Fault). MatchOption o (IsOwedBy (nth (x ∷ xs) h.current) h.walks q answer) (λ why. answer ≡ reply.Bad why)) (sym fine)
+    (subst (λ (o : Option Regex). IsOwedBy o h.walks q answer) (sym at) own)
 
 -- a bad request
 pub is_bad : (rs : List Regex) (h : History) (q : Request) (answer : Reply) (r : Regex) (why : Fault)
     → nth rs h.current ≡ Some r → own_fault rs h q ≡ Some why → answer ≡ reply.Bad why → IsReply rs h q answer
 is_bad [] h q answer r why at bad e = absurd (none_some at)
 is_bad (x ∷ xs) h q answer r why at bad e =
-    subst (λ (o : Option Fault). MatchOption o (IsOwnOf (nth (x ∷ xs) h.current) h.walks q answer) (λ why. answer ≡ reply.Bad why)) (sym bad) e
+    subst (λ (o : Option Fault). MatchOption o (IsOwedBy (nth (x ∷ xs) h.current) h.walks q answer) (λ why. answer ≡ reply.Bad why)) (sym bad) e
 
 -- a reset that found no memory
 pub refused_reset : (rs : List Regex) (h : History) (k : ℕ) (r : Regex)

@@ -2,7 +2,7 @@
 use Rattle.std.proofs.Common.{ℕ, suc, ◌≡◌, ◌+◌, ◌-◌, ◌<◌, ◌≤◌, inl, inr, length, List, [], ◌∷◌, Option, Some, None, refl, arith}
 use Rattle.automata_base.specs.Input.{Input}
 use Rattle.automata_base.specs.Matches.{Match}
-use Rattle.automata_base.specs.Spans.{AreMatches, IsNext, Rise, from}
+use Rattle.automata_base.specs.Spans.{AreMatches, IsNextItem, Rise, from}
 use Rattle.automata_base.specs.Tapes.{Forward}
 use Rattle.automata_config.specs.declared.error.SearchError.{SearchError}
 use Rattle.automata_hybrid.proofs.Within.{found_within}
@@ -34,7 +34,7 @@ module _ (p : Regex) where
 
   module _ (input : Input) (few : input.end ≤ length input.haystack) where
     next_lies :
-        (start : ℕ) (last : Option ℕ) (m : Match) → IsNext (FindsMatch p) input start last (Some m)
+        (start : ℕ) (last : Option ℕ) (m : Match) → IsNextItem (FindsMatch p) input start last (Some m)
         → (start ≤ m.start) × (m.start ≤ m.end) × (m.end ≤ input.end) × (last ≡ Some start → start < m.end)
     next_lies start last m (inl s) =
         let l = find_lies (from start input) m few s.0 in

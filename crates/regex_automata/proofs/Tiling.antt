@@ -11,7 +11,7 @@ use Rattle.automata_config.specs.declared.error.SearchError.{SearchError}
 use Rattle.automata_hybrid.specs.Machine.{Machine}
 use Rattle.automata_hybrid.specs.Owing.{IsHalf, IsUnhindered}
 use Rattle.automata_hybrid.specs.Within.{LiesIn}
-use Rattle.regex_automata.specs.Tokens.{AreFoundBy, AreGiven, IsBeginningOf, IsItemAt, IsNoTokenOrMemory, IsTokenAt, asked, bytes_of, item_of, joined, match_of}
+use Rattle.regex_automata.specs.Tokens.{AreFoundBy, AreGiven, IsBeginningOf, IsItemAt, IsNoTokenOrMemory, IsTokenAt, asked, match_bytes, item_of, joined, match_of}
 use Rattle.regex_automata.specs.declared.tokens.error.TokenError.{TokenError}
 use Rattle.regex_automata.specs.declared.tokens.error.TokenError.TheVariants.{NoToken, Search}
 use Rattle.regex_automata.specs.declared.tokens.token.Token.{Token}
@@ -55,7 +55,7 @@ module _ (m : Machine) (h : List ℕ) (end : ℕ) (few : end ≤ length h) where
   pub token_is_given :
       (place : ℕ) (t : Token) (answer : Result (Option HalfMatch) SearchError) → place < end → Owes place answer
       → ◌≡◌ {A = Result Match TokenError} (Ok (match_of t)) (item_of place answer)
-      → t.bytes.now ≡ bytes_of h (match_of t) → IsTokenAt m h end place t
+      → t.bytes.now ≡ match_bytes h (match_of t) → IsTokenAt m h end place t
   token_is_given place t answer ahead owed is bytes =
       let item : IsItemAt m h end place (Ok (match_of t)) = (ahead, (answer, owed, is)) in
       let tells = token_is place (match_of t) item in
@@ -133,9 +133,9 @@ module _ (m : Machine) (h : List ℕ) (end : ℕ) (few : end ≤ length h) where
 
   token_then :
       (place : ℕ) (t : Match) (more : List ℕ) → Tells place t → more ≡ slice_range h t.end end
-      → bytes_of h t ++ more ≡ slice_range h place end
+      → match_bytes h t ++ more ≡ slice_range h place end
   token_then place t more n is =
-      ap (λ (l : List ℕ). bytes_of h t ++ l) is
+      ap (λ (l : List ℕ). match_bytes h t ++ l) is
       ∙ ap (λ k. slice_range h k t.end ++ slice_range h t.end end) n.1
       ∙ parts place t.end end (omega (arith, n.2)) n.3
 
@@ -148,7 +148,7 @@ module _ (m : Machine) (h : List ℕ) (end : ℕ) (few : end ≤ length h) where
       let n = token_is place t g.0 in
       let rest = begins t.end ts error g.1 in (
         rest.0,
-        sym (append_assoc (bytes_of h t) (joined h ts) rest.0 ∙ token_then place t (joined h ts ++ rest.0) n (sym rest.1)),
+        sym (append_assoc (match_bytes h t) (joined h ts) rest.0 ∙ token_then place t (joined h ts ++ rest.0) n (sym rest.1)),
       )
 
   -- and without an error are all of them

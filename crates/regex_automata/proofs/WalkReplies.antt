@@ -7,12 +7,12 @@ use Rattle.automata_base.specs.Input.{Input}
 use Rattle.automata_base.specs.Matches.{HalfMatch}
 use Rattle.automata_config.specs.declared.error.SearchError.{SearchError}
 use Rattle.regex_automata.specs.declared.hybrid.regex.Regex.{Regex}
-use Rattle.regex_automata.specs.Replies.{machine_of, way_of}
+use Rattle.regex_automata.specs.Replies.{dfa_of, direction_of}
 use Rattle.regex_automata.specs.RegexCaches.{AreCachesOf}
 use Rattle.regex_automata.specs.Histories.{Begun, History, stepped, after_step}
 use Rattle.regex_automata.specs.Replies.{IsReply, IsStepOf, walk_fault}
 use Rattle.regex_automata.specs.Owing.{IsStep}
-use Rattle.regex_automata.specs.Players.{IsWalk, AreWalks, IsAt, HasAnsweredBy, IsStepFrom, Goes}
+use Rattle.regex_automata.specs.Players.{IsWalk, AreWalks, HasPlayed, HasAnsweredBy, IsStepFrom, Goes}
 use Rattle.regex_automata.specs.declared.replay.requests.Request.TheVariants as request
 use Rattle.regex_automata.specs.declared.replay.replies.Reply.TheVariants as reply
 use Rattle.regex_automata.specs.declared.replay.replies.Fault.{Fault}
@@ -24,12 +24,12 @@ use Rattle.regex_automata.proofs.KeptWalks.{no_walk, walk_at, same_at, walks_ste
 
 -- the walk that is kept under a number is of the player's regex
 of_current : (h : History) (s : Player) (w : Begun) (k : KeptWalk)
-    → IsAt h s → IsWalk s.regexes.now w k → k.regex ≡ s.current → nth s.regexes.now w.regex ≡ Some s.regex.now
+    → HasPlayed h s → IsWalk s.regexes.now w k → k.regex ≡ s.current → nth s.regexes.now w.regex ≡ Some s.regex.now
 of_current h s w k a is e =
     ap (nth s.regexes.now) (sym is.regex ∙ e ∙ a.current) ∙ a.regex
 
 told_there : (h : History) (s : Player) (n : ℕ) (k : KeptWalk)
-    → IsAt h s → n < length s.walks.items → k ≡ get_or s.walks.items n k → k.regex ≡ s.current
+    → HasPlayed h s → n < length s.walks.items → k ≡ get_or s.walks.items n k → k.regex ≡ s.current
     → (j : ℕ) × HasAnsweredBy s.regex.now k j
 told_there h s n k a lt is e =
     let (w, at, walk) = walk_at s.regexes.now h.walks s.walks.items n k a.walks lt is in
@@ -37,7 +37,7 @@ told_there h s n k a lt is e =
 
 -- the same under another view of the list
 pub told_at : (h : History) (s : Player) (n : ℕ) (k old : KeptWalk) (ks : List KeptWalk) → ks ≡ s.walks.items
-    → IsAt h s → n < length s.walks.items → k ≡ get_or s.walks.items n k → k.regex ≡ s.current → old ≡ get_or ks n old
+    → HasPlayed h s → n < length s.walks.items → k ≡ get_or s.walks.items n k → k.regex ≡ s.current → old ≡ get_or ks n old
     → (j : ℕ) × HasAnsweredBy s.regex.now old j
 told_at h s n k old ks same a lt is e at =
     subst (λ (x : KeptWalk). (j : ℕ) × HasAnsweredBy s.regex.now x j)
@@ -45,7 +45,7 @@ told_at h s n k old ks same a lt is e at =
     (told_there h s n k a lt is e)
 
 pub no_walk_reply : (h : History) (s : Player) (n : ℕ)
-    → IsAt h s → length s.walks.items ≤ n → IsReply s.regexes.now h (request.StepWalk n) (reply.Bad fault.NoWalk)
+    → HasPlayed h s → length s.walks.items ≤ n → IsReply s.regexes.now h (request.StepWalk n) (reply.Bad fault.NoWalk)
 no_walk_reply h s n a le =
     is_bad s.regexes.now h (request.StepWalk n) (reply.Bad fault.NoWalk) s.regex.now fault.NoWalk a.regex
     (ap (walk_fault h.current) (no_walk s.regexes.now h.walks s.walks.items n a.walks le)) refl
@@ -60,7 +60,7 @@ other_regex : (current : ℕ) (w : Begun) → (w.regex ≡ current → ⊥) → 
 other_regex current w ne = ap unless_same (ne_eqb w.regex current ne)
 
 pub other_reply : (h : History) (s : Player) (n : ℕ) (k : KeptWalk)
-    → IsAt h s → n < length s.walks.items → k ≡ get_or s.walks.items n k → (k.regex ≡ s.current → ⊥)
+    → HasPlayed h s → n < length s.walks.items → k ≡ get_or s.walks.items n k → (k.regex ≡ s.current → ⊥)
     → IsReply s.regexes.now h (request.StepWalk n) (reply.Bad fault.OtherRegex)
 other_reply h s n k a lt is ne =
     let (w, at, walk) = walk_at s.regexes.now h.walks s.walks.items n k a.walks lt is in
@@ -71,11 +71,11 @@ other_reply h s n k a lt is ne =
 begun_step : (rs : List Regex) (r : Regex) (w : Begun) (k : KeptWalk) (result : Result (Option HalfMatch) SearchError)
     → IsWalk rs w k → IsStepFrom r k w.told result → IsStepOf r (Some w) result
 begun_step rs r w k result walk h =
-    subst (λ (i : Input). IsStep (way_of w.reverse) (machine_of w.reverse r) i w.told result) walk.input
-    (subst (λ b. IsStep (way_of b) (machine_of b r) k.input w.told result) walk.reverse h)
+    subst (λ (i : Input). IsStep (direction_of w.reverse) (dfa_of w.reverse r) i w.told result) walk.input
+    (subst (λ b. IsStep (direction_of b) (dfa_of b r) k.input w.told result) walk.reverse h)
 
 pub step_reply : (h : History) (s : Player) (n : ℕ) (k : KeptWalk) (result : Result (Option HalfMatch) SearchError)
-    → IsAt h s → n < length s.walks.items → k ≡ get_or s.walks.items n k → k.regex ≡ s.current
+    → HasPlayed h s → n < length s.walks.items → k ≡ get_or s.walks.items n k → k.regex ≡ s.current
     → ((j : ℕ) → HasAnsweredBy s.regex.now k j → IsStepFrom s.regex.now k j result)
     → IsReply s.regexes.now h (request.StepWalk n) (reply.Half result)
 step_reply h s n k result a lt is e owed =
@@ -121,11 +121,11 @@ current_after h n (Ok found) = refl
 current_after h n (Err error) = refl
 
 pub at_stepped : (h : History) (s t : Player) (n : ℕ) (old : KeptWalk) (xs ks : List KeptWalk) (result : Result (Option HalfMatch) SearchError)
-    → IsAt h s → n < length s.walks.items → old ≡ get_or s.walks.items n old → old.regex ≡ s.current
+    → HasPlayed h s → n < length s.walks.items → old ≡ get_or s.walks.items n old → old.regex ≡ s.current
     → xs ≡ s.walks.items → (new : KeptWalk) × Goes s.regex.now old new result × (ks ≡ set xs n new)
     → t.regexes.now ≡ s.regexes.now → t.regex.now ≡ s.regex.now → t.current ≡ s.current → AreCachesOf t.cache s.regex.now
     → t.walks.items ≡ ks
-    → IsAt (after_step h n (reply.Half result)) t
+    → HasPlayed (after_step h n (reply.Half result)) t
 at_stepped h s t n old xs ks result a lt is e same goes rs r current of items =
     let (w, at, walk) = walk_at s.regexes.now h.walks s.walks.items n old a.walks lt is in
     let (new, g, set_is) = goes in

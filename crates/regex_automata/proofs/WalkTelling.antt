@@ -9,7 +9,7 @@ use Rattle.automata_config.specs.declared.error.SearchError.{SearchError}
 use Rattle.automata_hybrid.specs.Walking.{half_nth}
 use Rattle.regex_automata.specs.Histories.{Begun, History, start, stepped, step_at, after, history}
 use Rattle.regex_automata.specs.Owing.{IsStep}
-use Rattle.regex_automata.specs.Replies.{IsReply, IsOwnOf, IsStepOf, walk_fault, AreReplies, AreRepliesAfter, AreToldFrom, tell, told_by, TellWalks, machine_of, way_of}
+use Rattle.regex_automata.specs.Replies.{IsReply, IsOwedBy, IsStepOf, walk_fault, AreReplies, AreRepliesAfter, AreToldFrom, tell, told_to, TellWalks, dfa_of, direction_of}
 use Rattle.regex_automata.specs.declared.hybrid.regex.Regex.{Regex}
 use Rattle.regex_automata.specs.declared.replay.requests.Request.{Request}
 use Rattle.regex_automata.specs.declared.replay.requests.Request.TheVariants as request
@@ -73,7 +73,7 @@ step_other (x ∷ ws) (suc j) (suc k) ne = step_other ws j k (λ e. ne (ap suc e
 -- an Ok reply to a step: its walk is there and of the current regex
 by_regex :
     (ws : List Begun) (k : ℕ) (b : Bool) (r : Option Regex) (found : Option HalfMatch)
-    → MatchOption (if b then None else Some fault.OtherRegex) (IsOwnOf r ws (request.StepWalk k) (reply.Half (Ok found)))
+    → MatchOption (if b then None else Some fault.OtherRegex) (IsOwedBy r ws (request.StepWalk k) (reply.Half (Ok found)))
     (λ why. reply.Half (Ok found) ≡ reply.Bad why)
     → (b ≡ true) × ((x : Regex) × (r ≡ Some x) × IsStepOf x (nth ws k) (Ok found))
 by_regex ws k true None found own = absurd own
@@ -82,7 +82,7 @@ by_regex ws k false r found own = absurd (half_bad own)
 
 by_walk :
     (ws : List Begun) (k current : ℕ) (o : Option Begun) (r : Option Regex) (found : Option HalfMatch)
-    → MatchOption (walk_fault current o) (IsOwnOf r ws (request.StepWalk k) (reply.Half (Ok found)))
+    → MatchOption (walk_fault current o) (IsOwedBy r ws (request.StepWalk k) (reply.Half (Ok found)))
     (λ why. reply.Half (Ok found) ≡ reply.Bad why)
     → (v : Begun) × (o ≡ Some v) × (v.regex ≡ current) × ((x : Regex) × (r ≡ Some x) × IsStepOf x (nth ws k) (Ok found))
 by_walk ws k current None r found own = absurd (half_bad own)
@@ -102,7 +102,7 @@ step_of (y ∷ rs) h k found own =
 -- the walk `w` of the regex `r`, each Ok reply to whose steps is a pair of this list, or none behind the last
 module _
     (rs : List Regex) (k : ℕ) (w : Begun) (r : Regex) (of : nth rs w.regex ≡ Some r) (pairs : List Pair)
-    (names : (told : ℕ) (found : Option HalfMatch) → IsStep (way_of w.reverse) (machine_of w.reverse r) w.input told (Ok found) → found ≡ half_nth pairs told) where
+    (names : (told : ℕ) (found : Option HalfMatch) → IsStep (direction_of w.reverse) (dfa_of w.reverse r) w.input told (Ok found) → found ≡ half_nth pairs told) where
   -- what is told of a walk from where it stands now, which is the walk `w` at the end
   abbrev Tells : Option Begun → List (Option HalfMatch) → Type 0
   Tells now steps = AreToldFrom (told_of now) pairs steps × Becomes now w
@@ -119,9 +119,9 @@ module _
   same_step v x found (regex, reverse, input) at step =
       let same : x ≡ r = same_some (sym at ∙ ap (nth rs) regex ∙ of) in
       names v.told found
-      (subst (λ (y : Regex). IsStep (way_of w.reverse) (machine_of w.reverse y) w.input v.told (Ok found)) same
-      (subst (λ (i : Input). IsStep (way_of w.reverse) (machine_of w.reverse x) i v.told (Ok found)) input
-      (subst (λ b. IsStep (way_of b) (machine_of b x) v.input v.told (Ok found)) reverse step)))
+      (subst (λ (y : Regex). IsStep (direction_of w.reverse) (dfa_of w.reverse y) w.input v.told (Ok found)) same
+      (subst (λ (i : Input). IsStep (direction_of w.reverse) (dfa_of w.reverse x) i v.told (Ok found)) input
+      (subst (λ b. IsStep (direction_of b) (dfa_of b x) v.input v.told (Ok found)) reverse step)))
 
   over_own_step :
       (h : History) (found : Option HalfMatch) (steps : List (Option HalfMatch))
@@ -205,11 +205,11 @@ module _
   -- and over a script
   tells :
       (h : History) (qs : List Request) (answers : List Reply)
-      → AreRepliesAfter rs h qs answers → nth (history h qs answers).walks k ≡ Some w → Tells (nth h.walks k) (told_by k qs answers)
+      → AreRepliesAfter rs h qs answers → nth (history h qs answers).walks k ≡ Some w → Tells (nth h.walks k) (told_to k qs answers)
   tells h [] [] all e = (tt, becomes_itself (nth h.walks k) w e)
   tells h [] (a ∷ answers) all e = absurd all
   tells h (q ∷ qs) [] all e = absurd all
-  tells h (q ∷ qs) (a ∷ answers) all e = over_request h q a (told_by k qs answers) all.0 (tells (after h q a) qs answers all.1 e)
+  tells h (q ∷ qs) (a ∷ answers) all e = over_request h q a (told_to k qs answers) all.0 (tells (after h q a) qs answers all.1 e)
 
 pub tell_walks : (rs : List Regex) (script : List Request) (answers : List Reply) → AreReplies rs script answers → TellWalks rs script answers
 tell_walks rs script answers all = λ k w r e of. record {

@@ -3,7 +3,7 @@ use Rattle.std.specs.Prelude.{ℕ, suc, ◌≡◌, ◌+◌, ◌-◌, ◌<◌, �
 use Rattle.automata_base.specs.Input.{Input}
 use Rattle.automata_base.specs.Matches.{Match}
 use Rattle.automata_base.specs.declared.util.search.Anchored.{Anchored}
-use Rattle.automata_base.specs.Spans.{AreMatches, IsEmptyAt, IsNext, from}
+use Rattle.automata_base.specs.Spans.{AreMatches, IsEmptyAt, IsNextItem, from}
 use Rattle.automata_config.specs.declared.error.SearchError.{SearchError}
 use Rattle.regex_automata.specs.Costs.{AreCostsOf}
 use Rattle.regex_automata.specs.Outcomes.{FindsMatch, MatchLiesIn}
@@ -14,7 +14,7 @@ use Rattle.regex_automata.specs.declared.hybrid.regex.caches.Cache.{Cache}
 
 -- the match after one that ended at `last`: none that is empty there
 abbrev pub IsNextMatch : Regex → Input → Option ℕ → Option Match → Type 0
-IsNextMatch p input last answer = IsNext (FindsMatch p) input input.start last answer
+IsNextMatch p input last answer = IsNextItem (FindsMatch p) input input.start last answer
 
 -- why the next match is refused: the search is, or the one from a place later, where that found an empty match there
 abbrev pub IsNextRefusal : Regex → Cache → Input → Option ℕ → SearchError → Type 0
@@ -24,8 +24,8 @@ IsNextRefusal p c input last e =
     × IsRegexRefusal p c (from (suc input.start) input) e)
 
 -- a match goes past the last end
-abbrev pub GoesOn : Regex → Input → Option ℕ → Match → Type 0
-GoesOn p input last m = MatchLiesIn p input m × (last ≡ Some input.start → input.start < m.end)
+abbrev pub GoesPast : Regex → Input → Option ℕ → Match → Type 0
+GoesPast p input last m = MatchLiesIn p input m × (last ≡ Some input.start → input.start < m.end)
 
 -- what one search costs, or two
 abbrev pub AreCostsTwice : Regex → ℕ → Cache → Cache → Type 0
@@ -74,16 +74,16 @@ input_at haystack start end anchored earliest =
     record { haystack = haystack; start = start; end = end; anchored = anchored; earliest = earliest }
 
 -- how many items may come
-abbrev pub most_left : (ended : Bool) → Input → Option ℕ → ℕ
-most_left true input last = 0
-most_left false input None = input.end + 2 - input.start
-most_left false input (Some end) = cond (end == input.start) (input.end + 1 - input.start) (input.end + 2 - input.start)
+abbrev pub most_items : (ended : Bool) → Input → Option ℕ → ℕ
+most_items true input last = 0
+most_items false input None = input.end + 2 - input.start
+most_items false input (Some end) = cond (end == input.start) (input.end + 1 - input.start) (input.end + 2 - input.start)
 
 -- the first matches of an iteration, whatever comes behind them
 abbrev pub AreFirst : (Finds : Input → Option Match → Type 0) → Input → ℕ → Option ℕ → List Match → Type 0
 AreFirst Finds input start last [] = Unit {0}
 AreFirst Finds input start last (m ∷ ms) =
-    IsNext Finds input start last (Some m) × AreFirst Finds input m.end (Some m.end) ms
+    IsNextItem Finds input start last (Some m) × AreFirst Finds input m.end (Some m.end) ms
 
 -- all matches of an input, or the first ones and the error that ended them
 abbrev pub AreCollected : (Finds : Input → Option Match → Type 0) → Input → List Match → Option SearchError → Type 0

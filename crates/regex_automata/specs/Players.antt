@@ -12,7 +12,7 @@ use Rattle.automata_hybrid.specs.Walks.{Walk, Ended}
 use Rattle.regex_automata.specs.Histories.{Begun, History, after}
 use Rattle.regex_automata.specs.Owing.{IsStep}
 use Rattle.regex_automata.specs.RegexCaches.{AreCachesOf}
-use Rattle.regex_automata.specs.Replies.{IsReply, machine_of, way_of}
+use Rattle.regex_automata.specs.Replies.{IsReply, dfa_of, direction_of}
 use Rattle.regex_automata.specs.declared.hybrid.regex.Regex.{Regex}
 use Rattle.regex_automata.specs.declared.replay.replies.Reply.{Reply}
 use Rattle.regex_automata.specs.declared.replay.requests.Request.{Request}
@@ -33,11 +33,11 @@ pub record IsCall (way : Direction) (m : Machine) (input : Input) (old new : Wal
 
 -- a walk of this regex has answered so many calls
 abbrev pub HasAnsweredBy : Regex → KeptWalk → ℕ → Type 0
-HasAnsweredBy r kept k = HasAnswered (way_of kept.reverse) (machine_of kept.reverse r) kept.input kept.state k
+HasAnsweredBy r kept k = HasAnswered (direction_of kept.reverse) (dfa_of kept.reverse r) kept.input kept.state k
 
 -- what its next call answers then
 abbrev pub IsStepFrom : Regex → KeptWalk → ℕ → Result (Option HalfMatch) SearchError → Type 0
-IsStepFrom r kept k result = IsStep (way_of kept.reverse) (machine_of kept.reverse r) kept.input k result
+IsStepFrom r kept k result = IsStep (direction_of kept.reverse) (dfa_of kept.reverse r) kept.input k result
 
 -- one more call of it
 pub record Goes (r : Regex) (old new : KeptWalk) (result : Result (Option HalfMatch) SearchError) : Type 0 where
@@ -72,7 +72,7 @@ AreWalks regexes (w ∷ ws) [] = ⊥
 AreWalks regexes (w ∷ ws) (k ∷ ks) = IsWalk regexes w k × AreWalks regexes ws ks
 
 -- the current regex is the history's, the caches are of it, and the walks are the history's
-pub record IsAt (h : History) (s : Player) : Type 0 where
+pub record HasPlayed (h : History) (s : Player) : Type 0 where
   pub current : s.current ≡ h.current
   pub regex : nth s.regexes.now h.current ≡ Some s.regex.now
   pub of : AreCachesOf s.cache s.regex.now
@@ -80,7 +80,7 @@ pub record IsAt (h : History) (s : Player) : Type 0 where
 
 -- the reply to a request is its own value, after whatever history; and the history goes on by it
 abbrev pub IsReplyTo : Player → Request → Reply → Type 0
-IsReplyTo s q answer = (h : History) → IsAt h s → IsReply s.regexes.now h q answer
+IsReplyTo s q answer = (h : History) → HasPlayed h s → IsReply s.regexes.now h q answer
 
 abbrev pub StandsAfter : (old : Player) → Request → Reply → (new : Player) → Type 0
-StandsAfter old q answer new = (h : History) → IsAt h old → IsAt (after h q answer) new
+StandsAfter old q answer new = (h : History) → HasPlayed h old → HasPlayed (after h q answer) new

@@ -15,15 +15,15 @@ abbrev pub backward : Options → Options
 backward o = record o { match_kind = Some All; specialize_start_states = Some false }
 
 -- each DFA is what its settings make of its automaton
-abbrev pub Builds : Options → Automaton → Automaton → Regex → Type 0
-Builds o forward reverse p = dfa.Builds o forward p.forward × dfa.Builds (backward o) reverse p.reverse
+abbrev pub BuildsPair : Options → Automaton → Automaton → Regex → Type 0
+BuildsPair o forward reverse p = dfa.Builds o forward p.forward × dfa.Builds (backward o) reverse p.reverse
 
 abbrev pub pattern_count : Automaton → ℕ
 pattern_count a = length a.start_pattern
 
 -- why no regex is built: the automata are not for the same patterns, or a DFA is refused, the forward one first
-abbrev pub refusal : Options → Automaton → Automaton → Option BuildError
-refusal o forward reverse =
+abbrev pub pair_refusal : Options → Automaton → Automaton → Option BuildError
+pair_refusal o forward reverse =
     if pattern_count forward == pattern_count reverse
-    then option_or (settling.refusal o forward) (settling.refusal (backward o) reverse)
+    then option_or (settling.settling_refusal o forward) (settling.settling_refusal (backward o) reverse)
     else Some (PatternCounts (pattern_count forward) (pattern_count reverse))

@@ -74,18 +74,18 @@ OnDone P (reply.Done result) = P result
 OnDone P other = ⊥
 
 -- the direction of a walk, and the DFA that makes it
-abbrev pub way_of : (reverse : Bool) → Direction
-way_of false = Forward
-way_of true = Backward
+abbrev pub direction_of : (reverse : Bool) → Direction
+direction_of false = Forward
+direction_of true = Backward
 
-abbrev pub machine_of : (reverse : Bool) → Regex → Machine
-machine_of false r = r.forward
-machine_of true r = r.reverse
+abbrev pub dfa_of : (reverse : Bool) → Regex → Machine
+dfa_of false r = r.forward
+dfa_of true r = r.reverse
 
 -- the step of a walk
 abbrev pub IsStepOf : Regex → Option Begun → Result (Option HalfMatch) SearchError → Type 0
 IsStepOf r None result = ⊥
-IsStepOf r (Some w) result = IsStep (way_of w.reverse) (machine_of w.reverse r) w.input w.told result
+IsStepOf r (Some w) result = IsStep (direction_of w.reverse) (dfa_of w.reverse r) w.input w.told result
 
 -- a walk takes the next number
 abbrev pub IsNumber : ℕ → Result ℕ SearchError → Type 0
@@ -94,27 +94,27 @@ IsNumber n (Err e) = IsMemory e
 
 -- the reply is the value of its request, by the current regex alone, and of a step by its walk alone; or a refusal that
 -- the request's own call may give
-abbrev pub IsOwn : Regex → (walks : List Begun) → Request → Reply → Type 0
-IsOwn r walks (request.SearchFwd input) = OnHalf (IsHalf Forward r.forward input)
-IsOwn r walks (request.SearchRev input) = OnHalf (IsHalf Backward r.reverse input)
-IsOwn r walks (request.Find input) = OnSpan (IsSpanOf r input)
-IsOwn r walks (request.IsMatch input) = OnTruth (IsTruthOf r input)
-IsOwn r walks (request.Iterate input) = OnSpans (AreMatchesUpto r input)
-IsOwn r walks (request.Tokenise input) = OnTokens (AreTokensUpto r.forward input)
-IsOwn r walks (request.BeginWalk reverse input) = OnBegun (IsNumber (length walks))
-IsOwn r walks (request.StepWalk k) = OnHalf (IsStepOf r (nth walks k))
-IsOwn r walks (request.Which capacity input) = OnPatterns (ArePatternsUpto r.forward input capacity)
-IsOwn r walks (request.Reset k) = OnDone (λ result. IfErr result IsMemory)
+abbrev pub IsOwed : Regex → (walks : List Begun) → Request → Reply → Type 0
+IsOwed r walks (request.SearchFwd input) = OnHalf (IsHalf Forward r.forward input)
+IsOwed r walks (request.SearchRev input) = OnHalf (IsHalf Backward r.reverse input)
+IsOwed r walks (request.Find input) = OnSpan (IsSpanOf r input)
+IsOwed r walks (request.IsMatch input) = OnTruth (IsTruthOf r input)
+IsOwed r walks (request.Iterate input) = OnSpans (AreMatchesUpto r input)
+IsOwed r walks (request.Tokenise input) = OnTokens (AreTokensUpto r.forward input)
+IsOwed r walks (request.BeginWalk reverse input) = OnBegun (IsNumber (length walks))
+IsOwed r walks (request.StepWalk k) = OnHalf (IsStepOf r (nth walks k))
+IsOwed r walks (request.Which capacity input) = OnPatterns (ArePatternsUpto r.forward input capacity)
+IsOwed r walks (request.Reset k) = OnDone (λ result. IfErr result IsMemory)
 
-abbrev pub IsOwnOf : Option Regex → (walks : List Begun) → Request → Reply → Type 0
-IsOwnOf None walks q answer = ⊥
-IsOwnOf (Some r) walks q answer = IsOwn r walks q answer
+abbrev pub IsOwedBy : Option Regex → (walks : List Begun) → Request → Reply → Type 0
+IsOwedBy None walks q answer = ⊥
+IsOwedBy (Some r) walks q answer = IsOwed r walks q answer
 
 -- a reply after this history: bad exactly for the request's fault, and else its own value
 abbrev pub IsReply : List Regex → History → Request → Reply → Type 0
 IsReply regexes h q answer =
     MatchOption (fault_of regexes h q)
-    (IsOwnOf (nth regexes h.current) h.walks q answer)
+    (IsOwedBy (nth regexes h.current) h.walks q answer)
     (λ why. answer ≡ reply.Bad why)
 
 -- one reply for each request, each after the history that the ones before it made
@@ -134,10 +134,10 @@ tell k (request.StepWalk j) other later = later
 tell k q r later = later
 
 -- the Ok replies to the steps of walk `k`, in their order
-abbrev pub told_by : ℕ → List Request → List Reply → List (Option HalfMatch)
-told_by k [] replies = []
-told_by k (q ∷ qs) [] = []
-told_by k (q ∷ qs) (r ∷ rs) = tell k q r (told_by k qs rs)
+abbrev pub told_to : ℕ → List Request → List Reply → List (Option HalfMatch)
+told_to k [] replies = []
+told_to k (q ∷ qs) [] = []
+told_to k (q ∷ qs) (r ∷ rs) = tell k q r (told_to k qs rs)
 
 -- they are the pairs of a list from `told` on, and then none
 abbrev pub AreToldFrom : ℕ → List Pair → List (Option HalfMatch) → Type 0
@@ -157,4 +157,4 @@ abbrev pub TellWalks : List Regex → List Request → List Reply → Type 0
 TellWalks regexes script replies =
     (k : ℕ) (w : Begun) (r : Regex)
     → nth (history start script replies).walks k ≡ Some w → nth regexes w.regex ≡ Some r
-    → TellWalk (way_of w.reverse) (machine_of w.reverse r) w.input (told_by k script replies)
+    → TellWalk (direction_of w.reverse) (dfa_of w.reverse r) w.input (told_to k script replies)

@@ -40,12 +40,12 @@ IsItemAt m h end place item =
     × IsHalf Forward m (asked h end place) answer × (item ≡ item_of place answer))
 
 -- the bytes of a match; and of matches, joined
-abbrev pub bytes_of : List ℕ → Match → List ℕ
-bytes_of h t = slice_range h t.start t.end
+abbrev pub match_bytes : List ℕ → Match → List ℕ
+match_bytes h t = slice_range h t.start t.end
 
 abbrev pub joined : List ℕ → List Match → List ℕ
 joined h [] = []
-joined h (t ∷ ts) = bytes_of h t ++ joined h ts
+joined h (t ∷ ts) = match_bytes h t ++ joined h ts
 
 -- a token by its pattern and its span
 abbrev pub match_of : Token → Match
@@ -54,7 +54,7 @@ match_of t = record { pattern = t.pattern; start = t.span.start; end = t.span.en
 -- a token at a place: the item there, with its bytes
 pub record IsTokenAt (m : Machine) (h : List ℕ) (end place : ℕ) (t : Token) : Type 0 where
   pub item : IsItemAt m h end place (Ok (match_of t))
-  pub bytes : t.bytes.now ≡ bytes_of h (match_of t)
+  pub bytes : t.bytes.now ≡ match_bytes h (match_of t)
   -- it begins at the place, goes past it, and lies before the span's end, and its pattern is one of the automaton's
   pub start : t.span.start ≡ place
   pub past : place < t.span.end
@@ -84,9 +84,9 @@ GivesToken m c h end (Some (Err e)) place place' failed failed' =
     IsGivenAt m c h end place (Err e) × (place' ≡ place) × (failed ≡ false) × (failed' ≡ true)
 
 -- how many items may come
-abbrev pub most_left : (failed : Bool) → (end place : ℕ) → ℕ
-most_left true end place = 0
-most_left false end place = end - place
+abbrev pub most_tokens : (failed : Bool) → (end place : ℕ) → ℕ
+most_tokens true end place = 0
+most_tokens false end place = end - place
 
 -- tokens one behind another, the first at this place: each is the item where the one before ended. Behind the last is
 -- the span's end, or an error, which is the item there or want of memory for the list

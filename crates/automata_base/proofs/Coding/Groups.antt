@@ -9,14 +9,14 @@ use Rattle.std.proofs.lemmas.Bool.{cond-true, cond-false, lt-ltb, le-ltb, ltb-tr
 use Rattle.std.proofs.lemmas.Bool.Decides.{nat_tests}
 use Rattle.std.proofs.lemmas.Nat.{from_le_bytes-to_le_bytes_4}
 use Rattle.automata_base.specs.Powerset.{IsId}
-use Rattle.automata_base.specs.Code.{HasRoom, IsFront, AreIds, groups, varint, numbers, with_low, difference, id_at, ids_code, ids_of, four_bytes, numbers_at}
+use Rattle.automata_base.specs.Code.{FitsGroups, IsFront, AreIds, groups, varint, numbers, with_low, difference, id_at, ids_code, ids_of, four_bytes, numbers_at}
 
-pub groups-more : (k n : ℕ) → HasRoom k n → groups k n ≡ groups (suc k) n
+pub groups-more : (k n : ℕ) → FitsGroups k n → groups k n ≡ groups (suc k) n
 unfolding groups
 groups-more zero n h = sym (cond-true (nat_lt n 128) _ _ (lt-ltb n 128 h))
 groups-more (suc k) n h = ap (λ x. cond (nat_lt n 128) (n ∷ []) ((128 + n % 128) ∷ x)) (groups-more k (n / 128) h)
 
-pub numbers-groups : (k n : ℕ) (rest : List ℕ) → HasRoom k n → numbers (groups k n ++ rest) ≡ n ∷ numbers rest
+pub numbers-groups : (k n : ℕ) (rest : List ℕ) → FitsGroups k n → numbers (groups k n ++ rest) ≡ n ∷ numbers rest
 unfolding groups numbers
 numbers-groups zero n rest h = cond-true (nat_lt n 128) _ _ (lt-ltb n 128 h)
 numbers-groups (suc k) n rest h =
@@ -26,7 +26,7 @@ numbers-groups (suc k) n rest h =
     ∙ ap (with_low (128 + n % 128 - 128)) (numbers-groups k (n / 128) rest h)
     ∙ ap (λ m. m ∷ numbers rest) (omega arith))
 
-pub fits_five : (n : ℕ) → n < 2 ^ 35 → HasRoom 4 n
+pub fits_five : (n : ℕ) → n < 2 ^ 35 → FitsGroups 4 n
 fits_five n h = omega arith
 
 pub id_at-difference : (before id : ℕ) → id_at before (difference before id) ≡ id
@@ -94,7 +94,7 @@ length-ids_code before (id ∷ ids) = omega (arith, length-append (varint (diffe
 
 -- ---- reading
 
-front_last_at : (k b n : ℕ) (bytes tail : List ℕ) → HasRoom k n → b ∷ bytes ≡ groups k n ++ tail → b < 128 → (b ≡ n) × (bytes ≡ tail)
+front_last_at : (k b n : ℕ) (bytes tail : List ℕ) → FitsGroups k n → b ∷ bytes ≡ groups k n ++ tail → b < 128 → (b ≡ n) × (bytes ≡ tail)
 unfolding groups
 front_last_at zero b n bytes tail room same h = (cc, cc)
 front_last_at (suc k) b n bytes tail room same h =
@@ -103,7 +103,7 @@ front_last_at (suc k) b n bytes tail room same h =
     (λ e p. let q : b ≡ 128 + n % 128 = cc in absurd (omega arith))
     same
 
-front_more_at : (k b n : ℕ) (bytes tail : List ℕ) → n < 2 ^ 35 → HasRoom k n → b ∷ bytes ≡ groups k n ++ tail → 128 ≤ b → IsFront bytes (n / 128) tail × (b - 128 + 128 * (n / 128) ≡ n)
+front_more_at : (k b n : ℕ) (bytes tail : List ℕ) → n < 2 ^ 35 → FitsGroups k n → b ∷ bytes ≡ groups k n ++ tail → 128 ≤ b → IsFront bytes (n / 128) tail × (b - 128 + 128 * (n / 128) ≡ n)
 unfolding groups
 front_more_at zero b n bytes tail bound room same h = let q : b ≡ n = cc in absurd (omega arith)
 front_more_at (suc k) b n bytes tail bound room same h =

@@ -2,7 +2,7 @@
 use Rattle.std.proofs.Common.{ℕ, zero, suc, ◌≡◌, ◌<◌, ◌≤◌, ◌+◌, ◌||◌, Bool, true, false, cond, eqb, List, [], ◌∷◌, ◌++◌, length, get_or, take, drop, Option, Some, None, refl, sym, ap, ◌∙◌, subst, arith, append_assoc, append-nil, length-append}
 use Rattle.std.proofs.lemmas.List.{at_drop_more, take_more, drop_all, take_all}
 use Rattle.std.proofs.lemmas.Nat.Bits.{bit_at-zero}
-use Rattle.automata_base.specs.Lists.{In, pick, put}
+use Rattle.automata_base.specs.Lists.{In, pick, cons_some}
 use Rattle.automata_base.specs.Looks.{Look}
 use Rattle.automata_base.specs.Nfa.{Nfa, Node, Split, Assert, Read, Accept, node, keep, stays_at, accepts}
 use Rattle.automata_base.specs.Computed.{looks_at, any_state, is_in}
@@ -24,7 +24,7 @@ below_at xs N i x b l e = b x (subst (λ z. In z xs) (sym e) (In-get_or xs i x l
 pub next_drop : (xs : List ℕ) (i x : ℕ) → i < length xs → x ≡ get_or xs i x → drop i xs ≡ x ∷ drop (i + 1) xs
 next_drop xs i x l e = at_drop_more (λ z. z) xs i x l ∙ ap (λ z. z ∷ drop (i + 1) xs) (sym e)
 
-put_cond : (b : Bool) (x : ℕ) (rest : List ℕ) → put (cond b (Some x) None) rest ≡ cond b (x ∷ []) [] ++ rest
+put_cond : (b : Bool) (x : ℕ) (rest : List ℕ) → cons_some (cond b (Some x) None) rest ≡ cond b (x ∷ []) [] ++ rest
 put_cond true x rest = refl
 put_cond false x rest = refl
 
@@ -36,7 +36,7 @@ keep_next n xs kept more i x b l e s m h =
     ap (λ z. z ++ pick (keep n) (drop (i + 1) xs)) m
     ∙ (append_assoc kept (cond b (x ∷ []) []) (pick (keep n) (drop (i + 1) xs))
     ∙ (ap (λ z. kept ++ z) (sym (put_cond b x (pick (keep n) (drop (i + 1) xs)))
-    ∙ ap (λ z. put (cond z (Some x) None) (pick (keep n) (drop (i + 1) xs))) s)
+    ∙ ap (λ z. cons_some (cond z (Some x) None) (pick (keep n) (drop (i + 1) xs))) s)
     ∙ (ap (λ z. kept ++ pick (keep n) z) (sym (next_drop xs i x l e)) ∙ h)))
 
 pub room_next : (kept more : List ℕ) (i x : ℕ) (b : Bool) → more ≡ kept ++ cond b (x ∷ []) [] → length kept ≤ i → length more ≤ i + 1
@@ -66,7 +66,7 @@ any_kept f n (x ∷ xs) = go (node n x) refl (any_kept f n xs)
   where
     go :
         (m : Node) → node n x ≡ m → any_state f n (pick (keep n) xs) ≡ any_state f n xs
-        → any_state f n (put (cond (stays_at m) (Some x) None) (pick (keep n) xs)) ≡ (looks_at f (node n x) || any_state f n xs)
+        → any_state f n (cons_some (cond (stays_at m) (Some x) None) (pick (keep n) xs)) ≡ (looks_at f (node n x) || any_state f n xs)
     go (Split alternates) e h = h ∙ sym (ap (λ z. looks_at f z || any_state f n xs) e)
     go (Assert look next) e h = ap (λ z. looks_at f (node n x) || z) h
     go (Read ranges) e h = ap (λ z. looks_at f (node n x) || z) h
@@ -114,14 +114,14 @@ in_next p xs i x w l e f h = h ∙ (ap (is_in p) (next_drop xs i x l e) ∙ ap (
 pub in_here : (p : ℕ) (xs : List ℕ) (i x : ℕ) (w : Bool) → i < length xs → x ≡ get_or xs i x → eqb p x ≡ true → w ≡ is_in p (drop i xs) → true ≡ w
 in_here p xs i x w l e t h = sym (h ∙ (ap (is_in p) (next_drop xs i x l e) ∙ ap (λ z. z || is_in p (drop (i + 1) xs)) t))
 
-pub pick_next : (g : ℕ → Option ℕ) (xs : List ℕ) (i x : ℕ) → i < length xs → x ≡ get_or xs i x → pick g (drop i xs) ≡ put (g x) (pick g (drop (i + 1) xs))
+pub pick_next : (g : ℕ → Option ℕ) (xs : List ℕ) (i x : ℕ) → i < length xs → x ≡ get_or xs i x → pick g (drop i xs) ≡ cons_some (g x) (pick g (drop (i + 1) xs))
 pick_next g xs i x l e = ap (pick g) (next_drop xs i x l e)
 
 pub kept_in : (n : Nfa) (xs : List ℕ) (q : ℕ) → In q (pick (keep n) xs) → In q xs
 kept_in n [] q i = i
 kept_in n (x ∷ xs) q i = go (stays_at (node n x)) (kept_in n xs q) i
   where
-    go : (b : Bool) → (In q (pick (keep n) xs) → In q xs) → In q (put (cond b (Some x) None) (pick (keep n) xs)) → In q (x ∷ xs)
+    go : (b : Bool) → (In q (pick (keep n) xs) → In q xs) → In q (cons_some (cond b (Some x) None) (pick (keep n) xs)) → In q (x ∷ xs)
     go true ih (inl e) = inl e
     go true ih (inr j) = inr (ih j)
     go false ih j = inr (ih j)
@@ -169,10 +169,10 @@ pub pattern_next :
     → Patterns g xs i P ys → Patterns g xs (i + 1) P more
 pattern_next g xs i x P None ys more l e s below some none h =
     subst (λ z. Patterns g xs (i + 1) P z) (sym (none refl))
-    (sym (ap (once_from ys) (pick_next g xs i x l e ∙ ap (λ z. put z (pick g (drop (i + 1) xs))) s)) ∙ h.0, h.1, h.2)
+    (sym (ap (once_from ys) (pick_next g xs i x l e ∙ ap (λ z. cons_some z (pick g (drop (i + 1) xs))) s)) ∙ h.0, h.1, h.2)
 pattern_next g xs i x P (Some p) ys more l e s below some none h =
     subst (λ z. Patterns g xs (i + 1) P z) (sym (some p refl))
-    (sym (ap (once_from ys) (pick_next g xs i x l e ∙ ap (λ z. put z (pick g (drop (i + 1) xs))) s)) ∙ h.0, distinct (is_in p ys) refl, bound (is_in p ys))
+    (sym (ap (once_from ys) (pick_next g xs i x l e ∙ ap (λ z. cons_some z (pick g (drop (i + 1) xs))) s)) ∙ h.0, distinct (is_in p ys) refl, bound (is_in p ys))
   where
     distinct : (b : Bool) → is_in p ys ≡ b → Distinct (ys ++ cond b [] (p ∷ []))
     distinct true e = subst Distinct (sym (append-nil ys)) h.1

@@ -4,20 +4,20 @@ use Rattle.std.specs.Prelude.{IsTrue}
 use Rattle.automata_base.specs.declared.nfa.thompson.Data.{Data}
 use Rattle.automata_base.specs.Nodes.{stack_room}
 use Rattle.automata_base.specs.Door.{IsLooks}
-use Rattle.automata_base.specs.Automata.{automaton_of, IsSound}
+use Rattle.automata_base.specs.Automata.{automaton_of, IsConsistent}
 use Rattle.automata_base.specs.Reach.{AreLooksAcyclic, ReachesMatch, SkipsFrom}
-use Rattle.automata_base.specs.Refusals.{refusal}
+use Rattle.automata_base.specs.Refusals.{door_refusal}
 use Rattle.automata_base.proofs.Determinizing.Tests_of_lists.{door_range, door_starts, patterns_fit}
 use Rattle.automata_base.proofs.Reaching.Led.{acyclic_is, empty_is, lazily_is}
 use Rattle.automata_base.proofs.Reaching.Refused.{passing, room_small}
 
 pub sound :
-    (d : Data) → refusal d.states.items d.start_anchored d.start_unanchored d.start_pattern.items ≡ None
+    (d : Data) → door_refusal d.states.items d.start_anchored d.start_unanchored d.start_pattern.items ≡ None
     → IsLooks (automaton_of d) d.looks → d.room ≡ stack_room d.states.items
     → IsTrue d.has_empty ↔ ReachesMatch d.states.items d.start_pattern.items
     → IsTrue d.skips_lazily ↔ SkipsFrom d.states.items d.start_anchored d.start_unanchored
     → IsTrue d.is_look_acyclic ↔ AreLooksAcyclic d.states.items
-    → IsSound d
+    → IsConsistent d
 sound d none looks room empty skips acyclic =
     let tests = passing d.states.items d.start_anchored d.start_unanchored d.start_pattern.items none in
     record {

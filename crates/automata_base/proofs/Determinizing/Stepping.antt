@@ -1,7 +1,7 @@
 -- What the construction answers is the start or the successor.
 use Rattle.std.proofs.Common.{ℕ, ◌≡◌, ◌<◌, List, [], ◌∷◌, length, Option, Some, None, inl, inr, sym, subst, ap, ◌∙◌, refl, true, true≢false}
 use Rattle.automata_base.specs.declared.util.search.Anchored.{Anchored}
-use Rattle.automata_base.specs.Computed.{IsInRange, start_of, successor_of}
+use Rattle.automata_base.specs.Computed.{IsInRange, start_behind, successor_of}
 use Rattle.automata_base.specs.Cuts.{MatchKind}
 use Rattle.automata_base.specs.Lists.{In}
 use Rattle.automata_base.specs.Nfa.{Nfa}
@@ -32,7 +32,7 @@ start_at :
     → IsInRange n → ((s : ℕ) → start ≡ Some s → s < length n.nodes) → IsStartAt n start prev r → r ≡ start_or_dead n start prev
 start_at n None prev r range below h = h
 start_at n (Some s) prev r range below h =
-    arrival_one n [] (s ∷ []) prev r (start_of n s prev) h (arrive_right n [] (s ∷ []) prev range one).0
+    arrival_one n [] (s ∷ []) prev r (start_behind n s prev) h (arrive_right n [] (s ∷ []) prev range one).0
   where
     one : (y : ℕ) → In y (s ∷ []) → y < length n.nodes
     one y (inl e) = subst (λ v. v < length n.nodes) (sym e) (below s refl)

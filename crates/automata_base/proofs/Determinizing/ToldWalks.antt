@@ -2,7 +2,7 @@
 use Rattle.std.proofs.Common.{ℕ, zero, suc, ◌≡◌, ◌<◌, ◌≤◌, ◌⊎◌, ◌↔◌, inl, inr, Bool, true, false, List, [], ◌++◌, length, Option, Some, None, refl, sym, ap, ap₂, ◌∙◌, subst, arith}
 use Rattle.std.specs.Prelude.{IsTrue}
 use Rattle.automata_base.specs.Answers.{AreUnsplit, IsInput, IsOverlappingFrom, OverlapsOver, Walks, with_offsets, without_split}
-use Rattle.automata_base.specs.Computed.{walk_of}
+use Rattle.automata_base.specs.Computed.{pairs_upto}
 use Rattle.automata_base.specs.Cuts.{MatchKind}
 use Rattle.automata_base.specs.Door.{IsDoor}
 use Rattle.automata_base.specs.Engines.{Anchored, IsSkipping, engine_of, first_state}
@@ -15,7 +15,7 @@ use Rattle.automata_base.specs.Selections.{Pair, IsOverlappingOn, at_place}
 use Rattle.automata_base.specs.Starts.{mode_start}
 use Rattle.automata_base.specs.Tapes.{Direction, tape_of}
 use Rattle.automata_base.specs.Telling.{pairs_told}
-use Rattle.automata_base.specs.WalkLaws.{AreTold, OverlappingIsTold, PassTells, WalkIsRight, WalksAreOne, WalksAreTold}
+use Rattle.automata_base.specs.WalkLaws.{AreTold, OverlappingIsTold, SpanTells, WalkIsRight, WalksAreOne, WalksAreTold}
 use Rattle.automata_base.proofs.Determinizing.Telling.{told_is}
 use Rattle.automata_base.proofs.Determinizing.Told.{first_is, none_at, start_below}
 use Rattle.automata_base.proofs.Paths.Finals.{walked_right}
@@ -24,7 +24,7 @@ use Rattle.automata_base.proofs.Spans.Total.{tape_units}
 
 pairs_is :
     (a : Automaton) (kind : MatchKind) (mode : Anchored) (t : Tape) (start k : ℕ)
-    → mode_start a mode ≡ Some start → pairs_told a kind mode t k ≡ walk_of (nfa_of a) kind start t k
+    → mode_start a mode ≡ Some start → pairs_told a kind mode t k ≡ pairs_upto (nfa_of a) kind start t k
 unfolding pairs_told
 pairs_is a kind mode t start zero e = refl
 pairs_is a kind mode t start (suc k) e =
@@ -51,7 +51,7 @@ overlaps_from a kind mode t (Some q) d free tape e =
 overlaps_over :
     (a : Automaton) (kind : MatchKind) (way : Direction) (input : Input) (pairs : List Pair)
     → IsDoor a → IsLookAcyclic (nfa_of a) → IsInput input → input.start ≤ input.end
-    → PassTells way a kind input pairs → OverlapsOver way (engine_of a kind) input pairs
+    → SpanTells way a kind input pairs → OverlapsOver way (engine_of a kind) input pairs
 overlaps_over a kind way input pairs d free i l e =
     let t : Tape = tape_of way input.haystack input.start input.end in
     let tape : IsTape t = tape_units way input.haystack input.start input.end i.0 l i.1 in
@@ -94,16 +94,16 @@ walks_once T S way input a b once (inr (l, (x, t, u))) (inr (l', (y, t', u'))) =
 
 pub walks_one : WalksAreOne
 walks_one way a kind input first second h k =
-    walks_once (PassTells way a kind) (IsSkipping (engine_of a kind)) way input first second (λ x y e f. e ∙ sym f) h k
+    walks_once (SpanTells way a kind) (IsSkipping (engine_of a kind)) way input first second (λ x y e f. e ∙ sym f) h k
 
 pub walk_right : (a : Automaton) → IsDoor a → WalkIsRight a
 walk_right a d way kind input found free i h =
-    turn_walks (PassTells way a kind) (OverlapsOver way (engine_of a kind)) (IsSkipping (engine_of a kind)) way input found
+    turn_walks (SpanTells way a kind) (OverlapsOver way (engine_of a kind)) (IsSkipping (engine_of a kind)) way input found
     (λ pairs l e. overlaps_over a kind way input pairs d free i l e) h
 
 pub overlapping_told : (a : Automaton) → IsDoor a → OverlappingIsTold a
 overlapping_told a d way kind input found free i h =
-    turn_walks (OverlapsOver way (engine_of a kind)) (PassTells way a kind) (IsSkipping (engine_of a kind)) way input found
+    turn_walks (OverlapsOver way (engine_of a kind)) (SpanTells way a kind) (IsSkipping (engine_of a kind)) way input found
     (λ pairs l o.
     overlaps_once a kind (tape_of way input.haystack input.start input.end) (first_state (engine_of a kind) input.anchored) pairs
     (pairs_told a kind input.anchored (tape_of way input.haystack input.start input.end) (suc (length (tape_of way input.haystack input.start input.end).bytes))) o

@@ -6,7 +6,7 @@ use Rattle.automata_base.specs.Cuts.{MatchKind}
 use Rattle.automata_base.specs.Door.{IsDoor}
 use Rattle.automata_base.specs.Engines.{Anchored}
 use Rattle.automata_base.specs.Input.{Input}
-use Rattle.automata_base.specs.Lists.{In, pick, put}
+use Rattle.automata_base.specs.Lists.{In, pick, cons_some}
 use Rattle.automata_base.specs.Nfa.{accepts}
 use Rattle.automata_base.specs.Nodes.{Automaton, nfa_of}
 use Rattle.automata_base.specs.Paths.{Tape, next}
@@ -17,7 +17,7 @@ use Rattle.automata_base.specs.Steps.{start_or_dead, start_state_of, successor}
 use Rattle.automata_base.specs.Tapes.{Direction, Forward, Backward, tape_of}
 use Rattle.automata_base.specs.Telling.{first_told, last_told, state_after, told_at, told_upto}
 use Rattle.automata_base.specs.Told.{IsTold, told_over}
-use Rattle.automata_base.specs.WalkLaws.{InPairs, PassTells}
+use Rattle.automata_base.specs.WalkLaws.{InPairs, SpanTells}
 use Rattle.automata_base.specs.Within.{IsInSpan, IsPatternOf, StatesTellOwn, TellsOwn, ToldLiesWithin, WalkLiesWithin}
 use Rattle.automata_base.proofs.Determinizing.ToldPairs.{in_offsets, in_told, in_unsplit}
 use Rattle.automata_base.proofs.Spans.Bytes.{forward_length, tape_length}
@@ -27,7 +27,7 @@ picked : (g : ℕ → Option ℕ) (xs : List ℕ) (y : ℕ) → In y (pick g xs)
 picked g [] y h = absurd h
 picked g (x ∷ xs) y h = go (g x) refl (λ i. picked g xs y i) h where
   go :
-      (o : Option ℕ) → g x ≡ o → (In y (pick g xs) → (z : ℕ) × (g z ≡ Some y)) → In y (put o (pick g xs))
+      (o : Option ℕ) → g x ≡ o → (In y (pick g xs) → (z : ℕ) × (g z ≡ Some y)) → In y (cons_some o (pick g xs))
       → (z : ℕ) × (g z ≡ Some y)
   go None e more i = more i
   go (Some z) e more (inl same) = (x, e ∙ ap Some (sym same))
@@ -173,7 +173,7 @@ told_lies a d way kind input half few f =
 -- so do the pairs of a walk
 offset_lies :
     (a : Automaton) → IsDoor a → (way : Direction) (kind : MatchKind) (input : Input) (pairs : List Pair) (pair : Pair)
-    → input.start ≤ input.end → input.end ≤ length input.haystack → PassTells way a kind input pairs
+    → input.start ≤ input.end → input.end ≤ length input.haystack → SpanTells way a kind input pairs
     → InPairs pair (with_offsets way input pairs) → IsPatternOf a pair.pattern × IsInSpan input pair.place
 offset_lies a d way kind input pairs pair ahead few told i =
     let t : Tape = tape_of way input.haystack input.start input.end in

@@ -1,18 +1,18 @@
 -- Least keys of a list of states, followed by least paths from what the states lead to, are least keys.
 use Rattle.std.proofs.Common.{ℕ, zero, suc, ◌≡◌, ◌<◌, List, [], ◌∷◌, ◌++◌, ◌⊎◌, Option, Some, None, inl, inr, refl, sym, ap, ◌∙◌, subst, arith}
 use Rattle.automata_base.specs.Order.{Before, Upto, Begins}
-use Rattle.automata_base.specs.Lists.{In, nth, Sorted, IsListOf, put, pick, From}
+use Rattle.automata_base.specs.Lists.{In, nth, Sorted, IsListOf, cons_some, pick, From}
 use Rattle.automata_base.proofs.Paths.Orders.{cons_head, cons_tail, none_some, before_then, before_after, upto_after, before_append}
 
 -- The index of a state among those that are picked.
-pub put_nth : (o : Option ℕ) (ys : List ℕ) (r : ℕ) → (k : ℕ) × (nth ys k ≡ Some r) → (k : ℕ) × (nth (put o ys) k ≡ Some r)
+pub put_nth : (o : Option ℕ) (ys : List ℕ) (r : ℕ) → (k : ℕ) × (nth ys k ≡ Some r) → (k : ℕ) × (nth (cons_some o ys) k ≡ Some r)
 put_nth None ys r h = h
 put_nth (Some x) ys r h = (suc h.0, h.1)
 
 pub in_pick : (g : ℕ → Option ℕ) (N : List ℕ) (y r : ℕ) → In y N → g y ≡ Some r → (k : ℕ) × (nth (pick g N) k ≡ Some r)
 in_pick g [] y r h e = elim h [ ]
 in_pick g (x ∷ xs) y r (inl h) e =
-    (zero, subst (λ o. nth (put o (pick g xs)) zero ≡ Some r) (sym e ∙ ap g h) refl)
+    (zero, subst (λ o. nth (cons_some o (pick g xs)) zero ≡ Some r) (sym e ∙ ap g h) refl)
 in_pick g (x ∷ xs) y r (inr h) e = put_nth (g x) (pick g xs) r (in_pick g xs y r h e)
 
 -- Where the others stand, seen from the picked state at index `k`, whose least key is `p`.
@@ -41,9 +41,9 @@ found P g [] k r s e = absurd (none_some e)
 found P g (x ∷ xs) k r s e = go (g x) refl k e (λ k'. found P g xs k' r s.4)
   where
     go :
-        (o : Option ℕ) → g x ≡ o → (k : ℕ) → nth (put o (pick g xs)) k ≡ Some r
+        (o : Option ℕ) → g x ≡ o → (k : ℕ) → nth (cons_some o (pick g xs)) k ≡ Some r
         → ((k' : ℕ) → nth (pick g xs) k' ≡ Some r → Found P g xs (pick g xs) k' r)
-        → Found P g (x ∷ xs) (put o (pick g xs)) k r
+        → Found P g (x ∷ xs) (cons_some o (pick g xs)) k r
     go None gx k e ih = (f.0, f.1, f.2, f.3, rank)
       where
         f : Found P g xs (pick g xs) k r

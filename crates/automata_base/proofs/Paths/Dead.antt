@@ -5,7 +5,7 @@ use Rattle.automata_base.specs.Looks.{Look}
 use Rattle.automata_base.specs.Nfa.{Nfa, accepts}
 use Rattle.automata_base.specs.Paths.{Tape, next}
 use Rattle.automata_base.specs.Cuts.{MatchKind, All, LeftmostFirst, cut_for, IsOnce, targets}
-use Rattle.automata_base.specs.Passes.{IsMake, IsNeeded, IsArrival, IsSuccessor, IsPass}
+use Rattle.automata_base.specs.Passes.{IsMake, IsNeeded, IsClosureOf, IsSuccessor, IsPass}
 use Rattle.automata_base.specs.Powerset.{dead}
 use Rattle.automata_base.specs.Powerset.{Powerset}
 use Rattle.automata_base.specs.Selections.{Tells}
@@ -38,7 +38,7 @@ dead_make n prev = (
   omega arith,
 )
 
-dead_arrival : (n : Nfa) (u : Option ℕ) → IsArrival n [] [] u dead
+dead_arrival : (n : Nfa) (u : Option ℕ) → IsClosureOf n [] [] u dead
 dead_arrival n u = (known_looks n u, [], known_right n u, visits_closure n (known_looks n u) [] [] done, dead_make n u)
 
 pub dead_succ : (n : Nfa) (kind : MatchKind) (u : Option ℕ) → IsSuccessor n kind dead u dead
@@ -47,8 +47,8 @@ dead_succ n kind u = (
   [],
   inr ((λ h. true≢false (sym h.1 ∙ truth_of_none h.0)), refl),
   subst (λ v. IsOnce (pick (accepts n) v) []) (sym (empty_cut kind n)) (once_right []),
-  subst (λ v. IsArrival n [] (targets n u v) u dead) (sym (empty_cut kind n))
-      (subst (λ v. IsArrival n [] v u dead) (sym (empty_targets n u)) (dead_arrival n u)),
+  subst (λ v. IsClosureOf n [] (targets n u v) u dead) (sym (empty_cut kind n))
+      (subst (λ v. IsClosureOf n [] v u dead) (sym (empty_targets n u)) (dead_arrival n u)),
 )
 
 pub dead_on :

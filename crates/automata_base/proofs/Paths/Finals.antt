@@ -5,7 +5,7 @@ use Rattle.automata_base.specs.Nfa.{Nfa}
 use Rattle.automata_base.specs.Paths.{Tape, IsLookAcyclic}
 use Rattle.automata_base.specs.Cuts.{MatchKind, All}
 use Rattle.automata_base.specs.Selections.{Accepts, Pair, IsNearest, IsFarthest, Pairs, Tells, PassSelects, Selects, IsOverlappingOn}
-use Rattle.automata_base.specs.Computed.{told_of, pair_at, last_of, earlier_or, first_of, search_of, walk_of, IsInRange}
+use Rattle.automata_base.specs.Computed.{told_of, pair_at, last_of, earlier_or, first_of, search_of, pairs_upto, IsInRange}
 use Rattle.automata_base.specs.Passes.{IsTape}
 use Rattle.automata_base.proofs.Paths.Searches.{sel_right, walk_right}
 use Rattle.automata_base.proofs.Paths.Sets.{nearest_right, farthest_right, pairs_right}
@@ -85,18 +85,18 @@ search_right kind earliest n t start r l free tape_of =
 
 walk_pairs :
     (kind : MatchKind) (n : Nfa) (t : Tape) (start k : ℕ)
-    → IsInRange n → start < length n.nodes → Pairs (Tells kind n t start) k (walk_of n kind start t k)
+    → IsInRange n → start < length n.nodes → Pairs (Tells kind n t start) k (pairs_upto n kind start t k)
 walk_pairs kind n t start zero r l = refl
 walk_pairs kind n t start (suc k) r l =
-    (walk_of n kind start t k, told_of n kind start t k, walk_pairs kind n t start k r l, told_right n kind start t k r l, refl)
+    (pairs_upto n kind start t k, told_of n kind start t k, walk_pairs kind n t start k r l, told_right n kind start t k r l, refl)
 
 -- Late is right, for walks.
 pub walked_right :
     (kind : MatchKind) (n : Nfa) (t : Tape) (start : ℕ)
     → IsInRange n → start < length n.nodes → IsLookAcyclic n → IsTape t
-    → IsOverlappingOn kind n t start (walk_of n kind start t (suc (length t.bytes)))
+    → IsOverlappingOn kind n t start (pairs_upto n kind start t (suc (length t.bytes)))
 walked_right kind n t start r l free tape_of =
-    walk_right kind n t start (walk_of n kind start t (suc (length t.bytes))) free tape_of (walk_pairs kind n t start (suc (length t.bytes)) r l)
+    walk_right kind n t start (pairs_upto n kind start t (suc (length t.bytes))) free tape_of (walk_pairs kind n t start (suc (length t.bytes)) r l)
 
 -- For every NFA: the nearest end, and under kind all the farthest.
 pub earliest_right :

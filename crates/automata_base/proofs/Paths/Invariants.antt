@@ -1,13 +1,13 @@
 -- What a powerset state of the pass means before its looks are decided.
 use Rattle.std.proofs.Common.{ℕ, zero, suc, ◌≡◌, ◌<◌, ◌≤◌, List, [], ◌∷◌, ◌⊎◌, length, Option, Some, None, inl, inr, refl, sym, ap, ◌∙◌, subst, arith, ⊎_elim, eq-or-lt_of_le, le_of_suc-le-suc}
 use Rattle.automata_base.specs.Order.{Before, Upto}
-use Rattle.automata_base.specs.Lists.{nth, IsListOf, put, pick, From}
+use Rattle.automata_base.specs.Lists.{nth, IsListOf, cons_some, pick, From}
 use Rattle.automata_base.specs.Nfa.{Nfa, accepts, ends, takes}
 use Rattle.automata_base.specs.Paths.{IsPathAt, Tape, IsPath, truth, prev, next, next_in, IsLookAcyclic}
 use Rattle.automata_base.specs.Cuts.{MatchKind, All, LeftmostFirst, cut, cut_for, IsOnce, targets}
-use Rattle.automata_base.specs.Passes.{IsTape, IsArrival, IsDecided, IsSuccessor, IsStart, IsPass}
+use Rattle.automata_base.specs.Passes.{IsTape, IsClosureOf, IsDecided, IsSuccessor, IsStart, IsPass}
 use Rattle.automata_base.specs.Powerset.{Powerset}
-use Rattle.automata_base.specs.Selections.{Accepts, IsFirstAt, IsAt, Tells}
+use Rattle.automata_base.specs.Selections.{Accepts, IsFirstAt, ArePatternsAt, Tells}
 use Rattle.automata_base.proofs.Paths.Orders.{before_total, before_upto, before_trans}
 use Rattle.automata_base.proofs.Paths.Places.{path_end, accepts_ends}
 use Rattle.automata_base.proofs.Paths.Sift.{same}
@@ -42,7 +42,7 @@ IsBestFor LeftmostFirst n t start best i = IsBest n t start best i
 -- `i` within the bound.
 abbrev pub Means : MatchKind → Nfa → Tape → ℕ → ℕ → Powerset → Type 0
 Means kind n t start i Q =
-    (best : Option (List ℕ)) × (patterns roots : List ℕ) × IsArrival n patterns roots (prev t i) Q
+    (best : Option (List ℕ)) × (patterns roots : List ℕ) × IsClosureOf n patterns roots (prev t i) Q
     × IsBestFor kind n t start best i
     × ((xs : List ℕ) → IsListOf (Ending n (From (W_at n t i) roots)) xs → IsListOf (EndsWithin n t start best i) xs)
 
@@ -146,7 +146,7 @@ after_some n t start i best N m l b e = (
   same (λ q key. P q key × Before key a) (EndsWithin n t start (Some a) i) (front n N) there back w.4,
   (i, w.2.0, omega arith, mine, least),
   (i, m, w.2.0, w.1.1, w.2.1, omega arith),
-  inr (w.2.0, a, ap (λ o. put o []) w.2.1, mine, here, k.0),
+  inr (w.2.0, a, ap (λ o. cons_some o []) w.2.1, mine, here, k.0),
 )
   where
     P : ℕ → List ℕ → Type 0
@@ -246,23 +246,23 @@ means_succ kind n t start i P Q free tape_of inside m s = go (next_byte t.bytes 
         w : Onward kind n t start i s.0 b.0
         w = onward kind n t start i s.0 b.0 m.0 b.1 m.4 (means_decided kind n t start i P s.0 free tape_of m s.2)
 
-        arrival : IsArrival n s.1 (pick (λ v. takes n v b.0) (cut_for kind n s.0)) (nth t.bytes i) Q
+        arrival : IsClosureOf n s.1 (pick (λ v. takes n v b.0) (cut_for kind n s.0)) (nth t.bytes i) Q
         arrival =
-            subst (λ v. IsArrival n s.1 (pick (λ v. takes n v b.0) (cut_for kind n s.0)) v Q) (sym b.1)
-            (subst (λ v. IsArrival n s.1 (targets n v (cut_for kind n s.0)) v Q) b.2 s.4)
+            subst (λ v. IsClosureOf n s.1 (pick (λ v. takes n v b.0) (cut_for kind n s.0)) v Q) (sym b.1)
+            (subst (λ v. IsClosureOf n s.1 (targets n v (cut_for kind n s.0)) v Q) b.2 s.4)
 
 pub means_tells :
     (kind : MatchKind) (n : Nfa) (t : Tape) (start i : ℕ) (P Q : Powerset)
     → IsLookAcyclic n → IsTape t → Means kind n t start i P → IsSuccessor n kind P (next t i) Q
-    → IsAt kind n t start i Q.patterns
+    → ArePatternsAt kind n t start i Q.patterns
 means_tells kind n t start i P Q free tape_of m s =
-    subst (λ v. IsAt kind n t start i v) (sym s.4.4.1)
+    subst (λ v. ArePatternsAt kind n t start i v) (sym s.4.4.1)
     (go kind m.0 m.4 (means_decided kind n t start i P s.0 free tape_of m s.2) s.3)
   where
     go :
         (kind : MatchKind) (best : Option (List ℕ)) → IsBestFor kind n t start best i
         → IsListOf (EndsWithin n t start best i) (pick (ends n) s.0)
-        → IsOnce (pick (accepts n) (cut_for kind n s.0)) s.1 → IsAt kind n t start i s.1
+        → IsOnce (pick (accepts n) (cut_for kind n s.0)) s.1 → ArePatternsAt kind n t start i s.1
     go All best b l o =
         patterns_of n t start i (pick (ends n) s.0) s.1
         (subst (λ v. IsListOf (EndsWithin n t start v i) (pick (ends n) s.0)) b l)
@@ -285,7 +285,7 @@ pass_means kind n t start (suc k) Q free tape_of l p =
 -- What the pass tells of a place is what the paths define.
 pub pass_tells :
     (kind : MatchKind) (n : Nfa) (t : Tape) (start i : ℕ) (patterns : List ℕ)
-    → IsLookAcyclic n → IsTape t → i ≤ length t.bytes → Tells kind n t start i patterns → IsAt kind n t start i patterns
+    → IsLookAcyclic n → IsTape t → i ≤ length t.bytes → Tells kind n t start i patterns → ArePatternsAt kind n t start i patterns
 pass_tells kind n t start i patterns free tape_of l p =
-    subst (λ v. IsAt kind n t start i v) p.2
+    subst (λ v. ArePatternsAt kind n t start i v) p.2
     (means_tells kind n t start i p.1.0 p.0 free tape_of (pass_means kind n t start i p.1.0 free tape_of l p.1.1) p.1.2)

@@ -3,7 +3,7 @@ use Rattle.std.proofs.Common.{ℕ, ◌≡◌, Bool, true, false, cond, List, [],
 use Rattle.automata_base.specs.Order.{Begins}
 use Rattle.automata_base.specs.Lists.{nth, IsListOf, pick, From}
 use Rattle.automata_base.specs.Nfa.{Nfa, Node, Split, Assert, Read, Accept, Truth, node, Includes, hop, hop_at, keep, ends, stays_at, ends_at}
-use Rattle.automata_base.specs.Paths.{IsPathAt, all_true, Leads, LeadsOn, IsLookAcyclic, IsClosure}
+use Rattle.automata_base.specs.Paths.{IsPathAt, all_true, HasEpsilonPath, LeadsOn, IsLookAcyclic, IsClosure}
 use Rattle.automata_base.proofs.Paths.Orders.{cons_head, cons_tail, nil_cons, some_inj, none_some}
 use Rattle.automata_base.proofs.Paths.Walks.{walk_more, walk_forget, walk_join, run_join, fork, fork_at}
 use Rattle.automata_base.proofs.Paths.Compose.{Composes, Divides, compose}
@@ -50,7 +50,7 @@ fork_hop (Accept p) A e r f = absurd (none_some f)
 
 -- No path goes on from a state that stays and comes back to it.
 pub stays_no_loop :
-    (n : Nfa) (x y : ℕ) → IsLookAcyclic n → stays_at (node n x) ≡ true → LeadsOn n x y → Leads n y x → ⊥
+    (n : Nfa) (x y : ℕ) → IsLookAcyclic n → stays_at (node n x) ≡ true → LeadsOn n x y → HasEpsilonPath n y x → ⊥
 stays_no_loop n x y free s on back = go (node n x) refl s on.2
   where
     loop : LeadsOn n x x

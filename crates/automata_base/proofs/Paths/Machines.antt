@@ -6,7 +6,7 @@ use Rattle.automata_base.specs.Lists.{In, nth, From, pick}
 use Rattle.automata_base.specs.Nfa.{Nfa, Node, Split, Assert, Read, Accept, Truth, node, node_or_fail, takes, accepts, keep}
 use Rattle.automata_base.specs.Paths.{IsPathAt, Tape, next, IsClosure}
 use Rattle.automata_base.specs.Cuts.{MatchKind, cut_for, targets, IsOnce}
-use Rattle.automata_base.specs.Passes.{IsUnit, Occurs, IsKnownLook, IsNeeded, IsMake, is_word_look, is_crlf_look, true_looks, IsNews, IsDecided, IsArrival, IsSuccessor, IsPass}
+use Rattle.automata_base.specs.Passes.{IsUnit, Occurs, IsKnownLook, IsNeeded, IsMake, is_word_look, is_crlf_look, true_looks, IsNews, IsDecided, IsClosureOf, IsSuccessor, IsPass}
 use Rattle.automata_base.specs.Powerset.{Powerset}
 use Rattle.automata_base.specs.Selections.{Tells}
 use Rattle.automata_base.specs.Visits.{children, Visits, done, skip, visit}
@@ -363,7 +363,7 @@ IsIn n Q = AllBelow (length n.nodes) Q.nfa
 pub arrive_right :
     (n : Nfa) (patterns roots : List ℕ) (prev : Option ℕ)
     → IsInRange n → AllBelow (length n.nodes) roots
-    → IsArrival n patterns roots prev (arrive n patterns roots prev) × IsIn n (arrive n patterns roots prev)
+    → IsClosureOf n patterns roots prev (arrive n patterns roots prev) × IsIn n (arrive n patterns roots prev)
 arrive_right n patterns roots prev r b =
     ((known_looks n prev, C, known_right n prev, c, make_right n patterns C prev), inside)
   where
@@ -458,7 +458,7 @@ succ_right n kind u Q r b =
     d = decide_right n u Q r b
 
     a :
-        IsArrival n (once_past [] told) (targets n u (cut_for kind n (decide n Q u))) u (successor_of n kind Q u)
+        IsClosureOf n (once_past [] told) (targets n u (cut_for kind n (decide n Q u))) u (successor_of n kind Q u)
         × IsIn n (successor_of n kind Q u)
     a =
         arrive_right n (once_past [] told) (targets n u (cut_for kind n (decide n Q u))) u r

@@ -1,7 +1,7 @@
 -- What is read off a decided list: its byte states' targets and its match states' patterns.
 use Rattle.std.proofs.Common.{ℕ, zero, suc, ◌≡◌, cond, List, [], ◌∷◌, ◌++◌, ◌⊎◌, Option, Some, None, inl, inr, refl, sym, ap, ap₂, ◌∙◌, subst, ⊎_elim, append-nil}
 use Rattle.automata_base.specs.Order.{Upto, Begins}
-use Rattle.automata_base.specs.Lists.{In, Sorted, IsListOf, put, pick, From}
+use Rattle.automata_base.specs.Lists.{In, Sorted, IsListOf, cons_some, pick, From}
 use Rattle.automata_base.specs.Nfa.{Nfa, Node, Split, Assert, Read, Accept, node, takes, takes_at, accepts, accepts_at, ends, ends_at}
 use Rattle.automata_base.specs.Paths.{Tape, IsPath}
 use Rattle.automata_base.specs.Cuts.{cut, cut_behind, IsOnce}
@@ -33,16 +33,16 @@ targets_all n u (q ∷ xs) = go (class_at (node n q) q u) (targets_all n u xs)
 
     keeps :
         ends n q ≡ Some q → pick g xs ≡ pick g (pick (ends n) xs)
-        → put (g q) (pick g xs) ≡ pick g (put (ends n q) (pick (ends n) xs))
-    keeps e ih = ap (λ v. put (g q) v) ih ∙ ap (λ o. pick g (put o (pick (ends n) xs))) (sym e)
+        → cons_some (g q) (pick g xs) ≡ pick g (cons_some (ends n q) (pick (ends n) xs))
+    keeps e ih = ap (λ v. cons_some (g q) v) ih ∙ ap (λ o. pick g (cons_some o (pick (ends n) xs))) (sym e)
 
     go :
         Class (node n q) q u → pick g xs ≡ pick g (pick (ends n) xs)
-        → put (g q) (pick g xs) ≡ pick g (put (ends n q) (pick (ends n) xs))
+        → cons_some (g q) (pick g xs) ≡ pick g (cons_some (ends n q) (pick (ends n) xs))
     go (inl h) ih = keeps h.2 ih
     go (inr (inl h)) ih = keeps h.1 ih
     go (inr (inr h)) ih =
-        ap (λ o. put o (pick g xs)) h.2 ∙ (ih ∙ ap (λ o. pick g (put o (pick (ends n) xs))) (sym h.1))
+        ap (λ o. cons_some o (pick g xs)) h.2 ∙ (ih ∙ ap (λ o. pick g (cons_some o (pick (ends n) xs))) (sym h.1))
 
 pub targets_cut :
     (n : Nfa) (u : ℕ) (xs : List ℕ)
@@ -58,22 +58,22 @@ targets_cut n u (q ∷ xs) = go (class_at (node n q) q u) (targets_cut n u xs)
 
     go :
         Class (node n q) q u → pick g (cut n xs) ≡ pick g (front n rest)
-        → pick g (cut_behind (accepts n q) q (cut n xs)) ≡ pick g (front n (put (ends n q) rest))
+        → pick g (cut_behind (accepts n q) q (cut n xs)) ≡ pick g (front n (cons_some (ends n q) rest))
     go (inl h) ih =
         ap (λ o. pick g (cut_behind o q (cut n xs))) h.1
-        ∙ (ap (λ o. put o []) h.3
+        ∙ (ap (λ o. cons_some o []) h.3
         ∙ (ap (λ o. pick g (stop_at o q (front n rest))) (sym h.1)
-        ∙ ap (λ o. pick g (front n (put o rest))) (sym h.2)))
+        ∙ ap (λ o. pick g (front n (cons_some o rest))) (sym h.2)))
     go (inr (inl h)) ih =
         ap (λ o. pick g (cut_behind o q (cut n xs))) h.0
-        ∙ (ap (λ v. put (g q) v) ih
+        ∙ (ap (λ v. cons_some (g q) v) ih
         ∙ (ap (λ o. pick g (stop_at o q (front n rest))) (sym h.0)
-        ∙ ap (λ o. pick g (front n (put o rest))) (sym h.1)))
+        ∙ ap (λ o. pick g (front n (cons_some o rest))) (sym h.1)))
     go (inr (inr h)) ih =
         ap (λ o. pick g (cut_behind o q (cut n xs))) h.0
-        ∙ (ap (λ o. put o (pick g (cut n xs))) h.2
+        ∙ (ap (λ o. cons_some o (pick g (cut n xs))) h.2
         ∙ (ih
-        ∙ ap (λ o. pick g (front n (put o rest))) (sym h.1)))
+        ∙ ap (λ o. pick g (front n (cons_some o rest))) (sym h.1)))
 
 pub patterns_all : (n : Nfa) (xs : List ℕ) → pick (accepts n) xs ≡ pick (accepts n) (pick (ends n) xs)
 patterns_all n [] = refl
@@ -84,21 +84,21 @@ patterns_all n (q ∷ xs) = go (class_at (node n q) q 0) (patterns_all n xs)
 
     keeps :
         ends n q ≡ Some q → pick g xs ≡ pick g (pick (ends n) xs)
-        → put (g q) (pick g xs) ≡ pick g (put (ends n q) (pick (ends n) xs))
-    keeps e ih = ap (λ v. put (g q) v) ih ∙ ap (λ o. pick g (put o (pick (ends n) xs))) (sym e)
+        → cons_some (g q) (pick g xs) ≡ pick g (cons_some (ends n q) (pick (ends n) xs))
+    keeps e ih = ap (λ v. cons_some (g q) v) ih ∙ ap (λ o. pick g (cons_some o (pick (ends n) xs))) (sym e)
 
     go :
         Class (node n q) q 0 → pick g xs ≡ pick g (pick (ends n) xs)
-        → put (g q) (pick g xs) ≡ pick g (put (ends n q) (pick (ends n) xs))
+        → cons_some (g q) (pick g xs) ≡ pick g (cons_some (ends n q) (pick (ends n) xs))
     go (inl h) ih = keeps h.2 ih
     go (inr (inl h)) ih = keeps h.1 ih
     go (inr (inr h)) ih =
-        ap (λ o. put o (pick g xs)) h.0 ∙ (ih ∙ ap (λ o. pick g (put o (pick (ends n) xs))) (sym h.1))
+        ap (λ o. cons_some o (pick g xs)) h.0 ∙ (ih ∙ ap (λ o. pick g (cons_some o (pick (ends n) xs))) (sym h.1))
 
 -- The pattern of the first match state.
 abbrev pub told : Nfa → Option ℕ → List ℕ
 told n None = []
-told n (Some m) = put (accepts n m) []
+told n (Some m) = cons_some (accepts n m) []
 
 pub patterns_cut : (n : Nfa) (xs : List ℕ) → pick (accepts n) (cut n xs) ≡ told n (leader n (pick (ends n) xs))
 patterns_cut n [] = refl
@@ -112,22 +112,22 @@ patterns_cut n (q ∷ xs) = go (class_at (node n q) q 0) (patterns_cut n xs)
 
     go :
         Class (node n q) q 0 → pick g (cut n xs) ≡ told n (leader n rest)
-        → pick g (cut_behind (accepts n q) q (cut n xs)) ≡ told n (leader n (put (ends n q) rest))
+        → pick g (cut_behind (accepts n q) q (cut n xs)) ≡ told n (leader n (cons_some (ends n q) rest))
     go (inl h) ih =
         ap (λ o. pick g (cut_behind o q (cut n xs))) h.1
         ∙ (ap (λ o. told n (first_of_two o q (leader n rest))) (sym h.1)
-        ∙ ap (λ o. told n (leader n (put o rest))) (sym h.2))
+        ∙ ap (λ o. told n (leader n (cons_some o rest))) (sym h.2))
     go (inr (inl h)) ih =
         ap (λ o. pick g (cut_behind o q (cut n xs))) h.0
-        ∙ (ap (λ o. put o (pick g (cut n xs))) h.0
+        ∙ (ap (λ o. cons_some o (pick g (cut n xs))) h.0
         ∙ (ih
         ∙ (ap (λ o. told n (first_of_two o q (leader n rest))) (sym h.0)
-        ∙ ap (λ o. told n (leader n (put o rest))) (sym h.1))))
+        ∙ ap (λ o. told n (leader n (cons_some o rest))) (sym h.1))))
     go (inr (inr h)) ih =
         ap (λ o. pick g (cut_behind o q (cut n xs))) h.0
-        ∙ (ap (λ o. put o (pick g (cut n xs))) h.0
+        ∙ (ap (λ o. cons_some o (pick g (cut n xs))) h.0
         ∙ (ih
-        ∙ ap (λ o. told n (leader n (put o rest))) (sym h.1)))
+        ∙ ap (λ o. told n (leader n (cons_some o rest))) (sym h.1)))
 
 -- One list alone has the states with keys in their order.
 pub sorted_one :

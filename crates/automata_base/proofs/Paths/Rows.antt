@@ -5,7 +5,7 @@ use Rattle.automata_base.specs.Nfa.{Nfa}
 use Rattle.automata_base.specs.Paths.{Tape}
 use Rattle.automata_base.specs.Cuts.{MatchKind, All, LeftmostFirst}
 use Rattle.automata_base.specs.Selections.{Pair, Selects, IsOverlappingOn}
-use Rattle.automata_base.specs.Computed.{search_of, walk_of}
+use Rattle.automata_base.specs.Computed.{search_of, pairs_upto}
 use Rattle.automata_base.specs.Checks.{is_in_range, is_look_cycle_free, tape_fits}
 use Rattle.automata_base.proofs.Paths.Samples.{ab, aa, abc, bound, crlf, date, whole, answer}
 use Rattle.automata_base.proofs.Paths.Checked.{in_range, look_cycle_free, is_tape}
@@ -24,7 +24,7 @@ row kind earliest n t start a range inside free fits e =
 walk_row :
     (kind : MatchKind) (n : Nfa) (t : Tape) (start : ℕ) (pairs : List Pair)
     → is_in_range n ≡ true → ltb start (length n.nodes) ≡ true → is_look_cycle_free n ≡ true → tape_fits t ≡ true
-    → walk_of n kind start t (suc (length t.bytes)) ≡ pairs → IsOverlappingOn kind n t start pairs
+    → pairs_upto n kind start t (suc (length t.bytes)) ≡ pairs → IsOverlappingOn kind n t start pairs
 walk_row kind n t start pairs range inside free fits e =
     subst (λ v. IsOverlappingOn kind n t start v) e
     (walked_right kind n t start (in_range n range) (ltb-true start (length n.nodes) inside)

@@ -6,7 +6,7 @@ use Rattle.automata_base.specs.Lists.{In, nth}
 use Rattle.automata_base.specs.Nfa.{Nfa}
 use Rattle.automata_base.specs.Paths.{Tape, IsPathFrom, IsLookAcyclic}
 use Rattle.automata_base.specs.Cuts.{MatchKind, All, LeftmostFirst}
-use Rattle.automata_base.specs.Selections.{Accepts, IsFirstAt, IsAt, Tells, Pair, Pairs, IsOverlappingOn, PassTells, Selects, PassSelects}
+use Rattle.automata_base.specs.Selections.{Accepts, IsFirstAt, ArePatternsAt, Tells, Pair, Pairs, IsOverlappingOn, PassTells, Selects, PassSelects}
 use Rattle.automata_base.proofs.Paths.Orders.{cons_head, nil_cons, none_some, upto_before}
 use Rattle.automata_base.specs.Passes.{IsTape}
 use Rattle.automata_base.proofs.Paths.Invariants.{pass_tells}
@@ -23,7 +23,7 @@ pub walk_right :
     (kind : MatchKind) (n : Nfa) (t : Tape) (start : ℕ) (pairs : List Pair)
     → IsLookAcyclic n → IsTape t → PassTells kind n t start pairs → IsOverlappingOn kind n t start pairs
 walk_right kind n t start pairs free tape_of p =
-    pairs_map (Tells kind n t start) (IsAt kind n t start) (suc (length t.bytes)) pairs
+    pairs_map (Tells kind n t start) (ArePatternsAt kind n t start) (suc (length t.bytes)) pairs
     (λ i patterns l. pass_tells kind n t start i patterns free tape_of (le_of_suc-le-suc l)) p
 
 nth_inside : (xs : List ℕ) (i u : ℕ) → nth xs i ≡ Some u → i < length xs
@@ -46,7 +46,7 @@ accepting_inside n t start i pattern path a = path_inside n t 0 [] start path i 
 -- No accepting path ends before the first place where something is told.
 pub none_before :
     (kind : MatchKind) (n : Nfa) (t : Tape) (start k : ℕ)
-    → ((j : ℕ) → j < k → IsAt kind n t start j [])
+    → ((j : ℕ) → j < k → ArePatternsAt kind n t start j [])
     → (j pattern : ℕ) (path : List ℕ) → j < k → Accepts n t start j pattern path → ⊥
 none_before All n t start k f j pattern path l a = (f j l).0 pattern path a
 none_before LeftmostFirst n t start zero f j pattern path l a = omega (arith, l)
@@ -60,7 +60,7 @@ none_before LeftmostFirst n t start (suc k) f j pattern path l a =
 -- The first pattern told at a place is that of the least path there.
 pub head_least :
     (kind : MatchKind) (n : Nfa) (t : Tape) (start i p : ℕ) (rest : List ℕ)
-    → IsAt kind n t start i (p ∷ rest)
+    → ArePatternsAt kind n t start i (p ∷ rest)
     → (path : List ℕ) × Accepts n t start i p path
     × ((other : ℕ) (more : List ℕ) → Accepts n t start i other more → Upto path more)
 head_least All n t start i p rest h = (h.1.0, h.1.1, least)
@@ -80,14 +80,14 @@ three i j = ⊎_elim (λ (l : i < j). inl l)
 
 pub sel_none :
     (kind : MatchKind) (earliest : Bool) (n : Nfa) (t : Tape) (start : ℕ)
-    → ((i : ℕ) → i ≤ length t.bytes → IsAt kind n t start i []) → Selects kind earliest n t start None
+    → ((i : ℕ) → i ≤ length t.bytes → ArePatternsAt kind n t start i []) → Selects kind earliest n t start None
 sel_none kind earliest n t start f i pattern path a =
     none_before kind n t start (suc (length t.bytes)) (λ j l. f j (le_of_suc-le-suc l)) i pattern path
     (let k = accepting_inside n t start i pattern path a in omega (arith, k)) a
 
 pub sel_earliest :
     (kind : MatchKind) (n : Nfa) (t : Tape) (start : ℕ) (pair : Pair) (rest : List ℕ)
-    → IsAt kind n t start pair.place (pair.pattern ∷ rest) → ((j : ℕ) → j < pair.place → IsAt kind n t start j [])
+    → ArePatternsAt kind n t start pair.place (pair.pattern ∷ rest) → ((j : ℕ) → j < pair.place → ArePatternsAt kind n t start j [])
     → Selects kind true n t start (Some pair)
 sel_earliest kind n t start pair rest here f = (w.0, w.1, chosen)
   where
@@ -107,8 +107,8 @@ sel_earliest kind n t start pair rest here f = (w.0, w.1, chosen)
 
 pub sel_all :
     (n : Nfa) (t : Tape) (start : ℕ) (pair : Pair) (rest : List ℕ)
-    → IsAt All n t start pair.place (pair.pattern ∷ rest)
-    → ((j : ℕ) → pair.place < j → j ≤ length t.bytes → IsAt All n t start j [])
+    → ArePatternsAt All n t start pair.place (pair.pattern ∷ rest)
+    → ((j : ℕ) → pair.place < j → j ≤ length t.bytes → ArePatternsAt All n t start j [])
     → Selects All false n t start (Some pair)
 sel_all n t start pair rest here f = (w.0, w.1, chosen)
   where
@@ -135,7 +135,7 @@ Told n t start pair told =
 
 upto :
     (n : Nfa) (t : Tape) (start : ℕ) (pair : Pair) (rest : List ℕ)
-    → ((j : ℕ) → pair.place < j → j ≤ length t.bytes → IsAt LeftmostFirst n t start j [])
+    → ((j : ℕ) → pair.place < j → j ≤ length t.bytes → ArePatternsAt LeftmostFirst n t start j [])
     → (h : Told n t start pair (pair.pattern ∷ rest))
     → (k j pattern : ℕ) (other : List ℕ) → j < k → Accepts n t start j pattern other → Upto h.1 other
 upto n t start pair rest f h zero j pattern other l a = absurd (omega (arith, l))
@@ -157,8 +157,8 @@ upto n t start pair rest f h (suc k) j pattern other l a = go (three pair.place 
 
 pub sel_first :
     (n : Nfa) (t : Tape) (start : ℕ) (pair : Pair) (rest : List ℕ)
-    → IsAt LeftmostFirst n t start pair.place (pair.pattern ∷ rest)
-    → ((j : ℕ) → pair.place < j → j ≤ length t.bytes → IsAt LeftmostFirst n t start j [])
+    → ArePatternsAt LeftmostFirst n t start pair.place (pair.pattern ∷ rest)
+    → ((j : ℕ) → pair.place < j → j ≤ length t.bytes → ArePatternsAt LeftmostFirst n t start j [])
     → Selects LeftmostFirst false n t start (Some pair)
 sel_first n t start pair rest (inl h) f = absurd (nil_cons (sym h.0))
 sel_first n t start pair rest (inr h) f = (

@@ -1,11 +1,11 @@
 -- What holds whatever the cycles: which states are reached.
 use Rattle.std.proofs.Common.{ℕ, zero, suc, ◌≡◌, ◌<◌, ◌≤◌, true, false, List, [], ◌∷◌, ◌++◌, ◌⊎◌, ◌↔◌, length, Option, Some, None, inl, inr, refl, sym, ap, ◌∙◌, subst, arith, ⊎_elim, eq-or-lt_of_le, le_of_suc-le-suc}
-use Rattle.automata_base.specs.Lists.{In, IsSet, nth, IsListOf, put, pick, From}
+use Rattle.automata_base.specs.Lists.{In, IsSet, nth, IsListOf, cons_some, pick, From}
 use Rattle.automata_base.specs.Looks.{Look}
 use Rattle.automata_base.specs.Nfa.{Nfa, Truth, Includes, node, hop, takes, accepts, keep, ends, stays_at, ends_at}
 use Rattle.automata_base.specs.Paths.{IsPathAt, Tape, IsPath, truth, prev, next, IsClosure}
 use Rattle.automata_base.specs.Cuts.{MatchKind, All, LeftmostFirst, cut, cut_for, IsOnce, targets}
-use Rattle.automata_base.specs.Passes.{IsUnit, IsTape, IsKnownLook, IsMake, IsArrival, IsDecided, IsSuccessor, IsPass}
+use Rattle.automata_base.specs.Passes.{IsUnit, IsTape, IsKnownLook, IsMake, IsClosureOf, IsDecided, IsSuccessor, IsPass}
 use Rattle.automata_base.specs.Powerset.{Powerset}
 use Rattle.automata_base.specs.Selections.{Accepts, IsNearest, IsFarthest, Tells, Pair, PassSelects}
 use Rattle.automata_base.proofs.Paths.Orders.{some_inj, none_some, nil_cons, cons_head}
@@ -180,7 +180,7 @@ IsQuiet LeftmostFirst n t start k = (j pattern : ℕ) (path : List ℕ) → j < 
 
 abbrev pub MeansSet : Nfa → Tape → ℕ → ℕ → Powerset → Type 0
 MeansSet n t start i Q =
-    (patterns roots : List ℕ) × IsArrival n patterns roots (prev t i) Q
+    (patterns roots : List ℕ) × IsClosureOf n patterns roots (prev t i) Q
     × ((q : ℕ) → Reached n (truth n t i) roots q ↔ IsMet n t start i q)
 
 pub decided_set :
@@ -239,10 +239,10 @@ means_set_succ kind n t start i P Q tape_of inside quiet m s = go (next_byte t.b
         e : pick (λ v. takes n v b.0) (cut_for kind n s.0) ≡ pick (λ v. takes n v b.0) (pick (ends n) s.0)
         e = quiet_targets kind n t start i b.0 s.0 quiet N
 
-        arrival : IsArrival n s.1 (pick (λ v. takes n v b.0) (cut_for kind n s.0)) (nth t.bytes i) Q
+        arrival : IsClosureOf n s.1 (pick (λ v. takes n v b.0) (cut_for kind n s.0)) (nth t.bytes i) Q
         arrival =
-            subst (λ v. IsArrival n s.1 (pick (λ v. takes n v b.0) (cut_for kind n s.0)) v Q) (sym b.1)
-            (subst (λ v. IsArrival n s.1 (targets n v (cut_for kind n s.0)) v Q) b.2 s.4)
+            subst (λ v. IsClosureOf n s.1 (pick (λ v. takes n v b.0) (cut_for kind n s.0)) v Q) (sym b.1)
+            (subst (λ v. IsClosureOf n s.1 (targets n v (cut_for kind n s.0)) v Q) b.2 s.4)
 
 pub pass_sets :
     (kind : MatchKind) (n : Nfa) (t : Tape) (start k : ℕ) (Q : Powerset)
@@ -330,7 +330,7 @@ tells_honest LeftmostFirst n t start i P Q tape_of m s = subst (λ v. IsHonest n
         one : s.1 ≡ a.0 ∷ []
         one =
             once_is_one (pick (accepts n) (cut n s.0)) s.1 a.0
-            (patterns_cut n s.0 ∙ (ap (λ v. told n v) e ∙ ap (λ v. put v []) a.1)) s.3
+            (patterns_cut n s.0 ∙ (ap (λ v. told n v) e ∙ ap (λ v. cons_some v []) a.1)) s.3
 
 pub pass_honest :
     (kind : MatchKind) (n : Nfa) (t : Tape) (start i : ℕ) (patterns : List ℕ)

@@ -1,15 +1,15 @@
 -- Parts of a list of states in the order of least keys.
 use Rattle.std.proofs.Common.{ℕ, ◌≡◌, List, [], ◌∷◌, Option, Some, None, inl, inr, refl, sym, ap, ◌∙◌, subst}
 use Rattle.automata_base.specs.Order.{Before}
-use Rattle.automata_base.specs.Lists.{In, Sorted, IsListOf, put, pick}
+use Rattle.automata_base.specs.Lists.{In, Sorted, IsListOf, cons_some, pick}
 
-put_in : (o : Option ℕ) (ys : List ℕ) (r : ℕ) → In r ys → In r (put o ys)
+put_in : (o : Option ℕ) (ys : List ℕ) (r : ℕ) → In r ys → In r (cons_some o ys)
 put_in None ys r h = h
 put_in (Some x) ys r h = inr h
 
 pub picked_in : (g : ℕ → Option ℕ) (N : List ℕ) (y r : ℕ) → In y N → g y ≡ Some r → In r (pick g N)
 picked_in g [] y r h e = elim h [ ]
-picked_in g (x ∷ xs) y r (inl h) e = subst (λ o. In r (put o (pick g xs))) (sym e ∙ ap g h) (inl refl)
+picked_in g (x ∷ xs) y r (inl h) e = subst (λ o. In r (cons_some o (pick g xs))) (sym e ∙ ap g h) (inl refl)
 picked_in g (x ∷ xs) y r (inr h) e = put_in (g x) (pick g xs) r (picked_in g xs y r h e)
 
 pub in_picked : (g : ℕ → Option ℕ) (N : List ℕ) (r : ℕ) → In r (pick g N) → (y : ℕ) × In y N × (g y ≡ Some r)
@@ -17,7 +17,7 @@ in_picked g [] r h = absurd h
 in_picked g (x ∷ xs) r h = go (g x) refl h (in_picked g xs r)
   where
     go :
-        (o : Option ℕ) → g x ≡ o → In r (put o (pick g xs)) → (In r (pick g xs) → (y : ℕ) × In y xs × (g y ≡ Some r))
+        (o : Option ℕ) → g x ≡ o → In r (cons_some o (pick g xs)) → (In r (pick g xs) → (y : ℕ) × In y xs × (g y ≡ Some r))
         → (y : ℕ) × In y (x ∷ xs) × (g y ≡ Some r)
     go None e h ih = let w = ih h in (w.0, inr w.1, w.2)
     go (Some r0) e (inl h) ih = (x, inl refl, e ∙ ap Some (sym h))
@@ -35,7 +35,7 @@ sift_sorted :
 sift_sorted P g [] f s = tt
 sift_sorted P g (x ∷ xs) f s = go (g x) refl (sift_sorted P g xs f s.4)
   where
-    go : (o : Option ℕ) → g x ≡ o → Sorted (Sifted g P) (pick g xs) → Sorted (Sifted g P) (put o (pick g xs))
+    go : (o : Option ℕ) → g x ≡ o → Sorted (Sifted g P) (pick g xs) → Sorted (Sifted g P) (cons_some o (pick g xs))
     go None e ih = ih
     go (Some r) e ih = subst (λ w. Sorted (Sifted g P) (w ∷ pick g xs)) (f x r e) here
       where

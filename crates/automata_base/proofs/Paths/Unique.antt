@@ -6,9 +6,9 @@ use Rattle.automata_base.specs.Looks.{Look}
 use Rattle.automata_base.specs.Nfa.{Nfa, accepts}
 use Rattle.automata_base.specs.Paths.{IsPathAt, Tape, next}
 use Rattle.automata_base.specs.Cuts.{MatchKind, All, LeftmostFirst, cut_for, IsOnce, targets}
-use Rattle.automata_base.specs.Passes.{IsMake, IsNeeded, IsArrival, IsDecided, true_looks, IsSuccessor, IsPass}
+use Rattle.automata_base.specs.Passes.{IsMake, IsNeeded, IsClosureOf, IsDecided, true_looks, IsSuccessor, IsPass}
 use Rattle.automata_base.specs.Powerset.{Powerset}
-use Rattle.automata_base.specs.Selections.{Accepts, Pair, IsChosen, Selects, IsAt, IsFirstAt, Pairs, at_place, IsOverlappingOn}
+use Rattle.automata_base.specs.Selections.{Accepts, Pair, IsChosen, Selects, ArePatternsAt, IsFirstAt, Pairs, at_place, IsOverlappingOn}
 use Rattle.automata_base.proofs.Paths.Orders.{some_inj, before_irrefl, before_trans}
 use Rattle.automata_base.proofs.Paths.Places.{path_end}
 use Rattle.automata_base.proofs.Paths.Readings.{list_one}
@@ -74,7 +74,7 @@ first_one n t start i a b (inr h) (inr k) =
 
 pub at_one :
     (kind : MatchKind) (n : Nfa) (t : Tape) (start i : ℕ) (a b : List ℕ)
-    → IsAt kind n t start i a → IsAt kind n t start i b → a ≡ b
+    → ArePatternsAt kind n t start i a → ArePatternsAt kind n t start i b → a ≡ b
 at_one All n t start i a b h k = list_one (λ pattern path. Accepts n t start i pattern path) a b h k
 at_one LeftmostFirst n t start i a b h k = first_one n t start i a b h k
 
@@ -89,7 +89,7 @@ pub walk_one :
     (kind : MatchKind) (n : Nfa) (t : Tape) (start : ℕ) (a b : List Pair)
     → IsOverlappingOn kind n t start a → IsOverlappingOn kind n t start b → a ≡ b
 walk_one kind n t start a b h k =
-    pairs_one (IsAt kind n t start) (suc (length t.bytes)) a b (λ i x y. at_one kind n t start i x y) h k
+    pairs_one (ArePatternsAt kind n t start) (suc (length t.bytes)) a b (λ i x y. at_one kind n t start i x y) h k
 
 -- One powerset state.
 pub both_true : (a b : Bool) → (a ≡ true → b ≡ true) → (b ≡ true → a ≡ true) → a ≡ b
@@ -133,7 +133,7 @@ make_one n patterns C prev A B a b =
 
 pub arrival_one :
     (n : Nfa) (patterns roots : List ℕ) (prev : Option ℕ) (A B : Powerset)
-    → IsArrival n patterns roots prev A → IsArrival n patterns roots prev B → A ≡ B
+    → IsClosureOf n patterns roots prev A → IsClosureOf n patterns roots prev B → A ≡ B
 arrival_one n patterns roots prev A B a b =
     make_one n patterns a.1 prev A B a.4 (subst (λ v. IsMake n patterns v prev B) (sym c) b.4)
   where
@@ -161,8 +161,8 @@ pub succ_one :
     → IsSuccessor n kind Q u A → IsSuccessor n kind Q u B → A ≡ B
 succ_one n kind Q u A B a b =
     arrival_one n b.1 (targets n u (cut_for kind n b.0)) u A B
-    (subst (λ v. IsArrival n b.1 (targets n u (cut_for kind n v)) u A) l
-    (subst (λ v. IsArrival n v (targets n u (cut_for kind n a.0)) u A) p a.4)) b.4
+    (subst (λ v. IsClosureOf n b.1 (targets n u (cut_for kind n v)) u A) l
+    (subst (λ v. IsClosureOf n v (targets n u (cut_for kind n a.0)) u A) p a.4)) b.4
   where
     l : a.0 ≡ b.0
     l = decided_one n Q u a.0 b.0 a.2 b.2

@@ -2,7 +2,7 @@
 use Rattle.std.proofs.Common.{ℕ, zero, suc, ◌≡◌, Bool, true, false, cond, List, [], ◌∷◌, ◌++◌, ◌⊎◌, Option, Some, None, inl, inr, refl, sym, subst, ⊎_elim}
 use Rattle.automata_base.specs.Lists.{In, nth}
 use Rattle.automata_base.specs.Nfa.{Nfa, Node, Split, Assert, Read, Accept, Truth, node, Includes, hop, hop_at}
-use Rattle.automata_base.specs.Paths.{IsPathAt, all_true, Run, Leads, LeadsOn}
+use Rattle.automata_base.specs.Paths.{IsPathAt, all_true, Run, HasEpsilonPath, LeadsOn}
 use Rattle.automata_base.proofs.Paths.Orders.{none_some}
 
 -- Membership in joined lists.
@@ -88,18 +88,18 @@ walk_past n A seen more x (e ∷ path) z f w =
 -- A walk to `x` and a walk on from `x` that leads to nothing which leads to `x`.
 pub walk_join :
     (n : Nfa) (A : Truth) (seen : List ℕ) (q : ℕ) (p : List ℕ) (x : ℕ) (s : List ℕ) (z : ℕ)
-    → ((y : ℕ) → LeadsOn n x y → Leads n y x → ⊥)
-    → ((y : ℕ) → In y seen → Leads n y x)
+    → ((y : ℕ) → LeadsOn n x y → HasEpsilonPath n y x → ⊥)
+    → ((y : ℕ) → In y seen → HasEpsilonPath n y x)
     → IsPathAt n A seen q p x → IsPathAt n A [] x s z → IsPathAt n A seen q (p ++ s) z
 walk_join n A seen q [] x s z f g w k =
     subst (λ v. IsPathAt n A seen v s z) (sym w) (walk_past n A [] seen x s z (λ y l i. f y l (g y i)) k)
 walk_join n A seen q (e ∷ p) x s z f g w k =
     (w.0, w.1, w.2, walk_join n A (q ∷ seen) w.0 p x s z f on w.3 k)
   where
-    here : Leads n q x
+    here : HasEpsilonPath n q x
     here =
         (e ∷ p, (w.0, hop_more n A all_true q e w.0 (λ look a. refl) w.1, walk_run n A (q ∷ seen) w.0 p x w.3))
 
-    on : (y : ℕ) → In y (q ∷ seen) → Leads n y x
-    on y (inl h) = subst (λ v. Leads n v x) (sym h) here
+    on : (y : ℕ) → In y (q ∷ seen) → HasEpsilonPath n y x
+    on y (inl h) = subst (λ v. HasEpsilonPath n v x) (sym h) here
     on y (inr h) = g y h

@@ -12,7 +12,7 @@ use Rattle.automata_base.specs.Lists.{In, nth}
 use Rattle.automata_base.specs.Looks.{Look, within}
 use Rattle.automata_base.specs.Nfa.{Node, Range, Split, Assert, Read, Accept, node, hop, hop_at, takes_in, takes_at}
 use Rattle.automata_base.specs.Nodes.{Automaton, nfa_of, node_of, ranges_of, dense_from}
-use Rattle.automata_base.specs.Paths.{all_true, Run, Leads, LeadsOn, IsLookAcyclic}
+use Rattle.automata_base.specs.Paths.{all_true, Run, HasEpsilonPath, LeadsOn, IsLookAcyclic}
 use Rattle.automata_base.specs.Reach.{node_in, nexts, byte_targets, targets_of, look_target, Way, IsReached, LeadsBack, AreLooksAcyclic, ReachesMatch, SkipsFrom}
 use Rattle.automata_base.specs.Refusals.{ordered_from, state_ordered, states_ordered}
 use Rattle.automata_base.specs.Visits.{children}
@@ -39,7 +39,7 @@ module _ (a : Automaton) where
   hop_to : (q e r : ℕ) → hop (nfa_of a) all_true q e ≡ Some r → In r (children (nfa_of a) all_true q)
   hop_to q e r h = nth_in (children (nfa_of a) all_true q) e r (sym (hop_children (nfa_of a) all_true q e) ∙ h)
 
-  run_from : (q : ℕ) (way : List ℕ) (z : ℕ) → Way (targets_of Epsilon a.states) q way z → Leads (nfa_of a) q z
+  run_from : (q : ℕ) (way : List ℕ) (z : ℕ) → Way (targets_of Epsilon a.states) q way z → HasEpsilonPath (nfa_of a) q z
   run_from q [] z w = ([], w)
   run_from q (r ∷ way) z w =
       let e = hop_from q r w.0 in
@@ -71,7 +71,7 @@ module _ (a : Automaton) where
   comes_back q look next e h = go h.2
     where
       go : In h.0 (next ∷ []) → LeadsOn (nfa_of a) q q
-      go (inl f) = (0, next, ap (λ x. hop_at x all_true 0) e, subst (λ v. Leads (nfa_of a) v q) f (run_from a h.0 h.1 q h.3))
+      go (inl f) = (0, next, ap (λ x. hop_at x all_true 0) e, subst (λ v. HasEpsilonPath (nfa_of a) v q) f (run_from a h.0 h.1 q h.3))
       go (inr i) = absurd i
 
   -- No look leads back to itself exactly if no cycle passes one.

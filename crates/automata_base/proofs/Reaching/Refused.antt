@@ -7,7 +7,7 @@ use Rattle.automata_base.specs.declared.nfa.thompson.NfaError.{NfaError}
 use Rattle.automata_base.specs.declared.nfa.thompson.NfaError.TheVariants.{TooLarge, StartRange, StateRange, Ranges, PatternRange}
 use Rattle.automata_base.specs.declared.nfa.thompson.State.{State}
 use Rattle.automata_base.specs.Nodes.{extra_of, stack_room}
-use Rattle.automata_base.specs.Refusals.{alternates_of, is_small, is_narrow, starts_below, states_below, states_ordered, matches_below, unless, refusal}
+use Rattle.automata_base.specs.Refusals.{alternates_of, is_small, is_narrow, starts_below, states_below, states_ordered, matches_below, unless, door_refusal}
 use Rattle.automata_base.proofs.Determinizing.Tests_of_lists.{extra_is}
 use Rattle.automata_base.proofs.Paths.Checked.{both}
 use Rattle.automata_base.specs.Checks.{all_below}
@@ -18,8 +18,8 @@ chain small narrow starts targets ranges patterns =
 
 pub refusal_is :
     (states : List State) (a u : ℕ) (starts : List ℕ)
-    → refusal states a u starts ≡ chain (is_small states starts) (is_narrow states) (starts_below (length states) a u starts) (states_below (length states) states) (states_ordered states) (matches_below (length starts) states)
-unfolding refusal
+    → door_refusal states a u starts ≡ chain (is_small states starts) (is_narrow states) (starts_below (length states) a u starts) (states_below (length states) states) (states_ordered states) (matches_below (length starts) states)
+unfolding door_refusal
 refusal_is states a u starts = refl
 
 pub stops_small : (a b c d e f : Bool) → a ≡ false → chain a b c d e f ≡ Some TooLarge
@@ -102,59 +102,59 @@ room_small xs h =
     all
 
 module _ (s : List State) (a u : ℕ) (t : List ℕ) where
-  pub refused_small : is_small s t ≡ false → IsTold (refusal s a u t) (stack_room s) (Err TooLarge)
+  pub refused_small : is_small s t ≡ false → IsTold (door_refusal s a u t) (stack_room s) (Err TooLarge)
   refused_small h =
-      told (refusal s a u t) (stack_room s) TooLarge
+      told (door_refusal s a u t) (stack_room s) TooLarge
       (refusal_is s a u t
       ∙ stops_small (is_small s t) (is_narrow s) (starts_below (length s) a u t) (states_below (length s) s) (states_ordered s) (matches_below (length t) s) h)
 
-  pub refused_wide : is_small s t ≡ true → is_narrow s ≡ false → IsTold (refusal s a u t) (stack_room s) (Err TooLarge)
+  pub refused_wide : is_small s t ≡ true → is_narrow s ≡ false → IsTold (door_refusal s a u t) (stack_room s) (Err TooLarge)
   refused_wide h i =
-      told (refusal s a u t) (stack_room s) TooLarge
+      told (door_refusal s a u t) (stack_room s) TooLarge
       (refusal_is s a u t
       ∙ stops_narrow (is_small s t) (is_narrow s) (starts_below (length s) a u t) (states_below (length s) s) (states_ordered s) (matches_below (length t) s) h i)
 
   pub refused_starts :
-      is_small s t ≡ true → is_narrow s ≡ true → starts_below (length s) a u t ≡ false → IsTold (refusal s a u t) (stack_room s) (Err StartRange)
+      is_small s t ≡ true → is_narrow s ≡ true → starts_below (length s) a u t ≡ false → IsTold (door_refusal s a u t) (stack_room s) (Err StartRange)
   refused_starts h i j =
-      told (refusal s a u t) (stack_room s) StartRange
+      told (door_refusal s a u t) (stack_room s) StartRange
       (refusal_is s a u t
       ∙ stops_starts (is_small s t) (is_narrow s) (starts_below (length s) a u t) (states_below (length s) s) (states_ordered s) (matches_below (length t) s) h i j)
 
   pub refused_targets :
       is_small s t ≡ true → is_narrow s ≡ true → starts_below (length s) a u t ≡ true → states_below (length s) s ≡ false
-      → IsTold (refusal s a u t) (stack_room s) (Err StateRange)
+      → IsTold (door_refusal s a u t) (stack_room s) (Err StateRange)
   refused_targets h i j k =
-      told (refusal s a u t) (stack_room s) StateRange
+      told (door_refusal s a u t) (stack_room s) StateRange
       (refusal_is s a u t
       ∙ stops_targets (is_small s t) (is_narrow s) (starts_below (length s) a u t) (states_below (length s) s) (states_ordered s) (matches_below (length t) s) h i j k)
 
   pub refused_ranges :
       is_small s t ≡ true → is_narrow s ≡ true → starts_below (length s) a u t ≡ true → states_below (length s) s ≡ true → states_ordered s ≡ false
-      → IsTold (refusal s a u t) (stack_room s) (Err Ranges)
+      → IsTold (door_refusal s a u t) (stack_room s) (Err Ranges)
   refused_ranges h i j k l =
-      told (refusal s a u t) (stack_room s) Ranges
+      told (door_refusal s a u t) (stack_room s) Ranges
       (refusal_is s a u t
       ∙ stops_ranges (is_small s t) (is_narrow s) (starts_below (length s) a u t) (states_below (length s) s) (states_ordered s) (matches_below (length t) s) h i j k l)
 
   last_test :
       is_small s t ≡ true → is_narrow s ≡ true → starts_below (length s) a u t ≡ true → states_below (length s) s ≡ true → states_ordered s ≡ true
-      → refusal s a u t ≡ unless (matches_below (length t) s) PatternRange None
+      → door_refusal s a u t ≡ unless (matches_below (length t) s) PatternRange None
   last_test h i j k l =
       refusal_is s a u t
       ∙ goes_on (is_small s t) (is_narrow s) (starts_below (length s) a u t) (states_below (length s) s) (states_ordered s) (matches_below (length t) s) h i j k l
 
   pub refused_patterns :
       is_small s t ≡ true → is_narrow s ≡ true → starts_below (length s) a u t ≡ true → states_below (length s) s ≡ true → states_ordered s ≡ true
-      → matches_below (length t) s ≡ false → IsTold (refusal s a u t) (stack_room s) (Err PatternRange)
+      → matches_below (length t) s ≡ false → IsTold (door_refusal s a u t) (stack_room s) (Err PatternRange)
   refused_patterns h i j k l m =
-      told (refusal s a u t) (stack_room s) PatternRange (last_test h i j k l ∙ ap (λ z. unless z PatternRange None) m)
+      told (door_refusal s a u t) (stack_room s) PatternRange (last_test h i j k l ∙ ap (λ z. unless z PatternRange None) m)
 
   pub refused_none :
       (room : ℕ) → is_small s t ≡ true → is_narrow s ≡ true → starts_below (length s) a u t ≡ true → states_below (length s) s ≡ true → states_ordered s ≡ true
-      → matches_below (length t) s ≡ true → room ≡ stack_room s → IsTold (refusal s a u t) (stack_room s) (Ok room)
+      → matches_below (length t) s ≡ true → room ≡ stack_room s → IsTold (door_refusal s a u t) (stack_room s) (Ok room)
   refused_none room h i j k l m r =
-      told_none (refusal s a u t) (stack_room s) room (last_test h i j k l ∙ ap (λ z. unless z PatternRange None) m) r
+      told_none (door_refusal s a u t) (stack_room s) room (last_test h i j k l ∙ ap (λ z. unless z PatternRange None) m) r
 
 -- What stands where all tests passed.
 pub record IsPassed (s : List State) (a u : ℕ) (t : List ℕ) : Type 0 where
@@ -168,7 +168,7 @@ pub record IsPassed (s : List State) (a u : ℕ) (t : List ℕ) : Type 0 where
   pub ordered : states_ordered s ≡ true
   pub patterns : matches_below (length t) s ≡ true
 
-pub passing : (s : List State) (a u : ℕ) (t : List ℕ) → refusal s a u t ≡ None → IsPassed s a u t
+pub passing : (s : List State) (a u : ℕ) (t : List ℕ) → door_refusal s a u t ≡ None → IsPassed s a u t
 passing s a u t none =
     let n = length s in
     let tests =

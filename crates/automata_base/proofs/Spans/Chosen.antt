@@ -9,7 +9,7 @@ use Rattle.automata_base.specs.Selections.{Accepts, IsChosen, Pair, Selects, IsF
 use Rattle.automata_base.proofs.Paths.Orders.{before_upto, before_irrefl, nil_cons}
 use Rattle.automata_base.proofs.Paths.Searches.{accepting_inside}
 use Rattle.automata_base.proofs.Paths.Places.{path_grows}
-use Rattle.automata_base.specs.Engines.{Engine, No, IsAlwaysStartAnchored, IsLazyLoop}
+use Rattle.automata_base.specs.Engines.{Engine, No, BeginsAnchored, LoopsLazily}
 use Rattle.automata_base.specs.Spans.{IsPathStart, Chooses}
 use Rattle.automata_base.proofs.Spans.Loops.{skips, lazily, Lazily, skipping, not_sooner, skips_join, sooner_less, HasBytes}
 
@@ -29,7 +29,7 @@ StartsAt d t k i pattern path rest =
     (path ≡ skips k (0 ∷ rest)) × ((z : ℕ) × IsPathFrom d.nfa t k [] d.anchored rest i z × (accepts d.nfa z ≡ Some pattern))
 
 pub starts_at :
-    (d : Engine) (x : ℕ) (t : Tape) (i pattern : ℕ) (path : List ℕ) → IsLazyLoop d x
+    (d : Engine) (x : ℕ) (t : Tape) (i pattern : ℕ) (path : List ℕ) → LoopsLazily d x
     → Accepts d.nfa t d.unanchored i pattern path → (k : ℕ) × (rest : List ℕ) × StartsAt d t k i pattern path rest
 starts_at d x t i pattern path loop a =
     (w.0, w.1, (w.2, (a.0, subst (λ v. IsPathFrom d.nfa t v [] d.anchored w.1 i a.0) (omega arith) w.3, a.2)))
@@ -39,7 +39,7 @@ starts_at d x t i pattern path loop a =
 
 -- That is where the path first stands on the anchored start.
 pub lazy_start :
-    (d : Engine) (x : ℕ) (t : Tape) (k i pattern : ℕ) (path rest : List ℕ) → IsLazyLoop d x → HasBytes t → i ≤ length t.bytes
+    (d : Engine) (x : ℕ) (t : Tape) (k i pattern : ℕ) (path rest : List ℕ) → LoopsLazily d x → HasBytes t → i ≤ length t.bytes
     → StartsAt d t k i pattern path rest → IsPathStart d No t path k
 lazy_start d x t k i pattern path rest loop bytes l s = (
   skips k (0 ∷ []),
@@ -51,7 +51,7 @@ lazy_start d x t k i pattern path rest loop bytes l s = (
 )
 
 -- Where the two starts are one, that is the first place.
-pub same_start : (d : Engine) (t : Tape) (path : List ℕ) → IsAlwaysStartAnchored d → IsPathStart d No t path 0
+pub same_start : (d : Engine) (t : Tape) (path : List ℕ) → BeginsAnchored d → IsPathStart d No t path 0
 same_start d t path same = ([], path, refl, (refl, same), none)
   where
     none : (shorter : List ℕ) (sooner : ℕ) → Begins shorter [] → IsPath d.nfa t d.unanchored sooner d.anchored shorter → ⊥
@@ -61,7 +61,7 @@ same_start d t path same = ([], path, refl, (refl, same), none)
 -- No path from the anchored start to the chosen path's end begins before it.
 pub least_start :
     (d : Engine) (x : ℕ) (earliest : Bool) (t : Tape) (k i pattern : ℕ) (path rest : List ℕ)
-    → IsLazyLoop d x → HasBytes t → Chooses d earliest t d.unanchored i pattern path
+    → LoopsLazily d x → HasBytes t → Chooses d earliest t d.unanchored i pattern path
     → StartsAt d t k i pattern path rest
     → (k' p z : ℕ) (other : List ℕ) → IsPathFrom d.nfa t k' [] d.anchored other i z → accepts d.nfa z ≡ Some p → k ≤ k'
 least_start d x earliest t k i pattern path rest loop bytes c s k' p z other h m = ⊎_elim

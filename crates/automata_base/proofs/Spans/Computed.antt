@@ -3,7 +3,7 @@ use Rattle.std.proofs.Common.{ℕ, zero, suc, ◌≡◌, ◌<◌, ◌≤◌, ◌
 use Rattle.std.proofs.lemmas.Bool.{eqb-false}
 use Rattle.automata_base.specs.Selections.{Pair}
 use Rattle.automata_base.specs.Paths.{Tape}
-use Rattle.automata_base.specs.Computed.{search_of, walk_of}
+use Rattle.automata_base.specs.Computed.{search_of, pairs_upto}
 use Rattle.automata_base.specs.Passes.{IsTape}
 use Rattle.automata_base.proofs.Paths.Finals.{search_right, walked_right}
 use Rattle.automata_base.specs.Tapes.{IsHaystack, Direction, Forward, Backward, tape_of, is_split}
@@ -288,7 +288,7 @@ try_right f r input sf sr b =
 -- Walks.
 abbrev pub walk_from_of : Engine → Tape → Option ℕ → List Pair
 walk_from_of d t None = []
-walk_from_of d t (Some q) = walk_of d.nfa d.kind q t (suc (length t.bytes))
+walk_from_of d t (Some q) = pairs_upto d.nfa d.kind q t (suc (length t.bytes))
 
 abbrev pub drop_split : Bool → List ℕ → List Pair → List Pair
 drop_split true h pairs = without_split h pairs

@@ -9,7 +9,7 @@ use Rattle.automata_base.proofs.Paths.Walks.{walk_run}
 use Rattle.automata_base.proofs.Paths.Sets.{HasWalk, walk_then, in_nth, nth_in}
 use Rattle.automata_base.proofs.Paths.Readings.{sorted_has}
 use Rattle.automata_base.proofs.Paths.Fuels.{AllBelow, closure_right}
-use Rattle.automata_base.specs.Engines.{Engine, Pattern, HasEmpty, IsSkipping}
+use Rattle.automata_base.specs.Engines.{Engine, Pattern, HasEmptyMatch, IsSkipping}
 use Rattle.automata_base.specs.Answers.{IsSound}
 
 abbrev pub is_match_state : Option ℕ → Bool
@@ -72,7 +72,7 @@ starts_closure d s = closure_right d.nfa all_true d.starts s.0 below
     below : AllBelow (length d.nfa.nodes) d.starts
     below y i = let k = in_nth d.starts y i in s.2 (Pattern k.0) y k.1
 
-pub empty_there : (d : Engine) → IsSound d → HasEmpty d → has_empty d ≡ true
+pub empty_there : (d : Engine) → IsSound d → HasEmptyMatch d → has_empty d ≡ true
 empty_there d s e = any_here d.nfa (closure_of d.nfa all_true d.starts) e.1 e.2 reached e.5
   where
     k : (k : ℕ) × (nth d.starts k ≡ Some e.0)
@@ -84,7 +84,7 @@ empty_there d s e = any_here d.nfa (closure_of d.nfa all_true d.starts) e.1 e.2 
     reached : In e.1 (closure_of d.nfa all_true d.starts)
     reached = (starts_closure d s).0 e.1 (k.0 ∷ w.0) (e.0, k.1, w.1)
 
-pub empty_here : (d : Engine) → IsSound d → has_empty d ≡ true → HasEmpty d
+pub empty_here : (d : Engine) → IsSound d → has_empty d ≡ true → HasEmptyMatch d
 empty_here d s e = go key.0 key.1
   where
     q : (q p : ℕ) × In q (closure_of d.nfa all_true d.starts) × (accepts d.nfa q ≡ Some p)
@@ -95,7 +95,7 @@ empty_here d s e = go key.0 key.1
         sorted_has (From (λ root path q. IsPathAt d.nfa all_true [] root path q) d.starts)
         (closure_of d.nfa all_true d.starts) q.0 (starts_closure d s).1 q.2
 
-    go : (key : List ℕ) → From (λ root path q. IsPathAt d.nfa all_true [] root path q) d.starts q.0 key → HasEmpty d
+    go : (key : List ℕ) → From (λ root path q. IsPathAt d.nfa all_true [] root path q) d.starts q.0 key → HasEmptyMatch d
     go [] f = absurd f
     go (k ∷ path) f =
         (f.0, q.0, q.1, nth_in d.starts k f.0 f.1, (path, walk_run d.nfa all_true [] f.0 path q.0 f.2), q.3)

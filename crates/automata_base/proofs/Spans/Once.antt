@@ -6,7 +6,7 @@ use Rattle.automata_base.specs.Paths.{Tape, IsPath}
 use Rattle.automata_base.specs.Cuts.{MatchKind, All, LeftmostFirst}
 use Rattle.automata_base.specs.Selections.{Accepts, Pair, IsChosen, Selects}
 use Rattle.automata_base.proofs.Paths.Orders.{some_inj, before_irrefl, before_trans, cons_head, cons_tail}
-use Rattle.automata_base.specs.Spans.{IsPathStart, Chooses, IsSpan, in_full, IsMatch, from, IsEmptyAt, IsNext, AreMatches, AreSpans}
+use Rattle.automata_base.specs.Spans.{IsPathStart, Chooses, IsSpan, in_full, IsMatch, from, IsEmptyAt, IsNextItem, AreMatches, AreSpans}
 use Rattle.automata_base.specs.Matches.{Match}
 use Rattle.automata_base.proofs.Paths.Places.{path_end}
 use Rattle.automata_base.specs.Tapes.{Direction, Forward, tape_of, forward_tape}
@@ -171,7 +171,7 @@ FindsOnce Finds = (input : Input) (a b : Option Match) → Finds input a → Fin
 
 next_none :
     (Finds : Input → Option Match → Type 0) (input : Input) (start : ℕ) (last : Option ℕ) (m : Match)
-    → FindsOnce Finds → IsNext Finds input start last None → IsNext Finds input start last (Some m) → ⊥
+    → FindsOnce Finds → IsNextItem Finds input start last None → IsNextItem Finds input start last (Some m) → ⊥
 next_none Finds input start last m once (inl s) (inl s') = no_match (once (from start input) None (Some m) s s'.0)
 next_none Finds input start last m once (inl s) (inr s') = no_match (once (from start input) None (Some s'.0) s s'.1)
 next_none Finds input start last m once (inr s) (inl s') =
@@ -181,7 +181,7 @@ next_none Finds input start last m once (inr s) (inr s') =
 
 next_some :
     (Finds : Input → Option Match → Type 0) (input : Input) (start : ℕ) (last : Option ℕ) (m m' : Match)
-    → FindsOnce Finds → IsNext Finds input start last (Some m) → IsNext Finds input start last (Some m') → m ≡ m'
+    → FindsOnce Finds → IsNextItem Finds input start last (Some m) → IsNextItem Finds input start last (Some m') → m ≡ m'
 next_some Finds input start last m m' once (inl s) (inl s') =
     same_match (once (from start input) (Some m) (Some m') s.0 s'.0)
 next_some Finds input start last m m' once (inl s) (inr s') =

@@ -5,7 +5,7 @@ use Rattle.automata_base.proofs.Paths.Searches.{accepting_inside}
 use Rattle.automata_base.proofs.Paths.Places.{path_grows}
 use Rattle.automata_base.specs.Tapes.{IsHaystack, Forward, Backward, forward_tape, reverse_tape, is_split}
 use Rattle.automata_base.specs.Selections.{Pair, IsFarthest}
-use Rattle.automata_base.specs.Engines.{Engine, Anchored, No, Yes, Pattern, IsAlwaysStartAnchored, IsLazyLoop, SkipsLazily}
+use Rattle.automata_base.specs.Engines.{Engine, Anchored, No, Yes, Pattern, BeginsAnchored, LoopsLazily, BeginsLazily}
 use Rattle.automata_base.specs.Answers.{Half, IsAnswer}
 use Rattle.automata_base.specs.Input.{Input}
 use Rattle.automata_base.specs.TruePairs.{IsTruePair, KeepsUtf8}
@@ -31,7 +31,7 @@ Looped d input half i path =
 
 looped :
     (d : Engine) (x : ℕ) (input : Input) (half : Half) (q i : ℕ) (path : List ℕ)
-    → IsLazyLoop d x → IsHaystack input.haystack → input.end ≤ length input.haystack → input.anchored ≡ No
+    → LoopsLazily d x → IsHaystack input.haystack → input.end ≤ length input.haystack → input.anchored ≡ No
     → Answered d input half q i path → Looped d input half i path
 looped d x input half q i path loop bytes w m a = (
   s.0,
@@ -56,7 +56,7 @@ looped d x input half q i path loop bytes w m a = (
 -- Where no reverse search is made, the chosen path starts at the base.
 pub short_start :
     (d : Engine) (input : Input) (half : Half) (q i : ℕ) (path : List ℕ)
-    → SkipsLazily d → IsHaystack input.haystack → input.end ≤ length input.haystack
+    → BeginsLazily d → IsHaystack input.haystack → input.end ≤ length input.haystack
     → Answered d input half q i path → IsShort d input half
     → IsPathStart d input.anchored (forward_tape input.haystack half.base input.end) path 0
 short_start d input half q i path lazy bytes w a short = go (mode_cases input.anchored) lazy short
@@ -64,11 +64,11 @@ short_start d input half q i path lazy bytes w a short = go (mode_cases input.an
     t : Tape
     t = forward_tape input.haystack half.base input.end
 
-    same : input.anchored ≡ No → IsAlwaysStartAnchored d → IsPathStart d input.anchored t path 0
+    same : input.anchored ≡ No → BeginsAnchored d → IsPathStart d input.anchored t path 0
     same m e = subst (λ v. IsPathStart d v t path 0) (sym m) (same_start d t path e)
 
     go :
-        (input.anchored ≡ No) ⊎ (input.anchored ≡ No → ⊥) → SkipsLazily d → IsShort d input half → IsPathStart d input.anchored t path 0
+        (input.anchored ≡ No) ⊎ (input.anchored ≡ No → ⊥) → BeginsLazily d → IsShort d input half → IsPathStart d input.anchored t path 0
     go (inr f) lazy short = anchored_start d input.anchored t path f
     go (inl m) (inl e) short = same m e
     go (inl m) (inr loop) (inr (inl f)) = absurd (f m)
@@ -94,7 +94,7 @@ start_found f r input half q i path pair keeps bytes w a long = go (mode_cases i
     h : List ℕ
     h = input.haystack
 
-    go : (input.anchored ≡ No) ⊎ (input.anchored ≡ No → ⊥) → SkipsLazily f → StartFound f r input half path
+    go : (input.anchored ≡ No) ⊎ (input.anchored ≡ No → ⊥) → BeginsLazily f → StartFound f r input half path
     go (inr g) lazy = absurd (long (inr (inl g)))
     go (inl m) (inl e) = absurd (long (inr (inr e)))
     go (inl m) (inr loop) = (c.0, c.4, omega (arith, c.3, a.1), finds)
@@ -205,7 +205,7 @@ far_start f r input half q i path answer pair bytes w a long far = go (mode_case
         × IsPathStart f input.anchored (forward_tape h half.base input.end) path (half.offset - pair.place - half.base)
         × (half.base ≤ half.offset - pair.place)
 
-    go : (input.anchored ≡ No) ⊎ (input.anchored ≡ No → ⊥) → SkipsLazily f → goal
+    go : (input.anchored ≡ No) ⊎ (input.anchored ≡ No → ⊥) → BeginsLazily f → goal
     go (inr g) lazy = absurd (long (inr (inl g)))
     go (inl m) (inl e) = absurd (long (inr (inr e)))
     go (inl m) (inr loop) = (

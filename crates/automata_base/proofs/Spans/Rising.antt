@@ -9,7 +9,7 @@ use Rattle.automata_base.specs.Engines.{Engine, Anchored, No, Yes, Pattern, firs
 use Rattle.automata_base.specs.Answers.{Half, IsAnswer}
 use Rattle.automata_base.specs.Input.{Input}
 use Rattle.automata_base.specs.TruePairs.{IsTruePair, KeepsUtf8}
-use Rattle.automata_base.specs.Spans.{IsPathStart, Chooses, IsSpan, FindsStart, Outcome, Found, IsTrySearch, from, IsNext, AreMatches, AreSpans, TryFinds, AreFound, Rise}
+use Rattle.automata_base.specs.Spans.{IsPathStart, Chooses, IsSpan, FindsStart, Outcome, Found, IsTrySearch, from, IsNextItem, AreMatches, AreSpans, TryFinds, AreFound, Rise}
 use Rattle.automata_base.specs.Matches.{Match}
 use Rattle.automata_base.proofs.Spans.Backs.{end_inside}
 use Rattle.automata_base.proofs.Spans.Bytes.{tape_length}
@@ -100,7 +100,7 @@ tries_inside f r input m w s = try_inside f r input m w s
 -- The next match ends in the span, and past the last end if that is where the iteration stands.
 next_inside :
     (Finds : Input → Option Match → Type 0) (input : Input) (start : ℕ) (last : Option ℕ) (m : Match)
-    → StaysInside Finds → input.end ≤ length input.haystack → IsNext Finds input start last (Some m)
+    → StaysInside Finds → input.end ≤ length input.haystack → IsNextItem Finds input start last (Some m)
     → (start ≤ m.start) × (m.start ≤ m.end) × (m.end ≤ input.end) × (last ≡ Some start → start < m.end)
 next_inside Finds input start last m stays w (inl s) =
     let f = stays (from start input) m w s.0 in
@@ -173,7 +173,7 @@ found_rise f r input ms w s = (
 next_right :
     (f r : Engine) (input : Input) (start : ℕ) (last : Option ℕ) (o : Option Match)
     → IsTruePair f r → KeepsUtf8 Forward f → IsHaystack input.haystack → input.end ≤ length input.haystack
-    → IsNext (TryFinds f r) input start last o → IsNext (IsSpan f) input start last o
+    → IsNextItem (TryFinds f r) input start last o → IsNextItem (IsSpan f) input start last o
 next_right f r input start last o pair keeps bytes w s = go o s
   where
     span : (start : ℕ) (o : Option Match) → TryFinds f r (from start input) o → IsSpan f (from start input) o
@@ -184,7 +184,7 @@ next_right f r input start last o pair keeps bytes w s = go o s
         same_found : {a b : Option Match} → ◌≡◌ {A = Outcome} (Found a) (Found b) → b ≡ a
         same_found e = cc
 
-    go : (o : Option Match) → IsNext (TryFinds f r) input start last o → IsNext (IsSpan f) input start last o
+    go : (o : Option Match) → IsNextItem (TryFinds f r) input start last o → IsNextItem (IsSpan f) input start last o
     go None (inl s) = inl (span start None s)
     go None (inr s) = inr (s.0, span start (Some s.0) s.1, s.2, span (suc start) None s.3)
     go (Some m) (inl s) = inl (span start (Some m) s.0, s.1)

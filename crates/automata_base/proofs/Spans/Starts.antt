@@ -7,7 +7,7 @@ use Rattle.automata_base.specs.Selections.{Accepts, Pair, Selects, IsFarthest}
 use Rattle.automata_base.proofs.Paths.Orders.{some_inj}
 use Rattle.automata_base.proofs.Paths.Places.{path_grows}
 use Rattle.automata_base.specs.Tapes.{IsHaystack, Forward, Backward, forward_tape, reverse_tape, is_split}
-use Rattle.automata_base.specs.Engines.{Engine, Anchored, No, Yes, Pattern, first_state, IsLazyLoop, IsSkipping}
+use Rattle.automata_base.specs.Engines.{Engine, Anchored, No, Yes, Pattern, first_state, LoopsLazily, IsSkipping}
 use Rattle.automata_base.specs.Answers.{Half, SelectsFrom, later, ComesTo, IsSplitAnswer, IsAnswer}
 use Rattle.automata_base.specs.Input.{Input}
 use Rattle.automata_base.specs.TruePairs.{Joins, IsTruePair, KeepsUtf8}
@@ -151,7 +151,7 @@ back_answer r h b e m (Some found) all l g u a = (found, refl, a.7 ∙ ap₂ (λ
 -- farther, and that place splits no character where split places are skipped.
 pub goes_to_start :
     (f r : Engine) (x : ℕ) (h : List ℕ) (b e : ℕ) (earliest : Bool) (i k pattern : ℕ) (path rest : List ℕ)
-    → IsTruePair f r → IsHaystack h → b ≤ e → e ≤ length h → IsLazyLoop f x
+    → IsTruePair f r → IsHaystack h → b ≤ e → e ≤ length h → LoopsLazily f x
     → Chooses f earliest (forward_tape h b e) f.unanchored i pattern path
     → StartsAt f (forward_tape h b e) k i pattern path rest
     → (k ≤ i) × IsGreatest r.nfa (reverse_tape h b (b + i)) r.anchored (i - k)

@@ -5,7 +5,7 @@ use Rattle.std.proofs.lemmas.Bool.Decides.{eqb_tells}
 use Rattle.std.proofs.lemmas.Grind.{common_steps}
 use Rattle.automata_base.specs.Classes.{bounds, look_bounds, states_bound, quits_bound, is_boundary}
 use Rattle.automata_base.specs.Looks.{Look, Start, End, StartLF, EndLF, StartCRLF, EndCRLF}
-use Rattle.automata_base.specs.Marks.{marked, Adds}
+use Rattle.automata_base.specs.Marks.{is_marked, Adds}
 use Rattle.automata_base.specs.Nodes.{Automaton}
 
 or-false : (b : Bool) → b || false ≡ b
@@ -17,7 +17,7 @@ or-assoc true b c = refl
 or-assoc false b c = refl
 
 pub adds_none : (m : List Bool) (f : ℕ → Bool) → ((b : ℕ) → f b ≡ false) → Adds m m f
-adds_none m f none = record { marks = λ b h. sym (ap (λ z. marked m b || z) (none b) ∙ or-false (marked m b)) }
+adds_none m f none = record { marks = λ b h. sym (ap (λ z. is_marked m b || z) (none b) ∙ or-false (is_marked m b)) }
 
 pub adds_both :
     (m n o : List Bool) (f g h : ℕ → Bool) → ((b : ℕ) → h b ≡ f b || g b) → Adds m n f → Adds n o g → Adds m o h
@@ -25,11 +25,11 @@ adds_both m n o f g h joined x y = record {
   marks = λ b l.
       y.marks b l
       ∙ (ap (λ z. z || g b) (x.marks b l)
-      ∙ (or-assoc (marked m b) (f b) (g b) ∙ ap (λ z. marked m b || z) (sym (joined b))));
+      ∙ (or-assoc (is_marked m b) (f b) (g b) ∙ ap (λ z. is_marked m b || z) (sym (joined b))));
 }
 
 pub adds_like : (m n : List Bool) (f g : ℕ → Bool) → ((b : ℕ) → g b ≡ f b) → Adds m n f → Adds m n g
-adds_like m n f g same x = record { marks = λ b l. x.marks b l ∙ ap (λ z. marked m b || z) (sym (same b)) }
+adds_like m n f g same x = record { marks = λ b l. x.marks b l ∙ ap (λ z. is_marked m b || z) (sym (same b)) }
 
 -- A loop over the bytes from 1 on.
 abbrev pub upto : ℕ → (ℕ → Bool) → ℕ → Bool
@@ -55,7 +55,7 @@ runs_next m n o f k is e x y = adds_both m n o (upto k f) (λ b. eqb b k && is) 
 
 -- A loop over a list whose items each have their bytes.
 abbrev pub Left : {X : Type 0} → (List X → ℕ → Bool) → List Bool → List Bool → List X → ℕ → Type 0
-Left G m n xs i = (b : ℕ) → b < 256 → (marked n b || G (drop i xs) b) ≡ (marked m b || G xs b)
+Left G m n xs i = (b : ℕ) → b < 256 → (is_marked n b || G (drop i xs) b) ≡ (is_marked m b || G xs b)
 
 -- Looks and states.
 pub word_bounds :
@@ -77,9 +77,9 @@ unfolding is_boundary
 bounded_off a quits on e b = ap (λ z. is_boundary a quits z b) e
 
 pub bounded_on :
-    (a : Automaton) (quits : List Bool) (on : Bool) (m n o : List Bool) → on ≡ true → ((b : ℕ) → b < 256 → marked m b ≡ false)
+    (a : Automaton) (quits : List Bool) (on : Bool) (m n o : List Bool) → on ≡ true → ((b : ℕ) → b < 256 → is_marked m b ≡ false)
     → Adds m n (states_bound a.flags.line_terminator a.states) → Adds n o (quits_bound quits)
-    → (b : ℕ) → b < 256 → marked o b ≡ is_boundary a quits on b
+    → (b : ℕ) → b < 256 → is_marked o b ≡ is_boundary a quits on b
 unfolding is_boundary
 bounded_on a quits on m n o e none x y b h =
     y.marks b h

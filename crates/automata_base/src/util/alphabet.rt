@@ -1,6 +1,6 @@
 ghost use Rattle.std.specs.Prelude.{◌≡◌, ◌+◌, ◌-◌, ◌<◌, ◌≤◌, ◌&&◌, ◌||◌, ℕ, Bool, false, eqb, length, not};
 ghost use Rattle.automata_base.specs.Classes.{bounds, transitions_bound, targets_bound, quits_bound, look_bounds, state_bounds, states_bound, is_boundary, boundary_count, class_in};
-ghost use Rattle.automata_base.specs.Marks.{marked, Adds};
+ghost use Rattle.automata_base.specs.Marks.{is_marked, Adds};
 
 use crate::nfa::thompson::{NFA, State, Transition};
 use crate::util::look::Look;
@@ -91,7 +91,7 @@ impl ByteClasses {
 
 // A mark before each byte that has a boundary there.
 fn boundaries(nfa: &NFA, quits: &[bool; 256], on: bool) -> [bool; 257]
-    ensures { (byte : ℕ) → byte < 256 → marked result byte ≡ is_boundary nfa.now quits.now on byte }
+    ensures { (byte : ℕ) → byte < 256 → is_marked result byte ≡ is_boundary nfa.now quits.now on byte }
 {
     if !on {
         return [true; 257];
@@ -105,7 +105,7 @@ fn boundaries(nfa: &NFA, quits: &[bool; 256], on: bool) -> [bool; 257]
 // How many marks there are from byte 1 to each byte.
 fn counts(marks: &[bool; 257]) -> [u8; 256]
     ensures whole { length result ≡ 256 }
-    ensures same { (byte : ℕ) → byte < 256 → class_in result byte ≡ boundary_count (marked marks.now) byte }
+    ensures same { (byte : ℕ) → byte < 256 → class_in result byte ≡ boundary_count (is_marked marks.now) byte }
 {
     let mut map = [0u8; 256];
     let mut class = 0u8;

@@ -1,6 +1,6 @@
 ghost use Rattle.std.specs.Prelude.{◌≡◌, IfOk, IfErr, None};
 ghost use Rattle.automata_config.specs.Options.{unset, overwritten};
-ghost use Rattle.automata_config.specs.Settling.{refusal};
+ghost use Rattle.automata_config.specs.Settling.{settling_refusal};
 ghost use Rattle.automata_hybrid.specs.Builds.{Builds, always_matching, never_matching, one_state};
 
 use crate::dfa::DFA;
@@ -51,7 +51,7 @@ impl Builder {
     /// The lazy DFA of an automaton. It takes no memory. A refusal hands the automaton not back: clone it before.
     pub fn build_from_nfa(&self, nfa: NFA) -> Result<DFA, BuildError>
         ensures ok { IfOk result (Builds self.now nfa) }
-        ensures refused { result_err result ≡ refusal self.now nfa }
+        ensures refused { result_err result ≡ settling_refusal self.now nfa }
     {
         let settled = self.config.settle(&nfa)?;
         let dfa = DFA::of_settled(nfa, self.config, settled);
@@ -61,7 +61,7 @@ impl Builder {
 
 /// The DFA of an automaton of one state, by the default settings. It is refused for want of memory alone.
 fn of_state(alloc: Global, state: State, starts: Vec<StateID>) -> Result<DFA, BuildError>
-    requires { refusal unset (one_state state starts.items) ≡ None }
+    requires { settling_refusal unset (one_state state starts.items) ≡ None }
     ensures refused { IfErr result (λ e. e ≡ BuildError.OutOfMemory) }
     ensures built { IfOk result (Builds unset (one_state state starts.items)) }
 {

@@ -55,7 +55,7 @@ impl Model for Cache {
 }
 
 impl Cache {
-    ghost use Rattle.automata_hybrid.specs.Founds.{IsFound};
+    ghost use Rattle.automata_hybrid.specs.Founds.{IsLookedUp};
 
     /// A cache of a DFA, with no state yet.
     pub fn new(dfa: &DFA) -> Result<Cache, AllocError>
@@ -99,7 +99,7 @@ impl Cache {
 
     /// What the cache has for the state of a key, or the state itself, to be added. The key's room is used again.
     pub(crate) fn resolve(&mut self, dfa: &DFA, key: Key) -> Result<Found, AllocError>
-        ensures found { IfOk result (IsFound self.old.store.table key) }
+        ensures found { IfOk result (IsLookedUp self.old.store.table key) }
         ensures same { self.new ≡ self.old }
     {
         if let Some(id) = self.store.get(&key) {

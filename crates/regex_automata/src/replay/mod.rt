@@ -2,7 +2,7 @@
 ghost use Rattle.std.specs.Prelude.{[], IfOk};
 ghost use Rattle.regex_automata.specs.Histories.{start};
 ghost use Rattle.regex_automata.specs.Replies.{AreReplies, TellWalks};
-ghost use Rattle.regex_automata.specs.Players.{IsAt};
+ghost use Rattle.regex_automata.specs.Players.{HasPlayed};
 
 mod iteration;
 mod patterns;
@@ -46,7 +46,7 @@ fn answer_all<'h>(
     mut player: Player<'_, 'h>,
     script: &[Request<'h>],
 ) -> Result<Vec<Reply>, AllocError>
-    requires { IsAt start player }
+    requires { HasPlayed start player }
     ensures { IfOk result (λ replies. AreReplies player.entry.regexes.now script.now replies.items) }
 {
     let mut replies = Vec::new(alloc);

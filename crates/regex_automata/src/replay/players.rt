@@ -2,7 +2,7 @@
 ghost use Rattle.std.specs.Prelude.{◌≡◌, IfOk, Some};
 ghost use Rattle.automata_base.specs.Lists.{nth};
 ghost use Rattle.regex_automata.specs.Histories.{History, start};
-ghost use Rattle.regex_automata.specs.Players.{IsAt, IsReplyTo, StandsAfter};
+ghost use Rattle.regex_automata.specs.Players.{HasPlayed, IsReplyTo, StandsAfter};
 ghost use Rattle.regex_automata.specs.declared.replay.requests.Request.TheVariants as request;
 
 use crate::hybrid::dfa::OverlappingState;
@@ -37,7 +37,7 @@ impl<'r, 'h> Player<'r, 'h> {
         regex: &'r Regex,
     ) -> Result<Player<'r, 'h>, AllocError>
         requires { nth regexes.now 0 ≡ Some regex.now }
-        ensures at { IfOk result (IsAt start) }
+        ensures at { IfOk result (HasPlayed start) }
         ensures regexes { IfOk result (λ player. player.regexes.now ≡ regexes.now) }
     {
         let cache = regex.create_cache()?;
@@ -53,7 +53,7 @@ impl<'r, 'h> Player<'r, 'h> {
 
     /// Answers one request.
     pub fn answer(&mut self, request: &Request<'h>) -> Reply
-        requires { (h : History) × IsAt h self.old }
+        requires { (h : History) × HasPlayed h self.old }
         ensures regexes { self.new.regexes.now ≡ self.old.regexes.now }
         ensures reply { IsReplyTo self.old request.now result }
         ensures at { StandsAfter self.old request.now result self.new }
@@ -98,7 +98,7 @@ impl<'r, 'h> Player<'r, 'h> {
 
     /// Begins a walk of the current regex.
     fn begin(&mut self, reverse: bool, input: &Input<'h>) -> Reply
-        requires { (h : History) × IsAt h self.old }
+        requires { (h : History) × HasPlayed h self.old }
         ensures regexes { self.new.regexes.now ≡ self.old.regexes.now }
         ensures reply { IsReplyTo self.old (request.BeginWalk reverse input.now) result }
         ensures at { StandsAfter self.old (request.BeginWalk reverse input.now) result self.new }
@@ -118,7 +118,7 @@ impl<'r, 'h> Player<'r, 'h> {
 
     /// Makes one step of a walk, if it is of the current regex.
     fn step(&mut self, number: usize) -> Reply
-        requires { (h : History) × IsAt h self.old }
+        requires { (h : History) × HasPlayed h self.old }
         ensures regexes { self.new.regexes.now ≡ self.old.regexes.now }
         ensures reply { IsReplyTo self.old (request.StepWalk number) result }
         ensures at { StandsAfter self.old (request.StepWalk number) result self.new }
@@ -137,7 +137,7 @@ impl<'r, 'h> Player<'r, 'h> {
     /// Makes another regex current. A refusal changes nothing.
     #[tactic(auto, using(crate::proofs::Owed::fresh_caches))]
     fn reset(&mut self, number: usize) -> Reply
-        requires { (h : History) × IsAt h self.old }
+        requires { (h : History) × HasPlayed h self.old }
         ensures regexes { self.new.regexes.now ≡ self.old.regexes.now }
         ensures reply { IsReplyTo self.old (request.Reset number) result }
         ensures at { StandsAfter self.old (request.Reset number) result self.new }

@@ -3,7 +3,7 @@ ghost use Rattle.std.specs.Prelude.{ℕ, ◌<◌, length};
 ghost use Rattle.automata_base.specs.Tapes.{Forward, Backward};
 ghost use Rattle.automata_hybrid.specs.Caches.{IsCacheOf};
 ghost use Rattle.regex_automata.specs.RegexCaches.{AreCachesOf};
-ghost use Rattle.regex_automata.specs.Replies.{machine_of, way_of};
+ghost use Rattle.regex_automata.specs.Replies.{dfa_of, direction_of};
 ghost use Rattle.regex_automata.specs.Players.{GoesAt, HasAnswered, HasAnsweredBy, IsCall, IsKept};
 ghost use Rattle.regex_automata.specs.declared.replay.walks.KeptWalk.{KeptWalk};
 
@@ -67,9 +67,9 @@ fn step(
     state: &mut OverlappingState,
 ) -> Result<Option<HalfMatch>, SearchError>
     requires of { AreCachesOf cache.old regex.now }
-    requires told { (k : ℕ) × HasAnswered (way_of reverse) (machine_of reverse regex.now) input.now state.old k }
+    requires told { (k : ℕ) × HasAnswered (direction_of reverse) (dfa_of reverse regex.now) input.now state.old k }
     ensures of { AreCachesOf cache.new regex.now }
-    ensures call { IsCall (way_of reverse) (machine_of reverse regex.now) input.now state.old state.new result }
+    ensures call { IsCall (direction_of reverse) (dfa_of reverse regex.now) input.now state.old state.new result }
 {
     if reverse {
         return step_rev(regex.reverse(), cache.reverse_mut(), input, state);

@@ -4,7 +4,7 @@ ghost use Rattle.automata_base.specs.Input.{Allows};
 ghost use Rattle.automata_hybrid.specs.Growing.{IsGrown};
 ghost use Rattle.regex_automata.specs.Costs.{IsCostOf};
 ghost use Rattle.regex_automata.specs.RegexCaches.{AreCachesOf};
-ghost use Rattle.regex_automata.specs.Tokens.{GivesToken, IsGivenAt, asked, item_of, most_left};
+ghost use Rattle.regex_automata.specs.Tokens.{GivesToken, IsGivenAt, asked, item_of, most_tokens};
 
 use crate::hybrid::dfa;
 use crate::hybrid::dfa::DFA;
@@ -118,7 +118,7 @@ impl<'r, 'c, 'h> Iterator for Tokens<'r, 'c, 'h> {
         × IsGrown s.cache.now.forward t.cache.now.forward × (t.cache.now.reverse ≡ s.cache.now.reverse)
         × IsCostOf s.regex.now.forward (s.end - s.place) s.cache.now.forward t.cache.now.forward };
 
-    ghost remaining = { λ s. at_most (most_left s.failed s.end s.place) };
+    ghost remaining = { λ s. at_most (most_tokens s.failed s.end s.place) };
 
     fn next(&mut self) -> Option<Result<Token<'h>, TokenError>> {
         if self.failed || self.place >= self.end {

@@ -19,14 +19,14 @@ pub struct Token<'h> {
 
 impl<'h> Token<'h> {
     ghost use Rattle.std.specs.Prelude.{◌≡◌, length};
-    ghost use Rattle.regex_automata.specs.Tokens.{bytes_of, match_of};
+    ghost use Rattle.regex_automata.specs.Tokens.{match_bytes, match_of};
 
     /// The token of a pattern over a span of the haystack.
     pub(super) fn new(haystack: &'h [u8], pattern: PatternID, span: Span) -> Token<'h>
         requires ordered { span.start ≤ span.end }
         requires within { span.end ≤ length haystack.now }
         ensures found { match_of result ≡ record { pattern = pattern; start = span.start; end = span.end } }
-        ensures bytes { result.bytes.now ≡ bytes_of haystack.now (match_of result) }
+        ensures bytes { result.bytes.now ≡ match_bytes haystack.now (match_of result) }
     {
         Token {
             pattern: pattern.as_u32(),

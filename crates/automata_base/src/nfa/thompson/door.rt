@@ -5,7 +5,7 @@ ghost use Rattle.automata_base.specs.Looks.{look_index};
 ghost use Rattle.automata_base.specs.Nodes.{nodes_of, stack_room, extra_of};
 ghost use Rattle.automata_base.specs.Refusals.{transitions_below, state_below, states_below, match_below, matches_below};
 ghost use Rattle.automata_base.specs.Refusals.{ordered_from, state_ordered, states_ordered, alternates_of};
-ghost use Rattle.automata_base.specs.Refusals.{is_small, is_narrow, starts_below, refusal};
+ghost use Rattle.automata_base.specs.Refusals.{is_small, is_narrow, starts_below, door_refusal};
 ghost use Rattle.automata_base.specs.Truths.{truth_of};
 ghost use Rattle.automata_base.specs.Looks.{Look};
 ghost use Rattle.std.specs.Prelude.{eqb, sum_by, take, false, true, None, Option};
@@ -245,8 +245,8 @@ pub fn test(
     starts: &[StateID],
 ) -> Result<usize, NfaError>
     ensures refused { (error : NfaError)
-        → refusal states.now anchored unanchored starts.now ≡ Some error → result ≡ Err error }
-    ensures passed { refusal states.now anchored unanchored starts.now ≡ None
+        → door_refusal states.now anchored unanchored starts.now ≡ Some error → result ≡ Err error }
+    ensures passed { door_refusal states.now anchored unanchored starts.now ≡ None
         → result ≡ Ok (stack_room states.now) }
 {
     if !has_few(states, starts) {

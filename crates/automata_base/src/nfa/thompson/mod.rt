@@ -161,13 +161,13 @@ impl Model for NFA {
     ghost use Rattle.std.specs.Prelude.{◌≡◌};
     ghost use Rattle.automata_base.specs.Nodes.{Automaton, stack_room};
     ghost use Rattle.automata_base.specs.Door.{IsDoor, IsLooks};
-    ghost use Rattle.automata_base.specs.Automata.{automaton_of, IsSound};
+    ghost use Rattle.automata_base.specs.Automata.{automaton_of, IsConsistent};
 
     ghost Value = { Automaton };
 
     ghost view = { λ a. automaton_of a.data.value };
 
-    ghost invariant = { λ a. IsSound a.data.value };
+    ghost invariant = { λ a. IsConsistent a.data.value };
 }
 
 impl Clone for NFA {
@@ -193,7 +193,7 @@ impl NFA {
     ghost use Rattle.automata_base.specs.Nodes.{nfa_of, stack_room};
     ghost use Rattle.automata_base.specs.Passes.{Occurs};
     ghost use Rattle.automata_base.specs.Paths.{IsLookAcyclic};
-    ghost use Rattle.automata_base.specs.Refusals.{refusal};
+    ghost use Rattle.automata_base.specs.Refusals.{door_refusal};
     ghost use Rattle.automata_base.specs.Starts.{mode_start};
     ghost use Rattle.automata_base.specs.Truths.{truth_of};
 
@@ -212,9 +212,9 @@ impl NFA {
         ensures same { IfOk result (λ nfa. nfa ≡ automaton
             states.items start_anchored start_unanchored start_pattern.items flags) }
         ensures refused { (error : NfaError)
-            → refusal states.items start_anchored start_unanchored start_pattern.items ≡ Some error
+            → door_refusal states.items start_anchored start_unanchored start_pattern.items ≡ Some error
             → result ≡ Err error }
-        ensures memory { refusal states.items start_anchored start_unanchored start_pattern.items ≡ None
+        ensures memory { door_refusal states.items start_anchored start_unanchored start_pattern.items ≡ None
             → IsOkUnless result NfaError.OutOfMemory }
     {
         let room = test(
@@ -243,7 +243,7 @@ impl NFA {
         flags: Flags,
         room: usize,
     ) -> Result<NFA, NfaError>
-        requires passed { refusal states.items start_anchored start_unanchored start_pattern.items ≡ None }
+        requires passed { door_refusal states.items start_anchored start_unanchored start_pattern.items ≡ None }
         requires room { room ≡ stack_room states.items }
         ensures same { IfOk result (λ nfa. nfa ≡ automaton
             states.items start_anchored start_unanchored start_pattern.items flags) }

@@ -1,10 +1,10 @@
 ghost use Rattle.std.specs.Prelude.{◌≡◌, ◌+◌, ◌<◌, ◌≤◌, ◌↔◌, [], ◌∷◌, ◌++◌, List, ℕ, length, All, true, false, IsTrue, IsFalse, Option, Some, None, vec_len, vec_capacity, ◌&&◌, cond};
-ghost use Rattle.automata_base.specs.Lists.{In, pick, put};
+ghost use Rattle.automata_base.specs.Lists.{In, pick, cons_some};
 ghost use Rattle.automata_base.specs.Nfa.{accepts};
 ghost use Rattle.automata_base.specs.Paths.{IsClosure};
 ghost use Rattle.automata_base.specs.Visits.{IsUnderWay};
 ghost use Rattle.automata_base.specs.Cuts.{cut_for, IsOnce, targets};
-ghost use Rattle.automata_base.specs.Passes.{IsMake, IsArrival, IsDecided, IsSuccessor, IsStart, Occurs, is_word_look, is_crlf_look};
+ghost use Rattle.automata_base.specs.Passes.{IsMake, IsClosureOf, IsDecided, IsSuccessor, IsStart, Occurs, is_word_look, is_crlf_look};
 ghost use Rattle.automata_base.specs.Computed.{known_looks, any_state, any_node, is_full, is_in, once_past};
 ghost use Rattle.automata_base.specs.Nodes.{node_of, nfa_of, stack_room};
 ghost use Rattle.automata_base.specs.Looks.{Look};
@@ -104,7 +104,7 @@ fn arrive(
     requires empty { stack.old.items ≡ [] }
     requires places { stack_room nfa.now.states ≤ vec_capacity stack.old }
     requires room { length nfa.now.states ≤ vec_capacity parts.old.nfa }
-    ensures arrival { IsArrival (nfa_of nfa.now) parts.old.patterns.items (targets (nfa_of nfa.now) unit list.now) unit (powerset_of parts.new) }
+    ensures arrival { IsClosureOf (nfa_of nfa.now) parts.old.patterns.items (targets (nfa_of nfa.now) unit list.now) unit (powerset_of parts.new) }
     ensures patterns { parts.new.patterns ≡ parts.old.patterns }
     ensures below { (q : ℕ) → In q parts.new.nfa.items → q < length nfa.now.states }
     ensures few { length parts.new.nfa.items ≤ length nfa.now.states }
@@ -205,7 +205,7 @@ fn close_maybe(
     requires whole { set.old.capacity ≡ length nfa.now.states }
     requires empty { stack.old.items ≡ [] }
     requires room { stack_room nfa.now.states ≤ vec_capacity stack.old }
-    ensures way { (roots tail : List ℕ) → IsUnderWay (nfa_of nfa.now) (truth_of looks) roots (put start tail) set.old.items
+    ensures way { (roots tail : List ℕ) → IsUnderWay (nfa_of nfa.now) (truth_of looks) roots (cons_some start tail) set.old.items
         → IsUnderWay (nfa_of nfa.now) (truth_of looks) roots tail set.new.items }
     ensures whole { set.new.capacity ≡ set.old.capacity }
     ensures emptied { stack.new.items ≡ [] }
@@ -331,7 +331,7 @@ fn advance(
     requires room { length nfa.now.states ≤ vec_capacity parts.old.nfa }
     requires slots { length nfa.now.start_pattern ≤ vec_capacity parts.old.patterns }
     ensures once { IsOnce (pick (accepts (nfa_of nfa.now)) (cut_for kind (nfa_of nfa.now) list.now)) parts.new.patterns.items }
-    ensures arrival { IsArrival (nfa_of nfa.now) parts.new.patterns.items (targets (nfa_of nfa.now) unit (cut_for kind (nfa_of nfa.now) list.now)) unit (powerset_of parts.new) }
+    ensures arrival { IsClosureOf (nfa_of nfa.now) parts.new.patterns.items (targets (nfa_of nfa.now) unit (cut_for kind (nfa_of nfa.now) list.now)) unit (powerset_of parts.new) }
     ensures below { IsOf nfa.now (powerset_of parts.new) }
     ensures few { length parts.new.nfa.items ≤ length nfa.now.states }
     ensures seldom { length parts.new.patterns.items ≤ length nfa.now.start_pattern }

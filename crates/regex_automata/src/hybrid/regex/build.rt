@@ -1,6 +1,6 @@
 ghost use Rattle.std.specs.Prelude.{◌≡◌, IfOk, length, Some, false};
 ghost use Rattle.automata_config.specs.Options.{unset, overwritten};
-ghost use Rattle.regex_automata.specs.RegexBuilds.{Builds, refusal};
+ghost use Rattle.regex_automata.specs.RegexBuilds.{BuildsPair, pair_refusal};
 
 use crate::hybrid::regex::Regex;
 use crate::hybrid::{BuildError, dfa};
@@ -70,8 +70,8 @@ impl Builder {
     /// Refused in this order: automata that are not for the same patterns, what a lazy DFA of the first is refused by,
     /// and what one of the second is. The second DFA tells all matches, and its start states are not tagged.
     pub fn build_from_nfas(&self, forward: NFA, reverse: NFA) -> Result<Regex, BuildError>
-        ensures ok { IfOk result (Builds self.now forward reverse) }
-        ensures refused { result_err result ≡ refusal self.now forward reverse }
+        ensures ok { IfOk result (BuildsPair self.now forward reverse) }
+        ensures refused { result_err result ≡ pair_refusal self.now forward reverse }
     {
         if forward.pattern_len() != reverse.pattern_len() {
             return Err(BuildError::PatternCounts {

@@ -1,5 +1,5 @@
 use Rattle.std.proofs.Common.{◌≡◌, ◌+◌, ap, sym, ◌∙◌, arith, refl, length-set, replicate}
-use Rattle.automata_base.specs.Marks.{marked}
+use Rattle.automata_base.specs.Marks.{is_marked}
 use Rattle.automata_base.specs.Classes.{boundary_count}
 use Rattle.automata_base.proofs.Values.Boundaries.{count_none, first_counted, count_next, next_counted, from_bool-cond, from_bool-small}
 use Rattle.automata_base.proofs.util.alphabet.counts.Goals as goal
@@ -7,14 +7,14 @@ use Rattle.automata_base.proofs.util.alphabet.counts.Goals as goal
 pub loop-byte-init : goal.loop-byte-init
 loop-byte-init c = record {
   whole = refl;
-  class = sym (count_none (marked c.args.marks.now));
+  class = sym (count_none (is_marked c.args.marks.now));
   small = omega arith;
-  done = first_counted (marked c.args.marks.now) (replicate 256 0) refl;
+  done = first_counted (is_marked c.args.marks.now) (replicate 256 0) refl;
 }
 
 pub loop-byte-preserved : goal.loop-byte-preserved
 loop-byte-preserved c =
-    let f = marked c.args.marks.now in
+    let f = is_marked c.args.marks.now in
     let l = c.loop-byte.invariant in
     let byte = c.loop-byte.byte in
     let class = c.loop-byte.class in

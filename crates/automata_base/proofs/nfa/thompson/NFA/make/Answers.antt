@@ -1,6 +1,6 @@
 use Rattle.std.proofs.Common.{◌≡◌, ◌<◌, ◌≤◌, ◌↔◌, true, eqb, length, sym, ap, ◌∙◌, subst}
 use Rattle.std.specs.Prelude.{IsTrue}
-use Rattle.automata_base.specs.Automata.{IsSound}
+use Rattle.automata_base.specs.Automata.{IsConsistent}
 use Rattle.automata_base.specs.Checks.{all_below}
 use Rattle.automata_base.specs.Computed.{any_node}
 use Rattle.automata_base.specs.Looks.{look_index}
@@ -55,7 +55,7 @@ invariant_of-result c =
       skips_lazily = c.in_ok-skips_lazily.skips_lazily;
       is_look_acyclic = c.in_ok-is_look_acyclic.is_look_acyclic;
     } in
-    subst IsSound (sym c.in-Ok.ensures.ok)
+    subst IsConsistent (sym c.in-Ok.ensures.ok)
     (sound d c.requires.passed
     (λ look. c.looks_of-looks.ensures look ∙ ap (λ z. any_node (λ other. eqb (look_index other) (look_index look)) (nodes_of z)) c.as_slice-5.ensures.value)
     c.requires.room

@@ -2,7 +2,7 @@ use Rattle.std.proofs.Common.{◌≡◌, ◌<◌, ◌≤◌, length, Some, sym, 
 use Rattle.std.proofs.lemmas.List.{drop_all}
 use Rattle.automata_base.specs.Nodes.{nfa_of}
 use Rattle.automata_base.specs.Truths.{truth_of}
-use Rattle.automata_base.specs.Lists.{put}
+use Rattle.automata_base.specs.Lists.{cons_some}
 use Rattle.automata_base.specs.Nfa.{takes, takes_at}
 use Rattle.automata_base.specs.Cuts.{targets}
 use Rattle.automata_base.specs.Visits.{IsUnderWay}
@@ -40,7 +40,7 @@ loop-i-preserved c =
       c.close_maybe.ensures.way (targets (nfa_of c.args.nfa.now) (Some c.args.u) c.args.list.now) (targets (nfa_of c.args.nfa.now) (Some c.args.u) (drop (c.loop-i.i + 1) c.args.list.now))
           (subst (λ z. IsUnderWay (nfa_of c.args.nfa.now) (truth_of c.args.known) (targets (nfa_of c.args.nfa.now) (Some c.args.u) c.args.list.now) z c.loop-i.set.items)
           (pick_next (λ b. takes (nfa_of c.args.nfa.now) b c.args.u) c.args.list.now c.loop-i.i c.index-list-i.result c.loop-i-test.true c.index-list-i.is
-          ∙ ap (λ z. put z (targets (nfa_of c.args.nfa.now) (Some c.args.u) (drop (c.loop-i.i + 1) c.args.list.now))) here)
+          ∙ ap (λ z. cons_some z (targets (nfa_of c.args.nfa.now) (Some c.args.u) (drop (c.loop-i.i + 1) c.args.list.now))) here)
           c.loop-i.invariant.0),
       c.close_maybe.ensures.whole ∙ c.loop-i.invariant.1,
       c.close_maybe.ensures.emptied,

@@ -6,7 +6,7 @@ use Rattle.automata_base.specs.Lists.{In, pick}
 use Rattle.automata_base.specs.Nfa.{accepts}
 use Rattle.automata_base.specs.Paths.{IsClosure}
 use Rattle.automata_base.specs.Cuts.{cut_for, IsOnce, targets}
-use Rattle.automata_base.specs.Passes.{true_looks, IsArrival}
+use Rattle.automata_base.specs.Passes.{true_looks, IsClosureOf}
 use Rattle.automata_base.proofs.Determinizing.Keeping.{all_in}
 use Rattle.automata_base.proofs.util.determinize.construct.next_into.Goals as goal
 
@@ -32,7 +32,7 @@ returns-in-Some-clause-succ c = (
   ),
   subst (λ xs. IsOnce (pick (accepts (nfa_of c.args.nfa.now)) (cut_for c.args.kind (nfa_of c.args.nfa.now) xs)) c.advance.new.parts.patterns.items)
       c.as_slice.ensures.items c.advance.ensures.once,
-  subst (λ xs. IsArrival (nfa_of c.args.nfa.now) c.advance.new.parts.patterns.items (targets (nfa_of c.args.nfa.now) c.args.unit (cut_for c.args.kind (nfa_of c.args.nfa.now) xs)) c.args.unit (powerset_of c.advance.new.parts))
+  subst (λ xs. IsClosureOf (nfa_of c.args.nfa.now) c.advance.new.parts.patterns.items (targets (nfa_of c.args.nfa.now) c.args.unit (cut_for c.args.kind (nfa_of c.args.nfa.now) xs)) c.args.unit (powerset_of c.advance.new.parts))
       c.as_slice.ensures.items c.advance.ensures.arrival,
 )
 
@@ -43,6 +43,6 @@ returns-in-None-clause-succ c = (
   inr (c.in-None.ensures.none refl, refl),
   subst (λ xs. IsOnce (pick (accepts (nfa_of c.args.nfa.now)) (cut_for c.args.kind (nfa_of c.args.nfa.now) xs)) c.advance-in-None.new.parts.patterns.items)
       c.requires.list c.advance-in-None.ensures.once,
-  subst (λ xs. IsArrival (nfa_of c.args.nfa.now) c.advance-in-None.new.parts.patterns.items (targets (nfa_of c.args.nfa.now) c.args.unit (cut_for c.args.kind (nfa_of c.args.nfa.now) xs)) c.args.unit (powerset_of c.advance-in-None.new.parts))
+  subst (λ xs. IsClosureOf (nfa_of c.args.nfa.now) c.advance-in-None.new.parts.patterns.items (targets (nfa_of c.args.nfa.now) c.args.unit (cut_for c.args.kind (nfa_of c.args.nfa.now) xs)) c.args.unit (powerset_of c.advance-in-None.new.parts))
       c.requires.list c.advance-in-None.ensures.arrival,
 )

@@ -2,7 +2,7 @@ use Rattle.std.proofs.Common.{refl, sym, subst, ◌∙◌, List, ◌++◌, ◌�
 use Rattle.regex_automata.proofs.Replying.{is_own}
 use Rattle.regex_automata.proofs.WalkCalls.{fresh_answered}
 use Rattle.regex_automata.proofs.KeptWalks.{walks_push, length-walks}
-use Rattle.regex_automata.specs.Replies.{machine_of, way_of}
+use Rattle.regex_automata.specs.Replies.{dfa_of, direction_of}
 use Rattle.regex_automata.specs.Players.{AreWalks}
 use Rattle.regex_automata.specs.declared.replay.walks.KeptWalk.{KeptWalk}
 use Rattle.regex_automata.proofs.replay.players.Player.begin.Goals as goal
@@ -16,5 +16,5 @@ returns-clause-at c = λ h a. record {
   regex = a.regex;
   of = a.of;
   walks = subst (λ (ks : List KeptWalk). AreWalks c.args.self.now.regexes.now (h.walks ++ record { regex = h.current; reverse = c.args.reverse; input = c.args.input.now; told = 0 } ∷ []) ks) (sym c.in-Ok.ensures.items)
-      (walks_push c.args.self.now.regexes.now h.walks c.args.self.now.walks.items _ _ a.walks (record { regex = a.current; reverse = refl; input = c.same.ensures; told = λ r at. fresh_answered (way_of c.args.reverse) (machine_of c.args.reverse r) c.same.result c.start.result c.start.ensures }));
+      (walks_push c.args.self.now.regexes.now h.walks c.args.self.now.walks.items _ _ a.walks (record { regex = a.current; reverse = refl; input = c.same.ensures; told = λ r at. fresh_answered (direction_of c.args.reverse) (dfa_of c.args.reverse r) c.same.result c.start.result c.start.ensures }));
 }

@@ -2,7 +2,7 @@ use Rattle.std.proofs.Common.{◌-◌, ◌≤◌, Some, None, refl, subst}
 use Rattle.std.specs.Prelude.{Ok, Err}
 use Rattle.automata_base.specs.Input.{Input}
 use Rattle.automata_base.specs.Spans.{from}
-use Rattle.regex_automata.specs.Iterating.{AreCostsTwice, GoesOn, IsNextMatch, IsNextRefusal, input_at}
+use Rattle.regex_automata.specs.Iterating.{AreCostsTwice, GoesPast, IsNextMatch, IsNextRefusal, input_at}
 use Rattle.regex_automata.proofs.Backing.{false_true}
 use Rattle.regex_automata.proofs.Items.{fewer_left, gives_error, gives_match, gives_none, learns_next, some_left, tells_error, tells_found}
 use Rattle.regex_automata.proofs.Nexts.{some_of}
@@ -12,7 +12,7 @@ pub returns-in-Ok-Some-clause-steps : goal.returns-in-Ok-Some-clause-steps
 returns-in-Ok-Some-clause-steps c =
     let s = c.args.self.now in
     let now = input_at s.haystack.now s.start s.end s.anchored s.earliest in
-    let goes = subst (λ (i : Input). GoesOn s.regex.now i s.last c.in-Ok-Some.found) c.input-input.ensures (some_of c.in-Ok-Some.field-0 c.in-Ok-Some.found (GoesOn s.regex.now c.input-input.result s.last) c.in-Ok-Some.ensures.goes_on c.in-Ok-Some.field-0-is) in (
+    let goes = subst (λ (i : Input). GoesPast s.regex.now i s.last c.in-Ok-Some.found) c.input-input.ensures (some_of c.in-Ok-Some.field-0 c.in-Ok-Some.found (GoesPast s.regex.now c.input-input.result s.last) c.in-Ok-Some.ensures.goes_on c.in-Ok-Some.field-0-is) in (
       gives_match s.regex.now c.next_match.new.cache now (from c.end-self.result now) s.last s.ended c.in-Ok-Some.found c.end-self.result c.end.result c.if-self.false
           (subst (λ (i : Input). IsNextMatch s.regex.now i s.last (Some c.in-Ok-Some.found)) c.input-input.ensures
           (subst (IsNextMatch s.regex.now c.input-input.result s.last) c.in-Ok-Some.field-0-is c.in-Ok-Some.ensures.next))
@@ -30,7 +30,7 @@ pub returns-in-Ok-Some-clause-goes : goal.returns-in-Ok-Some-clause-goes
 returns-in-Ok-Some-clause-goes c =
     let s = c.args.self.now in
     let now = input_at s.haystack.now s.start s.end s.anchored s.earliest in
-    let goes = subst (λ (i : Input). GoesOn s.regex.now i s.last c.in-Ok-Some.found) c.input-input.ensures (some_of c.in-Ok-Some.field-0 c.in-Ok-Some.found (GoesOn s.regex.now c.input-input.result s.last) c.in-Ok-Some.ensures.goes_on c.in-Ok-Some.field-0-is) in
+    let goes = subst (λ (i : Input). GoesPast s.regex.now i s.last c.in-Ok-Some.found) c.input-input.ensures (some_of c.in-Ok-Some.field-0 c.in-Ok-Some.found (GoesPast s.regex.now c.input-input.result s.last) c.in-Ok-Some.ensures.goes_on c.in-Ok-Some.field-0-is) in
     record {
       on = λ _. (tt, tt, fewer_left s.regex.now now (from c.end-self.result now) s.last s.ended c.in-Ok-Some.found c.end-self.result c.end.result c.if-self.false refl c.end-self.ensures.end c.end.ensures.end goes);
       keeps = tt;
