@@ -23,3 +23,5 @@ pub mod KnowingWalks
 pub mod Agreeing
 pub mod Which
 pub mod Within
+pub mod Owing
+pub mod OwingWalks
