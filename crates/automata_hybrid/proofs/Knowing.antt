@@ -1,6 +1,6 @@
 -- Searches whose start and transitions are all known.
 use Rattle.std.proofs.Common.{ℕ, suc, ◌≡◌, ◌∙◌, ◌+◌, ◌^◌, ◌<◌, ◌≤◌, ◌⊎◌, inl, inr, Bool, true, false, length, Option, Some, None, refl, sym, subst, arith}
-use Rattle.std.specs.Prelude.{Result, Ok, Err, IfErr, OnOk}
+use Rattle.std.specs.Prelude.{Result, Ok, Err, IfErr, IfOk, OnOk}
 use Rattle.std.proofs.lemmas.Result.{IfErr-weaker}
 use Rattle.automata_base.specs.Answers.{Tries, later}
 use Rattle.automata_base.specs.Input.{Input}
@@ -17,14 +17,15 @@ use Rattle.automata_hybrid.specs.declared.dfa.progress.Searched.{Searched}
 use Rattle.automata_hybrid.specs.Bounds.{Stored, IsKnownStart, IsKnownTransition, with_searched}
 use Rattle.automata_hybrid.specs.Caches.{CacheView, with_store}
 use Rattle.automata_hybrid.specs.Growing.{IsGrown, ClearedNothing, Keeps}
-use Rattle.automata_hybrid.specs.Knowing.{IsOfInput, Knows, KnowsItsStart, KnowsPass, KnowsUnit, unit_class}
+use Rattle.automata_hybrid.specs.Knowing.{IsOfInput, Knows, KnowsItsStart, KnowsPass, KnowsUnit}
+use Rattle.automata_hybrid.specs.Stepping.{unit_class}
 use Rattle.automata_hybrid.specs.Machine.{Machine}
 use Rattle.automata_hybrid.specs.Passing.{HasLearned, HasLearnedAll, HasLearnedUnit, IsAt}
 use Rattle.automata_hybrid.specs.Searches.{Finds, Reads, Skips, state_in, tape_in}
 use Rattle.automata_hybrid.specs.Slots.{slot_behind, supports}
-use Rattle.automata_hybrid.specs.Starting.{IsStartRefusal, IsStartRefusalAt, KnowsStart, MayStart, known_start, quit_behind, search_refusal}
+use Rattle.automata_hybrid.specs.Starting.{HasSlot, IsStartAnswer, IsStartEffect, IsStartRefusal, IsStartRefusedAt, KnowsStart, MayStart, quit_behind, search_refusal}
 use Rattle.automata_hybrid.specs.Table.{Names, Rows}
-use Rattle.automata_hybrid.proofs.Searching.{at_reads, false_true, lt_or_le, none_behind, ok_err}
+use Rattle.automata_hybrid.proofs.Searching.{at_reads, false_true, lt_or_le}
 
 -- a state has one ID
 pub one_id : (t : Rows) (a b : ℕ) (q : Powerset) → Names t a q → Names t b q → a ≡ b
@@ -144,69 +145,47 @@ pub begun_moved :
 begun_moved way m input old between new k e f =
     subst (λ (c : CacheView). ClearedNothing old.store c.store → KnowsItsStart way m c.store input × HasLearned way m c.store input k) (sym e) f
 
--- a start that isn't refused was allowed
-pub may_start :
-    {E : Type 0} (m : Machine) (mode : Anchored) (behind : Option ℕ) (r : Result ℕ E) (f : ℕ → E) (g : E) (n : ℕ)
-    → ((byte : ℕ) → quit_behind m behind ≡ Some byte → r ≡ Err (f byte))
-    → (quit_behind m behind ≡ None → supports m mode ≡ false → r ≡ Err g)
-    → r ≡ Ok n → MayStart m mode behind
-may_start m mode behind r f g n quit unsupported ok = (clear, go (supports m mode) refl) where
-  clear : quit_behind m behind ≡ None
-  clear = none_behind (quit_behind m behind) r f n quit ok
-
-  go : (b : Bool) → supports m mode ≡ b → supports m mode ≡ true
-  go true e = e
-  go false e = absurd (ok_err (sym ok ∙ unsupported clear e))
-
 -- a start that is known, where it may be asked for, changes nothing and isn't refused for want of room
-module _ (m : Machine) (old new : CacheView) (mode : Anchored) (behind : Option ℕ) (r : Result ℕ SearchError) (dead_at behind_at start_at : ℕ)
+module _ (m : Machine) (old new : CacheView) (mode : Anchored) (behind : Option ℕ) (r : Result ℕ SearchError) (behind_at start_at : ℕ)
     (slots : length old.store.starts ≡ m.slots)
-    (known : KnowsStart m old.store mode behind → r ≡ Ok (known_start m old.store mode behind))
-    (unchanged : KnowsStart m old.store mode behind → new ≡ old)
-    (past : MayStart m mode behind → m.slots ≤ slot_behind m mode behind → r ≡ Ok dead_at)
-    (past_unchanged : MayStart m mode behind → m.slots ≤ slot_behind m mode behind → new ≡ old)
-    (barred : (MayStart m mode behind → ⊥) → new ≡ old)
-    (errors : IfErr r (IsStartRefusalAt m old.store mode behind behind_at start_at))
-    (begin : MayStart m mode behind → slot_behind m mode behind < m.slots → IsKnownStart old.store (slot_behind m mode behind)) where
-  abbrev Idle : Type 0
-  Idle = (new ≡ old) × IfErr r IsOfInput
+    (refusal : IfErr r (IsStartRefusedAt m mode behind behind_at start_at old new))
+    (effect : IsStartEffect m mode behind old new)
+    (begin : MayStart m mode behind → HasSlot m mode behind → IsKnownStart old.store (slot_behind m mode behind)) where
+  knows : MayStart m mode behind → HasSlot m mode behind → KnowsStart m old.store mode behind
+  knows may l = (may, (omega (arith, l, slots), begin may l))
 
-  of_ok : (n : ℕ) → r ≡ Ok n → IfErr r IsOfInput
-  of_ok n e = subst (λ v. IfErr v IsOfInput) (sym e) tt
+  of_input : (e : SearchError) → IsStartRefusedAt m mode behind behind_at start_at old new e → IsOfInput e
+  of_input e h = subst IsOfInput (sym h.told) (go h.error h.refused.why) where
+    not : MayStart m mode behind → ⊥
+    not may = h.refused.unknown (knows may (h.refused.slot may))
 
-  may_idle : MayStart m mode behind → Idle
-  may_idle may = go (lt_or_le (slot_behind m mode behind) m.slots) where
-    go : (slot_behind m mode behind < m.slots) ⊎ (m.slots ≤ slot_behind m mode behind) → Idle
-    go (inl l) =
-        let knows : KnowsStart m old.store mode behind = (may, (omega (arith, l, slots), begin may l)) in
-        (unchanged knows, of_ok _ (known knows))
-    go (inr l) = (past_unchanged may l, of_ok _ (past may l))
-
-  barred_error : (MayStart m mode behind → ⊥) → (e : SearchError) → IsStartRefusalAt m old.store mode behind behind_at start_at e → IsOfInput e
-  barred_error not e (error, h, told) = subst IsOfInput (sym told) (go error h) where
     go : (error : StartError) → IsStartRefusal m old.store mode behind error → IsOfInput (search_refusal error behind_at start_at)
-    go (start.Quit byte) h = tt
-    go (start.UnsupportedAnchored told) h = tt
-    go (start.Cache err) h = absurd (not h.0)
-    go start.OutOfMemory h = absurd (not h)
+    go (start.Quit byte) why = tt
+    go (start.UnsupportedAnchored told) why = tt
+    go (start.Cache err) why = absurd (not why.0)
+    go start.OutOfMemory why = absurd (not why)
 
-  barred_idle : (MayStart m mode behind → ⊥) → Idle
-  barred_idle not = (barred not, IfErr-weaker r _ _ (barred_error not) errors)
+  same : new ≡ old
+  same = go (quit_behind m behind) refl (supports m mode) refl where
+    in_slot : MayStart m mode behind → (slot_behind m mode behind < m.slots) ⊎ (m.slots ≤ slot_behind m mode behind) → new ≡ old
+    in_slot may (inl l) = effect.known (knows may l)
+    in_slot may (inr l) = effect.past may l
 
-  pub start_idle : Idle
-  start_idle = go (quit_behind m behind) refl (supports m mode) refl where
-    go : (o : Option ℕ) → quit_behind m behind ≡ o → (b : Bool) → supports m mode ≡ b → Idle
-    go None e true f = may_idle (e, f)
-    go None e false f = barred_idle (λ may. false_true (sym f ∙ may.1))
-    go (Some byte) e b f = barred_idle (λ may. none_some (sym may.0 ∙ e))
+    go : (o : Option ℕ) → quit_behind m behind ≡ o → (b : Bool) → supports m mode ≡ b → new ≡ old
+    go None e true f = in_slot (e, f) (lt_or_le (slot_behind m mode behind) m.slots)
+    go None e false f = effect.barred (λ may. false_true (sym f ∙ may.1))
+    go (Some byte) e b f = effect.barred (λ may. none_some (sym may.0 ∙ e))
+
+  pub start_idle : (new ≡ old) × IfErr r IsOfInput
+  start_idle = (same, IfErr-weaker r _ _ of_input refusal)
 
 -- a start that was found is known
 pub learned_start :
-    {E : Type 0} (m : Machine) (c : Stored) (mode : Anchored) (behind : Option ℕ) (r : Result ℕ E)
-    → (slot_behind m mode behind < m.slots → OnOk r (KnowsStart m c mode behind))
-    → OnOk r (slot_behind m mode behind < m.slots → IsKnownStart c (slot_behind m mode behind))
-learned_start m c mode behind (Ok n) learned = λ l. (learned l).1.1
-learned_start m c mode behind (Err e) learned = tt
+    {E : Type 0} (m : Machine) (old new : CacheView) (mode : Anchored) (behind : Option ℕ) (r : Result ℕ E)
+    → IfOk r (IsStartAnswer m mode behind old new)
+    → OnOk r (HasSlot m mode behind → IsKnownStart new.store (slot_behind m mode behind))
+learned_start m old new mode behind (Ok n) answer = λ l. (answer.learned l).1.1
+learned_start m old new mode behind (Err e) answer = tt
 
 -- what a search has learned over the spans that it tried so far
 abbrev pub LearnedSpans : Direction → Machine → Stored → Input → ℕ → Type 0

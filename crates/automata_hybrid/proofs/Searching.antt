@@ -349,10 +349,3 @@ pub state_first :
     → start_state_of m.nfa input.anchored (tape_in way input).before ≡ state_in way m input 0
 unfolding state_after
 state_first way m input = refl
-
--- behind a start that was answered there is no quit byte
-pub none_behind :
-    {E : Type 0} (o : Option ℕ) (r : Result ℕ E) (f : ℕ → E) (n : ℕ)
-    → ((byte : ℕ) → o ≡ Some byte → r ≡ Err (f byte)) → r ≡ Ok n → o ≡ None
-none_behind None r f n told e = refl
-none_behind (Some byte) r f n told e = absurd (ok_err (sym e ∙ told byte refl))

@@ -9,7 +9,8 @@ use Rattle.automata_base.specs.Tapes.{Direction, Forward, Backward}
 use Rattle.automata_base.proofs.Spans.Total.{tape_units}
 use Rattle.automata_hybrid.specs.Bounds.{Stored}
 use Rattle.automata_hybrid.specs.Growing.{Keeps}
-use Rattle.automata_hybrid.specs.Knowing.{KnownStays, KnowsPass, unit_class}
+use Rattle.automata_hybrid.specs.Knowing.{KnownStays, KnowsPass}
+use Rattle.automata_hybrid.specs.Stepping.{unit_class}
 use Rattle.automata_hybrid.specs.Machine.{Machine}
 use Rattle.automata_hybrid.specs.Searches.{tape_in}
 use Rattle.automata_hybrid.proofs.Knowing.{begin_still, unit_still}

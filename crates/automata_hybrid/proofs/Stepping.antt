@@ -10,10 +10,10 @@ use Rattle.automata_hybrid.specs.Passing.{IsDeadTagged, step_refusal}
 use Rattle.automata_hybrid.specs.Searches.{IsNoQuit, IsStepRefusal}
 use Rattle.automata_config.specs.declared.error.StepError.{StepError}
 use Rattle.automata_config.specs.declared.error.StepError.TheVariants.{Cache, OutOfMemory}
-use Rattle.std.specs.Prelude.{IsBitSet, ◌↔◌, Result, Ok, Err}
+use Rattle.std.specs.Prelude.{IsBitSet, ◌↔◌, Result, Ok}
 use Rattle.automata_hybrid.proofs.Places.{Names-silent, no_patterns, bit_of, zero_one}
 use Rattle.automata_base.specs.Classes.{is_quit}
-use Rattle.automata_base.proofs.Paths.Orders.{some_inj, none_some}
+use Rattle.automata_base.proofs.Paths.Orders.{none_some}
 use Rattle.automata_base.specs.Steps.{successor}
 
 -- an unknown cell stands at no quit class
@@ -84,19 +84,6 @@ refused m c c' q unit quit_at at OutOfMemory other same gives = other
 -- the end is no quit byte
 pub end_no_quit : (m : Machine) → IsNoQuit m None
 end_no_quit m byte e = absurd (none_some e)
-
--- a step that was refused read no quit byte, since one that reads one answers
-pub refused_no_quit :
-    {n : ℕ} (m : Machine) (byte : ℕ) (e : StepError) → (is_quit m.quits byte ≡ true → ◌≡◌ {A = Result ℕ StepError} (Err e) (Ok n))
-    → IsNoQuit m (Some byte)
-refused_no_quit m byte e answers b same = subst (λ u. is_quit m.quits u ≡ false) (some_inj same) (go (is_quit m.quits byte) refl)
-  where
-    apart : {n : ℕ} → ◌≡◌ {A = Result ℕ StepError} (Err e) (Ok n) → ⊥
-    apart h = cc
-
-    go : (b : Bool) → is_quit m.quits byte ≡ b → is_quit m.quits byte ≡ false
-    go false f = f
-    go true f = absurd (apart (answers f))
 
 pub quit_bit : (s : ℕ) → s ≤ 512 → IsBitSet (quit_id s) 29
 quit_bit s l =

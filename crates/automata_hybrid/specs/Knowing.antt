@@ -1,7 +1,6 @@
 -- Searches whose start and transitions are all known.
-use Rattle.std.specs.Prelude.{ℕ, ◌≡◌, ◌+◌, ◌<◌, ◌≤◌, Option, None, Some}
+use Rattle.std.specs.Prelude.{ℕ, ◌≡◌, ◌+◌, ◌<◌, ◌≤◌}
 use Rattle.automata_base.specs.Answers.{IsInput, Tries, later}
-use Rattle.automata_base.specs.Classes.{class_in, eoi_class}
 use Rattle.automata_base.specs.Input.{Input}
 use Rattle.automata_base.specs.Paths.{next}
 use Rattle.automata_base.specs.Tapes.{Direction}
@@ -14,12 +13,8 @@ use Rattle.automata_hybrid.specs.Machine.{Machine}
 use Rattle.automata_hybrid.specs.Searches.{Finds, HasReadNoQuit, Reads, Skips, state_in, tape_in}
 use Rattle.automata_hybrid.specs.Slots.{slot_behind}
 use Rattle.automata_hybrid.specs.Starting.{MayStart}
+use Rattle.automata_hybrid.specs.Stepping.{unit_class}
 use Rattle.automata_hybrid.specs.Table.{Names}
-
--- the class of a byte or of the end
-abbrev pub unit_class : Machine → Option ℕ → ℕ
-unit_class m None = eoi_class m.classes
-unit_class m (Some byte) = class_in m.classes byte
 
 -- the transition that a pass takes on its unit at place `k` is known
 abbrev pub KnowsUnit : Direction → Machine → Stored → Input → ℕ → Type 0

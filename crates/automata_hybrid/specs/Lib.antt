@@ -10,6 +10,7 @@ pub mod Builds
 pub mod Caches
 pub mod Growing
 pub mod Starting
+pub mod Stepping
 pub mod Slots
 pub mod Founds
 pub mod Searches
@@ -23,3 +24,5 @@ pub mod KnowingWalks
 pub mod Agreeing
 pub mod Which
 pub mod Within
+pub mod Owing
+pub mod OwingWalks

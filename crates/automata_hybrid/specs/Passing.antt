@@ -18,7 +18,8 @@ use Rattle.automata_hybrid.specs.Machine.{Machine}
 use Rattle.automata_hybrid.specs.Table.{Rows, Names, Leads}
 use Rattle.automata_hybrid.specs.Searches.{HasReadNoQuit, Reads, tape_in, state_in, told_in}
 use Rattle.automata_hybrid.specs.Bounds.{Stored}
-use Rattle.automata_hybrid.specs.Knowing.{KnowsItsStart, KnowsUnit, unit_class}
+use Rattle.automata_hybrid.specs.Knowing.{KnowsItsStart, KnowsUnit}
+use Rattle.automata_hybrid.specs.Stepping.{unit_class}
 
 -- a pair of a pass as a half match: its place is an offset
 abbrev pub half_of : Direction → Input → Option Pair → Option HalfMatch

@@ -1,4 +1,5 @@
-use Rattle.std.specs.Prelude.{ℕ, ◌≡◌, true, false, cond, Option, None, Some, slice_index}
+use Rattle.std.specs.Prelude.{ℕ, ◌≡◌, ◌+◌, ◌<◌, ◌≤◌, ◌⊎◌, true, false, cond, Option, None, Some, slice_index}
+use Rattle.automata_base.specs.Powerset.{Powerset}
 use Rattle.automata_base.specs.Classes.{is_quit}
 use Rattle.automata_base.specs.Steps.{start_state_of}
 use Rattle.automata_base.specs.declared.util.search.Anchored.{Anchored}
@@ -9,8 +10,13 @@ use Rattle.automata_config.specs.declared.error.StartError.{StartError}
 use Rattle.automata_config.specs.declared.error.StartError.TheVariants as start
 use Rattle.automata_config.specs.declared.error.SearchError.{SearchError}
 use Rattle.automata_config.specs.declared.error.SearchError.TheVariants as search
+use Rattle.automata_hybrid.specs.declared.dfa.row.Row.{Row}
+use Rattle.automata_hybrid.specs.Ids.{dead_id}
 use Rattle.automata_hybrid.specs.Machine.{Machine}
-use Rattle.automata_hybrid.specs.Bounds.{Stored, GivesUp}
+use Rattle.automata_hybrid.specs.Table.{Has, HasItsMatchTag, KeepsStartTags, Leads, TagsNewStates}
+use Rattle.automata_hybrid.specs.Bounds.{Stored, GivesUp, IsStarted}
+use Rattle.automata_hybrid.specs.Caches.{CacheView, HasRow, counted}
+use Rattle.automata_hybrid.specs.Growing.{IsGrown}
 use Rattle.automata_hybrid.specs.Slots.{supports, slot_behind, HasStart}
 
 -- the byte behind a start, where it is a quit byte
@@ -21,6 +27,14 @@ quit_behind m (Some byte) = cond (is_quit m.quits byte) (Some byte) None
 -- a search may start: behind it is no quit byte, and the mode is supported
 abbrev pub MayStart : Machine → Anchored → Option ℕ → Type 0
 MayStart m mode behind = (quit_behind m behind ≡ None) × (supports m mode ≡ true)
+
+-- the mode has a start slot: it has none for a pattern past the last
+abbrev pub HasSlot : Machine → Anchored → Option ℕ → Type 0
+HasSlot m mode behind = slot_behind m mode behind < m.slots
+
+-- the row of a start state, which has the start tag where the settings specialize start states
+abbrev pub start_row : Machine → Anchored → Option ℕ → Row
+start_row m mode behind = record { state = start_state_of m.nfa mode behind; started = m.specialized }
 
 -- a search may start, and its start state is known
 abbrev pub KnowsStart : Machine → Stored → Anchored → Option ℕ → Type 0
@@ -56,3 +70,75 @@ search_refusal start.OutOfMemory behind at = search.OutOfMemory
 abbrev pub IsStartRefusalAt : Machine → Stored → Anchored → Option ℕ → (behind_at start_at : ℕ) → SearchError → Type 0
 IsStartRefusalAt m c mode behind behind_at start_at e =
     (error : StartError) × IsStartRefusal m c mode behind error × (e ≡ search_refusal error behind_at start_at)
+
+-- what the ID is that a start answers
+pub record IsStartAnswer (m : Machine) (mode : Anchored) (behind : Option ℕ) (old new : CacheView) (id : ℕ) :
+    Type 0 where
+  -- A start is answered only where a search may start: no quit byte is behind, and the mode is supported.
+  pub may : MayStart m mode behind
+  -- Its row is there.
+  pub row : HasRow new.store.table id
+  -- It names the start state.
+  pub named : Leads new.store.table id (start_state_of m.nfa mode behind)
+  -- It has the match tag exactly if its state has patterns.
+  pub tag : HasItsMatchTag new.store.table id
+  -- A start that was known is answered as it stood.
+  pub known : KnowsStart m old.store mode behind → id ≡ known_start m old.store mode behind
+  -- Past the last pattern the start is dead.
+  pub past : m.slots ≤ slot_behind m mode behind → id ≡ dead_id m.stride
+  -- A start that wasn't known was computed, and this is all that it did to the states.
+  pub computed :
+      HasSlot m mode behind → (KnowsStart m old.store mode behind → ⊥)
+      → IsStarted old.store (slot_behind m mode behind) (start_row m mode behind) new.store id
+  -- A start that wasn't known had room, or the cache could be cleared for it.
+  pub room : (KnowsStart m old.store mode behind → ⊥) → GivesUp old.store (start_state_of m.nfa mode behind) → ⊥
+  -- The start is known from then on, also where it cleared.
+  pub learned : HasSlot m mode behind → KnowsStart m new.store mode behind
+  -- It is this one that is known.
+  pub written : HasSlot m mode behind → known_start m new.store mode behind ≡ id
+
+-- what holds where a start is refused
+pub record IsStartRefused (m : Machine) (mode : Anchored) (behind : Option ℕ) (old new : CacheView) (e : StartError) :
+    Type 0 where
+  -- The error says why.
+  pub why : IsStartRefusal m old.store mode behind e
+  -- A known start is never refused.
+  pub unknown : KnowsStart m old.store mode behind → ⊥
+  -- Past the last pattern nothing is refused where a search may start.
+  pub slot : MayStart m mode behind → HasSlot m mode behind
+  -- Nothing has changed but the count of determinisations.
+  pub unchanged : (new ≡ old) ⊎ (new ≡ counted old)
+
+-- the same of a search, which tells the error with the offset of the byte behind or of the start
+pub record IsStartRefusedAt (m : Machine) (mode : Anchored) (behind : Option ℕ) (behind_at start_at : ℕ)
+    (old new : CacheView) (e : SearchError) : Type 0 where
+  -- There is a start's error.
+  pub error : StartError
+  -- The start is refused by it.
+  pub refused : IsStartRefused m mode behind old new error
+  -- It is told at its offset.
+  pub told : e ≡ search_refusal error behind_at start_at
+
+-- what a start makes of the cache, answered or refused
+pub record IsStartEffect (m : Machine) (mode : Anchored) (behind : Option ℕ) (old new : CacheView) : Type 0 where
+  -- The cache has grown; where the call cleared nothing, nothing is lost.
+  pub grown : IsGrown old new
+  -- It determinised at most once.
+  pub counted : new.count ≤ old.count + 1
+  -- It determinised exactly once for a start that has a slot and wasn't known.
+  pub computed :
+      MayStart m mode behind → HasSlot m mode behind → (KnowsStart m old.store mode behind → ⊥)
+      → new.count ≡ old.count + 1
+  -- Where a search may not start, nothing has changed.
+  pub barred : (MayStart m mode behind → ⊥) → new ≡ old
+  -- A known start takes no memory, and changes nothing.
+  pub known : KnowsStart m old.store mode behind → new ≡ old
+  -- Past the last pattern nothing has changed.
+  pub past : MayStart m mode behind → m.slots ≤ slot_behind m mode behind → new ≡ old
+  -- A state that was there keeps its start tag or its lack of one, through a clear too.
+  pub start_tags : KeepsStartTags old.store.table new.store.table
+  -- A state that was added has the start tag exactly if the settings specialize start states.
+  pub added : TagsNewStates old.store.table new.store.table m.specialized
+  -- No state was added but the start state.
+  pub only :
+      (q : Powerset) → Has new.store.table q → Has old.store.table q ⊎ (q ≡ start_state_of m.nfa mode behind)

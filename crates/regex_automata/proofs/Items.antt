@@ -6,9 +6,10 @@ use Rattle.automata_base.specs.Matches.{Match}
 use Rattle.automata_base.specs.Spans.{from}
 use Rattle.automata_base.specs.Tapes.{Forward}
 use Rattle.automata_config.specs.declared.error.SearchError.{SearchError}
+use Rattle.automata_hybrid.specs.Owing.{IsUnsupported, unsupported_error}
 use Rattle.regex_automata.specs.Iterating.{GivesItem, GoesPast, IsNextMatch, IsNextRefusal, KnowsNext, LearnsItem, most_items}
 use Rattle.regex_automata.specs.Outcomes.{MatchLiesIn}
-use Rattle.regex_automata.specs.Owing.{IsUnsupported, TellsUnsupported, unsupported_error}
+use Rattle.regex_automata.specs.Owing.{TellsUnsupported}
 use Rattle.regex_automata.specs.RegexCaches.{AreStill, NothingCleared}
 use Rattle.regex_automata.specs.RegexRefusals.{IsOfGiven}
 use Rattle.regex_automata.specs.declared.hybrid.regex.Regex.{Regex}

@@ -5,9 +5,10 @@ use Rattle.automata_base.specs.Matches.{Match}
 use Rattle.automata_base.specs.Spans.{from}
 use Rattle.automata_base.specs.Tapes.{Forward}
 use Rattle.automata_config.specs.declared.error.SearchError.{SearchError}
+use Rattle.automata_hybrid.specs.Owing.{IsMemory, IsUnsupported, unsupported_error}
 use Rattle.regex_automata.specs.Iterating.{GivesItem, IsNextRefusal}
 use Rattle.regex_automata.specs.Outcomes.{FindsMatch}
-use Rattle.regex_automata.specs.Owing.{AreStoresOf, IsMemory, IsRefusedBehind, IsUnsupported, MayRefuseNext, TellsUnsupported, end_behind, place_behind, unsupported_error}
+use Rattle.regex_automata.specs.Owing.{AreStoresOf, IsRefusedBehind, MayRefuseNext, TellsUnsupported, end_behind, place_behind}
 use Rattle.regex_automata.specs.RegexRefusals.{IsFree}
 use Rattle.regex_automata.specs.SoundPairs.{IsSoundPair}
 use Rattle.regex_automata.specs.declared.hybrid.regex.Regex.{Regex}

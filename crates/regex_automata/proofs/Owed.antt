@@ -1,30 +1,27 @@
 -- What calls owe whatever the cache, from their clauses.
-use Rattle.std.proofs.Common.{◌≡◌, ◌≤◌, Option, None, Result, Ok, Err, IfErr, IfOk, IfSome, Bool, true, false, inl, inr, ap, subst}
+use Rattle.std.proofs.Common.{◌≡◌, ◌≤◌, Option, None, Result, Ok, Err, IfErr, IfOk, IfSome, Bool, true, false, inl, inr, ap}
 use Rattle.automata_base.specs.Input.{Input}
 use Rattle.automata_base.specs.Matches.{Match}
 use Rattle.automata_base.specs.Nodes.{nfa_of}
 use Rattle.automata_base.specs.Paths.{IsLookAcyclic}
 use Rattle.automata_base.specs.Spans.{IsMatch, IsSpan, TryFinds}
-use Rattle.automata_base.specs.Tapes.{Direction, Forward}
+use Rattle.automata_base.specs.Tapes.{Forward}
 use Rattle.automata_config.specs.declared.error.SearchError.{SearchError}
-use Rattle.automata_hybrid.specs.Bounds.{Stored}
 use Rattle.automata_hybrid.specs.Caches.{CacheView}
 use Rattle.automata_hybrid.specs.Machine.{Machine}
-use Rattle.automata_hybrid.specs.Searches.{IsRefused, NoQuitInReach, tape_in}
+use Rattle.automata_hybrid.specs.Owing.{IsMemory, IsStoreOf, MayRefuse, unsupported_error}
+use Rattle.automata_hybrid.specs.Searches.{NoQuitInReach, tape_in}
 use Rattle.automata_hybrid.specs.Slots.{supports}
 use Rattle.automata_hybrid.specs.Starting.{quit_behind}
-use Rattle.regex_automata.specs.Matching.{IsMatchRefused, IsMatchTold}
+use Rattle.automata_hybrid.proofs.Owing.{is_store}
+use Rattle.regex_automata.specs.Matching.{IsAsked, IsMatchTold}
 use Rattle.regex_automata.specs.Outcomes.{FindsMatch, MatchLiesIn}
-use Rattle.regex_automata.specs.Owing.{AreStoresOf, IsMemory, IsSpanOf, IsStoreOf, IsTruthOf, MayRefuse, MayRefuseSpan, MayRefuseTruth, unsupported_error}
+use Rattle.regex_automata.specs.Owing.{AreStoresOf, IsSpanOf, IsTruthOf, MayRefuseSpan, MayRefuseTruth}
 use Rattle.regex_automata.specs.RegexCaches.{AreCachesOf, AreFresh}
 use Rattle.regex_automata.specs.RegexRefusals.{IsFree, IsOfMemory, IsRegexRefusal}
 use Rattle.regex_automata.specs.SoundPairs.{AreLookAcyclic, IsSoundPair, forward_engine, reverse_engine}
 use Rattle.regex_automata.specs.declared.hybrid.regex.Regex.{Regex}
 use Rattle.regex_automata.specs.declared.hybrid.regex.caches.Cache.{Cache}
-
--- a cache that is of its DFA and keeps its bounds is one of it, within its settings
-pub is_store : (c : Stored) (m : Machine) → c.table.of ≡ m → IsStoreOf c c.table.of → IsStoreOf c m
-is_store c m of bounds = subst (λ (n : Machine). IsStoreOf c n) of bounds
 
 pub are_stores :
     (c : Cache) (p : Regex) → AreCachesOf c p → IsStoreOf c.forward.store c.forward.store.table.of
@@ -32,13 +29,7 @@ pub are_stores :
 are_stores c p of forward reverse =
     (is_store c.forward.store p.forward of.0 forward, is_store c.reverse.store p.reverse of.1 reverse)
 
--- a refusal over some cache
-pub may_refuse :
-    {T : Type 0} (r : Result T SearchError) (way : Direction) (m : Machine) (c : Stored) (input : Input)
-    → IsStoreOf c m → IfErr r (IsRefused way m c input) → IfErr r (MayRefuse way m input)
-may_refuse (Ok x) way m c input of h = h
-may_refuse (Err e) way m c input of h = (c, of, h)
-
+-- a refusal over some caches
 pub may_refuse_span :
     {T : Type 0} (r : Result T SearchError) (p : Regex) (c : Cache) (input : Input)
     → AreStoresOf c p → IfErr r (IsRegexRefusal p c input) → IfErr r (MayRefuseSpan p input)
@@ -46,10 +37,9 @@ may_refuse_span (Ok x) p c input of h = h
 may_refuse_span (Err e) p c input of h = (c, of, h)
 
 pub may_refuse_truth :
-    {T : Type 0} (r : Result T SearchError) (m : Machine) (c : Stored) (input : Input)
-    → IsStoreOf c m → IfErr r (IsMatchRefused m c input) → IfErr r (MayRefuseTruth m input)
-may_refuse_truth (Ok x) m c input of h = h
-may_refuse_truth (Err e) m c input of h = (c, of, h)
+    (m : Machine) (input asked : Input) (e : SearchError)
+    → IsAsked m input asked → MayRefuse Forward m asked e → MayRefuseTruth m input e
+may_refuse_truth m input asked e is h = (h.0, h.1, (asked, is, h.2))
 
 -- where nothing stands in the way of a refused search
 pub refused_free :
@@ -95,19 +85,19 @@ span_owed p input r c of found answer span within errors unsupported = record {
 
 -- a search for whether there is a match
 pub truth_owed :
-    (p : Regex) (input : Input) (r : Result Bool SearchError) (c : Cache) → IsStoreOf c.forward.store p.forward
+    (p : Regex) (input : Input) (r : Result Bool SearchError)
     → IfOk r (IsMatchTold p.forward input)
     → (IsLookAcyclic (nfa_of p.forward.nfa) → IfOk r (IsMatch (forward_engine p) input))
-    → IfErr r (IsMatchRefused p.forward c.forward.store input)
+    → IfErr r (MayRefuseTruth p.forward input)
     → (input.start ≤ input.end → quit_behind p.forward (tape_in Forward input).before ≡ None
     → supports p.forward input.anchored ≡ false → r ≡ Err (unsupported_error input))
     → (NoQuitInReach p.forward input → supports p.forward input.anchored ≡ true → p.forward.minimum_clear_count ≡ None
     → IfErr r IsMemory)
     → IsTruthOf p input r
-truth_owed p input r c of told answer errors unsupported answers = record {
+truth_owed p input r told answer errors unsupported answers = record {
   told = told;
   answer = answer;
-  errors = may_refuse_truth r p.forward c.forward.store input of errors;
+  errors = errors;
   unsupported = λ u. unsupported u.undone u.behind u.mode;
   free = λ f. answers f.reach f.supported f.clears;
 }

@@ -8,11 +8,12 @@ use Rattle.automata_base.specs.PatternSet.{members, members_from}
 use Rattle.automata_base.specs.Selections.{Pair}
 use Rattle.automata_config.specs.declared.error.SearchError.{SearchError}
 use Rattle.automata_config.specs.declared.error.SearchError.TheVariants as search
-use Rattle.automata_hybrid.specs.Bounds.{Stored}
 use Rattle.automata_hybrid.specs.Machine.{Machine}
+use Rattle.automata_hybrid.specs.Owing.{IsMemory}
+use Rattle.automata_hybrid.specs.OwingWalks.{MayRefuseWhich}
 use Rattle.automata_hybrid.specs.Which.{IsWhichRefusal}
 use Rattle.regex_automata.proofs.Results.{some_none}
-use Rattle.regex_automata.specs.Owing.{AreRising, ArePatternsUpto, IsMemory, IsStoreOf, MayRefusePatterns, empty_set}
+use Rattle.regex_automata.specs.Owing.{AreRising, ArePatternsUpto, MayRefusePatterns, empty_set}
 
 -- what rises from a number rises from a lower one
 rising_from : (low k : ℕ) (ks : List ℕ) → low ≤ k → AreRising k ks → AreRising low ks
@@ -44,12 +45,12 @@ told_where (Ok x) P h none = h
 told_where (Err e) P h none = absurd (some_none none)
 
 pub refused_where :
-    (r : Result (Unit {0}) SearchError) (m : Machine) (c : Stored) (input : Input) (capacity : ℕ) (old new : List Bool) (found : List ℕ)
-    → IsStoreOf c m → old ≡ empty_set capacity → found ≡ members new → IfErr r (IsWhichRefusal m c input old new)
+    (r : Result (Unit {0}) SearchError) (m : Machine) (input : Input) (capacity : ℕ) (old new : List Bool) (found : List ℕ)
+    → old ≡ empty_set capacity → found ≡ members new → IfErr r (MayRefuseWhich m input old new)
     → IfSome (result_err r) (MayRefusePatterns m input capacity found)
-refused_where (Ok x) m c input capacity old new found of fresh is h = tt
-refused_where (Err e) m c input capacity old new found of fresh is h =
-    inr (c, of, (new, subst (λ (set : List Bool). IsWhichRefusal m c input set new e) fresh h, is))
+refused_where (Ok x) m input capacity old new found fresh is h = tt
+refused_where (Err e) m input capacity old new found fresh is h =
+    inr (h.0, h.1, (new, subst (λ (set : List Bool). IsWhichRefusal m h.0 input set new e) fresh h.2, is))
 
 pub memory_where : (r : Result (Unit {0}) SearchError) → IfErr r IsMemory → IfSome (result_err r) IsMemory
 memory_where (Ok x) h = h

@@ -6,8 +6,8 @@ use Rattle.automata_base.specs.Tapes.{Forward}
 use Rattle.automata_config.specs.declared.error.SearchError.{SearchError}
 use Rattle.automata_hybrid.specs.Bounds.{Stored}
 use Rattle.automata_hybrid.specs.Machine.{Machine}
+use Rattle.automata_hybrid.specs.Owing.{IsHalf}
 use Rattle.automata_hybrid.specs.Searches.{IsRefused}
-use Rattle.regex_automata.specs.Owing.{IsHalf}
 use Rattle.regex_automata.specs.Tokens.{IsGivenAt, asked, item_of}
 use Rattle.regex_automata.specs.declared.tokens.error.TokenError.{TokenError}
 use Rattle.regex_automata.specs.declared.tokens.error.TokenError.TheVariants.{NoToken, Search}

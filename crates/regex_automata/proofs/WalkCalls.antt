@@ -10,14 +10,15 @@ use Rattle.automata_base.specs.Selections.{Pair}
 use Rattle.automata_base.specs.Tapes.{Direction}
 use Rattle.automata_base.specs.declared.util.search.Anchored.{Anchored}
 use Rattle.automata_config.specs.declared.error.SearchError.{SearchError}
-use Rattle.automata_hybrid.specs.Bounds.{Stored}
 use Rattle.automata_hybrid.specs.Machine.{Machine}
+use Rattle.automata_hybrid.specs.Owing.{IsMemory, IsUnhindered, IsUnsupported, unsupported_error}
+use Rattle.automata_hybrid.specs.OwingWalks.{MayRefuseCall}
 use Rattle.automata_hybrid.specs.Slots.{supports}
 use Rattle.automata_hybrid.specs.Starting.{MayStart}
-use Rattle.automata_hybrid.specs.Walking.{HasTold, HasToldAt, IsWalkRefusal, TellsNext, half_nth}
+use Rattle.automata_hybrid.specs.Walking.{HasTold, HasToldAt, TellsNext, half_nth}
 use Rattle.automata_hybrid.specs.Walks.{At, Ended, Fresh, Stage, Walk, fresh_walk, without_match}
 use Rattle.automata_hybrid.specs.Within.{LiesIn}
-use Rattle.regex_automata.specs.Owing.{IsMemory, IsStep, IsStoreOf, IsUnhindered, IsUnsupported, MayRefuseStep, unsupported_error}
+use Rattle.regex_automata.specs.Owing.{IsStep, MayRefuseStep}
 use Rattle.regex_automata.specs.Players.{HasAnswered}
 
 not_supported : (m : Machine) (mode : Anchored) (behind : Option ℕ) → MayStart m mode behind → supports m mode ≡ false → ⊥
@@ -60,25 +61,25 @@ module _ (way : Direction) (m : Machine) (input : Input) (old : Walk) (k : ℕ) 
 
   -- one that is refused
   step_error :
-      (b : Bool) → old.lost ≡ b → (c : Stored) (e : SearchError) → IsStoreOf c m
-      → (old.lost ≡ false → (j : ℕ) → HasTold way m input old j → IsWalkRefusal way m c input old j e)
+      (b : Bool) → old.lost ≡ b → (e : SearchError)
+      → (old.lost ≡ false → (j : ℕ) → HasTold way m input old j → MayRefuseCall way m input old j e)
       → (old.lost ≡ true → IsMemory e) → MayRefuseStep way m input k e
-  step_error true is c e of errors lost = inl (lost is)
-  step_error false is c e of errors lost = inr (c, of, (old, h.told, errors is k h.told))
+  step_error true is e errors lost = inl (lost is)
+  step_error false is e errors lost = let refused = errors is k h.told in inr (refused.0, refused.1, (old, h.told, refused.2))
 
   pub step_refused :
-      (c : Stored) (e : SearchError) → IsStoreOf c m
-      → (old.lost ≡ false → (j : ℕ) → HasTold way m input old j → IsWalkRefusal way m c input old j e)
+      (e : SearchError)
+      → (old.lost ≡ false → (j : ℕ) → HasTold way m input old j → MayRefuseCall way m input old j e)
       → (old.lost ≡ true → IsMemory e)
       → (old.stage ≡ Ended → ⊥)
       → (old.stage ≡ Fresh → IsUnsupported way m input → e ≡ unsupported_error input)
       → (IsUnhindered m input → IsMemory e)
       → IsStep way m input k (Err e)
-  step_refused c e of errors lost goes_on unsupported free = record {
+  step_refused e errors lost goes_on unsupported free = record {
     pair = tt;
     paths = λ acyclic. tt;
     within = tt;
-    errors = step_error old.lost refl c e of errors lost;
+    errors = step_error old.lost refl e errors lost;
     ended = λ pairs all lt. goes_on (h.ended pairs all lt);
     unsupported = λ u. ap Err (unsupported (still_fresh way m input old.stage old.units old.told k h.told u) u);
     free = free;

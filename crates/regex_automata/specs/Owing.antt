@@ -1,6 +1,6 @@
 -- What the answer to a call owes by its DFA or its regex and its input alone, whatever the cache.
-use Rattle.std.specs.Prelude.{ℕ, suc, ◌≡◌, ◌<◌, ◌≤◌, ◌+◌, ◌-◌, ◌⊎◌, Bool, true, false, List, [], ◌∷◌, length, replicate, Option, Some, None, Result, Err, IfOk, IfErr, IfSome}
-use Rattle.automata_base.specs.Answers.{IsAnswer, IsOverlapping, ArePatterns, ArePatternsFound}
+use Rattle.std.specs.Prelude.{ℕ, suc, ◌≡◌, ◌<◌, ◌≤◌, ◌+◌, ◌-◌, ◌⊎◌, Bool, false, List, [], ◌∷◌, length, replicate, Option, Some, None, Result, Err, IfOk, IfErr, IfSome}
+use Rattle.automata_base.specs.Answers.{IsOverlapping, ArePatterns, ArePatternsFound}
 use Rattle.automata_base.specs.Engines.{engine_of}
 use Rattle.automata_base.specs.Input.{Input}
 use Rattle.automata_base.specs.Matches.{HalfMatch, Match}
@@ -10,16 +10,11 @@ use Rattle.automata_base.specs.PatternSet.{members}
 use Rattle.automata_base.specs.Selections.{Pair}
 use Rattle.automata_base.specs.Spans.{AreSpans, IsMatch, IsSpan, Rise, TryFinds, from}
 use Rattle.automata_base.specs.Tapes.{Direction, Forward}
-use Rattle.automata_base.specs.Told.{IsNearestAnswer, IsFarthestAnswer}
-use Rattle.automata_base.specs.declared.util.search.MatchErrorKind.TheVariants.{UnsupportedAnchored as UnsupportedMode}
-use Rattle.automata_base.specs.declared.util.search.MatchKind.TheVariants.{All as KindAll}
 use Rattle.automata_config.specs.declared.error.SearchError.{SearchError}
 use Rattle.automata_config.specs.declared.error.SearchError.TheVariants as search
-use Rattle.automata_hybrid.specs.Bounds.{Stored, usage}
+use Rattle.automata_hybrid.specs.Bounds.{Stored}
 use Rattle.automata_hybrid.specs.Machine.{Machine}
-use Rattle.automata_hybrid.specs.Searches.{IsFound, IsRefused, NoQuitInReach, WithoutBase, tape_in}
-use Rattle.automata_hybrid.specs.Slots.{supports}
-use Rattle.automata_hybrid.specs.Starting.{quit_behind}
+use Rattle.automata_hybrid.specs.Owing.{IsMemory, IsStoreOf, IsUnhindered, IsUnsupported, unsupported_error}
 use Rattle.automata_hybrid.specs.Walking.{AreWalked, HasTold, IsWalkRefusal, half_nth}
 use Rattle.automata_hybrid.specs.Walks.{Walk}
 use Rattle.automata_hybrid.specs.Which.{IsWhichRefusal}
@@ -32,61 +27,9 @@ use Rattle.regex_automata.specs.SoundPairs.{AreLookAcyclic, IsSoundPair, forward
 use Rattle.regex_automata.specs.declared.hybrid.regex.Regex.{Regex}
 use Rattle.regex_automata.specs.declared.hybrid.regex.caches.Cache.{Cache}
 
--- a cache of this DFA, whose accounted bytes are within its settings
-pub record IsStoreOf (c : Stored) (m : Machine) : Type 0 where
-  pub of : c.table.of ≡ m
-  pub within : usage c ≤ m.capacity
-
 -- the two of a regex
 abbrev pub AreStoresOf : Cache → Regex → Type 0
 AreStoresOf c p = IsStoreOf c.forward.store p.forward × IsStoreOf c.reverse.store p.reverse
-
--- want of memory
-abbrev pub IsMemory : SearchError → Type 0
-IsMemory e = e ≡ search.OutOfMemory
-
--- nothing but want of memory stands in the way of an answer: no quit byte is in reach, the mode is supported, and no
--- clear limit is set
-pub record IsUnhindered (m : Machine) (input : Input) : Type 0 where
-  pub reach : NoQuitInReach m input
-  pub supported : supports m input.anchored ≡ true
-  pub clears : m.minimum_clear_count ≡ None
-
--- the span isn't done, no quit byte is behind the start, and the mode isn't supported
-pub record IsUnsupported (way : Direction) (m : Machine) (input : Input) : Type 0 where
-  pub undone : input.start ≤ input.end
-  pub behind : quit_behind m (tape_in way input).before ≡ None
-  pub mode : supports m input.anchored ≡ false
-
-abbrev pub unsupported_error : Input → SearchError
-unsupported_error input = search.Match (UnsupportedMode input.anchored)
-
--- some cache of the DFA, within its settings, refuses the search so
-abbrev pub MayRefuse : Direction → Machine → Input → SearchError → Type 0
-MayRefuse way m input e = (c : Stored) × IsStoreOf c m × IsRefused way m c input e
-
--- what a search in a direction answers
-pub record IsHalf (way : Direction) (m : Machine) (input : Input)
-    (result : Result (Option HalfMatch) SearchError) : Type 0 where
-  -- for every automaton, what the passes tell
-  pub found : IfOk result (WithoutBase (IsFound way m input))
-  -- where no cycle passes a look, the answer of the ordered paths
-  pub answer :
-      IsLookAcyclic (nfa_of m.nfa) → IfOk result (WithoutBase (IsAnswer way (engine_of m.nfa m.kind) input))
-  -- for every automaton, the nearest end in an earliest search, and under kind all the farthest one in another
-  pub nearest :
-      input.earliest ≡ true → IfOk result (WithoutBase (IsNearestAnswer way (engine_of m.nfa m.kind) input))
-  pub farthest :
-      input.earliest ≡ false → m.kind ≡ KindAll
-      → IfOk result (WithoutBase (IsFarthestAnswer way (engine_of m.nfa m.kind) input))
-  -- it lies in the input's span, and its pattern is one of the automaton's
-  pub within : IfOk result (λ o. IfSome o (LiesIn m input))
-  -- a refusal is one that some cache may give
-  pub errors : IfErr result (MayRefuse way m input)
-  -- a mode that isn't supported is told
-  pub unsupported : IsUnsupported way m input → result ≡ Err (unsupported_error input)
-  -- where nothing stands in the way, only want of memory is a refusal
-  pub free : IsUnhindered m input → IfErr result IsMemory
 
 -- some cache of the DFA, within its settings, refuses a call of a walk that has told so many pairs; or memory is wanting
 abbrev pub MayRefuseStep : Direction → Machine → Input → (told : ℕ) → SearchError → Type 0

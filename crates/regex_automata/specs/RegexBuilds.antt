@@ -7,7 +7,7 @@ use Rattle.automata_config.specs.Options.{Options}
 use Rattle.automata_config.specs.Settling as settling
 use Rattle.automata_config.specs.declared.error.BuildError.{BuildError}
 use Rattle.automata_config.specs.declared.error.BuildError.TheVariants.{PatternCounts}
-use Rattle.automata_hybrid.specs.BuildsPair as dfa
+use Rattle.automata_hybrid.specs.Builds as dfa
 use Rattle.regex_automata.specs.declared.hybrid.regex.Regex.{Regex}
 
 -- the settings of the reverse DFA: it tells all matches, and start states are not tagged
@@ -16,7 +16,7 @@ backward o = record o { match_kind = Some All; specialize_start_states = Some fa
 
 -- each DFA is what its settings make of its automaton
 abbrev pub BuildsPair : Options → Automaton → Automaton → Regex → Type 0
-BuildsPair o forward reverse p = dfa.BuildsPair o forward p.forward × dfa.BuildsPair (backward o) reverse p.reverse
+BuildsPair o forward reverse p = dfa.Builds o forward p.forward × dfa.Builds (backward o) reverse p.reverse
 
 abbrev pub pattern_count : Automaton → ℕ
 pattern_count a = length a.start_pattern

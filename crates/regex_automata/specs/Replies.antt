@@ -11,9 +11,10 @@ use Rattle.automata_base.specs.Selections.{Pair}
 use Rattle.automata_base.specs.Tapes.{Direction, Forward, Backward}
 use Rattle.automata_config.specs.declared.error.SearchError.{SearchError}
 use Rattle.automata_hybrid.specs.Machine.{Machine}
+use Rattle.automata_hybrid.specs.Owing.{IsHalf, IsMemory}
 use Rattle.automata_hybrid.specs.Walking.{AreWalked, half_nth}
 use Rattle.regex_automata.specs.Histories.{Begun, History, start, after, history}
-use Rattle.regex_automata.specs.Owing.{AreMatchesUpto, ArePatternsUpto, IsHalf, IsMemory, IsSpanOf, IsStep, IsTruthOf}
+use Rattle.regex_automata.specs.Owing.{AreMatchesUpto, ArePatternsUpto, IsSpanOf, IsStep, IsTruthOf}
 use Rattle.regex_automata.specs.Tokens.{AreTokensUpto}
 use Rattle.regex_automata.specs.declared.hybrid.regex.Regex.{Regex}
 use Rattle.regex_automata.specs.declared.replay.requests.Request.{Request}

@@ -8,6 +8,7 @@ ghost use Rattle.automata_hybrid.specs.Table.{id_of, Names, IsValid, Leads, MayL
 ghost use Rattle.automata_hybrid.specs.Bounds.{Fits, refuses_to_clear, IsCacheError, KeepsStarts, IsAdded, IsAddedStart, cell_of, with_next, with_start, with_searched, grown, cleared, usage, GivesUp};
 ghost use Rattle.automata_hybrid.specs.Caches.{IsRow, IsCacheOf, fresh_cache, counted, with_store};
 ghost use Rattle.automata_hybrid.specs.Growing.{IsGrown};
+ghost use Rattle.automata_hybrid.specs.Owing.{IsStoreOf};
 ghost use Rattle.automata_hybrid.specs.Walking.{IsRowState};
 ghost use Rattle.automata_hybrid.specs.Walks.{HasKey, state_held};
 ghost use Rattle.automata_hybrid.specs.Progressing.{started, updated, finished, total_len};
@@ -422,9 +423,9 @@ impl Cache {
         self.store.memory_usage()
     }
 
-    /// The accounted bytes are within the capacity of the DFA's settings. It does nothing.
+    /// The cache is within the settings of the DFA that it is of. It does nothing.
     pub fn see_bounds(&self)
-        ensures { usage self.now.store ≤ self.now.store.table.of.capacity }
+        ensures { IsStoreOf self.now.store self.now.store.table.of }
     {
         self.store.see_bounds();
     }

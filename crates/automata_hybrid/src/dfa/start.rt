@@ -1,4 +1,4 @@
-ghost use Rattle.std.specs.Prelude.{ℕ, ◌≡◌, ◌+◌, ◌-◌, ◌*◌, ◌<◌, ◌≤◌, None, Some, IfOk, IfErr, IfSome, IfNone, ◌↔◌, OnOk, OnErr, length, slice_index, Ok, Err, false, Option, ◌⊎◌};
+ghost use Rattle.std.specs.Prelude.{◌≡◌, ◌+◌, ◌-◌, ◌*◌, ◌<◌, ◌≤◌, None, Some, IfOk, IfErr, IfSome, IfNone, ◌↔◌, OnOk, OnErr, length, slice_index, Ok, Err, false, Option, ◌⊎◌};
 ghost use Rattle.automata_base.specs.Alike.{behind_of};
 ghost use Rattle.automata_base.specs.Powerset.{Powerset, cost, dead};
 ghost use Rattle.automata_base.specs.Classes.{is_quit};
@@ -6,14 +6,12 @@ ghost use Rattle.automata_base.specs.Steps.{start_state_of};
 ghost use Rattle.automata_hybrid.specs.Machine.{start_of, greatest};
 ghost use Rattle.automata_base.specs.Tapes.{byte_before};
 ghost use Rattle.automata_base.specs.Lists.{nth};
-ghost use Rattle.automata_base.specs.declared.util.search.MatchErrorKind.TheVariants.{Quit as QuitAt, UnsupportedAnchored as UnsupportedMode};
-ghost use Rattle.automata_hybrid.specs.Starting.{quit_behind, start_refusal, search_refusal, KnowsStart, known_start, MayStart, IsStartRefusal, IsStartRefusalAt};
+ghost use Rattle.automata_hybrid.specs.Starting.{quit_behind, start_refusal, search_refusal, MayStart, IsStartAnswer, IsStartRefused, IsStartRefusedAt, IsStartEffect};
 ghost use Rattle.automata_hybrid.specs.Slots.{supports, slot_of, slot_behind};
 ghost use Rattle.automata_hybrid.specs.Table.{Leads, Has, HasItsMatchTag, KeepsStartTags, TagsNewStates};
 ghost use Rattle.automata_hybrid.specs.Bounds.{IsCacheError, IsKnownStart, IsStarted, KeepsStarts, GivesUp};
-ghost use Rattle.automata_hybrid.specs.Growing.{IsGrown, Keeps, ClearedNothing, HasRoom};
-ghost use Rattle.automata_hybrid.specs.Caches.{IsCacheOf, counted, HasRow};
-ghost use Rattle.automata_hybrid.specs.Ids.{dead_id};
+ghost use Rattle.automata_hybrid.specs.Growing.{IsGrown};
+ghost use Rattle.automata_hybrid.specs.Caches.{IsCacheOf, counted};
 
 use crate::dfa::DFA;
 use crate::dfa::cache::{Cache, Found};
@@ -45,12 +43,16 @@ impl Cache {
         ensures added { TagsNewStates self.old.store.table self.new.store.table dfa.now.specialized }
         ensures found { OnOk result (IsKnownStart self.new.store slot) }
         ensures written { IfOk result (λ n. slice_index self.new.store.starts slot ≡ n) }
-        ensures effect { (IsKnownStart self.old.store slot → ⊥) → IfOk result (λ n. IsStarted self.old.store slot (record { state = start_state_of dfa.now.nfa mode prev; started = dfa.now.specialized }) self.new.store n) }
-        ensures gives_up { IfErr result (λ e. IsCacheError e → GivesUp self.old.store (start_state_of dfa.now.nfa mode prev)) }
+        ensures effect { (IsKnownStart self.old.store slot → ⊥) → IfOk result (λ n. IsStarted self.old.store slot
+            (record { state = start_state_of dfa.now.nfa mode prev; started = dfa.now.specialized }) self.new.store n) }
+        ensures gives_up { IfErr result (λ e. IsCacheError e
+            → GivesUp self.old.store (start_state_of dfa.now.nfa mode prev)) }
         ensures err { OnErr result (self.new ≡ counted self.old) }
-        ensures only { (p : Powerset) → Has self.new.store.table p → Has self.old.store.table p ⊎ (p ≡ start_state_of dfa.now.nfa mode prev) }
+        ensures only { (p : Powerset) → Has self.new.store.table p → Has self.old.store.table p
+            ⊎ (p ≡ start_state_of dfa.now.nfa mode prev) }
         ensures computed { (IsKnownStart self.old.store slot → ⊥) → self.new.count ≡ self.old.count + 1 }
-        ensures refused { (IsKnownStart self.old.store slot → ⊥) → GivesUp self.old.store (start_state_of dfa.now.nfa mode prev) → OnOk result ⊥ }
+        ensures refused { (IsKnownStart self.old.store slot → ⊥)
+            → GivesUp self.old.store (start_state_of dfa.now.nfa mode prev) → OnOk result ⊥ }
         ensures grown { IsGrown self.old self.new }
     {
         self.see_cells();
@@ -82,10 +84,13 @@ impl Cache {
         ensures starts { OnOk result (KeepsStarts self.old.store.starts self.new.store.starts) }
         ensures found { OnOk result (IsKnownStart self.new.store slot) }
         ensures written { IfOk result (λ n. slice_index self.new.store.starts slot ≡ n) }
-        ensures effect { IfOk result (λ n. IsStarted self.old.store slot (record { state = start_state_of dfa.now.nfa mode prev; started = dfa.now.specialized }) self.new.store n) }
-        ensures only { OnOk result ((p : Powerset) → Has self.new.store.table p → Has self.old.store.table p ⊎ (p ≡ start_state_of dfa.now.nfa mode prev)) }
+        ensures effect { IfOk result (λ n. IsStarted self.old.store slot
+            (record { state = start_state_of dfa.now.nfa mode prev; started = dfa.now.specialized }) self.new.store n) }
+        ensures only { OnOk result ((p : Powerset) → Has self.new.store.table p → Has self.old.store.table p
+            ⊎ (p ≡ start_state_of dfa.now.nfa mode prev)) }
         ensures cheap { OnOk result (cost (start_state_of dfa.now.nfa mode prev) ≤ greatest dfa.now) }
-        ensures gives_up { IfErr result (λ e. IsCacheError e → GivesUp self.old.store (start_state_of dfa.now.nfa mode prev)) }
+        ensures gives_up { IfErr result (λ e. IsCacheError e
+            → GivesUp self.old.store (start_state_of dfa.now.nfa mode prev)) }
         ensures err { OnErr result (self.new ≡ counted self.old) }
     {
         let key = self.determinise_start(dfa, mode, prev)?;
@@ -140,10 +145,13 @@ impl DFA {
     /// The start slot of a mode. Past the last pattern there is none.
     fn mode_slot(&self, mode: Anchored, prev: Option<u8>) -> Result<Option<usize>, StartError>
         ensures within { IfOk result (λ o. IfSome o (λ slot. slot < self.now.slots)) }
-        ensures same { IfOk result (λ o. IfSome o (λ slot. start_state_of self.now.nfa mode prev ≡ start_of self.now slot)) }
+        ensures same { IfOk result (λ o. IfSome o
+            (λ slot. start_state_of self.now.nfa mode prev ≡ start_of self.now slot)) }
         ensures past { IfOk result (λ o. IfNone o (start_state_of self.now.nfa mode prev ≡ dead)) }
-        ensures slot { IfOk result (λ o. IfSome o (λ slot. slot ≡ slot_of mode (behind_of self.now.nfa.flags.line_terminator prev))) }
-        ensures behind { IfOk result (λ o. IfNone o (self.now.slots ≤ slot_of mode (behind_of self.now.nfa.flags.line_terminator prev))) }
+        ensures slot { IfOk result (λ o. IfSome o
+            (λ slot. slot ≡ slot_of mode (behind_of self.now.nfa.flags.line_terminator prev))) }
+        ensures behind { IfOk result
+            (λ o. IfNone o (self.now.slots ≤ slot_of mode (behind_of self.now.nfa.flags.line_terminator prev))) }
         ensures refused { (result ≡ Err (StartError.UnsupportedAnchored mode)) ↔ (supports self.now mode ≡ false) }
         ensures only { IfErr result (λ e. e ≡ StartError.UnsupportedAnchored mode) }
     {
@@ -195,8 +203,9 @@ impl DFA {
         }
     }
 
-    /// The start state of a mode behind a byte. Refused where that is a quit byte, where the mode isn't supported, where
-    /// the state finds no room and the settings allow no clear, and where memory is out.
+    /// The start state of a mode behind a byte. Refused where that is a quit byte, where the mode isn't supported,
+    /// where the state finds no room and the settings allow no clear, and where memory is out. A quit byte behind is
+    /// told first, and a mode that isn't supported then.
     pub fn start_state(
         &self,
         cache: &mut Cache,
@@ -204,43 +213,11 @@ impl DFA {
     ) -> Result<LazyStateID, StartError>
         requires { IsCacheOf cache.old self.now }
         ensures of { IsCacheOf cache.new self.now }
-        ensures row { IfOk result (HasRow cache.new.store.table) }
-        ensures counted { cache.new.count ≤ cache.old.count + 1 }
-
-        // A quit byte behind is told first, and a mode that isn't supported then.
-        ensures quit { (byte : ℕ) → quit_behind self.now config.now.look_behind ≡ Some byte → result ≡ Err (StartError.Quit byte) }
-        ensures unsupported { quit_behind self.now config.now.look_behind ≡ None → supports self.now config.now.anchored ≡ false → result ≡ Err (StartError.UnsupportedAnchored config.now.anchored) }
-        ensures errors { IfErr result (IsStartRefusal self.now cache.old.store config.now.anchored config.now.look_behind) }
-        ensures refused { OnErr result ((cache.new ≡ cache.old) ⊎ (cache.new ≡ counted cache.old)) }
-        ensures barred { (MayStart self.now config.now.anchored config.now.look_behind → ⊥) → cache.new ≡ cache.old }
-
-        ensures named { IfOk result (λ n. Leads cache.new.store.table n (start_state_of self.now.nfa config.now.anchored config.now.look_behind)) }
-        ensures tag { IfOk result (HasItsMatchTag cache.new.store.table) }
-        ensures starts { KeepsStarts cache.old.store.starts cache.new.store.starts }
-
-        // A state that was there keeps its start tag or its lack of one, through a clear too. One that a start adds
-        // has the tag exactly if the settings specialize start states.
-        ensures start_tags { KeepsStartTags cache.old.store.table cache.new.store.table }
-        ensures added { TagsNewStates cache.old.store.table cache.new.store.table self.now.specialized }
-
-        // A known start takes no memory, and changes nothing.
-        ensures known { KnowsStart self.now cache.old.store config.now.anchored config.now.look_behind → result ≡ Ok (known_start self.now cache.old.store config.now.anchored config.now.look_behind) }
-        ensures unchanged { KnowsStart self.now cache.old.store config.now.anchored config.now.look_behind → cache.new ≡ cache.old }
-
-        // What isn't known is determinised once, and this is all that it does to the cache.
-        ensures computed { MayStart self.now config.now.anchored config.now.look_behind → slot_behind self.now config.now.anchored config.now.look_behind < self.now.slots → (KnowsStart self.now cache.old.store config.now.anchored config.now.look_behind → ⊥) → cache.new.count ≡ cache.old.count + 1 }
-        ensures effect { slot_behind self.now config.now.anchored config.now.look_behind < self.now.slots → (KnowsStart self.now cache.old.store config.now.anchored config.now.look_behind → ⊥) → IfOk result (λ n. IsStarted cache.old.store (slot_behind self.now config.now.anchored config.now.look_behind) (record { state = start_state_of self.now.nfa config.now.anchored config.now.look_behind; started = self.now.specialized }) cache.new.store n) }
-        ensures full { (KnowsStart self.now cache.old.store config.now.anchored config.now.look_behind → ⊥) → GivesUp cache.old.store (start_state_of self.now.nfa config.now.anchored config.now.look_behind) → OnOk result ⊥ }
-        ensures only { (p : Powerset) → Has cache.new.store.table p → Has cache.old.store.table p ⊎ (p ≡ start_state_of self.now.nfa config.now.anchored config.now.look_behind) }
-
-        // Past the last pattern the start is dead, and nothing changes.
-        ensures past { MayStart self.now config.now.anchored config.now.look_behind → self.now.slots ≤ slot_behind self.now config.now.anchored config.now.look_behind → result ≡ Ok (dead_id self.now.stride) }
-        ensures past_unchanged { MayStart self.now config.now.anchored config.now.look_behind → self.now.slots ≤ slot_behind self.now config.now.anchored config.now.look_behind → cache.new ≡ cache.old }
-
-        // Where the call clears nothing, nothing is lost. The start is known from then on, also where it cleared.
-        ensures grown { IsGrown cache.old cache.new }
-        ensures learned { slot_behind self.now config.now.anchored config.now.look_behind < self.now.slots → OnOk result (KnowsStart self.now cache.new.store config.now.anchored config.now.look_behind) }
-        ensures written { slot_behind self.now config.now.anchored config.now.look_behind < self.now.slots → IfOk result (λ n. known_start self.now cache.new.store config.now.anchored config.now.look_behind ≡ n) }
+        ensures answer { IfOk result
+            (IsStartAnswer self.now config.now.anchored config.now.look_behind cache.old cache.new) }
+        ensures refusal { IfErr result
+            (IsStartRefused self.now config.now.anchored config.now.look_behind cache.old cache.new) }
+        ensures effect { IsStartEffect self.now config.now.anchored config.now.look_behind cache.old cache.new }
     {
         if let Some(byte) = self.quits_behind(config.get_look_behind()) {
             return Err(StartError::Quit { byte });
@@ -249,17 +226,16 @@ impl DFA {
         cache.see_ids();
         match self.mode_slot(config.get_anchored(), config.get_look_behind())? {
             None => Ok(cache.dead()),
-            Some(slot) => {
-                let mode = config.get_anchored();
-                let prev = config.get_look_behind();
-                let id = self.start_at(cache, slot, mode, prev)?;
-                cache.see_slots();
-                Ok(id)
-            }
+            Some(slot) => self.start_at(
+                cache,
+                slot,
+                config.get_anchored(),
+                config.get_look_behind(),
+            ),
         }
     }
 
-    /// The start state of a slot.
+    /// The start state of a mode's slot.
     fn start_at(
         &self,
         cache: &mut Cache,
@@ -268,37 +244,27 @@ impl DFA {
         prev: Option<u8>,
     ) -> Result<LazyStateID, StartError>
         requires of { IsCacheOf cache.old self.now }
+        requires may { MayStart self.now mode prev }
         requires slot { slot < self.now.slots }
+        requires at { slot ≡ slot_behind self.now mode prev }
         requires same { start_state_of self.now.nfa mode prev ≡ start_of self.now slot }
         ensures of { IsCacheOf cache.new self.now }
-        ensures row { IfOk result (HasRow cache.new.store.table) }
-        ensures counted { cache.new.count ≤ cache.old.count + 1 }
-        ensures named { IfOk result (λ n. Leads cache.new.store.table n (start_state_of self.now.nfa mode prev)) }
-        ensures tag { IfOk result (HasItsMatchTag cache.new.store.table) }
-        ensures starts { KeepsStarts cache.old.store.starts cache.new.store.starts }
-        ensures start_tags { KeepsStartTags cache.old.store.table cache.new.store.table }
-        ensures added { TagsNewStates cache.old.store.table cache.new.store.table self.now.specialized }
-        ensures known { IsKnownStart cache.old.store slot → result ≡ Ok (slice_index cache.old.store.starts slot) }
-        ensures unchanged { IsKnownStart cache.old.store slot → cache.new ≡ cache.old }
-        ensures errors { MayStart self.now mode prev → IfErr result (IsStartRefusal self.now cache.old.store mode prev) }
-        ensures computed { (IsKnownStart cache.old.store slot → ⊥) → cache.new.count ≡ cache.old.count + 1 }
-        ensures effect { (IsKnownStart cache.old.store slot → ⊥) → IfOk result (λ n. IsStarted cache.old.store slot (record { state = start_state_of self.now.nfa mode prev; started = self.now.specialized }) cache.new.store n) }
-        ensures full { (IsKnownStart cache.old.store slot → ⊥) → GivesUp cache.old.store (start_state_of self.now.nfa mode prev) → OnOk result ⊥ }
-        ensures only { (p : Powerset) → Has cache.new.store.table p → Has cache.old.store.table p ⊎ (p ≡ start_state_of self.now.nfa mode prev) }
-        ensures grown { IsGrown cache.old cache.new }
-        ensures found { OnOk result (IsKnownStart cache.new.store slot) }
-        ensures written { IfOk result (λ n. slice_index cache.new.store.starts slot ≡ n) }
-        ensures err { OnErr result (cache.new ≡ counted cache.old) }
+        ensures answer { IfOk result (IsStartAnswer self.now mode prev cache.old cache.new) }
+        ensures refusal { IfErr result (IsStartRefused self.now mode prev cache.old cache.new) }
+        ensures effect { IsStartEffect self.now mode prev cache.old cache.new }
     {
         cache.see_slots();
         match cache.start(self, slot, mode, prev) {
-            Ok(id) => Ok(id),
+            Ok(id) => {
+                cache.see_slots();
+                Ok(id)
+            }
             Err(error) => Err(start_refusal(error)),
         }
     }
 
-    /// The start state of a forward search. A quit byte is told at its own offset, before the span, and giving up at the
-    /// span's start.
+    /// The start state of a forward search. The byte behind is the one before the span. A quit byte is told at its own
+    /// offset, and giving up at the span's start.
     pub fn start_state_forward(
         &self,
         cache: &mut Cache,
@@ -306,43 +272,14 @@ impl DFA {
     ) -> Result<LazyStateID, SearchError>
         requires { IsCacheOf cache.old self.now }
         ensures of { IsCacheOf cache.new self.now }
-        ensures row { IfOk result (HasRow cache.new.store.table) }
-        ensures counted { cache.new.count ≤ cache.old.count + 1 }
-
-        // The byte behind is the one before the span.
-        ensures quit { (byte : ℕ) → quit_behind self.now (byte_before input.now.haystack input.now.start) ≡ Some byte → result ≡ Err (SearchError.Match (QuitAt byte (input.now.start - 1))) }
-        ensures unsupported { quit_behind self.now (byte_before input.now.haystack input.now.start) ≡ None → supports self.now input.now.anchored ≡ false → result ≡ Err (SearchError.Match (UnsupportedMode input.now.anchored)) }
-        ensures errors { IfErr result (IsStartRefusalAt self.now cache.old.store input.now.anchored (byte_before input.now.haystack input.now.start) (input.now.start - 1) input.now.start) }
-        ensures refused { OnErr result ((cache.new ≡ cache.old) ⊎ (cache.new ≡ counted cache.old)) }
-        ensures barred { (MayStart self.now input.now.anchored (byte_before input.now.haystack input.now.start) → ⊥) → cache.new ≡ cache.old }
-
-        ensures named { IfOk result (λ n. Leads cache.new.store.table n (start_state_of self.now.nfa input.now.anchored (byte_before input.now.haystack input.now.start))) }
-        ensures tag { IfOk result (HasItsMatchTag cache.new.store.table) }
-        ensures starts { KeepsStarts cache.old.store.starts cache.new.store.starts }
-
-        // A state that was there keeps its start tag or its lack of one, through a clear too. One that a start adds
-        // has the tag exactly if the settings specialize start states.
-        ensures start_tags { KeepsStartTags cache.old.store.table cache.new.store.table }
-        ensures added { TagsNewStates cache.old.store.table cache.new.store.table self.now.specialized }
-
-        // A known start takes no memory, and changes nothing.
-        ensures known { KnowsStart self.now cache.old.store input.now.anchored (byte_before input.now.haystack input.now.start) → result ≡ Ok (known_start self.now cache.old.store input.now.anchored (byte_before input.now.haystack input.now.start)) }
-        ensures unchanged { KnowsStart self.now cache.old.store input.now.anchored (byte_before input.now.haystack input.now.start) → cache.new ≡ cache.old }
-
-        // What isn't known is determinised once, and this is all that it does to the cache.
-        ensures computed { MayStart self.now input.now.anchored (byte_before input.now.haystack input.now.start) → slot_behind self.now input.now.anchored (byte_before input.now.haystack input.now.start) < self.now.slots → (KnowsStart self.now cache.old.store input.now.anchored (byte_before input.now.haystack input.now.start) → ⊥) → cache.new.count ≡ cache.old.count + 1 }
-        ensures effect { slot_behind self.now input.now.anchored (byte_before input.now.haystack input.now.start) < self.now.slots → (KnowsStart self.now cache.old.store input.now.anchored (byte_before input.now.haystack input.now.start) → ⊥) → IfOk result (λ n. IsStarted cache.old.store (slot_behind self.now input.now.anchored (byte_before input.now.haystack input.now.start)) (record { state = start_state_of self.now.nfa input.now.anchored (byte_before input.now.haystack input.now.start); started = self.now.specialized }) cache.new.store n) }
-        ensures full { (KnowsStart self.now cache.old.store input.now.anchored (byte_before input.now.haystack input.now.start) → ⊥) → GivesUp cache.old.store (start_state_of self.now.nfa input.now.anchored (byte_before input.now.haystack input.now.start)) → OnOk result ⊥ }
-        ensures only { (p : Powerset) → Has cache.new.store.table p → Has cache.old.store.table p ⊎ (p ≡ start_state_of self.now.nfa input.now.anchored (byte_before input.now.haystack input.now.start)) }
-
-        // Past the last pattern the start is dead, and nothing changes.
-        ensures past { MayStart self.now input.now.anchored (byte_before input.now.haystack input.now.start) → self.now.slots ≤ slot_behind self.now input.now.anchored (byte_before input.now.haystack input.now.start) → result ≡ Ok (dead_id self.now.stride) }
-        ensures past_unchanged { MayStart self.now input.now.anchored (byte_before input.now.haystack input.now.start) → self.now.slots ≤ slot_behind self.now input.now.anchored (byte_before input.now.haystack input.now.start) → cache.new ≡ cache.old }
-
-        // Where the call clears nothing, nothing is lost. The start is known from then on, also where it cleared.
-        ensures grown { IsGrown cache.old cache.new }
-        ensures learned { slot_behind self.now input.now.anchored (byte_before input.now.haystack input.now.start) < self.now.slots → OnOk result (KnowsStart self.now cache.new.store input.now.anchored (byte_before input.now.haystack input.now.start)) }
-        ensures written { slot_behind self.now input.now.anchored (byte_before input.now.haystack input.now.start) < self.now.slots → IfOk result (λ n. known_start self.now cache.new.store input.now.anchored (byte_before input.now.haystack input.now.start) ≡ n) }
+        ensures answer { IfOk result
+            (IsStartAnswer self.now input.now.anchored (byte_before input.now.haystack input.now.start)
+            cache.old cache.new) }
+        ensures refusal { IfErr result
+            (IsStartRefusedAt self.now input.now.anchored (byte_before input.now.haystack input.now.start)
+            (input.now.start - 1) input.now.start cache.old cache.new) }
+        ensures effect { IsStartEffect self.now input.now.anchored
+            (byte_before input.now.haystack input.now.start) cache.old cache.new }
     {
         let config = start::Config::from_input_forward(input);
         match self.start_state(cache, &config) {
@@ -355,7 +292,8 @@ impl DFA {
         }
     }
 
-    /// The start state of a reverse search. A quit byte is told at its own offset, the span's end, and giving up there too.
+    /// The start state of a reverse search. The byte behind is the one at the span's end. A quit byte is told at its own
+    /// offset, the span's end, and giving up there too.
     pub fn start_state_reverse(
         &self,
         cache: &mut Cache,
@@ -363,43 +301,13 @@ impl DFA {
     ) -> Result<LazyStateID, SearchError>
         requires { IsCacheOf cache.old self.now }
         ensures of { IsCacheOf cache.new self.now }
-        ensures row { IfOk result (HasRow cache.new.store.table) }
-        ensures counted { cache.new.count ≤ cache.old.count + 1 }
-
-        // The byte behind is the one at the span's end.
-        ensures quit { (byte : ℕ) → quit_behind self.now (nth input.now.haystack input.now.end) ≡ Some byte → result ≡ Err (SearchError.Match (QuitAt byte input.now.end)) }
-        ensures unsupported { quit_behind self.now (nth input.now.haystack input.now.end) ≡ None → supports self.now input.now.anchored ≡ false → result ≡ Err (SearchError.Match (UnsupportedMode input.now.anchored)) }
-        ensures errors { IfErr result (IsStartRefusalAt self.now cache.old.store input.now.anchored (nth input.now.haystack input.now.end) input.now.end input.now.end) }
-        ensures refused { OnErr result ((cache.new ≡ cache.old) ⊎ (cache.new ≡ counted cache.old)) }
-        ensures barred { (MayStart self.now input.now.anchored (nth input.now.haystack input.now.end) → ⊥) → cache.new ≡ cache.old }
-
-        ensures named { IfOk result (λ n. Leads cache.new.store.table n (start_state_of self.now.nfa input.now.anchored (nth input.now.haystack input.now.end))) }
-        ensures tag { IfOk result (HasItsMatchTag cache.new.store.table) }
-        ensures starts { KeepsStarts cache.old.store.starts cache.new.store.starts }
-
-        // A state that was there keeps its start tag or its lack of one, through a clear too. One that a start adds
-        // has the tag exactly if the settings specialize start states.
-        ensures start_tags { KeepsStartTags cache.old.store.table cache.new.store.table }
-        ensures added { TagsNewStates cache.old.store.table cache.new.store.table self.now.specialized }
-
-        // A known start takes no memory, and changes nothing.
-        ensures known { KnowsStart self.now cache.old.store input.now.anchored (nth input.now.haystack input.now.end) → result ≡ Ok (known_start self.now cache.old.store input.now.anchored (nth input.now.haystack input.now.end)) }
-        ensures unchanged { KnowsStart self.now cache.old.store input.now.anchored (nth input.now.haystack input.now.end) → cache.new ≡ cache.old }
-
-        // What isn't known is determinised once, and this is all that it does to the cache.
-        ensures computed { MayStart self.now input.now.anchored (nth input.now.haystack input.now.end) → slot_behind self.now input.now.anchored (nth input.now.haystack input.now.end) < self.now.slots → (KnowsStart self.now cache.old.store input.now.anchored (nth input.now.haystack input.now.end) → ⊥) → cache.new.count ≡ cache.old.count + 1 }
-        ensures effect { slot_behind self.now input.now.anchored (nth input.now.haystack input.now.end) < self.now.slots → (KnowsStart self.now cache.old.store input.now.anchored (nth input.now.haystack input.now.end) → ⊥) → IfOk result (λ n. IsStarted cache.old.store (slot_behind self.now input.now.anchored (nth input.now.haystack input.now.end)) (record { state = start_state_of self.now.nfa input.now.anchored (nth input.now.haystack input.now.end); started = self.now.specialized }) cache.new.store n) }
-        ensures full { (KnowsStart self.now cache.old.store input.now.anchored (nth input.now.haystack input.now.end) → ⊥) → GivesUp cache.old.store (start_state_of self.now.nfa input.now.anchored (nth input.now.haystack input.now.end)) → OnOk result ⊥ }
-        ensures only { (p : Powerset) → Has cache.new.store.table p → Has cache.old.store.table p ⊎ (p ≡ start_state_of self.now.nfa input.now.anchored (nth input.now.haystack input.now.end)) }
-
-        // Past the last pattern the start is dead, and nothing changes.
-        ensures past { MayStart self.now input.now.anchored (nth input.now.haystack input.now.end) → self.now.slots ≤ slot_behind self.now input.now.anchored (nth input.now.haystack input.now.end) → result ≡ Ok (dead_id self.now.stride) }
-        ensures past_unchanged { MayStart self.now input.now.anchored (nth input.now.haystack input.now.end) → self.now.slots ≤ slot_behind self.now input.now.anchored (nth input.now.haystack input.now.end) → cache.new ≡ cache.old }
-
-        // Where the call clears nothing, nothing is lost. The start is known from then on, also where it cleared.
-        ensures grown { IsGrown cache.old cache.new }
-        ensures learned { slot_behind self.now input.now.anchored (nth input.now.haystack input.now.end) < self.now.slots → OnOk result (KnowsStart self.now cache.new.store input.now.anchored (nth input.now.haystack input.now.end)) }
-        ensures written { slot_behind self.now input.now.anchored (nth input.now.haystack input.now.end) < self.now.slots → IfOk result (λ n. known_start self.now cache.new.store input.now.anchored (nth input.now.haystack input.now.end) ≡ n) }
+        ensures answer { IfOk result
+            (IsStartAnswer self.now input.now.anchored (nth input.now.haystack input.now.end) cache.old cache.new) }
+        ensures refusal { IfErr result
+            (IsStartRefusedAt self.now input.now.anchored (nth input.now.haystack input.now.end)
+            input.now.end input.now.end cache.old cache.new) }
+        ensures effect { IsStartEffect self.now input.now.anchored (nth input.now.haystack input.now.end)
+            cache.old cache.new }
     {
         let config = start::Config::from_input_reverse(input);
         match self.start_state(cache, &config) {

@@ -1,14 +1,15 @@
-ghost use Rattle.std.specs.Prelude.{ℕ, ◌≡◌, ◌+◌, ◌<◌, ◌≤◌, None, Some, IfOk, IfErr, IsBitSet, OnOk, OnErr, length, slice_index, Ok, true, false, ◌⊎◌};
+ghost use Rattle.std.specs.Prelude.{◌≡◌, ◌+◌, ◌<◌, ◌≤◌, None, Some, IfOk, IfErr, IsBitSet, OnOk, OnErr, length, slice_index, Ok, true, false, ◌⊎◌};
 ghost use Rattle.automata_base.specs.Powerset.{Powerset, cost};
 ghost use Rattle.automata_base.specs.Steps.{successor};
 ghost use Rattle.automata_hybrid.specs.Owned.{IsOwn};
 ghost use Rattle.automata_hybrid.specs.Machine.{next_of, template_of, greatest};
 ghost use Rattle.automata_hybrid.specs.Table.{Names, IsValid, Leads, Has, HasItsMatchTag, KeepsStartTags, TagsNewStates};
 ghost use Rattle.automata_hybrid.specs.Bounds.{GivesUp, IsCacheError, IsKnownTransition, cell_of, IsNext, KeepsStarts, IsComputed};
-ghost use Rattle.automata_hybrid.specs.Growing.{IsGrown, Keeps, ClearedNothing, HasRoom};
+ghost use Rattle.automata_hybrid.specs.Growing.{IsGrown, ClearedNothing};
 ghost use Rattle.automata_hybrid.specs.Caches.{IsCacheOf, HasRow, counted};
-ghost use Rattle.automata_hybrid.specs.Ids.{quit_id, unknown_id, fixed_from, offset_limit};
-ghost use Rattle.automata_base.specs.Classes.{class_in, eoi_class, is_quit};
+ghost use Rattle.automata_hybrid.specs.Ids.{quit_id, unknown_id, offset_limit};
+ghost use Rattle.automata_base.specs.Classes.{class_in, is_quit};
+ghost use Rattle.automata_hybrid.specs.Stepping.{IsStepAnswer, IsStepRefused, IsStepEffect};
 
 use crate::dfa::DFA;
 use crate::dfa::cache::{Cache, Found};
@@ -28,24 +29,35 @@ impl Cache {
         requires of { IsCacheOf self.old dfa.now }
         requires valid { IsValid self.old.store.table id }
         requires class { class < dfa.now.stride }
-        requires alike { (q : Powerset) → IsOwn dfa.now.nfa q → successor dfa.now.nfa dfa.now.kind q unit ≡ next_of dfa.now q class }
+        requires alike { (q : Powerset) → IsOwn dfa.now.nfa q
+            → successor dfa.now.nfa dfa.now.kind q unit ≡ next_of dfa.now q class }
         ensures of { IsCacheOf self.new dfa.now }
         ensures known { IsKnownTransition self.old.store id class → result ≡ Ok (cell_of self.old.store id class) }
         ensures unchanged { IsKnownTransition self.old.store id class → self.new ≡ self.old }
-        ensures quit { slice_index (template_of dfa.now) class ≡ quit_id dfa.now.stride → (result ≡ Ok (quit_id dfa.now.stride)) × (self.new ≡ self.old) }
-        ensures named { IfOk result (λ n. (q : Powerset) → Names self.old.store.table id q → IsNext self.new.store.table q class n) }
+        ensures quit { slice_index (template_of dfa.now) class ≡ quit_id dfa.now.stride
+            → (result ≡ Ok (quit_id dfa.now.stride)) × (self.new ≡ self.old) }
+        ensures named { IfOk result (λ n. (q : Powerset) → Names self.old.store.table id q
+            → IsNext self.new.store.table q class n) }
         ensures tag { IfOk result (HasItsMatchTag self.new.store.table) }
-        ensures effect { (IsKnownTransition self.old.store id class → ⊥) → IfOk result (λ n. (q : Powerset) → Names self.old.store.table id q → IsComputed self.old.store id class q (successor dfa.now.nfa dfa.now.kind q unit) self.new.store n) }
+        ensures effect { (IsKnownTransition self.old.store id class → ⊥) → IfOk result (λ n. (q : Powerset)
+            → Names self.old.store.table id q
+            → IsComputed self.old.store id class q (successor dfa.now.nfa dfa.now.kind q unit) self.new.store n) }
         ensures counted { (IsKnownTransition self.old.store id class → ⊥) → self.new.count ≡ self.old.count + 1 }
         ensures starts { KeepsStarts self.old.store.starts self.new.store.starts }
         ensures start_tags { KeepsStartTags self.old.store.table self.new.store.table }
         ensures added { TagsNewStates self.old.store.table self.new.store.table false }
-        ensures gives_up { IfErr result (λ e. IsCacheError e → (q : Powerset) → Names self.old.store.table id q → GivesUp self.old.store (successor dfa.now.nfa dfa.now.kind q unit)) }
+        ensures gives_up { IfErr result (λ e. IsCacheError e → (q : Powerset) → Names self.old.store.table id q
+            → GivesUp self.old.store (successor dfa.now.nfa dfa.now.kind q unit)) }
         ensures err { OnErr result (self.new ≡ counted self.old) }
-        ensures learned { ClearedNothing self.old.store self.new.store → IfOk result (λ n. IsKnownTransition self.new.store id class) }
-        ensures written { ClearedNothing self.old.store self.new.store → IfOk result (λ n. cell_of self.new.store id class ≡ n) }
-        ensures only { (q : Powerset) → Names self.old.store.table id q → (p : Powerset) → Has self.new.store.table p → Has self.old.store.table p ⊎ (p ≡ successor dfa.now.nfa dfa.now.kind q unit) }
-        ensures refused { (IsKnownTransition self.old.store id class → ⊥) → (q : Powerset) → Names self.old.store.table id q → GivesUp self.old.store (successor dfa.now.nfa dfa.now.kind q unit) → OnOk result ⊥ }
+        ensures learned { ClearedNothing self.old.store self.new.store → IfOk result
+            (λ n. IsKnownTransition self.new.store id class) }
+        ensures written { ClearedNothing self.old.store self.new.store → IfOk result
+            (λ n. cell_of self.new.store id class ≡ n) }
+        ensures only { (q : Powerset) → Names self.old.store.table id q → (p : Powerset) → Has self.new.store.table p
+            → Has self.old.store.table p ⊎ (p ≡ successor dfa.now.nfa dfa.now.kind q unit) }
+        ensures refused { (IsKnownTransition self.old.store id class → ⊥) → (q : Powerset)
+            → Names self.old.store.table id q → GivesUp self.old.store (successor dfa.now.nfa dfa.now.kind q unit)
+            → OnOk result ⊥ }
         ensures grown { IsGrown self.old self.new }
     {
         self.see_cells();
@@ -72,15 +84,22 @@ impl Cache {
         requires valid { IsValid self.old.store.table id }
         requires class { class < dfa.now.stride }
         requires free { slice_index (template_of dfa.now) class ≡ unknown_id }
-        requires alike { (q : Powerset) → IsOwn dfa.now.nfa q → successor dfa.now.nfa dfa.now.kind q unit ≡ next_of dfa.now q class }
+        requires alike { (q : Powerset) → IsOwn dfa.now.nfa q
+            → successor dfa.now.nfa dfa.now.kind q unit ≡ next_of dfa.now q class }
         ensures of { IsCacheOf self.new dfa.now }
-        ensures named { IfOk result (λ n. (q : Powerset) → Names self.old.store.table id q → Leads self.new.store.table n (next_of dfa.now q class)) }
-        ensures effect { IfOk result (λ n. (q : Powerset) → Names self.old.store.table id q → IsComputed self.old.store id class q (successor dfa.now.nfa dfa.now.kind q unit) self.new.store n) }
-        ensures only { OnOk result ((q : Powerset) → Names self.old.store.table id q → (p : Powerset) → Has self.new.store.table p → Has self.old.store.table p ⊎ (p ≡ successor dfa.now.nfa dfa.now.kind q unit)) }
-        ensures cheap { OnOk result ((q : Powerset) → Names self.old.store.table id q → cost (successor dfa.now.nfa dfa.now.kind q unit) ≤ greatest dfa.now) }
+        ensures named { IfOk result (λ n. (q : Powerset) → Names self.old.store.table id q
+            → Leads self.new.store.table n (next_of dfa.now q class)) }
+        ensures effect { IfOk result (λ n. (q : Powerset) → Names self.old.store.table id q
+            → IsComputed self.old.store id class q (successor dfa.now.nfa dfa.now.kind q unit) self.new.store n) }
+        ensures only { OnOk result ((q : Powerset) → Names self.old.store.table id q → (p : Powerset)
+            → Has self.new.store.table p → Has self.old.store.table p
+            ⊎ (p ≡ successor dfa.now.nfa dfa.now.kind q unit)) }
+        ensures cheap { OnOk result ((q : Powerset) → Names self.old.store.table id q
+            → cost (successor dfa.now.nfa dfa.now.kind q unit) ≤ greatest dfa.now) }
         ensures counted { self.new.count ≡ self.old.count + 1 }
         ensures starts { OnOk result (KeepsStarts self.old.store.starts self.new.store.starts) }
-        ensures gives_up { IfErr result (λ e. IsCacheError e → (q : Powerset) → Names self.old.store.table id q → GivesUp self.old.store (successor dfa.now.nfa dfa.now.kind q unit)) }
+        ensures gives_up { IfErr result (λ e. IsCacheError e → (q : Powerset) → Names self.old.store.table id q
+            → GivesUp self.old.store (successor dfa.now.nfa dfa.now.kind q unit)) }
         ensures err { OnErr result (self.new ≡ counted self.old) }
     {
         let key = self.determinise(dfa, id, class, unit)?;
@@ -99,7 +118,9 @@ impl Cache {
 }
 
 impl DFA {
-    /// The state after a byte, by its ID. A known transition takes no memory.
+    /// The state after a byte, by its ID. Dead leads to dead, and quit to quit; a quit byte leads to quit. A known
+    /// transition takes no memory. Refused where the state finds no room and the settings allow no clear, and where
+    /// memory is out.
     pub fn next_state(
         &self,
         cache: &mut Cache,
@@ -109,41 +130,9 @@ impl DFA {
         requires of { IsCacheOf cache.old self.now }
         requires row { HasRow cache.old.store.table id }
         ensures of { IsCacheOf cache.new self.now }
-
-        // Dead leads to dead, and quit to quit.
-        ensures fixed { fixed_from ≤ id → result ≡ Ok id }
-        ensures fixed_unchanged { fixed_from ≤ id → cache.new ≡ cache.old }
-
-        // A quit byte leads to quit, and takes no memory.
-        ensures quit { id < fixed_from → is_quit self.now.quits byte ≡ true → result ≡ Ok (quit_id self.now.stride) }
-        ensures quit_unchanged { is_quit self.now.quits byte ≡ true → cache.new ≡ cache.old }
-
-        ensures named { is_quit self.now.quits byte ≡ false → IfOk result (λ n. (q : Powerset) → Names cache.old.store.table id q → Leads cache.new.store.table n (successor self.now.nfa self.now.kind q (Some byte))) }
-        ensures tag { IfOk result (HasItsMatchTag cache.new.store.table) }
-        ensures row { IfOk result (HasRow cache.new.store.table) }
-        ensures counted { cache.new.count ≤ cache.old.count + 1 }
-
-        ensures known { id < fixed_from → IsKnownTransition cache.old.store id (class_in self.now.classes byte) → result ≡ Ok (cell_of cache.old.store id (class_in self.now.classes byte)) }
-        ensures unchanged { IsKnownTransition cache.old.store id (class_in self.now.classes byte) → cache.new ≡ cache.old }
-
-        // What isn't known is determinised once, and this is all that it does to the cache.
-        ensures computed { id < fixed_from → (IsKnownTransition cache.old.store id (class_in self.now.classes byte) → ⊥) → cache.new.count ≡ cache.old.count + 1 }
-        ensures effect { id < fixed_from → (IsKnownTransition cache.old.store id (class_in self.now.classes byte) → ⊥) → IfOk result (λ n. (q : Powerset) → Names cache.old.store.table id q → IsComputed cache.old.store id (class_in self.now.classes byte) q (successor self.now.nfa self.now.kind q (Some byte)) cache.new.store n) }
-        ensures refused { (q : Powerset) → Names cache.old.store.table id q → (IsKnownTransition cache.old.store id (class_in self.now.classes byte) → ⊥) → GivesUp cache.old.store (successor self.now.nfa self.now.kind q (Some byte)) → OnOk result ⊥ }
-        ensures only { (q : Powerset) → Names cache.old.store.table id q → (p : Powerset) → Has cache.new.store.table p → Has cache.old.store.table p ⊎ (p ≡ successor self.now.nfa self.now.kind q (Some byte)) }
-        ensures starts { KeepsStarts cache.old.store.starts cache.new.store.starts }
-
-        // A state that was there keeps its start tag or its lack of one, through a clear too. One that a step adds has none.
-        ensures start_tags { KeepsStartTags cache.old.store.table cache.new.store.table }
-        ensures added { TagsNewStates cache.old.store.table cache.new.store.table false }
-
-        ensures gives_up { IfErr result (λ e. IsCacheError e → (q : Powerset) → Names cache.old.store.table id q → GivesUp cache.old.store (successor self.now.nfa self.now.kind q (Some byte))) }
-        ensures err { OnErr result (cache.new ≡ counted cache.old) }
-
-        // Where the call clears nothing, nothing is lost, and the transition is known from then on.
-        ensures grown { IsGrown cache.old cache.new }
-        ensures learned { id < fixed_from → ClearedNothing cache.old.store cache.new.store → IfOk result (λ n. IsKnownTransition cache.new.store id (class_in self.now.classes byte)) }
-        ensures written { id < fixed_from → ClearedNothing cache.old.store cache.new.store → IfOk result (λ n. cell_of cache.new.store id (class_in self.now.classes byte) ≡ n) }
+        ensures answer { IfOk result (IsStepAnswer self.now id (Some byte) cache.old cache.new) }
+        ensures refusal { IfErr result (IsStepRefused self.now id (Some byte) cache.old cache.new) }
+        ensures effect { IsStepEffect self.now id (Some byte) cache.old cache.new }
     {
         cache.see_ids();
         if id.is_fixed() {
@@ -155,7 +144,8 @@ impl DFA {
         Ok(next)
     }
 
-    /// The state after the haystack's end, by its ID. A known transition takes no memory.
+    /// The state after the haystack's end, by its ID. Dead leads to dead, and quit to quit. A known transition takes no
+    /// memory. Refused where the state finds no room and the settings allow no clear, and where memory is out.
     pub fn next_eoi_state(
         &self,
         cache: &mut Cache,
@@ -164,37 +154,9 @@ impl DFA {
         requires of { IsCacheOf cache.old self.now }
         requires row { HasRow cache.old.store.table id }
         ensures of { IsCacheOf cache.new self.now }
-
-        // Dead leads to dead, and quit to quit.
-        ensures fixed { fixed_from ≤ id → result ≡ Ok id }
-        ensures fixed_unchanged { fixed_from ≤ id → cache.new ≡ cache.old }
-
-        ensures named { IfOk result (λ n. (q : Powerset) → Names cache.old.store.table id q → Leads cache.new.store.table n (successor self.now.nfa self.now.kind q None)) }
-        ensures tag { IfOk result (HasItsMatchTag cache.new.store.table) }
-        ensures row { IfOk result (HasRow cache.new.store.table) }
-        ensures counted { cache.new.count ≤ cache.old.count + 1 }
-
-        ensures known { id < fixed_from → IsKnownTransition cache.old.store id (eoi_class self.now.classes) → result ≡ Ok (cell_of cache.old.store id (eoi_class self.now.classes)) }
-        ensures unchanged { IsKnownTransition cache.old.store id (eoi_class self.now.classes) → cache.new ≡ cache.old }
-
-        // What isn't known is determinised once, and this is all that it does to the cache.
-        ensures computed { id < fixed_from → (IsKnownTransition cache.old.store id (eoi_class self.now.classes) → ⊥) → cache.new.count ≡ cache.old.count + 1 }
-        ensures effect { id < fixed_from → (IsKnownTransition cache.old.store id (eoi_class self.now.classes) → ⊥) → IfOk result (λ n. (q : Powerset) → Names cache.old.store.table id q → IsComputed cache.old.store id (eoi_class self.now.classes) q (successor self.now.nfa self.now.kind q None) cache.new.store n) }
-        ensures refused { (q : Powerset) → Names cache.old.store.table id q → (IsKnownTransition cache.old.store id (eoi_class self.now.classes) → ⊥) → GivesUp cache.old.store (successor self.now.nfa self.now.kind q None) → OnOk result ⊥ }
-        ensures only { (q : Powerset) → Names cache.old.store.table id q → (p : Powerset) → Has cache.new.store.table p → Has cache.old.store.table p ⊎ (p ≡ successor self.now.nfa self.now.kind q None) }
-        ensures starts { KeepsStarts cache.old.store.starts cache.new.store.starts }
-
-        // A state that was there keeps its start tag or its lack of one, through a clear too. One that a step adds has none.
-        ensures start_tags { KeepsStartTags cache.old.store.table cache.new.store.table }
-        ensures added { TagsNewStates cache.old.store.table cache.new.store.table false }
-
-        ensures gives_up { IfErr result (λ e. IsCacheError e → (q : Powerset) → Names cache.old.store.table id q → GivesUp cache.old.store (successor self.now.nfa self.now.kind q None)) }
-        ensures err { OnErr result (cache.new ≡ counted cache.old) }
-
-        // Where the call clears nothing, nothing is lost, and the transition is known from then on.
-        ensures grown { IsGrown cache.old cache.new }
-        ensures learned { id < fixed_from → ClearedNothing cache.old.store cache.new.store → IfOk result (λ n. IsKnownTransition cache.new.store id (eoi_class self.now.classes)) }
-        ensures written { id < fixed_from → ClearedNothing cache.old.store cache.new.store → IfOk result (λ n. cell_of cache.new.store id (eoi_class self.now.classes) ≡ n) }
+        ensures answer { IfOk result (IsStepAnswer self.now id None cache.old cache.new) }
+        ensures refusal { IfErr result (IsStepRefused self.now id None cache.old cache.new) }
+        ensures effect { IsStepEffect self.now id None cache.old cache.new }
     {
         cache.see_ids();
         if id.is_fixed() {
@@ -214,7 +176,9 @@ impl DFA {
         requires untagged { id < offset_limit }
         ensures value { result ≡ cell_of cache.now.store id (class_in self.now.classes byte) }
         ensures quit { is_quit self.now.quits byte ≡ true → result ≡ quit_id self.now.stride }
-        ensures named { is_quit self.now.quits byte ≡ false → result < unknown_id → (q : Powerset) → Names cache.now.store.table id q → Leads cache.now.store.table result (successor self.now.nfa self.now.kind q (Some byte)) }
+        ensures named { is_quit self.now.quits byte ≡ false → result < unknown_id → (q : Powerset)
+            → Names cache.now.store.table id q
+            → Leads cache.now.store.table result (successor self.now.nfa self.now.kind q (Some byte)) }
         ensures tag { HasItsMatchTag cache.now.store.table result }
         ensures row { result < unknown_id → HasRow cache.now.store.table result }
     {

@@ -1,29 +1,23 @@
-ghost use Rattle.std.specs.Prelude.{ℕ, ◌≡◌, ◌+◌, ◌-◌, ◌^◌, ◌<◌, ◌≤◌, ◌⊎◌, IfOk, IfErr, IfSome, IsBitSet, IsTrue, OnOk, Option, None, Err, Ok, true, false, length, option_map};
-ghost use Rattle.automata_base.specs.Answers.{IsAnswer};
-ghost use Rattle.automata_base.specs.declared.util.search.MatchKind.TheVariants.{All as KindAll};
-ghost use Rattle.automata_base.specs.Engines.{engine_of};
-ghost use Rattle.automata_base.specs.Told.{IsFarthestAnswer, IsNearestAnswer};
+ghost use Rattle.std.specs.Prelude.{◌≡◌, ◌+◌, ◌-◌, ◌<◌, ◌≤◌, ◌⊎◌, IfOk, IfErr, IfSome, IsBitSet, IsTrue, OnOk, Option, None, Err, Ok, true, false, option_map};
 ghost use Rattle.automata_base.specs.Matches as matches;
-ghost use Rattle.automata_base.specs.Nodes.{nfa_of};
-ghost use Rattle.automata_base.specs.Paths.{IsLookAcyclic};
 ghost use Rattle.automata_base.specs.Tapes.{Forward, byte_before};
 ghost use Rattle.automata_base.specs.declared.util.search.MatchErrorKind.TheVariants.{UnsupportedAnchored as UnsupportedMode};
 ghost use Rattle.automata_hybrid.specs.Caches.{IsCacheOf};
 ghost use Rattle.automata_hybrid.specs.Costs.{IsCostOfSearch, IsCostUpto};
-ghost use Rattle.automata_hybrid.specs.Growing.{IsGrown, IsStill, ClearedNothing};
+ghost use Rattle.automata_hybrid.specs.Growing.{IsGrown, ClearedNothing};
 ghost use Rattle.automata_hybrid.specs.Ids.{fixed_from, offset_limit};
 ghost use Rattle.automata_hybrid.specs.Knowing.{IsOfInput, KnowsItsStart, KnowsPass, Knows};
+ghost use Rattle.automata_hybrid.specs.Owing.{IsBased, IsHalf, IsSearchEffect};
 ghost use Rattle.automata_hybrid.specs.Passing.{HasLearned, HasLearnedAll, IsAt, IsFollowed, IsLed, found_over};
 ghost use Rattle.automata_base.specs.Paths.{next};
 ghost use Rattle.automata_base.specs.Powerset.{Powerset, dead};
 ghost use Rattle.automata_hybrid.specs.Progressing.{started};
 ghost use Rattle.automata_hybrid.specs.Searched.{EndsAtLast, HasEnded, IsEndedBy, IsLeft, IsLeftAt, IsLeftOpen};
 ghost use Rattle.automata_hybrid.specs.declared.dfa.progress.Searched.{Searched};
-ghost use Rattle.automata_hybrid.specs.Searches.{given_up_offset, IsFound, IsPassRefusal, IsRefused, MeetsNoQuit, NoQuitInReach, WithoutBase, state_in, tape_in, with_base};
+ghost use Rattle.automata_hybrid.specs.Searches.{given_up_offset, IsFound, IsPassRefusal, IsRefused, MeetsNoQuit, state_in, tape_in, with_base};
 ghost use Rattle.automata_hybrid.specs.Slots.{supports};
 ghost use Rattle.automata_hybrid.specs.Starting.{MayStart, quit_behind};
 ghost use Rattle.automata_hybrid.specs.Table.{IsValid, Names};
-ghost use Rattle.automata_hybrid.specs.Within.{LiesIn, LiesPast};
 
 use crate::dfa::DFA;
 use crate::dfa::cache::Cache;
@@ -47,29 +41,12 @@ impl DFA {
         requires { IsCacheOf cache.old self.now }
         ensures of { IsCacheOf cache.new self.now }
 
-        // What the passes tell, for every automaton; and where no cycle passes a look, the answer of the ordered paths. Without
-        // that, the nearest end in an earliest search, and under kind all the farthest one. It lies in the span.
-        ensures found { IfOk result (WithoutBase (IsFound Forward self.now input.now)) }
-        ensures answer { IsLookAcyclic (nfa_of self.now.nfa) → IfOk result (WithoutBase (IsAnswer Forward (engine_of self.now.nfa self.now.kind) input.now)) }
-        ensures nearest { input.now.earliest ≡ true → IfOk result (WithoutBase (IsNearestAnswer Forward (engine_of self.now.nfa self.now.kind) input.now)) }
-        ensures farthest { input.now.earliest ≡ false → self.now.kind ≡ KindAll → IfOk result (WithoutBase (IsFarthestAnswer Forward (engine_of self.now.nfa self.now.kind) input.now)) }
-        ensures within { IfOk result (λ o. IfSome o (LiesIn self.now input.now)) }
+        // What it answers, whatever the cache; and why this one refuses.
+        ensures half { IsHalf Forward self.now input.now result }
         ensures errors { IfErr result (IsRefused Forward self.now cache.new.store input.now) }
-        ensures unsupported { input.now.start ≤ input.now.end → quit_behind self.now (byte_before input.now.haystack input.now.start) ≡ None → supports self.now input.now.anchored ≡ false → result ≡ Err (SearchError.Match (UnsupportedMode input.now.anchored)) }
 
-        // It does answer where no quit byte is in reach, the mode is supported, no clear limit is set, and memory is found.
-        ensures answers { NoQuitInReach self.now input.now → supports self.now input.now.anchored ≡ true → self.now.minimum_clear_count ≡ None → IfErr result (λ e. e ≡ SearchError.OutOfMemory) }
-
-        // A pass over n bytes makes at most n + 2 determinisations, and each is over another span that is tried: one, where no
-        // place is skipped or the search is anchored. Nothing is cleared where there is room for as many states.
-        ensures bounded { IsCostOfSearch Forward self.now input.now cache.old cache.new }
-
-        // Until the next clear nothing is lost, and what it used is known. With all that known it takes no memory, and changes
-        // nothing but the progress; with a span that is done, nothing at all.
-        ensures grown { IsGrown cache.old cache.new }
-        ensures learned { ClearedNothing cache.old.store cache.new.store → OnOk result (Knows Forward self.now cache.new.store input.now) }
-        ensures known { Knows Forward self.now cache.old.store input.now → IsStill cache.old cache.new × IfErr result IsOfInput }
-        ensures done { input.now.end < input.now.start → (result ≡ Ok None) × (cache.new ≡ cache.old) }
+        // What it makes of the cache.
+        ensures effect { IsSearchEffect Forward self.now input.now cache.old cache.new result }
     {
         match self.try_search_fwd_base(cache, input)? {
             Some((half, _)) => Ok(Some(half)),
@@ -87,35 +64,18 @@ impl DFA {
         requires { IsCacheOf cache.old self.now }
         ensures of { IsCacheOf cache.new self.now }
 
-        // What the passes tell, for every automaton; and where no cycle passes a look, the answer of the ordered paths. Without
-        // that, the nearest end in an earliest search, and under kind all the farthest one. It lies in the span.
-        ensures found { IfOk result (λ o. IsFound Forward self.now input.now (option_map (λ p. with_base p.0 p.1) o)) }
-        ensures answer { IsLookAcyclic (nfa_of self.now.nfa) → IfOk result (λ o. IsAnswer Forward (engine_of self.now.nfa self.now.kind) input.now (option_map (λ p. with_base p.0 p.1) o)) }
-        ensures nearest { input.now.earliest ≡ true → IfOk result (λ o. IsNearestAnswer Forward (engine_of self.now.nfa self.now.kind) input.now (option_map (λ p. with_base p.0 p.1) o)) }
-        ensures farthest { input.now.earliest ≡ false → self.now.kind ≡ KindAll → IfOk result (λ o. IsFarthestAnswer Forward (engine_of self.now.nfa self.now.kind) input.now (option_map (λ p. with_base p.0 p.1) o)) }
-        ensures within { IfOk result (λ o. IfSome o (λ p. LiesPast self.now input.now p.0 p.1)) }
+        // What it answers, whatever the cache; and why this one refuses.
+        ensures based { IsBased self.now input.now result }
         ensures errors { IfErr result (IsRefused Forward self.now cache.new.store input.now) }
-        ensures unsupported { input.now.start ≤ input.now.end → quit_behind self.now (byte_before input.now.haystack input.now.start) ≡ None → supports self.now input.now.anchored ≡ false → result ≡ Err (SearchError.Match (UnsupportedMode input.now.anchored)) }
 
-        // It does answer where no quit byte is in reach, the mode is supported, no clear limit is set, and memory is found.
-        ensures answers { NoQuitInReach self.now input.now → supports self.now input.now.anchored ≡ true → self.now.minimum_clear_count ≡ None → IfErr result (λ e. e ≡ SearchError.OutOfMemory) }
-
-        // A pass over n bytes makes at most n + 2 determinisations, and each is over another span that is tried: one, where no
-        // place is skipped or the search is anchored, and up to an answer's own span. Nothing is cleared where there is room for
-        // as many states.
-        ensures bounded { IsCostOfSearch Forward self.now input.now cache.old cache.new }
-        ensures based { IfOk result (λ o. IfSome o (λ p. IsCostUpto self.now input.now p.1 cache.old cache.new)) }
-
-        // Until the next clear nothing is lost, and what it used is known. With all that known it takes no memory, and changes
-        // nothing but the progress; with a span that is done, nothing at all.
-        ensures grown { IsGrown cache.old cache.new }
-        ensures learned { ClearedNothing cache.old.store cache.new.store → OnOk result (Knows Forward self.now cache.new.store input.now) }
-        ensures known { Knows Forward self.now cache.old.store input.now → IsStill cache.old cache.new × IfErr result IsOfInput }
-        ensures done { input.now.end < input.now.start → (result ≡ Ok None) × (cache.new ≡ cache.old) }
+        // What it makes of the cache; with an answer it costs no pass behind the span that gave it.
+        ensures effect { IsSearchEffect Forward self.now input.now cache.old cache.new result }
+        ensures upto { IfOk result (λ o. IfSome o (λ p. IsCostUpto self.now input.now p.1 cache.old cache.new)) }
     {
         told_is_right(self.get_nfa());
         let _haystack = input.haystack();
         let found = self.search_fwd(cache, input);
+        cache.see_bounds();
         found
     }
 

@@ -1,25 +1,20 @@
 //! Overlapping walks: each call tells the next match, over whatever caches of the DFA.
-ghost use Rattle.std.specs.Prelude.{ℕ, ◌≡◌, ◌+◌, ◌-◌, ◌<◌, ◌≤◌, ◌⊎◌, ◌^◌, IfOk, IfErr, IfNone, IfSome, OnOk, OnErr, None, Some, Err, List, true, false, length, slice_index};
-ghost use Rattle.automata_base.specs.Answers.{IsOverlapping};
-ghost use Rattle.automata_base.specs.Engines.{engine_of};
-ghost use Rattle.automata_base.specs.Nodes.{nfa_of};
-ghost use Rattle.automata_base.specs.Paths.{IsLookAcyclic};
+ghost use Rattle.std.specs.Prelude.{ℕ, ◌≡◌, ◌+◌, ◌-◌, ◌<◌, ◌≤◌, ◌⊎◌, ◌^◌, IfOk, IfErr, IfNone, IfSome, OnOk, OnErr, None, Some, Err, true, false, length, slice_index};
 ghost use Rattle.automata_base.specs.Powerset.{Powerset};
-ghost use Rattle.automata_base.specs.Selections.{Pair};
 ghost use Rattle.automata_base.specs.Tapes.{Forward, Backward};
 ghost use Rattle.automata_hybrid.specs.Bounds.{GivesUp, IsCacheError};
 ghost use Rattle.automata_hybrid.specs.Caches.{IsCacheOf, counted};
-ghost use Rattle.automata_hybrid.specs.Growing.{ClearedNothing, HasRoom, IsGrown, IsStill};
+ghost use Rattle.automata_hybrid.specs.Growing.{ClearedNothing, IsGrown, IsStill};
 ghost use Rattle.automata_hybrid.specs.Knowing.{IsOfInput};
 ghost use Rattle.automata_hybrid.specs.KnowingWalks.{HasLearnedUnits, KnowsItsState, KnowsWalk};
-ghost use Rattle.automata_hybrid.specs.Searches.{NoQuitInReach, state_in, tape_in};
+ghost use Rattle.automata_hybrid.specs.OwingWalks.{IsCallEffect, IsWalkCall};
+ghost use Rattle.automata_hybrid.specs.Searches.{state_in, tape_in};
 ghost use Rattle.automata_hybrid.specs.Slots.{supports};
 ghost use Rattle.automata_hybrid.specs.Starting.{MayStart, quit_behind};
 ghost use Rattle.automata_base.specs.declared.util.search.MatchErrorKind.TheVariants.{UnsupportedAnchored as UnsupportedMode};
 ghost use Rattle.automata_hybrid.specs.Table.{Leads, Names};
-ghost use Rattle.automata_hybrid.specs.Walking.{Arrives, CanGoOn, GoesOn, HasItsState, HasTold, HasToldBy, IsNamedAt, IsResumeRefusal, IsRowState, IsWalkOf, IsWalkRefusal, TellsNext, WalkReads, half_nth, start_count};
+ghost use Rattle.automata_hybrid.specs.Walking.{Arrives, CanGoOn, GoesOn, HasItsState, HasTold, HasToldBy, IsNamedAt, IsResumeRefusal, IsRowState, IsWalkOf, IsWalkRefusal, TellsNext, WalkReads, start_count};
 ghost use Rattle.automata_hybrid.specs.Walks.{At, Ended, Fresh, way_of, without_match};
-ghost use Rattle.automata_hybrid.specs.Within.{LiesIn};
 
 use crate::dfa::DFA;
 use crate::dfa::cache::Cache;
@@ -47,46 +42,20 @@ impl DFA {
         requires of { IsCacheOf cache.old self.now }
         requires walk { IsWalkOf Forward self.now input.now state.old }
         ensures of { IsCacheOf cache.new self.now }
-
-        // The next pair that the passes tell, for every automaton; and where no cycle passes a look, of the list that the
-        // ordered paths define. It lies in the span.
-        ensures tells { OnOk result (TellsNext Forward self.now input.now state.old state.new) }
         ensures walk { IsWalkOf Forward self.now input.now state.new }
-        ensures paths { IsLookAcyclic (nfa_of self.now.nfa) → (k : ℕ) (pairs : List Pair) → HasTold Forward self.now input.now state.old k → IsOverlapping Forward (engine_of self.now.nfa self.now.kind) input.now pairs → OnOk result (state.new.found ≡ half_nth pairs k) }
-        ensures within { IfSome state.new.found (LiesIn self.now input.now) }
-        ensures refused { OnErr result (state.new ≡ without_match state.old) }
-        ensures errors { state.old.lost ≡ false → (k : ℕ) → HasTold Forward self.now input.now state.old k → IfErr result (IsWalkRefusal Forward self.now cache.new.store input.now state.old k) }
-        ensures lost { state.old.lost ≡ true → IfErr result (λ e. e ≡ SearchError.OutOfMemory) }
-        ensures unsupported { state.old.stage ≡ Fresh → input.now.start ≤ input.now.end → quit_behind self.now (tape_in Forward input.now).before ≡ None → supports self.now input.now.anchored ≡ false → result ≡ Err (SearchError.Match (UnsupportedMode input.now.anchored)) }
 
-        // It does answer where no quit byte is in reach, the mode is supported, no clear limit is set, and memory is found.
-        ensures answers { NoQuitInReach self.now input.now → supports self.now input.now.anchored ≡ true → self.now.minimum_clear_count ≡ None → IfErr result (λ e. e ≡ SearchError.OutOfMemory) }
+        // What it answers, whatever the cache; and why this one refuses.
+        ensures call { IsWalkCall Forward self.now input.now state.old state.new result }
+        ensures errors { state.old.lost ≡ false → (k : ℕ) → HasTold Forward self.now input.now state.old k
+            → IfErr result (IsWalkRefusal Forward self.now cache.new.store input.now state.old k) }
 
-        // After the end, at the next pattern of one place and over a span that is done it is never refused, and changes nothing of
-        // the cache.
-        ensures ended { state.old.stage ≡ Ended → IfErr result (λ e. ⊥) × (cache.new ≡ cache.old) }
-        ensures same { (q : Powerset) → state.old.stage ≡ At q → state.old.told < length q.patterns → state.old.lost ≡ false → IfErr result (λ e. ⊥) × (cache.new ≡ cache.old) }
-        ensures done { state.old.lost ≡ false → input.now.end < input.now.start → IfErr result (λ e. ⊥) × (cache.new ≡ cache.old) }
-
-        // It makes at most one determinisation for each unit by which those read rise, and one for a start; a refused call one
-        // for each unit left.
-        ensures rises { OnOk result (state.old.units ≤ state.new.units) }
-        ensures bounded { OnOk result (cache.new.count + state.old.units ≤ cache.old.count + state.new.units + start_count state.old.stage) }
-        ensures most { cache.new.count ≤ cache.old.count + (input.now.end - input.now.start + 1 - state.old.units) + start_count state.old.stage }
-
-        // After a call that cleared nothing what it used is known. With all that known it takes no memory, and changes nothing
-        // but the progress.
-        ensures learned { ClearedNothing cache.old.store cache.new.store → OnOk result (KnowsWalk Forward self.now cache.new.store input.now state.old) }
-        ensures known { KnowsWalk Forward self.now cache.old.store input.now state.old → IsStill cache.old cache.new × (state.old.lost ≡ false → IfErr result IsOfInput) }
-
-        // It grows the cache as one determinisation more would, and where the cache has the walk's state as those made do.
-        ensures grown { IsGrown cache.old (counted cache.new) }
-        ensures there { HasItsState cache.old.store.table state.old.stage → IsGrown cache.old cache.new }
-        ensures roomy { HasRoom cache.old.store (input.now.end - input.now.start + 1 - state.old.units + 1) → cache.new.store.clears ≡ cache.old.store.clears }
+        // What it makes of the cache.
+        ensures effect { IsCallEffect Forward self.now input.now state.old state.new cache.old cache.new result }
     {
         walk_is_right(self.get_nfa());
         let _haystack = input.haystack();
         let told = self.call(cache, input, Way::Forward, state);
+        cache.see_bounds();
         told
     }
 
@@ -101,46 +70,20 @@ impl DFA {
         requires of { IsCacheOf cache.old self.now }
         requires walk { IsWalkOf Backward self.now input.now state.old }
         ensures of { IsCacheOf cache.new self.now }
-
-        // The next pair that the passes tell, for every automaton; and where no cycle passes a look, of the list that the
-        // ordered paths define. It lies in the span.
-        ensures tells { OnOk result (TellsNext Backward self.now input.now state.old state.new) }
         ensures walk { IsWalkOf Backward self.now input.now state.new }
-        ensures paths { IsLookAcyclic (nfa_of self.now.nfa) → (k : ℕ) (pairs : List Pair) → HasTold Backward self.now input.now state.old k → IsOverlapping Backward (engine_of self.now.nfa self.now.kind) input.now pairs → OnOk result (state.new.found ≡ half_nth pairs k) }
-        ensures within { IfSome state.new.found (LiesIn self.now input.now) }
-        ensures refused { OnErr result (state.new ≡ without_match state.old) }
-        ensures errors { state.old.lost ≡ false → (k : ℕ) → HasTold Backward self.now input.now state.old k → IfErr result (IsWalkRefusal Backward self.now cache.new.store input.now state.old k) }
-        ensures lost { state.old.lost ≡ true → IfErr result (λ e. e ≡ SearchError.OutOfMemory) }
-        ensures unsupported { state.old.stage ≡ Fresh → input.now.start ≤ input.now.end → quit_behind self.now (tape_in Backward input.now).before ≡ None → supports self.now input.now.anchored ≡ false → result ≡ Err (SearchError.Match (UnsupportedMode input.now.anchored)) }
 
-        // It does answer where no quit byte is in reach, the mode is supported, no clear limit is set, and memory is found.
-        ensures answers { NoQuitInReach self.now input.now → supports self.now input.now.anchored ≡ true → self.now.minimum_clear_count ≡ None → IfErr result (λ e. e ≡ SearchError.OutOfMemory) }
+        // What it answers, whatever the cache; and why this one refuses.
+        ensures call { IsWalkCall Backward self.now input.now state.old state.new result }
+        ensures errors { state.old.lost ≡ false → (k : ℕ) → HasTold Backward self.now input.now state.old k
+            → IfErr result (IsWalkRefusal Backward self.now cache.new.store input.now state.old k) }
 
-        // After the end, at the next pattern of one place and over a span that is done it is never refused, and changes nothing of
-        // the cache.
-        ensures ended { state.old.stage ≡ Ended → IfErr result (λ e. ⊥) × (cache.new ≡ cache.old) }
-        ensures same { (q : Powerset) → state.old.stage ≡ At q → state.old.told < length q.patterns → state.old.lost ≡ false → IfErr result (λ e. ⊥) × (cache.new ≡ cache.old) }
-        ensures done { state.old.lost ≡ false → input.now.end < input.now.start → IfErr result (λ e. ⊥) × (cache.new ≡ cache.old) }
-
-        // It makes at most one determinisation for each unit by which those read rise, and one for a start; a refused call one
-        // for each unit left.
-        ensures rises { OnOk result (state.old.units ≤ state.new.units) }
-        ensures bounded { OnOk result (cache.new.count + state.old.units ≤ cache.old.count + state.new.units + start_count state.old.stage) }
-        ensures most { cache.new.count ≤ cache.old.count + (input.now.end - input.now.start + 1 - state.old.units) + start_count state.old.stage }
-
-        // After a call that cleared nothing what it used is known. With all that known it takes no memory, and changes nothing
-        // but the progress.
-        ensures learned { ClearedNothing cache.old.store cache.new.store → OnOk result (KnowsWalk Backward self.now cache.new.store input.now state.old) }
-        ensures known { KnowsWalk Backward self.now cache.old.store input.now state.old → IsStill cache.old cache.new × (state.old.lost ≡ false → IfErr result IsOfInput) }
-
-        // It grows the cache as one determinisation more would, and where the cache has the walk's state as those made do.
-        ensures grown { IsGrown cache.old (counted cache.new) }
-        ensures there { HasItsState cache.old.store.table state.old.stage → IsGrown cache.old cache.new }
-        ensures roomy { HasRoom cache.old.store (input.now.end - input.now.start + 1 - state.old.units + 1) → cache.new.store.clears ≡ cache.old.store.clears }
+        // What it makes of the cache.
+        ensures effect { IsCallEffect Backward self.now input.now state.old state.new cache.old cache.new result }
     {
         walk_is_right(self.get_nfa());
         let _haystack = input.haystack();
         let told = self.call(cache, input, Way::Backward, state);
+        cache.see_bounds();
         told
     }
 

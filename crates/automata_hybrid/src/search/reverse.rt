@@ -1,13 +1,7 @@
-ghost use Rattle.std.specs.Prelude.{ℕ, ◌≡◌, ◌+◌, ◌-◌, ◌^◌, ◌<◌, ◌≤◌, IfOk, IfErr, IfSome, IsBitSet, IsTrue, OnOk, Option, None, Some, true, false, length, Err, Ok};
-ghost use Rattle.automata_base.specs.Answers.{IsAnswer};
+ghost use Rattle.std.specs.Prelude.{◌≡◌, ◌+◌, ◌-◌, ◌<◌, ◌≤◌, IfOk, IfErr, IsBitSet, IsTrue, OnOk, Option, None, Some, true, false, Err, Ok};
 ghost use Rattle.automata_base.specs.Classes.{class_in, is_quit};
-ghost use Rattle.automata_base.specs.declared.util.search.MatchKind.TheVariants.{All as KindAll};
-ghost use Rattle.automata_base.specs.Engines.{engine_of};
-ghost use Rattle.automata_base.specs.Told.{IsFarthestAnswer, IsNearestAnswer};
 ghost use Rattle.automata_base.specs.Lists.{nth};
 ghost use Rattle.automata_base.specs.Matches as matches;
-ghost use Rattle.automata_base.specs.Nodes.{nfa_of};
-ghost use Rattle.automata_base.specs.Paths.{IsLookAcyclic};
 ghost use Rattle.automata_base.specs.Powerset.{Powerset, dead};
 ghost use Rattle.automata_base.specs.Steps.{successor};
 ghost use Rattle.automata_base.specs.Tapes.{Backward};
@@ -15,15 +9,15 @@ ghost use Rattle.automata_base.specs.declared.util.search.MatchErrorKind.TheVari
 ghost use Rattle.automata_hybrid.specs.Bounds.{IsKnownTransition};
 ghost use Rattle.automata_hybrid.specs.Caches.{IsCacheOf};
 ghost use Rattle.automata_hybrid.specs.Costs.{IsCostOfSearch};
-ghost use Rattle.automata_hybrid.specs.Growing.{IsGrown, IsStill, ClearedNothing};
+ghost use Rattle.automata_hybrid.specs.Growing.{IsGrown, ClearedNothing};
 ghost use Rattle.automata_hybrid.specs.Ids.{fixed_from, offset_limit};
 ghost use Rattle.automata_hybrid.specs.Knowing.{IsOfInput, KnowsItsStart, KnowsPass, Knows};
+ghost use Rattle.automata_hybrid.specs.Owing.{IsHalf, IsSearchEffect};
 ghost use Rattle.automata_hybrid.specs.Passing.{HasLearned, HasLearnedAll, IsAt, IsFollowed, IsLed, found_over};
-ghost use Rattle.automata_hybrid.specs.Searches.{IsFound, IsPassRefusal, IsRefused, IsStepRefusal, MeetsNoQuit, NoQuitInReach, WithoutBase, state_in, tape_in};
+ghost use Rattle.automata_hybrid.specs.Searches.{IsFound, IsPassRefusal, IsRefused, IsStepRefusal, MeetsNoQuit, WithoutBase, state_in, tape_in};
 ghost use Rattle.automata_hybrid.specs.Slots.{supports};
 ghost use Rattle.automata_hybrid.specs.Starting.{MayStart, quit_behind};
 ghost use Rattle.automata_hybrid.specs.Table.{IsValid, Leads, Names};
-ghost use Rattle.automata_hybrid.specs.Within.{LiesIn};
 
 use crate::dfa::DFA;
 use crate::dfa::cache::Cache;
@@ -50,33 +44,17 @@ impl DFA {
         requires { IsCacheOf cache.old self.now }
         ensures of { IsCacheOf cache.new self.now }
 
-        // What the passes tell, for every automaton; and where no cycle passes a look, the answer of the ordered paths. Without
-        // that, the nearest end in an earliest search, and under kind all the farthest one. It lies in the span.
-        ensures found { IfOk result (WithoutBase (IsFound Backward self.now input.now)) }
-        ensures answer { IsLookAcyclic (nfa_of self.now.nfa) → IfOk result (WithoutBase (IsAnswer Backward (engine_of self.now.nfa self.now.kind) input.now)) }
-        ensures nearest { input.now.earliest ≡ true → IfOk result (WithoutBase (IsNearestAnswer Backward (engine_of self.now.nfa self.now.kind) input.now)) }
-        ensures farthest { input.now.earliest ≡ false → self.now.kind ≡ KindAll → IfOk result (WithoutBase (IsFarthestAnswer Backward (engine_of self.now.nfa self.now.kind) input.now)) }
-        ensures within { IfOk result (λ o. IfSome o (LiesIn self.now input.now)) }
+        // What it answers, whatever the cache; and why this one refuses.
+        ensures half { IsHalf Backward self.now input.now result }
         ensures errors { IfErr result (IsRefused Backward self.now cache.new.store input.now) }
-        ensures unsupported { input.now.start ≤ input.now.end → quit_behind self.now (nth input.now.haystack input.now.end) ≡ None → supports self.now input.now.anchored ≡ false → result ≡ Err (SearchError.Match (UnsupportedMode input.now.anchored)) }
 
-        // It does answer where no quit byte is in reach, the mode is supported, no clear limit is set, and memory is found.
-        ensures answers { NoQuitInReach self.now input.now → supports self.now input.now.anchored ≡ true → self.now.minimum_clear_count ≡ None → IfErr result (λ e. e ≡ SearchError.OutOfMemory) }
-
-        // A pass over n bytes makes at most n + 2 determinisations, and each is over another span that is tried: one, where no
-        // place is skipped or the search is anchored. Nothing is cleared where there is room for as many states.
-        ensures bounded { IsCostOfSearch Backward self.now input.now cache.old cache.new }
-
-        // Until the next clear nothing is lost, and what it used is known. With all that known it takes no memory, and changes
-        // nothing but the progress; with a span that is done, nothing at all.
-        ensures grown { IsGrown cache.old cache.new }
-        ensures learned { ClearedNothing cache.old.store cache.new.store → OnOk result (Knows Backward self.now cache.new.store input.now) }
-        ensures known { Knows Backward self.now cache.old.store input.now → IsStill cache.old cache.new × IfErr result IsOfInput }
-        ensures done { input.now.end < input.now.start → (result ≡ Ok None) × (cache.new ≡ cache.old) }
+        // What it makes of the cache.
+        ensures effect { IsSearchEffect Backward self.now input.now cache.old cache.new result }
     {
         told_is_right(self.get_nfa());
         let _haystack = input.haystack();
         let found = self.search_rev(cache, input);
+        cache.see_bounds();
         found
     }
 

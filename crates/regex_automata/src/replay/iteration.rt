@@ -2,9 +2,10 @@
 ghost use Rattle.std.specs.Prelude.{◌≡◌, ◌⊎◌, [], IfSome, Some};
 ghost use Rattle.automata_base.specs.Tapes.{Forward};
 ghost use Rattle.automata_hybrid.specs.Caches.{IsCacheOf};
+ghost use Rattle.automata_hybrid.specs.Owing.{IsMemory, IsUnsupported, unsupported_error};
 ghost use Rattle.regex_automata.specs.Iterating.{AreCollected};
 ghost use Rattle.regex_automata.specs.Outcomes.{FindsMatch};
-ghost use Rattle.regex_automata.specs.Owing.{AreMatchesUpto, IsMemory, IsRefusedBehind, IsUnsupported, unsupported_error};
+ghost use Rattle.regex_automata.specs.Owing.{AreMatchesUpto, IsRefusedBehind};
 ghost use Rattle.regex_automata.specs.RegexCaches.{AreCachesOf};
 
 use crate::hybrid::regex::{Cache, Regex};

@@ -9,7 +9,6 @@ mod patterns;
 mod players;
 pub mod replies;
 pub mod requests;
-mod searches;
 mod tokens;
 mod walks;
 

@@ -6,7 +6,6 @@ ghost use Rattle.regex_automata.specs.Owing.{ArePatternsUpto};
 
 use crate::hybrid::dfa;
 use crate::hybrid::dfa::DFA;
-use crate::replay::searches::see;
 use automata_base::util::pattern_set::PatternSet;
 use automata_base::util::primitives::PatternID;
 use automata_base::util::search::Input;
@@ -29,7 +28,6 @@ pub fn patterns_below(
         return (Vec::new(alloc), Some(SearchError::OutOfMemory));
     };
     let told = dfa.try_which_overlapping_matches(cache, input, &mut set);
-    see(cache);
     match list_members(alloc, &set) {
         Ok(found) => (found, told.err()),
         Err(_) => (Vec::new(alloc), Some(SearchError::OutOfMemory)),

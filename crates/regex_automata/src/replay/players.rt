@@ -11,7 +11,6 @@ use crate::replay::iteration::matches_upto;
 use crate::replay::patterns::patterns_below;
 use crate::replay::replies::{Fault, Reply};
 use crate::replay::requests::Request;
-use crate::replay::searches::{search_fwd, search_rev};
 use crate::replay::tokens::tokens_upto;
 use crate::replay::walks::{KeptWalk, step_at};
 use automata_base::util::search::Input;
@@ -61,16 +60,16 @@ impl<'r, 'h> Player<'r, 'h> {
     {
         let regex = self.regex;
         match request {
-            Request::SearchFwd(input) => Reply::Half(search_fwd(
-                regex.forward(),
-                self.cache.forward_mut(),
-                input,
-            )),
-            Request::SearchRev(input) => Reply::Half(search_rev(
-                regex.reverse(),
-                self.cache.reverse_mut(),
-                input,
-            )),
+            Request::SearchFwd(input) => Reply::Half(
+                regex
+                    .forward()
+                    .try_search_fwd(self.cache.forward_mut(), input),
+            ),
+            Request::SearchRev(input) => Reply::Half(
+                regex
+                    .reverse()
+                    .try_search_rev(self.cache.reverse_mut(), input),
+            ),
             Request::Find(input) => Reply::Span(regex.find(&mut self.cache, input)),
             Request::IsMatch(input) => Reply::Truth(regex.is_match(&mut self.cache, input)),
             Request::Iterate(input) => {

@@ -10,7 +10,6 @@ ghost use Rattle.regex_automata.specs.declared.replay.walks.KeptWalk.{KeptWalk};
 use crate::hybrid::dfa;
 use crate::hybrid::dfa::{DFA, OverlappingState};
 use crate::hybrid::regex::{Cache, Regex};
-use crate::replay::searches::see;
 use automata_base::util::search::{HalfMatch, Input};
 use automata_config::error::SearchError;
 
@@ -35,9 +34,7 @@ fn step_fwd(
     ensures of { IsCacheOf cache.new dfa.now }
     ensures call { IsCall Forward dfa.now input.now state.old state.new result }
 {
-    let told = dfa.try_search_overlapping_fwd(cache, input, state);
-    see(cache);
-    match told {
+    match dfa.try_search_overlapping_fwd(cache, input, state) {
         Ok(()) => Ok(state.get_match()),
         Err(error) => Err(error),
     }
@@ -55,9 +52,7 @@ fn step_rev(
     ensures of { IsCacheOf cache.new dfa.now }
     ensures call { IsCall Backward dfa.now input.now state.old state.new result }
 {
-    let told = dfa.try_search_overlapping_rev(cache, input, state);
-    see(cache);
-    match told {
+    match dfa.try_search_overlapping_rev(cache, input, state) {
         Ok(()) => Ok(state.get_match()),
         Err(error) => Err(error),
     }

@@ -1,12 +1,8 @@
-ghost use Rattle.std.specs.Prelude.{◌≡◌, ◌<◌, ◌-◌, IfErr, false};
+ghost use Rattle.std.specs.Prelude.{◌≡◌, ◌<◌, ◌-◌, false};
 ghost use Rattle.std.specs.Iterator.{at_most};
 ghost use Rattle.automata_base.specs.Input.{Allows};
-ghost use Rattle.automata_base.specs.Tapes.{Forward};
-ghost use Rattle.automata_hybrid.specs.Caches.{IsCacheOf};
 ghost use Rattle.automata_hybrid.specs.Growing.{IsGrown};
-ghost use Rattle.automata_hybrid.specs.Searches.{IsRefused};
 ghost use Rattle.regex_automata.specs.Costs.{IsCostOf};
-ghost use Rattle.regex_automata.specs.Owing.{IsHalf};
 ghost use Rattle.regex_automata.specs.RegexCaches.{AreCachesOf};
 ghost use Rattle.regex_automata.specs.Tokens.{GivesToken, IsGivenAt, asked, item_of, most_tokens};
 
@@ -25,25 +21,6 @@ fn asked<'h>(haystack: &'h [u8], place: usize, end: usize) -> Input<'h>
     Input::new(haystack)
         .range(place..end)
         .anchored(Anchored::Yes)
-}
-
-/// What a forward search answers, and what it owes whatever the cache.
-fn answer(
-    dfa: &DFA,
-    cache: &mut dfa::Cache,
-    input: &Input<'_>,
-) -> Result<Option<HalfMatch>, SearchError>
-    requires { IsCacheOf cache.old dfa.now }
-    ensures of { IsCacheOf cache.new dfa.now }
-    ensures owed { IsHalf Forward dfa.now input.now result }
-    ensures errors { IfErr result (IsRefused Forward dfa.now cache.new.store input.now) }
-    ensures grown { IsGrown cache.old cache.new }
-    ensures cost { IsCostOf dfa.now (input.now.end - input.now.start) cache.old cache.new }
-{
-    let _haystack = input.haystack();
-    let found = dfa.try_search_fwd(cache, input);
-    cache.see_bounds();
-    found
 }
 
 /// What an answer at a place makes.
@@ -81,7 +58,8 @@ fn token_at<'h>(
     ensures reverse { cache.new.reverse ≡ cache.old.reverse }
 {
     let input = asked(haystack, place, end);
-    let found = answer(regex.forward(), cache.forward_mut(), &input);
+    let dfa = regex.forward();
+    let found = dfa.try_search_fwd(cache.forward_mut(), &input);
     let token = item(place, found)?;
     Ok(Token::new(haystack, token.pattern(), token.span()))
 }

@@ -3,8 +3,9 @@ ghost use Rattle.std.specs.Iterator.{at_most};
 ghost use Rattle.automata_base.specs.Input.{Allows, IsAllowed};
 ghost use Rattle.automata_base.specs.Spans.{IsEmptyAt, from};
 ghost use Rattle.automata_base.specs.Tapes.{Forward};
+ghost use Rattle.automata_hybrid.specs.Owing.{IsUnsupported, unsupported_error};
 ghost use Rattle.regex_automata.specs.Iterating.{AreCostsTwice, GivesItem, GoesPast, IsNextMatch, IsNextRefusal, KnowsNext, LearnsItem, input_at, most_items};
-ghost use Rattle.regex_automata.specs.Owing.{IsUnsupported, TellsUnsupported, unsupported_error};
+ghost use Rattle.regex_automata.specs.Owing.{TellsUnsupported};
 ghost use Rattle.regex_automata.specs.RegexRefusals.{IsOfGiven};
 ghost use Rattle.regex_automata.specs.RegexCaches.{AreCachesOf, AreGrown, AreStill, NothingCleared};
 
@@ -142,7 +143,7 @@ impl<'r, 'c, 'h> Iterator for FindMatches<'r, 'c, 'h> {
         × TellsUnsupported s.regex.now (input_at s.haystack.now s.start s.end s.anchored s.earliest) s.ended r };
 
     ghost remaining = { λ s.
-        at_most (most_left s.ended (input_at s.haystack.now s.start s.end s.anchored s.earliest) s.last) };
+        at_most (most_items s.ended (input_at s.haystack.now s.start s.end s.anchored s.earliest) s.last) };
 
     fn next(&mut self) -> Option<Result<Match, SearchError>> {
         if self.ended {

@@ -1,4 +1,4 @@
-ghost use Rattle.std.specs.Prelude.{◌≡◌, ◌-◌, ◌≤◌, ◌<◌, ◌↔◌, IfOk, IfErr, IsTrue, OnOk, None, Ok, Err, false, true};
+ghost use Rattle.std.specs.Prelude.{◌≡◌, ◌-◌, ◌≤◌, ◌<◌, IfOk, IfErr, OnOk, None, Ok, Err, false, true};
 ghost use Rattle.automata_base.specs.Nodes.{nfa_of};
 ghost use Rattle.automata_base.specs.Paths.{IsLookAcyclic};
 ghost use Rattle.automata_base.specs.Spans.{IsMatch};
@@ -76,9 +76,7 @@ impl Regex {
         told_is_right(self.forward.get_nfa());
         let _haystack = input.haystack();
         let asked = self.asked(input);
-        let told = self.forward.try_search_fwd(&mut cache.forward, &asked);
-        cache.forward.see_bounds();
-        let found = told?;
+        let found = self.forward.try_search_fwd(&mut cache.forward, &asked)?;
         Ok(found.is_some())
     }
 }

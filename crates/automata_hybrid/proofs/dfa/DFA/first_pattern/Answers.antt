@@ -1,6 +1,4 @@
-use Rattle.std.proofs.Common.{◌≡◌, ◌∙◌, ◌<◌, ℕ, length, ap, sym, subst}
-use Rattle.automata_base.specs.Lists.{In}
-use Rattle.automata_base.specs.Within.{TellsOwn}
+use Rattle.std.proofs.Common.{◌≡◌, ◌∙◌, ◌<◌, length, sym, subst}
 use Rattle.automata_hybrid.specs.Machine.{Machine}
 use Rattle.automata_hybrid.specs.Owned.{IsOwn}
 use Rattle.automata_hybrid.proofs.Stepping.{only_pattern}

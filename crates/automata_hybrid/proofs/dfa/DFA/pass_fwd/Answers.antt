@@ -5,96 +5,95 @@ use Rattle.std.specs.Prelude.{IfErr}
 use Rattle.automata_hybrid.specs.Bounds.{IsKnownStart}
 use Rattle.automata_hybrid.specs.Caches.{CacheView}
 use Rattle.automata_hybrid.specs.Growing.{IsGrown}
-use Rattle.automata_hybrid.specs.Ids.{dead_id}
 use Rattle.automata_hybrid.specs.Knowing.{IsOfInput, KnowsPass}
 use Rattle.automata_hybrid.specs.Machine.{Machine}
 use Rattle.automata_hybrid.specs.Passing.{HasLearnedAll}
 use Rattle.automata_hybrid.specs.Slots.{slot_behind}
 use Rattle.automata_hybrid.proofs.Growing.{grown_moved, grown_trans, nothing_second}
-use Rattle.automata_hybrid.proofs.Knowing.{knows_still, learned_all, learned_moved, learned_none, may_start, start_idle}
+use Rattle.automata_hybrid.proofs.Knowing.{knows_still, learned_all, learned_moved, learned_none, start_idle}
 use Rattle.automata_hybrid.specs.Searches.{state_in}
 use Rattle.automata_hybrid.specs.Starting.{quit_behind}
 use Rattle.automata_hybrid.specs.Table.{Rows, Leads, Names}
-use Rattle.automata_hybrid.proofs.Searching.{starts_dead, clean_start, if_err, stops_start, state_first, none_behind, false_true}
+use Rattle.automata_hybrid.proofs.Searching.{starts_dead, clean_start, if_err, stops_start, state_first, false_true}
 use Rattle.automata_hybrid.proofs.Stepping.{dead_tagged}
 use Rattle.automata_hybrid.proofs.dfa.DFA.pass_fwd.Goals as goal
 
 pub returns-then-is_dead-clause-found : goal.returns-then-is_dead-clause-found
 returns-then-is_dead-clause-found c =
-    let leads : Leads c.start_state_forward.new.cache.store.table c.in_ok-start.start (state_in Forward c.args.self.now c.args.input.now 0) = subst (Leads c.start_state_forward.new.cache.store.table c.in_ok-start.start) (state_first Forward c.args.self.now c.args.input.now) c.in_ok-start.ensures.named in
+    let leads : Leads c.start_state_forward.new.cache.store.table c.in_ok-start.start (state_in Forward c.args.self.now c.args.input.now 0) = subst (Leads c.start_state_forward.new.cache.store.table c.in_ok-start.start) (state_first Forward c.args.self.now c.args.input.now) c.in_ok-start.ensures.answer.named in
     let dies : state_in Forward c.args.self.now c.args.input.now 0 ≡ dead = (dead_tagged c.start_state_forward.new.cache.store.table c.in_ok-start.start (c.see_ids.ensures.low c.in_ok-start.start) c.see_ids.ensures.small _ leads).0 (c.if-is_dead.ensures.0 refl) in
     starts_dead Forward c.args.self.now c.args.input.now dies
 
 pub returns-then-is_dead-clause-clean : goal.returns-then-is_dead-clause-clean
 returns-then-is_dead-clause-clean c =
-    let leads : Leads c.start_state_forward.new.cache.store.table c.in_ok-start.start (state_in Forward c.args.self.now c.args.input.now 0) = subst (Leads c.start_state_forward.new.cache.store.table c.in_ok-start.start) (state_first Forward c.args.self.now c.args.input.now) c.in_ok-start.ensures.named in
+    let leads : Leads c.start_state_forward.new.cache.store.table c.in_ok-start.start (state_in Forward c.args.self.now c.args.input.now 0) = subst (Leads c.start_state_forward.new.cache.store.table c.in_ok-start.start) (state_first Forward c.args.self.now c.args.input.now) c.in_ok-start.ensures.answer.named in
     let dies : state_in Forward c.args.self.now c.args.input.now 0 ≡ dead = (dead_tagged c.start_state_forward.new.cache.store.table c.in_ok-start.start (c.see_ids.ensures.low c.in_ok-start.start) c.see_ids.ensures.small _ leads).0 (c.if-is_dead.ensures.0 refl) in
-    let behind : quit_behind c.args.self.now (byte_before c.args.input.now.haystack c.args.input.now.start) ≡ None = none_behind _ c.start_state_forward.result _ c.in_ok-start.start c.start_state_forward.ensures.quit c.in_ok-start.was in
+    let behind : quit_behind c.args.self.now (byte_before c.args.input.now.haystack c.args.input.now.start) ≡ None = c.in_ok-start.ensures.answer.may.0 in
     clean_start Forward c.args.self.now c.args.input.now dies behind
 
 pub find_fwd-requires-clause-named : goal.find_fwd-requires-clause-named
 find_fwd-requires-clause-named c =
-    let leads : Leads c.start_state_forward.new.cache.store.table c.in_ok-start.start (state_in Forward c.args.self.now c.args.input.now 0) = subst (Leads c.start_state_forward.new.cache.store.table c.in_ok-start.start) (state_first Forward c.args.self.now c.args.input.now) c.in_ok-start.ensures.named in
+    let leads : Leads c.start_state_forward.new.cache.store.table c.in_ok-start.start (state_in Forward c.args.self.now c.args.input.now 0) = subst (Leads c.start_state_forward.new.cache.store.table c.in_ok-start.start) (state_first Forward c.args.self.now c.args.input.now) c.in_ok-start.ensures.answer.named in
     subst (λ (t : Rows). Names t c.in_ok-start.start (state_in Forward c.args.self.now c.args.input.now 0)) (sym c.search_start.ensures.table)
     ((dead_tagged c.start_state_forward.new.cache.store.table c.in_ok-start.start (c.see_ids.ensures.low c.in_ok-start.start) c.see_ids.ensures.small _ leads).1 (λ b. false_true (c.if-is_dead.ensures.1 b)))
 
 pub find_fwd-requires-clause-may : goal.find_fwd-requires-clause-may
-find_fwd-requires-clause-may c = may_start c.args.self.now c.args.input.now.anchored (byte_before c.args.input.now.haystack c.args.input.now.start) c.start_state_forward.result _ _ c.in_ok-start.start c.start_state_forward.ensures.quit c.start_state_forward.ensures.unsupported c.in_ok-start.was
+find_fwd-requires-clause-may c = c.in_ok-start.ensures.answer.may
 
 pub returns-in_err-start-clause-idle : goal.returns-in_err-start-clause-idle
 returns-in_err-start-clause-idle c = λ knows.
-    let begins = start_idle c.args.self.now c.args.cache.now c.start_state_forward.new.cache c.args.input.now.anchored (byte_before c.args.input.now.haystack c.args.input.now.start) c.start_state_forward.result (dead_id c.args.self.now.stride) (c.args.input.now.start - 1) (c.args.input.now.start) (c.see_slots.ensures ∙ ap (λ (m : Machine). m.slots) c.requires.of) c.start_state_forward.ensures.known c.start_state_forward.ensures.unchanged c.start_state_forward.ensures.past c.start_state_forward.ensures.past_unchanged c.start_state_forward.ensures.barred c.start_state_forward.ensures.errors (λ may. (knows may).0) in
+    let begins = start_idle c.args.self.now c.args.cache.now c.start_state_forward.new.cache c.args.input.now.anchored (byte_before c.args.input.now.haystack c.args.input.now.start) c.start_state_forward.result (c.args.input.now.start - 1) (c.args.input.now.start) (c.see_slots.ensures ∙ ap (λ (m : Machine). m.slots) c.requires.of) c.start_state_forward.ensures.refusal c.start_state_forward.ensures.effect (λ may. (knows may).0) in
     (ap (λ (v : CacheView). v.count) begins.0, if_err c.from_residual.result _ _ c.from_residual.ensures.1 (subst (λ r. IfErr r IsOfInput) c.in_err-start.was begins.1))
 
 pub returns-then-is_dead-clause-grown : goal.returns-then-is_dead-clause-grown
 returns-then-is_dead-clause-grown c =
-    let moved : IsGrown c.args.cache.now c.search_start.new.self = grown_trans c.args.cache.now c.start_state_forward.new.cache c.search_start.new.self c.in_ok-start.ensures.grown (grown_moved c.start_state_forward.new.cache c.search_start.new.self c.search_start.ensures.value) in
+    let moved : IsGrown c.args.cache.now c.search_start.new.self = grown_trans c.args.cache.now c.start_state_forward.new.cache c.search_start.new.self c.in_ok-start.ensures.effect.grown (grown_moved c.start_state_forward.new.cache c.search_start.new.self c.search_start.ensures.value) in
     grown_trans c.args.cache.now c.search_start.new.self c.end_search.new.self moved (grown_moved c.search_start.new.self c.end_search.new.self c.end_search.ensures.value)
 
 pub returns-then-is_dead-clause-idle : goal.returns-then-is_dead-clause-idle
 returns-then-is_dead-clause-idle c = λ knows.
-    let begins = start_idle c.args.self.now c.args.cache.now c.start_state_forward.new.cache c.args.input.now.anchored (byte_before c.args.input.now.haystack c.args.input.now.start) c.start_state_forward.result (dead_id c.args.self.now.stride) (c.args.input.now.start - 1) (c.args.input.now.start) (c.see_slots.ensures ∙ ap (λ (m : Machine). m.slots) c.requires.of) c.start_state_forward.ensures.known c.start_state_forward.ensures.unchanged c.start_state_forward.ensures.past c.start_state_forward.ensures.past_unchanged c.start_state_forward.ensures.barred c.start_state_forward.ensures.errors (λ may. (knows may).0) in
+    let begins = start_idle c.args.self.now c.args.cache.now c.start_state_forward.new.cache c.args.input.now.anchored (byte_before c.args.input.now.haystack c.args.input.now.start) c.start_state_forward.result (c.args.input.now.start - 1) (c.args.input.now.start) (c.see_slots.ensures ∙ ap (λ (m : Machine). m.slots) c.requires.of) c.start_state_forward.ensures.refusal c.start_state_forward.ensures.effect (λ may. (knows may).0) in
     (c.end_search.ensures.count ∙ (c.search_start.ensures.count ∙ ap (λ (v : CacheView). v.count) begins.0), tt)
 
 pub returns-then-is_dead-clause-learned : goal.returns-then-is_dead-clause-learned
 returns-then-is_dead-clause-learned c =
-    let leads : Leads c.start_state_forward.new.cache.store.table c.in_ok-start.start (state_in Forward c.args.self.now c.args.input.now 0) = subst (Leads c.start_state_forward.new.cache.store.table c.in_ok-start.start) (state_first Forward c.args.self.now c.args.input.now) c.in_ok-start.ensures.named in
+    let leads : Leads c.start_state_forward.new.cache.store.table c.in_ok-start.start (state_in Forward c.args.self.now c.args.input.now 0) = subst (Leads c.start_state_forward.new.cache.store.table c.in_ok-start.start) (state_first Forward c.args.self.now c.args.input.now) c.in_ok-start.ensures.answer.named in
     let dies : state_in Forward c.args.self.now c.args.input.now 0 ≡ dead = (dead_tagged c.start_state_forward.new.cache.store.table c.in_ok-start.start (c.see_ids.ensures.low c.in_ok-start.start) c.see_ids.ensures.small _ leads).0 (c.if-is_dead.ensures.0 refl) in
-    let all : HasLearnedAll Forward c.args.self.now c.start_state_forward.new.cache.store c.args.input.now = learned_all Forward c.args.self.now c.start_state_forward.new.cache.store c.args.input.now 0 (λ l. (c.in_ok-start.ensures.learned l).1.1) (learned_none Forward c.args.self.now c.start_state_forward.new.cache.store c.args.input.now) (stops_start Forward c.args.self.now c.args.input.now dies) in
+    let all : HasLearnedAll Forward c.args.self.now c.start_state_forward.new.cache.store c.args.input.now = learned_all Forward c.args.self.now c.start_state_forward.new.cache.store c.args.input.now 0 (λ l. (c.in_ok-start.ensures.answer.learned l).1.1) (learned_none Forward c.args.self.now c.start_state_forward.new.cache.store c.args.input.now) (stops_start Forward c.args.self.now c.args.input.now dies) in
     learned_moved Forward c.args.self.now c.args.input.now c.args.cache.now c.search_start.new.self c.end_search.new.self c.end_search.ensures.value
     (learned_moved Forward c.args.self.now c.args.input.now c.args.cache.now c.start_state_forward.new.cache c.search_start.new.self c.search_start.ensures.value (λ nothing. all))
 
 pub returns-in_err-found-clause-grown : goal.returns-in_err-found-clause-grown
 returns-in_err-found-clause-grown c =
-    let moved : IsGrown c.args.cache.now c.search_start.new.self = grown_trans c.args.cache.now c.start_state_forward.new.cache c.search_start.new.self c.in_ok-start.ensures.grown (grown_moved c.start_state_forward.new.cache c.search_start.new.self c.search_start.ensures.value) in
+    let moved : IsGrown c.args.cache.now c.search_start.new.self = grown_trans c.args.cache.now c.start_state_forward.new.cache c.search_start.new.self c.in_ok-start.ensures.effect.grown (grown_moved c.start_state_forward.new.cache c.search_start.new.self c.search_start.ensures.value) in
     grown_trans c.args.cache.now c.search_start.new.self c.find_fwd.new.cache moved c.in_err-found.ensures.grown
 
 pub returns-in_err-found-clause-idle : goal.returns-in_err-found-clause-idle
 returns-in_err-found-clause-idle c = λ knows.
-    let begins = start_idle c.args.self.now c.args.cache.now c.start_state_forward.new.cache c.args.input.now.anchored (byte_before c.args.input.now.haystack c.args.input.now.start) c.start_state_forward.result (dead_id c.args.self.now.stride) (c.args.input.now.start - 1) (c.args.input.now.start) (c.see_slots.ensures ∙ ap (λ (m : Machine). m.slots) c.requires.of) c.start_state_forward.ensures.known c.start_state_forward.ensures.unchanged c.start_state_forward.ensures.past c.start_state_forward.ensures.past_unchanged c.start_state_forward.ensures.barred c.start_state_forward.ensures.errors (λ may. (knows may).0) in
+    let begins = start_idle c.args.self.now c.args.cache.now c.start_state_forward.new.cache c.args.input.now.anchored (byte_before c.args.input.now.haystack c.args.input.now.start) c.start_state_forward.result (c.args.input.now.start - 1) (c.args.input.now.start) (c.see_slots.ensures ∙ ap (λ (m : Machine). m.slots) c.requires.of) c.start_state_forward.ensures.refusal c.start_state_forward.ensures.effect (λ may. (knows may).0) in
     let count : c.search_start.new.self.count ≡ c.args.cache.now.count = c.search_start.ensures.count ∙ ap (λ (v : CacheView). v.count) begins.0 in
-    let moved : IsGrown c.args.cache.now c.search_start.new.self = grown_trans c.args.cache.now c.start_state_forward.new.cache c.search_start.new.self c.in_ok-start.ensures.grown (grown_moved c.start_state_forward.new.cache c.search_start.new.self c.search_start.ensures.value) in
+    let moved : IsGrown c.args.cache.now c.search_start.new.self = grown_trans c.args.cache.now c.start_state_forward.new.cache c.search_start.new.self c.in_ok-start.ensures.effect.grown (grown_moved c.start_state_forward.new.cache c.search_start.new.self c.search_start.ensures.value) in
     let still : KnowsPass Forward c.args.self.now c.search_start.new.self.store c.args.input.now = knows_still Forward c.args.self.now c.args.input.now c.args.cache.now c.search_start.new.self moved count knows in
     let idle = c.in_err-found.ensures.idle still in
     (idle.0 ∙ count, if_err c.from_residual-in_err-found.result _ _ c.from_residual-in_err-found.ensures.1 idle.1)
 
 pub returns-clause-grown : goal.returns-clause-grown
 returns-clause-grown c =
-    let moved : IsGrown c.args.cache.now c.search_start.new.self = grown_trans c.args.cache.now c.start_state_forward.new.cache c.search_start.new.self c.in_ok-start.ensures.grown (grown_moved c.start_state_forward.new.cache c.search_start.new.self c.search_start.ensures.value) in
+    let moved : IsGrown c.args.cache.now c.search_start.new.self = grown_trans c.args.cache.now c.start_state_forward.new.cache c.search_start.new.self c.in_ok-start.ensures.effect.grown (grown_moved c.start_state_forward.new.cache c.search_start.new.self c.search_start.ensures.value) in
     grown_trans c.args.cache.now c.search_start.new.self c.find_fwd.new.cache moved c.in_ok-found.ensures.grown
 
 pub returns-clause-idle : goal.returns-clause-idle
 returns-clause-idle c = λ knows.
-    let begins = start_idle c.args.self.now c.args.cache.now c.start_state_forward.new.cache c.args.input.now.anchored (byte_before c.args.input.now.haystack c.args.input.now.start) c.start_state_forward.result (dead_id c.args.self.now.stride) (c.args.input.now.start - 1) (c.args.input.now.start) (c.see_slots.ensures ∙ ap (λ (m : Machine). m.slots) c.requires.of) c.start_state_forward.ensures.known c.start_state_forward.ensures.unchanged c.start_state_forward.ensures.past c.start_state_forward.ensures.past_unchanged c.start_state_forward.ensures.barred c.start_state_forward.ensures.errors (λ may. (knows may).0) in
+    let begins = start_idle c.args.self.now c.args.cache.now c.start_state_forward.new.cache c.args.input.now.anchored (byte_before c.args.input.now.haystack c.args.input.now.start) c.start_state_forward.result (c.args.input.now.start - 1) (c.args.input.now.start) (c.see_slots.ensures ∙ ap (λ (m : Machine). m.slots) c.requires.of) c.start_state_forward.ensures.refusal c.start_state_forward.ensures.effect (λ may. (knows may).0) in
     let count : c.search_start.new.self.count ≡ c.args.cache.now.count = c.search_start.ensures.count ∙ ap (λ (v : CacheView). v.count) begins.0 in
-    let moved : IsGrown c.args.cache.now c.search_start.new.self = grown_trans c.args.cache.now c.start_state_forward.new.cache c.search_start.new.self c.in_ok-start.ensures.grown (grown_moved c.start_state_forward.new.cache c.search_start.new.self c.search_start.ensures.value) in
+    let moved : IsGrown c.args.cache.now c.search_start.new.self = grown_trans c.args.cache.now c.start_state_forward.new.cache c.search_start.new.self c.in_ok-start.ensures.effect.grown (grown_moved c.start_state_forward.new.cache c.search_start.new.self c.search_start.ensures.value) in
     let still : KnowsPass Forward c.args.self.now c.search_start.new.self.store c.args.input.now = knows_still Forward c.args.self.now c.args.input.now c.args.cache.now c.search_start.new.self moved count knows in
     let idle = c.in_ok-found.ensures.idle still in
     (idle.0 ∙ count, tt)
 
 pub returns-clause-learned : goal.returns-clause-learned
 returns-clause-learned c = λ nothing.
-    let moved : IsGrown c.args.cache.now c.search_start.new.self = grown_trans c.args.cache.now c.start_state_forward.new.cache c.search_start.new.self c.in_ok-start.ensures.grown (grown_moved c.start_state_forward.new.cache c.search_start.new.self c.search_start.ensures.value) in
+    let moved : IsGrown c.args.cache.now c.search_start.new.self = grown_trans c.args.cache.now c.start_state_forward.new.cache c.search_start.new.self c.in_ok-start.ensures.effect.grown (grown_moved c.start_state_forward.new.cache c.search_start.new.self c.search_start.ensures.value) in
     c.in_ok-found.ensures.learned
-    (λ l. subst (λ (v : CacheView). IsKnownStart v.store (slot_behind c.args.self.now c.args.input.now.anchored (byte_before c.args.input.now.haystack c.args.input.now.start))) (sym c.search_start.ensures.value) (c.in_ok-start.ensures.learned l).1.1)
+    (λ l. subst (λ (v : CacheView). IsKnownStart v.store (slot_behind c.args.self.now c.args.input.now.anchored (byte_before c.args.input.now.haystack c.args.input.now.start))) (sym c.search_start.ensures.value) (c.in_ok-start.ensures.answer.learned l).1.1)
     (nothing_second c.args.cache.now c.search_start.new.self c.find_fwd.new.cache moved c.in_ok-found.ensures.grown nothing)

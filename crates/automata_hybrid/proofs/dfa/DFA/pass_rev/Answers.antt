@@ -6,40 +6,39 @@ use Rattle.std.specs.Prelude.{IfErr}
 use Rattle.automata_hybrid.specs.Bounds.{IsKnownStart}
 use Rattle.automata_hybrid.specs.Caches.{CacheView}
 use Rattle.automata_hybrid.specs.Growing.{IsGrown}
-use Rattle.automata_hybrid.specs.Ids.{dead_id}
 use Rattle.automata_hybrid.specs.Knowing.{IsOfInput, KnowsPass}
 use Rattle.automata_hybrid.specs.Machine.{Machine}
 use Rattle.automata_hybrid.specs.Slots.{slot_behind}
 use Rattle.automata_hybrid.proofs.Growing.{grown_moved, grown_trans, nothing_second}
-use Rattle.automata_hybrid.proofs.Knowing.{knows_still, learned_all, learned_moved, learned_none, may_start, start_idle}
+use Rattle.automata_hybrid.proofs.Knowing.{knows_still, learned_all, learned_moved, learned_none, start_idle}
 use Rattle.automata_hybrid.specs.Passing.{HasLearned, HasLearnedAll, IsAt}
 use Rattle.automata_hybrid.specs.Searches.{state_in}
 use Rattle.automata_hybrid.specs.Starting.{quit_behind}
 use Rattle.automata_hybrid.specs.Table.{Rows, Names}
 use Rattle.automata_hybrid.proofs.Backward.{begins_dead, begins_alive}
-use Rattle.automata_hybrid.proofs.Searching.{if_err, stops_start, starts_at, starts_dead, clean_start, none_behind, false_true}
+use Rattle.automata_hybrid.proofs.Searching.{if_err, stops_start, starts_at, starts_dead, clean_start, false_true}
 use Rattle.automata_hybrid.proofs.dfa.DFA.pass_rev.Goals as goal
 
 pub returns-then-is_dead-clause-found : goal.returns-then-is_dead-clause-found
 returns-then-is_dead-clause-found c =
-    let dies : state_in Backward c.args.self.now c.args.input.now 0 ≡ dead = begins_dead c.args.self.now c.start_state_reverse.new.cache.store.table c.args.input.now c.in_ok-start.start c.in_ok-start.ensures.named (c.see_ids.ensures.low c.in_ok-start.start) c.see_ids.ensures.small (c.if-is_dead.ensures.0 refl) in
+    let dies : state_in Backward c.args.self.now c.args.input.now 0 ≡ dead = begins_dead c.args.self.now c.start_state_reverse.new.cache.store.table c.args.input.now c.in_ok-start.start c.in_ok-start.ensures.answer.named (c.see_ids.ensures.low c.in_ok-start.start) c.see_ids.ensures.small (c.if-is_dead.ensures.0 refl) in
     starts_dead Backward c.args.self.now c.args.input.now dies
 
 pub returns-then-is_dead-clause-clean : goal.returns-then-is_dead-clause-clean
 returns-then-is_dead-clause-clean c =
-    let dies : state_in Backward c.args.self.now c.args.input.now 0 ≡ dead = begins_dead c.args.self.now c.start_state_reverse.new.cache.store.table c.args.input.now c.in_ok-start.start c.in_ok-start.ensures.named (c.see_ids.ensures.low c.in_ok-start.start) c.see_ids.ensures.small (c.if-is_dead.ensures.0 refl) in
-    let behind : quit_behind c.args.self.now (nth c.args.input.now.haystack c.args.input.now.end) ≡ None = none_behind _ c.start_state_reverse.result _ c.in_ok-start.start c.start_state_reverse.ensures.quit c.in_ok-start.was in
+    let dies : state_in Backward c.args.self.now c.args.input.now 0 ≡ dead = begins_dead c.args.self.now c.start_state_reverse.new.cache.store.table c.args.input.now c.in_ok-start.start c.in_ok-start.ensures.answer.named (c.see_ids.ensures.low c.in_ok-start.start) c.see_ids.ensures.small (c.if-is_dead.ensures.0 refl) in
+    let behind : quit_behind c.args.self.now (nth c.args.input.now.haystack c.args.input.now.end) ≡ None = c.in_ok-start.ensures.answer.may.0 in
     clean_start Backward c.args.self.now c.args.input.now dies behind
 
 pub returns-then-is_dead-2-clause-found : goal.returns-then-is_dead-2-clause-found
 returns-then-is_dead-2-clause-found c =
-    let dies : state_in Backward c.args.self.now c.args.input.now 0 ≡ dead = begins_dead c.args.self.now c.start_state_reverse.new.cache.store.table c.args.input.now c.in_ok-start.start c.in_ok-start.ensures.named (c.see_ids.ensures.low c.in_ok-start.start) c.see_ids.ensures.small (c.if-is_dead-2.ensures.0 refl) in
+    let dies : state_in Backward c.args.self.now c.args.input.now 0 ≡ dead = begins_dead c.args.self.now c.start_state_reverse.new.cache.store.table c.args.input.now c.in_ok-start.start c.in_ok-start.ensures.answer.named (c.see_ids.ensures.low c.in_ok-start.start) c.see_ids.ensures.small (c.if-is_dead-2.ensures.0 refl) in
     starts_dead Backward c.args.self.now c.args.input.now dies
 
 pub returns-then-is_dead-2-clause-clean : goal.returns-then-is_dead-2-clause-clean
 returns-then-is_dead-2-clause-clean c =
-    let dies : state_in Backward c.args.self.now c.args.input.now 0 ≡ dead = begins_dead c.args.self.now c.start_state_reverse.new.cache.store.table c.args.input.now c.in_ok-start.start c.in_ok-start.ensures.named (c.see_ids.ensures.low c.in_ok-start.start) c.see_ids.ensures.small (c.if-is_dead-2.ensures.0 refl) in
-    let behind : quit_behind c.args.self.now (nth c.args.input.now.haystack c.args.input.now.end) ≡ None = none_behind _ c.start_state_reverse.result _ c.in_ok-start.start c.start_state_reverse.ensures.quit c.in_ok-start.was in
+    let dies : state_in Backward c.args.self.now c.args.input.now 0 ≡ dead = begins_dead c.args.self.now c.start_state_reverse.new.cache.store.table c.args.input.now c.in_ok-start.start c.in_ok-start.ensures.answer.named (c.see_ids.ensures.low c.in_ok-start.start) c.see_ids.ensures.small (c.if-is_dead-2.ensures.0 refl) in
+    let behind : quit_behind c.args.self.now (nth c.args.input.now.haystack c.args.input.now.end) ≡ None = c.in_ok-start.ensures.answer.may.0 in
     clean_start Backward c.args.self.now c.args.input.now dies behind
 
 pub find_end_rev-requires-clause-at : goal.find_end_rev-requires-clause-at
@@ -47,100 +46,100 @@ find_end_rev-requires-clause-at c =
     let z : 0 ≡ c.args.input.now.end - c.args.input.now.start = omega (arith, c.if-start-end.true, c.start.ensures.start, c.end.ensures.end) in
     subst (λ k. IsAt Backward c.args.self.now c.start_state_reverse.new.cache.store.table c.args.input.now k c.in_ok-start.start None) z
     (starts_at Backward c.args.self.now c.start_state_reverse.new.cache.store.table c.args.input.now c.in_ok-start.start
-    (begins_alive c.args.self.now c.start_state_reverse.new.cache.store.table c.args.input.now c.in_ok-start.start c.in_ok-start.ensures.named (c.see_ids.ensures.low c.in_ok-start.start) c.see_ids.ensures.small (λ b. false_true (c.if-is_dead.ensures.1 b))))
+    (begins_alive c.args.self.now c.start_state_reverse.new.cache.store.table c.args.input.now c.in_ok-start.start c.in_ok-start.ensures.answer.named (c.see_ids.ensures.low c.in_ok-start.start) c.see_ids.ensures.small (λ b. false_true (c.if-is_dead.ensures.1 b))))
 
 pub find_rev-requires-clause-named : goal.find_rev-requires-clause-named
 find_rev-requires-clause-named c =
     subst (λ (t : Rows). Names t c.in_ok-start.start (state_in Backward c.args.self.now c.args.input.now 0)) (sym c.search_start.ensures.table)
-    (begins_alive c.args.self.now c.start_state_reverse.new.cache.store.table c.args.input.now c.in_ok-start.start c.in_ok-start.ensures.named (c.see_ids.ensures.low c.in_ok-start.start) c.see_ids.ensures.small (λ b. false_true (c.if-is_dead-2.ensures.1 b)))
+    (begins_alive c.args.self.now c.start_state_reverse.new.cache.store.table c.args.input.now c.in_ok-start.start c.in_ok-start.ensures.answer.named (c.see_ids.ensures.low c.in_ok-start.start) c.see_ids.ensures.small (λ b. false_true (c.if-is_dead-2.ensures.1 b)))
 
 pub find_end_rev-requires-clause-may : goal.find_end_rev-requires-clause-may
-find_end_rev-requires-clause-may c = may_start c.args.self.now c.args.input.now.anchored (nth c.args.input.now.haystack c.args.input.now.end) c.start_state_reverse.result _ _ c.in_ok-start.start c.start_state_reverse.ensures.quit c.start_state_reverse.ensures.unsupported c.in_ok-start.was
+find_end_rev-requires-clause-may c = c.in_ok-start.ensures.answer.may
 
 pub find_rev-requires-clause-may : goal.find_rev-requires-clause-may
-find_rev-requires-clause-may c = may_start c.args.self.now c.args.input.now.anchored (nth c.args.input.now.haystack c.args.input.now.end) c.start_state_reverse.result _ _ c.in_ok-start.start c.start_state_reverse.ensures.quit c.start_state_reverse.ensures.unsupported c.in_ok-start.was
+find_rev-requires-clause-may c = c.in_ok-start.ensures.answer.may
 
 pub returns-in_err-start-clause-idle : goal.returns-in_err-start-clause-idle
 returns-in_err-start-clause-idle c = λ knows.
-    let begins = start_idle c.args.self.now c.args.cache.now c.start_state_reverse.new.cache c.args.input.now.anchored (nth c.args.input.now.haystack c.args.input.now.end) c.start_state_reverse.result (dead_id c.args.self.now.stride) c.args.input.now.end c.args.input.now.end (c.see_slots.ensures ∙ ap (λ (n : Machine). n.slots) c.requires.of) c.start_state_reverse.ensures.known c.start_state_reverse.ensures.unchanged c.start_state_reverse.ensures.past c.start_state_reverse.ensures.past_unchanged c.start_state_reverse.ensures.barred c.start_state_reverse.ensures.errors (λ may. (knows may).0) in
+    let begins = start_idle c.args.self.now c.args.cache.now c.start_state_reverse.new.cache c.args.input.now.anchored (nth c.args.input.now.haystack c.args.input.now.end) c.start_state_reverse.result c.args.input.now.end c.args.input.now.end (c.see_slots.ensures ∙ ap (λ (n : Machine). n.slots) c.requires.of) c.start_state_reverse.ensures.refusal c.start_state_reverse.ensures.effect (λ may. (knows may).0) in
     (ap (λ (v : CacheView). v.count) begins.0, if_err c.from_residual.result _ _ c.from_residual.ensures.1 (subst (λ r. IfErr r IsOfInput) c.in_err-start.was begins.1))
 
 pub returns-then-is_dead-clause-idle : goal.returns-then-is_dead-clause-idle
 returns-then-is_dead-clause-idle c = λ knows.
-    let begins = start_idle c.args.self.now c.args.cache.now c.start_state_reverse.new.cache c.args.input.now.anchored (nth c.args.input.now.haystack c.args.input.now.end) c.start_state_reverse.result (dead_id c.args.self.now.stride) c.args.input.now.end c.args.input.now.end (c.see_slots.ensures ∙ ap (λ (n : Machine). n.slots) c.requires.of) c.start_state_reverse.ensures.known c.start_state_reverse.ensures.unchanged c.start_state_reverse.ensures.past c.start_state_reverse.ensures.past_unchanged c.start_state_reverse.ensures.barred c.start_state_reverse.ensures.errors (λ may. (knows may).0) in
+    let begins = start_idle c.args.self.now c.args.cache.now c.start_state_reverse.new.cache c.args.input.now.anchored (nth c.args.input.now.haystack c.args.input.now.end) c.start_state_reverse.result c.args.input.now.end c.args.input.now.end (c.see_slots.ensures ∙ ap (λ (n : Machine). n.slots) c.requires.of) c.start_state_reverse.ensures.refusal c.start_state_reverse.ensures.effect (λ may. (knows may).0) in
     (ap (λ (v : CacheView). v.count) begins.0, tt)
 
 pub returns-then-is_dead-clause-learned : goal.returns-then-is_dead-clause-learned
 returns-then-is_dead-clause-learned c = λ nothing.
-    let dies : state_in Backward c.args.self.now c.args.input.now 0 ≡ dead = begins_dead c.args.self.now c.start_state_reverse.new.cache.store.table c.args.input.now c.in_ok-start.start c.in_ok-start.ensures.named (c.see_ids.ensures.low c.in_ok-start.start) c.see_ids.ensures.small (c.if-is_dead.ensures.0 refl) in
-    let all : HasLearnedAll Backward c.args.self.now c.start_state_reverse.new.cache.store c.args.input.now = learned_all Backward c.args.self.now c.start_state_reverse.new.cache.store c.args.input.now 0 (λ l. (c.in_ok-start.ensures.learned l).1.1) (learned_none Backward c.args.self.now c.start_state_reverse.new.cache.store c.args.input.now) (stops_start Backward c.args.self.now c.args.input.now dies) in
+    let dies : state_in Backward c.args.self.now c.args.input.now 0 ≡ dead = begins_dead c.args.self.now c.start_state_reverse.new.cache.store.table c.args.input.now c.in_ok-start.start c.in_ok-start.ensures.answer.named (c.see_ids.ensures.low c.in_ok-start.start) c.see_ids.ensures.small (c.if-is_dead.ensures.0 refl) in
+    let all : HasLearnedAll Backward c.args.self.now c.start_state_reverse.new.cache.store c.args.input.now = learned_all Backward c.args.self.now c.start_state_reverse.new.cache.store c.args.input.now 0 (λ l. (c.in_ok-start.ensures.answer.learned l).1.1) (learned_none Backward c.args.self.now c.start_state_reverse.new.cache.store c.args.input.now) (stops_start Backward c.args.self.now c.args.input.now dies) in
     all
 
 pub returns-then-start-end-clause-grown : goal.returns-then-start-end-clause-grown
-returns-then-start-end-clause-grown c = grown_trans c.args.cache.now c.start_state_reverse.new.cache c.find_end_rev.new.cache c.in_ok-start.ensures.grown c.find_end_rev.ensures.grown
+returns-then-start-end-clause-grown c = grown_trans c.args.cache.now c.start_state_reverse.new.cache c.find_end_rev.new.cache c.in_ok-start.ensures.effect.grown c.find_end_rev.ensures.grown
 
 pub returns-then-start-end-clause-idle : goal.returns-then-start-end-clause-idle
 returns-then-start-end-clause-idle c = λ knows.
-    let begins = start_idle c.args.self.now c.args.cache.now c.start_state_reverse.new.cache c.args.input.now.anchored (nth c.args.input.now.haystack c.args.input.now.end) c.start_state_reverse.result (dead_id c.args.self.now.stride) c.args.input.now.end c.args.input.now.end (c.see_slots.ensures ∙ ap (λ (n : Machine). n.slots) c.requires.of) c.start_state_reverse.ensures.known c.start_state_reverse.ensures.unchanged c.start_state_reverse.ensures.past c.start_state_reverse.ensures.past_unchanged c.start_state_reverse.ensures.barred c.start_state_reverse.ensures.errors (λ may. (knows may).0) in
+    let begins = start_idle c.args.self.now c.args.cache.now c.start_state_reverse.new.cache c.args.input.now.anchored (nth c.args.input.now.haystack c.args.input.now.end) c.start_state_reverse.result c.args.input.now.end c.args.input.now.end (c.see_slots.ensures ∙ ap (λ (n : Machine). n.slots) c.requires.of) c.start_state_reverse.ensures.refusal c.start_state_reverse.ensures.effect (λ may. (knows may).0) in
     let count : c.start_state_reverse.new.cache.count ≡ c.args.cache.now.count = ap (λ (v : CacheView). v.count) begins.0 in
-    let idle = c.find_end_rev.ensures.idle (knows_still Backward c.args.self.now c.args.input.now c.args.cache.now c.start_state_reverse.new.cache c.in_ok-start.ensures.grown count knows) in
+    let idle = c.find_end_rev.ensures.idle (knows_still Backward c.args.self.now c.args.input.now c.args.cache.now c.start_state_reverse.new.cache c.in_ok-start.ensures.effect.grown count knows) in
     (idle.0 ∙ count, idle.1)
 
 pub returns-then-start-end-clause-learned : goal.returns-then-start-end-clause-learned
 returns-then-start-end-clause-learned c = λ nothing.
     let z : 0 ≡ c.args.input.now.end - c.args.input.now.start = omega (arith, c.if-start-end.true, c.start.ensures.start, c.end.ensures.end) in
-    c.find_end_rev.ensures.learned (λ l. (c.in_ok-start.ensures.learned l).1.1)
+    c.find_end_rev.ensures.learned (λ l. (c.in_ok-start.ensures.answer.learned l).1.1)
     (subst (HasLearned Backward c.args.self.now c.start_state_reverse.new.cache.store c.args.input.now) z (learned_none Backward c.args.self.now c.start_state_reverse.new.cache.store c.args.input.now))
-    (nothing_second c.args.cache.now c.start_state_reverse.new.cache c.find_end_rev.new.cache c.in_ok-start.ensures.grown c.find_end_rev.ensures.grown nothing)
+    (nothing_second c.args.cache.now c.start_state_reverse.new.cache c.find_end_rev.new.cache c.in_ok-start.ensures.effect.grown c.find_end_rev.ensures.grown nothing)
 
 pub returns-then-is_dead-2-clause-grown : goal.returns-then-is_dead-2-clause-grown
 returns-then-is_dead-2-clause-grown c =
-    let moved : IsGrown c.args.cache.now c.search_start.new.self = grown_trans c.args.cache.now c.start_state_reverse.new.cache c.search_start.new.self c.in_ok-start.ensures.grown (grown_moved c.start_state_reverse.new.cache c.search_start.new.self c.search_start.ensures.value) in
+    let moved : IsGrown c.args.cache.now c.search_start.new.self = grown_trans c.args.cache.now c.start_state_reverse.new.cache c.search_start.new.self c.in_ok-start.ensures.effect.grown (grown_moved c.start_state_reverse.new.cache c.search_start.new.self c.search_start.ensures.value) in
     grown_trans c.args.cache.now c.search_start.new.self c.end_search.new.self moved (grown_moved c.search_start.new.self c.end_search.new.self c.end_search.ensures.value)
 
 pub returns-then-is_dead-2-clause-idle : goal.returns-then-is_dead-2-clause-idle
 returns-then-is_dead-2-clause-idle c = λ knows.
-    let begins = start_idle c.args.self.now c.args.cache.now c.start_state_reverse.new.cache c.args.input.now.anchored (nth c.args.input.now.haystack c.args.input.now.end) c.start_state_reverse.result (dead_id c.args.self.now.stride) c.args.input.now.end c.args.input.now.end (c.see_slots.ensures ∙ ap (λ (n : Machine). n.slots) c.requires.of) c.start_state_reverse.ensures.known c.start_state_reverse.ensures.unchanged c.start_state_reverse.ensures.past c.start_state_reverse.ensures.past_unchanged c.start_state_reverse.ensures.barred c.start_state_reverse.ensures.errors (λ may. (knows may).0) in
+    let begins = start_idle c.args.self.now c.args.cache.now c.start_state_reverse.new.cache c.args.input.now.anchored (nth c.args.input.now.haystack c.args.input.now.end) c.start_state_reverse.result c.args.input.now.end c.args.input.now.end (c.see_slots.ensures ∙ ap (λ (n : Machine). n.slots) c.requires.of) c.start_state_reverse.ensures.refusal c.start_state_reverse.ensures.effect (λ may. (knows may).0) in
     (c.end_search.ensures.count ∙ (c.search_start.ensures.count ∙ ap (λ (v : CacheView). v.count) begins.0), tt)
 
 pub returns-then-is_dead-2-clause-learned : goal.returns-then-is_dead-2-clause-learned
 returns-then-is_dead-2-clause-learned c =
-    let dies : state_in Backward c.args.self.now c.args.input.now 0 ≡ dead = begins_dead c.args.self.now c.start_state_reverse.new.cache.store.table c.args.input.now c.in_ok-start.start c.in_ok-start.ensures.named (c.see_ids.ensures.low c.in_ok-start.start) c.see_ids.ensures.small (c.if-is_dead-2.ensures.0 refl) in
-    let all : HasLearnedAll Backward c.args.self.now c.start_state_reverse.new.cache.store c.args.input.now = learned_all Backward c.args.self.now c.start_state_reverse.new.cache.store c.args.input.now 0 (λ l. (c.in_ok-start.ensures.learned l).1.1) (learned_none Backward c.args.self.now c.start_state_reverse.new.cache.store c.args.input.now) (stops_start Backward c.args.self.now c.args.input.now dies) in
+    let dies : state_in Backward c.args.self.now c.args.input.now 0 ≡ dead = begins_dead c.args.self.now c.start_state_reverse.new.cache.store.table c.args.input.now c.in_ok-start.start c.in_ok-start.ensures.answer.named (c.see_ids.ensures.low c.in_ok-start.start) c.see_ids.ensures.small (c.if-is_dead-2.ensures.0 refl) in
+    let all : HasLearnedAll Backward c.args.self.now c.start_state_reverse.new.cache.store c.args.input.now = learned_all Backward c.args.self.now c.start_state_reverse.new.cache.store c.args.input.now 0 (λ l. (c.in_ok-start.ensures.answer.learned l).1.1) (learned_none Backward c.args.self.now c.start_state_reverse.new.cache.store c.args.input.now) (stops_start Backward c.args.self.now c.args.input.now dies) in
     learned_moved Backward c.args.self.now c.args.input.now c.args.cache.now c.search_start.new.self c.end_search.new.self c.end_search.ensures.value
     (learned_moved Backward c.args.self.now c.args.input.now c.args.cache.now c.start_state_reverse.new.cache c.search_start.new.self c.search_start.ensures.value (λ nothing. all))
 
 pub returns-in_err-found-clause-grown : goal.returns-in_err-found-clause-grown
 returns-in_err-found-clause-grown c =
-    let moved : IsGrown c.args.cache.now c.search_start.new.self = grown_trans c.args.cache.now c.start_state_reverse.new.cache c.search_start.new.self c.in_ok-start.ensures.grown (grown_moved c.start_state_reverse.new.cache c.search_start.new.self c.search_start.ensures.value) in
+    let moved : IsGrown c.args.cache.now c.search_start.new.self = grown_trans c.args.cache.now c.start_state_reverse.new.cache c.search_start.new.self c.in_ok-start.ensures.effect.grown (grown_moved c.start_state_reverse.new.cache c.search_start.new.self c.search_start.ensures.value) in
     grown_trans c.args.cache.now c.search_start.new.self c.find_rev.new.cache moved c.in_err-found.ensures.grown
 
 pub returns-in_err-found-clause-idle : goal.returns-in_err-found-clause-idle
 returns-in_err-found-clause-idle c = λ knows.
-    let begins = start_idle c.args.self.now c.args.cache.now c.start_state_reverse.new.cache c.args.input.now.anchored (nth c.args.input.now.haystack c.args.input.now.end) c.start_state_reverse.result (dead_id c.args.self.now.stride) c.args.input.now.end c.args.input.now.end (c.see_slots.ensures ∙ ap (λ (n : Machine). n.slots) c.requires.of) c.start_state_reverse.ensures.known c.start_state_reverse.ensures.unchanged c.start_state_reverse.ensures.past c.start_state_reverse.ensures.past_unchanged c.start_state_reverse.ensures.barred c.start_state_reverse.ensures.errors (λ may. (knows may).0) in
+    let begins = start_idle c.args.self.now c.args.cache.now c.start_state_reverse.new.cache c.args.input.now.anchored (nth c.args.input.now.haystack c.args.input.now.end) c.start_state_reverse.result c.args.input.now.end c.args.input.now.end (c.see_slots.ensures ∙ ap (λ (n : Machine). n.slots) c.requires.of) c.start_state_reverse.ensures.refusal c.start_state_reverse.ensures.effect (λ may. (knows may).0) in
     let count : c.search_start.new.self.count ≡ c.args.cache.now.count = c.search_start.ensures.count ∙ ap (λ (v : CacheView). v.count) begins.0 in
-    let moved : IsGrown c.args.cache.now c.search_start.new.self = grown_trans c.args.cache.now c.start_state_reverse.new.cache c.search_start.new.self c.in_ok-start.ensures.grown (grown_moved c.start_state_reverse.new.cache c.search_start.new.self c.search_start.ensures.value) in
+    let moved : IsGrown c.args.cache.now c.search_start.new.self = grown_trans c.args.cache.now c.start_state_reverse.new.cache c.search_start.new.self c.in_ok-start.ensures.effect.grown (grown_moved c.start_state_reverse.new.cache c.search_start.new.self c.search_start.ensures.value) in
     let still : KnowsPass Backward c.args.self.now c.search_start.new.self.store c.args.input.now = knows_still Backward c.args.self.now c.args.input.now c.args.cache.now c.search_start.new.self moved count knows in
     let idle = c.in_err-found.ensures.idle still in
     (idle.0 ∙ count, if_err c.from_residual-in_err-found.result _ _ c.from_residual-in_err-found.ensures.1 idle.1)
 
 pub returns-clause-grown : goal.returns-clause-grown
 returns-clause-grown c =
-    let moved : IsGrown c.args.cache.now c.search_start.new.self = grown_trans c.args.cache.now c.start_state_reverse.new.cache c.search_start.new.self c.in_ok-start.ensures.grown (grown_moved c.start_state_reverse.new.cache c.search_start.new.self c.search_start.ensures.value) in
+    let moved : IsGrown c.args.cache.now c.search_start.new.self = grown_trans c.args.cache.now c.start_state_reverse.new.cache c.search_start.new.self c.in_ok-start.ensures.effect.grown (grown_moved c.start_state_reverse.new.cache c.search_start.new.self c.search_start.ensures.value) in
     grown_trans c.args.cache.now c.search_start.new.self c.find_rev.new.cache moved c.in_ok-found.ensures.grown
 
 pub returns-clause-idle : goal.returns-clause-idle
 returns-clause-idle c = λ knows.
-    let begins = start_idle c.args.self.now c.args.cache.now c.start_state_reverse.new.cache c.args.input.now.anchored (nth c.args.input.now.haystack c.args.input.now.end) c.start_state_reverse.result (dead_id c.args.self.now.stride) c.args.input.now.end c.args.input.now.end (c.see_slots.ensures ∙ ap (λ (n : Machine). n.slots) c.requires.of) c.start_state_reverse.ensures.known c.start_state_reverse.ensures.unchanged c.start_state_reverse.ensures.past c.start_state_reverse.ensures.past_unchanged c.start_state_reverse.ensures.barred c.start_state_reverse.ensures.errors (λ may. (knows may).0) in
+    let begins = start_idle c.args.self.now c.args.cache.now c.start_state_reverse.new.cache c.args.input.now.anchored (nth c.args.input.now.haystack c.args.input.now.end) c.start_state_reverse.result c.args.input.now.end c.args.input.now.end (c.see_slots.ensures ∙ ap (λ (n : Machine). n.slots) c.requires.of) c.start_state_reverse.ensures.refusal c.start_state_reverse.ensures.effect (λ may. (knows may).0) in
     let count : c.search_start.new.self.count ≡ c.args.cache.now.count = c.search_start.ensures.count ∙ ap (λ (v : CacheView). v.count) begins.0 in
-    let moved : IsGrown c.args.cache.now c.search_start.new.self = grown_trans c.args.cache.now c.start_state_reverse.new.cache c.search_start.new.self c.in_ok-start.ensures.grown (grown_moved c.start_state_reverse.new.cache c.search_start.new.self c.search_start.ensures.value) in
+    let moved : IsGrown c.args.cache.now c.search_start.new.self = grown_trans c.args.cache.now c.start_state_reverse.new.cache c.search_start.new.self c.in_ok-start.ensures.effect.grown (grown_moved c.start_state_reverse.new.cache c.search_start.new.self c.search_start.ensures.value) in
     let still : KnowsPass Backward c.args.self.now c.search_start.new.self.store c.args.input.now = knows_still Backward c.args.self.now c.args.input.now c.args.cache.now c.search_start.new.self moved count knows in
     let idle = c.in_ok-found.ensures.idle still in
     (idle.0 ∙ count, tt)
 
 pub returns-clause-learned : goal.returns-clause-learned
 returns-clause-learned c = λ nothing.
-    let moved : IsGrown c.args.cache.now c.search_start.new.self = grown_trans c.args.cache.now c.start_state_reverse.new.cache c.search_start.new.self c.in_ok-start.ensures.grown (grown_moved c.start_state_reverse.new.cache c.search_start.new.self c.search_start.ensures.value) in
+    let moved : IsGrown c.args.cache.now c.search_start.new.self = grown_trans c.args.cache.now c.start_state_reverse.new.cache c.search_start.new.self c.in_ok-start.ensures.effect.grown (grown_moved c.start_state_reverse.new.cache c.search_start.new.self c.search_start.ensures.value) in
     c.in_ok-found.ensures.learned
-    (λ l. subst (λ (v : CacheView). IsKnownStart v.store (slot_behind c.args.self.now c.args.input.now.anchored (nth c.args.input.now.haystack c.args.input.now.end))) (sym c.search_start.ensures.value) (c.in_ok-start.ensures.learned l).1.1)
+    (λ l. subst (λ (v : CacheView). IsKnownStart v.store (slot_behind c.args.self.now c.args.input.now.anchored (nth c.args.input.now.haystack c.args.input.now.end))) (sym c.search_start.ensures.value) (c.in_ok-start.ensures.answer.learned l).1.1)
     (nothing_second c.args.cache.now c.search_start.new.self c.find_rev.new.cache moved c.in_ok-found.ensures.grown nothing)

@@ -1,19 +1,32 @@
-use Rattle.std.proofs.Common.{ℕ, ◌<◌, ◌∙◌, ap, subst}
+use Rattle.std.proofs.Common.{ℕ, ◌∙◌, ap, subst}
 use Rattle.automata_base.specs.StartConfig.{StartConfig}
-use Rattle.automata_base.specs.Steps.{start_state_of}
-use Rattle.automata_hybrid.specs.Machine.{Machine}
-use Rattle.automata_hybrid.specs.Slots.{slot_behind}
-use Rattle.automata_hybrid.specs.Starting.{KnowsStart, IsStartRefusal, search_refusal}
-use Rattle.automata_hybrid.specs.Bounds.{IsStarted}
+use Rattle.automata_hybrid.specs.Starting.{IsStartAnswer, IsStartEffect, IsStartRefused, search_refusal}
 use Rattle.automata_hybrid.proofs.dfa.DFA.start_state_reverse.Goals as goal
+
+pub returns-in-Ok-clause-answer : goal.returns-in-Ok-clause-answer
+returns-in-Ok-clause-answer c =
+    subst (λ (s : StartConfig). IsStartAnswer c.args.self.now s.anchored s.look_behind c.args.cache.now c.start_state.new.cache c.in-Ok.id)
+    c.from_input_reverse-config.ensures c.in-Ok.ensures.answer
 
 pub returns-in-Ok-clause-effect : goal.returns-in-Ok-clause-effect
 returns-in-Ok-clause-effect c =
-    let m : Machine = c.args.self.now in
-    subst (λ (s : StartConfig). slot_behind m s.anchored s.look_behind < m.slots → (KnowsStart m c.args.cache.now.store s.anchored s.look_behind → ⊥)
-    → IsStarted c.args.cache.now.store (slot_behind m s.anchored s.look_behind) (record { state = start_state_of m.nfa s.anchored s.look_behind; started = m.specialized }) c.start_state.new.cache.store c.in-Ok.id) c.from_input_reverse-config.ensures c.in-Ok.ensures.effect
+    subst (λ (s : StartConfig). IsStartEffect c.args.self.now s.anchored s.look_behind c.args.cache.now c.start_state.new.cache)
+    c.from_input_reverse-config.ensures c.in-Ok.ensures.effect
 
-pub returns-in-Err-clause-errors : goal.returns-in-Err-clause-errors
-returns-in-Err-clause-errors c =
+pub returns-in-Err-clause-effect : goal.returns-in-Err-clause-effect
+returns-in-Err-clause-effect c =
+    subst (λ (s : StartConfig). IsStartEffect c.args.self.now s.anchored s.look_behind c.args.cache.now c.start_state.new.cache)
+    c.from_input_reverse-config.ensures c.in-Err.ensures.effect
+
+pub returns-in-Err-clause-refusal : goal.returns-in-Err-clause-refusal
+returns-in-Err-clause-refusal c =
     let e = c.in-Err.error in
-    (e, subst (λ (s : StartConfig). IsStartRefusal c.args.self.now c.args.cache.now.store s.anchored s.look_behind e) c.from_input_reverse-config.ensures c.in-Err.ensures.errors, c.search_refusal.ensures ∙ (ap (λ (n : ℕ). search_refusal e n c.end-in-Err.result) c.end.ensures.end ∙ ap (search_refusal e c.args.input.now.end) c.end-in-Err.ensures.end))
+    record {
+      error = e;
+      refused =
+          subst (λ (s : StartConfig). IsStartRefused c.args.self.now s.anchored s.look_behind c.args.cache.now c.start_state.new.cache e)
+          c.from_input_reverse-config.ensures c.in-Err.ensures.refusal;
+      told =
+          c.search_refusal.ensures
+          ∙ (ap (λ (n : ℕ). search_refusal e n c.end-in-Err.result) c.end.ensures.end ∙ ap (search_refusal e c.args.input.now.end) c.end-in-Err.ensures.end);
+    }

@@ -1,10 +1,7 @@
 use Rattle.std.proofs.Common.{◌≡◌, ◌-◌, ◌+◌, ◌<◌, ◌^◌, subst, arith}
 use Rattle.std.proofs.lemmas.Grind.{common_steps}
 use Rattle.automata_base.specs.Tapes.{Backward}
-use Rattle.automata_hybrid.specs.Ids.{offset_limit}
 use Rattle.automata_hybrid.specs.Passing.{IsFollowed}
-use Rattle.automata_hybrid.specs.Searches.{state_in}
-use Rattle.automata_hybrid.specs.Table.{Names}
 use Rattle.automata_hybrid.proofs.Following.{followed_none, followed_on, followed_to}
 use Rattle.automata_hybrid.proofs.dfa.DFA.stays_rev.Goals as goal
 

@@ -1,4 +1,4 @@
-use Rattle.std.proofs.Common.{◌+◌, ◌-◌}
+use Rattle.std.proofs.Common.{◌-◌}
 use Rattle.automata_base.specs.Tapes.{Backward}
 use Rattle.automata_hybrid.specs.Passing.{IsFollowed}
 use Rattle.automata_hybrid.specs.Searches.{state_in}

@@ -1,33 +1,32 @@
-use Rattle.std.proofs.Common.{rules, ap, sym, ◌∙◌}
-use Rattle.std.specs.Prelude.{option_map}
-use Rattle.automata_hybrid.specs.Searches.{with_base, without_base}
-use Rattle.automata_hybrid.proofs.Searching.{if_err}
+use Rattle.std.proofs.Common.{Some, rules, subst}
+use Rattle.std.specs.Prelude.{Ok}
+use Rattle.automata_base.specs.Matches.{HalfMatch}
+use Rattle.automata_base.specs.Tapes.{Forward}
+use Rattle.automata_hybrid.specs.Owing.{IsHalf}
+use Rattle.automata_hybrid.proofs.Owing.{effect_err, effect_ok, half_err, half_none, half_some}
 use Rattle.automata_hybrid.proofs.dfa.DFA.try_search_fwd.Goals as goal
 
-pub returns-in_err-half-clause-answers : goal.returns-in_err-half-clause-answers
-returns-in_err-half-clause-answers c = λ reach mode free.
-    if_err c.from_residual.result _ _ c.from_residual.ensures.1 (c.in_err-half.ensures.answers reach mode free)
+pub returns-in_err-half-clause-half : goal.returns-in_err-half-clause-half
+returns-in_err-half-clause-half c =
+    half_err c.args.self.now c.args.input.now c.from_residual.result _ c.from_residual.ensures.1 c.in_err-half.ensures.based
 
-pub returns-in-Some-clause-answer : goal.returns-in-Some-clause-answer
-returns-in-Some-clause-answer c = λ acyclic.
-    (_, c.in_ok-half.ensures.answer acyclic, (search rules) ∙ ap (λ o. option_map without_base (option_map (λ p. with_base p.0 p.1) o)) (sym c.in-Some.is))
+pub returns-in_err-half-clause-effect : goal.returns-in_err-half-clause-effect
+returns-in_err-half-clause-effect c =
+    effect_err Forward c.args.self.now c.args.input.now _ _ c.from_residual.result _ c.from_residual.ensures.1 c.in_err-half.ensures.effect
 
-pub returns-in-None-clause-answer : goal.returns-in-None-clause-answer
-returns-in-None-clause-answer c = λ acyclic.
-    (_, c.in_ok-half.ensures.answer acyclic, ap (λ o. option_map without_base (option_map (λ p. with_base p.0 p.1) o)) (sym c.in-None.is))
+pub returns-in-Some-clause-half : goal.returns-in-Some-clause-half
+returns-in-Some-clause-half c =
+    subst (λ (half : HalfMatch). IsHalf Forward c.args.self.now c.args.input.now (Ok (Some half))) (search rules)
+    (half_some c.args.self.now c.args.input.now _ _ c.in-Some.is c.in_ok-half.ensures.based)
 
-pub returns-in-Some-clause-nearest : goal.returns-in-Some-clause-nearest
-returns-in-Some-clause-nearest c = λ early.
-    (_, c.in_ok-half.ensures.nearest early, (search rules) ∙ ap (λ o. option_map without_base (option_map (λ p. with_base p.0 p.1) o)) (sym c.in-Some.is))
+pub returns-in-Some-clause-effect : goal.returns-in-Some-clause-effect
+returns-in-Some-clause-effect c =
+    effect_ok Forward c.args.self.now c.args.input.now _ _ _ _ c.in_ok-half.ensures.effect
 
-pub returns-in-None-clause-nearest : goal.returns-in-None-clause-nearest
-returns-in-None-clause-nearest c = λ early.
-    (_, c.in_ok-half.ensures.nearest early, ap (λ o. option_map without_base (option_map (λ p. with_base p.0 p.1) o)) (sym c.in-None.is))
+pub returns-in-None-clause-half : goal.returns-in-None-clause-half
+returns-in-None-clause-half c =
+    half_none c.args.self.now c.args.input.now _ c.in-None.is c.in_ok-half.ensures.based
 
-pub returns-in-Some-clause-farthest : goal.returns-in-Some-clause-farthest
-returns-in-Some-clause-farthest c = λ late all.
-    (_, c.in_ok-half.ensures.farthest late all, (search rules) ∙ ap (λ o. option_map without_base (option_map (λ p. with_base p.0 p.1) o)) (sym c.in-Some.is))
-
-pub returns-in-None-clause-farthest : goal.returns-in-None-clause-farthest
-returns-in-None-clause-farthest c = λ late all.
-    (_, c.in_ok-half.ensures.farthest late all, ap (λ o. option_map without_base (option_map (λ p. with_base p.0 p.1) o)) (sym c.in-None.is))
+pub returns-in-None-clause-effect : goal.returns-in-None-clause-effect
+returns-in-None-clause-effect c =
+    effect_ok Forward c.args.self.now c.args.input.now _ _ _ _ c.in_ok-half.ensures.effect

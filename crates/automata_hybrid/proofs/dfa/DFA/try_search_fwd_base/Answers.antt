@@ -5,32 +5,52 @@ use Rattle.automata_base.specs.Tapes.{Forward}
 use Rattle.automata_base.specs.Told.{ToldEndsAreRight, ToldIsRight}
 use Rattle.automata_base.specs.Within.{ToldLiesWithin}
 use Rattle.automata_hybrid.proofs.Answering.{refused_memory}
+use Rattle.automata_hybrid.proofs.Owing.{is_store, may_refuse}
 use Rattle.automata_hybrid.proofs.Skipping.{found_told}
 use Rattle.automata_hybrid.proofs.Within.{lies_past}
 use Rattle.automata_hybrid.proofs.dfa.DFA.try_search_fwd_base.Goals as goal
 
-pub returns-clause-answer : goal.returns-clause-answer
-returns-clause-answer c = λ acyclic.
-    IfOk-weaker c.search_fwd-found.result _ _ (λ o found.
-    subst (λ (a : Automaton). ToldIsRight a) c.get_nfa.ensures c.told_is_right.ensures.answer Forward c.args.self.now.kind c.args.input.now _ acyclic (c.haystack-haystack.ensures.bytes, c.haystack-haystack.ensures.within.1)
-    (found_told Forward c.args.self.now c.args.input.now _ found))
-    c.search_fwd-found.ensures.found
+pub returns-clause-based : goal.returns-clause-based
+returns-clause-based c =
+    let m = c.args.self.now in
+    let input = c.args.input.now in
+    let s = c.search_fwd-found.ensures in
+    let r = c.search_fwd-found.result in
+    let cache = c.search_fwd-found.new.cache.store in
+    let haystack = c.haystack-haystack.ensures in
+    let told = subst (λ (a : Automaton). ToldIsRight a) c.get_nfa.ensures c.told_is_right.ensures.answer in
+    let ends = subst (λ (a : Automaton). ToldEndsAreRight a) c.get_nfa.ensures c.told_is_right.ensures.ends in
+    let lies = subst ToldLiesWithin c.get_nfa.ensures c.told_is_right.ensures.within in
+    record {
+      found = s.found;
+      answer = λ acyclic.
+          IfOk-weaker r _ _
+          (λ o found. told Forward m.kind input _ acyclic (haystack.bytes, haystack.within.1) (found_told Forward m input _ found))
+          s.found;
+      nearest = λ early.
+          IfOk-weaker r _ _
+          (λ o found. (ends Forward m.kind input _ (haystack.bytes, haystack.within.1) (found_told Forward m input _ found)).0 early)
+          s.found;
+      farthest = λ late all.
+          IfOk-weaker r _ _
+          (λ o found. (ends Forward m.kind input _ (haystack.bytes, haystack.within.1) (found_told Forward m input _ found)).1 late all)
+          s.found;
+      within = lies_past m input lies haystack.within.1 r s.found;
+      errors = may_refuse r Forward m cache input (is_store cache m s.of c.see_bounds.ensures) s.errors;
+      unsupported = λ u. s.unsupported u.undone u.behind u.mode;
+      free = λ f.
+          IfErr-weaker r _ _ (λ e x. refused_memory Forward m cache input e haystack.within.1 s.of f.reach f.supported f.clears x)
+          s.errors;
+      done = λ past. (s.done past).0;
+    }
 
-pub returns-clause-answers : goal.returns-clause-answers
-returns-clause-answers c = λ reach mode free.
-    IfErr-weaker c.search_fwd-found.result _ _ (λ e r.
-    refused_memory Forward c.args.self.now c.search_fwd-found.new.cache.store c.args.input.now e c.haystack-haystack.ensures.within.1 c.search_fwd-found.ensures.of reach mode free r)
-    c.search_fwd-found.ensures.errors
-
-pub returns-clause-nearest : goal.returns-clause-nearest
-returns-clause-nearest c = λ early.
-    IfOk-weaker c.search_fwd-found.result _ _ (λ o found. (subst (λ (a : Automaton). ToldEndsAreRight a) c.get_nfa.ensures c.told_is_right.ensures.ends Forward c.args.self.now.kind c.args.input.now _ (c.haystack-haystack.ensures.bytes, c.haystack-haystack.ensures.within.1) (found_told Forward c.args.self.now c.args.input.now _ found)).0 early) c.search_fwd-found.ensures.found
-
-pub returns-clause-farthest : goal.returns-clause-farthest
-returns-clause-farthest c = λ late all.
-    IfOk-weaker c.search_fwd-found.result _ _ (λ o found. (subst (λ (a : Automaton). ToldEndsAreRight a) c.get_nfa.ensures c.told_is_right.ensures.ends Forward c.args.self.now.kind c.args.input.now _ (c.haystack-haystack.ensures.bytes, c.haystack-haystack.ensures.within.1) (found_told Forward c.args.self.now c.args.input.now _ found)).1 late all) c.search_fwd-found.ensures.found
-
-pub returns-clause-within : goal.returns-clause-within
-returns-clause-within c =
-    lies_past c.args.self.now c.args.input.now (subst ToldLiesWithin c.get_nfa.ensures c.told_is_right.ensures.within)
-    c.haystack-haystack.ensures.within.1 c.search_fwd-found.result c.search_fwd-found.ensures.found
+pub returns-clause-effect : goal.returns-clause-effect
+returns-clause-effect c =
+    let s = c.search_fwd-found.ensures in
+    record {
+      cost = s.bounded;
+      grown = s.grown;
+      learned = s.learned;
+      known = λ knows. (s.grown.idle (s.known knows).0, (s.known knows).1);
+      done = λ past. (s.done past).1;
+    }

@@ -5,35 +5,59 @@ use Rattle.automata_base.specs.Tapes.{Backward}
 use Rattle.automata_base.specs.Told.{ToldEndsAreRight, ToldIsRight}
 use Rattle.automata_base.specs.Within.{ToldLiesWithin}
 use Rattle.automata_hybrid.proofs.Answering.{refused_memory}
+use Rattle.automata_hybrid.proofs.Owing.{is_store, may_refuse}
 use Rattle.automata_hybrid.proofs.Skipping.{found_told}
 use Rattle.automata_hybrid.proofs.Within.{lies_in}
 use Rattle.automata_hybrid.proofs.dfa.DFA.try_search_rev.Goals as goal
 
-pub returns-clause-answer : goal.returns-clause-answer
-returns-clause-answer c = λ acyclic.
-    IfOk-weaker c.search_rev-found.result _ _ (λ o found. (
-      found.0,
-      subst (λ (a : Automaton). ToldIsRight a) c.get_nfa.ensures c.told_is_right.ensures.answer Backward c.args.self.now.kind c.args.input.now _ acyclic (c.haystack-haystack.ensures.bytes, c.haystack-haystack.ensures.within.1)
-          (found_told Backward c.args.self.now c.args.input.now _ found.1),
-      found.2,
-    ))
-    c.search_rev-found.ensures.found
+pub returns-clause-half : goal.returns-clause-half
+returns-clause-half c =
+    let m = c.args.self.now in
+    let input = c.args.input.now in
+    let s = c.search_rev-found.ensures in
+    let r = c.search_rev-found.result in
+    let cache = c.search_rev-found.new.cache.store in
+    let haystack = c.haystack-haystack.ensures in
+    let told = subst (λ (a : Automaton). ToldIsRight a) c.get_nfa.ensures c.told_is_right.ensures.answer in
+    let ends = subst (λ (a : Automaton). ToldEndsAreRight a) c.get_nfa.ensures c.told_is_right.ensures.ends in
+    let lies = subst ToldLiesWithin c.get_nfa.ensures c.told_is_right.ensures.within in
+    record {
+      found = s.found;
+      answer = λ acyclic.
+          IfOk-weaker r _ _ (λ o found. (
+            found.0,
+            told Backward m.kind input _ acyclic (haystack.bytes, haystack.within.1) (found_told Backward m input _ found.1),
+            found.2,
+          )) s.found;
+      nearest = λ early.
+          IfOk-weaker r _ _ (λ o found. (
+            found.0,
+            (ends Backward m.kind input _ (haystack.bytes, haystack.within.1) (found_told Backward m input _ found.1)).0 early,
+            found.2,
+          )) s.found;
+      farthest = λ late all.
+          IfOk-weaker r _ _ (λ o found. (
+            found.0,
+            (ends Backward m.kind input _ (haystack.bytes, haystack.within.1) (found_told Backward m input _ found.1)).1 late all,
+            found.2,
+          ))
+          s.found;
+      within = lies_in m input lies haystack.within.1 Backward r s.found;
+      errors = may_refuse r Backward m cache input (is_store cache m s.of c.see_bounds.ensures) s.errors;
+      unsupported = λ u. s.unsupported u.undone u.behind u.mode;
+      free = λ f.
+          IfErr-weaker r _ _ (λ e x. refused_memory Backward m cache input e haystack.within.1 s.of f.reach f.supported f.clears x)
+          s.errors;
+      done = λ past. (s.done past).0;
+    }
 
-pub returns-clause-answers : goal.returns-clause-answers
-returns-clause-answers c = λ reach mode free.
-    IfErr-weaker c.search_rev-found.result _ _ (λ e r.
-    refused_memory Backward c.args.self.now c.search_rev-found.new.cache.store c.args.input.now e c.haystack-haystack.ensures.within.1 c.search_rev-found.ensures.of reach mode free r)
-    c.search_rev-found.ensures.errors
-
-pub returns-clause-nearest : goal.returns-clause-nearest
-returns-clause-nearest c = λ early.
-    IfOk-weaker c.search_rev-found.result _ _ (λ o found. (found.0, (subst (λ (a : Automaton). ToldEndsAreRight a) c.get_nfa.ensures c.told_is_right.ensures.ends Backward c.args.self.now.kind c.args.input.now _ (c.haystack-haystack.ensures.bytes, c.haystack-haystack.ensures.within.1) (found_told Backward c.args.self.now c.args.input.now _ found.1)).0 early, found.2)) c.search_rev-found.ensures.found
-
-pub returns-clause-farthest : goal.returns-clause-farthest
-returns-clause-farthest c = λ late all.
-    IfOk-weaker c.search_rev-found.result _ _ (λ o found. (found.0, (subst (λ (a : Automaton). ToldEndsAreRight a) c.get_nfa.ensures c.told_is_right.ensures.ends Backward c.args.self.now.kind c.args.input.now _ (c.haystack-haystack.ensures.bytes, c.haystack-haystack.ensures.within.1) (found_told Backward c.args.self.now c.args.input.now _ found.1)).1 late all, found.2)) c.search_rev-found.ensures.found
-
-pub returns-clause-within : goal.returns-clause-within
-returns-clause-within c =
-    lies_in c.args.self.now c.args.input.now (subst ToldLiesWithin c.get_nfa.ensures c.told_is_right.ensures.within)
-    c.haystack-haystack.ensures.within.1 Backward c.search_rev-found.result c.search_rev-found.ensures.found
+pub returns-clause-effect : goal.returns-clause-effect
+returns-clause-effect c =
+    let s = c.search_rev-found.ensures in
+    record {
+      cost = s.bounded;
+      grown = s.grown;
+      learned = s.learned;
+      known = λ knows. (s.grown.idle (s.known knows).0, (s.known knows).1);
+      done = λ past. (s.done past).1;
+    }

@@ -1,15 +1,39 @@
 use Rattle.std.proofs.lemmas.Result.{IfErr-weaker}
 use Rattle.automata_base.specs.Tapes.{Forward}
 use Rattle.automata_hybrid.proofs.Growing.{clears_none}
+use Rattle.automata_hybrid.proofs.Owing.{is_store}
+use Rattle.automata_hybrid.proofs.OwingWalks.{may_refuse_which}
 use Rattle.automata_hybrid.proofs.WalkAnswers.{walk_memory}
 use Rattle.automata_hybrid.proofs.dfa.DFA.try_which_overlapping_matches.Goals as goal
 
-pub returns-clause-answers : goal.returns-clause-answers
-returns-clause-answers c = λ reach mode free.
-    IfErr-weaker c.collect.result _ _ (λ e r.
-    walk_memory Forward c.args.self.now c.collect.new.cache.store c.args.input.now c.haystack-haystack.ensures.within.1 c.collect.ensures.of reach mode free r.0 r.1 e r.3)
-    c.collect.ensures.errors
+pub returns-clause-which : goal.returns-clause-which
+returns-clause-which c =
+    let m = c.args.self.now in
+    let input = c.args.input.now in
+    let s = c.collect-told.ensures in
+    let r = c.collect-told.result in
+    let cache = c.collect-told.new.cache.store in
+    record {
+      found = s.found;
+      paths = s.paths;
+      capacity = s.capacity;
+      errors =
+          may_refuse_which r m cache input c.args.patset.now c.collect-told.new.patset (is_store cache m s.of c.see_bounds.ensures)
+          s.errors;
+      unsupported = λ u. s.unsupported u.undone u.behind u.mode;
+      free = λ f.
+          IfErr-weaker r _ _ (λ e x.
+          walk_memory Forward m cache input c.haystack-haystack.ensures.within.1 s.of f.reach f.supported f.clears x.0 x.1 e x.3)
+          s.errors;
+    }
 
-pub returns-clause-roomy : goal.returns-clause-roomy
-returns-clause-roomy c = λ room.
-    clears_none c.args.cache.now c.collect.new.cache _ c.collect.ensures.grown c.collect.ensures.bounded room
+pub returns-clause-effect : goal.returns-clause-effect
+returns-clause-effect c =
+    let s = c.collect-told.ensures in
+    record {
+      cost = s.bounded;
+      roomy = λ room. clears_none c.args.cache.now c.collect-told.new.cache _ s.grown s.bounded room;
+      grown = s.grown;
+      learned = s.learned;
+      known = s.idle;
+    }

@@ -5,9 +5,9 @@ use Rattle.automata_base.specs.Engines.{engine_of}
 use Rattle.automata_base.specs.Answers.{IsOverlapping}
 use Rattle.automata_base.specs.Tapes.{Forward}
 use Rattle.automata_config.specs.declared.error.SearchError.{SearchError}
+use Rattle.automata_hybrid.specs.Owing.{IsMemory}
 use Rattle.automata_hybrid.specs.Walking.{AreWalked}
-use Rattle.regex_automata.specs.Owing.{IsMemory, MayRefusePatterns}
-use Rattle.regex_automata.proofs.Owed.{is_store}
+use Rattle.regex_automata.specs.Owing.{MayRefusePatterns}
 use Rattle.regex_automata.proofs.SetLists.{members_rise, memory_where, no_patterns, patterns_told, refused_where, told_where}
 use Rattle.regex_automata.proofs.replay.patterns.patterns_below.Goals as goal
 
@@ -18,11 +18,10 @@ pub returns-in-Ok-list_members-clause-owed : goal.returns-in-Ok-list_members-cla
 returns-in-Ok-list_members-clause-owed c =
     let m = c.args.dfa.now in
     let input = c.args.input.now in
-    let s = c.try_which_overlapping_matches-told.ensures in
+    let s = c.try_which_overlapping_matches-told.ensures.which in
     let told = c.try_which_overlapping_matches-told.result in
     let old = c.in-Ok.set in
     let new = c.try_which_overlapping_matches-told.new.patset in
-    let store = c.try_which_overlapping_matches-told.new.cache.store in
     let found = c.in-Ok-list_members.found.items in
     let error : c.err.result ≡ result_err told = c.err.ensures.value in
     record {
@@ -32,9 +31,9 @@ returns-in-Ok-list_members-clause-owed c =
       paths = λ acyclic none. patterns_told (IsOverlapping Forward (engine_of m.nfa m.kind) input) input c.args.capacity old new found c.in-Ok.ensures.capacity c.in-Ok.ensures.empty c.in-Ok-list_members.ensures
           (told_where told (ArePatternsFound (engine_of m.nfa m.kind) input _ _ _) (s.paths acyclic) (sym error ∙ none));
       errors = subst (λ (e : Option SearchError). IfSome e (MayRefusePatterns m input c.args.capacity found)) (sym error)
-          (refused_where told m store input c.args.capacity old new found (is_store store m s.of c.see.ensures) c.in-Ok.ensures.capacity c.in-Ok-list_members.ensures s.errors);
-      unsupported = λ u. inr (error ∙ ap result_err (s.unsupported u.undone u.behind u.mode));
-      free = λ f. subst (λ (e : Option SearchError). IfSome e IsMemory) (sym error) (memory_where told (s.answers f.reach f.supported f.clears));
+          (refused_where told m input c.args.capacity old new found c.in-Ok.ensures.capacity c.in-Ok-list_members.ensures s.errors);
+      unsupported = λ u. inr (error ∙ ap result_err (s.unsupported u));
+      free = λ f. subst (λ (e : Option SearchError). IfSome e IsMemory) (sym error) (memory_where told (s.free f));
     }
 
 pub returns-clause-owed : goal.returns-clause-owed

@@ -1,10 +1,16 @@
-use Rattle.std.proofs.Common.{ℕ, ◌≡◌, ◌∙◌, sym, ap, subst}
+use Rattle.std.proofs.Common.{ℕ, ◌≡◌, ◌∙◌, ◌-◌, sym, ap, subst}
 use Rattle.std.specs.Prelude.{IfErr, Ok}
+use Rattle.automata_base.specs.Input.{Input}
 use Rattle.automata_base.specs.Matches.{Match}
 use Rattle.automata_base.specs.Tapes.{Forward}
+use Rattle.automata_hybrid.specs.Caches.{CacheView}
+use Rattle.automata_hybrid.specs.Growing.{IsGrown}
+use Rattle.automata_hybrid.specs.Machine.{Machine}
+use Rattle.automata_hybrid.specs.Owing.{IsHalf}
 use Rattle.automata_hybrid.specs.Searches.{IsRefused}
-use Rattle.regex_automata.specs.Owing.{IsHalf}
+use Rattle.regex_automata.specs.Costs.{IsCostOf}
 use Rattle.regex_automata.specs.Tokens.{IsGivenAt, match_of}
+use Rattle.regex_automata.proofs.Finding.{cost_search}
 use Rattle.regex_automata.proofs.Results.{is_err}
 use Rattle.regex_automata.proofs.Tiling.{token_is_given}
 use Rattle.regex_automata.proofs.Tokenising.{error_is_given}
@@ -19,16 +25,16 @@ same_match p q s t e f a b d = cc
 pub returns-in_err-token-clause-item : goal.returns-in_err-token-clause-item
 returns-in_err-token-clause-item c =
     let m = c.args.regex.now.forward in
-    let store = c.answer-found.new.cache.store in
+    let store = c.try_search_fwd-found.new.cache.store in
     let h = c.args.haystack.now in
     let place = c.args.place in
-    let found = c.answer-found.result in
+    let found = c.try_search_fwd-found.result in
     let owed =
     subst (λ i. IsHalf Forward m i found) c.asked-input.ensures
-    (subst (λ n. IsHalf Forward n c.asked-input.result found) c.forward.ensures c.answer-found.ensures.owed) in
+    (subst (λ n. IsHalf Forward n c.asked-input.result found) c.forward-dfa.ensures c.try_search_fwd-found.ensures.half) in
     let errors =
     subst (λ i. IfErr found (IsRefused Forward m store i)) c.asked-input.ensures
-    (subst (λ n. IfErr found (IsRefused Forward n store c.asked-input.result)) c.forward.ensures c.answer-found.ensures.errors) in
+    (subst (λ n. IfErr found (IsRefused Forward n store c.asked-input.result)) c.forward-dfa.ensures c.try_search_fwd-found.ensures.errors) in
     let given =
     error_is_given m store h c.args.end place found c.in_err-token.field-0.0 c.requires.ahead owed errors
     (sym c.in_err-token.was ∙ c.item.ensures) in
@@ -37,13 +43,39 @@ returns-in_err-token-clause-item c =
 pub returns-clause-item : goal.returns-clause-item
 returns-clause-item c =
     let m = c.args.regex.now.forward in
-    let found = c.answer-found.result in
+    let found = c.try_search_fwd-found.result in
     let token = c.in_ok-token.token in
     let owed =
     subst (λ i. IsHalf Forward m i found) c.asked-input.ensures
-    (subst (λ n. IsHalf Forward n c.asked-input.result found) c.forward.ensures c.answer-found.ensures.owed) in
+    (subst (λ n. IsHalf Forward n c.asked-input.result found) c.forward-dfa.ensures c.try_search_fwd-found.ensures.half) in
     let same : match_of c.new.result ≡ token =
     c.new.ensures.found
     ∙ same_match _ token.pattern _ token.start _ token.end c.pattern.ensures c.span.ensures.start c.span.ensures.end in
     token_is_given m c.args.haystack.now c.args.end c.requires.within.1 c.args.place c.new.result found c.requires.ahead owed
     (ap (λ (t : Match). Ok t) same ∙ sym c.in_ok-token.was ∙ c.item.ensures) c.new.ensures.bytes
+
+pub returns-in_err-token-clause-grown : goal.returns-in_err-token-clause-grown
+returns-in_err-token-clause-grown c =
+    subst (λ (old : CacheView). IsGrown old c.try_search_fwd-found.new.cache) c.forward_mut.ensures.value c.try_search_fwd-found.ensures.effect.grown
+
+pub returns-clause-grown : goal.returns-clause-grown
+returns-clause-grown c =
+    subst (λ (old : CacheView). IsGrown old c.try_search_fwd-found.new.cache) c.forward_mut.ensures.value c.try_search_fwd-found.ensures.effect.grown
+
+pub returns-in_err-token-clause-cost : goal.returns-in_err-token-clause-cost
+returns-in_err-token-clause-cost c =
+    let new = c.try_search_fwd-found.new.cache in
+    let s = c.try_search_fwd-found.ensures.effect in
+    subst (λ (m : Machine). IsCostOf m (c.args.end - c.args.place) c.args.cache.now.forward new) c.forward-dfa.ensures
+    (subst (λ (i : Input). IsCostOf c.forward-dfa.result.now (i.end - i.start) c.args.cache.now.forward new) c.asked-input.ensures
+    (subst (λ (old : CacheView). IsCostOf c.forward-dfa.result.now (c.asked-input.result.end - c.asked-input.result.start) old new) c.forward_mut.ensures.value
+    (cost_search c.forward-dfa.result.now c.asked-input.result _ new s.cost s.grown)))
+
+pub returns-clause-cost : goal.returns-clause-cost
+returns-clause-cost c =
+    let new = c.try_search_fwd-found.new.cache in
+    let s = c.try_search_fwd-found.ensures.effect in
+    subst (λ (m : Machine). IsCostOf m (c.args.end - c.args.place) c.args.cache.now.forward new) c.forward-dfa.ensures
+    (subst (λ (i : Input). IsCostOf c.forward-dfa.result.now (i.end - i.start) c.args.cache.now.forward new) c.asked-input.ensures
+    (subst (λ (old : CacheView). IsCostOf c.forward-dfa.result.now (c.asked-input.result.end - c.asked-input.result.start) old new) c.forward_mut.ensures.value
+    (cost_search c.forward-dfa.result.now c.asked-input.result _ new s.cost s.grown)))

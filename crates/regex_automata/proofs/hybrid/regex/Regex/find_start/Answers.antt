@@ -54,23 +54,25 @@ returns-in_err-found-clause-errors c =
 pub returns-in_err-found-clause-answers : goal.returns-in_err-found-clause-answers
 returns-in_err-found-clause-answers c = λ reach free.
     if_err c.from_residual.result _ _ c.from_residual.ensures.1
-    (c.in_err-found.ensures.answers
-    (subst (NoQuitInReach c.args.self.now.reverse) (sym c.backward-rest.ensures)
-    (back_reach c.args.self.now.reverse c.args.input.now (with_base c.args.half c.args.base) c.requires.from c.requires.within reach))
-    (ap (λ (i : Input). supports c.args.self.now.reverse i.anchored) c.backward-rest.ensures) free)
+    (c.in_err-found.ensures.half.free (record {
+      reach = subst (NoQuitInReach c.args.self.now.reverse) (sym c.backward-rest.ensures)
+          (back_reach c.args.self.now.reverse c.args.input.now (with_base c.args.half c.args.base) c.requires.from c.requires.within reach);
+      supported = ap (λ (i : Input). supports c.args.self.now.reverse i.anchored) c.backward-rest.ensures;
+      clears = free;
+    }))
 
 pub returns-in_err-found-clause-cost : goal.returns-in_err-found-clause-cost
 returns-in_err-found-clause-cost c =
     cost_back c.args.self.now.reverse c.args.input.now c.backward-rest.result (with_base c.args.half c.args.base) c.args.cache.now c.try_search_rev.new.cache c.backward-rest.ensures
-    c.requires.from c.requires.within c.try_search_rev.ensures.bounded c.try_search_rev.ensures.grown
+    c.requires.from c.requires.within c.try_search_rev.ensures.effect.cost c.try_search_rev.ensures.effect.grown
 
 pub returns-in_err-found-clause-grown : goal.returns-in_err-found-clause-grown
-returns-in_err-found-clause-grown c = c.try_search_rev.ensures.grown
+returns-in_err-found-clause-grown c = c.try_search_rev.ensures.effect.grown
 
 pub returns-in_err-found-clause-known : goal.returns-in_err-found-clause-known
 returns-in_err-found-clause-known c = λ knows.
     let long = c.is_short-short.ensures.no c.if-short.false in
-    let known = c.in_err-found.ensures.known (subst (Knows Backward c.args.self.now.reverse c.args.cache.now.store) (sym c.backward-rest.ensures) (knows long)) in
+    let known = c.in_err-found.ensures.effect.known (subst (Knows Backward c.args.self.now.reverse c.args.cache.now.store) (sym c.backward-rest.ensures) (knows long)) in
     (known.0, if_err c.from_residual.result _ _ c.from_residual.ensures.1 known.1)
 
 pub returns-in-Some-clause-of : goal.returns-in-Some-clause-of
@@ -78,7 +80,7 @@ returns-in-Some-clause-of c = c.try_search_rev.ensures.of
 
 pub returns-in-Some-clause-found : goal.returns-in-Some-clause-found
 returns-in-Some-clause-found c =
-    let s = back_some c.args.self.now.reverse c.backward-rest.result c.in_ok-found.field-0 c.in-Some.found c.in_ok-found.ensures.found c.in-Some.is in
+    let s = back_some c.args.self.now.reverse c.backward-rest.result c.in_ok-found.field-0 c.in-Some.found c.in_ok-found.ensures.half.found c.in-Some.is in
     inr (
       c.is_short-short.ensures.no c.if-short.false,
       (s.0, subst (λ (i : Input). IsFound Backward c.args.self.now.reverse i (Some s.0)) c.backward-rest.ensures s.1, c.offset.ensures ∙ s.2),
@@ -86,7 +88,7 @@ returns-in-Some-clause-found c =
 
 pub returns-in-Some-clause-within : goal.returns-in-Some-clause-within
 returns-in-Some-clause-within c =
-    let lies = some_of c.in_ok-found.field-0 c.in-Some.found (LiesIn c.args.self.now.reverse c.backward-rest.result) c.in_ok-found.ensures.within c.in-Some.is in
+    let lies = some_of c.in_ok-found.field-0 c.in-Some.found (LiesIn c.args.self.now.reverse c.backward-rest.result) c.in_ok-found.ensures.half.within c.in-Some.is in
     let start : c.backward-rest.result.start ≡ c.args.base = ap (λ (i : Input). i.start) c.backward-rest.ensures in
     let end : c.backward-rest.result.end ≡ c.args.half.offset = ap (λ (i : Input). i.end) c.backward-rest.ensures in
     (omega (arith, c.offset.ensures, lies.from, start), omega (arith, c.offset.ensures, lies.upto, end))
@@ -94,19 +96,19 @@ returns-in-Some-clause-within c =
 pub returns-in-Some-clause-cost : goal.returns-in-Some-clause-cost
 returns-in-Some-clause-cost c =
     cost_back c.args.self.now.reverse c.args.input.now c.backward-rest.result (with_base c.args.half c.args.base) c.args.cache.now c.try_search_rev.new.cache c.backward-rest.ensures
-    c.requires.from c.requires.within c.try_search_rev.ensures.bounded c.try_search_rev.ensures.grown
+    c.requires.from c.requires.within c.try_search_rev.ensures.effect.cost c.try_search_rev.ensures.effect.grown
 
 pub returns-in-Some-clause-grown : goal.returns-in-Some-clause-grown
-returns-in-Some-clause-grown c = c.try_search_rev.ensures.grown
+returns-in-Some-clause-grown c = c.try_search_rev.ensures.effect.grown
 
 pub returns-in-Some-clause-learned : goal.returns-in-Some-clause-learned
 returns-in-Some-clause-learned c = λ nothing long.
-    subst (Knows Backward c.args.self.now.reverse c.try_search_rev.new.cache.store) c.backward-rest.ensures (c.in_ok-found.ensures.learned nothing)
+    subst (Knows Backward c.args.self.now.reverse c.try_search_rev.new.cache.store) c.backward-rest.ensures (c.in_ok-found.ensures.effect.learned nothing)
 
 pub returns-in-Some-clause-known : goal.returns-in-Some-clause-known
 returns-in-Some-clause-known c = λ knows.
     let long = c.is_short-short.ensures.no c.if-short.false in
-    c.in_ok-found.ensures.known (subst (Knows Backward c.args.self.now.reverse c.args.cache.now.store) (sym c.backward-rest.ensures) (knows long))
+    c.in_ok-found.ensures.effect.known (subst (Knows Backward c.args.self.now.reverse c.args.cache.now.store) (sym c.backward-rest.ensures) (knows long))
 
 pub returns-in-None-clause-of : goal.returns-in-None-clause-of
 returns-in-None-clause-of c = c.try_search_rev.ensures.of
@@ -115,22 +117,22 @@ pub returns-in-None-clause-found : goal.returns-in-None-clause-found
 returns-in-None-clause-found c = (
   c.is_short-short.ensures.no c.if-short.false,
   subst (λ (i : Input). IsFound Backward c.args.self.now.reverse i None) c.backward-rest.ensures
-      (back_none c.args.self.now.reverse c.backward-rest.result c.in_ok-found.field-0 c.in_ok-found.ensures.found c.in-None.is),
+      (back_none c.args.self.now.reverse c.backward-rest.result c.in_ok-found.field-0 c.in_ok-found.ensures.half.found c.in-None.is),
 )
 
 pub returns-in-None-clause-cost : goal.returns-in-None-clause-cost
 returns-in-None-clause-cost c =
     cost_back c.args.self.now.reverse c.args.input.now c.backward-rest.result (with_base c.args.half c.args.base) c.args.cache.now c.try_search_rev.new.cache c.backward-rest.ensures
-    c.requires.from c.requires.within c.try_search_rev.ensures.bounded c.try_search_rev.ensures.grown
+    c.requires.from c.requires.within c.try_search_rev.ensures.effect.cost c.try_search_rev.ensures.effect.grown
 
 pub returns-in-None-clause-grown : goal.returns-in-None-clause-grown
-returns-in-None-clause-grown c = c.try_search_rev.ensures.grown
+returns-in-None-clause-grown c = c.try_search_rev.ensures.effect.grown
 
 pub returns-in-None-clause-learned : goal.returns-in-None-clause-learned
 returns-in-None-clause-learned c = λ nothing long.
-    subst (Knows Backward c.args.self.now.reverse c.try_search_rev.new.cache.store) c.backward-rest.ensures (c.in_ok-found.ensures.learned nothing)
+    subst (Knows Backward c.args.self.now.reverse c.try_search_rev.new.cache.store) c.backward-rest.ensures (c.in_ok-found.ensures.effect.learned nothing)
 
 pub returns-in-None-clause-known : goal.returns-in-None-clause-known
 returns-in-None-clause-known c = λ knows.
     let long = c.is_short-short.ensures.no c.if-short.false in
-    c.in_ok-found.ensures.known (subst (Knows Backward c.args.self.now.reverse c.args.cache.now.store) (sym c.backward-rest.ensures) (knows long))
+    c.in_ok-found.ensures.effect.known (subst (Knows Backward c.args.self.now.reverse c.args.cache.now.store) (sym c.backward-rest.ensures) (knows long))

@@ -1,0 +1,117 @@
+-- Starts: what a call answers and changes, from what its parts do.
+use Rattle.std.proofs.Common.{ℕ, ◌≡◌, ◌+◌, ◌<◌, ◌≤◌, ◌⊎◌, length, false, Option, None, Ok, Err, Result, refl, sym, ap, ◌∙◌, subst, arith, inl, inr}
+use Rattle.std.specs.Prelude.{IfErr, IfOk, OnOk}
+use Rattle.automata_base.specs.Powerset.{Powerset}
+use Rattle.automata_base.specs.Steps.{start_state_of}
+use Rattle.automata_base.specs.declared.util.search.Anchored.{Anchored}
+use Rattle.automata_base.specs.declared.util.search.MatchErrorKind.TheVariants.{UnsupportedAnchored as UnsupportedMode}
+use Rattle.automata_base.proofs.Paths.Orders.{none_some}
+use Rattle.automata_config.specs.declared.error.StartError.{StartError}
+use Rattle.automata_config.specs.declared.error.StartError.TheVariants as start
+use Rattle.automata_config.specs.declared.error.SearchError.{SearchError}
+use Rattle.automata_config.specs.declared.error.SearchError.TheVariants as search
+use Rattle.automata_config.specs.declared.error.StepError.{StepError}
+use Rattle.automata_config.specs.declared.error.StepError.TheVariants as step
+use Rattle.automata_hybrid.specs.Machine.{Machine}
+use Rattle.automata_hybrid.specs.Table.{Has, KeepsStartTags, Leads, Rows, TagsNewStates}
+use Rattle.automata_hybrid.specs.Bounds.{Stored, GivesUp, IsCacheError, IsKnownStart}
+use Rattle.automata_hybrid.specs.Caches.{CacheView, HasRow, counted}
+use Rattle.automata_hybrid.specs.Growing.{IsGrown}
+use Rattle.automata_hybrid.specs.Slots.{slot_behind, supports}
+use Rattle.automata_hybrid.specs.Starting.{HasSlot, IsStartAnswer, IsStartEffect, IsStartRefusal, IsStartRefusalAt, IsStartRefusedAt, KnowsStart, MayStart, quit_behind, search_refusal, start_refusal}
+use Rattle.automata_hybrid.proofs.Growing.{grown_same}
+use Rattle.automata_hybrid.proofs.Searching.{false_true}
+use Rattle.automata_hybrid.proofs.StartTags.{same_adds, same_keeps}
+
+-- a call that changes nothing, where it needn't compute a start
+pub start_stays :
+    (m : Machine) (mode : Anchored) (behind : Option ℕ) (c : CacheView)
+    → (MayStart m mode behind → HasSlot m mode behind → (KnowsStart m c.store mode behind → ⊥) → ⊥)
+    → IsStartEffect m mode behind c c
+start_stays m mode behind c needless = record {
+  grown = grown_same c c refl;
+  counted = omega arith;
+  computed = λ may slot free. absurd (needless may slot free);
+  barred = λ not. refl;
+  known = λ knows. refl;
+  past = λ may l. refl;
+  start_tags = same_keeps c.store.table c.store.table refl;
+  added = same_adds c.store.table c.store.table m.specialized refl;
+  only = λ q has. inl has;
+}
+
+-- the start of a mode's slot is known
+pub knows_slot :
+    (m : Machine) (c : Stored) (mode : Anchored) (behind : Option ℕ) (slot : ℕ)
+    → MayStart m mode behind → slot ≡ slot_behind m mode behind → slot < m.slots → length c.starts ≡ m.slots
+    → IsKnownStart c slot → KnowsStart m c mode behind
+knows_slot m c mode behind slot may at within slots known =
+    (may, (omega (arith, at, within, slots), subst (IsKnownStart c) at known))
+
+-- what a call at a mode's slot makes of the cache
+pub slot_effect :
+    (m : Machine) (mode : Anchored) (behind : Option ℕ) (old new : CacheView) (slot : ℕ)
+    → MayStart m mode behind → slot ≡ slot_behind m mode behind → slot < m.slots → length old.store.starts ≡ m.slots
+    → IsGrown old new → new.count ≤ old.count + 1
+    → ((IsKnownStart old.store slot → ⊥) → new.count ≡ old.count + 1)
+    → (IsKnownStart old.store slot → new ≡ old)
+    → KeepsStartTags old.store.table new.store.table
+    → TagsNewStates old.store.table new.store.table m.specialized
+    → ((q : Powerset) → Has new.store.table q → Has old.store.table q ⊎ (q ≡ start_state_of m.nfa mode behind))
+    → IsStartEffect m mode behind old new
+slot_effect m mode behind old new slot may at within slots grown once computed same keeps adds only = record {
+  grown = grown;
+  counted = once;
+  computed = λ _ _ free. computed (λ k. free (knows_slot m old.store mode behind slot may at within slots k));
+  barred = λ not. absurd (not may);
+  known = λ knows. same (subst (IsKnownStart old.store) (sym at) knows.1.1);
+  past = λ _ l. absurd (omega (arith, at, within, l));
+  start_tags = keeps;
+  added = adds;
+  only = only;
+}
+
+-- why a start is refused, from the step's refusal
+pub start_why :
+    (m : Machine) (c : Stored) (mode : Anchored) (behind : Option ℕ) (error : StepError)
+    → MayStart m mode behind → (IsCacheError error → GivesUp c (start_state_of m.nfa mode behind))
+    → IsStartRefusal m c mode behind (start_refusal error)
+start_why m c mode behind (step.Cache err) may gives_up = (may, gives_up tt)
+start_why m c mode behind step.OutOfMemory may gives_up = may
+
+-- an ID that names a state or the dead one has a row
+pub leads_row : (t : Rows) (id : ℕ) (q : Powerset) → Leads t id q → HasRow t id
+leads_row t id q (inl dies) = inl dies.0
+leads_row t id q (inr names) = inr (inr (q, names))
+
+-- why a search has no start state, of the states as they are after the refusal
+pub refusal_at :
+    (m : Machine) (mode : Anchored) (behind : Option ℕ) (behind_at start_at : ℕ) (old new : CacheView) (e : SearchError)
+    → IsStartRefusedAt m mode behind behind_at start_at old new e
+    → IsStartRefusalAt m new.store mode behind behind_at start_at e
+refusal_at m mode behind behind_at start_at old new e h =
+    (h.error, subst (λ (c : Stored). IsStartRefusal m c mode behind h.error) (sym (same h.refused.unchanged)) h.refused.why, h.told) where
+      same : (new ≡ old) ⊎ (new ≡ counted old) → new.store ≡ old.store
+      same (inl u) = ap (λ (v : CacheView). v.store) u
+      same (inr u) = ap (λ (v : CacheView). v.store) u
+
+-- behind no quit byte, a mode that isn't supported is refused for that
+pub unsupported_at :
+    (m : Machine) (mode : Anchored) (behind : Option ℕ) (behind_at start_at : ℕ) (old new : CacheView) (r : Result ℕ SearchError)
+    → IfOk r (IsStartAnswer m mode behind old new) → IfErr r (IsStartRefusedAt m mode behind behind_at start_at old new)
+    → quit_behind m behind ≡ None → supports m mode ≡ false → r ≡ Err (search.Match (UnsupportedMode mode))
+unsupported_at m mode behind behind_at start_at old new (Ok n) answer refusal clear off = absurd (false_true (sym off ∙ answer.may.1))
+unsupported_at m mode behind behind_at start_at old new (Err e) answer refusal clear off =
+    ap Err (refusal.told ∙ told refusal.error refusal.refused.why) where
+      told : (error : StartError) → IsStartRefusal m old.store mode behind error → search_refusal error behind_at start_at ≡ search.Match (UnsupportedMode mode)
+      told (start.Quit byte) why = absurd (none_some (sym clear ∙ why))
+      told (start.UnsupportedAnchored asked) why = ap (λ a. search.Match (UnsupportedMode a)) why.2
+      told (start.Cache err) why = absurd (false_true (sym off ∙ why.0.1))
+      told start.OutOfMemory why = absurd (false_true (sym off ∙ why.1))
+
+-- a start that was answered was allowed
+pub may_start :
+    {E : Type 0} (m : Machine) (mode : Anchored) (behind : Option ℕ) (old new : CacheView) (r : Result ℕ E)
+    → IfOk r (IsStartAnswer m mode behind old new) → OnOk r (MayStart m mode behind)
+may_start m mode behind old new (Ok n) answer = answer.may
+may_start m mode behind old new (Err e) answer = tt

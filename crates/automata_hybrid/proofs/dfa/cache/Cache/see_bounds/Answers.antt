@@ -1,0 +1,8 @@
+use Rattle.std.proofs.Common.{refl, subst}
+use Rattle.automata_hybrid.specs.Caches.{CacheView}
+use Rattle.automata_hybrid.specs.Owing.{IsStoreOf}
+use Rattle.automata_hybrid.proofs.dfa.cache.Cache.see_bounds.Goals as goal
+
+pub returns : goal.returns
+returns c =
+    subst (λ (v : CacheView). IsStoreOf v.store v.store.table.of) c.self.view_is (record { of = refl; within = c.see_bounds.ensures })

@@ -1,0 +1,124 @@
+-- What a search answers by its DFA and its input alone, whatever the cache, and what it makes of its cache.
+use Rattle.std.specs.Prelude.{ℕ, ◌≡◌, ◌<◌, ◌≤◌, true, false, Option, None, option_map, Result, Ok, Err, IfOk, IfErr, IfSome, OnOk}
+use Rattle.automata_base.specs.Answers.{Half, IsAnswer}
+use Rattle.automata_base.specs.Engines.{engine_of}
+use Rattle.automata_base.specs.Input.{Input}
+use Rattle.automata_base.specs.Matches.{HalfMatch}
+use Rattle.automata_base.specs.Nodes.{nfa_of}
+use Rattle.automata_base.specs.Paths.{IsLookAcyclic}
+use Rattle.automata_base.specs.Tapes.{Direction, Forward}
+use Rattle.automata_base.specs.Told.{IsNearestAnswer, IsFarthestAnswer}
+use Rattle.automata_base.specs.declared.util.search.MatchErrorKind.TheVariants.{UnsupportedAnchored as UnsupportedMode}
+use Rattle.automata_base.specs.declared.util.search.MatchKind.TheVariants.{All as KindAll}
+use Rattle.automata_config.specs.declared.error.SearchError.{SearchError}
+use Rattle.automata_config.specs.declared.error.SearchError.TheVariants as search
+use Rattle.automata_hybrid.specs.Bounds.{Stored, usage}
+use Rattle.automata_hybrid.specs.Caches.{CacheView}
+use Rattle.automata_hybrid.specs.Costs.{IsCostOfSearch}
+use Rattle.automata_hybrid.specs.Growing.{ClearedNothing, IsGrown, IsStill}
+use Rattle.automata_hybrid.specs.Knowing.{IsOfInput, Knows}
+use Rattle.automata_hybrid.specs.Machine.{Machine}
+use Rattle.automata_hybrid.specs.Searches.{IsFound, IsRefused, NoQuitInReach, WithoutBase, tape_in, with_base}
+use Rattle.automata_hybrid.specs.Slots.{supports}
+use Rattle.automata_hybrid.specs.Starting.{quit_behind}
+use Rattle.automata_hybrid.specs.Within.{LiesIn, LiesPast}
+
+-- a cache of this DFA, whose accounted bytes are within its settings
+pub record IsStoreOf (c : Stored) (m : Machine) : Type 0 where
+  pub of : c.table.of ≡ m
+  pub within : usage c ≤ m.capacity
+
+-- want of memory
+abbrev pub IsMemory : SearchError → Type 0
+IsMemory e = e ≡ search.OutOfMemory
+
+-- nothing but want of memory stands in the way of an answer: no quit byte is in reach, the mode is supported, and no
+-- clear limit is set
+pub record IsUnhindered (m : Machine) (input : Input) : Type 0 where
+  pub reach : NoQuitInReach m input
+  pub supported : supports m input.anchored ≡ true
+  pub clears : m.minimum_clear_count ≡ None
+
+-- the span isn't done, no quit byte is behind the start, and the mode isn't supported
+pub record IsUnsupported (way : Direction) (m : Machine) (input : Input) : Type 0 where
+  pub undone : input.start ≤ input.end
+  pub behind : quit_behind m (tape_in way input).before ≡ None
+  pub mode : supports m input.anchored ≡ false
+
+abbrev pub unsupported_error : Input → SearchError
+unsupported_error input = search.Match (UnsupportedMode input.anchored)
+
+-- some cache of the DFA, within its settings, refuses the search so
+abbrev pub MayRefuse : Direction → Machine → Input → SearchError → Type 0
+MayRefuse way m input e = (c : Stored) × IsStoreOf c m × IsRefused way m c input e
+
+-- what a search in a direction answers
+pub record IsHalf (way : Direction) (m : Machine) (input : Input)
+    (result : Result (Option HalfMatch) SearchError) : Type 0 where
+  -- for every automaton, what the passes tell
+  pub found : IfOk result (WithoutBase (IsFound way m input))
+  -- where no cycle passes a look, the answer of the ordered paths
+  pub answer :
+      IsLookAcyclic (nfa_of m.nfa) → IfOk result (WithoutBase (IsAnswer way (engine_of m.nfa m.kind) input))
+  -- for every automaton, the nearest end in an earliest search, and under kind all the farthest one in another
+  pub nearest :
+      input.earliest ≡ true → IfOk result (WithoutBase (IsNearestAnswer way (engine_of m.nfa m.kind) input))
+  pub farthest :
+      input.earliest ≡ false → m.kind ≡ KindAll
+      → IfOk result (WithoutBase (IsFarthestAnswer way (engine_of m.nfa m.kind) input))
+  -- it lies in the input's span, and its pattern is one of the automaton's
+  pub within : IfOk result (λ o. IfSome o (LiesIn m input))
+  -- a refusal is one that some cache may give
+  pub errors : IfErr result (MayRefuse way m input)
+  -- a mode that isn't supported is told
+  pub unsupported : IsUnsupported way m input → result ≡ Err (unsupported_error input)
+  -- where nothing stands in the way, only want of memory is a refusal
+  pub free : IsUnhindered m input → IfErr result IsMemory
+  -- in a span that is done there is none
+  pub done : input.end < input.start → result ≡ Ok None
+
+-- an answer with the start of the span that gave it
+abbrev pub based_half : Option (HalfMatch × ℕ) → Option Half
+based_half = option_map (λ p. with_base p.0 p.1)
+
+-- what a forward search answers, with the start of the span that gave it
+pub record IsBased (m : Machine) (input : Input)
+    (result : Result (Option (HalfMatch × ℕ)) SearchError) : Type 0 where
+  -- for every automaton, what the passes tell
+  pub found : IfOk result (λ o. IsFound Forward m input (based_half o))
+  -- where no cycle passes a look, the answer of the ordered paths
+  pub answer :
+      IsLookAcyclic (nfa_of m.nfa)
+      → IfOk result (λ o. IsAnswer Forward (engine_of m.nfa m.kind) input (based_half o))
+  -- for every automaton, the nearest end in an earliest search, and under kind all the farthest one in another
+  pub nearest :
+      input.earliest ≡ true
+      → IfOk result (λ o. IsNearestAnswer Forward (engine_of m.nfa m.kind) input (based_half o))
+  pub farthest :
+      input.earliest ≡ false → m.kind ≡ KindAll
+      → IfOk result (λ o. IsFarthestAnswer Forward (engine_of m.nfa m.kind) input (based_half o))
+  -- it lies in the input's span, not before the start of the one that gave it, and its pattern is one of the automaton's
+  pub within : IfOk result (λ o. IfSome o (λ p. LiesPast m input p.0 p.1))
+  -- a refusal is one that some cache may give
+  pub errors : IfErr result (MayRefuse Forward m input)
+  -- a mode that isn't supported is told
+  pub unsupported : IsUnsupported Forward m input → result ≡ Err (unsupported_error input)
+  -- where nothing stands in the way, only want of memory is a refusal
+  pub free : IsUnhindered m input → IfErr result IsMemory
+  -- in a span that is done there is none
+  pub done : input.end < input.start → result ≡ Ok None
+
+-- what a search in a direction makes of its cache
+pub record IsSearchEffect {T : Type 0} (way : Direction) (m : Machine) (input : Input) (old new : CacheView)
+    (result : Result T SearchError) : Type 0 where
+  -- a pass over n bytes makes at most n + 2 determinisations, and each is over another span that is tried: one, where no
+  -- place is skipped or the search is anchored; nothing is cleared where there is room for as many states
+  pub cost : IsCostOfSearch way m input old new
+  -- until the next clear nothing is lost
+  pub grown : IsGrown old new
+  -- and what it used is known
+  pub learned : ClearedNothing old.store new.store → OnOk result (Knows way m new.store input)
+  -- with all that known it takes no memory, and changes nothing but the progress
+  pub known : Knows way m old.store input → IsStill old new × IfErr result IsOfInput
+  -- with a span that is done, nothing at all
+  pub done : input.end < input.start → new ≡ old

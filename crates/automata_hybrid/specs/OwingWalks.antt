@@ -1,0 +1,115 @@
+-- What a call of a walk and a set answer by their DFA and their input alone, whatever the cache, and what they make of
+-- their cache.
+use Rattle.std.specs.Prelude.{ℕ, ◌≡◌, ◌<◌, ◌≤◌, ◌+◌, ◌-◌, ◌⊎◌, Bool, true, false, List, length, Result, Err, IfErr, IfSome, OnOk, OnErr}
+use Rattle.automata_base.specs.Answers.{ArePatterns, ArePatternsFound, IsOverlapping}
+use Rattle.automata_base.specs.Engines.{engine_of}
+use Rattle.automata_base.specs.Input.{Input}
+use Rattle.automata_base.specs.Nodes.{nfa_of}
+use Rattle.automata_base.specs.Paths.{IsLookAcyclic}
+use Rattle.automata_base.specs.PatternSet.{members}
+use Rattle.automata_base.specs.Powerset.{Powerset}
+use Rattle.automata_base.specs.Selections.{Pair}
+use Rattle.automata_base.specs.Tapes.{Direction, Forward}
+use Rattle.automata_config.specs.declared.error.SearchError.{SearchError}
+use Rattle.automata_hybrid.specs.Bounds.{Stored}
+use Rattle.automata_hybrid.specs.Caches.{CacheView, counted}
+use Rattle.automata_hybrid.specs.Growing.{ClearedNothing, HasRoom, IsGrown, IsStill}
+use Rattle.automata_hybrid.specs.Knowing.{IsOfInput}
+use Rattle.automata_hybrid.specs.KnowingWalks.{KnowsWalk, KnowsWhich}
+use Rattle.automata_hybrid.specs.Machine.{Machine}
+use Rattle.automata_hybrid.specs.Owing.{IsMemory, IsStoreOf, IsUnhindered, IsUnsupported, unsupported_error}
+use Rattle.automata_hybrid.specs.Walking.{AreWalked, HasItsState, HasTold, IsWalkRefusal, TellsNext, half_nth, start_count}
+use Rattle.automata_hybrid.specs.Walks.{At, Ended, Fresh, Walk, without_match}
+use Rattle.automata_hybrid.specs.Which.{IsWhichRefusal}
+use Rattle.automata_hybrid.specs.Within.{LiesIn}
+
+-- the next call of a walk reads nothing: the walk has ended, is at the next pattern of one place, or its span is done
+abbrev pub ReadsNothing : Input → Walk → Type 0
+ReadsNothing input w =
+    (w.stage ≡ Ended)
+    ⊎ ((w.lost ≡ false)
+    × (((q : Powerset) × (w.stage ≡ At q) × (w.told < length q.patterns)) ⊎ (input.end < input.start)))
+
+-- some cache of the DFA, within its settings, refuses so a call of this walk, which has told so many pairs
+abbrev pub MayRefuseCall : Direction → Machine → Input → Walk → (told : ℕ) → SearchError → Type 0
+MayRefuseCall way m input w told e = (c : Stored) × IsStoreOf c m × IsWalkRefusal way m c input w told e
+
+-- what a call of a walk answers, and what it makes of the walk
+pub record IsWalkCall (way : Direction) (m : Machine) (input : Input) (old new : Walk)
+    (result : Result (Unit {0}) SearchError) : Type 0 where
+  -- for every automaton, the next pair that its passes tell
+  pub tells : OnOk result (TellsNext way m input old new)
+  -- where no cycle passes a look, that of the list that the ordered paths define
+  pub paths :
+      IsLookAcyclic (nfa_of m.nfa) → (k : ℕ) (pairs : List Pair) → HasTold way m input old k
+      → IsOverlapping way (engine_of m.nfa m.kind) input pairs → OnOk result (new.found ≡ half_nth pairs k)
+  -- it lies in the input's span, and its pattern is one of the automaton's
+  pub within : IfSome new.found (LiesIn m input)
+  -- a refused walk is as before, but for its match, which is none
+  pub refused : OnErr result (new ≡ without_match old)
+  -- a refusal is one that some cache may give; and of a walk that lost its state want of memory
+  pub errors :
+      old.lost ≡ false → (k : ℕ) → HasTold way m input old k → IfErr result (MayRefuseCall way m input old k)
+  pub lost : old.lost ≡ true → IfErr result IsMemory
+  -- of a walk that hasn't begun, a mode that isn't supported is told
+  pub unsupported : old.stage ≡ Fresh → IsUnsupported way m input → result ≡ Err (unsupported_error input)
+  -- where nothing stands in the way, only want of memory is a refusal
+  pub free : IsUnhindered m input → IfErr result IsMemory
+  -- where nothing is read, nothing is
+  pub ready : ReadsNothing input old → IfErr result (λ e. ⊥)
+
+-- what a call of a walk makes of its cache
+pub record IsCallEffect (way : Direction) (m : Machine) (input : Input) (walk next : Walk) (old new : CacheView)
+    (result : Result (Unit {0}) SearchError) : Type 0 where
+  -- it makes at most one determinisation for each unit by which those read rise, and one for a start; a refused call one
+  -- for each unit left
+  pub rises : OnOk result (walk.units ≤ next.units)
+  pub cost : OnOk result (new.count + walk.units ≤ old.count + next.units + start_count walk.stage)
+  pub most : new.count ≤ old.count + (input.end - input.start + 1 - walk.units) + start_count walk.stage
+  -- nothing is cleared where there is room for as many states, and for the walk's own
+  pub roomy : HasRoom old.store (input.end - input.start + 1 - walk.units + 1) → new.store.clears ≡ old.store.clears
+  -- it grows the cache as one determinisation more would, and where the cache has the walk's state as those made do
+  pub grown : IsGrown old (counted new)
+  pub there : HasItsState old.store.table walk.stage → IsGrown old new
+  -- where nothing was cleared what it used is known
+  pub learned : ClearedNothing old.store new.store → OnOk result (KnowsWalk way m new.store input walk)
+  -- with all that known it takes no memory, and changes nothing but the progress
+  pub known : KnowsWalk way m old.store input walk → IsStill old new × (walk.lost ≡ false → IfErr result IsOfInput)
+  -- where nothing is read, nothing at all
+  pub ready : ReadsNothing input walk → new ≡ old
+
+-- some cache of the DFA, within its settings, refuses a walk so, whose patterns the set was joined with
+abbrev pub MayRefuseWhich : Machine → Input → (old new : List Bool) → SearchError → Type 0
+MayRefuseWhich m input old new e = (c : Stored) × IsStoreOf c m × IsWhichRefusal m c input old new e
+
+-- what a set is joined with
+pub record IsWhich (m : Machine) (input : Input) (old new : List Bool)
+    (result : Result (Unit {0}) SearchError) : Type 0 where
+  -- for every automaton, the patterns below its capacity that the walk tells
+  pub found :
+      OnOk result (ArePatterns (AreWalked Forward m input) input (length old) (members old) (members new))
+  -- where no cycle passes a look, those of the ordered paths
+  pub paths :
+      IsLookAcyclic (nfa_of m.nfa)
+      → OnOk result (ArePatternsFound (engine_of m.nfa m.kind) input (length old) (members old) (members new))
+  pub capacity : length new ≡ length old
+  -- a refusal is one that some cache may give
+  pub errors : IfErr result (MayRefuseWhich m input old new)
+  -- a mode that isn't supported is told
+  pub unsupported : IsUnsupported Forward m input → result ≡ Err (unsupported_error input)
+  -- where nothing stands in the way, only want of memory is a refusal
+  pub free : IsUnhindered m input → IfErr result IsMemory
+
+-- what the walk that joins a set makes of its cache
+pub record IsWhichEffect (m : Machine) (input : Input) (set : List Bool) (old new : CacheView)
+    (result : Result (Unit {0}) SearchError) : Type 0 where
+  -- over a span of n bytes it makes at most n + 2 determinisations, and clears nothing where there is room for as many
+  -- states
+  pub cost : new.count ≤ old.count + (input.end - input.start + 2)
+  pub roomy : HasRoom old.store (input.end - input.start + 2) → new.store.clears ≡ old.store.clears
+  -- until the next clear nothing is lost
+  pub grown : IsGrown old new
+  -- and what it used is known
+  pub learned : ClearedNothing old.store new.store → OnOk result (KnowsWhich m new.store input set)
+  -- with all that known it takes no memory, and changes nothing but the progress
+  pub known : KnowsWhich m old.store input set → IsStill old new × IfErr result IsOfInput
