@@ -6,31 +6,32 @@ use Rattle.automata_base.specs.Paths.{next}
 use Rattle.automata_base.specs.Powerset.{Powerset, dead}
 use Rattle.automata_base.specs.Tapes.{Direction}
 use Rattle.automata_config.specs.declared.error.SearchError.{SearchError}
+use Rattle.automata_hybrid.specs.declared.dfa.progress.Progress.{Progress}
 use Rattle.automata_hybrid.specs.declared.dfa.progress.Searched.{Searched}
 use Rattle.automata_hybrid.specs.declared.dfa.row.Row.{Row}
 use Rattle.automata_hybrid.specs.Bounds.{Stored, IsComputed, IsStarted, with_searched}
 use Rattle.automata_hybrid.specs.Caches.{CacheView, with_store}
-use Rattle.automata_hybrid.specs.Growing.{IsGrown, ClearedNothing}
+use Rattle.automata_hybrid.specs.Growing.{ClearedNothing, IsGrown, IsKeptOrCleared, KeepsProgress}
 use Rattle.automata_hybrid.specs.Machine.{Machine}
 use Rattle.automata_hybrid.specs.Passing.{IsAt}
-use Rattle.automata_hybrid.specs.Progressing.{finished, progress_cleared, saturated, started, updated}
-use Rattle.automata_hybrid.specs.Searched.{CountsFrom, EndsAtLast, IsEndedAt, IsEndedBy, IsKeptOrCleared, IsLastPlace, IsLeftAt, IsLeftOpen, IsMovedTo, IsOfRoom, IsOpenAt, IsQuitUnit, none_searched}
+use Rattle.automata_hybrid.specs.Progressing.{finished, from_place, progress_cleared, saturated, started, updated}
+use Rattle.automata_hybrid.specs.Searched.{CountsFrom, EndsAtLast, IsEndedAt, IsEndedBy, IsLastPlace, IsLeftAt, IsLeftOpen, IsMovedTo, IsOfRoom, IsOpenAt, IsQuitUnit, none_searched}
 use Rattle.automata_hybrid.specs.Searches.{Reads, given_up_offset, tape_in}
 use Rattle.automata_hybrid.specs.Table.{Names}
 use Rattle.automata_hybrid.proofs.Effects.{counts_up}
-use Rattle.automata_hybrid.proofs.Growing.{nothing_first, nothing_second}
+use Rattle.automata_hybrid.proofs.Growing.{grown_moved, grown_trans, nothing_first, nothing_second}
 use Rattle.automata_hybrid.proofs.Searching.{at_reads}
 
 -- a clear of the states keeps the progress as a clear makes it
 clears_progress :
     (old new : Stored) → new.clears ≡ saturated (old.clears + 1) → new.searched ≡ progress_cleared old.searched
-    → IsKeptOrCleared old new old.searched new.searched
+    → KeepsProgress old new
 clears_progress old new clears searched =
     inr (λ nothing. counts_up old.clears new.clears clears nothing.0 nothing.1, searched)
 
 pub computed_progress :
     (old new : Stored) (id class next : ℕ) (q target : Powerset)
-    → IsComputed old id class q target new next → IsKeptOrCleared old new old.searched new.searched
+    → IsComputed old id class q target new next → KeepsProgress old new
 computed_progress old new id class next q target (inl (leads, e)) = inl (ap (λ (s : Stored). s.searched) e)
 computed_progress old new id class next q target (inr (lacks, from, between, inl (fits, g), n, e)) =
     inl (ap (λ (s : Stored). s.searched) e ∙ ap (λ (s : Stored). s.searched) g)
@@ -40,7 +41,7 @@ computed_progress old new id class next q target (inr (lacks, from, between, inr
 
 pub started_progress :
     (old new : Stored) (slot id : ℕ) (r : Row)
-    → IsStarted old slot r new id → IsKeptOrCleared old new old.searched new.searched
+    → IsStarted old slot r new id → KeepsProgress old new
 started_progress old new slot id r (inl (leads, e)) = inl (ap (λ (s : Stored). s.searched) e)
 started_progress old new slot id r (inr (lacks, between, inl (fits, g), e)) =
     inl (ap (λ (s : Stored). s.searched) e ∙ ap (λ (s : Stored). s.searched) g)
@@ -89,7 +90,7 @@ module _ (input : Input) (s : Searched) (first : ℕ) (old mid new : CacheView) 
 pub ended_by :
     (old mid next new : CacheView) (at : ℕ)
     → mid ≡ with_store old (with_searched old.store (updated old.store.searched at))
-    → IsKeptOrCleared mid.store next.store mid.store.searched next.store.searched
+    → KeepsProgress mid.store next.store
     → new ≡ with_store next (with_searched next.store (finished next.store.searched at))
     → IsEndedBy at old.store new.store
 ended_by old mid next new at m kept e =
@@ -99,7 +100,7 @@ ended_by old mid next new at m kept e =
   last : new.store.clears ≡ next.store.clears
   last = ap (λ (v : CacheView). v.store.clears) e
   go :
-      IsKeptOrCleared mid.store next.store mid.store.searched next.store.searched
+      KeepsProgress mid.store next.store
       → IsKeptOrCleared old.store new.store (updated old.store.searched at) next.store.searched
   go (inl same) = inl (same ∙ ap (λ (v : CacheView). v.store.searched) m)
   go (inr (cleared, same)) =
@@ -110,7 +111,7 @@ ended_by old mid next new at m kept e =
 pub moved_by :
     (old mid next : CacheView) (at : ℕ)
     → mid ≡ with_store old (with_searched old.store (updated old.store.searched at))
-    → IsKeptOrCleared mid.store next.store mid.store.searched next.store.searched
+    → KeepsProgress mid.store next.store
     → IsMovedTo at old.store next.store
 moved_by old mid next at m (inl same) = inl (same ∙ ap (λ (v : CacheView). v.store.searched) m)
 moved_by old mid next at m (inr (cleared, same)) =
@@ -170,4 +171,81 @@ module _ (way : Direction) (m : Machine) (input : Input) (s : Searched) (old mid
         subst (λ a. IsOfRoom a e) (sym place) room,
         subst (λ a. IsOpenAt input s (given_up_offset way input 0) a old.store new.store) (sym place)
             (stays_open input s (given_up_offset way input 0) old mid new before after x at low high o moved),
+      )
+
+-- a search begins as if nothing had been searched, where a clear came before
+started_cleared : (s : Searched) (first : ℕ) → started (progress_cleared s) first ≡ started none_searched first
+started_cleared s first = go s.running where
+  go :
+      (r : Option Progress)
+      → started (record { bytes = 0; running = from_place r }) first ≡ started none_searched first
+  go None = refl
+  go (Some p) =
+      ap begin none where
+    none : 0 + ((p.place - p.place) + (p.place - p.place)) ≡ 0
+    none = omega arith
+    begin : ℕ → Searched
+    begin n = record { bytes = saturated n; running = Some (record { start = first; place = first }) }
+
+-- a pass asked for its start, and then began
+module _ (way : Direction) (m : Machine) (input : Input) (low : input.start ≤ given_up_offset way input 0)
+    (high : given_up_offset way input 0 ≤ input.end) (old begun mid new : CacheView) (starts : IsGrown old begun)
+    (kept : KeepsProgress old.store begun.store)
+    (begins : mid ≡ with_store begun (with_searched begun.store (started begun.store.searched (given_up_offset way input 0))))
+    (after : IsGrown mid new) where
+  moved : IsGrown begun mid
+  moved = grown_moved begun mid begins
+
+  recount :
+      (beside : Searched) (from : ℕ)
+      → CountsFrom input begun.store.searched (given_up_offset way input 0) mid.store new.store beside from
+      → (b : Searched) × (f : ℕ) × CountsFrom input old.store.searched (given_up_offset way input 0) old.store new.store b f
+      × (started beside from ≡ started b f)
+  recount beside from (inr c) =
+      (beside, from,
+      inr (λ nothing. c.0 (nothing_second old mid new (grown_trans old begun mid starts moved) after nothing), c.1, c.2, c.3), refl)
+  recount beside from (inl c) = go kept where
+    go :
+        KeepsProgress old.store begun.store
+        → (b : Searched) × (f : ℕ) × CountsFrom input old.store.searched (given_up_offset way input 0) old.store new.store b f
+        × (started beside from ≡ started b f)
+    go (inl same) = (beside, from, inl (c.0 ∙ same, c.1), refl)
+    go (inr (cleared, same)) =
+        (none_searched, given_up_offset way input 0,
+        inr (λ nothing. cleared (nothing_first old begun new starts (grown_trans begun mid new moved after) nothing), refl, low, high),
+        (λ i. started (c.0 i) (c.1 i))
+        ∙ (ap (λ (s : Searched). started s (given_up_offset way input 0)) same
+        ∙ started_cleared old.store.searched (given_up_offset way input 0)))
+
+  pub pass_ends :
+      EndsAtLast way m input begun.store.searched mid.store new.store
+      → EndsAtLast way m input old.store.searched old.store new.store
+  pass_ends (k, last, (beside, from, counts, e)) = go (recount beside from counts) where
+    go :
+        ((b : Searched) × (f : ℕ) × CountsFrom input old.store.searched (given_up_offset way input 0) old.store new.store b f
+        × (started beside from ≡ started b f)) → EndsAtLast way m input old.store.searched old.store new.store
+    go (b, f, c, same) =
+        (k, last, (b, f, c, e ∙ ap (λ (s : Searched). finished s (given_up_offset way input k)) same))
+
+  pub pass_opens :
+      (e : SearchError) → IsLeftOpen way m input begun.store.searched mid.store new.store e
+      → IsLeftOpen way m input old.store.searched old.store new.store e
+  pass_opens error (k, reads, clean, room, (beside, from, counts, e)) = go (recount beside from counts) where
+    go :
+        ((b : Searched) × (f : ℕ) × CountsFrom input old.store.searched (given_up_offset way input 0) old.store new.store b f
+        × (started beside from ≡ started b f)) → IsLeftOpen way m input old.store.searched old.store new.store error
+    go (b, f, c, same) =
+        (k, reads, clean, room, (b, f, c, e ∙ ap (λ (s : Searched). updated s (given_up_offset way input k)) same))
+
+  -- and ended at once, since its start is dead
+  pub pass_dies :
+      ((j : ℕ) → 0 ≤ j → Reads way m input j → ⊥)
+      → new.store.searched ≡ finished mid.store.searched (given_up_offset way input 0)
+      → EndsAtLast way m input old.store.searched old.store new.store
+  pass_dies none e =
+      pass_ends (
+        0,
+        record { reads = inl refl; clean = λ j byte l. absurd (omega (arith, l)); stops = inl (none 1 (omega arith)) },
+        (begun.store.searched, given_up_offset way input 0, inl (refl, refl),
+        e ∙ ap (λ (v : CacheView). finished v.store.searched (given_up_offset way input 0)) begins),
       )

@@ -16,7 +16,7 @@ use Rattle.automata_hybrid.specs.Machine.{Machine}
 use Rattle.automata_hybrid.specs.Table.{Has, KeepsStartTags, Leads, Rows, TagsNewStates}
 use Rattle.automata_hybrid.specs.Bounds.{Stored, GivesUp, IsCacheError, IsKnownStart}
 use Rattle.automata_hybrid.specs.Caches.{CacheView, HasRow, counted}
-use Rattle.automata_hybrid.specs.Growing.{IsGrown}
+use Rattle.automata_hybrid.specs.Growing.{IsGrown, KeepsProgress}
 use Rattle.automata_hybrid.specs.Slots.{slot_behind, supports}
 use Rattle.automata_hybrid.specs.Starting.{HasSlot, IsStartAnswer, IsStartEffect, IsStartRefusal, IsStartRefusalAt, IsStartRefusedAt, KnowsStart, MayStart, quit_behind, search_refusal, start_refusal}
 use Rattle.automata_hybrid.proofs.Growing.{grown_same}
@@ -35,6 +35,7 @@ start_stays m mode behind c needless = record {
   barred = λ not. refl;
   known = λ knows. refl;
   past = λ may l. refl;
+  progress = inl refl;
   start_tags = same_keeps c.store.table c.store.table refl;
   added = same_adds c.store.table c.store.table m.specialized refl;
   only = λ q has. inl has;
@@ -55,17 +56,19 @@ pub slot_effect :
     → IsGrown old new → new.count ≤ old.count + 1
     → ((IsKnownStart old.store slot → ⊥) → new.count ≡ old.count + 1)
     → (IsKnownStart old.store slot → new ≡ old)
+    → KeepsProgress old.store new.store
     → KeepsStartTags old.store.table new.store.table
     → TagsNewStates old.store.table new.store.table m.specialized
     → ((q : Powerset) → Has new.store.table q → Has old.store.table q ⊎ (q ≡ start_state_of m.nfa mode behind))
     → IsStartEffect m mode behind old new
-slot_effect m mode behind old new slot may at within slots grown once computed same keeps adds only = record {
+slot_effect m mode behind old new slot may at within slots grown once computed same progress keeps adds only = record {
   grown = grown;
   counted = once;
   computed = λ _ _ free. computed (λ k. free (knows_slot m old.store mode behind slot may at within slots k));
   barred = λ not. absurd (not may);
   known = λ knows. same (subst (IsKnownStart old.store) (sym at) knows.1.1);
   past = λ _ l. absurd (omega (arith, at, within, l));
+  progress = progress;
   start_tags = keeps;
   added = adds;
   only = only;

@@ -7,7 +7,7 @@ use Rattle.automata_base.specs.Steps.{successor}
 use Rattle.automata_base.proofs.Paths.Orders.{none_some, some_inj}
 use Rattle.automata_hybrid.specs.Bounds.{GivesUp, IsComputed, IsKnownTransition, IsNext, cell_of}
 use Rattle.automata_hybrid.specs.Caches.{CacheView, HasRow}
-use Rattle.automata_hybrid.specs.Growing.{ClearedNothing, IsGrown}
+use Rattle.automata_hybrid.specs.Growing.{ClearedNothing, IsGrown, KeepsProgress}
 use Rattle.automata_hybrid.specs.Ids.{fixed_from, quit_id, unknown_id}
 use Rattle.automata_hybrid.specs.Machine.{Machine, next_of, template_of}
 use Rattle.automata_hybrid.specs.Searches.{IsNoQuit}
@@ -28,6 +28,7 @@ fixed_effect m id unit c high = record {
   fixed = λ h. refl;
   quit = λ q. refl;
   known = λ k. refl;
+  progress = inl refl;
   start_tags = same_keeps c.store.table c.store.table refl;
   added = same_adds c.store.table c.store.table false refl;
   only = λ q n p has. inl has;
@@ -79,18 +80,20 @@ pub class_effect :
     → IsGrown old new
     → ((IsKnownTransition old.store id class → ⊥) → new.count ≡ old.count + 1)
     → (IsKnownTransition old.store id class → new ≡ old)
+    → KeepsProgress old.store new.store
     → KeepsStartTags old.store.table new.store.table
     → TagsNewStates old.store.table new.store.table false
     → ((q : Powerset) → Names old.store.table id q
     → (p : Powerset) → Has new.store.table p → Has old.store.table p ⊎ (p ≡ successor m.nfa m.kind q unit))
     → IsStepEffect m id unit old new
-class_effect m id unit old new class low at quit grown computed same keeps adds only = record {
+class_effect m id unit old new class low at quit grown computed same progress keeps adds only = record {
   grown = grown;
   counted = once (lt_or_le (cell_of old.store id class) unknown_id);
   computed = λ _ free. computed (λ k. free (subst (IsKnownTransition old.store id) at k));
   fixed = λ high. absurd (omega (arith, low, high));
   quit = quit;
   known = λ k. same (subst (IsKnownTransition old.store id) (sym at) k);
+  progress = progress;
   start_tags = keeps;
   added = adds;
   only = only;

@@ -1,11 +1,13 @@
 -- What steps and searches make of a cache, and a reset doesn't.
-use Rattle.std.specs.Prelude.{◌≡◌, ℕ, ◌+◌, ◌-◌, ◌*◌, ◌^◌, ◌<◌, ◌≤◌, length, slice_index}
+use Rattle.std.specs.Prelude.{◌≡◌, ℕ, ◌+◌, ◌-◌, ◌*◌, ◌^◌, ◌<◌, ◌≤◌, ◌⊎◌, length, slice_index}
 use Rattle.automata_base.specs.Powerset.{Powerset}
 use Rattle.automata_hybrid.specs.Bounds.{Stored, IsKnownStart, IsKnownTransition, KeepsStarts, cell_of, usage, with_searched}
 use Rattle.automata_hybrid.specs.Caches.{CacheView}
 use Rattle.automata_hybrid.specs.Ids.{offset_limit}
 use Rattle.automata_hybrid.specs.Machine.{greatest}
+use Rattle.automata_hybrid.specs.Progressing.{progress_cleared}
 use Rattle.automata_hybrid.specs.Table.{IsValid, Names}
+use Rattle.automata_hybrid.specs.declared.dfa.progress.Searched.{Searched}
 
 -- nothing is lost: each row, each known start and each known transition is as it was
 pub record Keeps (old new : Stored) : Type 0 where
@@ -16,6 +18,15 @@ pub record Keeps (old new : Stored) : Type 0 where
 -- nothing was cleared between: the count of clears is the same, and below the greatest number, where it would stay
 abbrev pub ClearedNothing : Stored → Stored → Type 0
 ClearedNothing old new = (new.clears ≡ old.clears) × (old.clears < 2 ^ 64 - 1)
+
+-- progress is as it was, or, where something was cleared, as a clear makes it
+abbrev pub IsKeptOrCleared : (old new : Stored) → (from to : Searched) → Type 0
+IsKeptOrCleared old new from to =
+    (to ≡ from) ⊎ ((ClearedNothing old new → ⊥) × (to ≡ progress_cleared from))
+
+-- a step or a start moves no progress
+abbrev pub KeepsProgress : Stored → Stored → Type 0
+KeepsProgress old new = IsKeptOrCleared old new old.searched new.searched
 
 -- there is room for so many more states, whatever they cost
 pub record HasRoom (c : Stored) (states : ℕ) : Type 0 where

@@ -10,16 +10,11 @@ use Rattle.automata_config.specs.declared.error.SearchError.{SearchError}
 use Rattle.automata_config.specs.declared.error.SearchError.TheVariants as search
 use Rattle.automata_hybrid.specs.declared.dfa.progress.Searched.{Searched}
 use Rattle.automata_hybrid.specs.Bounds.{Stored}
-use Rattle.automata_hybrid.specs.Growing.{ClearedNothing}
+use Rattle.automata_hybrid.specs.Growing.{ClearedNothing, IsKeptOrCleared, KeepsProgress}
 use Rattle.automata_hybrid.specs.Machine.{Machine}
-use Rattle.automata_hybrid.specs.Progressing.{finished, progress_cleared, started, updated}
+use Rattle.automata_hybrid.specs.Progressing.{finished, started, updated}
 use Rattle.automata_hybrid.specs.Searches.{Finds, HasReadNoQuit, Reads, Skips, behind_offset, given_up_offset, tape_in}
 use Rattle.automata_hybrid.specs.Starting.{IsStartRefusalAt}
-
--- a step or a start leaves the progress as it was, or as a clear makes it
-abbrev pub IsKeptOrCleared : (old new : Stored) → (from to : Searched) → Type 0
-IsKeptOrCleared old new from to =
-    (to ≡ from) ⊎ ((ClearedNothing old new → ⊥) × (to ≡ progress_cleared from))
 
 -- a step from an offset leaves a search at that offset
 abbrev pub IsMovedTo : (at : ℕ) → (old new : Stored) → Type 0
@@ -96,7 +91,7 @@ KeepsNone Backward input = input.start ≡ input.end
 -- a pass has ended
 abbrev pub HasEnded : Direction → Machine → Input → (old new : Stored) → Type 0
 HasEnded way m input old new =
-    (KeepsNone way input × IsKeptOrCleared old new old.searched new.searched)
+    (KeepsNone way input × KeepsProgress old new)
     ⊎ ((KeepsNone way input → ⊥) × EndsAtLast way m input old.searched old new)
 
 -- a pass was refused: at its start, which leaves the progress as it was; or it has ended; or it is left open

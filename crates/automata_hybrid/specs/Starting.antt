@@ -16,7 +16,7 @@ use Rattle.automata_hybrid.specs.Machine.{Machine}
 use Rattle.automata_hybrid.specs.Table.{Has, HasItsMatchTag, KeepsStartTags, Leads, TagsNewStates}
 use Rattle.automata_hybrid.specs.Bounds.{Stored, GivesUp, IsStarted}
 use Rattle.automata_hybrid.specs.Caches.{CacheView, HasRow, counted}
-use Rattle.automata_hybrid.specs.Growing.{IsGrown}
+use Rattle.automata_hybrid.specs.Growing.{IsGrown, KeepsProgress}
 use Rattle.automata_hybrid.specs.Slots.{supports, slot_behind, HasStart}
 
 -- the byte behind a start, where it is a quit byte
@@ -137,6 +137,8 @@ pub record IsStartEffect (m : Machine) (mode : Anchored) (behind : Option ℕ) (
   pub past : MayStart m mode behind → m.slots ≤ slot_behind m mode behind → new ≡ old
   -- A state that was there keeps its start tag or its lack of one, through a clear too.
   pub start_tags : KeepsStartTags old.store.table new.store.table
+  -- The progress of searches stays, but for a clear.
+  pub progress : KeepsProgress old.store new.store
   -- A state that was added has the start tag exactly if the settings specialize start states.
   pub added : TagsNewStates old.store.table new.store.table m.specialized
   -- No state was added but the start state.

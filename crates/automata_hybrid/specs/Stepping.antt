@@ -6,7 +6,7 @@ use Rattle.automata_base.specs.Steps.{successor}
 use Rattle.automata_config.specs.declared.error.StepError.{StepError}
 use Rattle.automata_hybrid.specs.Bounds.{Stored, GivesUp, IsCacheError, IsComputed, IsKnownTransition, cell_of}
 use Rattle.automata_hybrid.specs.Caches.{CacheView, HasRow, counted}
-use Rattle.automata_hybrid.specs.Growing.{ClearedNothing, IsGrown}
+use Rattle.automata_hybrid.specs.Growing.{ClearedNothing, IsGrown, KeepsProgress}
 use Rattle.automata_hybrid.specs.Ids.{fixed_from, quit_id}
 use Rattle.automata_hybrid.specs.Machine.{Machine}
 use Rattle.automata_hybrid.specs.Table.{Has, HasItsMatchTag, KeepsStartTags, Leads, Names, TagsNewStates}
@@ -86,6 +86,8 @@ pub record IsStepEffect (m : Machine) (id : ℕ) (unit : Option ℕ) (old new : 
   pub quit : quits_on m unit ≡ true → new ≡ old
   -- A known transition takes no memory, and changes nothing.
   pub known : KnowsStep m old.store id unit → new ≡ old
+  -- The progress of searches stays, but for a clear.
+  pub progress : KeepsProgress old.store new.store
   -- A state that was there keeps its start tag or its lack of one, through a clear too.
   pub start_tags : KeepsStartTags old.store.table new.store.table
   -- A state that was added has no start tag.

@@ -10,7 +10,7 @@ ghost use Rattle.automata_hybrid.specs.Starting.{quit_behind, start_refusal, sea
 ghost use Rattle.automata_hybrid.specs.Slots.{supports, slot_of, slot_behind};
 ghost use Rattle.automata_hybrid.specs.Table.{Leads, Has, HasItsMatchTag, KeepsStartTags, TagsNewStates};
 ghost use Rattle.automata_hybrid.specs.Bounds.{IsCacheError, IsKnownStart, IsStarted, KeepsStarts, GivesUp};
-ghost use Rattle.automata_hybrid.specs.Growing.{IsGrown};
+ghost use Rattle.automata_hybrid.specs.Growing.{IsGrown, KeepsProgress};
 ghost use Rattle.automata_hybrid.specs.Caches.{IsCacheOf, counted};
 
 use crate::dfa::DFA;
@@ -54,6 +54,7 @@ impl Cache {
         ensures refused { (IsKnownStart self.old.store slot → ⊥)
             → GivesUp self.old.store (start_state_of dfa.now.nfa mode prev) → OnOk result ⊥ }
         ensures grown { IsGrown self.old self.new }
+        ensures progress { KeepsProgress self.old.store self.new.store }
     {
         self.see_cells();
         self.see_ids();

@@ -5,7 +5,7 @@ ghost use Rattle.automata_hybrid.specs.Owned.{IsOwn};
 ghost use Rattle.automata_hybrid.specs.Machine.{next_of, template_of, greatest};
 ghost use Rattle.automata_hybrid.specs.Table.{Names, IsValid, Leads, Has, HasItsMatchTag, KeepsStartTags, TagsNewStates};
 ghost use Rattle.automata_hybrid.specs.Bounds.{GivesUp, IsCacheError, IsKnownTransition, cell_of, IsNext, KeepsStarts, IsComputed};
-ghost use Rattle.automata_hybrid.specs.Growing.{IsGrown, ClearedNothing};
+ghost use Rattle.automata_hybrid.specs.Growing.{IsGrown, ClearedNothing, KeepsProgress};
 ghost use Rattle.automata_hybrid.specs.Caches.{IsCacheOf, HasRow, counted};
 ghost use Rattle.automata_hybrid.specs.Ids.{quit_id, unknown_id, offset_limit};
 ghost use Rattle.automata_base.specs.Classes.{class_in, is_quit};
@@ -59,6 +59,7 @@ impl Cache {
             → Names self.old.store.table id q → GivesUp self.old.store (successor dfa.now.nfa dfa.now.kind q unit)
             → OnOk result ⊥ }
         ensures grown { IsGrown self.old self.new }
+        ensures progress { KeepsProgress self.old.store self.new.store }
     {
         self.see_cells();
         self.see_ids();

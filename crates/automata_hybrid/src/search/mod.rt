@@ -5,12 +5,12 @@ ghost use Rattle.automata_base.specs.Powerset.{Powerset, dead};
 ghost use Rattle.automata_base.specs.Steps.{successor};
 ghost use Rattle.automata_hybrid.specs.Bounds.{IsKnownTransition};
 ghost use Rattle.automata_hybrid.specs.Caches.{IsCacheOf};
-ghost use Rattle.automata_hybrid.specs.Growing.{IsGrown, ClearedNothing};
+ghost use Rattle.automata_hybrid.specs.Growing.{IsGrown, ClearedNothing, KeepsProgress};
 ghost use Rattle.automata_hybrid.specs.Knowing.{IsOfInput};
 ghost use Rattle.automata_hybrid.specs.Ids.{quit_id};
 ghost use Rattle.automata_base.specs.Tapes.{is_split};
 ghost use Rattle.automata_hybrid.specs.Passing.{IsDeadTagged, half_at, step_refusal};
-ghost use Rattle.automata_hybrid.specs.Searched.{IsKeptOrCleared, IsLeftAt, IsMovedTo, IsOfRoom};
+ghost use Rattle.automata_hybrid.specs.Searched.{IsLeftAt, IsMovedTo, IsOfRoom};
 ghost use Rattle.automata_hybrid.specs.Searches.{Skips, IsStepRefusal};
 ghost use Rattle.automata_base.specs.declared.util.search.MatchErrorKind.TheVariants.{Quit as QuitAt};
 ghost use Rattle.automata_hybrid.specs.Table.{IsValid, Leads, Names};
@@ -134,8 +134,7 @@ impl DFA {
         ensures named { IfOk result (λ n. is_quit self.now.quits byte ≡ false → (q : Powerset) → Names cache.old.store.table id q → Leads cache.new.store.table n (successor self.now.nfa self.now.kind q (Some byte))) }
         ensures errors { IfErr result (λ e. (q : Powerset) (quit_at : ℕ) → Names cache.old.store.table id q → IsStepRefusal self.now cache.new.store q (Some byte) quit_at at e) }
         ensures room { IfErr result (IsOfRoom at) }
-        ensures progress { IsKeptOrCleared cache.old.store cache.new.store
-            cache.old.store.searched cache.new.store.searched }
+        ensures progress { KeepsProgress cache.old.store cache.new.store }
     {
         cache.see_ids();
         match self.next_state(cache, id, byte) {
@@ -200,8 +199,7 @@ impl DFA {
         ensures learned { ClearedNothing cache.old.store cache.new.store → OnOk result (IsKnownTransition cache.new.store id (eoi_class self.now.classes)) }
         ensures below { eoi_class self.now.classes < self.now.stride }
         ensures room { IfErr result (IsOfRoom at) }
-        ensures progress { IsKeptOrCleared cache.old.store cache.new.store
-            cache.old.store.searched cache.new.store.searched }
+        ensures progress { KeepsProgress cache.old.store cache.new.store }
     {
         self.see_classes();
         cache.see_ids();

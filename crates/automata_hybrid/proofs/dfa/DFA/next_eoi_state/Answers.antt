@@ -44,7 +44,7 @@ returns-clause-effect c =
     low c.end_class-class.ensures.value
     (λ q. absurd (false_true q))
     c.in_ok-next.ensures.grown c.in_ok-next.ensures.counted c.in_ok-next.ensures.unchanged
-    c.in_ok-next.ensures.start_tags c.in_ok-next.ensures.added c.in_ok-next.ensures.only
+    c.in_ok-next.ensures.progress c.in_ok-next.ensures.start_tags c.in_ok-next.ensures.added c.in_ok-next.ensures.only
 
 pub returns-in_err-next-clause-effect : goal.returns-in_err-next-clause-effect
 returns-in_err-next-clause-effect c =
@@ -53,7 +53,7 @@ returns-in_err-next-clause-effect c =
     low c.end_class-class.ensures.value
     (λ q. absurd (false_true q))
     c.in_err-next.ensures.grown c.in_err-next.ensures.counted c.in_err-next.ensures.unchanged
-    c.in_err-next.ensures.start_tags c.in_err-next.ensures.added c.in_err-next.ensures.only
+    c.in_err-next.ensures.progress c.in_err-next.ensures.start_tags c.in_err-next.ensures.added c.in_err-next.ensures.only
 
 pub returns-in_err-next-clause-refusal : goal.returns-in_err-next-clause-refusal
 returns-in_err-next-clause-refusal c =

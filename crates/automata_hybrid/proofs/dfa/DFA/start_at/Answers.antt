@@ -13,14 +13,14 @@ returns-in-Ok-clause-effect c =
     slot_effect c.args.self.now c.args.mode c.args.prev c.args.cache.now c.start.new.self c.args.slot
     c.requires.may c.requires.at c.requires.slot (c.see_slots.ensures ∙ ap (λ (m : Machine). m.slots) c.requires.of)
     c.in-Ok.ensures.grown c.in-Ok.ensures.counted c.in-Ok.ensures.computed c.in-Ok.ensures.unchanged
-    c.in-Ok.ensures.start_tags c.in-Ok.ensures.added c.in-Ok.ensures.only
+    c.in-Ok.ensures.progress c.in-Ok.ensures.start_tags c.in-Ok.ensures.added c.in-Ok.ensures.only
 
 pub returns-in-Err-clause-effect : goal.returns-in-Err-clause-effect
 returns-in-Err-clause-effect c =
     slot_effect c.args.self.now c.args.mode c.args.prev c.args.cache.now c.start.new.self c.args.slot
     c.requires.may c.requires.at c.requires.slot (c.see_slots.ensures ∙ ap (λ (m : Machine). m.slots) c.requires.of)
     c.in-Err.ensures.grown c.in-Err.ensures.counted c.in-Err.ensures.computed c.in-Err.ensures.unchanged
-    c.in-Err.ensures.start_tags c.in-Err.ensures.added c.in-Err.ensures.only
+    c.in-Err.ensures.progress c.in-Err.ensures.start_tags c.in-Err.ensures.added c.in-Err.ensures.only
 
 pub returns-in-Ok-clause-answer : goal.returns-in-Ok-clause-answer
 returns-in-Ok-clause-answer c =

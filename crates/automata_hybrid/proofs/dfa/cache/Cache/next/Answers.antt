@@ -1,10 +1,11 @@
-use Rattle.std.proofs.Common.{rules, ◌≡◌, ◌^◌, ◌<◌, ◌≤◌, arith, ◌∙◌, ◌+◌, ℕ, Ok, false, ap, refl, subst, sym, inr}
+use Rattle.std.proofs.Common.{rules, ◌≡◌, ◌^◌, ◌<◌, ◌≤◌, arith, ◌∙◌, ◌+◌, ℕ, Ok, false, ap, refl, subst, sym, inl, inr}
 use Rattle.std.proofs.lemmas.Grind.{common_steps}
 use Rattle.std.specs.Prelude.{slice_index}
 use Rattle.automata_base.specs.Powerset.{Powerset, cost}
 use Rattle.automata_base.specs.Steps.{successor}
 use Rattle.automata_hybrid.specs.Machine.{Machine, template_of, greatest, next_of}
 use Rattle.automata_hybrid.specs.Table.{Leads}
+use Rattle.automata_hybrid.proofs.Searched.{computed_progress}
 use Rattle.automata_hybrid.proofs.StartTags.{computed_keeps, computed_adds, same_keeps, same_adds}
 use Rattle.automata_hybrid.specs.Caches.{CacheView}
 use Rattle.automata_hybrid.specs.Bounds.{IsKnownTransition, IsComputed, cell_of}
@@ -106,3 +107,13 @@ pub returns-clause-added : goal.returns-clause-added
 returns-clause-added c =
     computed_adds c.args.self.now.store c.compute_next.new.self.store c.args.id c.args.class c.in_ok-next.next c.requires.valid.0 (target c)
     c.see_ids.ensures.ids c.see_ids-2.ensures.ids (done c)
+
+pub returns-then-not-is_unknown-clause-progress : goal.returns-then-not-is_unknown-clause-progress
+returns-then-not-is_unknown-clause-progress c = inl refl
+
+pub returns-in_err-next-clause-progress : goal.returns-in_err-next-clause-progress
+returns-in_err-next-clause-progress c = inl (ap (λ (v : CacheView). v.store.searched) c.in_err-next.ensures.err)
+
+pub returns-clause-progress : goal.returns-clause-progress
+returns-clause-progress c =
+    computed_progress c.args.self.now.store c.compute_next.new.self.store c.args.id c.args.class c.in_ok-next.next c.requires.valid.0 (target c) (done c)

@@ -1,4 +1,4 @@
-use Rattle.std.proofs.Common.{◌^◌, ◌≤◌, arith, refl, rules, subst, sym, ◌≡◌, ◌∙◌, ◌+◌, ℕ, ap}
+use Rattle.std.proofs.Common.{◌^◌, ◌≤◌, arith, inl, refl, rules, subst, sym, ◌≡◌, ◌∙◌, ◌+◌, ℕ, ap}
 use Rattle.std.proofs.lemmas.Grind.{common_steps}
 use Rattle.automata_base.specs.Powerset.{cost}
 use Rattle.automata_base.specs.Steps.{start_state_of}
@@ -9,6 +9,7 @@ use Rattle.automata_hybrid.specs.Growing.{ClearedNothing, HasRoom, Keeps}
 use Rattle.automata_hybrid.proofs.Effects.{Keeps-started, roomy-started}
 use Rattle.automata_hybrid.proofs.Growing.{grown_counted, grown_one, grown_same}
 use Rattle.automata_hybrid.specs.Caches.{CacheView}
+use Rattle.automata_hybrid.proofs.Searched.{started_progress}
 use Rattle.automata_hybrid.proofs.StartTags.{started_keeps, started_adds, same_keeps, same_adds}
 use Rattle.automata_hybrid.proofs.dfa.cache.Cache.start.Goals.{After-see_ids-2}
 use Rattle.automata_hybrid.proofs.dfa.cache.Cache.start.Goals as goal
@@ -65,3 +66,14 @@ pub returns-clause-added : goal.returns-clause-added
 returns-clause-added c =
     let r : Row = record { state = start_state_of c.args.dfa.now.nfa c.args.mode c.args.prev; started = c.args.dfa.now.specialized } in
     started_adds c.args.self.now.store c.compute_start.new.self.store c.args.slot c.in_ok-id.id r c.see_ids.ensures.ids c.see_ids-2.ensures.ids c.in_ok-id.ensures.effect
+
+pub returns-then-not-is_unknown-clause-progress : goal.returns-then-not-is_unknown-clause-progress
+returns-then-not-is_unknown-clause-progress c = inl refl
+
+pub returns-in_err-id-clause-progress : goal.returns-in_err-id-clause-progress
+returns-in_err-id-clause-progress c = inl (ap (λ (v : CacheView). v.store.searched) c.in_err-id.ensures.err)
+
+pub returns-clause-progress : goal.returns-clause-progress
+returns-clause-progress c =
+    let r : Row = record { state = start_state_of c.args.dfa.now.nfa c.args.mode c.args.prev; started = c.args.dfa.now.specialized } in
+    started_progress c.args.self.now.store c.compute_start.new.self.store c.args.slot c.in_ok-id.id r c.in_ok-id.ensures.effect
