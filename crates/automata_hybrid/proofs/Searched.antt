@@ -1,5 +1,6 @@
 -- What steps, moves and ends make of the progress of a pass.
 use Rattle.std.proofs.Common.{ℕ, suc, ◌≡◌, ◌∙◌, ◌+◌, ◌-◌, ◌<◌, ◌≤◌, ◌⊎◌, length, Option, None, Some, inl, inr, refl, sym, ap, subst, arith}
+use Rattle.automata_base.specs.Answers.{Tries}
 use Rattle.automata_base.specs.Input.{Input}
 use Rattle.automata_base.specs.Matches.{HalfMatch}
 use Rattle.automata_base.specs.Paths.{next}
@@ -15,11 +16,13 @@ use Rattle.automata_hybrid.specs.Growing.{ClearedNothing, IsGrown, IsKeptOrClear
 use Rattle.automata_hybrid.specs.Machine.{Machine}
 use Rattle.automata_hybrid.specs.Passing.{IsAt}
 use Rattle.automata_hybrid.specs.Progressing.{finished, from_place, progress_cleared, saturated, started, updated}
-use Rattle.automata_hybrid.specs.Searched.{CountsFrom, EndsAtLast, IsEndedAt, IsEndedBy, IsLastPlace, IsLeftAt, IsLeftOpen, IsMovedTo, IsOfRoom, IsOpenAt, IsQuitUnit, none_searched}
-use Rattle.automata_hybrid.specs.Searches.{Reads, given_up_offset, tape_in}
+use Rattle.automata_hybrid.specs.Searched.{CountsFrom, EndsAtLast, IsEndedAt, IsEndedBy, IsLastPlace, IsLeftAt, IsLeftOpen, IsMovedTo, IsOfRoom, IsOpenAt, IsQuitUnit, TriesSpans, none_searched}
+use Rattle.automata_hybrid.specs.Searches.{Finds, Reads, Skips, given_up_offset, tape_in}
 use Rattle.automata_hybrid.specs.Table.{Names}
+use Rattle.automata_hybrid.proofs.Costing.{tries_before}
 use Rattle.automata_hybrid.proofs.Effects.{counts_up}
 use Rattle.automata_hybrid.proofs.Growing.{grown_moved, grown_trans, nothing_first, nothing_second}
+
 use Rattle.automata_hybrid.proofs.Searching.{at_reads}
 
 -- a clear of the states keeps the progress as a clear makes it
@@ -249,3 +252,16 @@ module _ (way : Direction) (m : Machine) (input : Input) (low : input.start ≤ 
         (begun.store.searched, given_up_offset way input 0, inl (refl, refl),
         e ∙ ap (λ (v : CacheView). finished v.store.searched (given_up_offset way input 0)) begins),
       )
+
+-- the spans before one that a search tries
+pub spans_before :
+    (way : Direction) (m : Machine) (input : Input) (k : ℕ)
+    → Tries (Finds way m) (Skips m) way input k → TriesSpans way m input k
+spans_before way m input k tries = λ j less. (tries_before (Finds way m) (Skips m) way input j k (omega (arith, less)) tries, (tries.1 j less).0)
+
+-- and itself
+pub spans_tried :
+    (way : Direction) (m : Machine) (input : Input) (k : ℕ)
+    → Tries (Finds way m) (Skips m) way input k → input.start + k ≤ input.end → TriesSpans way m input (suc k)
+spans_tried way m input k tries within = λ j less.
+    (tries_before (Finds way m) (Skips m) way input j k (omega (arith, less)) tries, omega (arith, less, within))

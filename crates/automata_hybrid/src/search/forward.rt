@@ -12,7 +12,7 @@ ghost use Rattle.automata_hybrid.specs.Passing.{HasLearned, HasLearnedAll, IsAt,
 ghost use Rattle.automata_base.specs.Paths.{next};
 ghost use Rattle.automata_base.specs.Powerset.{Powerset, dead};
 ghost use Rattle.automata_hybrid.specs.Progressing.{started};
-ghost use Rattle.automata_hybrid.specs.Searched.{EndsAtLast, HasEnded, IsEndedBy, IsLeft, IsLeftAt, IsLeftOpen};
+ghost use Rattle.automata_hybrid.specs.Searched.{EndsAtLast, EndsProgress, HasEnded, IsEndedBy, IsLeft, IsLeftAt, IsLeftOpen, LeavesProgress};
 ghost use Rattle.automata_hybrid.specs.declared.dfa.progress.Searched.{Searched};
 ghost use Rattle.automata_hybrid.specs.Searches.{given_up_offset, IsFound, IsPassRefusal, IsRefused, MeetsNoQuit, state_in, tape_in, with_base};
 ghost use Rattle.automata_hybrid.specs.Slots.{supports};
@@ -96,6 +96,8 @@ impl DFA {
         ensures known { Knows Forward self.now cache.old.store input.now → (cache.new.count ≡ cache.old.count) × IfErr result IsOfInput }
         ensures learned { ClearedNothing cache.old.store cache.new.store → OnOk result (Knows Forward self.now cache.new.store input.now) }
         ensures done { input.now.end < input.now.start → (result ≡ Ok None) × (cache.new ≡ cache.old) }
+        ensures ended { OnOk result (EndsProgress Forward self.now input.now cache.old.store cache.new.store) }
+        ensures left { IfErr result (LeavesProgress Forward self.now input.now cache.old.store cache.new.store) }
     {
         let mut later = with_span(input, input.start(), input.end());
         while !later.is_done() {

@@ -9,6 +9,8 @@ use Rattle.automata_hybrid.specs.Slots.{supports}
 use Rattle.automata_hybrid.specs.Growing.{ClearedNothing}
 use Rattle.automata_hybrid.specs.Knowing.{Knows, KnowsPass}
 use Rattle.automata_hybrid.specs.Costs.{IsCostOfPasses, passes_most}
+use Rattle.automata_hybrid.specs.Searched.{HasEnded, HaveEnded, IsLeft}
+use Rattle.automata_hybrid.proofs.Searched.{spans_before, spans_tried}
 use Rattle.automata_hybrid.proofs.Costing.{cost_before, cost_more, most_more}
 use Rattle.automata_hybrid.proofs.Growing.{grown_trans, nothing_first, nothing_second}
 use Rattle.automata_hybrid.proofs.Knowing.{LearnedSpans, search_still, spans_all, spans_more, spans_still}
@@ -87,6 +89,8 @@ loop-later-preserved c =
       bounded = subst (λ n. c.pass_fwd.new.cache.count ≤ c.args.cache.now.count + passes_most n (c.args.input.now.end - c.args.input.now.start)) next
           (most_more k (c.args.input.now.end - c.args.input.now.start) (c.loop-later.later.end - c.loop-later.later.start) c.args.cache.now.count c.loop-later.cache.count c.pass_fwd.new.cache.count c.loop-later.invariant.bounded c.in_ok-half.ensures.counted (omega (arith, end, place)));
       done = λ e. absurd (omega (arith, e, start, c.loop-later.invariant.from));
+      progress = subst (λ n. HaveEnded Forward c.args.self.now c.args.input.now n c.args.cache.now.store c.pass_fwd.new.cache.store) next
+          (c.loop-later.cache.store, c.loop-later.invariant.progress, subst (λ i. HasEnded Forward c.args.self.now i c.loop-later.cache.store c.pass_fwd.new.cache.store) same c.in_ok-half.ensures.ended);
       tries = subst (λ n. Tries (Finds Forward c.args.self.now) (Skips c.args.self.now) Forward c.args.input.now n) next (tries_on Forward c.args.self.now c.args.input.now c.loop-later.later k same c.loop-later.invariant.tries within c.in-Some.half (sym c.in-Some.is ∙ c.in_ok-half.ensures.found) c.in_ok-half.ensures.clean (c.if-not-skips_at.ensures.yes refl).0 (subst (λ n. is_split c.loop-later.later.haystack n ≡ true) c.offset.ensures (c.if-not-skips_at.ensures.yes refl).1) mode);
     }
 
@@ -296,3 +300,53 @@ pub returns-clause-bounded : goal.returns-clause-bounded
 returns-clause-bounded c =
     let k : ℕ = c.loop-later.later.start - c.args.input.now.start in
     (k, cost_before Forward c.args.self.now c.args.input.now c.args.cache.now c.loop-later.cache k c.loop-later.invariant.tries c.loop-later.invariant.grown c.loop-later.invariant.bounded)
+
+pub returns-in_default-clause-ended : goal.returns-in_default-clause-ended
+returns-in_default-clause-ended c =
+    let k : ℕ = c.loop-later.later.start - c.args.input.now.start in
+    let place : c.loop-later.later.start ≡ c.args.input.now.start + k = omega (arith, c.loop-later.invariant.from) in
+    let same : c.loop-later.later ≡ later Forward k c.args.input.now = c.loop-later.invariant.same ∙ ap (λ (s : ℕ). record c.args.input.now { start = s }) place in
+    let end : c.loop-later.later.end ≡ c.args.input.now.end = ap (λ (i : Input). i.end) c.loop-later.invariant.same in
+    let ahead : c.loop-later.later.start ≤ c.loop-later.later.end = grind (arith, common_steps, c.loop-later-test.ensures.done) in
+    let within : c.args.input.now.start + k ≤ c.args.input.now.end = omega (arith, ahead, end, place) in
+    (suc k, spans_tried Forward c.args.self.now c.args.input.now k c.loop-later.invariant.tries within,
+    (c.loop-later.cache.store, c.loop-later.invariant.progress, subst (λ i. HasEnded Forward c.args.self.now i c.loop-later.cache.store c.pass_fwd.new.cache.store) same c.in_ok-half.ensures.ended))
+
+pub returns-then-not-skips_at-clause-ended : goal.returns-then-not-skips_at-clause-ended
+returns-then-not-skips_at-clause-ended c =
+    let k : ℕ = c.loop-later.later.start - c.args.input.now.start in
+    let place : c.loop-later.later.start ≡ c.args.input.now.start + k = omega (arith, c.loop-later.invariant.from) in
+    let same : c.loop-later.later ≡ later Forward k c.args.input.now = c.loop-later.invariant.same ∙ ap (λ (s : ℕ). record c.args.input.now { start = s }) place in
+    let end : c.loop-later.later.end ≡ c.args.input.now.end = ap (λ (i : Input). i.end) c.loop-later.invariant.same in
+    let ahead : c.loop-later.later.start ≤ c.loop-later.later.end = grind (arith, common_steps, c.loop-later-test.ensures.done) in
+    let within : c.args.input.now.start + k ≤ c.args.input.now.end = omega (arith, ahead, end, place) in
+    (suc k, spans_tried Forward c.args.self.now c.args.input.now k c.loop-later.invariant.tries within,
+    (c.loop-later.cache.store, c.loop-later.invariant.progress, subst (λ i. HasEnded Forward c.args.self.now i c.loop-later.cache.store c.pass_fwd.new.cache.store) same c.in_ok-half.ensures.ended))
+
+pub returns-then-is_anchored-clause-ended : goal.returns-then-is_anchored-clause-ended
+returns-then-is_anchored-clause-ended c =
+    let k : ℕ = c.loop-later.later.start - c.args.input.now.start in
+    let place : c.loop-later.later.start ≡ c.args.input.now.start + k = omega (arith, c.loop-later.invariant.from) in
+    let same : c.loop-later.later ≡ later Forward k c.args.input.now = c.loop-later.invariant.same ∙ ap (λ (s : ℕ). record c.args.input.now { start = s }) place in
+    let end : c.loop-later.later.end ≡ c.args.input.now.end = ap (λ (i : Input). i.end) c.loop-later.invariant.same in
+    let ahead : c.loop-later.later.start ≤ c.loop-later.later.end = grind (arith, common_steps, c.loop-later-test.ensures.done) in
+    let within : c.args.input.now.start + k ≤ c.args.input.now.end = omega (arith, ahead, end, place) in
+    (suc k, spans_tried Forward c.args.self.now c.args.input.now k c.loop-later.invariant.tries within,
+    (c.loop-later.cache.store, c.loop-later.invariant.progress, subst (λ i. HasEnded Forward c.args.self.now i c.loop-later.cache.store c.pass_fwd.new.cache.store) same c.in_ok-half.ensures.ended))
+
+pub returns-in_err-half-clause-left : goal.returns-in_err-half-clause-left
+returns-in_err-half-clause-left c =
+    let k : ℕ = c.loop-later.later.start - c.args.input.now.start in
+    let place : c.loop-later.later.start ≡ c.args.input.now.start + k = omega (arith, c.loop-later.invariant.from) in
+    let same : c.loop-later.later ≡ later Forward k c.args.input.now = c.loop-later.invariant.same ∙ ap (λ (s : ℕ). record c.args.input.now { start = s }) place in
+    let end : c.loop-later.later.end ≡ c.args.input.now.end = ap (λ (i : Input). i.end) c.loop-later.invariant.same in
+    let ahead : c.loop-later.later.start ≤ c.loop-later.later.end = grind (arith, common_steps, c.loop-later-test.ensures.done) in
+    let within : c.args.input.now.start + k ≤ c.args.input.now.end = omega (arith, ahead, end, place) in
+    if_err c.from_residual.result _ _ c.from_residual.ensures.1
+    (k, c.loop-later.cache.store, spans_tried Forward c.args.self.now c.args.input.now k c.loop-later.invariant.tries within, c.loop-later.invariant.progress,
+    subst (λ i. IsLeft Forward c.args.self.now i c.loop-later.cache.store c.pass_fwd.new.cache.store c.in_err-half.field-0.0) same c.in_err-half.ensures.left)
+
+pub returns-clause-ended : goal.returns-clause-ended
+returns-clause-ended c =
+    let k : ℕ = c.loop-later.later.start - c.args.input.now.start in
+    (k, spans_before Forward c.args.self.now c.args.input.now k c.loop-later.invariant.tries, c.loop-later.invariant.progress)

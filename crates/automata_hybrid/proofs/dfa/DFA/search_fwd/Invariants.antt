@@ -5,6 +5,7 @@ use Rattle.automata_hybrid.specs.Caches.{IsCacheOf}
 use Rattle.automata_hybrid.specs.Costs.{passes_most}
 use Rattle.automata_hybrid.specs.Growing.{IsGrown, ClearedNothing}
 use Rattle.automata_hybrid.specs.Knowing.{Knows}
+use Rattle.automata_hybrid.specs.Searched.{HaveEnded}
 use Rattle.automata_hybrid.specs.Searches.{Finds, Skips}
 use Rattle.automata_hybrid.specs.Slots.{supports}
 use Rattle.automata_hybrid.proofs.Knowing.{LearnedSpans}
@@ -21,6 +22,7 @@ invariant-loop-later l = record {
   learned : ClearedNothing l.fn.cache.store l.cache.store → LearnedSpans Forward l.self l.cache.store l.input (l.later.start - l.input.start);
   bounded : l.cache.count ≤ l.fn.cache.count + passes_most (l.later.start - l.input.start) (l.input.end - l.input.start);
   done : l.later.start ≡ l.input.start → l.cache ≡ l.fn.cache;
+  progress : HaveEnded Forward l.self l.input (l.later.start - l.input.start) l.fn.cache.store l.cache.store;
   tries : Tries (Finds Forward l.self) (Skips l.self) Forward l.input (l.later.start - l.input.start);
 }
 
