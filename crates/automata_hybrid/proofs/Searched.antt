@@ -1,5 +1,6 @@
 -- What steps, moves and ends make of the progress of a pass.
 use Rattle.std.proofs.Common.{ℕ, suc, ◌≡◌, ◌∙◌, ◌+◌, ◌-◌, ◌<◌, ◌≤◌, ◌⊎◌, length, Option, None, Some, inl, inr, refl, sym, ap, subst, arith}
+use Rattle.std.specs.Prelude.{Err, IfErr, Ok, OnOk, Result}
 use Rattle.automata_base.specs.Answers.{Tries}
 use Rattle.automata_base.specs.Input.{Input}
 use Rattle.automata_base.specs.Matches.{HalfMatch}
@@ -265,3 +266,85 @@ pub spans_tried :
     → Tries (Finds way m) (Skips m) way input k → input.start + k ≤ input.end → TriesSpans way m input (suc k)
 spans_tried way m input k tries within = λ j less.
     (tries_before (Finds way m) (Skips m) way input j k (omega (arith, less)) tries, omega (arith, less, within))
+
+-- two clears leave what one does
+cleared_twice : (s : Searched) → progress_cleared (progress_cleared s) ≡ progress_cleared s
+cleared_twice s = go s.running where
+  clears : Option Progress → Searched
+  clears r = record { bytes = 0; running = from_place r }
+  go : (r : Option Progress) → progress_cleared (clears r) ≡ clears r
+  go None = refl
+  go (Some p) = refl
+
+-- two calls that move no progress
+pub kept_twice :
+    (old mid new : CacheView) → IsGrown old mid → IsGrown mid new
+    → KeepsProgress old.store mid.store → KeepsProgress mid.store new.store → KeepsProgress old.store new.store
+kept_twice old mid new f g (inl a) (inl b) = inl (b ∙ a)
+kept_twice old mid new f g (inl a) (inr (cleared, b)) =
+    inr (λ nothing. cleared (nothing_second old mid new f g nothing), b ∙ ap (λ (s : Searched). progress_cleared s) a)
+kept_twice old mid new f g (inr (cleared, a)) (inl b) =
+    inr (λ nothing. cleared (nothing_first old mid new f g nothing), b ∙ a)
+kept_twice old mid new f g (inr (cleared, a)) (inr (after, b)) =
+    inr (λ nothing. cleared (nothing_first old mid new f g nothing),
+    b ∙ (ap (λ (s : Searched). progress_cleared s) a ∙ cleared_twice old.store.searched))
+
+-- an open pass ended at an offset, and what came after it moved no progress
+module _ (input : Input) (s : Searched) (first : ℕ) (old mid ended new : CacheView) (before : IsGrown old mid) (at x : ℕ)
+    (ends : ended ≡ with_store mid (with_searched mid.store (finished mid.store.searched at))) (after : IsGrown ended new)
+    (low : input.start ≤ at) (high : at ≤ input.end) (o : IsOpenAt input s first x old.store mid.store) where
+  finished_none : finished (started none_searched at) at ≡ none_searched
+  finished_none = ap done none where
+    none : 0 + ((at - at) + (at - at)) ≡ 0
+    none = omega arith
+    done : ℕ → Searched
+    done n = record { bytes = saturated n; running = None }
+
+  pub ends_kept : KeepsProgress ended.store new.store → IsEndedAt input s first at old.store new.store
+  ends_kept kept = go kept o where
+    same : ended.store.searched ≡ finished mid.store.searched at
+    same = ap (λ (v : CacheView). v.store.searched) ends
+    moved : IsGrown mid ended
+    moved = grown_moved mid ended ends
+    go :
+        KeepsProgress ended.store new.store → IsOpenAt input s first x old.store mid.store
+        → IsEndedAt input s first at old.store new.store
+    go (inl e) (b, from, counts, under) =
+        (b, from, still input s first old mid new before (grown_trans mid ended new moved after) counts,
+        e ∙ (same ∙ ap (λ (v : Searched). finished v at) under))
+    go (inr (cleared, e)) (b, from, counts, under) =
+        (none_searched, at,
+        inr (λ nothing. cleared (nothing_second old ended new (grown_trans old mid ended before moved) after nothing), refl, low, high),
+        e ∙ (ap (λ (v : Searched). progress_cleared v) same ∙ sym finished_none))
+
+-- a pass back ended before its last step, which moved no progress
+pub last_kept :
+    (way : Direction) (m : Machine) (input : Input) (s : Searched) (old mid ended new : CacheView) (k id at x : ℕ)
+    (found : Option HalfMatch) → IsGrown old mid
+    → ended ≡ with_store mid (with_searched mid.store (finished mid.store.searched at)) → IsGrown ended new
+    → input.start ≤ at → at ≤ input.end
+    → IsOpenAt input s (given_up_offset way input 0) x old.store mid.store
+    → IsAt way m ended.store.table input k id found → k ≤ length (tape_in way input).bytes
+    → ((q : Powerset) → Names ended.store.table id q → q ≡ dead → ⊥)
+    → given_up_offset way input k ≡ at → (Reads way m input (suc k) → ⊥)
+    → KeepsProgress ended.store new.store → EndsAtLast way m input s old.store new.store
+last_kept way m input s old mid ended new k id at x found before ends after low high o stands few alive place stops kept =
+    (
+      k,
+      record {
+        reads = inr (at_reads way m ended.store.table input k id found stands few alive);
+        clean = stands.clean;
+        stops = inl stops;
+      },
+      subst (λ a. IsEndedAt input s (given_up_offset way input 0) a old.store new.store) (sym place)
+          (ends_kept input s (given_up_offset way input 0) old mid ended new before at x ends after low high o kept),
+    )
+
+-- what holds in any case
+pub on_ok : {A E P : Type 0} (r : Result A E) → P → OnOk r P
+on_ok (Ok a) p = p
+on_ok (Err e) p = tt
+
+pub on_err : {A E : Type 0} (r : Result A E) (P : E → Type 0) → ((e : E) → P e) → IfErr r P
+on_err (Ok a) P p = tt
+on_err (Err e) P p = p e

@@ -18,6 +18,7 @@ use Rattle.automata_hybrid.specs.Costs.{IsCostOfSearch}
 use Rattle.automata_hybrid.specs.Growing.{ClearedNothing, IsGrown, IsStill}
 use Rattle.automata_hybrid.specs.Knowing.{IsOfInput, Knows}
 use Rattle.automata_hybrid.specs.Machine.{Machine}
+use Rattle.automata_hybrid.specs.Searched.{EndsProgress, LeavesProgress}
 use Rattle.automata_hybrid.specs.Searches.{IsFound, IsRefused, NoQuitInReach, WithoutBase, tape_in, with_base}
 use Rattle.automata_hybrid.specs.Slots.{supports}
 use Rattle.automata_hybrid.specs.Starting.{quit_behind}
@@ -120,5 +121,8 @@ pub record IsSearchEffect {T : Type 0} (way : Direction) (m : Machine) (input : 
   pub learned : ClearedNothing old.store new.store → OnOk result (Knows way m new.store input)
   -- with all that known it takes no memory, and changes nothing but the progress
   pub known : Knows way m old.store input → IsStill old new × IfErr result IsOfInput
+  -- the searched bytes, and the search that is open: what its passes leave one after another
+  pub ended : OnOk result (EndsProgress way m input old.store new.store)
+  pub left : IfErr result (LeavesProgress way m input old.store new.store)
   -- with a span that is done, nothing at all
   pub done : input.end < input.start → new ≡ old

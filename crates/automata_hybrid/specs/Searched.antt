@@ -1,6 +1,6 @@
 -- What the passes of a search leave of the progress: the searched bytes, and the search that is open.
 use Rattle.std.specs.Prelude.{ℕ, zero, suc, ◌≡◌, ◌<◌, ◌≤◌, ◌+◌, ◌⊎◌, true, Option, None, Some}
-use Rattle.automata_base.specs.Answers.{Tries, later}
+use Rattle.automata_base.specs.Answers.{Tries, later, offset_in}
 use Rattle.automata_base.specs.Classes.{is_quit}
 use Rattle.automata_base.specs.Input.{Input}
 use Rattle.automata_base.specs.Paths.{next}
@@ -97,8 +97,8 @@ HasEnded way m input old new =
 -- a pass was refused: at its start, which leaves the progress as it was; or it has ended; or it is left open
 abbrev pub IsLeft : Direction → Machine → Input → (old new : Stored) → SearchError → Type 0
 IsLeft way m input old new e =
-    (IsStartRefusalAt m new input.anchored (tape_in way input).before (behind_offset way input)
-    (given_up_offset way input 0) e × (new.searched ≡ old.searched))
+    (IsStartRefusalAt m new input.anchored (tape_in way input).before (behind_offset way input) (offset_in way input 0) e
+    × (new.searched ≡ old.searched))
     ⊎ (HasEnded way m input old new
     ⊎ ((KeepsNone way input → ⊥) × IsLeftOpen way m input old.searched old new e))
 

@@ -1,4 +1,4 @@
-ghost use Rattle.std.specs.Prelude.{◌≡◌, ◌+◌, ◌-◌, ◌<◌, ◌≤◌, IfOk, IfErr, IsBitSet, IsTrue, OnOk, Option, None, Some, true, false, Err, Ok};
+ghost use Rattle.std.specs.Prelude.{◌≡◌, ◌+◌, ◌-◌, ◌<◌, ◌≤◌, ◌⊎◌, IfOk, IfErr, IsBitSet, IsTrue, OnOk, Option, None, Some, true, false, Err, Ok};
 ghost use Rattle.automata_base.specs.Classes.{class_in, is_quit};
 ghost use Rattle.automata_base.specs.Lists.{nth};
 ghost use Rattle.automata_base.specs.Matches as matches;
@@ -9,12 +9,15 @@ ghost use Rattle.automata_base.specs.declared.util.search.MatchErrorKind.TheVari
 ghost use Rattle.automata_hybrid.specs.Bounds.{IsKnownTransition};
 ghost use Rattle.automata_hybrid.specs.Caches.{IsCacheOf};
 ghost use Rattle.automata_hybrid.specs.Costs.{IsCostOfSearch};
-ghost use Rattle.automata_hybrid.specs.Growing.{IsGrown, ClearedNothing};
+ghost use Rattle.automata_hybrid.specs.Growing.{IsGrown, ClearedNothing, KeepsProgress};
 ghost use Rattle.automata_hybrid.specs.Ids.{fixed_from, offset_limit};
 ghost use Rattle.automata_hybrid.specs.Knowing.{IsOfInput, KnowsItsStart, KnowsPass, Knows};
 ghost use Rattle.automata_hybrid.specs.Owing.{IsHalf, IsSearchEffect};
 ghost use Rattle.automata_hybrid.specs.Passing.{HasLearned, HasLearnedAll, IsAt, IsFollowed, IsLed, found_over};
-ghost use Rattle.automata_hybrid.specs.Searches.{IsFound, IsPassRefusal, IsRefused, IsStepRefusal, MeetsNoQuit, WithoutBase, state_in, tape_in};
+ghost use Rattle.automata_hybrid.specs.Progressing.{started};
+ghost use Rattle.automata_hybrid.specs.Searched.{EndsAtLast, EndsProgress, HasEnded, IsLeft, IsLeftOpen, LeavesProgress};
+ghost use Rattle.automata_hybrid.specs.declared.dfa.progress.Searched.{Searched};
+ghost use Rattle.automata_hybrid.specs.Searches.{given_up_offset, IsFound, IsPassRefusal, IsRefused, IsStepRefusal, MeetsNoQuit, WithoutBase, state_in, tape_in};
 ghost use Rattle.automata_hybrid.specs.Slots.{supports};
 ghost use Rattle.automata_hybrid.specs.Starting.{MayStart, quit_behind};
 ghost use Rattle.automata_hybrid.specs.Table.{IsValid, Leads, Names};
@@ -74,6 +77,8 @@ impl DFA {
         ensures known { Knows Backward self.now cache.old.store input.now → (cache.new.count ≡ cache.old.count) × IfErr result IsOfInput }
         ensures learned { ClearedNothing cache.old.store cache.new.store → OnOk result (Knows Backward self.now cache.new.store input.now) }
         ensures done { input.now.end < input.now.start → (result ≡ Ok None) × (cache.new ≡ cache.old) }
+        ensures ended { OnOk result (EndsProgress Backward self.now input.now cache.old.store cache.new.store) }
+        ensures left { IfErr result (LeavesProgress Backward self.now input.now cache.old.store cache.new.store) }
     {
         let mut later = with_span(input, input.start(), input.end());
         while !later.is_done() {
@@ -112,6 +117,8 @@ impl DFA {
         ensures learned { ClearedNothing cache.old.store cache.new.store → OnOk result (HasLearnedAll Backward self.now cache.new.store input.now) }
         ensures unsupported { quit_behind self.now (nth input.now.haystack input.now.end) ≡ None → supports self.now input.now.anchored ≡ false → result ≡ Err (SearchError.Match (UnsupportedMode input.now.anchored)) }
         ensures supported { OnOk result (supports self.now input.now.anchored ≡ true) }
+        ensures ended { OnOk result (HasEnded Backward self.now input.now cache.old.store cache.new.store) }
+        ensures left { IfErr result (IsLeft Backward self.now input.now cache.old.store cache.new.store) }
     {
         cache.see_slots();
         let start = self.start_state_reverse(cache, input)?;
@@ -577,6 +584,14 @@ impl DFA {
         ensures grown { IsGrown cache.old cache.new }
         ensures idle { KnowsPass Backward self.now cache.old.store input.now → (cache.new.count ≡ cache.old.count) × IfErr result IsOfInput }
         ensures learned { KnowsItsStart Backward self.now cache.old.store input.now → ClearedNothing cache.old.store cache.new.store → OnOk result (HasLearnedAll Backward self.now cache.new.store input.now) }
+        ensures ended { (before : Searched)
+            → cache.old.store.searched ≡ started before (given_up_offset Backward input.now 0)
+            → OnOk result (EndsAtLast Backward self.now input.now before cache.old.store cache.new.store) }
+        ensures left { (before : Searched)
+            → cache.old.store.searched ≡ started before (given_up_offset Backward input.now 0)
+            → IfErr result (λ e.
+            EndsAtLast Backward self.now input.now before cache.old.store cache.new.store
+            ⊎ IsLeftOpen Backward self.now input.now before cache.old.store cache.new.store e) }
     {
         let mut at = input.end();
         let mut id = start;
@@ -623,6 +638,8 @@ impl DFA {
         ensures grown { IsGrown cache.old cache.new }
         ensures idle { KnowsPass Backward self.now cache.old.store input.now → (cache.new.count ≡ cache.old.count) × IfErr result IsOfInput }
         ensures learned { KnowsItsStart Backward self.now cache.old.store input.now → HasLearned Backward self.now cache.old.store input.now (input.now.end - input.now.start) → ClearedNothing cache.old.store cache.new.store → OnOk result (HasLearnedAll Backward self.now cache.new.store input.now) }
+        ensures alive { (q : Powerset) → Names cache.old.store.table id q → q ≡ dead → ⊥ }
+        ensures progress { KeepsProgress cache.old.store cache.new.store }
     {
         let start = input.start();
         if start == 0 {
@@ -654,6 +671,7 @@ impl DFA {
         ensures idle { IsKnownTransition cache.old.store id (class_in self.now.classes byte) → (cache.new.count ≡ cache.old.count) × IfErr result IsOfInput }
         ensures learned { ClearedNothing cache.old.store cache.new.store → OnOk result (IsKnownTransition cache.new.store id (class_in self.now.classes byte)) }
         ensures below { class_in self.now.classes byte < self.now.stride }
+        ensures progress { KeepsProgress cache.old.store cache.new.store }
     {
         self.see_classes();
         cache.see_ids();

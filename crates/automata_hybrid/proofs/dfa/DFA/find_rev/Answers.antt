@@ -1,15 +1,18 @@
-use Rattle.std.proofs.Common.{ℕ, ◌≡◌, ◌∙◌, ◌-◌, ◌<◌, ◌≤◌, true, length, Some, None, refl, sym, subst, arith}
+use Rattle.std.proofs.Common.{ℕ, suc, ◌≡◌, ◌∙◌, ◌+◌, ◌-◌, ◌<◌, ◌≤◌, ◌⊎◌, inl, true, length, Some, None, refl, sym, subst, arith}
 use Rattle.automata_base.specs.Paths.{next}
 use Rattle.automata_base.specs.Tapes.{Backward}
 use Rattle.automata_hybrid.specs.Growing.{IsGrown, ClearedNothing}
 use Rattle.automata_hybrid.specs.Knowing.{KnowsPass}
 use Rattle.automata_hybrid.specs.Passing.{HasLearned, IsAt}
-use Rattle.automata_hybrid.specs.Searches.{tape_in}
+use Rattle.automata_hybrid.specs.Searched.{EndsAtLast, IsLeftOpen, IsOpenAt}
+use Rattle.automata_hybrid.specs.Searches.{Reads, given_up_offset, tape_in}
 use Rattle.automata_hybrid.specs.Table.{Rows}
 use Rattle.automata_hybrid.proofs.Growing.{grown_moved, grown_same, grown_trans, nothing_first, nothing_second}
 use Rattle.automata_hybrid.proofs.Knowing.{begun_moved, knows_here, knows_still, learned_ends, learned_moved, learned_none, learned_step}
-use Rattle.automata_hybrid.proofs.Searching.{stops_dead, stops_ends, more_leads, more_at, more_dead, clean_dead, more_ends, clean_ends, starts_at, step_refuses, if_err, false_true, some_is, none_is}
-use Rattle.automata_hybrid.proofs.Backward.{span_place, span_unit_offset, span_given_up_offset, span_more, span_few, span_read, quit_free}
+use Rattle.automata_hybrid.proofs.Searched.{ended_after, last_here, last_kept, left_here, on_err, on_ok, stays_open}
+use Rattle.automata_hybrid.proofs.Units.{backward_units}
+use Rattle.automata_hybrid.proofs.Searching.{stops_dead, stops_ends, stops_last, more_leads, more_at, more_dead, clean_dead, more_ends, clean_ends, starts_at, step_refuses, if_err, false_true, some_is, none_is}
+use Rattle.automata_hybrid.proofs.Backward.{end_given_up_offset, span_place, span_unit_offset, span_given_up_offset, span_more, span_few, span_read, quit_free}
 use Rattle.automata_hybrid.proofs.dfa.DFA.find_rev.Goals as goal
 use Rattle.automata_hybrid.proofs.dfa.DFA.find_rev.Goals.{else-get_earliest-via-then-get_earliest+else-is_some, else-get_earliest-via-else-get_earliest}
 
@@ -25,6 +28,7 @@ loop-at-init c =
       from = omega (arith, c.end-at.ensures.end, c.requires.open);
       within = omega (arith, c.end-at.ensures.end);
       at = subst (λ k. IsAt Backward c.args.self.now c.args.cache.now.store.table c.args.input.now k c.args.start None) z (starts_at Backward c.args.self.now c.args.cache.now.store.table c.args.input.now c.args.start c.requires.named);
+      progress = λ s e. (given_up_offset Backward c.args.input.now 0, (s, given_up_offset Backward c.args.input.now 0, inl (refl, refl), e));
     }
 
 pub find_end_rev-requires-clause-at : goal.find_end_rev-requires-clause-at
@@ -138,6 +142,10 @@ loop-at-preserved c =
           (more_at Backward c.args.self.now c.loop-at.cache.store.table c.read.new.cache.store.table c.args.input.now k c.run_rev-run.result.id c.in_ok-id.id _ c.run_rev-run.result.found c.found_at-found.result
           at read c.in_ok-id.ensures.named (quit_free c.args.self.now _ c.in_ok-id.ensures.clean)
           (c.run_rev-run.result.at, span_place c.args.input.now c.run_rev-run.result.at above below, c.found_at-found.ensures) first (λ l. (c.in_ok-id.ensures.dead _ l).1 (λ b. false_true (c.if-is_dead.ensures.1 b))));
+      progress = λ s e.
+          (let underway : (x : ℕ) × IsOpenAt c.args.input.now s (given_up_offset Backward c.args.input.now 0) x c.args.cache.now.store c.loop-at.cache.store = c.loop-at.invariant.progress s e in
+          (c.run_rev-run.result.at - 1, stays_open c.args.input.now s (given_up_offset Backward c.args.input.now 0) c.args.cache.now c.loop-at.cache c.read.new.cache c.loop-at.invariant.grown c.in_ok-id.ensures.grown
+          underway.0 (c.run_rev-run.result.at - 1) (omega (arith, above)) (omega (arith, below)) underway.1 c.in_ok-id.ensures.moved));
     }
 
 pub returns-then-is_dead-clause-grown : goal.returns-then-is_dead-clause-grown
@@ -269,3 +277,114 @@ pub read-requires-clause-valid : goal.read-requires-clause-valid
 read-requires-clause-valid c =
     let at : IsAt Backward c.args.self.now c.loop-at.cache.store.table c.args.input.now (c.args.input.now.end - c.run_rev-run.result.at) c.run_rev-run.result.id c.run_rev-run.result.found = c.run_rev-run.ensures.at in
     (_, at.named)
+
+pub returns-in_err-id-clause-left : goal.returns-in_err-id-clause-left
+returns-in_err-id-clause-left c = λ s e.
+    let above : c.args.input.now.start < c.run_rev-run.result.at = omega (arith, c.if-run-start.false, c.start-in-loop-at.ensures.start) in
+    let below : c.run_rev-run.result.at ≤ c.args.input.now.end = omega (arith, c.run_rev-run.ensures.within, c.loop-at.invariant.within) in
+    let k : ℕ = c.args.input.now.end - c.run_rev-run.result.at in
+    let at : IsAt Backward c.args.self.now c.loop-at.cache.store.table c.args.input.now k c.run_rev-run.result.id c.run_rev-run.result.found = c.run_rev-run.ensures.at in
+    let read : next (tape_in Backward c.args.input.now) k ≡ Some _ = span_read c.args.input.now c.run_rev-run.result.at above below c.haystack.result.now c.haystack.ensures.within.1 c.haystack.ensures.same in
+    let few : k ≤ length (tape_in Backward c.args.input.now).bytes = span_few c.args.input.now c.run_rev-run.result.at above below c.haystack.ensures.within.1 in
+    let underway : (x : ℕ) × IsOpenAt c.args.input.now s (given_up_offset Backward c.args.input.now 0) x c.args.cache.now.store c.loop-at.cache.store = c.loop-at.invariant.progress s e in
+    if_err c.from_residual.result _ _ c.from_residual.ensures.1
+    (left_here Backward c.args.self.now c.args.input.now s c.args.cache.now c.loop-at.cache c.read.new.cache c.loop-at.invariant.grown c.in_err-id.ensures.grown
+    k c.run_rev-run.result.id (c.run_rev-run.result.at - 1) underway.0 (Some _) c.run_rev-run.result.found at few c.in_err-id.ensures.alive read
+    (span_given_up_offset c.args.input.now c.run_rev-run.result.at above below) (omega (arith, above)) (omega (arith, below)) underway.1
+    c.in_err-id.field-0.0 c.in_err-id.ensures.left)
+
+pub returns-then-is_dead-clause-ended : goal.returns-then-is_dead-clause-ended
+returns-then-is_dead-clause-ended c = λ s e.
+    let above : c.args.input.now.start < c.run_rev-run.result.at = omega (arith, c.if-run-start.false, c.start-in-loop-at.ensures.start) in
+    let below : c.run_rev-run.result.at ≤ c.args.input.now.end = omega (arith, c.run_rev-run.ensures.within, c.loop-at.invariant.within) in
+    let k : ℕ = c.args.input.now.end - c.run_rev-run.result.at in
+    let at : IsAt Backward c.args.self.now c.loop-at.cache.store.table c.args.input.now k c.run_rev-run.result.id c.run_rev-run.result.found = c.run_rev-run.ensures.at in
+    let read : next (tape_in Backward c.args.input.now) k ≡ Some _ = span_read c.args.input.now c.run_rev-run.result.at above below c.haystack.result.now c.haystack.ensures.within.1 c.haystack.ensures.same in
+    let few : k ≤ length (tape_in Backward c.args.input.now).bytes = span_few c.args.input.now c.run_rev-run.result.at above below c.haystack.ensures.within.1 in
+    let underway : (x : ℕ) × IsOpenAt c.args.input.now s (given_up_offset Backward c.args.input.now 0) x c.args.cache.now.store c.loop-at.cache.store = c.loop-at.invariant.progress s e in
+    let stops : Reads Backward c.args.self.now c.args.input.now (suc k) → ⊥ = stops_dead Backward c.args.self.now c.loop-at.cache.store.table c.read.new.cache.store.table c.args.input.now k c.run_rev-run.result.id c.in_ok-id.id _ c.run_rev-run.result.found None at read c.in_ok-id.ensures.named (quit_free c.args.self.now _ c.in_ok-id.ensures.clean) (λ l. (c.in_ok-id.ensures.dead _ l).0 (c.if-is_dead.ensures.0 refl)) (suc k) (omega arith) in
+    let grown : IsGrown c.loop-at.cache c.end_search-then-is_dead.new.self = grown_trans c.loop-at.cache c.read.new.cache c.end_search-then-is_dead.new.self c.in_ok-id.ensures.grown (grown_moved c.read.new.cache c.end_search-then-is_dead.new.self c.end_search-then-is_dead.ensures.value) in
+    last_here Backward c.args.self.now c.args.input.now s c.args.cache.now c.loop-at.cache c.end_search-then-is_dead.new.self c.loop-at.invariant.grown grown
+    k c.run_rev-run.result.id (c.run_rev-run.result.at - 1) underway.0 (Some _) c.run_rev-run.result.found at few c.in_ok-id.ensures.alive read
+    (span_given_up_offset c.args.input.now c.run_rev-run.result.at above below) (omega (arith, above)) (omega (arith, below)) underway.1
+    (ended_after c.loop-at.cache c.read.new.cache c.end_search-then-is_dead.new.self (c.run_rev-run.result.at - 1) c.in_ok-id.ensures.moved c.end_search-then-is_dead.ensures.value) (inl stops)
+
+pub returns-then-is_some-clause-ended : goal.returns-then-is_some-clause-ended
+returns-then-is_some-clause-ended c = λ s e.
+    let above : c.args.input.now.start < c.run_rev-run.result.at = omega (arith, c.if-run-start.false, c.start-in-loop-at.ensures.start) in
+    let below : c.run_rev-run.result.at ≤ c.args.input.now.end = omega (arith, c.run_rev-run.ensures.within, c.loop-at.invariant.within) in
+    let k : ℕ = c.args.input.now.end - c.run_rev-run.result.at in
+    let at : IsAt Backward c.args.self.now c.loop-at.cache.store.table c.args.input.now k c.run_rev-run.result.id c.run_rev-run.result.found = c.run_rev-run.ensures.at in
+    let read : next (tape_in Backward c.args.input.now) k ≡ Some _ = span_read c.args.input.now c.run_rev-run.result.at above below c.haystack.result.now c.haystack.ensures.within.1 c.haystack.ensures.same in
+    let few : k ≤ length (tape_in Backward c.args.input.now).bytes = span_few c.args.input.now c.run_rev-run.result.at above below c.haystack.ensures.within.1 in
+    let underway : (x : ℕ) × IsOpenAt c.args.input.now s (given_up_offset Backward c.args.input.now 0) x c.args.cache.now.store c.loop-at.cache.store = c.loop-at.invariant.progress s e in
+    let stops : Reads Backward c.args.self.now c.args.input.now (suc k) → ⊥ = stops_ends Backward c.args.self.now c.loop-at.cache.store.table c.read.new.cache.store.table c.args.input.now k c.run_rev-run.result.id c.in_ok-id.id _ c.run_rev-run.result.found c.found_at-found.result at read c.in_ok-id.ensures.named (quit_free c.args.self.now _ c.in_ok-id.ensures.clean) (c.run_rev-run.result.at, span_place c.args.input.now c.run_rev-run.result.at above below, c.found_at-found.ensures) (sym c.get_earliest.ensures ∙ c.if-get_earliest.true) (some_is c.found_at-found.result c.if-is_some.ensures) (suc k) (omega arith) in
+    let grown : IsGrown c.loop-at.cache c.end_search-then-is_some.new.self = grown_trans c.loop-at.cache c.read.new.cache c.end_search-then-is_some.new.self c.in_ok-id.ensures.grown (grown_moved c.read.new.cache c.end_search-then-is_some.new.self c.end_search-then-is_some.ensures.value) in
+    last_here Backward c.args.self.now c.args.input.now s c.args.cache.now c.loop-at.cache c.end_search-then-is_some.new.self c.loop-at.invariant.grown grown
+    k c.run_rev-run.result.id (c.run_rev-run.result.at - 1) underway.0 (Some _) c.run_rev-run.result.found at few c.in_ok-id.ensures.alive read
+    (span_given_up_offset c.args.input.now c.run_rev-run.result.at above below) (omega (arith, above)) (omega (arith, below)) underway.1
+    (ended_after c.loop-at.cache c.read.new.cache c.end_search-then-is_some.new.self (c.run_rev-run.result.at - 1) c.in_ok-id.ensures.moved c.end_search-then-is_some.ensures.value) (inl stops)
+
+pub returns-then-run-start-clause-ended : goal.returns-then-run-start-clause-ended
+returns-then-run-start-clause-ended c = λ s e.
+    let same : c.args.input.now.end - c.run_rev-run.result.at ≡ c.args.input.now.end - c.args.input.now.start = omega (arith, c.if-run-start.true, c.run_rev-run.ensures.from, c.start-in-loop-at.ensures.start) in
+    let k : ℕ = c.args.input.now.end - c.args.input.now.start in
+    let at : IsAt Backward c.args.self.now c.end_search.new.self.store.table c.args.input.now k c.run_rev-run.result.id c.run_rev-run.result.found =
+    subst (λ (t : Rows). IsAt Backward c.args.self.now t c.args.input.now k c.run_rev-run.result.id c.run_rev-run.result.found) (sym c.end_search.ensures.table)
+    (subst (λ k. IsAt Backward c.args.self.now c.loop-at.cache.store.table c.args.input.now k c.run_rev-run.result.id c.run_rev-run.result.found) same c.run_rev-run.ensures.at) in
+    let units : k ≡ length (tape_in Backward c.args.input.now).bytes = backward_units c.args.input.now c.requires.open c.start-then-run-start.ensures.within.1 in
+    let underway : (x : ℕ) × IsOpenAt c.args.input.now s (given_up_offset Backward c.args.input.now 0) x c.args.cache.now.store c.loop-at.cache.store = c.loop-at.invariant.progress s e in
+    let ended : EndsAtLast Backward c.args.self.now c.args.input.now s c.args.cache.now.store c.find_end_rev.new.cache.store =
+    last_kept Backward c.args.self.now c.args.input.now s c.args.cache.now c.loop-at.cache c.end_search.new.self c.find_end_rev.new.cache k c.run_rev-run.result.id c.start-then-run-start.result underway.0 c.run_rev-run.result.found
+    c.loop-at.invariant.grown c.end_search.ensures.value c.find_end_rev.ensures.grown (omega (arith, c.start-then-run-start.ensures.start)) (omega (arith, c.start-then-run-start.ensures.start, c.requires.open)) underway.1
+    at (omega (arith, units)) c.find_end_rev.ensures.alive (end_given_up_offset c.args.input.now c.start-then-run-start.result c.requires.open c.start-then-run-start.ensures.start)
+    (λ r. stops_last Backward c.args.self.now c.args.input.now k units (suc k) (omega arith) r) c.find_end_rev.ensures.progress in
+    on_ok c.find_end_rev.result ended
+
+pub returns-then-run-start-clause-left : goal.returns-then-run-start-clause-left
+returns-then-run-start-clause-left c = λ s e.
+    let same : c.args.input.now.end - c.run_rev-run.result.at ≡ c.args.input.now.end - c.args.input.now.start = omega (arith, c.if-run-start.true, c.run_rev-run.ensures.from, c.start-in-loop-at.ensures.start) in
+    let k : ℕ = c.args.input.now.end - c.args.input.now.start in
+    let at : IsAt Backward c.args.self.now c.end_search.new.self.store.table c.args.input.now k c.run_rev-run.result.id c.run_rev-run.result.found =
+    subst (λ (t : Rows). IsAt Backward c.args.self.now t c.args.input.now k c.run_rev-run.result.id c.run_rev-run.result.found) (sym c.end_search.ensures.table)
+    (subst (λ k. IsAt Backward c.args.self.now c.loop-at.cache.store.table c.args.input.now k c.run_rev-run.result.id c.run_rev-run.result.found) same c.run_rev-run.ensures.at) in
+    let units : k ≡ length (tape_in Backward c.args.input.now).bytes = backward_units c.args.input.now c.requires.open c.start-then-run-start.ensures.within.1 in
+    let underway : (x : ℕ) × IsOpenAt c.args.input.now s (given_up_offset Backward c.args.input.now 0) x c.args.cache.now.store c.loop-at.cache.store = c.loop-at.invariant.progress s e in
+    let ended : EndsAtLast Backward c.args.self.now c.args.input.now s c.args.cache.now.store c.find_end_rev.new.cache.store =
+    last_kept Backward c.args.self.now c.args.input.now s c.args.cache.now c.loop-at.cache c.end_search.new.self c.find_end_rev.new.cache k c.run_rev-run.result.id c.start-then-run-start.result underway.0 c.run_rev-run.result.found
+    c.loop-at.invariant.grown c.end_search.ensures.value c.find_end_rev.ensures.grown (omega (arith, c.start-then-run-start.ensures.start)) (omega (arith, c.start-then-run-start.ensures.start, c.requires.open)) underway.1
+    at (omega (arith, units)) c.find_end_rev.ensures.alive (end_given_up_offset c.args.input.now c.start-then-run-start.result c.requires.open c.start-then-run-start.ensures.start)
+    (λ r. stops_last Backward c.args.self.now c.args.input.now k units (suc k) (omega arith) r) c.find_end_rev.ensures.progress in
+    on_err c.find_end_rev.result (λ e. EndsAtLast Backward c.args.self.now c.args.input.now s c.args.cache.now.store c.find_end_rev.new.cache.store ⊎ IsLeftOpen Backward c.args.self.now c.args.input.now s c.args.cache.now.store c.find_end_rev.new.cache.store e) (λ error. inl ended)
+
+pub returns-clause-ended : goal.returns-clause-ended
+returns-clause-ended c = λ s e.
+    let same : c.args.input.now.end - c.loop-at.at ≡ c.args.input.now.end - c.args.input.now.start = omega (arith, c.loop-at-test.false, c.loop-at.invariant.from, c.start.ensures.start) in
+    let k : ℕ = c.args.input.now.end - c.args.input.now.start in
+    let at : IsAt Backward c.args.self.now c.end_search-2.new.self.store.table c.args.input.now k c.loop-at.id c.loop-at.found =
+    subst (λ (t : Rows). IsAt Backward c.args.self.now t c.args.input.now k c.loop-at.id c.loop-at.found) (sym c.end_search-2.ensures.table)
+    (subst (λ k. IsAt Backward c.args.self.now c.loop-at.cache.store.table c.args.input.now k c.loop-at.id c.loop-at.found) same c.loop-at.invariant.at) in
+    let units : k ≡ length (tape_in Backward c.args.input.now).bytes = backward_units c.args.input.now c.requires.open c.start-2.ensures.within.1 in
+    let underway : (x : ℕ) × IsOpenAt c.args.input.now s (given_up_offset Backward c.args.input.now 0) x c.args.cache.now.store c.loop-at.cache.store = c.loop-at.invariant.progress s e in
+    let ended : EndsAtLast Backward c.args.self.now c.args.input.now s c.args.cache.now.store c.find_end_rev-2.new.cache.store =
+    last_kept Backward c.args.self.now c.args.input.now s c.args.cache.now c.loop-at.cache c.end_search-2.new.self c.find_end_rev-2.new.cache k c.loop-at.id c.start-2.result underway.0 c.loop-at.found
+    c.loop-at.invariant.grown c.end_search-2.ensures.value c.find_end_rev-2.ensures.grown (omega (arith, c.start-2.ensures.start)) (omega (arith, c.start-2.ensures.start, c.requires.open)) underway.1
+    at (omega (arith, units)) c.find_end_rev-2.ensures.alive (end_given_up_offset c.args.input.now c.start-2.result c.requires.open c.start-2.ensures.start)
+    (λ r. stops_last Backward c.args.self.now c.args.input.now k units (suc k) (omega arith) r) c.find_end_rev-2.ensures.progress in
+    on_ok c.find_end_rev-2.result ended
+
+pub returns-clause-left : goal.returns-clause-left
+returns-clause-left c = λ s e.
+    let same : c.args.input.now.end - c.loop-at.at ≡ c.args.input.now.end - c.args.input.now.start = omega (arith, c.loop-at-test.false, c.loop-at.invariant.from, c.start.ensures.start) in
+    let k : ℕ = c.args.input.now.end - c.args.input.now.start in
+    let at : IsAt Backward c.args.self.now c.end_search-2.new.self.store.table c.args.input.now k c.loop-at.id c.loop-at.found =
+    subst (λ (t : Rows). IsAt Backward c.args.self.now t c.args.input.now k c.loop-at.id c.loop-at.found) (sym c.end_search-2.ensures.table)
+    (subst (λ k. IsAt Backward c.args.self.now c.loop-at.cache.store.table c.args.input.now k c.loop-at.id c.loop-at.found) same c.loop-at.invariant.at) in
+    let units : k ≡ length (tape_in Backward c.args.input.now).bytes = backward_units c.args.input.now c.requires.open c.start-2.ensures.within.1 in
+    let underway : (x : ℕ) × IsOpenAt c.args.input.now s (given_up_offset Backward c.args.input.now 0) x c.args.cache.now.store c.loop-at.cache.store = c.loop-at.invariant.progress s e in
+    let ended : EndsAtLast Backward c.args.self.now c.args.input.now s c.args.cache.now.store c.find_end_rev-2.new.cache.store =
+    last_kept Backward c.args.self.now c.args.input.now s c.args.cache.now c.loop-at.cache c.end_search-2.new.self c.find_end_rev-2.new.cache k c.loop-at.id c.start-2.result underway.0 c.loop-at.found
+    c.loop-at.invariant.grown c.end_search-2.ensures.value c.find_end_rev-2.ensures.grown (omega (arith, c.start-2.ensures.start)) (omega (arith, c.start-2.ensures.start, c.requires.open)) underway.1
+    at (omega (arith, units)) c.find_end_rev-2.ensures.alive (end_given_up_offset c.args.input.now c.start-2.result c.requires.open c.start-2.ensures.start)
+    (λ r. stops_last Backward c.args.self.now c.args.input.now k units (suc k) (omega arith) r) c.find_end_rev-2.ensures.progress in
+    on_err c.find_end_rev-2.result (λ e. EndsAtLast Backward c.args.self.now c.args.input.now s c.args.cache.now.store c.find_end_rev-2.new.cache.store ⊎ IsLeftOpen Backward c.args.self.now c.args.input.now s c.args.cache.now.store c.find_end_rev-2.new.cache.store e) (λ error. inl ended)

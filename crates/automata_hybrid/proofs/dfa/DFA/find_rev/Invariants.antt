@@ -1,9 +1,13 @@
-use Rattle.std.proofs.Common.{◌≡◌, ◌≤◌, ◌+◌, ◌-◌}
+use Rattle.std.proofs.Common.{ℕ, ◌≡◌, ◌≤◌, ◌+◌, ◌-◌}
 use Rattle.automata_base.specs.Tapes.{Backward}
 use Rattle.automata_hybrid.specs.Caches.{IsCacheOf}
 use Rattle.automata_hybrid.specs.Growing.{IsGrown, ClearedNothing}
 use Rattle.automata_hybrid.specs.Knowing.{KnowsItsStart, KnowsPass}
 use Rattle.automata_hybrid.specs.Passing.{HasLearned, IsAt}
+use Rattle.automata_hybrid.specs.Progressing.{started}
+use Rattle.automata_hybrid.specs.Searched.{IsOpenAt}
+use Rattle.automata_hybrid.specs.Searches.{given_up_offset}
+use Rattle.automata_hybrid.specs.declared.dfa.progress.Searched.{Searched}
 use Rattle.automata_hybrid.proofs.dfa.DFA.find_rev.Given as goal
 
 abbrev pub invariant-loop-at : goal.invariant-loop-at
@@ -16,6 +20,7 @@ invariant-loop-at l = record {
   idle : KnowsPass Backward l.self l.fn.cache.store l.input → l.cache.count ≡ l.fn.cache.count;
   learned : KnowsItsStart Backward l.self l.fn.cache.store l.input → ClearedNothing l.fn.cache.store l.cache.store → KnowsItsStart Backward l.self l.cache.store l.input × HasLearned Backward l.self l.cache.store l.input (l.input.end - l.at);
   at : IsAt Backward l.self l.cache.store.table l.input (l.input.end - l.at) l.id l.found;
+  progress : (before : Searched) → l.fn.cache.store.searched ≡ started before (given_up_offset Backward l.input 0) → (x : ℕ) × IsOpenAt l.input before (given_up_offset Backward l.input 0) x l.fn.cache.store l.cache.store;
 }
 
 abbrev pub decreases-loop-at : goal.decreases-loop-at

@@ -10,6 +10,8 @@ use Rattle.automata_hybrid.specs.Slots.{supports}
 use Rattle.automata_hybrid.specs.Growing.{ClearedNothing}
 use Rattle.automata_hybrid.specs.Knowing.{Knows, KnowsPass}
 use Rattle.automata_hybrid.specs.Costs.{passes_most}
+use Rattle.automata_hybrid.specs.Searched.{HasEnded, HaveEnded, IsLeft}
+use Rattle.automata_hybrid.proofs.Searched.{spans_before, spans_tried}
 use Rattle.automata_hybrid.proofs.Costing.{cost_before, cost_more, most_more}
 use Rattle.automata_hybrid.proofs.Growing.{grown_trans, nothing_first, nothing_second}
 use Rattle.automata_hybrid.proofs.Knowing.{LearnedSpans, search_still, spans_all, spans_more, spans_still}
@@ -101,6 +103,8 @@ loop-later-preserved c =
       bounded = subst (λ n. c.pass_rev.new.cache.count ≤ c.args.cache.now.count + passes_most n (c.args.input.now.end - c.args.input.now.start)) next
           (most_more k (c.args.input.now.end - c.args.input.now.start) (c.loop-later.later.end - c.loop-later.later.start) c.args.cache.now.count c.loop-later.cache.count c.pass_rev.new.cache.count c.loop-later.invariant.bounded c.in_ok-half.ensures.counted (omega (arith, begin, c.loop-later.invariant.to)));
       done = λ e. absurd (omega (arith, e, end, some, c.loop-later.invariant.to));
+      progress = subst (λ n. HaveEnded Backward c.args.self.now c.args.input.now n c.args.cache.now.store c.pass_rev.new.cache.store) next
+          (c.loop-later.cache.store, c.loop-later.invariant.progress, subst (λ i. HasEnded Backward c.args.self.now i c.loop-later.cache.store c.pass_rev.new.cache.store) same c.in_ok-half.ensures.ended);
       tries = subst (λ n. Tries (Finds Backward c.args.self.now) (Skips c.args.self.now) Backward c.args.input.now n) next
           (tries_on Backward c.args.self.now c.args.input.now c.loop-later.later k same c.loop-later.invariant.tries within c.in-Some.half (sym c.in-Some.is ∙ c.in_ok-half.ensures.found) c.in_ok-half.ensures.clean (c.if-not-skips_at.ensures.yes refl).0 (subst (λ n. is_split c.loop-later.later.haystack n ≡ true) c.offset.ensures (c.if-not-skips_at.ensures.yes refl).1) mode);
     }
@@ -332,3 +336,54 @@ pub returns-clause-bounded : goal.returns-clause-bounded
 returns-clause-bounded c =
     let k : ℕ = c.args.input.now.end - c.loop-later.later.end in
     (k, cost_before Backward c.args.self.now c.args.input.now c.args.cache.now c.loop-later.cache k c.loop-later.invariant.tries c.loop-later.invariant.grown c.loop-later.invariant.bounded)
+
+pub returns-in_default-clause-ended : goal.returns-in_default-clause-ended
+returns-in_default-clause-ended c =
+    let k : ℕ = c.args.input.now.end - c.loop-later.later.end in
+    let ahead : c.loop-later.later.start ≤ c.loop-later.later.end = grind (arith, common_steps, c.loop-later-test.ensures.done) in
+    let same : c.loop-later.later ≡ later Backward k c.args.input.now = ended c.args.input.now c.loop-later.later c.loop-later.invariant.same c.loop-later.invariant.to ahead in
+    let within : c.args.input.now.start + k ≤ c.args.input.now.end = ended_within c.args.input.now c.loop-later.later c.loop-later.invariant.same c.loop-later.invariant.to ahead in
+    (suc k, spans_tried Backward c.args.self.now c.args.input.now k c.loop-later.invariant.tries within,
+    (c.loop-later.cache.store, c.loop-later.invariant.progress, subst (λ i. HasEnded Backward c.args.self.now i c.loop-later.cache.store c.pass_rev.new.cache.store) same c.in_ok-half.ensures.ended))
+
+pub returns-then-not-skips_at-clause-ended : goal.returns-then-not-skips_at-clause-ended
+returns-then-not-skips_at-clause-ended c =
+    let k : ℕ = c.args.input.now.end - c.loop-later.later.end in
+    let ahead : c.loop-later.later.start ≤ c.loop-later.later.end = grind (arith, common_steps, c.loop-later-test.ensures.done) in
+    let same : c.loop-later.later ≡ later Backward k c.args.input.now = ended c.args.input.now c.loop-later.later c.loop-later.invariant.same c.loop-later.invariant.to ahead in
+    let within : c.args.input.now.start + k ≤ c.args.input.now.end = ended_within c.args.input.now c.loop-later.later c.loop-later.invariant.same c.loop-later.invariant.to ahead in
+    (suc k, spans_tried Backward c.args.self.now c.args.input.now k c.loop-later.invariant.tries within,
+    (c.loop-later.cache.store, c.loop-later.invariant.progress, subst (λ i. HasEnded Backward c.args.self.now i c.loop-later.cache.store c.pass_rev.new.cache.store) same c.in_ok-half.ensures.ended))
+
+pub returns-then-is_anchored-clause-ended : goal.returns-then-is_anchored-clause-ended
+returns-then-is_anchored-clause-ended c =
+    let k : ℕ = c.args.input.now.end - c.loop-later.later.end in
+    let ahead : c.loop-later.later.start ≤ c.loop-later.later.end = grind (arith, common_steps, c.loop-later-test.ensures.done) in
+    let same : c.loop-later.later ≡ later Backward k c.args.input.now = ended c.args.input.now c.loop-later.later c.loop-later.invariant.same c.loop-later.invariant.to ahead in
+    let within : c.args.input.now.start + k ≤ c.args.input.now.end = ended_within c.args.input.now c.loop-later.later c.loop-later.invariant.same c.loop-later.invariant.to ahead in
+    (suc k, spans_tried Backward c.args.self.now c.args.input.now k c.loop-later.invariant.tries within,
+    (c.loop-later.cache.store, c.loop-later.invariant.progress, subst (λ i. HasEnded Backward c.args.self.now i c.loop-later.cache.store c.pass_rev.new.cache.store) same c.in_ok-half.ensures.ended))
+
+pub returns-then-end-eq0-clause-ended : goal.returns-then-end-eq0-clause-ended
+returns-then-end-eq0-clause-ended c =
+    let k : ℕ = c.args.input.now.end - c.loop-later.later.end in
+    let ahead : c.loop-later.later.start ≤ c.loop-later.later.end = grind (arith, common_steps, c.loop-later-test.ensures.done) in
+    let same : c.loop-later.later ≡ later Backward k c.args.input.now = ended c.args.input.now c.loop-later.later c.loop-later.invariant.same c.loop-later.invariant.to ahead in
+    let within : c.args.input.now.start + k ≤ c.args.input.now.end = ended_within c.args.input.now c.loop-later.later c.loop-later.invariant.same c.loop-later.invariant.to ahead in
+    (suc k, spans_tried Backward c.args.self.now c.args.input.now k c.loop-later.invariant.tries within,
+    (c.loop-later.cache.store, c.loop-later.invariant.progress, subst (λ i. HasEnded Backward c.args.self.now i c.loop-later.cache.store c.pass_rev.new.cache.store) same c.in_ok-half.ensures.ended))
+
+pub returns-in_err-half-clause-left : goal.returns-in_err-half-clause-left
+returns-in_err-half-clause-left c =
+    let k : ℕ = c.args.input.now.end - c.loop-later.later.end in
+    let ahead : c.loop-later.later.start ≤ c.loop-later.later.end = grind (arith, common_steps, c.loop-later-test.ensures.done) in
+    let same : c.loop-later.later ≡ later Backward k c.args.input.now = ended c.args.input.now c.loop-later.later c.loop-later.invariant.same c.loop-later.invariant.to ahead in
+    let within : c.args.input.now.start + k ≤ c.args.input.now.end = ended_within c.args.input.now c.loop-later.later c.loop-later.invariant.same c.loop-later.invariant.to ahead in
+    if_err c.from_residual.result _ _ c.from_residual.ensures.1
+    (k, c.loop-later.cache.store, spans_tried Backward c.args.self.now c.args.input.now k c.loop-later.invariant.tries within, c.loop-later.invariant.progress,
+    subst (λ i. IsLeft Backward c.args.self.now i c.loop-later.cache.store c.pass_rev.new.cache.store c.in_err-half.field-0.0) same c.in_err-half.ensures.left)
+
+pub returns-clause-ended : goal.returns-clause-ended
+returns-clause-ended c =
+    let k : ℕ = c.args.input.now.end - c.loop-later.later.end in
+    (k, spans_before Backward c.args.self.now c.args.input.now k c.loop-later.invariant.tries, c.loop-later.invariant.progress)

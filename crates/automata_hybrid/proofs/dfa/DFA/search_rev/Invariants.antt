@@ -5,6 +5,7 @@ use Rattle.automata_hybrid.specs.Caches.{IsCacheOf}
 use Rattle.automata_hybrid.specs.Costs.{passes_most}
 use Rattle.automata_hybrid.specs.Growing.{IsGrown, ClearedNothing}
 use Rattle.automata_hybrid.specs.Knowing.{Knows}
+use Rattle.automata_hybrid.specs.Searched.{HaveEnded}
 use Rattle.automata_hybrid.specs.Searches.{Finds, Skips}
 use Rattle.automata_hybrid.specs.Slots.{supports}
 use Rattle.automata_hybrid.proofs.Knowing.{LearnedSpans}
@@ -21,6 +22,7 @@ invariant-loop-later l = record {
   learned : ClearedNothing l.fn.cache.store l.cache.store → LearnedSpans Backward l.self l.cache.store l.input (l.input.end - l.later.end);
   bounded : l.cache.count ≤ l.fn.cache.count + passes_most (l.input.end - l.later.end) (l.input.end - l.input.start);
   done : l.later.end ≡ l.input.end → l.cache ≡ l.fn.cache;
+  progress : HaveEnded Backward l.self l.input (l.input.end - l.later.end) l.fn.cache.store l.cache.store;
   tries : Tries (Finds Backward l.self) (Skips l.self) Backward l.input (l.input.end - l.later.end);
 }
 
