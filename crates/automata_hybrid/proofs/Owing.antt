@@ -11,6 +11,7 @@ use Rattle.automata_hybrid.specs.Caches.{CacheView}
 use Rattle.automata_hybrid.specs.Knowing.{IsOfInput}
 use Rattle.automata_hybrid.specs.Machine.{Machine}
 use Rattle.automata_hybrid.specs.Owing.{IsBased, IsHalf, IsSearchEffect, IsStoreOf, MayRefuse}
+use Rattle.automata_hybrid.specs.Searched.{LeavesProgress}
 use Rattle.automata_hybrid.specs.Searches.{IsRefused, with_base}
 use Rattle.automata_hybrid.proofs.Searching.{ok_err}
 
@@ -101,6 +102,8 @@ module _ {T U : Type 0} (way : Direction) (m : Machine) (input : Input) (old new
     grown = s.grown;
     learned = s.learned;
     known = λ knows. ((s.known knows).0, tt);
+    ended = s.ended;
+    left = tt;
     done = s.done;
   }
 
@@ -113,5 +116,7 @@ module _ {T U : Type 0} (way : Direction) (m : Machine) (input : Input) (old new
     grown = s.grown;
     learned = λ nothing. tt;
     known = λ knows. ((s.known knows).0, subst IsOfInput (sym is) (s.known knows).1);
+    ended = tt;
+    left = subst (LeavesProgress way m input old.store new.store) (sym is) s.left;
     done = s.done;
   }

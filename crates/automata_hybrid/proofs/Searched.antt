@@ -1,5 +1,5 @@
 -- What steps, moves and ends make of the progress of a pass.
-use Rattle.std.proofs.Common.{ℕ, suc, ◌≡◌, ◌∙◌, ◌+◌, ◌-◌, ◌<◌, ◌≤◌, ◌⊎◌, length, Option, None, Some, inl, inr, refl, sym, ap, subst, arith}
+use Rattle.std.proofs.Common.{ℕ, suc, ◌≡◌, ◌∙◌, ◌+◌, ◌-◌, ◌≤◌, ◌⊎◌, length, Option, None, Some, inl, inr, refl, sym, ap, subst, arith}
 use Rattle.std.specs.Prelude.{Err, IfErr, Ok, OnOk, Result}
 use Rattle.automata_base.specs.Answers.{Tries}
 use Rattle.automata_base.specs.Input.{Input}
@@ -13,17 +13,16 @@ use Rattle.automata_hybrid.specs.declared.dfa.progress.Searched.{Searched}
 use Rattle.automata_hybrid.specs.declared.dfa.row.Row.{Row}
 use Rattle.automata_hybrid.specs.Bounds.{Stored, IsComputed, IsStarted, with_searched}
 use Rattle.automata_hybrid.specs.Caches.{CacheView, with_store}
-use Rattle.automata_hybrid.specs.Growing.{ClearedNothing, IsGrown, IsKeptOrCleared, KeepsProgress}
+use Rattle.automata_hybrid.specs.Growing.{IsGrown, IsKeptOrCleared, KeepsProgress}
 use Rattle.automata_hybrid.specs.Machine.{Machine}
 use Rattle.automata_hybrid.specs.Passing.{IsAt}
 use Rattle.automata_hybrid.specs.Progressing.{finished, from_place, progress_cleared, saturated, started, updated}
-use Rattle.automata_hybrid.specs.Searched.{CountsFrom, EndsAtLast, IsEndedAt, IsEndedBy, IsLastPlace, IsLeftAt, IsLeftOpen, IsMovedTo, IsOfRoom, IsOpenAt, IsQuitUnit, TriesSpans, none_searched}
+use Rattle.automata_hybrid.specs.Searched.{CountsFrom, EndsAtLast, IsEndedAt, IsEndedBy, IsLeftAt, IsLeftOpen, IsMovedTo, IsOfRoom, IsOpenAt, IsQuitUnit, TriesSpans, none_searched}
 use Rattle.automata_hybrid.specs.Searches.{Finds, Reads, Skips, given_up_offset, tape_in}
 use Rattle.automata_hybrid.specs.Table.{Names}
 use Rattle.automata_hybrid.proofs.Costing.{tries_before}
 use Rattle.automata_hybrid.proofs.Effects.{counts_up}
 use Rattle.automata_hybrid.proofs.Growing.{grown_moved, grown_trans, nothing_first, nothing_second}
-
 use Rattle.automata_hybrid.proofs.Searching.{at_reads}
 
 -- a clear of the states keeps the progress as a clear makes it
@@ -70,9 +69,12 @@ module _ (input : Input) (s : Searched) (first : ℕ) (old mid new : CacheView) 
       × (to ≡ updated (started beside from) at)
   moves x at to low high (b, from, counts, e) (inl same) =
       (b, from, still counts, same ∙ ap (λ (v : Searched). updated v at) e)
-  moves x at to low high (b, from, counts, e) (inr (cleared, same)) =
-      (none_searched, at, inr (λ nothing. cleared (nothing_second old mid new before after nothing), refl, low, high),
-      same ∙ ap (λ (v : Searched). progress_cleared (updated v at)) e)
+  moves x at to low high (b, from, counts, e) (inr (cleared, same)) = (
+    none_searched,
+    at,
+    inr (λ nothing. cleared (nothing_second old mid new before after nothing), refl, low, high),
+    same ∙ ap (λ (v : Searched). progress_cleared (updated v at)) e,
+  )
 
   pub stays_open :
       (x at : ℕ) → input.start ≤ at → at ≤ input.end
@@ -99,17 +101,21 @@ pub ended_by :
     → IsEndedBy at old.store new.store
 ended_by old mid next new at m kept e =
     (next.store.searched, go kept, ap (λ (v : CacheView). v.store.searched) e) where
-  first : mid.store.clears ≡ old.store.clears
-  first = ap (λ (v : CacheView). v.store.clears) m
-  last : new.store.clears ≡ next.store.clears
-  last = ap (λ (v : CacheView). v.store.clears) e
-  go :
-      KeepsProgress mid.store next.store
-      → IsKeptOrCleared old.store new.store (updated old.store.searched at) next.store.searched
-  go (inl same) = inl (same ∙ ap (λ (v : CacheView). v.store.searched) m)
-  go (inr (cleared, same)) =
-      inr (λ nothing. cleared (omega (arith, nothing.0, first, last), omega (arith, nothing.1, first)),
-      same ∙ ap (λ (v : CacheView). progress_cleared v.store.searched) m)
+      first : mid.store.clears ≡ old.store.clears
+      first = ap (λ (v : CacheView). v.store.clears) m
+
+      last : new.store.clears ≡ next.store.clears
+      last = ap (λ (v : CacheView). v.store.clears) e
+
+      go :
+          KeepsProgress mid.store next.store
+          → IsKeptOrCleared old.store new.store (updated old.store.searched at) next.store.searched
+      go (inl same) = inl (same ∙ ap (λ (v : CacheView). v.store.searched) m)
+      go (inr (cleared, same)) =
+          inr (
+            λ nothing. cleared (omega (arith, nothing.0, first, last), omega (arith, nothing.1, first)),
+            same ∙ ap (λ (v : CacheView). progress_cleared v.store.searched) m,
+          )
 
 -- it moved and made a step
 pub moved_by :
@@ -119,10 +125,12 @@ pub moved_by :
     → IsMovedTo at old.store next.store
 moved_by old mid next at m (inl same) = inl (same ∙ ap (λ (v : CacheView). v.store.searched) m)
 moved_by old mid next at m (inr (cleared, same)) =
-    inr (λ nothing. cleared (omega (arith, nothing.0, first), omega (arith, nothing.1, first)),
-    same ∙ ap (λ (v : CacheView). progress_cleared v.store.searched) m) where
-  first : mid.store.clears ≡ old.store.clears
-  first = ap (λ (v : CacheView). v.store.clears) m
+    inr (
+      λ nothing. cleared (omega (arith, nothing.0, first), omega (arith, nothing.1, first)),
+      same ∙ ap (λ (v : CacheView). progress_cleared v.store.searched) m,
+    ) where
+      first : mid.store.clears ≡ old.store.clears
+      first = ap (λ (v : CacheView). v.store.clears) m
 
 -- it had moved and made a step, and ended there
 pub ended_after :
@@ -132,9 +140,11 @@ pub ended_after :
     → IsEndedBy at old.store new.store
 ended_after old next new at (inl same) e =
     (next.store.searched, inl same, ap (λ (v : CacheView). v.store.searched) e)
-ended_after old next new at (inr (cleared, same)) e =
-    (next.store.searched,
-    inr (λ nothing. cleared (omega (arith, nothing.0, last), nothing.1), same), ap (λ (v : CacheView). v.store.searched) e) where
+ended_after old next new at (inr (cleared, same)) e = (
+  next.store.searched,
+  inr (λ nothing. cleared (omega (arith, nothing.0, last), nothing.1), same),
+  ap (λ (v : CacheView). v.store.searched) e,
+) where
   last : new.store.clears ≡ next.store.clears
   last = ap (λ (v : CacheView). v.store.clears) e
 
@@ -150,17 +160,16 @@ module _ (way : Direction) (m : Machine) (input : Input) (s : Searched) (old mid
   pub last_here :
       IsEndedBy at mid.store new.store → (Reads way m input (suc k) → ⊥) ⊎ IsQuitUnit m u
       → EndsAtLast way m input s old.store new.store
-  last_here ended stops =
-      (
-        k,
-        record {
-          reads = inr (at_reads way m mid.store.table input k id found stands few alive);
-          clean = stands.clean;
-          stops = subst (λ v. (Reads way m input (suc k) → ⊥) ⊎ IsQuitUnit m v) (sym unit) stops;
-        },
-        subst (λ a. IsEndedAt input s (given_up_offset way input 0) a old.store new.store) (sym place)
-            (ends_open input s (given_up_offset way input 0) old mid new before after x at low high o ended),
-      )
+  last_here ended stops = (
+    k,
+    record {
+      reads = inr (at_reads way m mid.store.table input k id found stands few alive);
+      clean = stands.clean;
+      stops = subst (λ v. (Reads way m input (suc k) → ⊥) ⊎ IsQuitUnit m v) (sym unit) stops;
+    },
+    subst (λ a. IsEndedAt input s (given_up_offset way input 0) a old.store new.store) (sym place)
+        (ends_open input s (given_up_offset way input 0) old mid new before after x at low high o ended),
+  )
 
   -- which is refused
   pub left_here :
@@ -186,10 +195,11 @@ started_cleared s first = go s.running where
   go None = refl
   go (Some p) =
       ap begin none where
-    none : 0 + ((p.place - p.place) + (p.place - p.place)) ≡ 0
-    none = omega arith
-    begin : ℕ → Searched
-    begin n = record { bytes = saturated n; running = Some (record { start = first; place = first }) }
+        none : 0 + ((p.place - p.place) + (p.place - p.place)) ≡ 0
+        none = omega arith
+
+        begin : ℕ → Searched
+        begin n = record { bytes = saturated n; running = Some (record { start = first; place = first }) }
 
 -- a pass asked for its start, and then began
 module _ (way : Direction) (m : Machine) (input : Input) (low : input.start ≤ given_up_offset way input 0)
@@ -205,21 +215,26 @@ module _ (way : Direction) (m : Machine) (input : Input) (low : input.start ≤ 
       → CountsFrom input begun.store.searched (given_up_offset way input 0) mid.store new.store beside from
       → (b : Searched) × (f : ℕ) × CountsFrom input old.store.searched (given_up_offset way input 0) old.store new.store b f
       × (started beside from ≡ started b f)
-  recount beside from (inr c) =
-      (beside, from,
-      inr (λ nothing. c.0 (nothing_second old mid new (grown_trans old begun mid starts moved) after nothing), c.1, c.2, c.3), refl)
+  recount beside from (inr c) = (
+    beside,
+    from,
+    inr (λ nothing. c.0 (nothing_second old mid new (grown_trans old begun mid starts moved) after nothing), c.1, c.2, c.3),
+    refl,
+  )
   recount beside from (inl c) = go kept where
     go :
         KeepsProgress old.store begun.store
         → (b : Searched) × (f : ℕ) × CountsFrom input old.store.searched (given_up_offset way input 0) old.store new.store b f
         × (started beside from ≡ started b f)
     go (inl same) = (beside, from, inl (c.0 ∙ same, c.1), refl)
-    go (inr (cleared, same)) =
-        (none_searched, given_up_offset way input 0,
-        inr (λ nothing. cleared (nothing_first old begun new starts (grown_trans begun mid new moved after) nothing), refl, low, high),
-        (λ i. started (c.0 i) (c.1 i))
-        ∙ (ap (λ (s : Searched). started s (given_up_offset way input 0)) same
-        ∙ started_cleared old.store.searched (given_up_offset way input 0)))
+    go (inr (cleared, same)) = (
+      none_searched,
+      given_up_offset way input 0,
+      inr (λ nothing. cleared (nothing_first old begun new starts (grown_trans begun mid new moved after) nothing), refl, low, high),
+      (λ i. started (c.0 i) (c.1 i))
+          ∙ (ap (λ (s : Searched). started s (given_up_offset way input 0)) same
+          ∙ started_cleared old.store.searched (given_up_offset way input 0)),
+    )
 
   pub pass_ends :
       EndsAtLast way m input begun.store.searched mid.store new.store
@@ -250,8 +265,12 @@ module _ (way : Direction) (m : Machine) (input : Input) (low : input.start ≤ 
       pass_ends (
         0,
         record { reads = inl refl; clean = λ j byte l. absurd (omega (arith, l)); stops = inl (none 1 (omega arith)) },
-        (begun.store.searched, given_up_offset way input 0, inl (refl, refl),
-        e ∙ ap (λ (v : CacheView). finished v.store.searched (given_up_offset way input 0)) begins),
+        (
+          begun.store.searched,
+          given_up_offset way input 0,
+          inl (refl, refl),
+          e ∙ ap (λ (v : CacheView). finished v.store.searched (given_up_offset way input 0)) begins,
+        ),
       )
 
 -- the spans before one that a search tries
@@ -272,6 +291,7 @@ cleared_twice : (s : Searched) → progress_cleared (progress_cleared s) ≡ pro
 cleared_twice s = go s.running where
   clears : Option Progress → Searched
   clears r = record { bytes = 0; running = from_place r }
+
   go : (r : Option Progress) → progress_cleared (clears r) ≡ clears r
   go None = refl
   go (Some p) = refl
@@ -286,8 +306,10 @@ kept_twice old mid new f g (inl a) (inr (cleared, b)) =
 kept_twice old mid new f g (inr (cleared, a)) (inl b) =
     inr (λ nothing. cleared (nothing_first old mid new f g nothing), b ∙ a)
 kept_twice old mid new f g (inr (cleared, a)) (inr (after, b)) =
-    inr (λ nothing. cleared (nothing_first old mid new f g nothing),
-    b ∙ (ap (λ (s : Searched). progress_cleared s) a ∙ cleared_twice old.store.searched))
+    inr (
+      λ nothing. cleared (nothing_first old mid new f g nothing),
+      b ∙ (ap (λ (s : Searched). progress_cleared s) a ∙ cleared_twice old.store.searched),
+    )
 
 -- an open pass ended at an offset, and what came after it moved no progress
 module _ (input : Input) (s : Searched) (first : ℕ) (old mid ended new : CacheView) (before : IsGrown old mid) (at x : ℕ)
@@ -297,6 +319,7 @@ module _ (input : Input) (s : Searched) (first : ℕ) (old mid ended new : Cache
   finished_none = ap done none where
     none : 0 + ((at - at) + (at - at)) ≡ 0
     none = omega arith
+
     done : ℕ → Searched
     done n = record { bytes = saturated n; running = None }
 
@@ -304,18 +327,25 @@ module _ (input : Input) (s : Searched) (first : ℕ) (old mid ended new : Cache
   ends_kept kept = go kept o where
     same : ended.store.searched ≡ finished mid.store.searched at
     same = ap (λ (v : CacheView). v.store.searched) ends
+
     moved : IsGrown mid ended
     moved = grown_moved mid ended ends
+
     go :
         KeepsProgress ended.store new.store → IsOpenAt input s first x old.store mid.store
         → IsEndedAt input s first at old.store new.store
-    go (inl e) (b, from, counts, under) =
-        (b, from, still input s first old mid new before (grown_trans mid ended new moved after) counts,
-        e ∙ (same ∙ ap (λ (v : Searched). finished v at) under))
-    go (inr (cleared, e)) (b, from, counts, under) =
-        (none_searched, at,
-        inr (λ nothing. cleared (nothing_second old ended new (grown_trans old mid ended before moved) after nothing), refl, low, high),
-        e ∙ (ap (λ (v : Searched). progress_cleared v) same ∙ sym finished_none))
+    go (inl e) (b, from, counts, under) = (
+      b,
+      from,
+      still input s first old mid new before (grown_trans mid ended new moved after) counts,
+      e ∙ (same ∙ ap (λ (v : Searched). finished v at) under),
+    )
+    go (inr (cleared, e)) (b, from, counts, under) = (
+      none_searched,
+      at,
+      inr (λ nothing. cleared (nothing_second old ended new (grown_trans old mid ended before moved) after nothing), refl, low, high),
+      e ∙ (ap (λ (v : Searched). progress_cleared v) same ∙ sym finished_none),
+    )
 
 -- a pass back ended before its last step, which moved no progress
 pub last_kept :
@@ -328,17 +358,16 @@ pub last_kept :
     → ((q : Powerset) → Names ended.store.table id q → q ≡ dead → ⊥)
     → given_up_offset way input k ≡ at → (Reads way m input (suc k) → ⊥)
     → KeepsProgress ended.store new.store → EndsAtLast way m input s old.store new.store
-last_kept way m input s old mid ended new k id at x found before ends after low high o stands few alive place stops kept =
-    (
-      k,
-      record {
-        reads = inr (at_reads way m ended.store.table input k id found stands few alive);
-        clean = stands.clean;
-        stops = inl stops;
-      },
-      subst (λ a. IsEndedAt input s (given_up_offset way input 0) a old.store new.store) (sym place)
-          (ends_kept input s (given_up_offset way input 0) old mid ended new before at x ends after low high o kept),
-    )
+last_kept way m input s old mid ended new k id at x found before ends after low high o stands few alive place stops kept = (
+  k,
+  record {
+    reads = inr (at_reads way m ended.store.table input k id found stands few alive);
+    clean = stands.clean;
+    stops = inl stops;
+  },
+  subst (λ a. IsEndedAt input s (given_up_offset way input 0) a old.store new.store) (sym place)
+      (ends_kept input s (given_up_offset way input 0) old mid ended new before at x ends after low high o kept),
+)
 
 -- what holds in any case
 pub on_ok : {A E P : Type 0} (r : Result A E) → P → OnOk r P

@@ -138,9 +138,11 @@ loop-at-preserved c =
       within = omega (arith, inside);
       at = subst (λ n. IsAt Forward c.args.self.now c.read.new.cache.store.table c.args.input.now n c.in_ok-next.next c.found_at-found.result) more (more_at Forward c.args.self.now c.loop-at.cache.store.table c.read.new.cache.store.table c.args.input.now k c.run_fwd-run.result.id c.in_ok-next.next _ c.run_fwd-run.result.found c.found_at-found.result at read c.in_ok-next.ensures.named (λ byte e. subst (λ v. is_quit c.args.self.now.quits v ≡ false) (some_inj e) c.in_ok-next.ensures.clean) (c.run_fwd-run.result.at, place, c.found_at-found.ensures) first (λ l. (c.in_ok-next.ensures.dead _ l).1 (λ b. false_true (c.if-is_dead.ensures.1 b))));
       progress = λ s e.
-          (let underway : (x : ℕ) × IsOpenAt c.args.input.now s (given_up_offset Forward c.args.input.now 0) x c.args.cache.now.store c.loop-at.cache.store = c.loop-at.invariant.progress s e in
-          (c.run_fwd-run.result.at, stays_open c.args.input.now s (given_up_offset Forward c.args.input.now 0) c.args.cache.now c.loop-at.cache c.read.new.cache c.loop-at.invariant.grown c.in_ok-next.ensures.grown
-          underway.0 c.run_fwd-run.result.at from (omega (arith, inside)) underway.1 c.in_ok-next.ensures.moved));
+          (let underway : (x : ℕ) × IsOpenAt c.args.input.now s (given_up_offset Forward c.args.input.now 0) x c.args.cache.now.store c.loop-at.cache.store = c.loop-at.invariant.progress s e in (
+            c.run_fwd-run.result.at,
+            stays_open c.args.input.now s (given_up_offset Forward c.args.input.now 0) c.args.cache.now c.loop-at.cache c.read.new.cache c.loop-at.invariant.grown c.in_ok-next.ensures.grown
+                underway.0 c.run_fwd-run.result.at from (omega (arith, inside)) underway.1 c.in_ok-next.ensures.moved,
+          ));
     }
 
 pub returns-then-is_dead-clause-grown : goal.returns-then-is_dead-clause-grown

@@ -1,4 +1,4 @@
-use Rattle.std.proofs.Common.{ℕ, suc, ◌≡◌, ◌∙◌, ◌+◌, ◌-◌, ◌<◌, ◌≤◌, ◌⊎◌, inl, true, length, Some, None, refl, sym, subst, arith}
+use Rattle.std.proofs.Common.{ℕ, suc, ◌≡◌, ◌∙◌, ◌-◌, ◌<◌, ◌≤◌, ◌⊎◌, inl, true, length, Some, None, refl, sym, subst, arith}
 use Rattle.automata_base.specs.Paths.{next}
 use Rattle.automata_base.specs.Tapes.{Backward}
 use Rattle.automata_hybrid.specs.Growing.{IsGrown, ClearedNothing}
@@ -143,9 +143,11 @@ loop-at-preserved c =
           at read c.in_ok-id.ensures.named (quit_free c.args.self.now _ c.in_ok-id.ensures.clean)
           (c.run_rev-run.result.at, span_place c.args.input.now c.run_rev-run.result.at above below, c.found_at-found.ensures) first (λ l. (c.in_ok-id.ensures.dead _ l).1 (λ b. false_true (c.if-is_dead.ensures.1 b))));
       progress = λ s e.
-          (let underway : (x : ℕ) × IsOpenAt c.args.input.now s (given_up_offset Backward c.args.input.now 0) x c.args.cache.now.store c.loop-at.cache.store = c.loop-at.invariant.progress s e in
-          (c.run_rev-run.result.at - 1, stays_open c.args.input.now s (given_up_offset Backward c.args.input.now 0) c.args.cache.now c.loop-at.cache c.read.new.cache c.loop-at.invariant.grown c.in_ok-id.ensures.grown
-          underway.0 (c.run_rev-run.result.at - 1) (omega (arith, above)) (omega (arith, below)) underway.1 c.in_ok-id.ensures.moved));
+          (let underway : (x : ℕ) × IsOpenAt c.args.input.now s (given_up_offset Backward c.args.input.now 0) x c.args.cache.now.store c.loop-at.cache.store = c.loop-at.invariant.progress s e in (
+            c.run_rev-run.result.at - 1,
+            stays_open c.args.input.now s (given_up_offset Backward c.args.input.now 0) c.args.cache.now c.loop-at.cache c.read.new.cache c.loop-at.invariant.grown c.in_ok-id.ensures.grown
+                underway.0 (c.run_rev-run.result.at - 1) (omega (arith, above)) (omega (arith, below)) underway.1 c.in_ok-id.ensures.moved,
+          ));
     }
 
 pub returns-then-is_dead-clause-grown : goal.returns-then-is_dead-clause-grown

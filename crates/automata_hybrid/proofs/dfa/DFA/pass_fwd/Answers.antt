@@ -1,4 +1,4 @@
-use Rattle.std.proofs.Common.{◌≡◌, ◌∙◌, ◌-◌, ap, None, refl, sym, subst, ◌≤◌, ◌+◌, inl, inr, arith, ⊎_elim}
+use Rattle.std.proofs.Common.{◌≡◌, ◌∙◌, ◌-◌, ap, None, refl, sym, subst, ◌≤◌, inl, inr, arith, ⊎_elim}
 use Rattle.automata_base.specs.Powerset.{dead}
 use Rattle.automata_base.specs.Tapes.{Forward, byte_before}
 use Rattle.std.specs.Prelude.{IfErr}
@@ -110,9 +110,12 @@ returns-then-is_dead-clause-ended c =
     let leads : Leads c.start_state_forward.new.cache.store.table c.in_ok-start.start (state_in Forward c.args.self.now c.args.input.now 0) = subst (Leads c.start_state_forward.new.cache.store.table c.in_ok-start.start) (state_first Forward c.args.self.now c.args.input.now) c.in_ok-start.ensures.answer.named in
     let dies : state_in Forward c.args.self.now c.args.input.now 0 ≡ dead = (dead_tagged c.start_state_forward.new.cache.store.table c.in_ok-start.start (c.see_ids.ensures.low c.in_ok-start.start) c.see_ids.ensures.small _ leads).0 (c.if-is_dead.ensures.0 refl) in
     let last : c.start-then-is_dead.result ≡ given_up_offset Forward c.args.input.now 0 = omega (arith, c.start-then-is_dead.ensures.start) in
-    inr (λ none. none, pass_dies Forward c.args.self.now c.args.input.now low high c.args.cache.now c.start_state_forward.new.cache c.search_start.new.self c.end_search.new.self c.in_ok-start.ensures.effect.grown c.in_ok-start.ensures.effect.progress begins
-    (grown_moved c.search_start.new.self c.end_search.new.self c.end_search.ensures.value) (stops_start Forward c.args.self.now c.args.input.now dies)
-    (subst (λ at. c.end_search.new.self.store.searched ≡ finished c.search_start.new.self.store.searched at) last (ap (λ (v : CacheView). v.store.searched) c.end_search.ensures.value)))
+    inr (
+      λ none. none,
+      pass_dies Forward c.args.self.now c.args.input.now low high c.args.cache.now c.start_state_forward.new.cache c.search_start.new.self c.end_search.new.self c.in_ok-start.ensures.effect.grown c.in_ok-start.ensures.effect.progress begins
+          (grown_moved c.search_start.new.self c.end_search.new.self c.end_search.ensures.value) (stops_start Forward c.args.self.now c.args.input.now dies)
+          (subst (λ at. c.end_search.new.self.store.searched ≡ finished c.search_start.new.self.store.searched at) last (ap (λ (v : CacheView). v.store.searched) c.end_search.ensures.value)),
+    )
 
 pub returns-clause-ended : goal.returns-clause-ended
 returns-clause-ended c =
@@ -121,8 +124,11 @@ returns-clause-ended c =
     subst (λ at. c.search_start.new.self ≡ with_store c.start_state_forward.new.cache (with_searched c.start_state_forward.new.cache.store (started c.start_state_forward.new.cache.store.searched at))) first c.search_start.ensures.value in
     let low : c.args.input.now.start ≤ given_up_offset Forward c.args.input.now 0 = omega arith in
     let high : given_up_offset Forward c.args.input.now 0 ≤ c.args.input.now.end = omega (arith, c.requires.open) in
-    inr (λ none. none, pass_ends Forward c.args.self.now c.args.input.now low high c.args.cache.now c.start_state_forward.new.cache c.search_start.new.self c.find_fwd.new.cache c.in_ok-start.ensures.effect.grown c.in_ok-start.ensures.effect.progress begins c.in_ok-found.ensures.grown
-    (c.in_ok-found.ensures.ended c.start_state_forward.new.cache.store.searched (ap (λ (v : CacheView). v.store.searched) begins)))
+    inr (
+      λ none. none,
+      pass_ends Forward c.args.self.now c.args.input.now low high c.args.cache.now c.start_state_forward.new.cache c.search_start.new.self c.find_fwd.new.cache c.in_ok-start.ensures.effect.grown c.in_ok-start.ensures.effect.progress begins c.in_ok-found.ensures.grown
+          (c.in_ok-found.ensures.ended c.start_state_forward.new.cache.store.searched (ap (λ (v : CacheView). v.store.searched) begins)),
+    )
 
 pub returns-in_err-found-clause-left : goal.returns-in_err-found-clause-left
 returns-in_err-found-clause-left c =

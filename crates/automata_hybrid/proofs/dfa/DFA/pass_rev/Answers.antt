@@ -1,4 +1,4 @@
-use Rattle.std.proofs.Common.{◌≡◌, ◌∙◌, ap, ◌-◌, None, refl, sym, subst, arith, ◌≤◌, ◌+◌, inl, inr, ⊎_elim}
+use Rattle.std.proofs.Common.{◌≡◌, ◌∙◌, ap, ◌-◌, None, refl, sym, subst, arith, ◌≤◌, inl, inr, ⊎_elim}
 use Rattle.automata_base.specs.Lists.{nth}
 use Rattle.automata_base.specs.Powerset.{dead}
 use Rattle.automata_base.specs.Tapes.{Backward}
@@ -154,14 +154,18 @@ returns-then-is_dead-clause-ended c =
 pub returns-then-start-end-clause-ended : goal.returns-then-start-end-clause-ended
 returns-then-start-end-clause-ended c =
     on_ok c.find_end_rev.result
-    (inl (omega (arith, c.if-start-end.true, c.start.ensures.start, c.end.ensures.end),
-    kept_twice c.args.cache.now c.start_state_reverse.new.cache c.find_end_rev.new.cache c.in_ok-start.ensures.effect.grown c.find_end_rev.ensures.grown c.in_ok-start.ensures.effect.progress c.find_end_rev.ensures.progress))
+    (inl (
+      omega (arith, c.if-start-end.true, c.start.ensures.start, c.end.ensures.end),
+      kept_twice c.args.cache.now c.start_state_reverse.new.cache c.find_end_rev.new.cache c.in_ok-start.ensures.effect.grown c.find_end_rev.ensures.grown c.in_ok-start.ensures.effect.progress c.find_end_rev.ensures.progress,
+    ))
 
 pub returns-then-start-end-clause-left : goal.returns-then-start-end-clause-left
 returns-then-start-end-clause-left c =
     on_err c.find_end_rev.result (IsLeft Backward c.args.self.now c.args.input.now c.args.cache.now.store c.find_end_rev.new.cache.store)
-    (λ error. inr (inl (inl (omega (arith, c.if-start-end.true, c.start.ensures.start, c.end.ensures.end),
-    kept_twice c.args.cache.now c.start_state_reverse.new.cache c.find_end_rev.new.cache c.in_ok-start.ensures.effect.grown c.find_end_rev.ensures.grown c.in_ok-start.ensures.effect.progress c.find_end_rev.ensures.progress))))
+    (λ error. inr (inl (inl (
+      omega (arith, c.if-start-end.true, c.start.ensures.start, c.end.ensures.end),
+      kept_twice c.args.cache.now c.start_state_reverse.new.cache c.find_end_rev.new.cache c.in_ok-start.ensures.effect.grown c.find_end_rev.ensures.grown c.in_ok-start.ensures.effect.progress c.find_end_rev.ensures.progress,
+    ))))
 
 pub returns-then-is_dead-2-clause-ended : goal.returns-then-is_dead-2-clause-ended
 returns-then-is_dead-2-clause-ended c =
@@ -173,9 +177,12 @@ returns-then-is_dead-2-clause-ended c =
     let high : given_up_offset Backward c.args.input.now 0 ≤ c.args.input.now.end = omega (arith, c.requires.open) in
     let dies : state_in Backward c.args.self.now c.args.input.now 0 ≡ dead = begins_dead c.args.self.now c.start_state_reverse.new.cache.store.table c.args.input.now c.in_ok-start.start c.in_ok-start.ensures.answer.named (c.see_ids.ensures.low c.in_ok-start.start) c.see_ids.ensures.small (c.if-is_dead-2.ensures.0 refl) in
     let last : c.end-then-is_dead-2.result - 1 ≡ given_up_offset Backward c.args.input.now 0 = omega (arith, c.end-then-is_dead-2.ensures.end, c.requires.open, c.if-start-end.false, c.start.ensures.start, c.end.ensures.end) in
-    inr (apart, pass_dies Backward c.args.self.now c.args.input.now low high c.args.cache.now c.start_state_reverse.new.cache c.search_start.new.self c.end_search.new.self c.in_ok-start.ensures.effect.grown c.in_ok-start.ensures.effect.progress begins
-    (grown_moved c.search_start.new.self c.end_search.new.self c.end_search.ensures.value) (stops_start Backward c.args.self.now c.args.input.now dies)
-    (subst (λ at. c.end_search.new.self.store.searched ≡ finished c.search_start.new.self.store.searched at) last (ap (λ (v : CacheView). v.store.searched) c.end_search.ensures.value)))
+    inr (
+      apart,
+      pass_dies Backward c.args.self.now c.args.input.now low high c.args.cache.now c.start_state_reverse.new.cache c.search_start.new.self c.end_search.new.self c.in_ok-start.ensures.effect.grown c.in_ok-start.ensures.effect.progress begins
+          (grown_moved c.search_start.new.self c.end_search.new.self c.end_search.ensures.value) (stops_start Backward c.args.self.now c.args.input.now dies)
+          (subst (λ at. c.end_search.new.self.store.searched ≡ finished c.search_start.new.self.store.searched at) last (ap (λ (v : CacheView). v.store.searched) c.end_search.ensures.value)),
+    )
 
 pub returns-clause-ended : goal.returns-clause-ended
 returns-clause-ended c =
@@ -185,8 +192,11 @@ returns-clause-ended c =
     subst (λ at. c.search_start.new.self ≡ with_store c.start_state_reverse.new.cache (with_searched c.start_state_reverse.new.cache.store (started c.start_state_reverse.new.cache.store.searched at))) first c.search_start.ensures.value in
     let low : c.args.input.now.start ≤ given_up_offset Backward c.args.input.now 0 = omega arith in
     let high : given_up_offset Backward c.args.input.now 0 ≤ c.args.input.now.end = omega (arith, c.requires.open) in
-    inr (apart, pass_ends Backward c.args.self.now c.args.input.now low high c.args.cache.now c.start_state_reverse.new.cache c.search_start.new.self c.find_rev.new.cache c.in_ok-start.ensures.effect.grown c.in_ok-start.ensures.effect.progress begins c.in_ok-found.ensures.grown
-    (c.in_ok-found.ensures.ended c.start_state_reverse.new.cache.store.searched (ap (λ (v : CacheView). v.store.searched) begins)))
+    inr (
+      apart,
+      pass_ends Backward c.args.self.now c.args.input.now low high c.args.cache.now c.start_state_reverse.new.cache c.search_start.new.self c.find_rev.new.cache c.in_ok-start.ensures.effect.grown c.in_ok-start.ensures.effect.progress begins c.in_ok-found.ensures.grown
+          (c.in_ok-found.ensures.ended c.start_state_reverse.new.cache.store.searched (ap (λ (v : CacheView). v.store.searched) begins)),
+    )
 
 pub returns-in_err-found-clause-left : goal.returns-in_err-found-clause-left
 returns-in_err-found-clause-left c =

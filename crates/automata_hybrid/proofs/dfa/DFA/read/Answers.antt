@@ -51,8 +51,12 @@ returns-in_err-next-clause-errors c =
 pub returns-then-is_quit-clause-left : goal.returns-then-is_quit-clause-left
 returns-then-is_quit-clause-left c =
     inl (
-      (_, refl, quits c.args.self.now c.move_search.new.self.store.table c.step.new.cache.store.table c.args.id c.in_ok-next.next c.args.byte c.requires.valid.0
-          c.see_ids-2.ensures.small (λ p. c.see_ids-2.ensures.low c.in_ok-next.next p) (c.if-is_quit.ensures.0 refl) c.in_ok-next.ensures.named
-          (subst (λ (t : Rows). Names t c.args.id c.requires.valid.0) (sym c.move_search.ensures.table) c.requires.valid.1)),
+      (
+        _,
+        refl,
+        quits c.args.self.now c.move_search.new.self.store.table c.step.new.cache.store.table c.args.id c.in_ok-next.next c.args.byte c.requires.valid.0
+            c.see_ids-2.ensures.small (λ p. c.see_ids-2.ensures.low c.in_ok-next.next p) (c.if-is_quit.ensures.0 refl) c.in_ok-next.ensures.named
+            (subst (λ (t : Rows). Names t c.args.id c.requires.valid.0) (sym c.move_search.ensures.table) c.requires.valid.1),
+      ),
       ended_by c.args.cache.now c.move_search.new.self c.step.new.cache c.end_search.new.self c.args.at c.move_search.ensures.value c.in_ok-next.ensures.progress c.end_search.ensures.value,
     )

@@ -308,9 +308,11 @@ returns-in_default-clause-ended c =
     let same : c.loop-later.later ≡ later Forward k c.args.input.now = c.loop-later.invariant.same ∙ ap (λ (s : ℕ). record c.args.input.now { start = s }) place in
     let end : c.loop-later.later.end ≡ c.args.input.now.end = ap (λ (i : Input). i.end) c.loop-later.invariant.same in
     let ahead : c.loop-later.later.start ≤ c.loop-later.later.end = grind (arith, common_steps, c.loop-later-test.ensures.done) in
-    let within : c.args.input.now.start + k ≤ c.args.input.now.end = omega (arith, ahead, end, place) in
-    (suc k, spans_tried Forward c.args.self.now c.args.input.now k c.loop-later.invariant.tries within,
-    (c.loop-later.cache.store, c.loop-later.invariant.progress, subst (λ i. HasEnded Forward c.args.self.now i c.loop-later.cache.store c.pass_fwd.new.cache.store) same c.in_ok-half.ensures.ended))
+    let within : c.args.input.now.start + k ≤ c.args.input.now.end = omega (arith, ahead, end, place) in (
+      suc k,
+      spans_tried Forward c.args.self.now c.args.input.now k c.loop-later.invariant.tries within,
+      (c.loop-later.cache.store, c.loop-later.invariant.progress, subst (λ i. HasEnded Forward c.args.self.now i c.loop-later.cache.store c.pass_fwd.new.cache.store) same c.in_ok-half.ensures.ended),
+    )
 
 pub returns-then-not-skips_at-clause-ended : goal.returns-then-not-skips_at-clause-ended
 returns-then-not-skips_at-clause-ended c =
@@ -319,9 +321,11 @@ returns-then-not-skips_at-clause-ended c =
     let same : c.loop-later.later ≡ later Forward k c.args.input.now = c.loop-later.invariant.same ∙ ap (λ (s : ℕ). record c.args.input.now { start = s }) place in
     let end : c.loop-later.later.end ≡ c.args.input.now.end = ap (λ (i : Input). i.end) c.loop-later.invariant.same in
     let ahead : c.loop-later.later.start ≤ c.loop-later.later.end = grind (arith, common_steps, c.loop-later-test.ensures.done) in
-    let within : c.args.input.now.start + k ≤ c.args.input.now.end = omega (arith, ahead, end, place) in
-    (suc k, spans_tried Forward c.args.self.now c.args.input.now k c.loop-later.invariant.tries within,
-    (c.loop-later.cache.store, c.loop-later.invariant.progress, subst (λ i. HasEnded Forward c.args.self.now i c.loop-later.cache.store c.pass_fwd.new.cache.store) same c.in_ok-half.ensures.ended))
+    let within : c.args.input.now.start + k ≤ c.args.input.now.end = omega (arith, ahead, end, place) in (
+      suc k,
+      spans_tried Forward c.args.self.now c.args.input.now k c.loop-later.invariant.tries within,
+      (c.loop-later.cache.store, c.loop-later.invariant.progress, subst (λ i. HasEnded Forward c.args.self.now i c.loop-later.cache.store c.pass_fwd.new.cache.store) same c.in_ok-half.ensures.ended),
+    )
 
 pub returns-then-is_anchored-clause-ended : goal.returns-then-is_anchored-clause-ended
 returns-then-is_anchored-clause-ended c =
@@ -330,9 +334,11 @@ returns-then-is_anchored-clause-ended c =
     let same : c.loop-later.later ≡ later Forward k c.args.input.now = c.loop-later.invariant.same ∙ ap (λ (s : ℕ). record c.args.input.now { start = s }) place in
     let end : c.loop-later.later.end ≡ c.args.input.now.end = ap (λ (i : Input). i.end) c.loop-later.invariant.same in
     let ahead : c.loop-later.later.start ≤ c.loop-later.later.end = grind (arith, common_steps, c.loop-later-test.ensures.done) in
-    let within : c.args.input.now.start + k ≤ c.args.input.now.end = omega (arith, ahead, end, place) in
-    (suc k, spans_tried Forward c.args.self.now c.args.input.now k c.loop-later.invariant.tries within,
-    (c.loop-later.cache.store, c.loop-later.invariant.progress, subst (λ i. HasEnded Forward c.args.self.now i c.loop-later.cache.store c.pass_fwd.new.cache.store) same c.in_ok-half.ensures.ended))
+    let within : c.args.input.now.start + k ≤ c.args.input.now.end = omega (arith, ahead, end, place) in (
+      suc k,
+      spans_tried Forward c.args.self.now c.args.input.now k c.loop-later.invariant.tries within,
+      (c.loop-later.cache.store, c.loop-later.invariant.progress, subst (λ i. HasEnded Forward c.args.self.now i c.loop-later.cache.store c.pass_fwd.new.cache.store) same c.in_ok-half.ensures.ended),
+    )
 
 pub returns-in_err-half-clause-left : goal.returns-in_err-half-clause-left
 returns-in_err-half-clause-left c =
@@ -342,9 +348,13 @@ returns-in_err-half-clause-left c =
     let end : c.loop-later.later.end ≡ c.args.input.now.end = ap (λ (i : Input). i.end) c.loop-later.invariant.same in
     let ahead : c.loop-later.later.start ≤ c.loop-later.later.end = grind (arith, common_steps, c.loop-later-test.ensures.done) in
     let within : c.args.input.now.start + k ≤ c.args.input.now.end = omega (arith, ahead, end, place) in
-    if_err c.from_residual.result _ _ c.from_residual.ensures.1
-    (k, c.loop-later.cache.store, spans_tried Forward c.args.self.now c.args.input.now k c.loop-later.invariant.tries within, c.loop-later.invariant.progress,
-    subst (λ i. IsLeft Forward c.args.self.now i c.loop-later.cache.store c.pass_fwd.new.cache.store c.in_err-half.field-0.0) same c.in_err-half.ensures.left)
+    if_err c.from_residual.result _ _ c.from_residual.ensures.1 (
+      k,
+      c.loop-later.cache.store,
+      spans_tried Forward c.args.self.now c.args.input.now k c.loop-later.invariant.tries within,
+      c.loop-later.invariant.progress,
+      subst (λ i. IsLeft Forward c.args.self.now i c.loop-later.cache.store c.pass_fwd.new.cache.store c.in_err-half.field-0.0) same c.in_err-half.ensures.left,
+    )
 
 pub returns-clause-ended : goal.returns-clause-ended
 returns-clause-ended c =

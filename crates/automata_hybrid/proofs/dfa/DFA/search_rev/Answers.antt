@@ -342,36 +342,44 @@ returns-in_default-clause-ended c =
     let k : ℕ = c.args.input.now.end - c.loop-later.later.end in
     let ahead : c.loop-later.later.start ≤ c.loop-later.later.end = grind (arith, common_steps, c.loop-later-test.ensures.done) in
     let same : c.loop-later.later ≡ later Backward k c.args.input.now = ended c.args.input.now c.loop-later.later c.loop-later.invariant.same c.loop-later.invariant.to ahead in
-    let within : c.args.input.now.start + k ≤ c.args.input.now.end = ended_within c.args.input.now c.loop-later.later c.loop-later.invariant.same c.loop-later.invariant.to ahead in
-    (suc k, spans_tried Backward c.args.self.now c.args.input.now k c.loop-later.invariant.tries within,
-    (c.loop-later.cache.store, c.loop-later.invariant.progress, subst (λ i. HasEnded Backward c.args.self.now i c.loop-later.cache.store c.pass_rev.new.cache.store) same c.in_ok-half.ensures.ended))
+    let within : c.args.input.now.start + k ≤ c.args.input.now.end = ended_within c.args.input.now c.loop-later.later c.loop-later.invariant.same c.loop-later.invariant.to ahead in (
+      suc k,
+      spans_tried Backward c.args.self.now c.args.input.now k c.loop-later.invariant.tries within,
+      (c.loop-later.cache.store, c.loop-later.invariant.progress, subst (λ i. HasEnded Backward c.args.self.now i c.loop-later.cache.store c.pass_rev.new.cache.store) same c.in_ok-half.ensures.ended),
+    )
 
 pub returns-then-not-skips_at-clause-ended : goal.returns-then-not-skips_at-clause-ended
 returns-then-not-skips_at-clause-ended c =
     let k : ℕ = c.args.input.now.end - c.loop-later.later.end in
     let ahead : c.loop-later.later.start ≤ c.loop-later.later.end = grind (arith, common_steps, c.loop-later-test.ensures.done) in
     let same : c.loop-later.later ≡ later Backward k c.args.input.now = ended c.args.input.now c.loop-later.later c.loop-later.invariant.same c.loop-later.invariant.to ahead in
-    let within : c.args.input.now.start + k ≤ c.args.input.now.end = ended_within c.args.input.now c.loop-later.later c.loop-later.invariant.same c.loop-later.invariant.to ahead in
-    (suc k, spans_tried Backward c.args.self.now c.args.input.now k c.loop-later.invariant.tries within,
-    (c.loop-later.cache.store, c.loop-later.invariant.progress, subst (λ i. HasEnded Backward c.args.self.now i c.loop-later.cache.store c.pass_rev.new.cache.store) same c.in_ok-half.ensures.ended))
+    let within : c.args.input.now.start + k ≤ c.args.input.now.end = ended_within c.args.input.now c.loop-later.later c.loop-later.invariant.same c.loop-later.invariant.to ahead in (
+      suc k,
+      spans_tried Backward c.args.self.now c.args.input.now k c.loop-later.invariant.tries within,
+      (c.loop-later.cache.store, c.loop-later.invariant.progress, subst (λ i. HasEnded Backward c.args.self.now i c.loop-later.cache.store c.pass_rev.new.cache.store) same c.in_ok-half.ensures.ended),
+    )
 
 pub returns-then-is_anchored-clause-ended : goal.returns-then-is_anchored-clause-ended
 returns-then-is_anchored-clause-ended c =
     let k : ℕ = c.args.input.now.end - c.loop-later.later.end in
     let ahead : c.loop-later.later.start ≤ c.loop-later.later.end = grind (arith, common_steps, c.loop-later-test.ensures.done) in
     let same : c.loop-later.later ≡ later Backward k c.args.input.now = ended c.args.input.now c.loop-later.later c.loop-later.invariant.same c.loop-later.invariant.to ahead in
-    let within : c.args.input.now.start + k ≤ c.args.input.now.end = ended_within c.args.input.now c.loop-later.later c.loop-later.invariant.same c.loop-later.invariant.to ahead in
-    (suc k, spans_tried Backward c.args.self.now c.args.input.now k c.loop-later.invariant.tries within,
-    (c.loop-later.cache.store, c.loop-later.invariant.progress, subst (λ i. HasEnded Backward c.args.self.now i c.loop-later.cache.store c.pass_rev.new.cache.store) same c.in_ok-half.ensures.ended))
+    let within : c.args.input.now.start + k ≤ c.args.input.now.end = ended_within c.args.input.now c.loop-later.later c.loop-later.invariant.same c.loop-later.invariant.to ahead in (
+      suc k,
+      spans_tried Backward c.args.self.now c.args.input.now k c.loop-later.invariant.tries within,
+      (c.loop-later.cache.store, c.loop-later.invariant.progress, subst (λ i. HasEnded Backward c.args.self.now i c.loop-later.cache.store c.pass_rev.new.cache.store) same c.in_ok-half.ensures.ended),
+    )
 
 pub returns-then-end-eq0-clause-ended : goal.returns-then-end-eq0-clause-ended
 returns-then-end-eq0-clause-ended c =
     let k : ℕ = c.args.input.now.end - c.loop-later.later.end in
     let ahead : c.loop-later.later.start ≤ c.loop-later.later.end = grind (arith, common_steps, c.loop-later-test.ensures.done) in
     let same : c.loop-later.later ≡ later Backward k c.args.input.now = ended c.args.input.now c.loop-later.later c.loop-later.invariant.same c.loop-later.invariant.to ahead in
-    let within : c.args.input.now.start + k ≤ c.args.input.now.end = ended_within c.args.input.now c.loop-later.later c.loop-later.invariant.same c.loop-later.invariant.to ahead in
-    (suc k, spans_tried Backward c.args.self.now c.args.input.now k c.loop-later.invariant.tries within,
-    (c.loop-later.cache.store, c.loop-later.invariant.progress, subst (λ i. HasEnded Backward c.args.self.now i c.loop-later.cache.store c.pass_rev.new.cache.store) same c.in_ok-half.ensures.ended))
+    let within : c.args.input.now.start + k ≤ c.args.input.now.end = ended_within c.args.input.now c.loop-later.later c.loop-later.invariant.same c.loop-later.invariant.to ahead in (
+      suc k,
+      spans_tried Backward c.args.self.now c.args.input.now k c.loop-later.invariant.tries within,
+      (c.loop-later.cache.store, c.loop-later.invariant.progress, subst (λ i. HasEnded Backward c.args.self.now i c.loop-later.cache.store c.pass_rev.new.cache.store) same c.in_ok-half.ensures.ended),
+    )
 
 pub returns-in_err-half-clause-left : goal.returns-in_err-half-clause-left
 returns-in_err-half-clause-left c =
@@ -379,9 +387,13 @@ returns-in_err-half-clause-left c =
     let ahead : c.loop-later.later.start ≤ c.loop-later.later.end = grind (arith, common_steps, c.loop-later-test.ensures.done) in
     let same : c.loop-later.later ≡ later Backward k c.args.input.now = ended c.args.input.now c.loop-later.later c.loop-later.invariant.same c.loop-later.invariant.to ahead in
     let within : c.args.input.now.start + k ≤ c.args.input.now.end = ended_within c.args.input.now c.loop-later.later c.loop-later.invariant.same c.loop-later.invariant.to ahead in
-    if_err c.from_residual.result _ _ c.from_residual.ensures.1
-    (k, c.loop-later.cache.store, spans_tried Backward c.args.self.now c.args.input.now k c.loop-later.invariant.tries within, c.loop-later.invariant.progress,
-    subst (λ i. IsLeft Backward c.args.self.now i c.loop-later.cache.store c.pass_rev.new.cache.store c.in_err-half.field-0.0) same c.in_err-half.ensures.left)
+    if_err c.from_residual.result _ _ c.from_residual.ensures.1 (
+      k,
+      c.loop-later.cache.store,
+      spans_tried Backward c.args.self.now c.args.input.now k c.loop-later.invariant.tries within,
+      c.loop-later.invariant.progress,
+      subst (λ i. IsLeft Backward c.args.self.now i c.loop-later.cache.store c.pass_rev.new.cache.store c.in_err-half.field-0.0) same c.in_err-half.ensures.left,
+    )
 
 pub returns-clause-ended : goal.returns-clause-ended
 returns-clause-ended c =

@@ -59,5 +59,7 @@ returns-clause-effect c =
       grown = s.grown;
       learned = s.learned;
       known = λ knows. (s.grown.idle (s.known knows).0, (s.known knows).1);
+      ended = s.ended;
+      left = s.left;
       done = λ past. (s.done past).1;
     }
