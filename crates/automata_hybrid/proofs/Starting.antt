@@ -1,5 +1,5 @@
 -- Starts: what a call answers and changes, from what its parts do.
-use Rattle.std.proofs.Common.{ℕ, ◌≡◌, ◌+◌, ◌<◌, ◌≤◌, ◌⊎◌, length, false, Option, None, Ok, Err, Result, refl, sym, ap, ◌∙◌, subst, arith, inl, inr}
+use Rattle.std.proofs.Common.{ℕ, ◌≡◌, ◌+◌, ◌<◌, ◌≤◌, ◌⊎◌, length, false, Option, None, Ok, Err, Result, sym, ap, ◌∙◌, subst, arith, inl, inr}
 use Rattle.std.specs.Prelude.{IfErr, IfOk, OnOk}
 use Rattle.automata_base.specs.Powerset.{Powerset}
 use Rattle.automata_base.specs.Steps.{start_state_of}
@@ -18,28 +18,8 @@ use Rattle.automata_hybrid.specs.Bounds.{Stored, GivesUp, IsCacheError, IsKnownS
 use Rattle.automata_hybrid.specs.Caches.{CacheView, HasRow, counted}
 use Rattle.automata_hybrid.specs.Growing.{IsGrown, KeepsProgress}
 use Rattle.automata_hybrid.specs.Slots.{slot_behind, supports}
-use Rattle.automata_hybrid.specs.Starting.{HasSlot, IsStartAnswer, IsStartEffect, IsStartRefusal, IsStartRefusalAt, IsStartRefusedAt, KnowsStart, MayStart, quit_behind, search_refusal, start_refusal}
-use Rattle.automata_hybrid.proofs.Growing.{grown_same}
+use Rattle.automata_hybrid.specs.Starting.{IsStartAnswer, IsStartEffect, IsStartRefusal, IsStartRefusalAt, IsStartRefusedAt, KnowsStart, MayStart, quit_behind, search_refusal, start_refusal}
 use Rattle.automata_hybrid.proofs.Searching.{false_true}
-use Rattle.automata_hybrid.proofs.StartTags.{same_adds, same_keeps}
-
--- a call that changes nothing, where it needn't compute a start
-pub start_stays :
-    (m : Machine) (mode : Anchored) (behind : Option ℕ) (c : CacheView)
-    → (MayStart m mode behind → HasSlot m mode behind → (KnowsStart m c.store mode behind → ⊥) → ⊥)
-    → IsStartEffect m mode behind c c
-start_stays m mode behind c needless = record {
-  grown = grown_same c c refl;
-  counted = omega arith;
-  computed = λ may slot free. absurd (needless may slot free);
-  barred = λ not. refl;
-  known = λ knows. refl;
-  past = λ may l. refl;
-  progress = inl refl;
-  start_tags = same_keeps c.store.table c.store.table refl;
-  added = same_adds c.store.table c.store.table m.specialized refl;
-  only = λ q has. inl has;
-}
 
 -- the start of a mode's slot is known
 pub knows_slot :

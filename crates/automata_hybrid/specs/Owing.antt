@@ -98,7 +98,7 @@ pub record IsBased (m : Machine) (input : Input)
   pub farthest :
       input.earliest ≡ false → m.kind ≡ KindAll
       → IfOk result (λ o. IsFarthestAnswer Forward (engine_of m.nfa m.kind) input (based_half o))
-  -- it lies in the input's span, not before the start of the one that gave it, and its pattern is one of the automaton's
+  -- it lies in the input's span, not before the start of the one that gave it; its pattern is one of the automaton's
   pub within : IfOk result (λ o. IfSome o (λ p. LiesPast m input p.0 p.1))
   -- a refusal is one that some cache may give
   pub errors : IfErr result (MayRefuse Forward m input)
@@ -112,8 +112,8 @@ pub record IsBased (m : Machine) (input : Input)
 -- what a search in a direction makes of its cache
 pub record IsSearchEffect {T : Type 0} (way : Direction) (m : Machine) (input : Input) (old new : CacheView)
     (result : Result T SearchError) : Type 0 where
-  -- a pass over n bytes makes at most n + 2 determinisations, and each is over another span that is tried: one, where no
-  -- place is skipped or the search is anchored; nothing is cleared where there is room for as many states
+  -- a pass over n bytes makes at most n + 2 determinisations, and each is over another span that is tried: one, where
+  -- no place is skipped or the search is anchored; nothing is cleared where there is room for as many states
   pub cost : IsCostOfSearch way m input old new
   -- until the next clear nothing is lost
   pub grown : IsGrown old new

@@ -61,8 +61,8 @@ pub record IsWalkCall (way : Direction) (m : Machine) (input : Input) (old new :
 -- what a call of a walk makes of its cache
 pub record IsCallEffect (way : Direction) (m : Machine) (input : Input) (walk next : Walk) (old new : CacheView)
     (result : Result (Unit {0}) SearchError) : Type 0 where
-  -- it makes at most one determinisation for each unit by which those read rise, and one for a start; a refused call one
-  -- for each unit left
+  -- it makes at most one determinisation for each unit by which those read rise, and one for a start; a refused call
+  -- one for each unit left
   pub rises : OnOk result (walk.units ≤ next.units)
   pub cost : OnOk result (new.count + walk.units ≤ old.count + next.units + start_count walk.stage)
   pub most : new.count ≤ old.count + (input.end - input.start + 1 - walk.units) + start_count walk.stage

@@ -11,7 +11,6 @@ use Rattle.automata_config.specs.declared.error.SearchError.TheVariants as searc
 use Rattle.automata_hybrid.specs.Machine.{Machine}
 use Rattle.automata_hybrid.specs.Owing.{IsMemory}
 use Rattle.automata_hybrid.specs.OwingWalks.{MayRefuseWhich}
-use Rattle.automata_hybrid.specs.Which.{IsWhichRefusal}
 use Rattle.regex_automata.proofs.Results.{some_none}
 use Rattle.regex_automata.specs.Owing.{AreRising, ArePatternsUpto, MayRefusePatterns, empty_set}
 
@@ -50,7 +49,7 @@ pub refused_where :
     → IfSome (result_err r) (MayRefusePatterns m input capacity found)
 refused_where (Ok x) m input capacity old new found fresh is h = tt
 refused_where (Err e) m input capacity old new found fresh is h =
-    inr (h.0, h.1, (new, subst (λ (set : List Bool). IsWhichRefusal m h.0 input set new e) fresh h.2, is))
+    inr (new, is, subst (λ (set : List Bool). MayRefuseWhich m input set new e) fresh h)
 
 pub memory_where : (r : Result (Unit {0}) SearchError) → IfErr r IsMemory → IfSome (result_err r) IsMemory
 memory_where (Ok x) h = h

@@ -65,7 +65,7 @@ module _ (way : Direction) (m : Machine) (input : Input) (old : Walk) (k : ℕ) 
       → (old.lost ≡ false → (j : ℕ) → HasTold way m input old j → MayRefuseCall way m input old j e)
       → (old.lost ≡ true → IsMemory e) → MayRefuseStep way m input k e
   step_error true is e errors lost = inl (lost is)
-  step_error false is e errors lost = let refused = errors is k h.told in inr (refused.0, refused.1, (old, h.told, refused.2))
+  step_error false is e errors lost = inr (old, h.told, errors is k h.told)
 
   pub step_refused :
       (e : SearchError)

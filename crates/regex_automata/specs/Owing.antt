@@ -15,9 +15,9 @@ use Rattle.automata_config.specs.declared.error.SearchError.TheVariants as searc
 use Rattle.automata_hybrid.specs.Bounds.{Stored}
 use Rattle.automata_hybrid.specs.Machine.{Machine}
 use Rattle.automata_hybrid.specs.Owing.{IsMemory, IsStoreOf, IsUnhindered, IsUnsupported, unsupported_error}
-use Rattle.automata_hybrid.specs.Walking.{AreWalked, HasTold, IsWalkRefusal, half_nth}
+use Rattle.automata_hybrid.specs.OwingWalks.{MayRefuseCall, MayRefuseWhich}
+use Rattle.automata_hybrid.specs.Walking.{AreWalked, HasTold, half_nth}
 use Rattle.automata_hybrid.specs.Walks.{Walk}
-use Rattle.automata_hybrid.specs.Which.{IsWhichRefusal}
 use Rattle.automata_hybrid.specs.Within.{LiesIn}
 use Rattle.regex_automata.specs.Iterating.{AreCollected, IsBeginning, IsNextRefusal}
 use Rattle.regex_automata.specs.Matching.{IsMatchRefused, IsMatchTold}
@@ -34,8 +34,7 @@ AreStoresOf c p = IsStoreOf c.forward.store p.forward × IsStoreOf c.reverse.sto
 -- some cache of the DFA, within its settings, refuses a call of a walk that has told so many pairs; or memory is wanting
 abbrev pub MayRefuseStep : Direction → Machine → Input → (told : ℕ) → SearchError → Type 0
 MayRefuseStep way m input told e =
-    IsMemory e
-    ⊎ ((c : Stored) × IsStoreOf c m × ((w : Walk) × HasTold way m input w told × IsWalkRefusal way m c input w told e))
+    IsMemory e ⊎ ((w : Walk) × HasTold way m input w told × MayRefuseCall way m input w told e)
 
 -- what a call of a walk answers after so many that answered Ok
 pub record IsStep (way : Direction) (m : Machine) (input : Input) (told : ℕ)
@@ -154,8 +153,7 @@ empty_set capacity = replicate capacity false
 abbrev pub MayRefusePatterns : Machine → Input → (capacity : ℕ) → List ℕ → SearchError → Type 0
 MayRefusePatterns m input capacity found e =
     (IsMemory e × (found ≡ []))
-    ⊎ ((c : Stored) × IsStoreOf c m × ((set : List Bool)
-    × IsWhichRefusal m c input (empty_set capacity) set e × (found ≡ members set)))
+    ⊎ ((set : List Bool) × (found ≡ members set) × MayRefuseWhich m input (empty_set capacity) set e)
 
 -- the patterns below a capacity of all overlapping matches, in an earliest search of the first one; or those told before
 -- the error
