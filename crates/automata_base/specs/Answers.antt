@@ -15,7 +15,8 @@ SelectsFrom d earliest t (Some q) answer = Selects d.kind earliest d.nfa t q ans
 -- What the paths over the span of an input answer, which is not done; the place is the walk's.
 abbrev pub SelectsOver : Direction → Engine → Input → Option Pair → Type 0
 SelectsOver way d input answer =
-    SelectsFrom d input.earliest (tape_of way input.haystack input.start input.end) (first_state d input.anchored) answer
+    SelectsFrom d input.earliest (tape_of way input.haystack input.start input.end) (first_state d input.anchored)
+    answer
 
 -- The input whose walk begins `k` places later: forward its start is raised, backward its end is lowered.
 abbrev pub later : Direction → ℕ → Input → Input
@@ -26,7 +27,8 @@ later Backward k input = record input { end = input.end - k }
 abbrev pub offset_in : Direction → Input → ℕ → ℕ
 offset_in way input i = offset way input.start input.end i
 
--- What is told over one span splits a character. `Tells` says what is told over the span of an input, which is not done.
+-- What is told over one span splits a character. `Tells` says what is told over the span of an input, which is not
+-- done.
 abbrev pub IsSplit : (Tells : Input → Option Pair → Type 0) → Direction → Input → Type 0
 IsSplit Tells way input =
     (pair : Pair) × Tells input (Some pair) × (is_split input.haystack (offset_in way input pair.place) ≡ true)
@@ -46,7 +48,8 @@ pub record Half : Type 0 where
 
 -- What is told over the first span where that is nothing or not split. Where split places are skipped, an anchored
 -- search has no answer but over its first span.
-abbrev pub Answers : (Tells : Input → Option Pair → Type 0) → (skipping : Type 0) → Direction → Input → Option Half → Type 0
+abbrev pub Answers :
+    (Tells : Input → Option Pair → Type 0) → (skipping : Type 0) → Direction → Input → Option Half → Type 0
 Answers Tells skipping way input None =
     (k : ℕ) × Tries Tells skipping way input k
     × ((input.end < input.start + k)

@@ -88,6 +88,7 @@ stride_of classes = stride_for (alphabet_length classes)
 pub record AreClasses (classes : List ℕ) : Type 0 where
   pub whole : length classes ≡ 256
   pub rising : (byte : ℕ) → byte < 255
-      → (class_in classes byte ≤ class_in classes (byte + 1)) × (class_in classes (byte + 1) ≤ class_in classes byte + 1)
+      → (class_in classes byte ≤ class_in classes (byte + 1))
+      × (class_in classes (byte + 1) ≤ class_in classes byte + 1)
   pub below : (byte : ℕ) → byte < 256 → class_in classes byte ≤ class_in classes 255
   pub few : class_in classes 255 ≤ 255

@@ -35,7 +35,8 @@ patterns_code ps = if is_listed ps then four_bytes (length ps) ++ flat_map four_
 abbrev pub difference : ℕ → ℕ → ℕ
 difference before id = if nat_le before id then 2 * (id - before) else 2 * (before - id) - 1
 
--- groups of 7 bits, the least first, bit 7 set on all but the last: as few as possible, and at most one and these many more
+-- groups of 7 bits, the least first, bit 7 set on all but the last: as few as possible, and at most one and these many
+-- more
 unfoldable pub groups : ℕ → ℕ → List ℕ
 groups zero n = n ∷ []
 groups (suc more) n = if nat_lt n 128 then n ∷ [] else (128 + n % 128) ∷ groups more (n / 128)
@@ -50,7 +51,9 @@ ids_code before [] = []
 ids_code before (id ∷ ids) = varint (difference before id) ++ ids_code id ids
 
 abbrev pub code : Powerset → List ℕ
-code q = flags (has_any q.patterns) (is_listed q.patterns) q.word q.half ∷ (four_bytes q.known ++ (four_bytes q.needed ++ (patterns_code q.patterns ++ ids_code 0 q.nfa)))
+code q =
+    flags (has_any q.patterns) (is_listed q.patterns) q.word q.half
+    ∷ (four_bytes q.known ++ (four_bytes q.needed ++ (patterns_code q.patterns ++ ids_code 0 q.nfa)))
 
 -- ---- the state of some bytes
 
@@ -86,7 +89,8 @@ ids_of before [] = []
 ids_of before (z ∷ zs) = id_at before z ∷ ids_of (id_at before z) zs
 
 abbrev pub patterns_of : List ℕ → List ℕ
-patterns_of bytes = if is_set 1 bytes then (if is_set 2 bytes then numbers_at (number_at bytes 9) (drop 13 bytes) else 0 ∷ []) else []
+patterns_of bytes =
+    if is_set 1 bytes then (if is_set 2 bytes then numbers_at (number_at bytes 9) (drop 13 bytes) else 0 ∷ []) else []
 
 -- what comes behind the patterns
 abbrev pub ids_bytes : List ℕ → List ℕ

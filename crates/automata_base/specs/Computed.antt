@@ -69,7 +69,8 @@ always t r WordStartHalfUnicode prev = not (is_word prev)
 always t r WordEndHalfUnicode prev = false
 
 abbrev pub known_looks : Nfa → Option ℕ → Truth
-known_looks n prev look = any_node (λ other. eqb (look_index other) (look_index look)) n.nodes && always n.terminator n.reverse look prev
+known_looks n prev look =
+    any_node (λ other. eqb (look_index other) (look_index look)) n.nodes && always n.terminator n.reverse look prev
 
 abbrev pub is_full : List ℕ → Bool
 is_full [] = false
@@ -99,7 +100,8 @@ any_look f (look ∷ looks) = f look || any_look f looks
 
 -- Whether a needed look is true and was not known.
 abbrev pub has_news : Nfa → Powerset → Option ℕ → Bool
-has_news n Q u = any_look (λ look. truth_of Q.needed look && (true_looks n Q u look && not (truth_of Q.known look))) all_looks
+has_news n Q u =
+    any_look (λ look. truth_of Q.needed look && (true_looks n Q u look && not (truth_of Q.known look))) all_looks
 
 abbrev pub decide : Nfa → Powerset → Option ℕ → List ℕ
 decide n Q u = elim (has_news n Q u) [ true ↦ closure_of n (true_looks n Q u) Q.nfa | false ↦ Q.nfa ]

@@ -20,4 +20,5 @@ pub record IsDoor (a : Automaton) : Type 0 where
   pub patterns : (q p : ℕ) → accepts (nfa_of a) q ≡ Some p → p < length a.start_pattern
 
 abbrev pub IsLooks : Automaton → ℕ → Type 0
-IsLooks a looks = (look : Look) → truth_of looks look ≡ any_node (λ other. eqb (look_index other) (look_index look)) (nfa_of a).nodes
+IsLooks a looks =
+    (look : Look) → truth_of looks look ≡ any_node (λ other. eqb (look_index other) (look_index look)) (nfa_of a).nodes

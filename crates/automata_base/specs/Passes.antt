@@ -48,7 +48,8 @@ abbrev pub IsMake : Nfa → List ℕ → List ℕ → Option ℕ → Powerset �
 IsMake n patterns C prev Q =
     (Q.nfa ≡ pick (keep n) C) × (Q.patterns ≡ patterns)
     × ((look : Look) → (truth_of Q.needed look ≡ true) ↔ IsNeeded n Q.nfa look)
-    × ((look : Look) → (truth_of Q.known look ≡ true) ↔ (((other : Look) × IsNeeded n Q.nfa other) × IsKnownLook n prev look))
+    × ((look : Look) → (truth_of Q.known look ≡ true)
+    ↔ (((other : Look) × IsNeeded n Q.nfa other) × IsKnownLook n prev look))
     × ((Q.word ≡ true)
     ↔ ((Q.nfa ≡ [] → ⊥) × ((look : Look) × Occurs n look × (is_word_look look ≡ true)) × (is_word prev ≡ true)))
     × ((Q.half ≡ true)
@@ -82,7 +83,8 @@ true_looks n Q u look = truth_of Q.known look || decided n.terminator n.reverse 
 
 -- A needed look is true and was not known.
 abbrev pub IsNews : Nfa → Powerset → Option ℕ → Type 0
-IsNews n Q u = (look : Look) × (truth_of Q.needed look ≡ true) × (true_looks n Q u look ≡ true) × (truth_of Q.known look ≡ false)
+IsNews n Q u =
+    (look : Look) × (truth_of Q.needed look ≡ true) × (true_looks n Q u look ≡ true) × (truth_of Q.known look ≡ false)
 
 -- The list once its looks are decided.
 abbrev pub IsDecided : Nfa → Powerset → Option ℕ → List ℕ → Type 0

@@ -1,7 +1,8 @@
 use Rattle.std.specs.Prelude.{ℕ, List, [], Bool, false, ◌+◌, ◌*◌, ◌<◌, ◌^◌, nat_eq, length}
 use Rattle.std.specs.List.{AllByRecursion, IsDistinct}
 
--- a powerset state: NFA states in order, patterns, the looks known and needed, whether it is after a word byte, and half way through a CRLF
+-- a powerset state: NFA states in order, patterns, the looks known and needed, whether it is after a word byte, and
+-- half way through a CRLF
 pub record Powerset : Type 0 where
   pub nfa : List ℕ
   pub patterns : List ℕ

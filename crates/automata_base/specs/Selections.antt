@@ -45,7 +45,8 @@ at_place i (p ∷ ps) = record { pattern = p; place = i } ∷ at_place i ps
 abbrev pub Pairs : (ℕ → List ℕ → Type 0) → ℕ → List Pair → Type 0
 Pairs At zero pairs = pairs ≡ []
 Pairs At (suc i) pairs =
-    (earlier : List Pair) × (patterns : List ℕ) × Pairs At i earlier × At i patterns × (pairs ≡ earlier ++ at_place i patterns)
+    (earlier : List Pair) × (patterns : List ℕ) × Pairs At i earlier × At i patterns
+    × (pairs ≡ earlier ++ at_place i patterns)
 
 -- The whole list of a walk, by paths.
 abbrev pub IsOverlappingOn : MatchKind → Nfa → Tape → ℕ → List Pair → Type 0

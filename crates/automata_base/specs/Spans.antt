@@ -14,7 +14,8 @@ use Rattle.automata_base.specs.Matches.{Match}
 abbrev pub IsPathStart : Engine → Anchored → Tape → List ℕ → ℕ → Type 0
 IsPathStart d No t path place =
     (head rest : List ℕ) × (path ≡ head ++ rest) × IsPath d.nfa t d.unanchored place d.anchored head
-    × ((shorter : List ℕ) (sooner : ℕ) → Begins shorter head → IsPath d.nfa t d.unanchored sooner d.anchored shorter → ⊥)
+    × ((shorter : List ℕ) (sooner : ℕ) → Begins shorter head → IsPath d.nfa t d.unanchored sooner d.anchored shorter
+    → ⊥)
 IsPathStart d Yes t path place = place ≡ 0
 IsPathStart d (Pattern k) t path place = place ≡ 0
 

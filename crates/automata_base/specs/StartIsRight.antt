@@ -27,7 +27,8 @@ SpansAreOne = (d : Engine) (input : Input) (a b : Option Match) → IsSpan d inp
 
 abbrev pub AnswersAreOne : Type 0
 AnswersAreOne =
-    (way : Direction) (d : Engine) (input : Input) (a b : Option Half) → IsAnswer way d input a → IsAnswer way d input b → a ≡ b
+    (way : Direction) (d : Engine) (input : Input) (a b : Option Half) → IsAnswer way d input a → IsAnswer way d input b
+    → a ≡ b
 
 -- An iteration over a true pair tells the spans, one list for each input.
 abbrev pub IterationsAreRight : Type 0
@@ -36,7 +37,8 @@ IterationsAreRight =
     → IsTruePair f r → KeepsUtf8 Forward f → IsInput input → AreFound f r input ms → AreSpans f input ms
 
 abbrev pub IterationsAreOne : Type 0
-IterationsAreOne = (d : Engine) (input : Input) (ms ms' : List Match) → AreSpans d input ms → AreSpans d input ms' → ms ≡ ms'
+IterationsAreOne =
+    (d : Engine) (input : Input) (ms ms' : List Match) → AreSpans d input ms → AreSpans d input ms' → ms ≡ ms'
 
 -- Ends rise, by paths and over any two DFAs, so matches are at most one more than the span has bytes.
 abbrev pub EndsRise : Type 0
@@ -53,7 +55,8 @@ FoundEndsRise =
 abbrev pub MatchIffFound : Type 0
 MatchIffFound =
     (d : Engine) (input : Input) (truth : Bool) (answer : Option Match)
-    → (input.earliest ≡ false) ⊎ (IsSkipping d → ⊥) → IsMatch d input truth → IsSpan d input answer → truth ≡ is_some answer
+    → (input.earliest ≡ false) ⊎ (IsSkipping d → ⊥) → IsMatch d input truth → IsSpan d input answer
+    → truth ≡ is_some answer
 
 -- With one quit set the reverse search meets no quit byte where the forward search met none up to its match.
 abbrev pub BackMeetsNone : Type 0

@@ -14,7 +14,10 @@ IsLookSet bits = bits < 2 ^ 18
 
 -- The looks in the order of their numbers.
 abbrev pub all_looks : List Look
-all_looks = Start ∷ End ∷ StartLF ∷ EndLF ∷ StartCRLF ∷ EndCRLF ∷ WordAscii ∷ WordAsciiNegate ∷ WordUnicode ∷ WordUnicodeNegate ∷ WordStartAscii ∷ WordEndAscii ∷ WordStartUnicode ∷ WordEndUnicode ∷ WordStartHalfAscii ∷ WordEndHalfAscii ∷ WordStartHalfUnicode ∷ WordEndHalfUnicode ∷ []
+all_looks =
+    Start ∷ End ∷ StartLF ∷ EndLF ∷ StartCRLF ∷ EndCRLF ∷ WordAscii ∷ WordAsciiNegate ∷ WordUnicode ∷ WordUnicodeNegate
+    ∷ WordStartAscii ∷ WordEndAscii ∷ WordStartUnicode ∷ WordEndUnicode ∷ WordStartHalfAscii ∷ WordEndHalfAscii
+    ∷ WordStartHalfUnicode ∷ WordEndHalfUnicode ∷ []
 
 -- The number whose bits say which looks of the list are so, the first of them being bit 0.
 abbrev pub bits_from : Truth → List Look → ℕ

@@ -14,7 +14,8 @@ use Rattle.automata_base.specs.Telling.{pairs_told}
 -- what the pass over the span of an input tells, which is not done; the places are the walk's
 abbrev pub SpanTells : Direction → Automaton → MatchKind → Input → List Pair → Type 0
 SpanTells way a kind input pairs =
-    pairs ≡ pairs_told a kind input.anchored (tape_of way input.haystack input.start input.end) (suc (length (tape_of way input.haystack input.start input.end).bytes))
+    pairs ≡ pairs_told a kind input.anchored (tape_of way input.haystack input.start input.end)
+    (suc (length (tape_of way input.haystack input.start input.end).bytes))
 
 -- the whole list of a walk: what its pass tells, by offsets, without the split places where they are skipped
 abbrev pub AreTold : Direction → Automaton → MatchKind → Input → List Pair → Type 0
@@ -22,7 +23,8 @@ AreTold way a kind input found = Walks (SpanTells way a kind) (IsSkipping (engin
 
 -- each walk has such a list, and one alone
 abbrev pub WalksAreTold : Automaton → Type 0
-WalksAreTold a = (way : Direction) (kind : MatchKind) (input : Input) → (found : List Pair) × AreTold way a kind input found
+WalksAreTold a =
+    (way : Direction) (kind : MatchKind) (input : Input) → (found : List Pair) × AreTold way a kind input found
 
 abbrev pub WalksAreOne : Type 0
 WalksAreOne =
@@ -33,13 +35,15 @@ WalksAreOne =
 abbrev pub WalkIsRight : Automaton → Type 0
 WalkIsRight a =
     (way : Direction) (kind : MatchKind) (input : Input) (found : List Pair)
-    → IsLookAcyclic (nfa_of a) → IsInput input → AreTold way a kind input found → IsOverlapping way (engine_of a kind) input found
+    → IsLookAcyclic (nfa_of a) → IsInput input → AreTold way a kind input found
+    → IsOverlapping way (engine_of a kind) input found
 
 -- and each list of the ordered paths is this one
 abbrev pub OverlappingIsTold : Automaton → Type 0
 OverlappingIsTold a =
     (way : Direction) (kind : MatchKind) (input : Input) (found : List Pair)
-    → IsLookAcyclic (nfa_of a) → IsInput input → IsOverlapping way (engine_of a kind) input found → AreTold way a kind input found
+    → IsLookAcyclic (nfa_of a) → IsInput input → IsOverlapping way (engine_of a kind) input found
+    → AreTold way a kind input found
 
 abbrev pub InPairs : Pair → List Pair → Type 0
 InPairs pair [] = ⊥

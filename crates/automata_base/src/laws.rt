@@ -72,9 +72,9 @@ pub fn told_is_right(nfa: &NFA)
     let _states = nfa.states();
 }
 
-/// What the pass of an overlapping walk tells is one list, and it is the list of the ordered paths; and for every automaton
-/// it has, under kind all, the pairs of all accepting paths. Each pair lies in the span, and its pattern is one of the
-/// automaton's.
+/// What the pass of an overlapping walk tells is one list, and it is the list of the ordered paths; and for every
+/// automaton it has, under kind all, the pairs of all accepting paths. Each pair lies in the span, and its pattern is
+/// one of the automaton's.
 pub fn walk_is_right(nfa: &NFA)
     ensures told { WalksAreTold nfa.now }
     ensures one { WalksAreOne }

@@ -31,7 +31,8 @@ are_quits quits first count = list_all (is_quit quits) (range_with_len first cou
 abbrev pub holds_non_ascii : (quits : List Bool) → Bool
 holds_non_ascii quits = are_quits quits 128 128
 
--- A Unicode word boundary is decided on ASCII text alone: either the heuristic stops at other bytes, or the quit set does.
+-- A Unicode word boundary is decided on ASCII text alone: either the heuristic stops at other bytes, or the quit set
+-- does.
 abbrev pub is_unsupported : Options → Automaton → Bool
 is_unsupported o a = has_unicode_word a && not (unicode_word_boundary_of o || holds_non_ascii (quits_of o))
 

@@ -279,7 +279,8 @@ impl Config {
     /// The least capacity that a cache for the NFA may have, or `Unsupported`.
     pub fn get_minimum_cache_capacity(&self, nfa: &NFA) -> Result<usize, BuildError>
         ensures ok { IfOk result (λ minimum. minimum ≡ settled_minimum self.now nfa.now) }
-        ensures refused { result_err result ≡ (if is_unsupported self.now nfa.now then Some BuildError.Unsupported else None) }
+        ensures refused { result_err result
+            ≡ (if is_unsupported self.now nfa.now then Some BuildError.Unsupported else None) }
     {
         let quits = self.settled_quits(nfa)?;
         let classes = ByteClasses::of(nfa, &quits, self.get_byte_classes());
@@ -314,7 +315,8 @@ impl Config {
     }
 
     fn is_too_small_for(&self, minimum: usize) -> bool
-        ensures { result ≡ (not (options.skip_cache_capacity_check_of self.now) && nat_lt (options.cache_capacity_of self.now) minimum) }
+        ensures { result ≡ (not (options.skip_cache_capacity_check_of self.now) && nat_lt
+            (options.cache_capacity_of self.now) minimum) }
     {
         !self.get_skip_cache_capacity_check() && self.get_cache_capacity() < minimum
     }
@@ -339,7 +341,8 @@ impl Config {
 
     fn settled_quits(&self, nfa: &NFA) -> Result<[bool; 256], BuildError>
         ensures ok { IfOk result (λ quits. quits ≡ settled_quits self.now nfa.now) }
-        ensures refused { result_err result ≡ (if is_unsupported self.now nfa.now then Some BuildError.Unsupported else None) }
+        ensures refused { result_err result
+            ≡ (if is_unsupported self.now nfa.now then Some BuildError.Unsupported else None) }
     {
         let quits = self.quit_set();
         if !has_unicode_word(nfa) {

@@ -12,10 +12,11 @@ use Rattle.automata_hybrid.specs.Walks.{Walk}
 abbrev pub AnswersAgree : Type 0
 AnswersAgree =
     (way : Direction) (m other : Machine) (input : Input) (first second : Option Half)
-    → m.nfa ≡ other.nfa → m.kind ≡ other.kind → IsFound way m input first → IsFound way other input second → first ≡ second
+    → m.nfa ≡ other.nfa → m.kind ≡ other.kind → IsFound way m input first → IsFound way other input second
+    → first ≡ second
 
--- Two walks over one input that have told `k` pairs each tell the same match by the next call that answers, whatever cache
--- it is made over; and so do walks of two DFAs of one automaton and one kind.
+-- Two walks over one input that have told `k` pairs each tell the same match by the next call that answers, whatever
+-- cache it is made over; and so do walks of two DFAs of one automaton and one kind.
 abbrev pub WalksAgree : Machine → Type 0
 WalksAgree m =
     (way : Direction) (other : Machine) (input : Input) (first second first_told second_told : Walk) (k : ℕ)

@@ -25,14 +25,17 @@ settings_of m = record { capacity = m.capacity; fixed = m.fixed; minimum_clear_c
 
 -- the accounted bytes: cells, slots, rows and map, states, scratch
 abbrev pub usage_by : Rows → ℕ → ℕ → ℕ
-usage_by t slots fixed = 4 * length t.cells + 4 * slots + 16 * (length t.rows + 3) + 20 * (length t.rows + 1) + 39 + sum_by row_cost t.rows + fixed
+usage_by t slots fixed =
+    4 * length t.cells + 4 * slots + 16 * (length t.rows + 3) + 20 * (length t.rows + 1) + 39 + sum_by row_cost t.rows
+    + fixed
 
 abbrev pub usage : Stored → ℕ
 usage c = usage_by c.table (length c.starts) c.table.of.fixed
 
 -- a new state of this cost fits
 abbrev pub Fits : Stored → ℕ → Type 0
-Fits c extra = (usage c + 4 * c.table.of.stride + 36 + extra ≤ c.table.of.capacity) × (length c.table.cells < offset_limit)
+Fits c extra =
+    (usage c + 4 * c.table.of.stride + 36 + extra ≤ c.table.of.capacity) × (length c.table.cells < offset_limit)
 
 abbrev pub short_of : Option ℕ → ℕ → ℕ → Bool
 short_of None states searched = true
@@ -40,7 +43,9 @@ short_of (Some bytes) states searched = nat_lt searched (saturated (bytes * stat
 
 abbrev pub refuses_at : Option ℕ → Stored → Bool
 refuses_at None c = false
-refuses_at (Some limit) c = cond (nat_lt c.clears limit) false (short_of c.table.of.minimum_bytes_per_state (length c.table.rows + 3) (total_len c.searched))
+refuses_at (Some limit) c =
+    cond (nat_lt c.clears limit) false (short_of c.table.of.minimum_bytes_per_state (length c.table.rows + 3)
+    (total_len c.searched))
 
 -- the clear rule
 abbrev pub refuses_to_clear : Stored → Bool
@@ -89,7 +94,9 @@ IsKnownTransition c id class = cell_of c id class < unknown_id
 
 -- what a step from a state answers: quit at quit classes, and else what names the next state
 abbrev pub IsNext : Rows → Powerset → ℕ → ℕ → Type 0
-IsNext t q class id = ((slice_index (template_of t.of) class ≡ quit_id t.of.stride) × (id ≡ quit_id t.of.stride)) ⊎ ((slice_index (template_of t.of) class ≡ unknown_id) × Leads t id (next_of t.of q class))
+IsNext t q class id =
+    ((slice_index (template_of t.of) class ≡ quit_id t.of.stride) × (id ≡ quit_id t.of.stride))
+    ⊎ ((slice_index (template_of t.of) class ≡ unknown_id) × Leads t id (next_of t.of q class))
 
 abbrev pub with_next : Stored → ℕ → ℕ → ℕ → Stored
 with_next c id class next = with_table c (with_cell c.table id class next)
@@ -113,19 +120,24 @@ KeepsStarts old new = (slot : ℕ) → slice_index old slot < unknown_id → sli
 -- allows, and saves a row
 abbrev pub IsAdded : Stored → ℕ → Row → Stored → Type 0
 IsAdded old from r new =
-    (Fits old (cost r.state) × (new ≡ grown old r)) ⊎ ((Fits old (cost r.state) → ⊥) × (refuses_to_clear old ≡ false) × (new ≡ grown (cleared_saving old from) r))
+    (Fits old (cost r.state) × (new ≡ grown old r))
+    ⊎ ((Fits old (cost r.state) → ⊥) × (refuses_to_clear old ≡ false) × (new ≡ grown (cleared_saving old from) r))
 
--- the whole effect of computing a transition from a state to a target: it is written, at the row as it is after the target
--- was added, if no row had it
+-- the whole effect of computing a transition from a state to a target: it is written, at the row as it is after the
+-- target was added, if no row had it
 abbrev pub IsComputed : Stored → (id class : ℕ) → (q target : Powerset) → Stored → ℕ → Type 0
 IsComputed old id class q target new next =
     (Leads old.table next target × (new ≡ with_next old id class next))
-    ⊎ (Lacks old.table target × (from : ℕ) × (between : Stored) × IsAdded old id (record { state = target; started = false }) between × Names between.table from q × (new ≡ with_next between from class next))
+    ⊎ (Lacks old.table target × (from : ℕ) × (between : Stored)
+    × IsAdded old id (record { state = target; started = false }) between × Names between.table from q
+    × (new ≡ with_next between from class next))
 
--- what adding a start state that is absent does: it grows where the state fits, and else clears first, which the clear rule allows
+-- what adding a start state that is absent does: it grows where the state fits, and else clears first, which the clear
+-- rule allows
 abbrev pub IsAddedStart : Stored → Row → Stored → Type 0
 IsAddedStart old r new =
-    (Fits old (cost r.state) × (new ≡ grown old r)) ⊎ ((Fits old (cost r.state) → ⊥) × (refuses_to_clear old ≡ false) × (new ≡ grown (cleared old) r))
+    (Fits old (cost r.state) × (new ≡ grown old r))
+    ⊎ ((Fits old (cost r.state) → ⊥) × (refuses_to_clear old ≡ false) × (new ≡ grown (cleared old) r))
 
 -- the whole effect of computing a start: it is written, after its row was added, if no row had the state
 abbrev pub IsStarted : Stored → (slot : ℕ) → Row → Stored → ℕ → Type 0

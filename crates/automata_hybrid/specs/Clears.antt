@@ -35,7 +35,9 @@ keep_found (Some r) k = record { table = put k.table r; starts = k.starts ++ or_
 
 -- a slot that names a row: the row stays, and the slot has its new ID; another slot stays as it is
 abbrev pub keep_slot : Rows → Kept → ℕ → Kept
-keep_slot old k id = cond (nat_le fixed_from id) (record { table = k.table; starts = k.starts ++ id ∷ [] }) (keep_found (row_of old id) k)
+keep_slot old k id =
+    cond (nat_le fixed_from id) (record { table = k.table; starts = k.starts ++ id ∷ [] })
+    (keep_found (row_of old id) k)
 
 unfoldable pub keep_slots : Rows → Kept → List ℕ → Kept
 keep_slots old k [] = k

@@ -13,7 +13,9 @@ use Rattle.automata_hybrid.specs.declared.dfa.progress.Searched.{Searched}
 pub record Keeps (old new : Stored) : Type 0 where
   pub rows : (id : ℕ) (q : Powerset) → Names old.table id q → Names new.table id q
   pub starts : (slot : ℕ) → IsKnownStart old slot → slice_index new.starts slot ≡ slice_index old.starts slot
-  pub cells : (id class : ℕ) → IsValid old.table id → class < old.table.of.stride → IsKnownTransition old id class → cell_of new id class ≡ cell_of old id class
+  pub cells :
+      (id class : ℕ) → IsValid old.table id → class < old.table.of.stride → IsKnownTransition old id class
+      → cell_of new id class ≡ cell_of old id class
 
 -- nothing was cleared between: the count of clears is the same, and below the greatest number, where it would stay
 abbrev pub ClearedNothing : Stored → Stored → Type 0
@@ -49,4 +51,6 @@ pub record IsGrown (old new : CacheView) : Type 0 where
   -- with nothing cleared nothing is lost
   pub kept : ClearedNothing old.store new.store → Keeps old.store new.store
   -- and nothing is cleared where there is room for as many states as are determinised
-  pub roomy : (states : ℕ) → HasRoom old.store (states + (new.count - old.count)) → HasRoom new.store states × (new.store.clears ≡ old.store.clears)
+  pub roomy :
+      (states : ℕ) → HasRoom old.store (states + (new.count - old.count))
+      → HasRoom new.store states × (new.store.clears ≡ old.store.clears)

@@ -19,7 +19,8 @@ use Rattle.automata_hybrid.specs.Table.{Names}
 -- the transition that a pass takes on its unit at place `k` is known
 abbrev pub KnowsUnit : Direction → Machine → Stored → Input → ℕ → Type 0
 KnowsUnit way m c input k =
-    (id : ℕ) × Names c.table id (state_in way m input k) × IsKnownTransition c id (unit_class m (next (tape_in way input) k))
+    (id : ℕ) × Names c.table id (state_in way m input k)
+    × IsKnownTransition c id (unit_class m (next (tape_in way input) k))
 
 -- the start of a pass is known, where it has a slot: there is none for a pattern past the last
 abbrev pub KnowsItsStart : Direction → Machine → Stored → Input → Type 0
@@ -37,12 +38,14 @@ KnowsPass way m c input =
 -- all that a search uses is known: what each of its passes uses
 abbrev pub Knows : Direction → Machine → Stored → Input → Type 0
 Knows way m c input =
-    (k : ℕ) → Tries (Finds way m) (Skips m) way input k → input.start + k ≤ input.end → KnowsPass way m c (later way k input)
+    (k : ℕ) → Tries (Finds way m) (Skips m) way input k → input.start + k ≤ input.end
+    → KnowsPass way m c (later way k input)
 
 -- where nothing is lost, what a search knows it still knows
 abbrev pub KnownStays : Machine → Type 0
 KnownStays m =
-    (way : Direction) (input : Input) (old new : Stored) → IsInput input → old.table.of ≡ m → new.table.of ≡ m → Keeps old new
+    (way : Direction) (input : Input) (old new : Stored) → IsInput input → old.table.of ≡ m → new.table.of ≡ m
+    → Keeps old new
     → Knows way m old input → Knows way m new input
 
 -- a search is refused for what it was given, and not for want of room

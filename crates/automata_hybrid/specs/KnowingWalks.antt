@@ -40,11 +40,12 @@ KnowsUnits way m c input from k =
 -- all that the next call of a walk uses is known
 abbrev pub KnowsWalk : Direction → Machine → Stored → Input → Walk → Type 0
 KnowsWalk way m c input w =
-    (k : ℕ) → HasTold way m input w k → IsToRead input w.stage w.units w.told → MayStart m input.anchored (tape_in way input).before
+    (k : ℕ) → HasTold way m input w k → IsToRead input w.stage w.units w.told
+    → MayStart m input.anchored (tape_in way input).before
     → KnowsItsState way m c input w.stage × KnowsUnits way m c input w.units k
 
--- a set is gone on with when its walk has told these pairs: none, or the input isn't earliest, and some pattern below its
--- capacity is neither in it nor among them
+-- a set is gone on with when its walk has told these pairs: none, or the input isn't earliest, and some pattern below
+-- its capacity is neither in it nor among them
 abbrev pub IsOpen : Input → List Bool → List Pair → Type 0
 IsOpen input set pairs =
     (pairs ≡ [])

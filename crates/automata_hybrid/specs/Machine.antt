@@ -42,7 +42,8 @@ mode_of zero = No
 mode_of (suc zero) = Yes
 mode_of (suc (suc pattern)) = Pattern pattern
 
--- something of each kind that a start looks behind to: an other byte, a word byte, none, line feed, carriage return, the terminator
+-- something of each kind that a start looks behind to: an other byte, a word byte, none, line feed, carriage return,
+-- the terminator
 abbrev pub sample_of : (terminator kind : ℕ) → Option ℕ
 sample_of terminator zero = Some (cond (eqb 0 terminator) 1 0)
 sample_of terminator (suc zero) = Some (cond (eqb 97 terminator) 98 97)
@@ -62,7 +63,9 @@ greatest m = max_cost m.nfa
 -- the cells of a row in which the classes of the quit bytes below a number are quit, and the others unknown
 unfoldable pub marked : (classes : List ℕ) (quits : List Bool) (stride bytes : ℕ) → List ℕ
 marked classes quits stride zero = replicate stride unknown_id
-marked classes quits stride (suc byte) = cond (is_quit quits byte) (slice_set (marked classes quits stride byte) (class_in classes byte) (quit_id stride)) (marked classes quits stride byte)
+marked classes quits stride (suc byte) =
+    cond (is_quit quits byte) (slice_set (marked classes quits stride byte) (class_in classes byte) (quit_id stride))
+    (marked classes quits stride byte)
 
 -- a new row: quit at quit classes, and else unknown
 unfoldable pub template_of : Machine → List ℕ
@@ -72,16 +75,24 @@ pub record IsTemplate (stride : ℕ) (template : List ℕ) : Type 0 where
   pub positive : 0 < stride
   pub small : stride ≤ 512
   pub whole : length template ≡ stride
-  pub cells : (class : ℕ) → class < stride → (slice_index template class ≡ quit_id stride) ⊎ (slice_index template class ≡ unknown_id)
+  pub cells :
+      (class : ℕ) → class < stride → (slice_index template class ≡ quit_id stride)
+      ⊎ (slice_index template class ≡ unknown_id)
 
 -- what each lazy DFA keeps: each byte and the end have a class, whose units step alike, and a fresh cache fits
 pub record IsMachine (m : Machine) : Type 0 where
   pub template : IsTemplate m.stride (template_of m)
   pub below : eoi_class m.classes < m.stride
-  pub quit : (byte : ℕ) → byte < 256 → is_quit m.quits byte ≡ true → slice_index (template_of m) (class_in m.classes byte) ≡ quit_id m.stride
-  pub free : (byte : ℕ) → byte < 256 → is_quit m.quits byte ≡ false → slice_index (template_of m) (class_in m.classes byte) ≡ unknown_id
+  pub quit :
+      (byte : ℕ) → byte < 256 → is_quit m.quits byte ≡ true
+      → slice_index (template_of m) (class_in m.classes byte) ≡ quit_id m.stride
+  pub free :
+      (byte : ℕ) → byte < 256 → is_quit m.quits byte ≡ false
+      → slice_index (template_of m) (class_in m.classes byte) ≡ unknown_id
   pub end_free : slice_index (template_of m) (eoi_class m.classes) ≡ unknown_id
-  pub alike : (byte : ℕ) (q : Powerset) → byte < 256 → IsOwn m.nfa q → successor m.nfa m.kind q (Some byte) ≡ next_of m q (class_in m.classes byte)
+  pub alike :
+      (byte : ℕ) (q : Powerset) → byte < 256 → IsOwn m.nfa q
+      → successor m.nfa m.kind q (Some byte) ≡ next_of m q (class_in m.classes byte)
   pub end_alike : (q : Powerset) → IsOwn m.nfa q → successor m.nfa m.kind q None ≡ next_of m q (eoi_class m.classes)
   pub enough : minimum_capacity m.stride m.slots (greatest m) m.fixed ≤ m.capacity
   pub slots : m.slots ≡ start_slots m.nfa m.per_pattern

@@ -36,7 +36,8 @@ abbrev pub found_over : Direction → Machine → Input → Option HalfMatch
 found_over way m input = half_of way input (told_over way m.nfa m.kind input)
 
 -- a pass has read `k` units, none a quit byte: the ID names its state there, and this was found
-pub record IsAt (way : Direction) (m : Machine) (t : Rows) (input : Input) (k id : ℕ) (found : Option HalfMatch) : Type 0 where
+pub record IsAt (way : Direction) (m : Machine) (t : Rows) (input : Input) (k id : ℕ) (found : Option HalfMatch) :
+    Type 0 where
   pub named : Names t id (state_in way m input k)
   pub told : found ≡ half_of way input (told_in way m input k)
   pub nothing : input.earliest ≡ true → found ≡ None
@@ -53,7 +54,8 @@ step_refusal step.OutOfMemory at = search.OutOfMemory
 
 -- the transition on the unit at place `k` is known, at a class that rows have
 abbrev pub HasLearnedUnit : Direction → Machine → Stored → Input → ℕ → Type 0
-HasLearnedUnit way m c input k = KnowsUnit way m c input k × (unit_class m (next (tape_in way input) k) < c.table.of.stride)
+HasLearnedUnit way m c input k =
+    KnowsUnit way m c input k × (unit_class m (next (tape_in way input) k) < c.table.of.stride)
 
 -- the unit at place `k` is no quit byte, its transition is known, and the state behind it tells nothing
 pub record IsQuiet (way : Direction) (m : Machine) (c : Stored) (input : Input) (k : ℕ) : Type 0 where
@@ -61,7 +63,8 @@ pub record IsQuiet (way : Direction) (m : Machine) (c : Stored) (input : Input) 
   pub known : HasLearnedUnit way m c input k
   pub silent : (state_in way m input (suc k)).patterns ≡ []
 
--- known transitions led a pass from its first `from` units on, to this ID behind its first `to`; none of them told anything
+-- known transitions led a pass from its first `from` units on, to this ID behind its first `to`; none of them told
+-- anything
 pub record IsFollowed (way : Direction) (m : Machine) (c : Stored) (input : Input) (from to id : ℕ) : Type 0 where
   pub more : from ≤ to
   pub named : Names c.table id (state_in way m input to)

@@ -47,7 +47,8 @@ none_searched = record { bytes = 0; running = None }
 
 -- an open search counts its bytes from its first one, beside those that were searched before; once a clear came, from
 -- where in the span it was then, beside none
-abbrev pub CountsFrom : Input → (before : Searched) (first : ℕ) → (old new : Stored) → (beside : Searched) (from : ℕ) → Type 0
+abbrev pub CountsFrom :
+    Input → (before : Searched) (first : ℕ) → (old new : Stored) → (beside : Searched) (from : ℕ) → Type 0
 CountsFrom input before first old new beside from =
     ((beside ≡ before) × (from ≡ first))
     ⊎ ((ClearedNothing old new → ⊥) × (beside ≡ none_searched) × (input.start ≤ from) × (from ≤ input.end))
@@ -97,7 +98,8 @@ HasEnded way m input old new =
 -- a pass was refused: at its start, which leaves the progress as it was; or it has ended; or it is left open
 abbrev pub IsLeft : Direction → Machine → Input → (old new : Stored) → SearchError → Type 0
 IsLeft way m input old new e =
-    (IsStartRefusalAt m new input.anchored (tape_in way input).before (behind_offset way input) (offset_in way input 0) e
+    (IsStartRefusalAt m new input.anchored (tape_in way input).before (behind_offset way input) (offset_in way input 0)
+    e
     × (new.searched ≡ old.searched))
     ⊎ (HasEnded way m input old new
     ⊎ ((KeepsNone way input → ⊥) × IsLeftOpen way m input old.searched old new e))

@@ -53,8 +53,9 @@ MeetsNoQuit way m input =
 abbrev pub IsNoQuit : Machine → Option ℕ → Type 0
 IsNoQuit m unit = (byte : ℕ) → unit ≡ Some byte → is_quit m.quits byte ≡ false
 
--- why a step from a state on a unit is refused: at a quit byte for that alone, and at another unit where the state that it
--- leads to isn't there, doesn't fit, and the clear rule refuses, or where memory is wanting; each is told at an offset
+-- why a step from a state on a unit is refused: at a quit byte for that alone, and at another unit where the state that
+-- it leads to isn't there, doesn't fit, and the clear rule refuses, or where memory is wanting; each is told at an
+-- offset
 abbrev pub IsStepRefusal : Machine → Stored → Powerset → Option ℕ → (quit_at given_up_at : ℕ) → SearchError → Type 0
 IsStepRefusal m c q unit quit_at given_up_at (search.Match (QuitAt byte offset)) =
     (unit ≡ Some byte) × (is_quit m.quits byte ≡ true) × (offset ≡ quit_at)
@@ -84,7 +85,8 @@ IsPassRefusal way m c input e =
     IsStartRefusalAt m c input.anchored (tape_in way input).before (behind_offset way input) (offset_in way input 0) e
     ⊎ ((k : ℕ) × (quit_behind m (tape_in way input).before ≡ None) × Reads way m input k
     × HasReadNoQuit way m input k
-    × IsStepRefusal m c (state_in way m input k) (next (tape_in way input) k) (unit_offset way input k) (given_up_offset way input k) e)
+    × IsStepRefusal m c (state_in way m input k) (next (tape_in way input) k) (unit_offset way input k)
+    (given_up_offset way input k) e)
 
 -- a pass over the span of an input tells this, and meets no quit byte
 abbrev pub Finds : Direction → Machine → Input → Option Pair → Type 0
@@ -119,4 +121,5 @@ WithoutBase P found = (answer : Option Half) × P answer × (found ≡ option_ma
 -- no byte is a quit byte from the one before the span to the one behind it
 abbrev pub NoQuitInReach : Machine → Input → Type 0
 NoQuitInReach m input =
-    (at byte : ℕ) → input.start ≤ at + 1 → at ≤ input.end → nth input.haystack at ≡ Some byte → is_quit m.quits byte ≡ false
+    (at byte : ℕ) → input.start ≤ at + 1 → at ≤ input.end → nth input.haystack at ≡ Some byte
+    → is_quit m.quits byte ≡ false

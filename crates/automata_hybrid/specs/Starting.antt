@@ -49,7 +49,8 @@ abbrev pub IsStartRefusal : Machine → Stored → Anchored → Option ℕ → S
 -- a quit byte is behind the start, and it is this one
 IsStartRefusal m c mode behind (start.Quit byte) = quit_behind m behind ≡ Some byte
 -- no quit byte is behind, and the mode isn't supported
-IsStartRefusal m c mode behind (start.UnsupportedAnchored told) = (quit_behind m behind ≡ None) × (supports m mode ≡ false) × (told ≡ mode)
+IsStartRefusal m c mode behind (start.UnsupportedAnchored told) =
+    (quit_behind m behind ≡ None) × (supports m mode ≡ false) × (told ≡ mode)
 -- the cache hasn't the state, has no room for it, and may not be cleared
 IsStartRefusal m c mode behind (start.Cache err) = MayStart m mode behind × GivesUp c (start_state_of m.nfa mode behind)
 IsStartRefusal m c mode behind start.OutOfMemory = MayStart m mode behind

@@ -94,7 +94,9 @@ StateMap = HashMap Powerset ℕ (BuildHasherDefault FoldHasher)
 
 -- each known cell of a row names the next state of that row's state
 abbrev pub IsStepped : Rows → Type 0
-IsStepped t = (k class : ℕ) (r : Row) → slice_get t.rows k ≡ Some r → class < t.of.stride → IsCell t r.state class (slice_index t.cells ((k + 3) * t.of.stride + class))
+IsStepped t =
+    (k class : ℕ) (r : Row) → slice_get t.rows k ≡ Some r → class < t.of.stride
+    → IsCell t r.state class (slice_index t.cells ((k + 3) * t.of.stride + class))
 
 -- each row is found by its state, so no two rows have one state
 abbrev pub IsDistinct : Rows → Type 0
@@ -107,7 +109,9 @@ HasRowIds t =
     → Names t (row_id ((k + 3) * t.of.stride) r) r.state × ((k + 3) * t.of.stride < offset_limit)
 
 abbrev pub IsAlive : Rows → Type 0
-IsAlive t = (k : ℕ) (r : Row) → slice_get t.rows k ≡ Some r → (r.state ≡ dead → ⊥) × (cost r.state ≤ greatest t.of) × IsOwn t.of.nfa r.state
+IsAlive t =
+    (k : ℕ) (r : Row) → slice_get t.rows k ≡ Some r
+    → (r.state ≡ dead → ⊥) × (cost r.state ≤ greatest t.of) × IsOwn t.of.nfa r.state
 
 -- the table, the states and the map fit each other
 pub record IsTable (t : Rows) (map : StateMap) (costs : ℕ) : Type 0 where

@@ -75,7 +75,8 @@ pub record Stands (way : Direction) (m : Machine) (input : Input) (q : Powerset)
 
 -- a walk has told all that there is to tell: its span was done, or it met no quit byte to its end
 pub record HasToldAll (way : Direction) (m : Machine) (input : Input) (k : ℕ) : Type 0 where
-  pub clean : (input.end < input.start) ⊎ (MayStart m input.anchored (tape_in way input).before × WalkMeetsNoQuit way m input)
+  pub clean :
+      (input.end < input.start) ⊎ (MayStart m input.anchored (tape_in way input).before × WalkMeetsNoQuit way m input)
   pub pairs : List Pair
   pub all : AreWalked way m input pairs
   pub none_left : length pairs ≤ k
@@ -116,7 +117,8 @@ IsResumeRefusal way m c input Ended units e = ⊥
 -- why the step on the unit at place `j` is refused
 abbrev pub IsUnitRefusal : Direction → Machine → Stored → Input → ℕ → SearchError → Type 0
 IsUnitRefusal way m c input j e =
-    IsStepRefusal m c (state_in way m input j) (next (tape_in way input) j) (unit_offset way input j) (given_up_offset way input j) e
+    IsStepRefusal m c (state_in way m input j) (next (tape_in way input) j) (unit_offset way input j)
+    (given_up_offset way input j) e
 
 -- why a call is refused that was to tell the pair behind the first `k`: it isn't gone on with, or the step on a unit
 -- that it reads is refused, no quit byte having been met before; the units before tell these `k` pairs
@@ -156,7 +158,8 @@ abbrev pub IsArrival : Direction → Machine → Rows → Input → (from : ℕ)
 IsArrival way m t input from None units = Finishes way m input from units
 IsArrival way m t input from (Some id) units = Arrives way m t input from id units
 
--- why going on from the first `from` units is refused: the step on a unit from there on is, those before telling nothing
+-- why going on from the first `from` units is refused: the step on a unit from there on is, those before telling
+-- nothing
 abbrev pub IsAdvanceRefusal : Direction → Machine → Stored → Input → (from : ℕ) → SearchError → Type 0
 IsAdvanceRefusal way m c input from e =
     (j : ℕ) × (from ≤ j) × WalkReads way m input j × HasReadNoQuit way m input j × IsSilent way m input from j

@@ -1,4 +1,5 @@
-//! A lazy DFA: its states are determinised while it searches, into a cache whose accounted bytes never pass its capacity.
+//! A lazy DFA: its states are determinised while it searches, into a cache whose accounted bytes never pass its
+//! capacity.
 #![tactic(auto)]
 
 pub mod dfa;

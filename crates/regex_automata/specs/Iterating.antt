@@ -77,7 +77,8 @@ input_at haystack start end anchored earliest =
 abbrev pub most_items : (ended : Bool) → Input → Option ℕ → ℕ
 most_items true input last = 0
 most_items false input None = input.end + 2 - input.start
-most_items false input (Some end) = cond (end == input.start) (input.end + 1 - input.start) (input.end + 2 - input.start)
+most_items false input (Some end) =
+    cond (end == input.start) (input.end + 1 - input.start) (input.end + 2 - input.start)
 
 -- the first matches of an iteration, whatever comes behind them
 abbrev pub AreFirst : (Finds : Input → Option Match → Type 0) → Input → ℕ → Option ℕ → List Match → Type 0

@@ -31,7 +31,8 @@ use Rattle.regex_automata.specs.declared.hybrid.regex.caches.Cache.{Cache}
 abbrev pub AreStoresOf : Cache → Regex → Type 0
 AreStoresOf c p = IsStoreOf c.forward.store p.forward × IsStoreOf c.reverse.store p.reverse
 
--- some cache of the DFA, within its settings, refuses a call of a walk that has told so many pairs; or memory is wanting
+-- some cache of the DFA, within its settings, refuses a call of a walk that has told so many pairs; or memory is
+-- wanting
 abbrev pub MayRefuseStep : Direction → Machine → Input → (told : ℕ) → SearchError → Type 0
 MayRefuseStep way m input told e =
     IsMemory e ⊎ ((w : Walk) × HasTold way m input w told × MayRefuseCall way m input w told e)
@@ -75,8 +76,8 @@ pub record IsSpanOf (p : Regex) (input : Input) (result : Result (Option Match) 
   pub errors : IfErr result (MayRefuseSpan p input)
   -- a mode that isn't supported is told
   pub unsupported : IsUnsupported Forward p.forward input → result ≡ Err (unsupported_error input)
-  -- where nothing stands in the way of either DFA, only want of memory is a refusal, or that the two are no pair; and of
-  -- a sound pair the first alone
+  -- where nothing stands in the way of either DFA, only want of memory is a refusal, or that the two are no pair; and
+  -- of a sound pair the first alone
   pub free : IsFree p input → IfErr result IsOfMemory
   pub free_sound : IsSoundPair p → IsFree p input → IfErr result IsMemory
 
@@ -148,15 +149,15 @@ AreRising low (k ∷ ks) = (low ≤ k) × AreRising (suc k) ks
 abbrev pub empty_set : (capacity : ℕ) → List Bool
 empty_set capacity = replicate capacity false
 
--- some cache of the DFA refuses a walk that had told the patterns of just these; or memory is wanting for the set or the
--- list, and there are none of them
+-- some cache of the DFA refuses a walk that had told the patterns of just these; or memory is wanting for the set or
+-- the list, and there are none of them
 abbrev pub MayRefusePatterns : Machine → Input → (capacity : ℕ) → List ℕ → SearchError → Type 0
 MayRefusePatterns m input capacity found e =
     (IsMemory e × (found ≡ []))
     ⊎ ((set : List Bool) × (found ≡ members set) × MayRefuseWhich m input (empty_set capacity) set e)
 
--- the patterns below a capacity of all overlapping matches, in an earliest search of the first one; or those told before
--- the error
+-- the patterns below a capacity of all overlapping matches, in an earliest search of the first one; or those told
+-- before the error
 pub record ArePatternsUpto (m : Machine) (input : Input) (capacity : ℕ) (found : List ℕ)
     (error : Option SearchError) : Type 0 where
   -- in increasing order

@@ -158,7 +158,8 @@ impl LookSet {
 
     /// The set with a look added.
     pub fn insert(self, look: Look) -> LookSet
-        ensures { (other : Look) → truth_of result other ≡ (eqb (look_index other) (look_index look) || truth_of self other) }
+        ensures { (other : Look) → truth_of result other
+            ≡ (eqb (look_index other) (look_index look) || truth_of self other) }
     {
         LookSet {
             bits: self.bits | 1 << look.index(),

@@ -40,7 +40,8 @@ impl Span {
 
     /// Whether it has the offset, its own two among those it has. An empty span has none.
     pub fn contains(&self, offset: usize) -> bool
-        ensures { IsTrue result ↔ (self.now.start < self.now.end) × (self.now.start ≤ offset) × (offset ≤ self.now.end) }
+        ensures { IsTrue result ↔ (self.now.start < self.now.end) × (self.now.start ≤ offset)
+            × (offset ≤ self.now.end) }
     {
         !self.is_empty() && self.start <= offset && offset <= self.end
     }
@@ -292,7 +293,13 @@ impl<'h> Input<'h> {
 
     /// The whole haystack, not anchored, and not earliest.
     pub fn new(haystack: &'h [u8]) -> Input<'h>
-        ensures { result ≡ record { haystack = haystack.now; start = 0; end = length haystack.now; anchored = Anchored.No; earliest = false } }
+        ensures { result ≡ record {
+          haystack = haystack.now;
+          start = 0;
+          end = length haystack.now;
+          anchored = Anchored.No;
+          earliest = false;
+        } }
     {
         Input {
             haystack,

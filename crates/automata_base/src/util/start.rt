@@ -38,7 +38,10 @@ impl Config {
 
     /// Of a forward search: the byte before the span, which may stand outside the span.
     pub fn from_input_forward(input: &Input<'_>) -> Config
-        ensures { result ≡ record { look_behind = byte_before input.now.haystack input.now.start; anchored = input.now.anchored } }
+        ensures { result ≡ record {
+          look_behind = byte_before input.now.haystack input.now.start;
+          anchored = input.now.anchored;
+        } }
     {
         let start = input.start();
         let look_behind = if start == 0 {
@@ -54,7 +57,10 @@ impl Config {
 
     /// Of a reverse search: the byte at the span's end.
     pub fn from_input_reverse(input: &Input<'_>) -> Config
-        ensures { result ≡ record { look_behind = nth input.now.haystack input.now.end; anchored = input.now.anchored } }
+        ensures { result ≡ record {
+          look_behind = nth input.now.haystack input.now.end;
+          anchored = input.now.anchored;
+        } }
     {
         Config {
             look_behind: byte_at(input.haystack(), input.end()),

@@ -85,9 +85,12 @@ impl Cache {
     ) -> Result<Key, AllocError>
         requires of { IsCacheOf self.old dfa.now }
         requires valid { IsValid self.old.store.table id }
-        requires alike { (q : Powerset) → IsOwn dfa.now.nfa q → successor dfa.now.nfa dfa.now.kind q unit ≡ next_of dfa.now q class }
-        ensures value { IfOk result (λ k. (q : Powerset) → Names self.old.store.table id q → k ≡ next_of dfa.now q class) }
-        ensures successor { IfOk result (λ k. (q : Powerset) → Names self.old.store.table id q → k ≡ successor dfa.now.nfa dfa.now.kind q unit) }
+        requires alike { (q : Powerset) → IsOwn dfa.now.nfa q
+            → successor dfa.now.nfa dfa.now.kind q unit ≡ next_of dfa.now q class }
+        ensures value { IfOk result (λ k. (q : Powerset) → Names self.old.store.table id q
+            → k ≡ next_of dfa.now q class) }
+        ensures successor { IfOk result (λ k. (q : Powerset) → Names self.old.store.table id q
+            → k ≡ successor dfa.now.nfa dfa.now.kind q unit) }
         ensures cost { IfOk result (λ k. cost k ≤ greatest dfa.now) }
         ensures is_of { IfOk result (λ k. IsOwn dfa.now.nfa k) }
         ensures counted { self.new ≡ counted self.old }
@@ -193,7 +196,8 @@ impl Cache {
         requires row { IsValid self.old.store.table id }
         requires class { class < self.old.store.table.of.stride }
         requires free { slice_index (template_of self.old.store.table.of) class ≡ unknown_id }
-        requires next { (q : Powerset) × Names self.old.store.table id q × Leads self.old.store.table next (next_of self.old.store.table.of q class) }
+        requires next { (q : Powerset) × Names self.old.store.table id q
+            × Leads self.old.store.table next (next_of self.old.store.table.of q class) }
         ensures { self.new ≡ with_store self.old (with_next self.old.store id class next) }
     {
         self.store.set_next(id, class, next);
@@ -212,14 +216,18 @@ impl Cache {
         requires alive { state ≡ dead → ⊥ }
         requires cost { cost state ≤ greatest dfa.now }
         requires of { IsOwn dfa.now.nfa state }
-        ensures effect { OnOk result (IsAdded self.old.store from (record { state = state; started = false }) self.new.store) }
-        ensures only { OnOk result ((p : Powerset) → Has self.new.store.table p → Has self.old.store.table p ⊎ (p ≡ state)) }
+        ensures effect { OnOk result (IsAdded self.old.store from (record { state = state; started = false })
+            self.new.store) }
+        ensures only { OnOk result ((p : Powerset) → Has self.new.store.table p
+            → Has self.old.store.table p ⊎ (p ≡ state)) }
         ensures starts { OnOk result (KeepsStarts self.old.store.starts self.new.store.starts) }
-        ensures from { IfOk result (λ p. (q : Powerset) → Names self.old.store.table from q → Names self.new.store.table p.0 q) }
+        ensures from { IfOk result (λ p. (q : Powerset) → Names self.old.store.table from q
+            → Names self.new.store.table p.0 q) }
         ensures to { IfOk result (λ p. Names self.new.store.table p.1 state) }
         ensures of { IsCacheOf self.new dfa.now }
         ensures count { self.new.count ≡ self.old.count }
-        ensures gives_up { IfErr result (λ e. IsCacheError e → (Fits self.old.store (cost state) → ⊥) × (refuses_to_clear self.old.store ≡ true)) }
+        ensures gives_up { IfErr result (λ e. IsCacheError e
+            → (Fits self.old.store (cost state) → ⊥) × (refuses_to_clear self.old.store ≡ true)) }
         ensures err { OnErr result (self.new ≡ self.old) }
     {
         let added = self.store.add_next(dfa, from, state)?;
@@ -277,16 +285,22 @@ impl Cache {
         requires alive { state ≡ dead → ⊥ }
         requires cost { cost state ≤ greatest dfa.now }
         requires of { IsOwn dfa.now.nfa state }
-        ensures fits { Fits self.old.store (cost state) → OnOk result (self.new ≡ with_store self.old (grown self.old.store (record { state = state; started = started }))) }
-        ensures clears { (Fits self.old.store (cost state) → ⊥) → OnOk result (self.new ≡ with_store self.old (grown (cleared self.old.store) (record { state = state; started = started }))) }
-        ensures effect { OnOk result (IsAddedStart self.old.store (record { state = state; started = started }) self.new.store) }
+        ensures fits { Fits self.old.store (cost state) → OnOk result
+            (self.new ≡ with_store self.old (grown self.old.store (record { state = state; started = started }))) }
+        ensures clears { (Fits self.old.store (cost state) → ⊥)
+            → OnOk result (self.new ≡ with_store self.old
+            (grown (cleared self.old.store) (record { state = state; started = started }))) }
+        ensures effect { OnOk result (IsAddedStart self.old.store (record { state = state; started = started })
+            self.new.store) }
         ensures named { IfOk result (λ id. Names self.new.store.table id state) }
         ensures slots { OnOk result (length self.new.store.starts ≡ length self.old.store.starts) }
-        ensures only { OnOk result ((p : Powerset) → Has self.new.store.table p → Has self.old.store.table p ⊎ (p ≡ state)) }
+        ensures only { OnOk result ((p : Powerset) → Has self.new.store.table p
+            → Has self.old.store.table p ⊎ (p ≡ state)) }
         ensures starts { OnOk result (KeepsStarts self.old.store.starts self.new.store.starts) }
         ensures of { IsCacheOf self.new dfa.now }
         ensures count { self.new.count ≡ self.old.count }
-        ensures gives_up { IfErr result (λ e. IsCacheError e → (Fits self.old.store (cost state) → ⊥) × (refuses_to_clear self.old.store ≡ true)) }
+        ensures gives_up { IfErr result (λ e. IsCacheError e
+            → (Fits self.old.store (cost state) → ⊥) × (refuses_to_clear self.old.store ≡ true)) }
         ensures err { OnErr result (self.new ≡ self.old) }
     {
         let id = self.store.add_start(dfa, state, started)?;
@@ -315,11 +329,13 @@ impl Cache {
         self.store.see_cells();
     }
 
-    /// IDs of rows have no high tag, and the match tag exactly where their state has patterns; no row has the dead state.
+    /// IDs of rows have no high tag, and the match tag exactly where their state has patterns; no row has the dead
+    /// state.
     pub(crate) fn see_ids(&self)
         ensures ids { HasRowIds self.now.store.table }
         ensures low { (id : ℕ) (q : Powerset) → Names self.now.store.table id q → id < fixed_from }
-        ensures tagged { (id : ℕ) (q : Powerset) → Names self.now.store.table id q → IsBitSet id 27 ↔ (0 < length q.patterns) }
+        ensures tagged { (id : ℕ) (q : Powerset) → Names self.now.store.table id q
+            → IsBitSet id 27 ↔ (0 < length q.patterns) }
         ensures small { self.now.store.table.of.stride ≤ 512 }
         ensures alive { (id : ℕ) (q : Powerset) → Names self.now.store.table id q → q ≡ dead → ⊥ }
     {
@@ -374,7 +390,8 @@ impl Cache {
 
     /// A search begins at an offset; one that is open ends.
     pub fn search_start(&mut self, at: usize)
-        ensures value { self.new ≡ with_store self.old (with_searched self.old.store (started self.old.store.searched at)) }
+        ensures value { self.new ≡ with_store self.old (with_searched self.old.store
+            (started self.old.store.searched at)) }
         ensures table { self.new.store.table ≡ self.old.store.table }
         ensures count { self.new.count ≡ self.old.count }
     {
@@ -399,7 +416,8 @@ impl Cache {
 
     /// Moves the search to an offset, if one is open.
     pub(crate) fn move_search(&mut self, at: usize)
-        ensures value { self.new ≡ with_store self.old (with_searched self.old.store (updated self.old.store.searched at)) }
+        ensures value { self.new ≡ with_store self.old (with_searched self.old.store
+            (updated self.old.store.searched at)) }
         ensures table { self.new.store.table ≡ self.old.store.table }
         ensures count { self.new.count ≡ self.old.count }
     {
@@ -408,7 +426,8 @@ impl Cache {
 
     /// Ends the search at an offset, if one is open.
     pub(crate) fn end_search(&mut self, at: usize)
-        ensures value { self.new ≡ with_store self.old (with_searched self.old.store (finished self.old.store.searched at)) }
+        ensures value { self.new ≡ with_store self.old (with_searched self.old.store
+            (finished self.old.store.searched at)) }
         ensures table { self.new.store.table ≡ self.old.store.table }
         ensures count { self.new.count ≡ self.old.count }
     {

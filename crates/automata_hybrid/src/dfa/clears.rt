@@ -23,7 +23,8 @@ pub fn keep_row(kept: &mut Table, old: &Table, id: LazyStateID) -> Result<LazySt
     ensures few { OnOk result (length kept.new.rows ≤ length kept.old.rows + 1) }
     ensures of { OnOk result (kept.new.of ≡ kept.old.of) }
     ensures starts { OnOk result ((starts : List ℕ) → AllStarts kept.old starts → AllStarts kept.new starts) }
-    ensures absent { OnOk result ((q : Powerset) → id_of old.now q ≡ None → id_of kept.old q ≡ None → id_of kept.new q ≡ None) }
+    ensures absent { OnOk result ((q : Powerset) → id_of old.now q ≡ None → id_of kept.old q ≡ None
+        → id_of kept.new q ≡ None) }
     ensures err { OnErr result (kept.new ≡ kept.old) }
 {
     let row = old.copied_row(old.row_index(id))?;
@@ -47,14 +48,18 @@ pub fn keep_slot(
     requires of { kept.old.of ≡ old.now.of }
     requires fits { length kept.old.cells < offset_limit }
     requires costs { sum_by row_cost kept.old.rows + greatest old.now.of < 2 ^ 64 }
-    ensures kept { OnOk result (kept.new ≡ (keep_slot old.now (record { table = kept.old; starts = slots.old.items }) id).table) }
-    ensures slots { OnOk result (slots.new.items ≡ (keep_slot old.now (record { table = kept.old; starts = slots.old.items }) id).starts) }
+    ensures kept { OnOk result
+        (kept.new ≡ (keep_slot old.now (record { table = kept.old; starts = slots.old.items }) id).table) }
+    ensures slots { OnOk result
+        (slots.new.items ≡ (keep_slot old.now (record { table = kept.old; starts = slots.old.items }) id).starts) }
     ensures named { OnOk result (AllStarts kept.new slots.new.items) }
     ensures few { OnOk result (length kept.new.rows ≤ length kept.old.rows + 1) }
-    ensures absent { OnOk result ((q : Powerset) → id_of old.now q ≡ None → id_of kept.old q ≡ None → id_of kept.new q ≡ None) }
+    ensures absent { OnOk result ((q : Powerset) → id_of old.now q ≡ None → id_of kept.old q ≡ None
+        → id_of kept.new q ≡ None) }
     ensures of { OnOk result (kept.new.of ≡ kept.old.of) }
     ensures len { OnOk result (length slots.new.items ≡ length slots.old.items + 1) }
-    ensures front { OnOk result ((j : ℕ) → j < length slots.old.items → slice_index slots.new.items j ≡ slice_index slots.old.items j) }
+    ensures front { OnOk result ((j : ℕ) → j < length slots.old.items
+        → slice_index slots.new.items j ≡ slice_index slots.old.items j) }
     ensures last { OnOk result (id < unknown_id → slice_index slots.new.items (length slots.old.items) < unknown_id) }
 {
     old.see_rows();

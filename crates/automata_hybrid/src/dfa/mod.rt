@@ -197,9 +197,11 @@ impl DFA {
         ensures value { result ≡ class_in self.now.classes byte }
         ensures below { result < self.now.stride }
         ensures small { self.now.stride ≤ 512 }
-        ensures quit { is_quit self.now.quits byte ≡ true → slice_index (template_of self.now) result ≡ quit_id self.now.stride }
+        ensures quit { is_quit self.now.quits byte ≡ true
+            → slice_index (template_of self.now) result ≡ quit_id self.now.stride }
         ensures free { is_quit self.now.quits byte ≡ false → slice_index (template_of self.now) result ≡ unknown_id }
-        ensures alike { (q : Powerset) → IsOwn self.now.nfa q → successor self.now.nfa self.now.kind q (Some byte) ≡ next_of self.now q result }
+        ensures alike { (q : Powerset) → IsOwn self.now.nfa q
+            → successor self.now.nfa self.now.kind q (Some byte) ≡ next_of self.now q result }
     {
         usize::from(self.classes.get(byte))
     }
@@ -210,7 +212,8 @@ impl DFA {
         ensures below { result < self.now.stride }
         ensures small { self.now.stride ≤ 512 }
         ensures free { slice_index (template_of self.now) result ≡ unknown_id }
-        ensures alike { (q : Powerset) → IsOwn self.now.nfa q → successor self.now.nfa self.now.kind q None ≡ next_of self.now q result }
+        ensures alike { (q : Powerset) → IsOwn self.now.nfa q
+            → successor self.now.nfa self.now.kind q None ≡ next_of self.now q result }
     {
         self.classes.eoi()
     }

@@ -110,8 +110,8 @@ impl Cache {
 }
 
 impl DFA {
-    /// The kind of what is behind a start: 0 for any byte that isn't said here, 1 for a word byte, 2 for none, 3 for a line
-    /// feed, 4 for a carriage return, 5 for a line terminator that is none of these two.
+    /// The kind of what is behind a start: 0 for any byte that isn't said here, 1 for a word byte, 2 for none, 3 for a
+    /// line feed, 4 for a carriage return, 5 for a line terminator that is none of these two.
     fn behind(&self, prev: Option<u8>) -> usize
         ensures { result ≡ behind_of self.now.nfa.flags.line_terminator prev }
     {
@@ -293,8 +293,8 @@ impl DFA {
         }
     }
 
-    /// The start state of a reverse search. The byte behind is the one at the span's end. A quit byte is told at its own
-    /// offset, the span's end, and giving up there too.
+    /// The start state of a reverse search. The byte behind is the one at the span's end. A quit byte is told at its
+    /// own offset, the span's end, and giving up there too.
     pub fn start_state_reverse(
         &self,
         cache: &mut Cache,

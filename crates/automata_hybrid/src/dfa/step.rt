@@ -215,8 +215,8 @@ impl DFA {
         cache.match_len(id)
     }
 
-    /// A pattern that matches at a match state. The index is below `match_len`; the patterns stand in the order in which the
-    /// automaton's paths prefer them.
+    /// A pattern that matches at a match state. The index is below `match_len`; the patterns stand in the order in
+    /// which the automaton's paths prefer them.
     pub fn match_pattern(&self, cache: &Cache, id: LazyStateID, index: usize) -> PatternID
         requires of { IsCacheOf cache.now self.now }
         requires row { HasRow cache.now.store.table id }

@@ -184,7 +184,8 @@ impl Store {
     pub fn see_ids(&self)
         ensures ids { HasRowIds self.now.table }
         ensures low { (id : ℕ) (q : Powerset) → Names self.now.table id q → id < fixed_from }
-        ensures tagged { (id : ℕ) (q : Powerset) → Names self.now.table id q → IsBitSet id 27 ↔ (0 < length q.patterns) }
+        ensures tagged { (id : ℕ) (q : Powerset) → Names self.now.table id q
+            → IsBitSet id 27 ↔ (0 < length q.patterns) }
         ensures small { self.now.table.of.stride ≤ 512 }
         ensures alive { (id : ℕ) (q : Powerset) → Names self.now.table id q → q ≡ dead → ⊥ }
     {
@@ -316,7 +317,8 @@ impl Store {
         requires row { IsValid self.old.table id }
         requires class { class < self.old.table.of.stride }
         requires free { slice_index (template_of self.old.table.of) class ≡ unknown_id }
-        requires next { (q : Powerset) × Names self.old.table id q × Leads self.old.table next (next_of self.old.table.of q class) }
+        requires next { (q : Powerset) × Names self.old.table id q
+            × Leads self.old.table next (next_of self.old.table.of q class) }
         ensures { self.new ≡ with_next self.old id class next }
     {
         self.table.set_cell(id, class, next);
@@ -367,7 +369,8 @@ impl Store {
         ensures row { OnOk result (self.new ≡ with_table self.old (put_found self.old.table (row_of old.now id))) }
         ensures named { IfOk result (λ n. (q : Powerset) → Names old.now id q → Names self.new.table n q) }
         ensures few { OnOk result (length self.new.table.rows ≤ length self.new.starts + 1) }
-        ensures absent { OnOk result ((q : Powerset) → id_of old.now q ≡ None → id_of self.old.table q ≡ None → id_of self.new.table q ≡ None) }
+        ensures absent { OnOk result ((q : Powerset) → id_of old.now q ≡ None → id_of self.old.table q ≡ None
+            → id_of self.new.table q ≡ None) }
         ensures of { OnOk result (self.new.table.of ≡ self.old.table.of) }
     {
         self.table.see_rows();
@@ -414,16 +417,20 @@ impl Store {
         requires alive { state ≡ dead → ⊥ }
         requires cost { cost state ≤ greatest self.old.table.of }
         requires of { IsOwn self.old.table.of.nfa state }
-        ensures fits { Fits self.old (cost state) → OnOk result (self.new ≡ grown self.old (record { state = state; started = false })) }
-        ensures clears { (Fits self.old (cost state) → ⊥) → OnOk result (self.new ≡ grown (cleared_saving self.old from) (record { state = state; started = false })) }
+        ensures fits { Fits self.old (cost state) → OnOk result
+            (self.new ≡ grown self.old (record { state = state; started = false })) }
+        ensures clears { (Fits self.old (cost state) → ⊥) → OnOk result
+            (self.new ≡ grown (cleared_saving self.old from) (record { state = state; started = false })) }
         ensures effect { OnOk result (IsAdded self.old from (record { state = state; started = false }) self.new) }
         ensures only { OnOk result ((p : Powerset) → Has self.new.table p → Has self.old.table p ⊎ (p ≡ state)) }
         ensures starts { OnOk result (KeepsStarts self.old.starts self.new.starts) }
         ensures from { IfOk result (λ p. (q : Powerset) → Names self.old.table from q → Names self.new.table p.0 q) }
         ensures to { IfOk result (λ p. Names self.new.table p.1 state) }
         ensures of { OnOk result (self.new.table.of ≡ self.old.table.of) }
-        ensures gives_up { IfErr result (λ e. IsCacheError e → (Fits self.old (cost state) → ⊥) × (refuses_to_clear self.old ≡ true)) }
-        ensures refused { (Fits self.old (cost state) → ⊥) → refuses_to_clear self.old ≡ true → IfErr result IsCacheError × (is_ok result ≡ false) }
+        ensures gives_up { IfErr result (λ e. IsCacheError e
+            → (Fits self.old (cost state) → ⊥) × (refuses_to_clear self.old ≡ true)) }
+        ensures refused { (Fits self.old (cost state) → ⊥) → refuses_to_clear self.old ≡ true
+            → IfErr result IsCacheError × (is_ok result ≡ false) }
         ensures err { OnErr result (self.new ≡ self.old) }
     {
         self.see_costs();
@@ -449,15 +456,18 @@ impl Store {
         requires alive { state ≡ dead → ⊥ }
         requires cost { cost state ≤ greatest self.old.table.of }
         requires of { IsOwn self.old.table.of.nfa state }
-        ensures fits { Fits self.old (cost state) → OnOk result (self.new ≡ grown self.old (record { state = state; started = started })) }
-        ensures clears { (Fits self.old (cost state) → ⊥) → OnOk result (self.new ≡ grown (cleared self.old) (record { state = state; started = started })) }
+        ensures fits { Fits self.old (cost state) → OnOk result
+            (self.new ≡ grown self.old (record { state = state; started = started })) }
+        ensures clears { (Fits self.old (cost state) → ⊥) → OnOk result
+            (self.new ≡ grown (cleared self.old) (record { state = state; started = started })) }
         ensures effect { OnOk result (IsAddedStart self.old (record { state = state; started = started }) self.new) }
         ensures named { IfOk result (λ id. Names self.new.table id state) }
         ensures slots { OnOk result (length self.new.starts ≡ length self.old.starts) }
         ensures of { OnOk result (self.new.table.of ≡ self.old.table.of) }
         ensures only { OnOk result ((p : Powerset) → Has self.new.table p → Has self.old.table p ⊎ (p ≡ state)) }
         ensures starts { OnOk result (KeepsStarts self.old.starts self.new.starts) }
-        ensures gives_up { IfErr result (λ e. IsCacheError e → (Fits self.old (cost state) → ⊥) × (refuses_to_clear self.old ≡ true)) }
+        ensures gives_up { IfErr result (λ e. IsCacheError e
+            → (Fits self.old (cost state) → ⊥) × (refuses_to_clear self.old ≡ true)) }
         ensures err { OnErr result (self.new ≡ self.old) }
     {
         self.see_costs();

@@ -31,8 +31,8 @@ impl DFA {
     /// The pattern and the end of the first match, by the DFA's kind; with an earliest input, of the match that ends
     /// first.
     ///
-    /// A quit byte is told at its own offset, and the giving up at the offset of the byte that was to be read, or at the
-    /// span's start. After a refusal the cache serves other searches as before.
+    /// A quit byte is told at its own offset, and the giving up at the offset of the byte that was to be read, or at
+    /// the span's start. After a refusal the cache serves other searches as before.
     pub fn try_search_fwd(
         &self,
         cache: &mut Cache,
@@ -91,10 +91,14 @@ impl DFA {
         ensures errors { IfErr result (IsRefused Forward self.now cache.new.store input.now) }
         ensures bounded { IsCostOfSearch Forward self.now input.now cache.old cache.new }
         ensures based { IfOk result (λ o. IfSome o (λ p. IsCostUpto self.now input.now p.1 cache.old cache.new)) }
-        ensures unsupported { input.now.start ≤ input.now.end → quit_behind self.now (byte_before input.now.haystack input.now.start) ≡ None → supports self.now input.now.anchored ≡ false → result ≡ Err (SearchError.Match (UnsupportedMode input.now.anchored)) }
+        ensures unsupported { input.now.start ≤ input.now.end → quit_behind self.now
+            (byte_before input.now.haystack input.now.start) ≡ None → supports self.now input.now.anchored ≡ false
+            → result ≡ Err (SearchError.Match (UnsupportedMode input.now.anchored)) }
         ensures grown { IsGrown cache.old cache.new }
-        ensures known { Knows Forward self.now cache.old.store input.now → (cache.new.count ≡ cache.old.count) × IfErr result IsOfInput }
-        ensures learned { ClearedNothing cache.old.store cache.new.store → OnOk result (Knows Forward self.now cache.new.store input.now) }
+        ensures known { Knows Forward self.now cache.old.store input.now
+            → (cache.new.count ≡ cache.old.count) × IfErr result IsOfInput }
+        ensures learned { ClearedNothing cache.old.store cache.new.store
+            → OnOk result (Knows Forward self.now cache.new.store input.now) }
         ensures done { input.now.end < input.now.start → (result ≡ Ok None) × (cache.new ≡ cache.old) }
         ensures ended { OnOk result (EndsProgress Forward self.now input.now cache.old.store cache.new.store) }
         ensures left { IfErr result (LeavesProgress Forward self.now input.now cache.old.store cache.new.store) }
@@ -129,9 +133,13 @@ impl DFA {
         ensures errors { IfErr result (IsPassRefusal Forward self.now cache.new.store input.now) }
         ensures counted { cache.new.count ≤ cache.old.count + (input.now.end - input.now.start + 2) }
         ensures grown { IsGrown cache.old cache.new }
-        ensures idle { KnowsPass Forward self.now cache.old.store input.now → (cache.new.count ≡ cache.old.count) × IfErr result IsOfInput }
-        ensures learned { ClearedNothing cache.old.store cache.new.store → OnOk result (HasLearnedAll Forward self.now cache.new.store input.now) }
-        ensures unsupported { quit_behind self.now (byte_before input.now.haystack input.now.start) ≡ None → supports self.now input.now.anchored ≡ false → result ≡ Err (SearchError.Match (UnsupportedMode input.now.anchored)) }
+        ensures idle { KnowsPass Forward self.now cache.old.store input.now
+            → (cache.new.count ≡ cache.old.count) × IfErr result IsOfInput }
+        ensures learned { ClearedNothing cache.old.store cache.new.store
+            → OnOk result (HasLearnedAll Forward self.now cache.new.store input.now) }
+        ensures unsupported { quit_behind self.now (byte_before input.now.haystack input.now.start) ≡ None
+            → supports self.now input.now.anchored ≡ false
+            → result ≡ Err (SearchError.Match (UnsupportedMode input.now.anchored)) }
         ensures supported { OnOk result (supports self.now input.now.anchored ≡ true) }
         ensures ended { OnOk result (HasEnded Forward self.now input.now cache.old.store cache.new.store) }
         ensures left { IfErr result (IsLeft Forward self.now input.now cache.old.store cache.new.store) }
@@ -162,7 +170,9 @@ impl DFA {
         requires within { start ≤ input.now.end }
         ensures from { start ≤ result.at }
         ensures within { result.at ≤ input.now.end }
-        ensures followed { Names cache.now.store.table from (state_in Forward self.now input.now (start - input.now.start)) → IsFollowed Forward self.now cache.now.store input.now (start - input.now.start) (result.at - input.now.start) result.id }
+        ensures followed { Names cache.now.store.table from (state_in Forward self.now input.now
+            (start - input.now.start)) → IsFollowed Forward self.now cache.now.store input.now (start - input.now.start)
+            (result.at - input.now.start) result.id }
     {
         if from.is_tagged() {
             return Stop {
@@ -595,8 +605,11 @@ impl DFA {
         ensures errors { IfErr result (IsPassRefusal Forward self.now cache.new.store input.now) }
         ensures counted { cache.new.count ≤ cache.old.count + (input.now.end - input.now.start + 1) }
         ensures grown { IsGrown cache.old cache.new }
-        ensures idle { KnowsPass Forward self.now cache.old.store input.now → (cache.new.count ≡ cache.old.count) × IfErr result IsOfInput }
-        ensures learned { KnowsItsStart Forward self.now cache.old.store input.now → ClearedNothing cache.old.store cache.new.store → OnOk result (HasLearnedAll Forward self.now cache.new.store input.now) }
+        ensures idle { KnowsPass Forward self.now cache.old.store input.now
+            → (cache.new.count ≡ cache.old.count) × IfErr result IsOfInput }
+        ensures learned { KnowsItsStart Forward self.now cache.old.store input.now
+            → ClearedNothing cache.old.store cache.new.store
+            → OnOk result (HasLearnedAll Forward self.now cache.new.store input.now) }
         ensures ended { (before : Searched)
             → cache.old.store.searched ≡ started before (given_up_offset Forward input.now 0)
             → OnOk result (EndsAtLast Forward self.now input.now before cache.old.store cache.new.store) }
@@ -648,8 +661,12 @@ impl DFA {
         ensures errors { IfErr result (IsPassRefusal Forward self.now cache.new.store input.now) }
         ensures counted { cache.new.count ≤ cache.old.count + 1 }
         ensures grown { IsGrown cache.old cache.new }
-        ensures idle { KnowsPass Forward self.now cache.old.store input.now → (cache.new.count ≡ cache.old.count) × IfErr result IsOfInput }
-        ensures learned { KnowsItsStart Forward self.now cache.old.store input.now → HasLearned Forward self.now cache.old.store input.now (input.now.end - input.now.start) → ClearedNothing cache.old.store cache.new.store → OnOk result (HasLearnedAll Forward self.now cache.new.store input.now) }
+        ensures idle { KnowsPass Forward self.now cache.old.store input.now
+            → (cache.new.count ≡ cache.old.count) × IfErr result IsOfInput }
+        ensures learned { KnowsItsStart Forward self.now cache.old.store input.now
+            → HasLearned Forward self.now cache.old.store input.now (input.now.end - input.now.start)
+            → ClearedNothing cache.old.store cache.new.store
+            → OnOk result (HasLearnedAll Forward self.now cache.new.store input.now) }
         ensures alive { (q : Powerset) → Names cache.old.store.table id q → q ≡ dead → ⊥ }
         ensures ended { OnOk result (IsEndedBy input.now.end cache.old.store cache.new.store) }
         ensures left { IfErr result (IsLeftAt self.now

@@ -128,11 +128,16 @@ impl DFA {
         ensures of { IsCacheOf cache.new self.now }
         ensures counted { cache.new.count ≤ cache.old.count + 1 }
         ensures grown { IsGrown cache.old cache.new }
-        ensures idle { IsKnownTransition cache.old.store id (class_in self.now.classes byte) → (cache.new ≡ cache.old) × IfErr result (λ e. ⊥) }
-        ensures learned { ClearedNothing cache.old.store cache.new.store → OnOk result (IsKnownTransition cache.new.store id (class_in self.now.classes byte)) }
+        ensures idle { IsKnownTransition cache.old.store id (class_in self.now.classes byte)
+            → (cache.new ≡ cache.old) × IfErr result (λ e. ⊥) }
+        ensures learned { ClearedNothing cache.old.store cache.new.store
+            → OnOk result (IsKnownTransition cache.new.store id (class_in self.now.classes byte)) }
         ensures quit { IfOk result (λ n. is_quit self.now.quits byte ≡ true → n ≡ quit_id self.now.stride) }
-        ensures named { IfOk result (λ n. is_quit self.now.quits byte ≡ false → (q : Powerset) → Names cache.old.store.table id q → Leads cache.new.store.table n (successor self.now.nfa self.now.kind q (Some byte))) }
-        ensures errors { IfErr result (λ e. (q : Powerset) (quit_at : ℕ) → Names cache.old.store.table id q → IsStepRefusal self.now cache.new.store q (Some byte) quit_at at e) }
+        ensures named { IfOk result (λ n. is_quit self.now.quits byte ≡ false → (q : Powerset)
+            → Names cache.old.store.table id q → Leads cache.new.store.table n
+            (successor self.now.nfa self.now.kind q (Some byte))) }
+        ensures errors { IfErr result (λ e. (q : Powerset) (quit_at : ℕ) → Names cache.old.store.table id q
+            → IsStepRefusal self.now cache.new.store q (Some byte) quit_at at e) }
         ensures room { IfErr result (IsOfRoom at) }
         ensures progress { KeepsProgress cache.old.store cache.new.store }
     {
@@ -156,14 +161,18 @@ impl DFA {
         requires valid { IsValid cache.old.store.table id }
         ensures of { IsCacheOf cache.new self.now }
         ensures counted { cache.new.count ≤ cache.old.count + 1 }
-        ensures named { IfOk result (λ n. (q : Powerset) → Names cache.old.store.table id q → Leads cache.new.store.table n (successor self.now.nfa self.now.kind q (Some byte))) }
+        ensures named { IfOk result (λ n. (q : Powerset) → Names cache.old.store.table id q
+            → Leads cache.new.store.table n (successor self.now.nfa self.now.kind q (Some byte))) }
         ensures dead { IfOk result (IsDeadTagged cache.new.store.table) }
         ensures alive { (q : Powerset) → Names cache.old.store.table id q → q ≡ dead → ⊥ }
         ensures clean { OnOk result (is_quit self.now.quits byte ≡ false) }
-        ensures errors { IfErr result (λ e. (q : Powerset) → Names cache.old.store.table id q → IsStepRefusal self.now cache.new.store q (Some byte) at at e) }
+        ensures errors { IfErr result (λ e. (q : Powerset) → Names cache.old.store.table id q
+            → IsStepRefusal self.now cache.new.store q (Some byte) at at e) }
         ensures grown { IsGrown cache.old cache.new }
-        ensures idle { IsKnownTransition cache.old.store id (class_in self.now.classes byte) → (cache.new.count ≡ cache.old.count) × IfErr result IsOfInput }
-        ensures learned { ClearedNothing cache.old.store cache.new.store → OnOk result (IsKnownTransition cache.new.store id (class_in self.now.classes byte)) }
+        ensures idle { IsKnownTransition cache.old.store id (class_in self.now.classes byte)
+            → (cache.new.count ≡ cache.old.count) × IfErr result IsOfInput }
+        ensures learned { ClearedNothing cache.old.store cache.new.store
+            → OnOk result (IsKnownTransition cache.new.store id (class_in self.now.classes byte)) }
         ensures below { class_in self.now.classes byte < self.now.stride }
         ensures moved { OnOk result (IsMovedTo at cache.old.store cache.new.store) }
         ensures left { IfErr result (IsLeftAt self.now (Some byte) at cache.old.store cache.new.store) }
@@ -191,12 +200,16 @@ impl DFA {
         requires valid { IsValid cache.old.store.table id }
         ensures of { IsCacheOf cache.new self.now }
         ensures counted { cache.new.count ≤ cache.old.count + 1 }
-        ensures named { IfOk result (λ n. (q : Powerset) → Names cache.old.store.table id q → Leads cache.new.store.table n (successor self.now.nfa self.now.kind q None)) }
+        ensures named { IfOk result (λ n. (q : Powerset) → Names cache.old.store.table id q
+            → Leads cache.new.store.table n (successor self.now.nfa self.now.kind q None)) }
         ensures alive { (q : Powerset) → Names cache.old.store.table id q → q ≡ dead → ⊥ }
-        ensures errors { IfErr result (λ e. (q : Powerset) → Names cache.old.store.table id q → IsStepRefusal self.now cache.new.store q None at at e) }
+        ensures errors { IfErr result (λ e. (q : Powerset) → Names cache.old.store.table id q
+            → IsStepRefusal self.now cache.new.store q None at at e) }
         ensures grown { IsGrown cache.old cache.new }
-        ensures idle { IsKnownTransition cache.old.store id (eoi_class self.now.classes) → (cache.new.count ≡ cache.old.count) × IfErr result IsOfInput }
-        ensures learned { ClearedNothing cache.old.store cache.new.store → OnOk result (IsKnownTransition cache.new.store id (eoi_class self.now.classes)) }
+        ensures idle { IsKnownTransition cache.old.store id (eoi_class self.now.classes)
+            → (cache.new.count ≡ cache.old.count) × IfErr result IsOfInput }
+        ensures learned { ClearedNothing cache.old.store cache.new.store
+            → OnOk result (IsKnownTransition cache.new.store id (eoi_class self.now.classes)) }
         ensures below { eoi_class self.now.classes < self.now.stride }
         ensures room { IfErr result (IsOfRoom at) }
         ensures progress { KeepsProgress cache.old.store cache.new.store }

@@ -28,11 +28,11 @@ use automata_base::util::search::{HalfMatch, Input};
 use automata_config::error::{SearchError, StepError};
 
 impl DFA {
-    /// Tells the next of all overlapping matches of a forward walk, by `OverlappingState::get_match`; none where none is left,
-    /// and so from then on. The state is of one DFA and one input, over whatever caches of that DFA.
+    /// Tells the next of all overlapping matches of a forward walk, by `OverlappingState::get_match`; none where none
+    /// is left, and so from then on. The state is of one DFA and one input, over whatever caches of that DFA.
     ///
-    /// A quit byte is told at its own offset, and the giving up at the offset of the byte that was to be read, or at the
-    /// span's start or its end. After a refusal the walk is as before, but for its match, which is none.
+    /// A quit byte is told at its own offset, and the giving up at the offset of the byte that was to be read, or at
+    /// the span's start or its end. After a refusal the walk is as before, but for its match, which is none.
     pub fn try_search_overlapping_fwd(
         &self,
         cache: &mut Cache,
@@ -59,8 +59,8 @@ impl DFA {
         told
     }
 
-    /// The same of a walk from the span's end to its start. The DFA is of an automaton that reads its regular expressions
-    /// backward.
+    /// The same of a walk from the span's end to its start. The DFA is of an automaton that reads its regular
+    /// expressions backward.
     pub fn try_search_overlapping_rev(
         &self,
         cache: &mut Cache,
@@ -96,8 +96,10 @@ impl DFA {
         ensures named { IfOk result (λ id. (q : Powerset) → walk.now.stage ≡ At q → Names cache.new.store.table id q) }
         ensures counted { cache.new.count ≡ cache.old.count }
         ensures grown { IsGrown cache.old (counted cache.new) }
-        ensures there { HasItsState cache.old.store.table walk.now.stage → (cache.new ≡ cache.old) × IfErr result (λ e. ⊥) }
-        ensures gives_up { IfErr result (λ e. IsCacheError e → (q : Powerset) → walk.now.stage ≡ At q → GivesUp cache.old.store q) }
+        ensures there { HasItsState cache.old.store.table walk.now.stage
+            → (cache.new ≡ cache.old) × IfErr result (λ e. ⊥) }
+        ensures gives_up { IfErr result (λ e. IsCacheError e → (q : Powerset) → walk.now.stage ≡ At q
+            → GivesUp cache.old.store q) }
         ensures err { OnErr result (cache.new ≡ cache.old) }
     {
         if let Some(id) = walk.find_in(cache) {
@@ -108,7 +110,8 @@ impl DFA {
         Ok(id)
     }
 
-    /// The ID of the state that a walk goes on from: its start, the one that is given, or that of the state that it holds.
+    /// The ID of the state that a walk goes on from: its start, the one that is given, or that of the state that it
+    /// holds.
     fn resume(
         &self,
         cache: &mut Cache,
@@ -125,14 +128,20 @@ impl DFA {
         requires open { input.now.start ≤ input.now.end }
         requires within { walk.now.units ≤ input.now.end - input.now.start }
         ensures of { IsCacheOf cache.new self.now }
-        ensures leads { IfOk result (λ id. Leads cache.new.store.table id (state_in (way_of way) self.now input.now walk.now.units)) }
+        ensures leads { IfOk result (λ id. Leads cache.new.store.table id
+            (state_in (way_of way) self.now input.now walk.now.units)) }
         ensures may { OnOk result (MayStart self.now input.now.anchored (tape_in (way_of way) input.now).before) }
-        ensures errors { IfErr result (IsResumeRefusal (way_of way) self.now cache.new.store input.now walk.now.stage walk.now.units) }
+        ensures errors { IfErr result (IsResumeRefusal (way_of way) self.now cache.new.store input.now walk.now.stage
+            walk.now.units) }
         ensures counted { cache.new.count ≤ cache.old.count + start_count walk.now.stage }
         ensures grown { IsGrown cache.old (counted cache.new) }
         ensures there { HasItsState cache.old.store.table walk.now.stage → IsGrown cache.old cache.new }
-        ensures unsupported { walk.now.stage ≡ Fresh → quit_behind self.now (tape_in (way_of way) input.now).before ≡ None → supports self.now input.now.anchored ≡ false → result ≡ Err (SearchError.Match (UnsupportedMode input.now.anchored)) }
-        ensures idle { (MayStart self.now input.now.anchored (tape_in (way_of way) input.now).before → KnowsItsState (way_of way) self.now cache.old.store input.now walk.now.stage) → (cache.new ≡ cache.old) × IfErr result IsOfInput }
+        ensures unsupported { walk.now.stage ≡ Fresh → quit_behind self.now (tape_in (way_of way) input.now).before
+            ≡ None → supports self.now input.now.anchored ≡ false
+            → result ≡ Err (SearchError.Match (UnsupportedMode input.now.anchored)) }
+        ensures idle { (MayStart self.now input.now.anchored (tape_in (way_of way) input.now).before
+            → KnowsItsState (way_of way) self.now cache.old.store input.now walk.now.stage)
+            → (cache.new ≡ cache.old) × IfErr result IsOfInput }
         ensures learned { OnOk result (KnowsItsState (way_of way) self.now cache.new.store input.now walk.now.stage) }
     {
         if walk.is_fresh() {
@@ -147,7 +156,8 @@ impl DFA {
         }
     }
 
-    /// Goes on with a walk that has told all of where it stands, to the next pair, and answers the ID of the state there.
+    /// Goes on with a walk that has told all of where it stands, to the next pair, and answers the ID of the state
+    /// there.
     fn walk_on(
         &self,
         cache: &mut Cache,
@@ -169,19 +179,29 @@ impl DFA {
         ensures sure { IfOk result (λ next. next ≡ None → walk.new.stage ≡ Ended) }
         ensures tells { OnOk result (TellsNext (way_of way) self.now input.now walk.old walk.new) }
         ensures refused { OnErr result (walk.new ≡ walk.old) }
-        ensures errors { (k : ℕ) → HasTold (way_of way) self.now input.now walk.old k → IfErr result (IsWalkRefusal (way_of way) self.now cache.new.store input.now walk.old k) }
+        ensures errors { (k : ℕ) → HasTold (way_of way) self.now input.now walk.old k
+            → IfErr result (IsWalkRefusal (way_of way) self.now cache.new.store input.now walk.old k) }
         ensures rises { OnOk result (walk.old.units ≤ walk.new.units) }
-        ensures bounded { OnOk result (cache.new.count + walk.old.units ≤ cache.old.count + walk.new.units + start_count walk.old.stage) }
-        ensures most { cache.new.count + walk.old.units ≤ cache.old.count + (input.now.end - input.now.start + 1) + start_count walk.old.stage }
+        ensures bounded { OnOk result (cache.new.count + walk.old.units
+            ≤ cache.old.count + walk.new.units + start_count walk.old.stage) }
+        ensures most { cache.new.count + walk.old.units ≤ cache.old.count + (input.now.end - input.now.start + 1)
+            + start_count walk.old.stage }
         ensures grown { IsGrown cache.old (counted cache.new) }
         ensures there { HasItsState cache.old.store.table walk.old.stage → IsGrown cache.old cache.new }
         ensures holds { OnOk result (HasItsState cache.new.store.table walk.new.stage) }
         ensures goes_on { OnOk result (GoesOn walk.old walk.new) }
-        ensures unsupported { walk.old.stage ≡ Fresh → quit_behind self.now (tape_in (way_of way) input.now).before ≡ None → supports self.now input.now.anchored ≡ false → result ≡ Err (SearchError.Match (UnsupportedMode input.now.anchored)) }
-        ensures idle { KnowsWalk (way_of way) self.now cache.old.store input.now walk.old → IsStill cache.old cache.new × IfErr result IsOfInput }
-        ensures learned { ClearedNothing cache.old.store cache.new.store → OnOk result (KnowsWalk (way_of way) self.now cache.new.store input.now walk.old) }
-        ensures units { ClearedNothing cache.old.store cache.new.store → OnOk result (HasLearnedUnits (way_of way) self.now cache.new.store input.now walk.old.units walk.new.units) }
-        ensures stops { OnOk result (walk.new.stage ≡ Ended → (j : ℕ) → walk.new.units ≤ j → WalkReads (way_of way) self.now input.now j → ⊥) }
+        ensures unsupported { walk.old.stage ≡ Fresh → quit_behind self.now (tape_in (way_of way) input.now).before
+            ≡ None → supports self.now input.now.anchored ≡ false
+            → result ≡ Err (SearchError.Match (UnsupportedMode input.now.anchored)) }
+        ensures idle { KnowsWalk (way_of way) self.now cache.old.store input.now walk.old
+            → IsStill cache.old cache.new × IfErr result IsOfInput }
+        ensures learned { ClearedNothing cache.old.store cache.new.store
+            → OnOk result (KnowsWalk (way_of way) self.now cache.new.store input.now walk.old) }
+        ensures units { ClearedNothing cache.old.store cache.new.store
+            → OnOk result (HasLearnedUnits (way_of way) self.now cache.new.store input.now walk.old.units
+            walk.new.units) }
+        ensures stops { OnOk result (walk.new.stage ≡ Ended → (j : ℕ) → walk.new.units ≤ j
+            → WalkReads (way_of way) self.now input.now j → ⊥) }
     {
         self.see_skips();
         let _haystack = input.haystack();
@@ -216,7 +236,8 @@ impl DFA {
         requires open { input.now.start ≤ input.now.end }
         requires from { walk.old.units ≤ input.now.end - input.now.start }
         requires may { MayStart self.now input.now.anchored (tape_in (way_of way) input.now).before }
-        requires here { (k : ℕ) → HasTold (way_of way) self.now input.now walk.old k → HasToldBy (way_of way) self.now input.now walk.old.units k }
+        requires here { (k : ℕ) → HasTold (way_of way) self.now input.now walk.old k
+            → HasToldBy (way_of way) self.now input.now walk.old.units k }
         requires arrives { Arrives (way_of way) self.now cache.now.store.table input.now walk.old.units id units }
         ensures tells { TellsNext (way_of way) self.now input.now walk.old walk.new }
         ensures units { walk.new.units ≡ units }
@@ -246,23 +267,38 @@ impl DFA {
         ensures of { IsCacheOf cache.new self.now }
         ensures tells { OnOk result (TellsNext (way_of way) self.now input.now walk.old walk.new) }
         ensures refused { OnErr result (walk.new ≡ without_match walk.old) }
-        ensures errors { walk.old.lost ≡ false → (k : ℕ) → HasTold (way_of way) self.now input.now walk.old k → IfErr result (IsWalkRefusal (way_of way) self.now cache.new.store input.now walk.old k) }
+        ensures errors { walk.old.lost ≡ false → (k : ℕ) → HasTold (way_of way) self.now input.now walk.old k
+            → IfErr result (IsWalkRefusal (way_of way) self.now cache.new.store input.now walk.old k) }
         ensures lost { walk.old.lost ≡ true → IfErr result (λ e. e ≡ SearchError.OutOfMemory) }
         ensures rises { OnOk result (walk.old.units ≤ walk.new.units) }
-        ensures bounded { OnOk result (cache.new.count + walk.old.units ≤ cache.old.count + walk.new.units + start_count walk.old.stage) }
-        ensures most { cache.new.count ≤ cache.old.count + (input.now.end - input.now.start + 1 - walk.old.units) + start_count walk.old.stage }
+        ensures bounded { OnOk result (cache.new.count + walk.old.units
+            ≤ cache.old.count + walk.new.units + start_count walk.old.stage) }
+        ensures most { cache.new.count ≤ cache.old.count + (input.now.end - input.now.start + 1 - walk.old.units)
+            + start_count walk.old.stage }
         ensures grown { IsGrown cache.old (counted cache.new) }
         ensures there { HasItsState cache.old.store.table walk.old.stage → IsGrown cache.old cache.new }
-        ensures holds { HasItsState cache.old.store.table walk.old.stage → OnOk result (HasItsState cache.new.store.table walk.new.stage) }
+        ensures holds { HasItsState cache.old.store.table walk.old.stage
+            → OnOk result (HasItsState cache.new.store.table walk.new.stage) }
         ensures ended { walk.old.stage ≡ Ended → IfErr result (λ e. ⊥) × (cache.new ≡ cache.old) }
-        ensures same { (q : Powerset) → walk.old.stage ≡ At q → walk.old.told < length q.patterns → walk.old.lost ≡ false → IfErr result (λ e. ⊥) × (cache.new ≡ cache.old) }
-        ensures done { walk.old.lost ≡ false → input.now.end < input.now.start → IfErr result (λ e. ⊥) × (cache.new ≡ cache.old) }
+        ensures same { (q : Powerset) → walk.old.stage ≡ At q → walk.old.told < length q.patterns
+            → walk.old.lost ≡ false → IfErr result (λ e. ⊥) × (cache.new ≡ cache.old) }
+        ensures done { walk.old.lost ≡ false → input.now.end < input.now.start
+            → IfErr result (λ e. ⊥) × (cache.new ≡ cache.old) }
         ensures goes_on { OnOk result (GoesOn walk.old walk.new) }
-        ensures unsupported { walk.old.stage ≡ Fresh → input.now.start ≤ input.now.end → quit_behind self.now (tape_in (way_of way) input.now).before ≡ None → supports self.now input.now.anchored ≡ false → result ≡ Err (SearchError.Match (UnsupportedMode input.now.anchored)) }
-        ensures idle { KnowsWalk (way_of way) self.now cache.old.store input.now walk.old → IsStill cache.old cache.new × (walk.old.lost ≡ false → IfErr result IsOfInput) }
-        ensures learned { ClearedNothing cache.old.store cache.new.store → OnOk result (KnowsWalk (way_of way) self.now cache.new.store input.now walk.old) }
-        ensures units { ClearedNothing cache.old.store cache.new.store → OnOk result (HasLearnedUnits (way_of way) self.now cache.new.store input.now walk.old.units walk.new.units) }
-        ensures stops { input.now.start ≤ input.now.end → (walk.old.stage ≡ Ended → ⊥) → OnOk result (walk.new.stage ≡ Ended → (j : ℕ) → walk.new.units ≤ j → WalkReads (way_of way) self.now input.now j → ⊥) }
+        ensures unsupported { walk.old.stage ≡ Fresh → input.now.start ≤ input.now.end
+            → quit_behind self.now (tape_in (way_of way) input.now).before ≡ None
+            → supports self.now input.now.anchored ≡ false
+            → result ≡ Err (SearchError.Match (UnsupportedMode input.now.anchored)) }
+        ensures idle { KnowsWalk (way_of way) self.now cache.old.store input.now walk.old
+            → IsStill cache.old cache.new × (walk.old.lost ≡ false → IfErr result IsOfInput) }
+        ensures learned { ClearedNothing cache.old.store cache.new.store
+            → OnOk result (KnowsWalk (way_of way) self.now cache.new.store input.now walk.old) }
+        ensures units { ClearedNothing cache.old.store cache.new.store
+            → OnOk result (HasLearnedUnits (way_of way) self.now cache.new.store input.now walk.old.units
+            walk.new.units) }
+        ensures stops { input.now.start ≤ input.now.end → (walk.old.stage ≡ Ended → ⊥)
+            → OnOk result (walk.new.stage ≡ Ended → (j : ℕ) → walk.new.units ≤ j
+            → WalkReads (way_of way) self.now input.now j → ⊥) }
     {
         match self.go_on(cache, input, way, walk, &None) {
             Ok(_) => Ok(()),
@@ -270,8 +306,8 @@ impl DFA {
         }
     }
 
-    /// One call of a walk, which goes on by the ID of its state, where that is given, and else by the state that it holds. It
-    /// answers the ID of the state where the walk stands then.
+    /// One call of a walk, which goes on by the ID of its state, where that is given, and else by the state that it
+    /// holds. It answers the ID of the state where the walk stands then.
     pub(crate) fn go_on(
         &self,
         cache: &mut Cache,
@@ -288,23 +324,37 @@ impl DFA {
         ensures sure { IfOk result (λ next. next ≡ None → (walk.new.stage ≡ Ended) ⊎ (walk.new.lost ≡ false)) }
         ensures tells { OnOk result (TellsNext (way_of way) self.now input.now walk.old walk.new) }
         ensures refused { OnErr result (walk.new ≡ without_match walk.old) }
-        ensures errors { CanGoOn walk.old at.now → (k : ℕ) → HasTold (way_of way) self.now input.now walk.old k → IfErr result (IsWalkRefusal (way_of way) self.now cache.new.store input.now walk.old k) }
+        ensures errors { CanGoOn walk.old at.now → (k : ℕ) → HasTold (way_of way) self.now input.now walk.old k
+            → IfErr result (IsWalkRefusal (way_of way) self.now cache.new.store input.now walk.old k) }
         ensures lost { at.now ≡ None → walk.old.lost ≡ true → IfErr result (λ e. e ≡ SearchError.OutOfMemory) }
         ensures rises { OnOk result (walk.old.units ≤ walk.new.units) }
-        ensures bounded { OnOk result (cache.new.count + walk.old.units ≤ cache.old.count + walk.new.units + start_count walk.old.stage) }
-        ensures most { cache.new.count ≤ cache.old.count + (input.now.end - input.now.start + 1 - walk.old.units) + start_count walk.old.stage }
+        ensures bounded { OnOk result (cache.new.count + walk.old.units
+            ≤ cache.old.count + walk.new.units + start_count walk.old.stage) }
+        ensures most { cache.new.count ≤ cache.old.count + (input.now.end - input.now.start + 1 - walk.old.units)
+            + start_count walk.old.stage }
         ensures grown { IsGrown cache.old (counted cache.new) }
         ensures there { HasItsState cache.old.store.table walk.old.stage → IsGrown cache.old cache.new }
-        ensures holds { HasItsState cache.old.store.table walk.old.stage → OnOk result (HasItsState cache.new.store.table walk.new.stage) }
+        ensures holds { HasItsState cache.old.store.table walk.old.stage
+            → OnOk result (HasItsState cache.new.store.table walk.new.stage) }
         ensures ended { walk.old.stage ≡ Ended → IfErr result (λ e. ⊥) × (cache.new ≡ cache.old) }
-        ensures same { (q : Powerset) → walk.old.stage ≡ At q → walk.old.told < length q.patterns → CanGoOn walk.old at.now → IfErr result (λ e. ⊥) × (cache.new ≡ cache.old) }
+        ensures same { (q : Powerset) → walk.old.stage ≡ At q → walk.old.told < length q.patterns
+            → CanGoOn walk.old at.now → IfErr result (λ e. ⊥) × (cache.new ≡ cache.old) }
         ensures done { input.now.end < input.now.start → IfErr result (λ e. ⊥) × (cache.new ≡ cache.old) }
         ensures goes_on { OnOk result (GoesOn walk.old walk.new) }
-        ensures unsupported { walk.old.stage ≡ Fresh → input.now.start ≤ input.now.end → quit_behind self.now (tape_in (way_of way) input.now).before ≡ None → supports self.now input.now.anchored ≡ false → result ≡ Err (SearchError.Match (UnsupportedMode input.now.anchored)) }
-        ensures idle { KnowsWalk (way_of way) self.now cache.old.store input.now walk.old → IsStill cache.old cache.new × (CanGoOn walk.old at.now → IfErr result IsOfInput) }
-        ensures learned { ClearedNothing cache.old.store cache.new.store → OnOk result (KnowsWalk (way_of way) self.now cache.new.store input.now walk.old) }
-        ensures units { ClearedNothing cache.old.store cache.new.store → OnOk result (HasLearnedUnits (way_of way) self.now cache.new.store input.now walk.old.units walk.new.units) }
-        ensures stops { input.now.start ≤ input.now.end → (walk.old.stage ≡ Ended → ⊥) → OnOk result (walk.new.stage ≡ Ended → (j : ℕ) → walk.new.units ≤ j → WalkReads (way_of way) self.now input.now j → ⊥) }
+        ensures unsupported { walk.old.stage ≡ Fresh → input.now.start ≤ input.now.end
+            → quit_behind self.now (tape_in (way_of way) input.now).before ≡ None
+            → supports self.now input.now.anchored ≡ false
+            → result ≡ Err (SearchError.Match (UnsupportedMode input.now.anchored)) }
+        ensures idle { KnowsWalk (way_of way) self.now cache.old.store input.now walk.old
+            → IsStill cache.old cache.new × (CanGoOn walk.old at.now → IfErr result IsOfInput) }
+        ensures learned { ClearedNothing cache.old.store cache.new.store
+            → OnOk result (KnowsWalk (way_of way) self.now cache.new.store input.now walk.old) }
+        ensures units { ClearedNothing cache.old.store cache.new.store
+            → OnOk result (HasLearnedUnits (way_of way) self.now cache.new.store input.now walk.old.units
+            walk.new.units) }
+        ensures stops { input.now.start ≤ input.now.end → (walk.old.stage ≡ Ended → ⊥)
+            → OnOk result (walk.new.stage ≡ Ended → (j : ℕ) → walk.new.units ≤ j
+            → WalkReads (way_of way) self.now input.now j → ⊥) }
     {
         let _haystack = input.haystack();
         walk.forget_match();
@@ -330,7 +380,8 @@ impl DFA {
         self.walk_on(cache, input, way, walk, at)
     }
 
-    /// The pattern that a walk tells next at the state where it stands, by the ID of that state, or by the state itself.
+    /// The pattern that a walk tells next at the state where it stands, by the ID of that state, or by the state
+    /// itself.
     fn next_pattern(
         &self,
         cache: &Cache,
@@ -339,7 +390,8 @@ impl DFA {
     ) -> Option<PatternID>
         requires at { IsNamedAt cache.now.store.table walk.now.stage at.now }
         requires kept { CanGoOn walk.now at.now }
-        ensures left { IfSome result (λ p. (q : Powerset) × (walk.now.stage ≡ At q) × (walk.now.told < length q.patterns) × (p ≡ slice_index q.patterns walk.now.told)) }
+        ensures left { IfSome result (λ p. (q : Powerset) × (walk.now.stage ≡ At q)
+            × (walk.now.told < length q.patterns) × (p ≡ slice_index q.patterns walk.now.told)) }
         ensures room { IfSome result (λ p. walk.now.told + 1 < 2 ^ 64) }
         ensures none { IfNone result ((q : Powerset) → walk.now.stage ≡ At q → length q.patterns ≤ walk.now.told) }
     {

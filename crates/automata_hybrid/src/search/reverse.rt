@@ -37,8 +37,8 @@ impl DFA {
     /// The DFA is of an automaton that reads its regular expressions backward. A start that splits a character is
     /// skipped by searching again from one place before.
     ///
-    /// A quit byte is told at its own offset, and the giving up at the offset of the byte that was to be read, or at the
-    /// span's end or its start. After a refusal the cache serves other searches as before.
+    /// A quit byte is told at its own offset, and the giving up at the offset of the byte that was to be read, or at
+    /// the span's end or its start. After a refusal the cache serves other searches as before.
     pub fn try_search_rev(
         &self,
         cache: &mut Cache,
@@ -72,10 +72,14 @@ impl DFA {
         ensures found { IfOk result (WithoutBase (IsFound Backward self.now input.now)) }
         ensures errors { IfErr result (IsRefused Backward self.now cache.new.store input.now) }
         ensures bounded { IsCostOfSearch Backward self.now input.now cache.old cache.new }
-        ensures unsupported { input.now.start ≤ input.now.end → quit_behind self.now (nth input.now.haystack input.now.end) ≡ None → supports self.now input.now.anchored ≡ false → result ≡ Err (SearchError.Match (UnsupportedMode input.now.anchored)) }
+        ensures unsupported { input.now.start ≤ input.now.end → quit_behind self.now
+            (nth input.now.haystack input.now.end) ≡ None → supports self.now input.now.anchored ≡ false
+            → result ≡ Err (SearchError.Match (UnsupportedMode input.now.anchored)) }
         ensures grown { IsGrown cache.old cache.new }
-        ensures known { Knows Backward self.now cache.old.store input.now → (cache.new.count ≡ cache.old.count) × IfErr result IsOfInput }
-        ensures learned { ClearedNothing cache.old.store cache.new.store → OnOk result (Knows Backward self.now cache.new.store input.now) }
+        ensures known { Knows Backward self.now cache.old.store input.now
+            → (cache.new.count ≡ cache.old.count) × IfErr result IsOfInput }
+        ensures learned { ClearedNothing cache.old.store cache.new.store
+            → OnOk result (Knows Backward self.now cache.new.store input.now) }
         ensures done { input.now.end < input.now.start → (result ≡ Ok None) × (cache.new ≡ cache.old) }
         ensures ended { OnOk result (EndsProgress Backward self.now input.now cache.old.store cache.new.store) }
         ensures left { IfErr result (LeavesProgress Backward self.now input.now cache.old.store cache.new.store) }
@@ -113,9 +117,13 @@ impl DFA {
         ensures errors { IfErr result (IsPassRefusal Backward self.now cache.new.store input.now) }
         ensures counted { cache.new.count ≤ cache.old.count + (input.now.end - input.now.start + 2) }
         ensures grown { IsGrown cache.old cache.new }
-        ensures idle { KnowsPass Backward self.now cache.old.store input.now → (cache.new.count ≡ cache.old.count) × IfErr result IsOfInput }
-        ensures learned { ClearedNothing cache.old.store cache.new.store → OnOk result (HasLearnedAll Backward self.now cache.new.store input.now) }
-        ensures unsupported { quit_behind self.now (nth input.now.haystack input.now.end) ≡ None → supports self.now input.now.anchored ≡ false → result ≡ Err (SearchError.Match (UnsupportedMode input.now.anchored)) }
+        ensures idle { KnowsPass Backward self.now cache.old.store input.now
+            → (cache.new.count ≡ cache.old.count) × IfErr result IsOfInput }
+        ensures learned { ClearedNothing cache.old.store cache.new.store
+            → OnOk result (HasLearnedAll Backward self.now cache.new.store input.now) }
+        ensures unsupported { quit_behind self.now (nth input.now.haystack input.now.end) ≡ None
+            → supports self.now input.now.anchored ≡ false
+            → result ≡ Err (SearchError.Match (UnsupportedMode input.now.anchored)) }
         ensures supported { OnOk result (supports self.now input.now.anchored ≡ true) }
         ensures ended { OnOk result (HasEnded Backward self.now input.now cache.old.store cache.new.store) }
         ensures left { IfErr result (IsLeft Backward self.now input.now cache.old.store cache.new.store) }
@@ -152,7 +160,9 @@ impl DFA {
         requires within { start ≤ input.now.end }
         ensures from { input.now.start ≤ result.at }
         ensures within { result.at ≤ start }
-        ensures followed { Names cache.now.store.table from (state_in Backward self.now input.now (input.now.end - start)) → IsFollowed Backward self.now cache.now.store input.now (input.now.end - start) (input.now.end - result.at) result.id }
+        ensures followed { Names cache.now.store.table from (state_in Backward self.now input.now
+            (input.now.end - start)) → IsFollowed Backward self.now cache.now.store input.now (input.now.end - start)
+            (input.now.end - result.at) result.id }
     {
         if from.is_tagged() {
             return Stop {
@@ -582,8 +592,11 @@ impl DFA {
         ensures errors { IfErr result (IsPassRefusal Backward self.now cache.new.store input.now) }
         ensures counted { cache.new.count ≤ cache.old.count + (input.now.end - input.now.start + 1) }
         ensures grown { IsGrown cache.old cache.new }
-        ensures idle { KnowsPass Backward self.now cache.old.store input.now → (cache.new.count ≡ cache.old.count) × IfErr result IsOfInput }
-        ensures learned { KnowsItsStart Backward self.now cache.old.store input.now → ClearedNothing cache.old.store cache.new.store → OnOk result (HasLearnedAll Backward self.now cache.new.store input.now) }
+        ensures idle { KnowsPass Backward self.now cache.old.store input.now
+            → (cache.new.count ≡ cache.old.count) × IfErr result IsOfInput }
+        ensures learned { KnowsItsStart Backward self.now cache.old.store input.now
+            → ClearedNothing cache.old.store cache.new.store
+            → OnOk result (HasLearnedAll Backward self.now cache.new.store input.now) }
         ensures ended { (before : Searched)
             → cache.old.store.searched ≡ started before (given_up_offset Backward input.now 0)
             → OnOk result (EndsAtLast Backward self.now input.now before cache.old.store cache.new.store) }
@@ -629,15 +642,20 @@ impl DFA {
         requires of { IsCacheOf cache.old self.now }
         requires open { input.now.start ≤ input.now.end }
         requires may { MayStart self.now input.now.anchored (tape_in Backward input.now).before }
-        requires at { IsAt Backward self.now cache.old.store.table input.now (input.now.end - input.now.start) id found }
+        requires at { IsAt Backward self.now cache.old.store.table input.now (input.now.end - input.now.start) id
+            found }
         ensures of { IsCacheOf cache.new self.now }
         ensures found { IfOk result (λ o. o ≡ found_over Backward self.now input.now) }
         ensures clean { OnOk result (MeetsNoQuit Backward self.now input.now) }
         ensures errors { IfErr result (IsPassRefusal Backward self.now cache.new.store input.now) }
         ensures counted { cache.new.count ≤ cache.old.count + 1 }
         ensures grown { IsGrown cache.old cache.new }
-        ensures idle { KnowsPass Backward self.now cache.old.store input.now → (cache.new.count ≡ cache.old.count) × IfErr result IsOfInput }
-        ensures learned { KnowsItsStart Backward self.now cache.old.store input.now → HasLearned Backward self.now cache.old.store input.now (input.now.end - input.now.start) → ClearedNothing cache.old.store cache.new.store → OnOk result (HasLearnedAll Backward self.now cache.new.store input.now) }
+        ensures idle { KnowsPass Backward self.now cache.old.store input.now
+            → (cache.new.count ≡ cache.old.count) × IfErr result IsOfInput }
+        ensures learned { KnowsItsStart Backward self.now cache.old.store input.now
+            → HasLearned Backward self.now cache.old.store input.now (input.now.end - input.now.start)
+            → ClearedNothing cache.old.store cache.new.store
+            → OnOk result (HasLearnedAll Backward self.now cache.new.store input.now) }
         ensures alive { (q : Powerset) → Names cache.old.store.table id q → q ≡ dead → ⊥ }
         ensures progress { KeepsProgress cache.old.store cache.new.store }
     {
@@ -650,7 +668,8 @@ impl DFA {
         Ok(self.found_at(cache, last, start, found))
     }
 
-    /// The state after the byte before the span. A quit byte is told at its own offset, and a refusal at the span's start.
+    /// The state after the byte before the span. A quit byte is told at its own offset, and a refusal at the span's
+    /// start.
     fn read_before(
         &self,
         cache: &mut Cache,
@@ -663,13 +682,17 @@ impl DFA {
         requires before { 0 < start }
         ensures of { IsCacheOf cache.new self.now }
         ensures counted { cache.new.count ≤ cache.old.count + 1 }
-        ensures named { IfOk result (λ n. (q : Powerset) → Names cache.old.store.table id q → Leads cache.new.store.table n (successor self.now.nfa self.now.kind q (Some byte))) }
+        ensures named { IfOk result (λ n. (q : Powerset) → Names cache.old.store.table id q
+            → Leads cache.new.store.table n (successor self.now.nfa self.now.kind q (Some byte))) }
         ensures alive { (q : Powerset) → Names cache.old.store.table id q → q ≡ dead → ⊥ }
         ensures clean { OnOk result (is_quit self.now.quits byte ≡ false) }
-        ensures errors { IfErr result (λ e. (q : Powerset) → Names cache.old.store.table id q → IsStepRefusal self.now cache.new.store q (Some byte) (start - 1) start e) }
+        ensures errors { IfErr result (λ e. (q : Powerset) → Names cache.old.store.table id q
+            → IsStepRefusal self.now cache.new.store q (Some byte) (start - 1) start e) }
         ensures grown { IsGrown cache.old cache.new }
-        ensures idle { IsKnownTransition cache.old.store id (class_in self.now.classes byte) → (cache.new.count ≡ cache.old.count) × IfErr result IsOfInput }
-        ensures learned { ClearedNothing cache.old.store cache.new.store → OnOk result (IsKnownTransition cache.new.store id (class_in self.now.classes byte)) }
+        ensures idle { IsKnownTransition cache.old.store id (class_in self.now.classes byte)
+            → (cache.new.count ≡ cache.old.count) × IfErr result IsOfInput }
+        ensures learned { ClearedNothing cache.old.store cache.new.store
+            → OnOk result (IsKnownTransition cache.new.store id (class_in self.now.classes byte)) }
         ensures below { class_in self.now.classes byte < self.now.stride }
         ensures progress { KeepsProgress cache.old.store cache.new.store }
     {

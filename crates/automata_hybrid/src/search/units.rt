@@ -127,13 +127,20 @@ impl DFA {
     ) -> Result<LazyStateID, SearchError>
         requires { IsCacheOf cache.old self.now }
         ensures of { IsCacheOf cache.new self.now }
-        ensures leads { IfOk result (λ id. Leads cache.new.store.table id (state_in (way_of way) self.now input.now 0)) }
+        ensures leads { IfOk result (λ id. Leads cache.new.store.table id
+            (state_in (way_of way) self.now input.now 0)) }
         ensures may { OnOk result (MayStart self.now input.now.anchored (tape_in (way_of way) input.now).before) }
-        ensures errors { IfErr result (IsStartRefusalAt self.now cache.new.store input.now.anchored (tape_in (way_of way) input.now).before (behind_offset (way_of way) input.now) (offset_in (way_of way) input.now 0)) }
+        ensures errors { IfErr result (IsStartRefusalAt self.now cache.new.store input.now.anchored
+            (tape_in (way_of way) input.now).before (behind_offset (way_of way) input.now)
+            (offset_in (way_of way) input.now 0)) }
         ensures counted { cache.new.count ≤ cache.old.count + 1 }
         ensures grown { IsGrown cache.old cache.new }
-        ensures unsupported { quit_behind self.now (tape_in (way_of way) input.now).before ≡ None → supports self.now input.now.anchored ≡ false → result ≡ Err (SearchError.Match (UnsupportedMode input.now.anchored)) }
-        ensures idle { (MayStart self.now input.now.anchored (tape_in (way_of way) input.now).before → KnowsItsStart (way_of way) self.now cache.old.store input.now) → (cache.new ≡ cache.old) × IfErr result IsOfInput }
+        ensures unsupported { quit_behind self.now (tape_in (way_of way) input.now).before ≡ None
+            → supports self.now input.now.anchored ≡ false
+            → result ≡ Err (SearchError.Match (UnsupportedMode input.now.anchored)) }
+        ensures idle { (MayStart self.now input.now.anchored (tape_in (way_of way) input.now).before
+            → KnowsItsStart (way_of way) self.now cache.old.store input.now)
+            → (cache.new ≡ cache.old) × IfErr result IsOfInput }
         ensures learned { OnOk result (KnowsItsStart (way_of way) self.now cache.new.store input.now) }
     {
         cache.see_slots();
@@ -156,12 +163,16 @@ impl DFA {
         requires valid { IsValid cache.old.store.table id }
         ensures of { IsCacheOf cache.new self.now }
         ensures counted { cache.new.count ≤ cache.old.count + 1 }
-        ensures named { IfOk result (λ n. (q : Powerset) → Names cache.old.store.table id q → Leads cache.new.store.table n (successor self.now.nfa self.now.kind q (Some byte))) }
+        ensures named { IfOk result (λ n. (q : Powerset) → Names cache.old.store.table id q
+            → Leads cache.new.store.table n (successor self.now.nfa self.now.kind q (Some byte))) }
         ensures clean { OnOk result (is_quit self.now.quits byte ≡ false) }
-        ensures errors { IfErr result (λ e. (q : Powerset) → Names cache.old.store.table id q → IsStepRefusal self.now cache.new.store q (Some byte) quit_at at e) }
+        ensures errors { IfErr result (λ e. (q : Powerset) → Names cache.old.store.table id q
+            → IsStepRefusal self.now cache.new.store q (Some byte) quit_at at e) }
         ensures grown { IsGrown cache.old cache.new }
-        ensures idle { IsKnownTransition cache.old.store id (class_in self.now.classes byte) → (cache.new.count ≡ cache.old.count) × IfErr result IsOfInput }
-        ensures learned { ClearedNothing cache.old.store cache.new.store → OnOk result (IsKnownTransition cache.new.store id (class_in self.now.classes byte)) }
+        ensures idle { IsKnownTransition cache.old.store id (class_in self.now.classes byte)
+            → (cache.new.count ≡ cache.old.count) × IfErr result IsOfInput }
+        ensures learned { ClearedNothing cache.old.store cache.new.store
+            → OnOk result (IsKnownTransition cache.new.store id (class_in self.now.classes byte)) }
         ensures below { class_in self.now.classes byte < self.now.stride }
     {
         self.see_classes();
@@ -189,13 +200,17 @@ impl DFA {
         requires named { Names cache.old.store.table id (state_in (way_of way) self.now input.now place) }
         ensures of { IsCacheOf cache.new self.now }
         ensures counted { cache.new.count ≤ cache.old.count + 1 }
-        ensures leads { IfOk result (λ n. Leads cache.new.store.table n (state_in (way_of way) self.now input.now (suc place))) }
-        ensures clean { OnOk result ((byte : ℕ) → next (tape_in (way_of way) input.now) place ≡ Some byte → is_quit self.now.quits byte ≡ false) }
+        ensures leads { IfOk result (λ n. Leads cache.new.store.table n
+            (state_in (way_of way) self.now input.now (suc place))) }
+        ensures clean { OnOk result ((byte : ℕ) → next (tape_in (way_of way) input.now) place ≡ Some byte
+            → is_quit self.now.quits byte ≡ false) }
         ensures reads { WalkReads (way_of way) self.now input.now place }
         ensures errors { IfErr result (IsUnitRefusal (way_of way) self.now cache.new.store input.now place) }
         ensures grown { IsGrown cache.old cache.new }
-        ensures idle { KnowsUnit (way_of way) self.now cache.old.store input.now place → (cache.new.count ≡ cache.old.count) × IfErr result IsOfInput }
-        ensures learned { ClearedNothing cache.old.store cache.new.store → OnOk result (HasLearnedUnit (way_of way) self.now cache.new.store input.now place) }
+        ensures idle { KnowsUnit (way_of way) self.now cache.old.store input.now place
+            → (cache.new.count ≡ cache.old.count) × IfErr result IsOfInput }
+        ensures learned { ClearedNothing cache.old.store cache.new.store
+            → OnOk result (HasLearnedUnit (way_of way) self.now cache.new.store input.now place) }
     {
         let _haystack = input.haystack();
         let at = span_offset(input, way, place);
@@ -221,8 +236,12 @@ impl DFA {
         requires open { input.now.start ≤ input.now.end }
         requires within { place ≤ input.now.end - input.now.start }
         requires valid { IsValid cache.now.store.table id }
-        ensures yes { result ≡ true → (Skips self.now → is_split input.now.haystack (offset_in (way_of way) input.now place) ≡ false) × ((q : Powerset) → Names cache.now.store.table id q → 0 < length q.patterns) }
-        ensures no { result ≡ false → (Skips self.now × (is_split input.now.haystack (offset_in (way_of way) input.now place) ≡ true)) ⊎ ((q : Powerset) → Names cache.now.store.table id q → q.patterns ≡ []) }
+        ensures yes { result ≡ true
+            → (Skips self.now → is_split input.now.haystack (offset_in (way_of way) input.now place) ≡ false)
+            × ((q : Powerset) → Names cache.now.store.table id q → 0 < length q.patterns) }
+        ensures no { result ≡ false
+            → (Skips self.now × (is_split input.now.haystack (offset_in (way_of way) input.now place) ≡ true))
+            ⊎ ((q : Powerset) → Names cache.now.store.table id q → q.patterns ≡ []) }
     {
         cache.see_ids();
         if !id.is_match() {
@@ -284,10 +303,14 @@ impl DFA {
         ensures grown { IsGrown cache.old cache.new }
         ensures counted { IfOk result (λ a. cache.new.count + units ≤ cache.old.count + a.units) }
         ensures most { cache.new.count + units ≤ cache.old.count + (input.now.end - input.now.start + 1) }
-        ensures arrives { IfOk result (λ a. IsArrival (way_of way) self.now cache.new.store.table input.now units a.id a.units) }
+        ensures arrives { IfOk result (λ a. IsArrival (way_of way) self.now cache.new.store.table input.now units a.id
+            a.units) }
         ensures errors { IfErr result (IsAdvanceRefusal (way_of way) self.now cache.new.store input.now units) }
-        ensures idle { (k : ℕ) → HasToldBy (way_of way) self.now input.now units k → KnowsUnits (way_of way) self.now cache.old.store input.now units k → (cache.new.count ≡ cache.old.count) × IfErr result IsOfInput }
-        ensures learned { ClearedNothing cache.old.store cache.new.store → IfOk result (λ a. HasLearnedUnits (way_of way) self.now cache.new.store input.now units a.units) }
+        ensures idle { (k : ℕ) → HasToldBy (way_of way) self.now input.now units k
+            → KnowsUnits (way_of way) self.now cache.old.store input.now units k
+            → (cache.new.count ≡ cache.old.count) × IfErr result IsOfInput }
+        ensures learned { ClearedNothing cache.old.store cache.new.store
+            → IfOk result (λ a. HasLearnedUnits (way_of way) self.now cache.new.store input.now units a.units) }
     {
         let _haystack = input.haystack();
         let last = last_place(input);

@@ -20,8 +20,8 @@ pub(crate) enum Way {
     Backward,
 }
 
-/// A powerset state with its key in the map of a cache. Where no user more could be counted it is lost, and contracts alone
-/// know it.
+/// A powerset state with its key in the map of a cache. Where no user more could be counted it is lost, and contracts
+/// alone know it.
 #[derive(Drop)]
 pub(crate) enum Held {
     Kept(State, Key),
@@ -146,7 +146,8 @@ impl OverlappingState {
     /// The pattern of its state that is told next, if one is left.
     pub(crate) fn next_pattern(&self) -> Option<PatternID>
         requires { self.now.lost ≡ false }
-        ensures left { IfSome result (λ p. (q : Powerset) × (self.now.stage ≡ At q) × (self.now.told < length q.patterns) × (p ≡ slice_index q.patterns self.now.told)) }
+        ensures left { IfSome result (λ p. (q : Powerset) × (self.now.stage ≡ At q)
+            × (self.now.told < length q.patterns) × (p ≡ slice_index q.patterns self.now.told)) }
         ensures room { IfSome result (λ p. self.now.told + 1 < 2 ^ 64) }
         ensures none { IfNone result ((q : Powerset) → self.now.stage ≡ At q → length q.patterns ≤ self.now.told) }
     {
@@ -202,7 +203,13 @@ impl OverlappingState {
     /// Goes to a state, of which it has told nothing.
     pub(crate) fn go_to(&mut self, held: Held, units: usize)
         requires { HasKey held }
-        ensures { self.new ≡ record { stage = At (state_held held); units = units; told = 0; found = None; lost = is_lost held } }
+        ensures { self.new ≡ record {
+          stage = At (state_held held);
+          units = units;
+          told = 0;
+          found = None;
+          lost = is_lost held;
+        } }
     {
         self.stage = Stage::At(held);
         self.units = units;

@@ -26,8 +26,8 @@ use automata_base::util::search::Input;
 use automata_config::error::SearchError;
 
 impl DFA {
-    /// Adds to a set the patterns of all overlapping matches, as far as they are below its capacity, or that of the first match
-    /// alone where the input is earliest. After a refusal the set has those that were told before.
+    /// Adds to a set the patterns of all overlapping matches, as far as they are below its capacity, or that of the
+    /// first match alone where the input is earliest. After a refusal the set has those that were told before.
     pub fn try_which_overlapping_matches(
         &self,
         cache: &mut Cache,
@@ -59,15 +59,22 @@ impl DFA {
     ) -> Result<(), SearchError>
         requires { IsCacheOf cache.old self.now }
         ensures of { IsCacheOf cache.new self.now }
-        ensures found { OnOk result (ArePatterns (AreWalked Forward self.now input.now) input.now (length patset.old) (members patset.old) (members patset.new)) }
-        ensures paths { IsLookAcyclic (nfa_of self.now.nfa) → OnOk result (ArePatternsFound (engine_of self.now.nfa self.now.kind) input.now (length patset.old) (members patset.old) (members patset.new)) }
+        ensures found { OnOk result (ArePatterns (AreWalked Forward self.now input.now) input.now (length patset.old)
+            (members patset.old) (members patset.new)) }
+        ensures paths { IsLookAcyclic (nfa_of self.now.nfa)
+            → OnOk result (ArePatternsFound (engine_of self.now.nfa self.now.kind) input.now (length patset.old)
+            (members patset.old) (members patset.new)) }
         ensures capacity { length patset.new ≡ length patset.old }
         ensures errors { IfErr result (IsWhichRefusal self.now cache.new.store input.now patset.old patset.new) }
-        ensures unsupported { input.now.start ≤ input.now.end → quit_behind self.now (byte_before input.now.haystack input.now.start) ≡ None → supports self.now input.now.anchored ≡ false → result ≡ Err (SearchError.Match (UnsupportedMode input.now.anchored)) }
+        ensures unsupported { input.now.start ≤ input.now.end → quit_behind self.now
+            (byte_before input.now.haystack input.now.start) ≡ None → supports self.now input.now.anchored ≡ false
+            → result ≡ Err (SearchError.Match (UnsupportedMode input.now.anchored)) }
         ensures bounded { cache.new.count ≤ cache.old.count + (input.now.end - input.now.start + 2) }
         ensures grown { IsGrown cache.old cache.new }
-        ensures idle { KnowsWhich self.now cache.old.store input.now patset.old → IsStill cache.old cache.new × IfErr result IsOfInput }
-        ensures learned { ClearedNothing cache.old.store cache.new.store → OnOk result (KnowsWhich self.now cache.new.store input.now patset.old) }
+        ensures idle { KnowsWhich self.now cache.old.store input.now patset.old
+            → IsStill cache.old cache.new × IfErr result IsOfInput }
+        ensures learned { ClearedNothing cache.old.store cache.new.store
+            → OnOk result (KnowsWhich self.now cache.new.store input.now patset.old) }
     {
         walk_is_right(self.get_nfa());
         let _haystack = input.haystack();

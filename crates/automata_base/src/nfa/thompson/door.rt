@@ -116,7 +116,8 @@ fn are_matches_below(states: &[State], n: usize) -> bool
 
 /// The looks that occur.
 pub fn looks_of(states: &[State]) -> LookSet
-    ensures { (other : Look) → truth_of result other ≡ any_node (λ look. eqb (look_index look) (look_index other)) (nodes_of states.now) }
+    ensures { (other : Look) → truth_of result other
+        ≡ any_node (λ look. eqb (look_index look) (look_index other)) (nodes_of states.now) }
 {
     let mut looks = LookSet::empty();
     for i in 0..states.len() {

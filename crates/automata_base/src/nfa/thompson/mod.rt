@@ -392,8 +392,8 @@ impl NFA {
         self.data.skips_lazily
     }
 
-    /// Whether no cycle of edges that read nothing passes a look: so it is that searches are said to answer by paths. It
-    /// is found when the NFA is made.
+    /// Whether no cycle of edges that read nothing passes a look: so it is that searches are said to answer by paths.
+    /// It is found when the NFA is made.
     ///
     /// An NFA of a regular expression passes a look twice at one place only where something that may be empty and has a
     /// look is repeated, as in `(?:\b|a)*`.

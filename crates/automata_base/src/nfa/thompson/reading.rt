@@ -37,7 +37,8 @@ pub fn stays(state: &State) -> bool
 
 /// The set with the state's look, if it is a look.
 pub fn add_look(set: LookSet, state: &State) -> LookSet
-    ensures { (other : Look) → truth_of result other ≡ (looks_at (λ look. eqb (look_index look) (look_index other)) (node_of state.now) || truth_of set other) }
+    ensures { (other : Look) → truth_of result other
+        ≡ (looks_at (λ look. eqb (look_index look) (look_index other)) (node_of state.now) || truth_of set other) }
 {
     match state {
         State::Look { look, .. } => set.insert(*look),

@@ -22,7 +22,8 @@ fn push_reversed(stack: &mut Vec<StateID>, states: &[StateID])
 
 // Gives the first state that an epsilon edge leads to, and puts the others on the stack.
 fn expand(state: &State, looks: LookSet, stack: &mut Vec<StateID>) -> Option<StateID>
-    requires { vec_len stack.old + length (children_at (node_of state.now) (truth_of looks)) ≤ vec_capacity stack.old + 1 }
+    requires { vec_len stack.old + length (children_at (node_of state.now) (truth_of looks))
+        ≤ vec_capacity stack.old + 1 }
     ensures pushed { option_to_list result ++ reverse stack.new.items
         ≡ children_at (node_of state.now) (truth_of looks) ++ reverse stack.old.items }
     ensures capacity { vec_capacity stack.old ≤ vec_capacity stack.new }
@@ -56,7 +57,8 @@ fn expand(state: &State, looks: LookSet, stack: &mut Vec<StateID>) -> Option<Sta
     }
 }
 
-/// Adds what epsilon edges reach from `start` to the set. The stack's room is made beforehand, so the call takes no memory.
+/// Adds what epsilon edges reach from `start` to the set. The stack's room is made beforehand, so the call takes no
+/// memory.
 pub fn close_one(
     nfa: &NFA,
     start: StateID,

@@ -104,7 +104,8 @@ fn arrive(
     requires empty { stack.old.items ≡ [] }
     requires places { stack_room nfa.now.states ≤ vec_capacity stack.old }
     requires room { length nfa.now.states ≤ vec_capacity parts.old.nfa }
-    ensures arrival { IsClosureOf (nfa_of nfa.now) parts.old.patterns.items (targets (nfa_of nfa.now) unit list.now) unit (powerset_of parts.new) }
+    ensures arrival { IsClosureOf (nfa_of nfa.now) parts.old.patterns.items (targets (nfa_of nfa.now) unit list.now)
+        unit (powerset_of parts.new) }
     ensures patterns { parts.new.patterns ≡ parts.old.patterns }
     ensures below { (q : ℕ) → In q parts.new.nfa.items → q < length nfa.now.states }
     ensures few { length parts.new.nfa.items ≤ length nfa.now.states }
@@ -132,7 +133,8 @@ fn close_unit(
     requires fresh { set.old.items ≡ [] }
     requires empty { stack.old.items ≡ [] }
     requires places { stack_room nfa.now.states ≤ vec_capacity stack.old }
-    ensures closure { IsClosure (nfa_of nfa.now) (truth_of known) (targets (nfa_of nfa.now) unit list.now) set.new.items }
+    ensures closure { IsClosure (nfa_of nfa.now) (truth_of known) (targets (nfa_of nfa.now) unit list.now)
+        set.new.items }
     ensures whole { set.new.capacity ≡ set.old.capacity }
     ensures emptied { stack.new.items ≡ [] }
     ensures places { vec_capacity stack.old ≤ vec_capacity stack.new }
@@ -157,7 +159,8 @@ fn close_targets(
     requires fresh { set.old.items ≡ [] }
     requires empty { stack.old.items ≡ [] }
     requires places { stack_room nfa.now.states ≤ vec_capacity stack.old }
-    ensures closure { IsClosure (nfa_of nfa.now) (truth_of known) (targets (nfa_of nfa.now) (Some u) list.now) set.new.items }
+    ensures closure { IsClosure (nfa_of nfa.now) (truth_of known) (targets (nfa_of nfa.now) (Some u) list.now)
+        set.new.items }
     ensures whole { set.new.capacity ≡ set.old.capacity }
     ensures emptied { stack.new.items ≡ [] }
     ensures places { vec_capacity stack.old ≤ vec_capacity stack.new }
@@ -183,8 +186,10 @@ fn read_patterns(nfa: &NFA, list: &[StateID], patterns: &mut Vec<PatternID>)
 }
 
 fn add_maybe(patterns: &mut Vec<PatternID>, pattern: Option<PatternID>)
-    requires { (p : ℕ) → pattern ≡ Some p → is_in p patterns.old.items ≡ false → vec_len patterns.old < vec_capacity patterns.old }
-    ensures some { (p : ℕ) → pattern ≡ Some p → patterns.new.items ≡ patterns.old.items ++ cond (is_in p patterns.old.items) [] (p ∷ []) }
+    requires { (p : ℕ) → pattern ≡ Some p → is_in p patterns.old.items ≡ false
+        → vec_len patterns.old < vec_capacity patterns.old }
+    ensures some { (p : ℕ) → pattern ≡ Some p → patterns.new.items
+        ≡ patterns.old.items ++ cond (is_in p patterns.old.items) [] (p ∷ []) }
     ensures none { pattern ≡ None → patterns.new.items ≡ patterns.old.items }
     ensures room { vec_capacity patterns.old ≤ vec_capacity patterns.new }
 {
@@ -330,8 +335,10 @@ fn advance(
     requires places { stack_room nfa.now.states ≤ vec_capacity stack.old }
     requires room { length nfa.now.states ≤ vec_capacity parts.old.nfa }
     requires slots { length nfa.now.start_pattern ≤ vec_capacity parts.old.patterns }
-    ensures once { IsOnce (pick (accepts (nfa_of nfa.now)) (cut_for kind (nfa_of nfa.now) list.now)) parts.new.patterns.items }
-    ensures arrival { IsClosureOf (nfa_of nfa.now) parts.new.patterns.items (targets (nfa_of nfa.now) unit (cut_for kind (nfa_of nfa.now) list.now)) unit (powerset_of parts.new) }
+    ensures once { IsOnce (pick (accepts (nfa_of nfa.now)) (cut_for kind (nfa_of nfa.now) list.now))
+        parts.new.patterns.items }
+    ensures arrival { IsClosureOf (nfa_of nfa.now) parts.new.patterns.items
+        (targets (nfa_of nfa.now) unit (cut_for kind (nfa_of nfa.now) list.now)) unit (powerset_of parts.new) }
     ensures below { IsOf nfa.now (powerset_of parts.new) }
     ensures few { length parts.new.nfa.items ≤ length nfa.now.states }
     ensures seldom { length parts.new.patterns.items ≤ length nfa.now.start_pattern }

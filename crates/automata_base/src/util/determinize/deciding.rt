@@ -122,7 +122,8 @@ fn is_known(nfa: &NFA, look: Look, prev: Option<u8>) -> bool
 
 // The set with the look where it passes.
 fn insert_if(set: LookSet, look: Look, passes: bool) -> LookSet
-    ensures { (other : Look) → truth_of result other ≡ (eqb (look_index other) (look_index look) && passes || truth_of set other) }
+    ensures { (other : Look) → truth_of result other
+        ≡ (eqb (look_index other) (look_index look) && passes || truth_of set other) }
 {
     if passes { set.insert(look) } else { set }
 }
@@ -145,7 +146,9 @@ pub fn known_behind(nfa: &NFA, prev: Option<u8>) -> LookSet
 
 // The looks that are known or that the unit decides.
 fn looks_true(nfa: &NFA, known: LookSet, word: bool, half: bool, unit: Option<u8>) -> LookSet
-    ensures { (look : Look) → truth_of result look ≡ (truth_of known look || decided nfa.now.flags.line_terminator nfa.now.flags.reverse word half look unit) }
+    ensures { (look : Look)
+        → truth_of result look ≡ (truth_of known look || decided nfa.now.flags.line_terminator nfa.now.flags.reverse
+        word half look unit) }
 {
     let flags = nfa.flags();
     let mut set = known;
@@ -166,8 +169,10 @@ fn is_news(needed: LookSet, truth: LookSet, known: LookSet, look: Look) -> bool
 
 /// Whether a needed look is true and was not known.
 pub fn has_news(needed: LookSet, truth: LookSet, known: LookSet) -> bool
-    ensures news { IsTrue result → (look : Look) × (truth_of needed look ≡ true) × (truth_of truth look ≡ true) × (truth_of known look ≡ false) }
-    ensures none { IsFalse result → (look : Look) → truth_of needed look ≡ true → truth_of truth look ≡ true → truth_of known look ≡ false → ⊥ }
+    ensures news { IsTrue result → (look : Look) × (truth_of needed look ≡ true) × (truth_of truth look ≡ true)
+        × (truth_of known look ≡ false) }
+    ensures none { IsFalse result → (look : Look) → truth_of needed look ≡ true → truth_of truth look ≡ true
+        → truth_of known look ≡ false → ⊥ }
 {
     if needed.is_empty() {
         return false;
@@ -182,7 +187,8 @@ pub fn has_news(needed: LookSet, truth: LookSet, known: LookSet) -> bool
 
 /// The looks that are true at the unit, where one of them is needed and was not known.
 pub fn news(nfa: &NFA, from: &State, unit: Option<u8>) -> Option<LookSet>
-    ensures truth { IfSome result (λ truth. (look : Look) → truth_of truth look ≡ true_looks (nfa_of nfa.now) from.now unit look) }
+    ensures truth { IfSome result (λ truth. (look : Look)
+        → truth_of truth look ≡ true_looks (nfa_of nfa.now) from.now unit look) }
     ensures news { OnSome result (IsNews (nfa_of nfa.now) from.now unit) }
     ensures none { result ≡ None → IsNews (nfa_of nfa.now) from.now unit → ⊥ }
 {

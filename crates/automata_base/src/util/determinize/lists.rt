@@ -34,7 +34,8 @@ pub fn keep_states(nfa: &NFA, states: &[StateID], kept: &mut Vec<StateID>) -> Lo
     requires room { length states.now ≤ vec_capacity kept.old }
     ensures kept { kept.new.items ≡ pick (keep (nfa_of nfa.now)) states.now }
     ensures few { length kept.new.items ≤ length states.now }
-    ensures looks { (other : Look) → truth_of result other ≡ any_state (λ look. eqb (look_index look) (look_index other)) (nfa_of nfa.now) kept.new.items }
+    ensures looks { (other : Look) → truth_of result other
+        ≡ any_state (λ look. eqb (look_index look) (look_index other)) (nfa_of nfa.now) kept.new.items }
     ensures capacity { vec_capacity kept.old ≤ vec_capacity kept.new }
 {
     kept.clear();

@@ -104,7 +104,8 @@ pub fn push_state(
     half: bool,
 ) -> Result<(), AllocError>
     requires { length patterns.now < 2 ^ 32 }
-    ensures ok { OnOk result (out.new.items ≡ out.old.items ++ code (record { nfa = nfa.now; patterns = patterns.now; known = known; needed = needed; word = word; half = half })) }
+    ensures ok { OnOk result (out.new.items ≡ out.old.items ++ code
+        (record { nfa = nfa.now; patterns = patterns.now; known = known; needed = needed; word = word; half = half })) }
 {
     out.push(flags_of(patterns, word, half))?;
     push_u32(out, known)?;

@@ -54,8 +54,10 @@ impl Regex {
         ensures allowed { IsAllowed input.now }
         ensures grown { AreGrown cache.old cache.new }
         ensures cost { AreCostsTwice self.now (input.now.end - input.now.start) cache.old cache.new }
-        ensures learned { NothingCleared cache.old cache.new → OnOk result (KnowsNext self.now cache.new input.now last) }
-        ensures known { KnowsNext self.now cache.old input.now last → AreStill cache.old cache.new × IfErr result IsOfGiven }
+        ensures learned { NothingCleared cache.old cache.new
+            → OnOk result (KnowsNext self.now cache.new input.now last) }
+        ensures known { KnowsNext self.now cache.old input.now last
+            → AreStill cache.old cache.new × IfErr result IsOfGiven }
     {
         matches_agree();
         known_stays(&self.forward);
@@ -81,7 +83,8 @@ impl Regex {
         ensures same_cache { result.cache.ghost_name ≡ cache.entry.ghost_name }
         ensures cache { result.cache.now ≡ cache.old }
         ensures regex { result.regex.now ≡ self.now }
-        ensures input { input_at result.haystack.now result.start result.end result.anchored result.earliest ≡ input.entry }
+        ensures input { input_at result.haystack.now result.start result.end result.anchored result.earliest
+            ≡ input.entry }
         ensures last { result.last ≡ None }
         ensures ended { result.ended ≡ false }
     {
@@ -120,7 +123,8 @@ pub struct FindMatches<'r, 'c, 'h> {
 impl<'r, 'c, 'h> FindMatches<'r, 'c, 'h> {
     /// What is left to be searched.
     fn input(&self) -> Input<'h>
-        ensures { result ≡ input_at self.now.haystack.now self.now.start self.now.end self.now.anchored self.now.earliest }
+        ensures { result ≡ input_at self.now.haystack.now self.now.start self.now.end self.now.anchored
+            self.now.earliest }
     {
         Input::new(self.haystack)
             .range(self.start..self.end)

@@ -51,7 +51,8 @@ impl Regex {
 
         // What the passes tell; and where no cycle passes a look, whether the ordered paths have an answer.
         ensures told { IfOk result (IsMatchTold self.now.forward input.now) }
-        ensures answer { IsLookAcyclic (nfa_of self.now.forward.nfa) → IfOk result (IsMatch (forward_engine self.now) input.now) }
+        ensures answer { IsLookAcyclic (nfa_of self.now.forward.nfa)
+            → IfOk result (IsMatch (forward_engine self.now) input.now) }
         ensures errors { IfErr result (IsMatchRefused self.now.forward cache.new.forward.store input.now) }
         ensures unsupported { input.now.start ≤ input.now.end
             → quit_behind self.now.forward (byte_before input.now.haystack input.now.start) ≡ None
