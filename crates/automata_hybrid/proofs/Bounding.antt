@@ -14,7 +14,8 @@ use Rattle.automata_hybrid.specs.declared.dfa.settings.Settings.{Settings}
 use Rattle.automata_hybrid.specs.declared.dfa.progress.Searched.{Searched}
 use Rattle.automata_hybrid.specs.Table.{Rows, MayLead, Leads, Names, row_cost, with_row, fresh, fixed_rows}
 use Rattle.automata_hybrid.specs.Clears.{AllStarts}
-use Rattle.automata_hybrid.specs.Bounds.{Stored, usage_by, IsCache, usage, Fits, with_table, fresh_store, settings_of, with_start}
+use Rattle.automata_hybrid.specs.Stores.{Stored, with_table, fresh_store, settings_of, with_start}
+use Rattle.automata_hybrid.specs.Usage.{usage_by, IsCache, usage, Fits}
 
 -- a cache with so few rows is within its capacity
 pub few_within : (n cells most stride slots sum fixed capacity : ℕ) → n ≤ slots + 1 → cells ≡ (n + 3) * stride → sum ≤ n * most → minimum_capacity stride slots most fixed ≤ capacity

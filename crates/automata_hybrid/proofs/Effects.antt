@@ -7,7 +7,9 @@ use Rattle.automata_base.specs.Powerset.{Powerset, cost}
 use Rattle.automata_hybrid.specs.declared.dfa.row.Row.{Row}
 use Rattle.automata_hybrid.specs.Machine.{Machine, greatest, template_of}
 use Rattle.automata_hybrid.specs.Table.{id_of, Rows, Names, HasCells, row_cost, cell_at, with_row, Has}
-use Rattle.automata_hybrid.specs.Bounds.{Stored, usage, Fits, grown, cell_of, with_next, with_start, IsKnownTransition, IsKnownStart, IsComputed, IsStarted}
+use Rattle.automata_hybrid.specs.Stores.{Stored, cell_of, with_next, with_start, IsKnownTransition, IsKnownStart}
+use Rattle.automata_hybrid.specs.Usage.{usage, Fits}
+use Rattle.automata_hybrid.specs.Effects.{grown, IsComputed, IsStarted}
 use Rattle.automata_hybrid.specs.Growing.{Keeps, ClearedNothing, HasRoom}
 use Rattle.automata_hybrid.specs.Progressing.{saturated}
 use Rattle.automata_base.specs.Equal.{powerset_eq, powerset_eq-Decides}

@@ -8,7 +8,7 @@ use Rattle.automata_base.specs.Powerset.{Powerset}
 use Rattle.automata_base.specs.Steps.{successor}
 use Rattle.automata_base.specs.Tapes.{Direction}
 use Rattle.automata_base.proofs.Paths.Orders.{some_inj}
-use Rattle.automata_hybrid.specs.Bounds.{Stored, IsKnownTransition}
+use Rattle.automata_hybrid.specs.Stores.{Stored, IsKnownTransition}
 use Rattle.automata_hybrid.specs.Ids.{quit_id}
 use Rattle.automata_hybrid.specs.Stepping.{unit_class}
 use Rattle.automata_hybrid.specs.Machine.{Machine}

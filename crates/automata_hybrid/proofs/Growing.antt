@@ -2,7 +2,9 @@
 use Rattle.std.proofs.Common.{ℕ, ◌≡◌, ◌∙◌, ◌+◌, ◌-◌, ◌*◌, ◌^◌, ◌<◌, ◌≤◌, inl, inr, length, refl, sym, ap, subst, arith}
 use Rattle.std.proofs.Math.Nat.{mul-le-mul_right}
 use Rattle.automata_hybrid.specs.declared.dfa.progress.Searched.{Searched}
-use Rattle.automata_hybrid.specs.Bounds.{Stored, IsAddedStart, KeepsStarts, usage, with_searched}
+use Rattle.automata_hybrid.specs.Stores.{Stored, KeepsStarts, with_searched}
+use Rattle.automata_hybrid.specs.Usage.{usage}
+use Rattle.automata_hybrid.specs.Effects.{IsAddedStart}
 use Rattle.automata_hybrid.specs.Caches.{CacheView, counted, with_store}
 use Rattle.automata_hybrid.specs.Growing.{IsGrown, Keeps, ClearedNothing, HasRoom}
 use Rattle.automata_hybrid.proofs.Effects.{HasRoom-Fits, HasRoom-grown, Keeps-grown, Keeps-trans, counts_up}

@@ -14,7 +14,7 @@ use Rattle.automata_config.specs.declared.error.StartError.{StartError}
 use Rattle.automata_config.specs.declared.error.StartError.TheVariants as start
 use Rattle.automata_config.specs.declared.error.SearchError.{SearchError}
 use Rattle.automata_hybrid.specs.declared.dfa.progress.Searched.{Searched}
-use Rattle.automata_hybrid.specs.Bounds.{Stored, IsKnownStart, IsKnownTransition, with_searched}
+use Rattle.automata_hybrid.specs.Stores.{Stored, IsKnownStart, IsKnownTransition, with_searched}
 use Rattle.automata_hybrid.specs.Caches.{CacheView, with_store}
 use Rattle.automata_hybrid.specs.Growing.{IsGrown, ClearedNothing, Keeps}
 use Rattle.automata_hybrid.specs.Knowing.{IsOfInput, Knows, KnowsItsStart, KnowsPass, KnowsUnit}

@@ -6,7 +6,7 @@ use Rattle.automata_base.specs.Input.{Input}
 use Rattle.automata_base.specs.Matches.{HalfMatch}
 use Rattle.automata_base.specs.Tapes.{Direction, Forward}
 use Rattle.automata_config.specs.declared.error.SearchError.{SearchError}
-use Rattle.automata_hybrid.specs.Bounds.{Stored}
+use Rattle.automata_hybrid.specs.Stores.{Stored}
 use Rattle.automata_hybrid.specs.Caches.{CacheView}
 use Rattle.automata_hybrid.specs.Knowing.{IsOfInput}
 use Rattle.automata_hybrid.specs.Machine.{Machine}

@@ -5,7 +5,7 @@ use Rattle.automata_base.specs.Input.{Input}
 use Rattle.automata_base.specs.Powerset.{Powerset}
 use Rattle.automata_base.specs.Tapes.{Direction}
 use Rattle.automata_config.specs.declared.error.SearchError.{SearchError}
-use Rattle.automata_hybrid.specs.Bounds.{Stored}
+use Rattle.automata_hybrid.specs.Stores.{Stored}
 use Rattle.automata_hybrid.specs.Machine.{Machine}
 use Rattle.automata_hybrid.specs.Owing.{IsStoreOf}
 use Rattle.automata_hybrid.specs.OwingWalks.{MayRefuseCall, MayRefuseWhich, ReadsNothing}

@@ -17,7 +17,7 @@ use Rattle.automata_base.proofs.Determinizing.Alike.{dead_stays}
 use Rattle.std.specs.Prelude.{Result, Ok, Err, IfErr, is_some}
 use Rattle.std.specs.Result.{IsErrAnd}
 use Rattle.automata_config.specs.declared.error.SearchError.{SearchError}
-use Rattle.automata_hybrid.specs.Bounds.{Stored}
+use Rattle.automata_hybrid.specs.Stores.{Stored}
 use Rattle.automata_hybrid.specs.Machine.{Machine}
 use Rattle.automata_hybrid.specs.Passing.{half_of, half_at, found_over, IsAt}
 use Rattle.automata_hybrid.specs.Searches.{IsStepRefusal, IsPassRefusal, unit_offset, given_up_offset, tape_in, state_in, told_in, Reads, MeetsNoQuit}

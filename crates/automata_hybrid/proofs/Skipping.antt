@@ -9,7 +9,7 @@ use Rattle.automata_base.specs.Tapes.{Direction, Forward, Backward, is_split}
 use Rattle.automata_base.specs.Told.{TellsOver, IsTold, told_over}
 use Rattle.automata_base.proofs.Determinizing.Told.{turn_answers}
 use Rattle.automata_config.specs.declared.error.SearchError.{SearchError}
-use Rattle.automata_hybrid.specs.Bounds.{Stored}
+use Rattle.automata_hybrid.specs.Stores.{Stored}
 use Rattle.automata_hybrid.specs.Machine.{Machine}
 use Rattle.automata_hybrid.specs.Passing.{half_of, found_over}
 use Rattle.automata_hybrid.specs.Searches.{Finds, Skips, IsFound, IsRefused, IsPassRefusal, MeetsNoQuit, with_base}

@@ -7,7 +7,9 @@ use Rattle.automata_hybrid.specs.declared.dfa.row.Row.{Row}
 use Rattle.automata_hybrid.specs.Ids.{tags}
 use Rattle.automata_hybrid.specs.Table.{Rows, fresh, id_of, has_patterns, Names, HasRowIds, KeepsStartTags, TagsNewStates, row_id, with_row}
 use Rattle.automata_hybrid.specs.Clears.{put_if, put, row_of, Kept, keep_found, keep_slot, keep_slots}
-use Rattle.automata_hybrid.specs.Bounds.{Stored, cleared, cleared_saving, put_found, IsAdded, IsAddedStart, IsComputed, IsStarted}
+use Rattle.automata_hybrid.specs.Stores.{Stored}
+use Rattle.automata_hybrid.specs.Usage.{cleared}
+use Rattle.automata_hybrid.specs.Effects.{cleared_saving, put_found, IsAdded, IsAddedStart, IsComputed, IsStarted}
 use Rattle.automata_hybrid.proofs.Rows.{at_push}
 use Rattle.automata_hybrid.proofs.Places.{Found, find_id-Found, bit_of, zero_one}
 use Rattle.automata_hybrid.proofs.Effects.{one_id}

@@ -14,7 +14,8 @@ use Rattle.automata_config.specs.declared.error.StepError.{StepError}
 use Rattle.automata_config.specs.declared.error.StepError.TheVariants as step
 use Rattle.automata_hybrid.specs.Machine.{Machine}
 use Rattle.automata_hybrid.specs.Table.{Has, KeepsStartTags, Leads, Rows, TagsNewStates}
-use Rattle.automata_hybrid.specs.Bounds.{Stored, GivesUp, IsCacheError, IsKnownStart}
+use Rattle.automata_hybrid.specs.Stores.{Stored, IsCacheError, IsKnownStart}
+use Rattle.automata_hybrid.specs.Usage.{GivesUp}
 use Rattle.automata_hybrid.specs.Caches.{CacheView, HasRow, counted}
 use Rattle.automata_hybrid.specs.Growing.{IsGrown, KeepsProgress}
 use Rattle.automata_hybrid.specs.Slots.{slot_behind, supports}

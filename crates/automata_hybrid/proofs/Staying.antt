@@ -7,7 +7,7 @@ use Rattle.automata_base.specs.Passes.{IsUnit}
 use Rattle.automata_base.specs.Paths.{next}
 use Rattle.automata_base.specs.Tapes.{Direction, Forward, Backward}
 use Rattle.automata_base.proofs.Spans.Total.{tape_units}
-use Rattle.automata_hybrid.specs.Bounds.{Stored}
+use Rattle.automata_hybrid.specs.Stores.{Stored}
 use Rattle.automata_hybrid.specs.Growing.{Keeps}
 use Rattle.automata_hybrid.specs.Knowing.{KnownStays, KnowsPass}
 use Rattle.automata_hybrid.specs.Stepping.{unit_class}

@@ -5,7 +5,9 @@ use Rattle.automata_base.specs.Classes.{is_quit}
 use Rattle.automata_base.specs.Powerset.{Powerset}
 use Rattle.automata_base.specs.Steps.{successor}
 use Rattle.automata_base.proofs.Paths.Orders.{none_some, some_inj}
-use Rattle.automata_hybrid.specs.Bounds.{GivesUp, IsComputed, IsKnownTransition, IsNext, cell_of}
+use Rattle.automata_hybrid.specs.Stores.{IsKnownTransition, IsNext, cell_of}
+use Rattle.automata_hybrid.specs.Usage.{GivesUp}
+use Rattle.automata_hybrid.specs.Effects.{IsComputed}
 use Rattle.automata_hybrid.specs.Caches.{CacheView, HasRow}
 use Rattle.automata_hybrid.specs.Growing.{ClearedNothing, IsGrown, KeepsProgress}
 use Rattle.automata_hybrid.specs.Ids.{fixed_from, quit_id, unknown_id}

@@ -5,7 +5,8 @@ use Rattle.automata_hybrid.specs.Machine.{Machine, template_of}
 use Rattle.automata_hybrid.specs.Table.{Rows, IsCell, IsValid, Leads, Names}
 use Rattle.automata_hybrid.specs.Ids.{quit_id}
 use Rattle.automata_hybrid.specs.Caches.{HasRow}
-use Rattle.automata_hybrid.specs.Bounds.{Stored, IsCacheError, GivesUp}
+use Rattle.automata_hybrid.specs.Stores.{Stored, IsCacheError}
+use Rattle.automata_hybrid.specs.Usage.{GivesUp}
 use Rattle.automata_hybrid.specs.Passing.{IsDeadTagged, step_refusal}
 use Rattle.automata_hybrid.specs.Searches.{IsNoQuit, IsStepRefusal}
 use Rattle.automata_config.specs.declared.error.StepError.{StepError}

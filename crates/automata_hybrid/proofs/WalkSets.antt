@@ -10,7 +10,7 @@ use Rattle.automata_base.specs.PatternSet.{has, members, members_from}
 use Rattle.automata_base.specs.Selections.{Pair}
 use Rattle.automata_base.specs.Tapes.{Forward, byte_before}
 use Rattle.automata_base.proofs.Values.PatternsInSets.{members-few}
-use Rattle.automata_hybrid.specs.Bounds.{Stored}
+use Rattle.automata_hybrid.specs.Stores.{Stored}
 use Rattle.automata_hybrid.specs.Caches.{CacheView}
 use Rattle.automata_hybrid.specs.Growing.{IsGrown}
 use Rattle.automata_hybrid.specs.Knowing.{KnowsItsStart}

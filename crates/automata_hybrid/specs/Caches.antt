@@ -2,7 +2,7 @@ use Rattle.std.specs.Prelude.{◌≡◌, ℕ, ◌+◌, ◌⊎◌}
 use Rattle.automata_hybrid.specs.Ids.{unknown_id, dead_id, quit_id}
 use Rattle.automata_hybrid.specs.Machine.{Machine}
 use Rattle.automata_hybrid.specs.Table.{Rows, IsValid}
-use Rattle.automata_hybrid.specs.Bounds.{Stored, fresh_store}
+use Rattle.automata_hybrid.specs.Stores.{Stored, fresh_store}
 
 -- what contracts see of a cache: its states, and how often it determinised
 pub record CacheView : Type 0 where

@@ -31,7 +31,10 @@ pub record Kept : Type 0 where
 
 abbrev pub keep_found : Option Row → Kept → Kept
 keep_found None k = k
-keep_found (Some r) k = record { table = put k.table r; starts = k.starts ++ or_unknown (id_of (put k.table r) r.state) ∷ [] }
+keep_found (Some r) k = record {
+  table = put k.table r;
+  starts = k.starts ++ or_unknown (id_of (put k.table r) r.state) ∷ [];
+}
 
 -- a slot that names a row: the row stays, and the slot has its new ID; another slot stays as it is
 abbrev pub keep_slot : Rows → Kept → ℕ → Kept

@@ -1,7 +1,8 @@
 -- What steps and searches make of a cache, and a reset doesn't.
 use Rattle.std.specs.Prelude.{◌≡◌, ℕ, ◌+◌, ◌-◌, ◌*◌, ◌^◌, ◌<◌, ◌≤◌, ◌⊎◌, length, slice_index}
 use Rattle.automata_base.specs.Powerset.{Powerset}
-use Rattle.automata_hybrid.specs.Bounds.{Stored, IsKnownStart, IsKnownTransition, KeepsStarts, cell_of, usage, with_searched}
+use Rattle.automata_hybrid.specs.Stores.{Stored, IsKnownStart, IsKnownTransition, KeepsStarts, cell_of, with_searched}
+use Rattle.automata_hybrid.specs.Usage.{usage}
 use Rattle.automata_hybrid.specs.Caches.{CacheView}
 use Rattle.automata_hybrid.specs.Ids.{offset_limit}
 use Rattle.automata_hybrid.specs.Machine.{greatest}

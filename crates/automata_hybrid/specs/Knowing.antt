@@ -7,7 +7,7 @@ use Rattle.automata_base.specs.Tapes.{Direction}
 use Rattle.automata_base.specs.declared.util.search.MatchErrorKind.TheVariants.{GaveUp}
 use Rattle.automata_config.specs.declared.error.SearchError.{SearchError}
 use Rattle.automata_config.specs.declared.error.SearchError.TheVariants as search
-use Rattle.automata_hybrid.specs.Bounds.{Stored, IsKnownStart, IsKnownTransition}
+use Rattle.automata_hybrid.specs.Stores.{Stored, IsKnownStart, IsKnownTransition}
 use Rattle.automata_hybrid.specs.Growing.{Keeps}
 use Rattle.automata_hybrid.specs.Machine.{Machine}
 use Rattle.automata_hybrid.specs.Searches.{Finds, HasReadNoQuit, Reads, Skips, state_in, tape_in}

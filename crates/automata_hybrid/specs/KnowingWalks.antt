@@ -7,7 +7,7 @@ use Rattle.automata_base.specs.PatternSet.{members}
 use Rattle.automata_base.specs.Powerset.{Powerset}
 use Rattle.automata_base.specs.Selections.{Pair}
 use Rattle.automata_base.specs.Tapes.{Direction, Forward}
-use Rattle.automata_hybrid.specs.Bounds.{Stored}
+use Rattle.automata_hybrid.specs.Stores.{Stored}
 use Rattle.automata_hybrid.specs.Knowing.{KnowsItsStart, KnowsUnit}
 use Rattle.automata_hybrid.specs.Machine.{Machine}
 use Rattle.automata_hybrid.specs.Passing.{HasLearnedUnit}

@@ -5,7 +5,9 @@ pub mod Machine
 pub mod Table
 pub mod Clears
 pub mod Progressing
-pub mod Bounds
+pub mod Stores
+pub mod Usage
+pub mod Effects
 pub mod Builds
 pub mod Caches
 pub mod Growing

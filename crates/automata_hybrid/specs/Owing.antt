@@ -12,7 +12,8 @@ use Rattle.automata_base.specs.declared.util.search.MatchErrorKind.TheVariants.{
 use Rattle.automata_base.specs.declared.util.search.MatchKind.TheVariants.{All as KindAll}
 use Rattle.automata_config.specs.declared.error.SearchError.{SearchError}
 use Rattle.automata_config.specs.declared.error.SearchError.TheVariants as search
-use Rattle.automata_hybrid.specs.Bounds.{Stored, usage}
+use Rattle.automata_hybrid.specs.Stores.{Stored}
+use Rattle.automata_hybrid.specs.Usage.{usage}
 use Rattle.automata_hybrid.specs.Caches.{CacheView}
 use Rattle.automata_hybrid.specs.Costs.{IsCostOfSearch}
 use Rattle.automata_hybrid.specs.Growing.{ClearedNothing, IsGrown, IsStill}

@@ -11,7 +11,7 @@ use Rattle.automata_base.specs.Powerset.{Powerset}
 use Rattle.automata_base.specs.Selections.{Pair}
 use Rattle.automata_base.specs.Tapes.{Direction, Forward}
 use Rattle.automata_config.specs.declared.error.SearchError.{SearchError}
-use Rattle.automata_hybrid.specs.Bounds.{Stored}
+use Rattle.automata_hybrid.specs.Stores.{Stored}
 use Rattle.automata_hybrid.specs.Caches.{CacheView, counted}
 use Rattle.automata_hybrid.specs.Growing.{ClearedNothing, HasRoom, IsGrown, IsStill}
 use Rattle.automata_hybrid.specs.Knowing.{IsOfInput}

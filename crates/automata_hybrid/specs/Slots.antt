@@ -1,7 +1,7 @@
 use Rattle.std.specs.Prelude.{ℕ, suc, ◌+◌, ◌*◌, ◌<◌, Bool, true, Option, length}
 use Rattle.automata_base.specs.Alike.{behind_of}
 use Rattle.automata_hybrid.specs.Machine.{Machine}
-use Rattle.automata_hybrid.specs.Bounds.{Stored, IsKnownStart}
+use Rattle.automata_hybrid.specs.Stores.{Stored, IsKnownStart}
 use Rattle.automata_base.specs.declared.util.search.Anchored.{Anchored}
 use Rattle.automata_base.specs.declared.util.search.Anchored.TheVariants.{No, Yes, Pattern}
 

@@ -14,7 +14,9 @@ use Rattle.automata_hybrid.specs.declared.dfa.row.Row.{Row}
 use Rattle.automata_hybrid.specs.Ids.{dead_id}
 use Rattle.automata_hybrid.specs.Machine.{Machine}
 use Rattle.automata_hybrid.specs.Table.{Has, HasItsMatchTag, KeepsStartTags, Leads, TagsNewStates}
-use Rattle.automata_hybrid.specs.Bounds.{Stored, GivesUp, IsStarted}
+use Rattle.automata_hybrid.specs.Stores.{Stored}
+use Rattle.automata_hybrid.specs.Usage.{GivesUp}
+use Rattle.automata_hybrid.specs.Effects.{IsStarted}
 use Rattle.automata_hybrid.specs.Caches.{CacheView, HasRow, counted}
 use Rattle.automata_hybrid.specs.Growing.{IsGrown, KeepsProgress}
 use Rattle.automata_hybrid.specs.Slots.{supports, slot_behind, HasStart}

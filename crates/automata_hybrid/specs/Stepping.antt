@@ -4,7 +4,9 @@ use Rattle.automata_base.specs.Classes.{class_in, eoi_class, is_quit}
 use Rattle.automata_base.specs.Powerset.{Powerset}
 use Rattle.automata_base.specs.Steps.{successor}
 use Rattle.automata_config.specs.declared.error.StepError.{StepError}
-use Rattle.automata_hybrid.specs.Bounds.{Stored, GivesUp, IsCacheError, IsComputed, IsKnownTransition, cell_of}
+use Rattle.automata_hybrid.specs.Stores.{Stored, IsCacheError, IsKnownTransition, cell_of}
+use Rattle.automata_hybrid.specs.Usage.{GivesUp}
+use Rattle.automata_hybrid.specs.Effects.{IsComputed}
 use Rattle.automata_hybrid.specs.Caches.{CacheView, HasRow, counted}
 use Rattle.automata_hybrid.specs.Growing.{ClearedNothing, IsGrown, KeepsProgress}
 use Rattle.automata_hybrid.specs.Ids.{fixed_from, quit_id}

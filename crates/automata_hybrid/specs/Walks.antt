@@ -76,4 +76,10 @@ stage_has_key (stage.At h) = HasKey h
 stage_has_key stage.Ended = Unit {0}
 
 abbrev pub walk_of : Inside → Walk
-walk_of s = record { stage = stage_of s.stage; units = s.units; told = s.told; found = s.found; lost = stage_lost s.stage }
+walk_of s = record {
+  stage = stage_of s.stage;
+  units = s.units;
+  told = s.told;
+  found = s.found;
+  lost = stage_lost s.stage;
+}

@@ -11,7 +11,7 @@ use Rattle.automata_base.specs.declared.util.search.Anchored.TheVariants.{No, Ye
 use Rattle.automata_base.specs.declared.util.search.MatchErrorKind.TheVariants.{Quit as QuitAt}
 use Rattle.automata_config.specs.declared.error.StartError.TheVariants as start
 use Rattle.automata_config.specs.declared.error.SearchError.TheVariants as search
-use Rattle.automata_hybrid.specs.Bounds.{Stored}
+use Rattle.automata_hybrid.specs.Stores.{Stored}
 use Rattle.automata_hybrid.specs.Machine.{Machine}
 use Rattle.automata_hybrid.specs.Searches.{IsFound, IsPassRefusal, IsRefused, Skips, tape_in}
 use Rattle.automata_hybrid.specs.Starting.{quit_behind}

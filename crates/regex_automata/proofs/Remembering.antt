@@ -7,7 +7,7 @@ use Rattle.automata_base.specs.Matches.{Match}
 use Rattle.automata_base.specs.Spans.{IsEmptyAt, back, from}
 use Rattle.automata_base.specs.Tapes.{Backward, Forward}
 use Rattle.automata_config.specs.declared.error.SearchError.{SearchError}
-use Rattle.automata_hybrid.specs.Bounds.{Stored, with_searched}
+use Rattle.automata_hybrid.specs.Stores.{Stored, with_searched}
 use Rattle.automata_hybrid.specs.Caches.{CacheView}
 use Rattle.automata_hybrid.specs.Growing.{IsStill}
 use Rattle.automata_hybrid.specs.Knowing.{KnownStays, Knows}

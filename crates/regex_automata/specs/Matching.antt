@@ -6,7 +6,7 @@ use Rattle.automata_base.specs.Spans.{in_full}
 use Rattle.automata_base.specs.Tapes.{Forward}
 use Rattle.automata_base.specs.Told.{IsTold}
 use Rattle.automata_config.specs.declared.error.SearchError.{SearchError}
-use Rattle.automata_hybrid.specs.Bounds.{Stored}
+use Rattle.automata_hybrid.specs.Stores.{Stored}
 use Rattle.automata_hybrid.specs.Knowing.{Knows}
 use Rattle.automata_hybrid.specs.Machine.{Machine}
 use Rattle.automata_hybrid.specs.Searches.{IsRefused, Skips}

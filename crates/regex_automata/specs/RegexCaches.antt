@@ -4,7 +4,7 @@ use Rattle.automata_base.specs.Answers.{Half}
 use Rattle.automata_base.specs.Input.{Input}
 use Rattle.automata_base.specs.Spans.{IsShort, back}
 use Rattle.automata_base.specs.Tapes.{Forward, Backward}
-use Rattle.automata_hybrid.specs.Bounds.{Stored}
+use Rattle.automata_hybrid.specs.Stores.{Stored}
 use Rattle.automata_hybrid.specs.Caches.{IsCacheOf, fresh_cache}
 use Rattle.automata_hybrid.specs.Growing.{ClearedNothing, IsGrown, IsStill}
 use Rattle.automata_hybrid.specs.Knowing.{Knows}

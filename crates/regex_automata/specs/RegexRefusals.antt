@@ -7,7 +7,7 @@ use Rattle.automata_base.specs.Tapes.{Forward, Backward}
 use Rattle.automata_base.specs.declared.util.search.MatchErrorKind.TheVariants.{Quit as QuitAt}
 use Rattle.automata_config.specs.declared.error.SearchError.{SearchError}
 use Rattle.automata_config.specs.declared.error.SearchError.TheVariants as search
-use Rattle.automata_hybrid.specs.Bounds.{Stored}
+use Rattle.automata_hybrid.specs.Stores.{Stored}
 use Rattle.automata_hybrid.specs.Knowing.{IsOfInput}
 use Rattle.automata_hybrid.specs.Searches.{IsFound, IsRefused, NoQuitInReach}
 use Rattle.automata_hybrid.specs.Slots.{supports}

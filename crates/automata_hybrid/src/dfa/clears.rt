@@ -3,7 +3,7 @@ ghost use Rattle.automata_base.specs.Powerset.{Powerset};
 ghost use Rattle.automata_hybrid.specs.Machine.{greatest, start_of, IsTemplate};
 ghost use Rattle.automata_hybrid.specs.Table.{id_of, Names, IsValid, row_cost, MayLead};
 ghost use Rattle.automata_hybrid.specs.Clears.{AllStarts, kept, put, row_of, keep_slot, IsPut};
-ghost use Rattle.automata_hybrid.specs.Bounds.{KeepsStarts};
+ghost use Rattle.automata_hybrid.specs.Stores.{KeepsStarts};
 ghost use Rattle.automata_hybrid.specs.declared.dfa.row.Row.{Row as ARow};
 ghost use Rattle.automata_hybrid.specs.Ids.{unknown_id, offset_limit};
 

@@ -10,7 +10,7 @@ ghost use Rattle.automata_config.specs.Settling.{IsSettled};
 ghost use Rattle.automata_config.specs.Options.{unset};
 ghost use Rattle.automata_hybrid.specs.Caches.{fresh_cache};
 ghost use Rattle.automata_hybrid.specs.Builds.{built};
-ghost use Rattle.automata_hybrid.specs.Bounds.{fresh_store, settings_of};
+ghost use Rattle.automata_hybrid.specs.Stores.{fresh_store, settings_of};
 
 pub mod builder;
 pub mod cache;

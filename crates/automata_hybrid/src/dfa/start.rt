@@ -9,7 +9,9 @@ ghost use Rattle.automata_base.specs.Lists.{nth};
 ghost use Rattle.automata_hybrid.specs.Starting.{quit_behind, start_refusal, search_refusal, MayStart, IsStartAnswer, IsStartRefused, IsStartRefusedAt, IsStartEffect};
 ghost use Rattle.automata_hybrid.specs.Slots.{supports, slot_of, slot_behind};
 ghost use Rattle.automata_hybrid.specs.Table.{Leads, Has, HasItsMatchTag, KeepsStartTags, TagsNewStates};
-ghost use Rattle.automata_hybrid.specs.Bounds.{IsCacheError, IsKnownStart, IsStarted, KeepsStarts, GivesUp};
+ghost use Rattle.automata_hybrid.specs.Stores.{IsCacheError, IsKnownStart, KeepsStarts};
+ghost use Rattle.automata_hybrid.specs.Usage.{GivesUp};
+ghost use Rattle.automata_hybrid.specs.Effects.{IsStarted};
 ghost use Rattle.automata_hybrid.specs.Growing.{IsGrown, KeepsProgress};
 ghost use Rattle.automata_hybrid.specs.Caches.{IsCacheOf, counted};
 

@@ -6,7 +6,9 @@ ghost use Rattle.automata_hybrid.specs.Ids.{dead_id, unknown_id, fixed_from, off
 ghost use Rattle.automata_hybrid.specs.Machine.{next_of, start_of, greatest, template_of, IsTemplate};
 ghost use Rattle.automata_hybrid.specs.Table.{id_of, Names, IsValid, Leads, MayLead, IsCell, HasCells, HasRowIds, Has};
 ghost use Rattle.automata_hybrid.specs.Clears.{row_of};
-ghost use Rattle.automata_hybrid.specs.Bounds.{usage, Fits, refuses_to_clear, cleared, with_table, grown, put_found, cleared_saving, IsCacheError, cell_of, with_next, fresh_store, settings_of, with_start, IsAdded, IsAddedStart, KeepsStarts};
+ghost use Rattle.automata_hybrid.specs.Stores.{with_table, IsCacheError, cell_of, with_next, fresh_store, settings_of, with_start, KeepsStarts};
+ghost use Rattle.automata_hybrid.specs.Usage.{usage, Fits, refuses_to_clear, cleared};
+ghost use Rattle.automata_hybrid.specs.Effects.{grown, put_found, cleared_saving, IsAdded, IsAddedStart};
 ghost use Rattle.automata_hybrid.specs.Caches.{IsRow};
 ghost use Rattle.automata_hybrid.specs.Progressing.{started, updated, finished, total_len};
 
@@ -33,7 +35,8 @@ pub struct Store {
 }
 
 impl Model for Store {
-    ghost use Rattle.automata_hybrid.specs.Bounds.{Stored, IsCache};
+    ghost use Rattle.automata_hybrid.specs.Stores.{Stored};
+    ghost use Rattle.automata_hybrid.specs.Usage.{IsCache};
 
     ghost Value = { Stored };
 

@@ -3,7 +3,7 @@ ghost use Rattle.automata_base.specs.Classes.{class_in, eoi_class, is_quit};
 ghost use Rattle.automata_base.specs.Input.{Allows};
 ghost use Rattle.automata_base.specs.Powerset.{Powerset, dead};
 ghost use Rattle.automata_base.specs.Steps.{successor};
-ghost use Rattle.automata_hybrid.specs.Bounds.{IsKnownTransition};
+ghost use Rattle.automata_hybrid.specs.Stores.{IsKnownTransition};
 ghost use Rattle.automata_hybrid.specs.Caches.{IsCacheOf};
 ghost use Rattle.automata_hybrid.specs.Growing.{IsGrown, ClearedNothing, KeepsProgress};
 ghost use Rattle.automata_hybrid.specs.Knowing.{IsOfInput};

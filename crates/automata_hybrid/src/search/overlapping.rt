@@ -2,7 +2,8 @@
 ghost use Rattle.std.specs.Prelude.{ℕ, ◌≡◌, ◌+◌, ◌-◌, ◌<◌, ◌≤◌, ◌⊎◌, ◌^◌, IfOk, IfErr, IfNone, IfSome, OnOk, OnErr, None, Some, Err, true, false, length, slice_index};
 ghost use Rattle.automata_base.specs.Powerset.{Powerset};
 ghost use Rattle.automata_base.specs.Tapes.{Forward, Backward};
-ghost use Rattle.automata_hybrid.specs.Bounds.{GivesUp, IsCacheError};
+ghost use Rattle.automata_hybrid.specs.Stores.{IsCacheError};
+ghost use Rattle.automata_hybrid.specs.Usage.{GivesUp};
 ghost use Rattle.automata_hybrid.specs.Caches.{IsCacheOf, counted};
 ghost use Rattle.automata_hybrid.specs.Growing.{ClearedNothing, IsGrown, IsStill};
 ghost use Rattle.automata_hybrid.specs.Knowing.{IsOfInput};

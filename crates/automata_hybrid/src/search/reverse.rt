@@ -6,7 +6,7 @@ ghost use Rattle.automata_base.specs.Powerset.{Powerset, dead};
 ghost use Rattle.automata_base.specs.Steps.{successor};
 ghost use Rattle.automata_base.specs.Tapes.{Backward};
 ghost use Rattle.automata_base.specs.declared.util.search.MatchErrorKind.TheVariants.{UnsupportedAnchored as UnsupportedMode};
-ghost use Rattle.automata_hybrid.specs.Bounds.{IsKnownTransition};
+ghost use Rattle.automata_hybrid.specs.Stores.{IsKnownTransition};
 ghost use Rattle.automata_hybrid.specs.Caches.{IsCacheOf};
 ghost use Rattle.automata_hybrid.specs.Costs.{IsCostOfSearch};
 ghost use Rattle.automata_hybrid.specs.Growing.{IsGrown, ClearedNothing, KeepsProgress};

@@ -6,7 +6,7 @@ ghost use Rattle.automata_base.specs.Paths.{next};
 ghost use Rattle.automata_base.specs.Powerset.{Powerset};
 ghost use Rattle.automata_base.specs.Steps.{successor};
 ghost use Rattle.automata_base.specs.Tapes.{is_split};
-ghost use Rattle.automata_hybrid.specs.Bounds.{IsKnownTransition};
+ghost use Rattle.automata_hybrid.specs.Stores.{IsKnownTransition};
 ghost use Rattle.automata_hybrid.specs.Caches.{IsCacheOf, counted};
 ghost use Rattle.automata_hybrid.specs.Growing.{ClearedNothing, IsGrown};
 ghost use Rattle.automata_hybrid.specs.Knowing.{IsOfInput, KnowsItsStart, KnowsUnit};

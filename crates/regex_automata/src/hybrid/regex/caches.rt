@@ -1,6 +1,6 @@
 ghost use Rattle.std.specs.Prelude.{◌≡◌, ◌+◌, ◌^◌, ◌-◌, IfOk, OnOk, OnErr, min};
 ghost use Rattle.std.specs.Borrow.{sem};
-ghost use Rattle.automata_hybrid.specs.Bounds.{usage};
+ghost use Rattle.automata_hybrid.specs.Usage.{usage};
 ghost use Rattle.automata_hybrid.specs.Owing.{IsStoreOf};
 ghost use Rattle.regex_automata.specs.RegexCaches.{AreFresh};
 ghost use Rattle.regex_automata.specs.Lending.{LendsBothParts, LendsForward, LendsReverse};

@@ -3,7 +3,7 @@ use Rattle.automata_base.specs.Classes.{is_quit}
 use Rattle.automata_base.specs.Paths.{next}
 use Rattle.automata_base.specs.Tapes.{Forward}
 use Rattle.automata_base.proofs.Paths.Orders.{some_inj, none_some}
-use Rattle.automata_hybrid.specs.Bounds.{IsKnownTransition}
+use Rattle.automata_hybrid.specs.Stores.{IsKnownTransition}
 use Rattle.automata_hybrid.specs.Caches.{CacheView}
 use Rattle.automata_hybrid.specs.Growing.{IsGrown}
 use Rattle.automata_hybrid.specs.Stepping.{unit_class}

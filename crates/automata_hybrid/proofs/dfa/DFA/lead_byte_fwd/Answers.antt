@@ -3,7 +3,7 @@ use Rattle.automata_base.specs.Classes.{class_in}
 use Rattle.automata_base.specs.Lists.{nth}
 use Rattle.automata_base.specs.Paths.{next}
 use Rattle.automata_base.specs.Tapes.{Forward}
-use Rattle.automata_hybrid.specs.Bounds.{IsKnownTransition}
+use Rattle.automata_hybrid.specs.Stores.{IsKnownTransition}
 use Rattle.automata_hybrid.specs.Machine.{Machine}
 use Rattle.automata_hybrid.specs.Passing.{IsLed}
 use Rattle.automata_hybrid.specs.Searches.{tape_in}

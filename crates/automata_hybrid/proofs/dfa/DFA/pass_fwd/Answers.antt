@@ -2,7 +2,7 @@ use Rattle.std.proofs.Common.{◌≡◌, ◌∙◌, ◌-◌, ap, None, refl, sym
 use Rattle.automata_base.specs.Powerset.{dead}
 use Rattle.automata_base.specs.Tapes.{Forward, byte_before}
 use Rattle.std.specs.Prelude.{IfErr}
-use Rattle.automata_hybrid.specs.Bounds.{IsKnownStart, with_searched}
+use Rattle.automata_hybrid.specs.Stores.{IsKnownStart, with_searched}
 use Rattle.automata_hybrid.specs.Caches.{CacheView, with_store}
 use Rattle.automata_hybrid.specs.Growing.{IsGrown}
 use Rattle.automata_hybrid.specs.Knowing.{IsOfInput, KnowsPass}

@@ -1,6 +1,7 @@
 use Rattle.std.proofs.Common.{◌≡◌, ◌∙◌, ◌<◌, ℕ, length, ap, arith, inr, sym, subst}
 use Rattle.std.specs.Prelude.{slice_index}
-use Rattle.automata_hybrid.specs.Bounds.{IsKnownStart, IsStarted}
+use Rattle.automata_hybrid.specs.Stores.{IsKnownStart}
+use Rattle.automata_hybrid.specs.Effects.{IsStarted}
 use Rattle.automata_hybrid.specs.Caches.{CacheView}
 use Rattle.automata_hybrid.specs.Machine.{Machine}
 use Rattle.automata_hybrid.specs.Starting.{IsStartRefusal, start_row}

@@ -2,7 +2,8 @@ use Rattle.std.proofs.Common.{◌≡◌, ◌∙◌, ap, sym, subst, inr, false, 
 use Rattle.automata_base.specs.Powerset.{Powerset}
 use Rattle.automata_base.specs.Steps.{successor}
 use Rattle.automata_hybrid.specs.Table.{Names, Lacks, Has}
-use Rattle.automata_hybrid.specs.Bounds.{Stored, IsAdded}
+use Rattle.automata_hybrid.specs.Stores.{Stored}
+use Rattle.automata_hybrid.specs.Effects.{IsAdded}
 use Rattle.automata_hybrid.specs.Caches.{CacheView}
 use Rattle.automata_hybrid.specs.Founds.{IsLookedUp}
 use Rattle.automata_hybrid.specs.declared.dfa.cache.Found.{Found}

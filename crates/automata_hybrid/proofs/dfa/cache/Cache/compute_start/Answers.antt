@@ -2,7 +2,8 @@ use Rattle.std.proofs.Common.{◌≡◌, ◌∙◌, ap, subst, inr, Bool, ◌⊎
 use Rattle.automata_base.specs.Powerset.{Powerset}
 use Rattle.automata_base.specs.Steps.{start_state_of}
 use Rattle.automata_hybrid.specs.Table.{Lacks, Has}
-use Rattle.automata_hybrid.specs.Bounds.{Stored, IsAddedStart}
+use Rattle.automata_hybrid.specs.Stores.{Stored}
+use Rattle.automata_hybrid.specs.Effects.{IsAddedStart}
 use Rattle.automata_hybrid.specs.Caches.{CacheView}
 use Rattle.automata_hybrid.specs.Founds.{IsLookedUp}
 use Rattle.automata_hybrid.specs.declared.dfa.cache.Found.{Found}

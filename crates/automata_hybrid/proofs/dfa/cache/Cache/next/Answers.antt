@@ -8,7 +8,8 @@ use Rattle.automata_hybrid.specs.Table.{Leads}
 use Rattle.automata_hybrid.proofs.Searched.{computed_progress}
 use Rattle.automata_hybrid.proofs.StartTags.{computed_keeps, computed_adds, same_keeps, same_adds}
 use Rattle.automata_hybrid.specs.Caches.{CacheView}
-use Rattle.automata_hybrid.specs.Bounds.{IsKnownTransition, IsComputed, cell_of}
+use Rattle.automata_hybrid.specs.Stores.{IsKnownTransition, cell_of}
+use Rattle.automata_hybrid.specs.Effects.{IsComputed}
 use Rattle.automata_hybrid.specs.Growing.{ClearedNothing, HasRoom, Keeps}
 use Rattle.automata_hybrid.proofs.Bounding.{Leads-known}
 use Rattle.automata_hybrid.proofs.Effects.{Keeps-computed, written-computed, roomy-computed}

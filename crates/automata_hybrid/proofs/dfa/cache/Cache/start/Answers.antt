@@ -4,7 +4,7 @@ use Rattle.automata_base.specs.Powerset.{cost}
 use Rattle.automata_base.specs.Steps.{start_state_of}
 use Rattle.automata_hybrid.specs.declared.dfa.row.Row.{Row}
 use Rattle.automata_hybrid.specs.Machine.{Machine, greatest}
-use Rattle.automata_hybrid.specs.Bounds.{IsKnownStart}
+use Rattle.automata_hybrid.specs.Stores.{IsKnownStart}
 use Rattle.automata_hybrid.specs.Growing.{ClearedNothing, HasRoom, Keeps}
 use Rattle.automata_hybrid.proofs.Effects.{Keeps-started, roomy-started}
 use Rattle.automata_hybrid.proofs.Growing.{grown_counted, grown_one, grown_same}

@@ -7,7 +7,9 @@ use Rattle.automata_hybrid.proofs.Effects.{only-grown}
 use Rattle.automata_hybrid.proofs.Searching.{false_true}
 use Rattle.automata_hybrid.specs.Owned.{IsOwn}
 use Rattle.automata_hybrid.specs.Machine.{Machine}
-use Rattle.automata_hybrid.specs.Bounds.{Stored, Fits, KeepsStarts, grown, with_table, put_found, cleared_saving}
+use Rattle.automata_hybrid.specs.Stores.{Stored, KeepsStarts, with_table}
+use Rattle.automata_hybrid.specs.Usage.{Fits}
+use Rattle.automata_hybrid.specs.Effects.{grown, put_found, cleared_saving}
 use Rattle.automata_hybrid.proofs.dfa.store.Store.add_next.Goals as goal
 
 pub replace-requires-clause-cost : goal.replace-requires-clause-cost

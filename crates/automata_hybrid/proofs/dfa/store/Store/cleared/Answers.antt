@@ -1,6 +1,6 @@
 use Rattle.std.proofs.Common.{◌≡◌, ◌≤◌, ◌∙◌, ap, sym, subst, length, List, ℕ, None}
 use Rattle.automata_hybrid.specs.Table.{id_of}
-use Rattle.automata_hybrid.specs.Bounds.{Stored, KeepsStarts}
+use Rattle.automata_hybrid.specs.Stores.{Stored, KeepsStarts}
 use Rattle.automata_hybrid.proofs.Bounding.{IsCache-cleared}
 use Rattle.automata_hybrid.proofs.dfa.store.Store.cleared.Goals as goal
 

@@ -2,7 +2,8 @@ use Rattle.std.proofs.Common.{◌≡◌, ◌+◌, ◌*◌, replicate, ◌^◌, �
 use Rattle.std.proofs.lemmas.Grind.{common_steps}
 use Rattle.automata_base.specs.Accounting.{minimum_capacity}
 use Rattle.automata_hybrid.specs.Machine.{Machine, greatest}
-use Rattle.automata_hybrid.specs.Bounds.{IsCache, fresh_store}
+use Rattle.automata_hybrid.specs.Stores.{fresh_store}
+use Rattle.automata_hybrid.specs.Usage.{IsCache}
 use Rattle.automata_hybrid.specs.declared.dfa.settings.Settings.{Settings}
 use Rattle.automata_hybrid.proofs.Bounding.{IsCache-fresh}
 use Rattle.automata_hybrid.proofs.dfa.store.Store.new.Goals as goal

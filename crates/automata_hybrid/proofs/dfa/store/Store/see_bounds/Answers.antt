@@ -1,5 +1,6 @@
 use Rattle.std.proofs.Common.{◌≤◌, subst}
-use Rattle.automata_hybrid.specs.Bounds.{Stored, usage}
+use Rattle.automata_hybrid.specs.Stores.{Stored}
+use Rattle.automata_hybrid.specs.Usage.{usage}
 use Rattle.automata_hybrid.proofs.dfa.store.Store.see_bounds.Goals as goal
 
 pub returns : goal.returns

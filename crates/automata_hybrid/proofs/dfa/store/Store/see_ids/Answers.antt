@@ -1,5 +1,5 @@
 use Rattle.std.proofs.Common.{subst}
-use Rattle.automata_hybrid.specs.Bounds.{Stored}
+use Rattle.automata_hybrid.specs.Stores.{Stored}
 use Rattle.automata_hybrid.specs.Table.{HasRowIds}
 use Rattle.automata_hybrid.proofs.dfa.store.Store.see_ids.Goals as goal
 

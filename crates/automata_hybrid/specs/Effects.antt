@@ -1,0 +1,49 @@
+-- What adding a state, a transition or a start does to a cache.
+use Rattle.std.specs.Prelude.{◌≡◌, ℕ, ◌⊎◌, false, Option, None, Some}
+use Rattle.automata_base.specs.Powerset.{Powerset, cost}
+use Rattle.automata_hybrid.specs.declared.dfa.row.Row.{Row}
+use Rattle.automata_hybrid.specs.Table.{Rows, Leads, Lacks, with_row, Names}
+use Rattle.automata_hybrid.specs.Clears.{put, row_of}
+use Rattle.automata_hybrid.specs.Stores.{Stored, with_next, with_start, with_table}
+use Rattle.automata_hybrid.specs.Usage.{Fits, cleared, refuses_to_clear}
+
+abbrev pub put_found : Rows → Option Row → Rows
+put_found t None = t
+put_found t (Some r) = put t r
+
+-- with one more row
+abbrev pub grown : Stored → Row → Stored
+grown c r = with_table c (with_row c.table r)
+
+-- cleared, the state of this ID saved, and with a new row
+abbrev pub cleared_saving : Stored → ℕ → Stored
+cleared_saving c id = with_table (cleared c) (put_found (cleared c).table (row_of c.table id))
+
+-- what adding a state that is absent does: it grows where the state fits, and else clears first, which the clear rule
+-- allows, and saves a row
+abbrev pub IsAdded : Stored → ℕ → Row → Stored → Type 0
+IsAdded old from r new =
+    (Fits old (cost r.state) × (new ≡ grown old r))
+    ⊎ ((Fits old (cost r.state) → ⊥) × (refuses_to_clear old ≡ false) × (new ≡ grown (cleared_saving old from) r))
+
+-- the whole effect of computing a transition from a state to a target: it is written, at the row as it is after the
+-- target was added, if no row had it
+abbrev pub IsComputed : Stored → (id class : ℕ) → (q target : Powerset) → Stored → ℕ → Type 0
+IsComputed old id class q target new next =
+    (Leads old.table next target × (new ≡ with_next old id class next))
+    ⊎ (Lacks old.table target × (from : ℕ) × (between : Stored)
+    × IsAdded old id (record { state = target; started = false }) between × Names between.table from q
+    × (new ≡ with_next between from class next))
+
+-- what adding a start state that is absent does: it grows where the state fits, and else clears first, which the clear
+-- rule allows
+abbrev pub IsAddedStart : Stored → Row → Stored → Type 0
+IsAddedStart old r new =
+    (Fits old (cost r.state) × (new ≡ grown old r))
+    ⊎ ((Fits old (cost r.state) → ⊥) × (refuses_to_clear old ≡ false) × (new ≡ grown (cleared old) r))
+
+-- the whole effect of computing a start: it is written, after its row was added, if no row had the state
+abbrev pub IsStarted : Stored → (slot : ℕ) → Row → Stored → ℕ → Type 0
+IsStarted old slot r new id =
+    (Leads old.table id r.state × (new ≡ with_start old slot id))
+    ⊎ (Lacks old.table r.state × (between : Stored) × IsAddedStart old r between × (new ≡ with_start between slot id))
