@@ -98,9 +98,8 @@ HasEnded way m input old new =
 -- a pass was refused: at its start, which leaves the progress as it was; or it has ended; or it is left open
 abbrev pub IsLeft : Direction → Machine → Input → (old new : Stored) → SearchError → Type 0
 IsLeft way m input old new e =
-    (IsStartRefusalAt m new input.anchored (tape_in way input).before (behind_offset way input) (offset_in way input 0)
-    e
-    × (new.searched ≡ old.searched))
+    (IsStartRefusalAt m new input.anchored (tape_in way input).before
+    (behind_offset way input) (offset_in way input 0) e × (new.searched ≡ old.searched))
     ⊎ (HasEnded way m input old new
     ⊎ ((KeepsNone way input → ⊥) × IsLeftOpen way m input old.searched old new e))
 
