@@ -17,6 +17,7 @@ pub mod Key
 pub mod LateIsRight
 pub mod Lists
 pub mod Looks
+pub mod Made
 pub mod Marks
 pub mod Matches
 pub mod Members

@@ -1,5 +1,5 @@
 -- What calls owe whatever the cache, from their clauses.
-use Rattle.std.proofs.Common.{◌≡◌, ◌≤◌, Option, None, Result, Ok, Err, IfErr, IfOk, IfSome, Bool, true, false, inl, inr, ap}
+use Rattle.std.proofs.Common.{◌≡◌, ◌<◌, ◌≤◌, Option, None, Result, Ok, Err, IfErr, IfOk, IfSome, Bool, true, false, inl, inr, ap}
 use Rattle.automata_base.specs.Input.{Input}
 use Rattle.automata_base.specs.Matches.{Match}
 use Rattle.automata_base.specs.Nodes.{nfa_of}
@@ -71,8 +71,9 @@ pub span_owed :
     → IfErr r (IsRegexRefusal p c input)
     → (input.start ≤ input.end → quit_behind p.forward (tape_in Forward input).before ≡ None
     → supports p.forward input.anchored ≡ false → r ≡ Err (unsupported_error input))
+    → (input.end < input.start → r ≡ Ok None)
     → IsSpanOf p input r
-span_owed p input r c of found answer span within errors unsupported = record {
+span_owed p input r c of found answer span within errors unsupported done = record {
   found = found;
   answer = answer;
   span = span;
@@ -81,6 +82,7 @@ span_owed p input r c of found answer span within errors unsupported = record {
   unsupported = λ u. unsupported u.undone u.behind u.mode;
   free = λ free. refused_free r p c input free errors;
   free_sound = λ sound free. refused_sound r p c input sound free errors;
+  done = done;
 }
 
 -- a search for whether there is a match
@@ -93,13 +95,15 @@ pub truth_owed :
     → supports p.forward input.anchored ≡ false → r ≡ Err (unsupported_error input))
     → (NoQuitInReach p.forward input → supports p.forward input.anchored ≡ true → p.forward.minimum_clear_count ≡ None
     → IfErr r IsMemory)
+    → (input.end < input.start → r ≡ Ok false)
     → IsTruthOf p input r
-truth_owed p input r told answer errors unsupported answers = record {
+truth_owed p input r told answer errors unsupported answers done = record {
   told = told;
   answer = answer;
   errors = errors;
   unsupported = λ u. unsupported u.undone u.behind u.mode;
   free = λ f. answers f.reach f.supported f.clears;
+  done = done;
 }
 
 -- fresh caches of a regex are of it

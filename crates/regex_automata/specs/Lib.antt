@@ -14,6 +14,7 @@ pub mod Iterating
 pub mod Lending
 pub mod Agreeing
 pub mod Matching
+pub mod RegexEffects
 pub mod Owing
 pub mod Tokens
 pub mod Histories

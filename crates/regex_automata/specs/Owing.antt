@@ -1,5 +1,5 @@
 -- What the answer to a call owes by its DFA or its regex and its input alone, whatever the cache.
-use Rattle.std.specs.Prelude.{ℕ, suc, ◌≡◌, ◌<◌, ◌≤◌, ◌+◌, ◌-◌, ◌⊎◌, Bool, false, List, [], ◌∷◌, length, replicate, Option, Some, None, Result, Err, IfOk, IfErr, IfSome}
+use Rattle.std.specs.Prelude.{ℕ, suc, ◌≡◌, ◌<◌, ◌≤◌, ◌+◌, ◌-◌, ◌⊎◌, Bool, false, List, [], ◌∷◌, length, replicate, Option, Some, None, Result, Ok, Err, IfOk, IfErr, IfSome}
 use Rattle.automata_base.specs.Answers.{IsOverlapping, ArePatterns, ArePatternsFound}
 use Rattle.automata_base.specs.Engines.{engine_of}
 use Rattle.automata_base.specs.Input.{Input}
@@ -80,6 +80,8 @@ pub record IsSpanOf (p : Regex) (input : Input) (result : Result (Option Match) 
   -- of a sound pair the first alone
   pub free : IsFree p input → IfErr result IsOfMemory
   pub free_sound : IsSoundPair p → IsFree p input → IfErr result IsMemory
+  -- in a span that is done there is none
+  pub done : input.end < input.start → result ≡ Ok None
 
 -- some cache of the forward DFA refuses the search for whether there is a match
 abbrev pub MayRefuseTruth : Machine → Input → SearchError → Type 0
@@ -97,6 +99,8 @@ pub record IsTruthOf (p : Regex) (input : Input) (result : Result Bool SearchErr
   pub unsupported : IsUnsupported Forward p.forward input → result ≡ Err (unsupported_error input)
   -- where nothing stands in the way, only want of memory is a refusal
   pub free : IsUnhindered p.forward input → IfErr result IsMemory
+  -- in a span that is done there is none
+  pub done : input.end < input.start → result ≡ Ok false
 
 -- an item of an iteration that goes on, where the mode isn't supported
 abbrev pub TellsUnsupported : Regex → Input → (ended : Bool) → Option (Result Match SearchError) → Type 0

@@ -1,12 +1,7 @@
 //! The powerset construction: what a set of NFA states leads to, one unit at a time.
-ghost use Rattle.std.specs.Prelude.{◌≡◌, ◌+◌, ◌≤◌, IfOk};
-ghost use Rattle.automata_base.specs.Nodes.{nfa_of};
-ghost use Rattle.automata_base.specs.Passes.{IsSuccessor};
-ghost use Rattle.automata_base.specs.Powerset.{cost};
-ghost use Rattle.automata_base.specs.Starts.{IsOf, IsStartOf};
-ghost use Rattle.automata_base.specs.Accounting.{max_cost};
-ghost use Rattle.automata_base.specs.Steps.{start_state_of, successor};
-ghost use Rattle.automata_base.specs.Within.{TellsOwn};
+ghost use Rattle.std.specs.Prelude.{◌≡◌, ◌+◌, IfOk};
+ghost use Rattle.automata_base.specs.Made.{IsStartMade, IsStepMade};
+ghost use Rattle.automata_base.specs.Starts.{IsOf};
 
 pub(crate) mod closure;
 pub(crate) mod construct;
@@ -39,10 +34,7 @@ pub fn start(
     prev: Option<u8>,
 ) -> Result<State, AllocError>
     requires of { scratch.old.of ≡ nfa.now }
-    ensures start { IfOk result (λ state. IsStartOf nfa.now mode prev state) }
-    ensures state { IfOk result (λ state. state ≡ start_state_of nfa.now mode prev) }
-    ensures is_of { IfOk result (λ state. IsOf nfa.now state) }
-    ensures cost { IfOk result (λ state. cost state ≤ max_cost nfa.now) }
+    ensures made { IfOk result (IsStartMade nfa.now mode prev) }
     ensures of { scratch.new.of ≡ scratch.old.of }
     ensures count { scratch.new.count ≡ scratch.old.count + 1 }
 {
@@ -63,11 +55,7 @@ pub fn next(
 ) -> Result<State, AllocError>
     requires of { scratch.old.of ≡ nfa.now }
     requires is_of { IsOf nfa.now from.now }
-    ensures successor { IfOk result (λ state. IsSuccessor (nfa_of nfa.now) kind from.now unit state) }
-    ensures state { IfOk result (λ state. state ≡ successor nfa.now kind from.now unit) }
-    ensures own { IfOk result (TellsOwn nfa.now) }
-    ensures is_of { IfOk result (λ state. IsOf nfa.now state) }
-    ensures cost { IfOk result (λ state. cost state ≤ max_cost nfa.now) }
+    ensures made { IfOk result (IsStepMade nfa.now kind from.now unit) }
     ensures of { scratch.new.of ≡ scratch.old.of }
     ensures count { scratch.new.count ≡ scratch.old.count + 1 }
 {

@@ -1,14 +1,9 @@
 //! The room that determinisation works in, made once for an NFA.
-ghost use Rattle.std.specs.Prelude.{◌≡◌, ◌+◌, ◌≤◌, IfOk};
-ghost use Rattle.automata_base.specs.Nodes.{nfa_of};
+ghost use Rattle.std.specs.Prelude.{◌≡◌, ◌+◌, IfOk};
+ghost use Rattle.automata_base.specs.Made.{IsStartMade, IsStepMade};
 ghost use Rattle.automata_base.specs.Once.{Distinct};
 ghost use Rattle.automata_base.specs.Parts.{powerset_of};
-ghost use Rattle.automata_base.specs.Passes.{IsSuccessor};
-ghost use Rattle.automata_base.specs.Powerset.{cost};
-ghost use Rattle.automata_base.specs.Starts.{IsOf, IsStartOf};
-ghost use Rattle.automata_base.specs.Accounting.{max_cost};
-ghost use Rattle.automata_base.specs.Steps.{start_state_of, successor, NeedsOwnLooks};
-ghost use Rattle.automata_base.specs.Within.{TellsOwn};
+ghost use Rattle.automata_base.specs.Starts.{IsOf};
 
 use crate::nfa::thompson::NFA;
 use crate::util::determinize::construct::{next_into, start_into};
@@ -108,12 +103,7 @@ pub fn start_key(
     prev: Option<u8>,
 ) -> Result<Key, AllocError>
     requires of { scratch.old.of ≡ nfa.now }
-    ensures start { IfOk result (λ key. IsStartOf nfa.now mode prev key) }
-    ensures key { IfOk result (λ key. key ≡ start_state_of nfa.now mode prev) }
-    ensures own { IfOk result (TellsOwn nfa.now) }
-    ensures looks { IfOk result (λ key. NeedsOwnLooks nfa.now key) }
-    ensures is_of { IfOk result (λ key. IsOf nfa.now key) }
-    ensures cost { IfOk result (λ key. cost key ≤ max_cost nfa.now) }
+    ensures made { IfOk result (IsStartMade nfa.now mode prev) }
     ensures of { scratch.new.of ≡ scratch.old.of }
     ensures count { scratch.new.count ≡ scratch.old.count + 1 }
 {
@@ -142,12 +132,7 @@ pub fn next_key(
 ) -> Result<Key, AllocError>
     requires of { scratch.old.of ≡ nfa.now }
     requires is_of { IsOf nfa.now from.now }
-    ensures successor { IfOk result (λ key. IsSuccessor (nfa_of nfa.now) kind from.now unit key) }
-    ensures key { IfOk result (λ key. key ≡ successor nfa.now kind from.now unit) }
-    ensures own { IfOk result (TellsOwn nfa.now) }
-    ensures looks { IfOk result (λ key. NeedsOwnLooks nfa.now key) }
-    ensures is_of { IfOk result (λ key. IsOf nfa.now key) }
-    ensures cost { IfOk result (λ key. cost key ≤ max_cost nfa.now) }
+    ensures made { IfOk result (IsStepMade nfa.now kind from.now unit) }
     ensures of { scratch.new.of ≡ scratch.old.of }
     ensures count { scratch.new.count ≡ scratch.old.count + 1 }
 {

@@ -1,18 +1,18 @@
-ghost use Rattle.std.specs.Prelude.{◌≡◌, ◌+◌, ◌-◌, ◌*◌, ◌≤◌, ◌<◌, IfOk, IfErr, OnOk, IfSome, Some, None, Ok, Err, false, true};
-ghost use Rattle.automata_base.specs.Input.{Allows};
-ghost use Rattle.automata_base.specs.Spans.{Found, IsShort, IsSpan, IsTrySearch, back};
+ghost use Rattle.std.specs.Prelude.{◌≡◌, ◌-◌, ◌≤◌, ◌<◌, IfOk, IfErr, OnOk, IfSome, Some, None, Ok, Err, false, true};
+ghost use Rattle.automata_base.specs.Spans.{IsShort, back};
 ghost use Rattle.automata_base.specs.Tapes.{byte_before};
 ghost use Rattle.automata_base.specs.declared.util.search.MatchErrorKind.TheVariants.{UnsupportedAnchored as UnsupportedMode};
 ghost use Rattle.automata_hybrid.specs.Caches.{IsCacheOf};
-ghost use Rattle.automata_hybrid.specs.Growing.{ClearedNothing, HasRoom, IsGrown, IsStill};
+ghost use Rattle.automata_hybrid.specs.Growing.{ClearedNothing, IsGrown, IsStill};
 ghost use Rattle.automata_hybrid.specs.Knowing.{IsOfInput};
-ghost use Rattle.automata_hybrid.specs.Searches.{NoQuitInReach, Skips, with_base};
+ghost use Rattle.automata_hybrid.specs.Searches.{NoQuitInReach, with_base};
 ghost use Rattle.automata_hybrid.specs.Slots.{supports};
 ghost use Rattle.automata_hybrid.specs.Starting.{quit_behind};
-ghost use Rattle.regex_automata.specs.SoundPairs.{AreLookAcyclic, IsSoundPair, forward_engine, reverse_engine};
+ghost use Rattle.regex_automata.specs.SoundPairs.{forward_engine};
 ghost use Rattle.regex_automata.specs.Costs.{AreCostsOf, IsPassCost};
-ghost use Rattle.regex_automata.specs.Outcomes.{FindsMatch, IsOutcome, IsStartFound, MatchLiesIn};
+ghost use Rattle.regex_automata.specs.Outcomes.{FindsMatch, IsStartFound, MatchLiesIn};
 ghost use Rattle.regex_automata.specs.Owing.{IsSpanOf};
+ghost use Rattle.regex_automata.specs.RegexEffects.{IsSpanEffect};
 ghost use Rattle.regex_automata.specs.RegexCaches.{AreCachesOf, AreGrown, AreStill, KnowsBack, KnowsBoth, NothingCleared};
 ghost use Rattle.regex_automata.specs.RegexRefusals.{HasReason, IsBackRefused, IsFree, IsOfGiven, IsOfMemory, IsRegexRefusal};
 
@@ -60,29 +60,12 @@ impl Regex {
         requires { AreCachesOf cache.old self.now }
         ensures of { AreCachesOf cache.new self.now }
 
-        // What the passes of the two tell; where no cycle passes a look, what the ordered paths define; and over a
-        // sound pair the match of the path that the forward search chose.
-        ensures found { IfOk result (FindsMatch self.now input.now) }
-        ensures answer { AreLookAcyclic self.now
-            → IfOk result (λ o. IsTrySearch (forward_engine self.now) (reverse_engine self.now) input.now (Found o)) }
-        ensures span { IsSoundPair self.now → IfOk result (IsSpan (forward_engine self.now) input.now) }
-        ensures within { IfOk result (λ o. IfSome o (MatchLiesIn self.now input.now)) }
-        ensures errors { IfErr result (IsRegexRefusal self.now cache.new input.now) }
-        ensures unsupported { input.now.start ≤ input.now.end
-            → quit_behind self.now.forward (byte_before input.now.haystack input.now.start) ≡ None
-            → supports self.now.forward input.now.anchored ≡ false
-            → result ≡ Err (SearchError.Match (UnsupportedMode input.now.anchored)) }
-
-        // All that a result owes whatever the caches.
+        // What it answers, whatever the caches; and why these refuse.
         ensures owed { IsSpanOf self.now input.now result }
+        ensures errors { IfErr result (IsRegexRefusal self.now cache.new input.now) }
 
-        // What it does to the caches: how often it determinises, what is kept, what is known afterwards, and what
-        // happens where all was known or nothing is left to be searched.
-        ensures cost { AreCostsOf self.now (input.now.end - input.now.start) cache.old cache.new }
-        ensures grown { AreGrown cache.old cache.new }
-        ensures learned { NothingCleared cache.old cache.new → OnOk result (KnowsBoth self.now cache.new input.now) }
-        ensures known { KnowsBoth self.now cache.old input.now → AreStill cache.old cache.new × IfErr result IsOfGiven }
-        ensures done { input.now.end < input.now.start → (result ≡ Ok None) × (cache.new ≡ cache.old) }
+        // What it makes of the caches.
+        ensures effect { IsSpanEffect self.now input.now cache.old cache.new result }
     {
         told_is_right(self.forward.get_nfa());
         told_is_right(self.reverse.get_nfa());
@@ -98,29 +81,12 @@ impl Regex {
         requires { AreCachesOf cache.old self.now }
         ensures of { AreCachesOf cache.new self.now }
 
-        // What the passes of the two tell; where no cycle passes a look, what the ordered paths define; and over a
-        // sound pair the match of the path that the forward search chose.
-        ensures found { IfOk result (FindsMatch self.now input.now) }
-        ensures answer { AreLookAcyclic self.now
-            → IfOk result (λ o. IsTrySearch (forward_engine self.now) (reverse_engine self.now) input.now (Found o)) }
-        ensures span { IsSoundPair self.now → IfOk result (IsSpan (forward_engine self.now) input.now) }
-        ensures within { IfOk result (λ o. IfSome o (MatchLiesIn self.now input.now)) }
-        ensures errors { IfErr result (IsRegexRefusal self.now cache.new input.now) }
-        ensures unsupported { input.now.start ≤ input.now.end
-            → quit_behind self.now.forward (byte_before input.now.haystack input.now.start) ≡ None
-            → supports self.now.forward input.now.anchored ≡ false
-            → result ≡ Err (SearchError.Match (UnsupportedMode input.now.anchored)) }
-
-        // All that a result owes whatever the caches.
+        // What it answers, whatever the caches; and why these refuse.
         ensures owed { IsSpanOf self.now input.now result }
+        ensures errors { IfErr result (IsRegexRefusal self.now cache.new input.now) }
 
-        // What it does to the caches: how often it determinises, what is kept, what is known afterwards, and what
-        // happens where all was known or nothing is left to be searched.
-        ensures cost { AreCostsOf self.now (input.now.end - input.now.start) cache.old cache.new }
-        ensures grown { AreGrown cache.old cache.new }
-        ensures learned { NothingCleared cache.old cache.new → OnOk result (KnowsBoth self.now cache.new input.now) }
-        ensures known { KnowsBoth self.now cache.old input.now → AreStill cache.old cache.new × IfErr result IsOfGiven }
-        ensures done { input.now.end < input.now.start → (result ≡ Ok None) × (cache.new ≡ cache.old) }
+        // What it makes of the caches.
+        ensures effect { IsSpanEffect self.now input.now cache.old cache.new result }
     {
         self.try_search(cache, input)
     }

@@ -20,9 +20,9 @@ next_key-requires-clause-is_of c =
 pub returns-clause-is_of : goal.returns-clause-is_of
 unfolding IsOwn
 returns-clause-is_of c = (
-  subst (λ (a : Automaton). IsOf a c.in_ok-key.key) c.get_nfa.ensures c.in_ok-key.ensures.is_of,
-  subst (λ (a : Automaton). NeedsOwnLooks a c.in_ok-key.key) c.get_nfa.ensures c.in_ok-key.ensures.looks,
-  subst (λ (a : Automaton). TellsOwn a c.in_ok-key.key) c.get_nfa.ensures c.in_ok-key.ensures.own,
+  subst (λ (a : Automaton). IsOf a c.in_ok-key.key) c.get_nfa.ensures c.in_ok-key.ensures.made.is_of,
+  subst (λ (a : Automaton). NeedsOwnLooks a c.in_ok-key.key) c.get_nfa.ensures c.in_ok-key.ensures.made.looks,
+  subst (λ (a : Automaton). TellsOwn a c.in_ok-key.key) c.get_nfa.ensures c.in_ok-key.ensures.made.own,
 )
 
 pub returns-clause-value : goal.returns-clause-value
@@ -32,4 +32,4 @@ returns-clause-value c = λ q n.
     let named : Names c.self.inside.store.table c.args.id q = subst (λ (v : CacheView). Names v.store.table c.args.id q) (sym c.self.view_is) n in
     let from : c.state-from.result.now ≡ q = c.state-from.ensures.named q named in
     let same : successor c.get_nfa.result.now c.kind.result c.state-from.result.now c.args.unit ≡ successor c.args.dfa.now.nfa c.args.dfa.now.kind q c.args.unit = λ i. successor (c.get_nfa.ensures i) (c.kind.ensures i) (from i) c.args.unit in
-    c.in_ok-key.ensures.key ∙ same ∙ c.requires.alike q (subst (λ (p : Powerset). IsOwn c.args.dfa.now.nfa p) from own)
+    c.in_ok-key.ensures.made.same ∙ same ∙ c.requires.alike q (subst (λ (p : Powerset). IsOwn c.args.dfa.now.nfa p) from own)

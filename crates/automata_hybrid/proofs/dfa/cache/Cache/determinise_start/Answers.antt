@@ -9,7 +9,7 @@ use Rattle.automata_hybrid.proofs.dfa.cache.Cache.determinise_start.Goals as goa
 pub returns-clause-is_of : goal.returns-clause-is_of
 unfolding IsOwn
 returns-clause-is_of c = (
-  subst (λ (a : Automaton). IsOf a c.in_ok-key.key) c.get_nfa.ensures c.in_ok-key.ensures.is_of,
-  subst (λ (a : Automaton). NeedsOwnLooks a c.in_ok-key.key) c.get_nfa.ensures c.in_ok-key.ensures.looks,
-  subst (λ (a : Automaton). TellsOwn a c.in_ok-key.key) c.get_nfa.ensures c.in_ok-key.ensures.own,
+  subst (λ (a : Automaton). IsOf a c.in_ok-key.key) c.get_nfa.ensures c.in_ok-key.ensures.made.is_of,
+  subst (λ (a : Automaton). NeedsOwnLooks a c.in_ok-key.key) c.get_nfa.ensures c.in_ok-key.ensures.made.looks,
+  subst (λ (a : Automaton). TellsOwn a c.in_ok-key.key) c.get_nfa.ensures c.in_ok-key.ensures.made.own,
 )

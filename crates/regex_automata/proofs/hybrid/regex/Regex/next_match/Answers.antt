@@ -24,60 +24,60 @@ pub returns-in_err-found-clause-ahead : goal.returns-in_err-found-clause-ahead
 returns-in_err-found-clause-ahead c =
     on_err c.from_residual.result _
     (ahead_of c.try_search.result c.in_err-found.field-0.0 None c.args.input.now.start c.args.input.now.end
-    (λ past. (c.try_search.ensures.done past).0) c.in_err-found.was)
+    c.try_search.ensures.owed.done c.in_err-found.was)
 
 pub returns-in_err-found-clause-cost : goal.returns-in_err-found-clause-cost
-returns-in_err-found-clause-cost c = inl c.try_search.ensures.cost
+returns-in_err-found-clause-cost c = inl c.try_search.ensures.effect.cost
 
 pub returns-in_default-clause-next : goal.returns-in_default-clause-next
 returns-in_default-clause-next c =
-    inl (subst (FindsMatch c.args.self.now c.args.input.now) c.in_default.is c.in_ok-found.ensures.found)
+    inl (subst (FindsMatch c.args.self.now c.args.input.now) c.in_default.is c.in_ok-found.ensures.owed.found)
 
 pub returns-in_default-clause-cost : goal.returns-in_default-clause-cost
-returns-in_default-clause-cost c = inl c.try_search.ensures.cost
+returns-in_default-clause-cost c = inl c.try_search.ensures.effect.cost
 
 pub returns-then-not-is_empty_at-clause-next : goal.returns-then-not-is_empty_at-clause-next
 returns-then-not-is_empty_at-clause-next c =
-    inl (subst (FindsMatch c.args.self.now c.args.input.now) c.in-Some.is c.in_ok-found.ensures.found, c.if-not-is_empty_at.ensures.no refl)
+    inl (subst (FindsMatch c.args.self.now c.args.input.now) c.in-Some.is c.in_ok-found.ensures.owed.found, c.if-not-is_empty_at.ensures.no refl)
 
 pub returns-then-not-is_empty_at-clause-goes_on : goal.returns-then-not-is_empty_at-clause-goes_on
 returns-then-not-is_empty_at-clause-goes_on c =
     goes_first c.args.self.now c.args.input.now c.args.last c.in-Some.found
-    (some_of c.in_ok-found.field-0 c.in-Some.found (MatchLiesIn c.args.self.now c.args.input.now) c.in_ok-found.ensures.within c.in-Some.is) (c.if-not-is_empty_at.ensures.no refl)
+    (some_of c.in_ok-found.field-0 c.in-Some.found (MatchLiesIn c.args.self.now c.args.input.now) c.in_ok-found.ensures.owed.within c.in-Some.is) (c.if-not-is_empty_at.ensures.no refl)
 
 pub returns-then-not-is_empty_at-clause-cost : goal.returns-then-not-is_empty_at-clause-cost
-returns-then-not-is_empty_at-clause-cost c = inl c.try_search.ensures.cost
+returns-then-not-is_empty_at-clause-cost c = inl c.try_search.ensures.effect.cost
 
 pub overflow_add-start : goal.overflow_add-start
 overflow_add-start c =
-    let lies = some_of c.in_ok-found.field-0 c.in-Some.found (MatchLiesIn c.args.self.now c.args.input.now) c.in_ok-found.ensures.within c.in-Some.is in
+    let lies = some_of c.in_ok-found.field-0 c.in-Some.found (MatchLiesIn c.args.self.now c.args.input.now) c.in_ok-found.ensures.owed.within c.in-Some.is in
     let few = c.haystack-haystack.ensures.within.1 in
     omega (arith, lies.0, lies.1, lies.2, few, c.haystack-haystack.ensures.bound, c.start.ensures.start)
 
 pub from-rest-requires : goal.from-rest-requires
 from-rest-requires c =
-    let lies = some_of c.in_ok-found.field-0 c.in-Some.found (MatchLiesIn c.args.self.now c.args.input.now) c.in_ok-found.ensures.within c.in-Some.is in
+    let lies = some_of c.in_ok-found.field-0 c.in-Some.found (MatchLiesIn c.args.self.now c.args.input.now) c.in_ok-found.ensures.owed.within c.in-Some.is in
     let few = c.haystack-haystack.ensures.within.1 in
     (omega (arith, lies.0, lies.1, lies.2, c.start.ensures.start), few)
 
 pub returns-clause-next : goal.returns-clause-next
 returns-clause-next c =
-    let found = subst (FindsMatch c.args.self.now c.args.input.now) c.in-Some.is c.in_ok-found.ensures.found in
+    let found = subst (FindsMatch c.args.self.now c.args.input.now) c.in-Some.is c.in_ok-found.ensures.owed.found in
     let place : c.start.result + 1 ≡ suc c.args.input.now.start = omega (arith, c.start.ensures.start) in
     let rest : c.from-rest.result ≡ from (suc c.args.input.now.start) c.args.input.now = c.from-rest.ensures ∙ ap (λ n. from n c.args.input.now) place in
     next_later c.args.self.now c.args.input.now c.args.last c.in-Some.found found (c.if-not-is_empty_at.ensures.yes refl) c.try_search-2.result
-    (subst (λ (i : Input). IfOk c.try_search-2.result (FindsMatch c.args.self.now i)) rest c.try_search-2.ensures.found)
+    (subst (λ (i : Input). IfOk c.try_search-2.result (FindsMatch c.args.self.now i)) rest c.try_search-2.ensures.owed.found)
 
 pub returns-clause-goes_on : goal.returns-clause-goes_on
 returns-clause-goes_on c =
     let place : c.start.result + 1 ≡ suc c.args.input.now.start = omega (arith, c.start.ensures.start) in
     let rest : c.from-rest.result ≡ from (suc c.args.input.now.start) c.args.input.now = c.from-rest.ensures ∙ ap (λ n. from n c.args.input.now) place in
     goes_later c.args.self.now c.args.input.now c.args.last c.try_search-2.result
-    (subst (λ (i : Input). IfOk c.try_search-2.result (λ o. IfSome o (MatchLiesIn c.args.self.now i))) rest c.try_search-2.ensures.within)
+    (subst (λ (i : Input). IfOk c.try_search-2.result (λ o. IfSome o (MatchLiesIn c.args.self.now i))) rest c.try_search-2.ensures.owed.within)
 
 pub returns-clause-errors : goal.returns-clause-errors
 returns-clause-errors c =
-    let found = subst (FindsMatch c.args.self.now c.args.input.now) c.in-Some.is c.in_ok-found.ensures.found in
+    let found = subst (FindsMatch c.args.self.now c.args.input.now) c.in-Some.is c.in_ok-found.ensures.owed.found in
     let place : c.start.result + 1 ≡ suc c.args.input.now.start = omega (arith, c.start.ensures.start) in
     let rest : c.from-rest.result ≡ from (suc c.args.input.now.start) c.args.input.now = c.from-rest.ensures ∙ ap (λ n. from n c.args.input.now) place in
     refused_later c.args.self.now c.args.input.now c.args.last c.in-Some.found found (c.if-not-is_empty_at.ensures.yes refl) c.try_search-2.new.cache c.try_search-2.result
@@ -85,17 +85,17 @@ returns-clause-errors c =
 
 pub returns-clause-ahead : goal.returns-clause-ahead
 returns-clause-ahead c =
-    let lies = some_of c.in_ok-found.field-0 c.in-Some.found (MatchLiesIn c.args.self.now c.args.input.now) c.in_ok-found.ensures.within c.in-Some.is in
+    let lies = some_of c.in_ok-found.field-0 c.in-Some.found (MatchLiesIn c.args.self.now c.args.input.now) c.in_ok-found.ensures.owed.within c.in-Some.is in
     on_err c.try_search-2.result _ (omega (arith, lies.0, lies.1, lies.2))
 
 pub returns-clause-grown : goal.returns-clause-grown
-returns-clause-grown c = grown_twice c.args.cache.now c.try_search.new.cache c.try_search-2.new.cache c.try_search.ensures.grown c.try_search-2.ensures.grown
+returns-clause-grown c = grown_twice c.args.cache.now c.try_search.new.cache c.try_search-2.new.cache c.try_search.ensures.effect.grown c.try_search-2.ensures.effect.grown
 
 pub returns-clause-cost : goal.returns-clause-cost
 returns-clause-cost c =
     let place : c.start.result + 1 ≡ suc c.args.input.now.start = omega (arith, c.start.ensures.start) in
     let rest : c.from-rest.result ≡ from (suc c.args.input.now.start) c.args.input.now = c.from-rest.ensures ∙ ap (λ n. from n c.args.input.now) place in
-    costs_twice c.args.self.now c.args.input.now c.from-rest.result c.args.cache.now c.try_search.new.cache c.try_search-2.new.cache rest c.try_search-2.ensures.grown c.try_search.ensures.cost c.try_search-2.ensures.cost
+    costs_twice c.args.self.now c.args.input.now c.from-rest.result c.args.cache.now c.try_search.new.cache c.try_search-2.new.cache rest c.try_search-2.ensures.effect.grown c.try_search.ensures.effect.cost c.try_search-2.ensures.effect.cost
 
 pub returns-in_err-found-clause-learned : goal.returns-in_err-found-clause-learned
 returns-in_err-found-clause-learned c =
@@ -103,57 +103,57 @@ returns-in_err-found-clause-learned c =
 
 pub returns-in_err-found-clause-known : goal.returns-in_err-found-clause-known
 returns-in_err-found-clause-known c =
-    λ knows. (let known = c.in_err-found.ensures.known knows.0 in (known.0, if_err c.from_residual.result _ _ c.from_residual.ensures.1 known.1))
+    λ knows. (let known = c.in_err-found.ensures.effect.known knows.0 in (known.0, if_err c.from_residual.result _ _ c.from_residual.ensures.1 known.1))
 
 pub returns-in_default-clause-learned : goal.returns-in_default-clause-learned
 returns-in_default-clause-learned c =
-    λ nothing. alone_none c.matches_agree.ensures c.args.self.now c.args.input.now c.args.last c.try_search.new.cache (c.in_ok-found.ensures.learned nothing)
-    (subst (FindsMatch c.args.self.now c.args.input.now) c.in_default.is c.in_ok-found.ensures.found)
+    λ nothing. alone_none c.matches_agree.ensures c.args.self.now c.args.input.now c.args.last c.try_search.new.cache (c.in_ok-found.ensures.effect.learned nothing)
+    (subst (FindsMatch c.args.self.now c.args.input.now) c.in_default.is c.in_ok-found.ensures.owed.found)
 
 pub returns-in_default-clause-known : goal.returns-in_default-clause-known
 returns-in_default-clause-known c =
-    λ knows. ((c.in_ok-found.ensures.known knows.0).0, tt)
+    λ knows. ((c.in_ok-found.ensures.effect.known knows.0).0, tt)
 
 pub returns-then-not-is_empty_at-clause-learned : goal.returns-then-not-is_empty_at-clause-learned
 returns-then-not-is_empty_at-clause-learned c =
-    λ nothing. alone_some c.matches_agree.ensures c.args.self.now c.args.input.now c.args.last c.try_search.new.cache (c.in_ok-found.ensures.learned nothing)
-    c.in-Some.found (subst (FindsMatch c.args.self.now c.args.input.now) c.in-Some.is c.in_ok-found.ensures.found) (c.if-not-is_empty_at.ensures.no refl)
+    λ nothing. alone_some c.matches_agree.ensures c.args.self.now c.args.input.now c.args.last c.try_search.new.cache (c.in_ok-found.ensures.effect.learned nothing)
+    c.in-Some.found (subst (FindsMatch c.args.self.now c.args.input.now) c.in-Some.is c.in_ok-found.ensures.owed.found) (c.if-not-is_empty_at.ensures.no refl)
 
 pub returns-then-not-is_empty_at-clause-known : goal.returns-then-not-is_empty_at-clause-known
 returns-then-not-is_empty_at-clause-known c =
-    λ knows. ((c.in_ok-found.ensures.known knows.0).0, tt)
+    λ knows. ((c.in_ok-found.ensures.effect.known knows.0).0, tt)
 
 pub returns-clause-learned : goal.returns-clause-learned
 returns-clause-learned c =
     let place : c.start.result + 1 ≡ suc c.args.input.now.start = omega (arith, c.start.ensures.start) in
     let rest : c.from-rest.result ≡ from (suc c.args.input.now.start) c.args.input.now = c.from-rest.ensures ∙ ap (λ n. from n c.args.input.now) place in
     λ nothing. (
-    let first = cleared_first c.args.cache.now c.try_search.new.cache c.try_search-2.new.cache c.try_search.ensures.grown c.try_search-2.ensures.grown nothing in
-    let second = cleared_second c.args.cache.now c.try_search.new.cache c.try_search-2.new.cache c.try_search.ensures.grown c.try_search-2.ensures.grown nothing in
+    let first = cleared_first c.args.cache.now c.try_search.new.cache c.try_search-2.new.cache c.try_search.ensures.effect.grown c.try_search-2.ensures.effect.grown nothing in
+    let second = cleared_second c.args.cache.now c.try_search.new.cache c.try_search-2.new.cache c.try_search.ensures.effect.grown c.try_search-2.ensures.effect.grown nothing in
     next_learned c.args.self.now c.args.input.now c.from-rest.result c.args.last c.try_search-2.new.cache c.try_search-2.result rest
     (both_stays c.args.self.now c.known_stays.ensures c.known_stays-2.ensures c.try_search.new.cache c.try_search-2.new.cache c.args.input.now
-    (c.haystack-haystack.ensures.bytes, c.haystack-haystack.ensures.within.1) c.try_search.ensures.of c.try_search-2.ensures.of c.try_search-2.ensures.grown second
-    (c.in_ok-found.ensures.learned first))
-    (c.try_search-2.ensures.learned second))
+    (c.haystack-haystack.ensures.bytes, c.haystack-haystack.ensures.within.1) c.try_search.ensures.of c.try_search-2.ensures.of c.try_search-2.ensures.effect.grown second
+    (c.in_ok-found.ensures.effect.learned first))
+    (c.try_search-2.ensures.effect.learned second))
 
 pub returns-clause-known : goal.returns-clause-known
 returns-clause-known c =
     let place : c.start.result + 1 ≡ suc c.args.input.now.start = omega (arith, c.start.ensures.start) in
     let rest : c.from-rest.result ≡ from (suc c.args.input.now.start) c.args.input.now = c.from-rest.ensures ∙ ap (λ n. from n c.args.input.now) place in
-    let found = subst (FindsMatch c.args.self.now c.args.input.now) c.in-Some.is c.in_ok-found.ensures.found in
+    let found = subst (FindsMatch c.args.self.now c.args.input.now) c.in-Some.is c.in_ok-found.ensures.owed.found in
     λ knows. next_known c.args.self.now c.args.input.now c.from-rest.result c.args.last c.args.cache.now c.try_search.new.cache c.try_search-2.new.cache c.try_search-2.result
-    c.in-Some.found rest found (c.if-not-is_empty_at.ensures.yes refl) knows (c.in_ok-found.ensures.known knows.0).0 c.try_search-2.ensures.known
+    c.in-Some.found rest found (c.if-not-is_empty_at.ensures.yes refl) knows (c.in_ok-found.ensures.effect.known knows.0).0 c.try_search-2.ensures.effect.known
 
 pub returns-in_err-found-clause-unsupported : goal.returns-in_err-found-clause-unsupported
 returns-in_err-found-clause-unsupported c =
     λ u. is_err c.from_residual.result _ c.from_residual.ensures.1
-    ∙ ap (λ (e : SearchError). Err e) (same_err (c.in_err-found.ensures.unsupported u.undone u.behind u.mode))
+    ∙ ap (λ (e : SearchError). Err e) (same_err (c.in_err-found.ensures.owed.unsupported u))
 
 pub returns-in_default-clause-unsupported : goal.returns-in_default-clause-unsupported
-returns-in_default-clause-unsupported c = λ u. absurd (ok_err (c.in_ok-found.ensures.unsupported u.undone u.behind u.mode))
+returns-in_default-clause-unsupported c = λ u. absurd (ok_err (c.in_ok-found.ensures.owed.unsupported u))
 
 pub returns-then-not-is_empty_at-clause-unsupported : goal.returns-then-not-is_empty_at-clause-unsupported
-returns-then-not-is_empty_at-clause-unsupported c = λ u. absurd (ok_err (c.in_ok-found.ensures.unsupported u.undone u.behind u.mode))
+returns-then-not-is_empty_at-clause-unsupported c = λ u. absurd (ok_err (c.in_ok-found.ensures.owed.unsupported u))
 
 pub returns-clause-unsupported : goal.returns-clause-unsupported
-returns-clause-unsupported c = λ u. absurd (ok_err (c.in_ok-found.ensures.unsupported u.undone u.behind u.mode))
+returns-clause-unsupported c = λ u. absurd (ok_err (c.in_ok-found.ensures.owed.unsupported u))

@@ -1,0 +1,36 @@
+-- What the powerset construction answers.
+use Rattle.std.specs.Prelude.{ℕ, ◌≡◌, ◌≤◌, Option}
+use Rattle.automata_base.specs.Accounting.{max_cost}
+use Rattle.automata_base.specs.Cuts.{MatchKind}
+use Rattle.automata_base.specs.Engines.{Anchored}
+use Rattle.automata_base.specs.Nodes.{Automaton, nfa_of}
+use Rattle.automata_base.specs.Passes.{IsSuccessor}
+use Rattle.automata_base.specs.Powerset.{Powerset, cost}
+use Rattle.automata_base.specs.Starts.{IsOf, IsStartOf}
+use Rattle.automata_base.specs.Steps.{NeedsOwnLooks, start_state_of, successor}
+use Rattle.automata_base.specs.Within.{TellsOwn}
+
+-- the powerset state where the searches of a mode start behind a byte, or behind none
+pub record IsStartMade (a : Automaton) (mode : Anchored) (prev : Option ℕ) (made : Powerset) : Type 0 where
+  -- it is the start by the definition, which is the one that the function of contracts gives
+  pub start : IsStartOf a mode prev made
+  pub same : made ≡ start_state_of a mode prev
+  -- its patterns, the looks that it needs and its NFA states are the automaton's
+  pub own : TellsOwn a made
+  pub looks : NeedsOwnLooks a made
+  pub is_of : IsOf a made
+  -- it costs no more than any state of the automaton may
+  pub bounded : cost made ≤ max_cost a
+
+-- the powerset state that another leads to on a unit
+pub record IsStepMade (a : Automaton) (kind : MatchKind) (from : Powerset) (unit : Option ℕ)
+    (made : Powerset) : Type 0 where
+  -- it is the successor by the definition, which is the one that the function of contracts gives
+  pub step : IsSuccessor (nfa_of a) kind from unit made
+  pub same : made ≡ successor a kind from unit
+  -- its patterns, the looks that it needs and its NFA states are the automaton's
+  pub own : TellsOwn a made
+  pub looks : NeedsOwnLooks a made
+  pub is_of : IsOf a made
+  -- it costs no more than any state of the automaton may
+  pub bounded : cost made ≤ max_cost a
