@@ -1,7 +1,6 @@
 -- What the search back costs, and what it is given.
 use Rattle.std.specs.Prelude.{IfSome}
 use Rattle.std.proofs.Common.{ℕ, ◌≡◌, ◌∙◌, ◌+◌, ◌-◌, ◌*◌, ◌≤◌, length, Option, Some, None, refl, sym, ap, subst, arith}
-use Rattle.std.proofs.lemmas.Nat.{mul-le}
 use Rattle.std.specs.Option.{option_map}
 use Rattle.automata_base.specs.Answers.{Half}
 use Rattle.automata_base.specs.Input.{Input}
@@ -16,12 +15,12 @@ use Rattle.automata_hybrid.specs.Costs.{IsCostOfSearch}
 use Rattle.automata_hybrid.specs.Growing.{IsGrown}
 use Rattle.automata_hybrid.specs.Knowing.{Knows}
 use Rattle.automata_hybrid.specs.Machine.{Machine}
-use Rattle.automata_hybrid.specs.Searches.{IsFound, NoQuitInReach, Skips, WithoutBase, with_base}
+use Rattle.automata_hybrid.specs.Searches.{IsFound, NoQuitInReach, WithoutBase, with_base}
 use Rattle.automata_hybrid.specs.Within.{LiesPast}
-use Rattle.automata_hybrid.proofs.Costing.{cost_all, cost_once}
+use Rattle.automata_hybrid.proofs.Costing.{cost_once}
 use Rattle.automata_hybrid.proofs.Growing.{clears_none}
 use Rattle.automata_hybrid.proofs.Within.{found_within}
-use Rattle.regex_automata.specs.Costs.{IsCostOf, IsPassCost}
+use Rattle.regex_automata.specs.Costs.{IsPassCost}
 use Rattle.regex_automata.specs.Outcomes.{FindsMatch, IsStartFound, MatchLiesIn}
 use Rattle.regex_automata.specs.RegexCaches.{KnowsBack, KnowsBoth}
 use Rattle.regex_automata.specs.declared.hybrid.regex.Regex.{Regex}
@@ -39,35 +38,21 @@ pass_fewer few bytes old new l one grown =
     let once : new.count ≤ old.count + (bytes + 2) = omega (arith, l, one) in
     record { once = once; room = λ r. clears_none old new (bytes + 2) grown once r }
 
--- what a search over fewer bytes costs
-pub cost_fewer :
-    (m : Machine) (few bytes : ℕ) (old new : CacheView) → few ≤ bytes
-    → ((Skips m → ⊥) → new.count ≤ old.count + (few + 2))
-    → new.count ≤ old.count + (few + 1) * (few + 2) → IsGrown old new → IsCostOf m bytes old new
-cost_fewer m few bytes old new l one more grown =
-    record {
-      once = once;
-      all = all;
-      room_once = λ s r. clears_none old new (bytes + 2) grown (once s) r;
-      room_all = λ r. clears_none old new ((bytes + 1) * (bytes + 2)) grown all r;
-    } where
-      once : (Skips m → ⊥) → new.count ≤ old.count + (bytes + 2)
-      once s = let f = one s in omega (arith, f, l)
+-- no pass costs nothing
+pub cost_none : (m : Machine) (input : Input) (c : CacheView) → IsCostOfSearch Forward m input c c
+cost_none m input c =
+    (0, record { tried = λ k l. absurd (omega (arith, l)); counted = omega arith; room = λ r. refl })
 
-      all : new.count ≤ old.count + (bytes + 1) * (bytes + 2)
-      all =
-          let a : few + 1 ≤ bytes + 1 = omega (arith, l) in
-          let b : few + 2 ≤ bytes + 2 = omega (arith, l) in
-          let times : (few + 1) * (few + 2) ≤ (bytes + 1) * (bytes + 2) = mul-le _ _ _ _ a b in
-          omega (arith, more, times)
+yes_no : ◌≡◌ {A = Anchored} Yes No → ⊥
+yes_no e = cc
 
--- what a search costs, by its passes
-pub cost_search :
-    (m : Machine) (input : Input) (old new : CacheView)
-    → IsCostOfSearch Forward m input old new → IsGrown old new → IsCostOf m (input.end - input.start) old new
-cost_search m input old new passes grown =
-    cost_fewer m (input.end - input.start) (input.end - input.start) old new (omega arith)
-    (λ whole. cost_once Forward m input old new passes (λ s. whole s.0)) (cost_all Forward m input old new passes) grown
+-- an anchored search is one pass
+pub cost_anchored :
+    (m : Machine) (input : Input) (old new : CacheView) → input.anchored ≡ Yes
+    → IsCostOfSearch Forward m input old new → IsGrown old new → IsPassCost (input.end - input.start) old new
+cost_anchored m input old new anchored passes grown =
+    pass_fewer (input.end - input.start) (input.end - input.start) old new (omega arith)
+    (cost_once Forward m input old new passes (λ s. yes_no (sym anchored ∙ s.1))) grown
 
 -- in reach of the search back is nothing that was not in reach before
 pub back_reach :
@@ -85,9 +70,6 @@ cost_back m input rest half old new same from within passes grown =
     let end : rest.end ≡ half.offset = ap (λ (i : Input). i.end) same in
     pass_fewer (rest.end - rest.start) (input.end - input.start) old new (omega (arith, start, end, from, within))
     (cost_once Backward m rest old new passes (λ s. yes_no (sym (ap (λ (i : Input). i.anchored) same) ∙ s.1))) grown
-  where
-    yes_no : ◌≡◌ {A = Anchored} Yes No → ⊥
-    yes_no e = cc
 
 -- what the search back found, as a half with its base
 pub back_some :

@@ -3,6 +3,7 @@ pub mod Backing
 pub mod Collecting
 pub mod Finding
 pub mod Items
+pub mod Leaving
 pub mod Matching
 pub mod Nexts
 pub mod Remembering

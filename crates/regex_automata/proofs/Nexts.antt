@@ -5,19 +5,15 @@ use Rattle.automata_base.specs.Input.{Input}
 use Rattle.automata_base.specs.Matches.{Match}
 use Rattle.automata_base.specs.Spans.{IsEmptyAt, from}
 use Rattle.automata_config.specs.declared.error.SearchError.{SearchError}
-use Rattle.automata_hybrid.specs.Caches.{CacheView}
-use Rattle.automata_hybrid.specs.Growing.{IsGrown}
-use Rattle.automata_hybrid.specs.Machine.{Machine}
 use Rattle.automata_hybrid.proofs.Growing.{grown_trans}
 use Rattle.automata_hybrid.proofs.Searching.{lt_or_le}
-use Rattle.regex_automata.specs.Costs.{AreCostsOf, IsCostOf}
+use Rattle.regex_automata.specs.Costs.{AreCostsOf}
 use Rattle.regex_automata.specs.Iterating.{AreCostsTwice, GoesPast, IsNextMatch, IsNextRefusal}
 use Rattle.regex_automata.specs.Outcomes.{FindsMatch, MatchLiesIn}
 use Rattle.regex_automata.specs.RegexCaches.{AreGrown}
 use Rattle.regex_automata.specs.RegexRefusals.{IsRegexRefusal}
 use Rattle.regex_automata.specs.declared.hybrid.regex.Regex.{Regex}
 use Rattle.regex_automata.specs.declared.hybrid.regex.caches.Cache.{Cache}
-use Rattle.regex_automata.proofs.Finding.{cost_fewer, pass_fewer}
 use Rattle.regex_automata.proofs.Results.{err_ok, none_some, same_some}
 
 pub on_err : {A E : Type 0} (r : Result A E) (P : Type 0) → P → OnErr r P
@@ -76,26 +72,12 @@ goes_later p input last (Ok (Some n)) h =
     ((omega (arith, a), b, h.2, h.3), λ same. omega (arith, a, b))
 goes_later p input last (Err e) h = tt
 
--- what a search over a shorter span costs, and two searches
-pub cost_shorter : (m : Machine) (few bytes : ℕ) (old new : CacheView) → few ≤ bytes → IsGrown old new → IsCostOf m few old new → IsCostOf m bytes old new
-cost_shorter m few bytes old new l grown cost = cost_fewer m few bytes old new l cost.once cost.all grown
-
+-- what two searches cost
 pub costs_twice :
     (p : Regex) (input rest : Input) (old between new : Cache) → rest ≡ from (suc input.start) input
-    → AreGrown between new → AreCostsOf p (input.end - input.start) old between → AreCostsOf p (rest.end - rest.start) between new
-    → AreCostsTwice p (input.end - input.start) old new
-costs_twice p input rest old between new same grown first second =
-    let start : rest.start ≡ suc input.start = ap (λ (i : Input). i.start) same in
-    let end : rest.end ≡ input.end = ap (λ (i : Input). i.end) same in
-    let l : rest.end - rest.start ≤ input.end - input.start = omega (arith, start, end) in
-    inr (
-      between,
-      first,
-      (
-        cost_shorter p.forward (rest.end - rest.start) (input.end - input.start) between.forward new.forward l grown.0 second.0,
-        pass_fewer (rest.end - rest.start) (input.end - input.start) between.reverse new.reverse l second.1.once grown.1,
-      ),
-    )
+    → AreCostsOf p input old between → AreCostsOf p rest between new → AreCostsTwice p input old new
+costs_twice p input rest old between new same first second =
+    inr (between, first, subst (λ (i : Input). AreCostsOf p i between new) same second)
 
 pub grown_twice : (a b c : Cache) → AreGrown a b → AreGrown b c → AreGrown a c
 grown_twice a b c f g = (grown_trans a.forward b.forward c.forward f.0 g.0, grown_trans a.reverse b.reverse c.reverse f.1 g.1)

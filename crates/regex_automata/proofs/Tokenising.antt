@@ -1,16 +1,18 @@
 -- Why no token comes.
 use Rattle.std.proofs.Common.{ℕ, ◌≡◌, ◌<◌, Bool, true, false, List, Option, Some, None, sym, subst}
-use Rattle.std.specs.Prelude.{Result, Ok, Err, IfErr, if◌then◌else◌, nat_lt}
+use Rattle.std.specs.Prelude.{Result, Ok, Err, IfErr, OnOk, if◌then◌else◌, nat_lt}
 use Rattle.automata_base.specs.Matches.{HalfMatch, Match}
 use Rattle.automata_base.specs.Tapes.{Forward}
 use Rattle.automata_config.specs.declared.error.SearchError.{SearchError}
 use Rattle.automata_hybrid.specs.Stores.{Stored}
 use Rattle.automata_hybrid.specs.Machine.{Machine}
 use Rattle.automata_hybrid.specs.Owing.{IsHalf}
+use Rattle.automata_hybrid.specs.Searched.{EndsProgress, LeavesProgress}
 use Rattle.automata_hybrid.specs.Searches.{IsRefused}
-use Rattle.regex_automata.specs.Tokens.{IsGivenAt, asked, item_of}
+use Rattle.regex_automata.specs.Tokens.{IsGivenAt, LeavesAt, asked, item_of}
 use Rattle.regex_automata.specs.declared.tokens.error.TokenError.{TokenError}
 use Rattle.regex_automata.specs.declared.tokens.error.TokenError.TheVariants.{NoToken, Search}
+use Rattle.regex_automata.specs.declared.tokens.token.Token.{Token}
 use Rattle.regex_automata.proofs.Results.{err_ok, same_err}
 
 pub no_search : (at : ℕ) (e : SearchError) → NoToken at ≡ Search e → ⊥
@@ -42,3 +44,25 @@ error_is_given m c h end place (Err d) (Search e) ahead owed refused is = (
   (ahead, (Err d, owed, is)),
   subst (IsRefused Forward m c (asked h end place)) (sym (same_search e d (same_err is))) refused,
 )
+
+-- what the search at a place leaves of the progress, by what its answer makes
+module _ (m : Machine) (h : List ℕ) (end place : ℕ) (old new : Stored) where
+  pub error_leaves :
+      (answer : Result (Option HalfMatch) SearchError) (e : TokenError)
+      → OnOk answer (EndsProgress Forward m (asked h end place) old new)
+      → IfErr answer (LeavesProgress Forward m (asked h end place) old new)
+      → ◌≡◌ {A = Result Match TokenError} (Err e) (item_of place answer)
+      → LeavesAt m h end place old new (Err e)
+  error_leaves (Ok o) (NoToken at) ended left is = ended
+  error_leaves (Ok o) (Search e) ended left is = absurd (answer_is_no_refusal place o e is)
+  error_leaves (Err d) (NoToken at) ended left is = absurd (no_search at d (same_err is))
+  error_leaves (Err d) (Search e) ended left is =
+      subst (LeavesProgress Forward m (asked h end place) old new) (sym (same_search e d (same_err is))) left
+
+  pub token_leaves :
+      (answer : Result (Option HalfMatch) SearchError) (t : Token) (found : Match)
+      → OnOk answer (EndsProgress Forward m (asked h end place) old new)
+      → ◌≡◌ {A = Result Match TokenError} (Ok found) (item_of place answer)
+      → LeavesAt m h end place old new (Ok t)
+  token_leaves (Ok o) t found ended is = ended
+  token_leaves (Err d) t found ended is = absurd (err_ok (sym is))

@@ -27,10 +27,11 @@ IsNextRefusal p c input last e =
 abbrev pub GoesPast : Regex → Input → Option ℕ → Match → Type 0
 GoesPast p input last m = MatchLiesIn p input m × (last ≡ Some input.start → input.start < m.end)
 
--- what one search costs, or two
-abbrev pub AreCostsTwice : Regex → ℕ → Cache → Cache → Type 0
-AreCostsTwice p bytes old new =
-    AreCostsOf p bytes old new ⊎ ((between : Cache) × AreCostsOf p bytes old between × AreCostsOf p bytes between new)
+-- what one search costs, or that and the one from a place later
+abbrev pub AreCostsTwice : Regex → Input → Cache → Cache → Type 0
+AreCostsTwice p input old new =
+    AreCostsOf p input old new
+    ⊎ ((between : Cache) × AreCostsOf p input old between × AreCostsOf p (from (suc input.start) input) between new)
 
 -- all that the next match uses is known: what a search uses, and where that finds an empty match at the last end, what
 -- the one from a place later uses

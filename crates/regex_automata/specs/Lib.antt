@@ -15,6 +15,7 @@ pub mod Lending
 pub mod Agreeing
 pub mod Matching
 pub mod RegexEffects
+pub mod RegexProgress
 pub mod Owing
 pub mod Tokens
 pub mod Histories

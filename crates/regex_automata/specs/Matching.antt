@@ -6,9 +6,12 @@ use Rattle.automata_base.specs.Spans.{in_full}
 use Rattle.automata_base.specs.Tapes.{Forward}
 use Rattle.automata_base.specs.Told.{IsTold}
 use Rattle.automata_config.specs.declared.error.SearchError.{SearchError}
+use Rattle.automata_hybrid.specs.Caches.{CacheView}
+use Rattle.automata_hybrid.specs.Costs.{IsCostOfSearch}
 use Rattle.automata_hybrid.specs.Stores.{Stored}
 use Rattle.automata_hybrid.specs.Knowing.{Knows}
 use Rattle.automata_hybrid.specs.Machine.{Machine}
+use Rattle.automata_hybrid.specs.Searched.{EndsProgress, LeavesProgress}
 use Rattle.automata_hybrid.specs.Searches.{IsRefused, Skips}
 
 abbrev pub in_part : Input → Input
@@ -28,3 +31,13 @@ IsMatchRefused m c input e = (asked : Input) × IsAsked m input asked × IsRefus
 
 abbrev pub KnowsMatch : Machine → Stored → Input → Type 0
 KnowsMatch m c input = (asked : Input) → IsAsked m input asked → Knows Forward m c asked
+
+-- what it costs, and what it leaves of the progress
+abbrev pub IsMatchCost : Machine → Input → (old new : CacheView) → Type 0
+IsMatchCost m input old new = (asked : Input) × IsAsked m input asked × IsCostOfSearch Forward m asked old new
+
+abbrev pub EndsMatch : Machine → Input → (old new : Stored) → Type 0
+EndsMatch m input old new = (asked : Input) × IsAsked m input asked × EndsProgress Forward m asked old new
+
+abbrev pub LeavesMatch : Machine → Input → (old new : Stored) → SearchError → Type 0
+LeavesMatch m input old new e = (asked : Input) × IsAsked m input asked × LeavesProgress Forward m asked old new e

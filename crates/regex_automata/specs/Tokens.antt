@@ -10,10 +10,14 @@ use Rattle.automata_base.specs.Tapes.{Forward}
 use Rattle.automata_base.specs.declared.util.search.Anchored.TheVariants.{Yes}
 use Rattle.automata_config.specs.declared.error.SearchError.{SearchError}
 use Rattle.automata_config.specs.declared.error.SearchError.TheVariants as search
+use Rattle.automata_hybrid.specs.Caches.{CacheView}
+use Rattle.automata_hybrid.specs.Growing.{IsGrown}
 use Rattle.automata_hybrid.specs.Stores.{Stored}
 use Rattle.automata_hybrid.specs.Machine.{Machine}
 use Rattle.automata_hybrid.specs.Owing.{IsHalf, IsMemory, IsUnhindered}
+use Rattle.automata_hybrid.specs.Searched.{EndsProgress, LeavesProgress}
 use Rattle.automata_hybrid.specs.Searches.{IsFound, IsRefused, WithoutBase}
+use Rattle.regex_automata.specs.Costs.{IsPassCost}
 use Rattle.regex_automata.specs.declared.tokens.error.TokenError.{TokenError}
 use Rattle.regex_automata.specs.declared.tokens.error.TokenError.TheVariants.{NoToken, Search}
 use Rattle.regex_automata.specs.declared.tokens.token.Token.{Token}
@@ -82,6 +86,25 @@ GivesToken m c h end (Some (Ok t)) place place' failed failed' =
     IsTokenAt m h end place t × (place' ≡ t.span.end) × (failed ≡ false) × (failed' ≡ false)
 GivesToken m c h end (Some (Err e)) place place' failed failed' =
     IsGivenAt m c h end place (Err e) × (place' ≡ place) × (failed ≡ false) × (failed' ≡ true)
+
+-- the search at a place has ended, or was left where it was refused; where none is made nothing changes
+abbrev pub LeavesAt :
+    Machine → List ℕ → (end place : ℕ) → (old new : Stored) → Result Token TokenError → Type 0
+LeavesAt m h end place old new (Ok t) = EndsProgress Forward m (asked h end place) old new
+LeavesAt m h end place old new (Err (NoToken at)) = EndsProgress Forward m (asked h end place) old new
+LeavesAt m h end place old new (Err (Search e)) = LeavesProgress Forward m (asked h end place) old new e
+
+abbrev pub LeavesToken :
+    Machine → List ℕ → (end place : ℕ) → (old new : CacheView) → Option (Result Token TokenError) → Type 0
+LeavesToken m h end place old new None = new ≡ old
+LeavesToken m h end place old new (Some r) = LeavesAt m h end place old.store new.store r
+
+-- what an item makes of the forward cache: it is one pass at most
+pub record IsTokenEffect (m : Machine) (h : List ℕ) (end place : ℕ) (old new : CacheView)
+    (item : Option (Result Token TokenError)) : Type 0 where
+  pub cost : IsPassCost (end - place) old new
+  pub grown : IsGrown old new
+  pub progress : LeavesToken m h end place old new item
 
 -- how many items may come
 abbrev pub most_tokens : (failed : Bool) → (end place : ℕ) → ℕ

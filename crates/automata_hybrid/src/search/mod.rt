@@ -149,7 +149,7 @@ impl DFA {
     }
 
     /// The state after a byte of the span or the one behind it, to which the search moves. A quit byte ends it.
-    #[inline(never)]
+    #[inline(always)]
     fn read(
         &self,
         cache: &mut Cache,

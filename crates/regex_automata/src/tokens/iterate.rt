@@ -1,10 +1,8 @@
-ghost use Rattle.std.specs.Prelude.{◌≡◌, ◌<◌, ◌-◌, false};
+ghost use Rattle.std.specs.Prelude.{◌≡◌, ◌<◌, Some, false};
 ghost use Rattle.std.specs.Iterator.{at_most};
 ghost use Rattle.automata_base.specs.Input.{Allows};
-ghost use Rattle.automata_hybrid.specs.Growing.{IsGrown};
-ghost use Rattle.regex_automata.specs.Costs.{IsCostOf};
 ghost use Rattle.regex_automata.specs.RegexCaches.{AreCachesOf};
-ghost use Rattle.regex_automata.specs.Tokens.{GivesToken, IsGivenAt, asked, item_of, most_tokens};
+ghost use Rattle.regex_automata.specs.Tokens.{GivesToken, IsGivenAt, IsTokenEffect, asked, item_of, most_tokens};
 
 use crate::hybrid::dfa;
 use crate::hybrid::dfa::DFA;
@@ -53,8 +51,8 @@ fn token_at<'h>(
     requires within { Allows haystack.now place end }
     ensures of { AreCachesOf cache.new regex.now }
     ensures item { IsGivenAt regex.now.forward cache.new.forward.store haystack.now end place result }
-    ensures grown { IsGrown cache.old.forward cache.new.forward }
-    ensures cost { IsCostOf regex.now.forward (end - place) cache.old.forward cache.new.forward }
+    ensures effect { IsTokenEffect regex.now.forward haystack.now end place cache.old.forward cache.new.forward
+        (Some result) }
     ensures reverse { cache.new.reverse ≡ cache.old.reverse }
 {
     let input = asked(haystack, place, end);
@@ -115,8 +113,8 @@ impl<'r, 'c, 'h> Iterator for Tokens<'r, 'c, 'h> {
         s.place t.place s.failed t.failed
         × (t.regex.now ≡ s.regex.now) × (t.cache.ghost_name ≡ s.cache.ghost_name)
         × (t.haystack.now ≡ s.haystack.now) × (t.end ≡ s.end)
-        × IsGrown s.cache.now.forward t.cache.now.forward × (t.cache.now.reverse ≡ s.cache.now.reverse)
-        × IsCostOf s.regex.now.forward (s.end - s.place) s.cache.now.forward t.cache.now.forward };
+        × IsTokenEffect s.regex.now.forward s.haystack.now s.end s.place s.cache.now.forward t.cache.now.forward r
+        × (t.cache.now.reverse ≡ s.cache.now.reverse) };
 
     ghost remaining = { λ s. at_most (most_tokens s.failed s.end s.place) };
 

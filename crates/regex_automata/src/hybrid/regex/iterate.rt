@@ -1,11 +1,13 @@
-ghost use Rattle.std.specs.Prelude.{◌≡◌, ◌≤◌, ◌+◌, ◌-◌, IfOk, IfErr, IfSome, OnErr, OnOk, None, Err, false, true};
+ghost use Rattle.std.specs.Prelude.{◌≡◌, ◌≤◌, ◌+◌, IfOk, IfErr, IfSome, OnErr, OnOk, None, Err, false, true};
 ghost use Rattle.std.specs.Iterator.{at_most};
 ghost use Rattle.automata_base.specs.Input.{Allows, IsAllowed};
 ghost use Rattle.automata_base.specs.Spans.{IsEmptyAt, from};
 ghost use Rattle.automata_base.specs.Tapes.{Forward};
 ghost use Rattle.automata_hybrid.specs.Owing.{IsUnsupported, unsupported_error};
-ghost use Rattle.regex_automata.specs.Iterating.{AreCostsTwice, GivesItem, GoesPast, IsNextMatch, IsNextRefusal, KnowsNext, LearnsItem, input_at, most_items};
+ghost use Rattle.regex_automata.specs.Iterating.{AreCostsTwice, GivesItem, GoesPast, IsNextMatch, IsNextRefusal, KnowsNext, input_at, most_items};
 ghost use Rattle.regex_automata.specs.Owing.{TellsUnsupported};
+ghost use Rattle.regex_automata.specs.RegexEffects.{IsItemEffect};
+ghost use Rattle.regex_automata.specs.RegexProgress.{EndsNext, LeavesNext};
 ghost use Rattle.regex_automata.specs.RegexRefusals.{IsOfGiven};
 ghost use Rattle.regex_automata.specs.RegexCaches.{AreCachesOf, AreGrown, AreStill, NothingCleared};
 
@@ -53,7 +55,9 @@ impl Regex {
         ensures ahead { OnErr result (input.now.start ≤ input.now.end) }
         ensures allowed { IsAllowed input.now }
         ensures grown { AreGrown cache.old cache.new }
-        ensures cost { AreCostsTwice self.now (input.now.end - input.now.start) cache.old cache.new }
+        ensures cost { AreCostsTwice self.now input.now cache.old cache.new }
+        ensures ended { IfOk result (EndsNext self.now input.now cache.old cache.new) }
+        ensures left { IfErr result (LeavesNext self.now input.now cache.old cache.new) }
         ensures learned { NothingCleared cache.old cache.new
             → OnOk result (KnowsNext self.now cache.new input.now last) }
         ensures known { KnowsNext self.now cache.old input.now last
@@ -141,9 +145,8 @@ impl<'r, 'c, 'h> Iterator for FindMatches<'r, 'c, 'h> {
         (input_at t.haystack.now t.start t.end t.anchored t.earliest)
         s.last t.last s.ended t.ended
         × (t.regex.now ≡ s.regex.now) × (t.cache.ghost_name ≡ s.cache.ghost_name)
-        × AreGrown s.cache.now t.cache.now × AreCostsTwice s.regex.now (s.end - s.start) s.cache.now t.cache.now
-        × LearnsItem s.regex.now s.cache.now t.cache.now
-        (input_at s.haystack.now s.start s.end s.anchored s.earliest) s.last s.ended r
+        × IsItemEffect s.regex.now (input_at s.haystack.now s.start s.end s.anchored s.earliest) s.last s.ended
+        s.cache.now t.cache.now r
         × TellsUnsupported s.regex.now (input_at s.haystack.now s.start s.end s.anchored s.earliest) s.ended r };
 
     ghost remaining = { λ s.

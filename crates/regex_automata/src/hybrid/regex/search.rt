@@ -13,6 +13,7 @@ ghost use Rattle.regex_automata.specs.Costs.{AreCostsOf, IsPassCost};
 ghost use Rattle.regex_automata.specs.Outcomes.{FindsMatch, IsStartFound, MatchLiesIn};
 ghost use Rattle.regex_automata.specs.Owing.{IsSpanOf};
 ghost use Rattle.regex_automata.specs.RegexEffects.{IsSpanEffect};
+ghost use Rattle.regex_automata.specs.RegexProgress.{EndsBack, EndsSpan, LeavesBack, LeavesSpan};
 ghost use Rattle.regex_automata.specs.RegexCaches.{AreCachesOf, AreGrown, AreStill, KnowsBack, KnowsBoth, NothingCleared};
 ghost use Rattle.regex_automata.specs.RegexRefusals.{HasReason, IsBackRefused, IsFree, IsOfGiven, IsOfMemory, IsRegexRefusal};
 
@@ -125,6 +126,8 @@ impl Regex {
         ensures answers { NoQuitInReach self.now.reverse input.now → self.now.reverse.minimum_clear_count ≡ None
             → IfErr result (λ e. e ≡ SearchError.OutOfMemory) }
         ensures cost { IsPassCost (input.now.end - input.now.start) cache.old cache.new }
+        ensures ended { OnOk result (EndsBack self.now input.now (with_base half base) cache.old cache.new) }
+        ensures left { IfErr result (LeavesBack self.now input.now (with_base half base) cache.old cache.new) }
         ensures grown { IsGrown cache.old cache.new }
         ensures learned { ClearedNothing cache.old.store cache.new.store
             → OnOk result (KnowsBack self.now cache.new.store input.now (with_base half base)) }
@@ -155,7 +158,9 @@ impl Regex {
             → quit_behind self.now.forward (byte_before input.now.haystack input.now.start) ≡ None
             → supports self.now.forward input.now.anchored ≡ false
             → result ≡ Err (SearchError.Match (UnsupportedMode input.now.anchored)) }
-        ensures cost { AreCostsOf self.now (input.now.end - input.now.start) cache.old cache.new }
+        ensures cost { AreCostsOf self.now input.now cache.old cache.new }
+        ensures ended { IfOk result (EndsSpan self.now input.now cache.old cache.new) }
+        ensures left { IfErr result (LeavesSpan self.now input.now cache.old cache.new) }
         ensures grown { AreGrown cache.old cache.new }
         ensures learned { NothingCleared cache.old cache.new → OnOk result (KnowsBoth self.now cache.new input.now) }
         ensures known { KnowsBoth self.now cache.old input.now → AreStill cache.old cache.new × IfErr result IsOfGiven }

@@ -23,7 +23,7 @@ loop-item-preserved c =
       regex = steps.1 ∙ i.regex;
       input = input_turn c.args.input now rest c.in-Ok.next.end i.input step.1;
       untold = λ u. absurd (match_error (untold_turn s.regex.now c.args.regex.now c.args.input now s.ended (Some (Ok c.in-Ok.next)) c.loop-item.found.items
-          i.regex i.input i.going steps.6 i.untold u).1);
+          i.regex i.input i.going steps.4 i.untold u).1);
       going = step.4;
       same_cache = steps.2 ∙ i.same_cache;
     }
@@ -73,7 +73,7 @@ returns-in_default-clause-unsupported c =
     let s = c.loop-item.item-iterator in
     let now = input_at s.haystack.now s.start s.end s.anchored s.earliest in
     let steps = rw c.in-Ok.is at c.in-Some.ensures.steps in
-    λ u. absurd (match_error (untold_turn s.regex.now c.args.regex.now c.args.input now s.ended (Some (Ok c.in-Ok.next)) c.loop-item.found.items i.regex i.input i.going steps.6 i.untold u).1)
+    λ u. absurd (match_error (untold_turn s.regex.now c.args.regex.now c.args.input now s.ended (Some (Ok c.in-Ok.next)) c.loop-item.found.items i.regex i.input i.going steps.4 i.untold u).1)
 
 pub returns-in-Err-clause-unsupported : goal.returns-in-Err-clause-unsupported
 returns-in-Err-clause-unsupported c =
@@ -81,11 +81,11 @@ returns-in-Err-clause-unsupported c =
     let s = c.loop-item.item-iterator in
     let now = input_at s.haystack.now s.start s.end s.anchored s.earliest in
     let steps = rw c.in-Err.is at c.in-Some.ensures.steps in
-    λ u. (let told = untold_turn s.regex.now c.args.regex.now c.args.input now s.ended (Some (Err c.in-Err.error)) c.loop-item.found.items i.regex i.input i.going steps.6 i.untold u in (told.0, same_error told.1))
+    λ u. (let told = untold_turn s.regex.now c.args.regex.now c.args.input now s.ended (Some (Err c.in-Err.error)) c.loop-item.found.items i.regex i.input i.going steps.4 i.untold u in (told.0, same_error told.1))
 
 pub returns-clause-unsupported : goal.returns-clause-unsupported
 returns-clause-unsupported c =
     let i = c.loop-item.invariant in
     let s = c.loop-item.item-iterator in
     let now = input_at s.haystack.now s.start s.end s.anchored s.earliest in
-    λ u. absurd (none_error (untold_turn s.regex.now c.args.regex.now c.args.input now s.ended (None) c.loop-item.found.items i.regex i.input i.going c.in-None.ensures.steps.6 i.untold u).1)
+    λ u. absurd (none_error (untold_turn s.regex.now c.args.regex.now c.args.input now s.ended (None) c.loop-item.found.items i.regex i.input i.going c.in-None.ensures.steps.4 i.untold u).1)

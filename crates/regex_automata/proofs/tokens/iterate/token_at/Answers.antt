@@ -1,19 +1,17 @@
-use Rattle.std.proofs.Common.{ℕ, ◌≡◌, ◌∙◌, ◌-◌, sym, ap, subst}
+use Rattle.std.proofs.Common.{ℕ, ◌≡◌, ◌∙◌, refl, sym, ap, subst}
 use Rattle.std.specs.Prelude.{IfErr, Ok}
 use Rattle.automata_base.specs.Input.{Input}
 use Rattle.automata_base.specs.Matches.{Match}
 use Rattle.automata_base.specs.Tapes.{Forward}
 use Rattle.automata_hybrid.specs.Caches.{CacheView}
-use Rattle.automata_hybrid.specs.Growing.{IsGrown}
 use Rattle.automata_hybrid.specs.Machine.{Machine}
-use Rattle.automata_hybrid.specs.Owing.{IsHalf}
+use Rattle.automata_hybrid.specs.Owing.{IsHalf, IsSearchEffect}
 use Rattle.automata_hybrid.specs.Searches.{IsRefused}
-use Rattle.regex_automata.specs.Costs.{IsCostOf}
-use Rattle.regex_automata.specs.Tokens.{IsGivenAt, match_of}
-use Rattle.regex_automata.proofs.Finding.{cost_search}
+use Rattle.regex_automata.specs.Tokens.{IsGivenAt, LeavesAt, asked, match_of}
+use Rattle.regex_automata.proofs.Finding.{cost_anchored}
 use Rattle.regex_automata.proofs.Results.{is_err}
 use Rattle.regex_automata.proofs.Tiling.{token_is_given}
-use Rattle.regex_automata.proofs.Tokenising.{error_is_given}
+use Rattle.regex_automata.proofs.Tokenising.{error_is_given, error_leaves, token_leaves}
 use Rattle.regex_automata.proofs.tokens.iterate.token_at.Goals as goal
 
 -- matches with equal parts are equal
@@ -54,28 +52,34 @@ returns-clause-item c =
     token_is_given m c.args.haystack.now c.args.end c.requires.within.1 c.args.place c.new.result found c.requires.ahead owed
     (ap (λ (t : Match). Ok t) same ∙ sym c.in_ok-token.was ∙ c.item.ensures) c.new.ensures.bytes
 
-pub returns-in_err-token-clause-grown : goal.returns-in_err-token-clause-grown
-returns-in_err-token-clause-grown c =
-    subst (λ (old : CacheView). IsGrown old c.try_search_fwd-found.new.cache) c.forward_mut.ensures.value c.try_search_fwd-found.ensures.effect.grown
-
-pub returns-clause-grown : goal.returns-clause-grown
-returns-clause-grown c =
-    subst (λ (old : CacheView). IsGrown old c.try_search_fwd-found.new.cache) c.forward_mut.ensures.value c.try_search_fwd-found.ensures.effect.grown
-
-pub returns-in_err-token-clause-cost : goal.returns-in_err-token-clause-cost
-returns-in_err-token-clause-cost c =
+pub returns-in_err-token-clause-effect : goal.returns-in_err-token-clause-effect
+returns-in_err-token-clause-effect c =
     let new = c.try_search_fwd-found.new.cache in
-    let s = c.try_search_fwd-found.ensures.effect in
-    subst (λ (m : Machine). IsCostOf m (c.args.end - c.args.place) c.args.cache.now.forward new) c.forward-dfa.ensures
-    (subst (λ (i : Input). IsCostOf c.forward-dfa.result.now (i.end - i.start) c.args.cache.now.forward new) c.asked-input.ensures
-    (subst (λ (old : CacheView). IsCostOf c.forward-dfa.result.now (c.asked-input.result.end - c.asked-input.result.start) old new) c.forward_mut.ensures.value
-    (cost_search c.forward-dfa.result.now c.asked-input.result _ new s.cost s.grown)))
+    let found = c.try_search_fwd-found.result in
+    let s : IsSearchEffect Forward c.args.regex.now.forward (asked c.args.haystack.now c.args.end c.args.place) c.args.cache.now.forward new found =
+    subst (λ (m : Machine). IsSearchEffect Forward m (asked c.args.haystack.now c.args.end c.args.place) c.args.cache.now.forward new found) c.forward-dfa.ensures
+    (subst (λ (i : Input). IsSearchEffect Forward c.forward-dfa.result.now i c.args.cache.now.forward new found) c.asked-input.ensures
+    (subst (λ (old : CacheView). IsSearchEffect Forward c.forward-dfa.result.now c.asked-input.result old new found) c.forward_mut.ensures.value c.try_search_fwd-found.ensures.effect)) in
+    record {
+      cost = cost_anchored c.args.regex.now.forward (asked c.args.haystack.now c.args.end c.args.place) c.args.cache.now.forward new refl s.cost s.grown;
+      grown = s.grown;
+      progress = subst (LeavesAt c.args.regex.now.forward c.args.haystack.now c.args.end c.args.place c.args.cache.now.forward.store new.store)
+          (sym (is_err c.from_residual.result _ c.from_residual.ensures.1))
+          (error_leaves c.args.regex.now.forward c.args.haystack.now c.args.end c.args.place c.args.cache.now.forward.store new.store found c.in_err-token.field-0.0
+          s.ended s.left (sym c.in_err-token.was ∙ c.item.ensures));
+    }
 
-pub returns-clause-cost : goal.returns-clause-cost
-returns-clause-cost c =
+pub returns-clause-effect : goal.returns-clause-effect
+returns-clause-effect c =
     let new = c.try_search_fwd-found.new.cache in
-    let s = c.try_search_fwd-found.ensures.effect in
-    subst (λ (m : Machine). IsCostOf m (c.args.end - c.args.place) c.args.cache.now.forward new) c.forward-dfa.ensures
-    (subst (λ (i : Input). IsCostOf c.forward-dfa.result.now (i.end - i.start) c.args.cache.now.forward new) c.asked-input.ensures
-    (subst (λ (old : CacheView). IsCostOf c.forward-dfa.result.now (c.asked-input.result.end - c.asked-input.result.start) old new) c.forward_mut.ensures.value
-    (cost_search c.forward-dfa.result.now c.asked-input.result _ new s.cost s.grown)))
+    let found = c.try_search_fwd-found.result in
+    let s : IsSearchEffect Forward c.args.regex.now.forward (asked c.args.haystack.now c.args.end c.args.place) c.args.cache.now.forward new found =
+    subst (λ (m : Machine). IsSearchEffect Forward m (asked c.args.haystack.now c.args.end c.args.place) c.args.cache.now.forward new found) c.forward-dfa.ensures
+    (subst (λ (i : Input). IsSearchEffect Forward c.forward-dfa.result.now i c.args.cache.now.forward new found) c.asked-input.ensures
+    (subst (λ (old : CacheView). IsSearchEffect Forward c.forward-dfa.result.now c.asked-input.result old new found) c.forward_mut.ensures.value c.try_search_fwd-found.ensures.effect)) in
+    record {
+      cost = cost_anchored c.args.regex.now.forward (asked c.args.haystack.now c.args.end c.args.place) c.args.cache.now.forward new refl s.cost s.grown;
+      grown = s.grown;
+      progress = token_leaves c.args.regex.now.forward c.args.haystack.now c.args.end c.args.place c.args.cache.now.forward.store new.store found c.new.result c.in_ok-token.token
+          s.ended (sym c.in_ok-token.was ∙ c.item.ensures);
+    }

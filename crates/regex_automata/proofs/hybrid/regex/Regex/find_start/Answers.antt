@@ -3,12 +3,14 @@ use Rattle.automata_base.specs.Input.{Input}
 use Rattle.automata_base.specs.Tapes.{Backward}
 use Rattle.automata_hybrid.specs.Knowing.{Knows}
 use Rattle.automata_hybrid.specs.Slots.{supports}
+use Rattle.automata_hybrid.specs.Searched.{EndsProgress, LeavesProgress}
 use Rattle.automata_hybrid.specs.Searches.{IsFound, IsRefused, NoQuitInReach, with_base}
 use Rattle.automata_hybrid.specs.Within.{LiesIn}
 use Rattle.automata_hybrid.proofs.Growing.{grown_same}
 use Rattle.automata_hybrid.proofs.Searching.{if_err}
 use Rattle.regex_automata.proofs.Finding.{back_none, back_reach, back_some, cost_back, pass_none}
 use Rattle.regex_automata.proofs.Nexts.{some_of}
+use Rattle.regex_automata.proofs.Results.{on_ok}
 use Rattle.regex_automata.proofs.hybrid.regex.Regex.find_start.Goals as goal
 
 pub returns-then-short-clause-of : goal.returns-then-short-clause-of
@@ -136,3 +138,28 @@ pub returns-in-None-clause-known : goal.returns-in-None-clause-known
 returns-in-None-clause-known c = λ knows.
     let long = c.is_short-short.ensures.no c.if-short.false in
     c.in_ok-found.ensures.effect.known (subst (Knows Backward c.args.self.now.reverse c.args.cache.now.store) (sym c.backward-rest.ensures) (knows long))
+
+pub returns-then-short-clause-ended : goal.returns-then-short-clause-ended
+returns-then-short-clause-ended c = inl (c.is_short-short.ensures.yes c.if-short.true, refl)
+
+pub returns-in_err-found-clause-ended : goal.returns-in_err-found-clause-ended
+returns-in_err-found-clause-ended c = on_ok c.from_residual.result _ _ c.from_residual.ensures.1
+
+pub returns-in_err-found-clause-left : goal.returns-in_err-found-clause-left
+returns-in_err-found-clause-left c =
+    if_err c.from_residual.result _ _ c.from_residual.ensures.1 (
+      c.is_short-short.ensures.no c.if-short.false,
+      subst (λ (i : Input). LeavesProgress Backward c.args.self.now.reverse i c.args.cache.now.store c.try_search_rev.new.cache.store c.in_err-found.field-0.0) c.backward-rest.ensures c.in_err-found.ensures.effect.left,
+    )
+
+pub returns-in-Some-clause-ended : goal.returns-in-Some-clause-ended
+returns-in-Some-clause-ended c = inr (
+  c.is_short-short.ensures.no c.if-short.false,
+  subst (λ (i : Input). EndsProgress Backward c.args.self.now.reverse i c.args.cache.now.store c.try_search_rev.new.cache.store) c.backward-rest.ensures c.in_ok-found.ensures.effect.ended,
+)
+
+pub returns-in-None-clause-ended : goal.returns-in-None-clause-ended
+returns-in-None-clause-ended c = inr (
+  c.is_short-short.ensures.no c.if-short.false,
+  subst (λ (i : Input). EndsProgress Backward c.args.self.now.reverse i c.args.cache.now.store c.try_search_rev.new.cache.store) c.backward-rest.ensures c.in_ok-found.ensures.effect.ended,
+)

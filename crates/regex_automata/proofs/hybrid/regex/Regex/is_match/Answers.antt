@@ -14,8 +14,7 @@ use Rattle.automata_hybrid.specs.Slots.{supports}
 use Rattle.automata_hybrid.specs.Starting.{quit_behind}
 use Rattle.automata_hybrid.proofs.Growing.{grown_same}
 use Rattle.automata_hybrid.proofs.Searching.{if_err}
-use Rattle.regex_automata.specs.Costs.{IsCostOf}
-use Rattle.regex_automata.proofs.Finding.{cache_of, cost_search, pass_none}
+use Rattle.regex_automata.proofs.Finding.{cache_of}
 use Rattle.regex_automata.proofs.Matching.{asked_from, asked_to, match_right, same_asked, truth_told}
 use Rattle.regex_automata.proofs.Owed.{may_refuse_truth, truth_owed}
 use Rattle.regex_automata.proofs.Results.{err_ok, if_ok, is_err, ok_err, on_ok, same_err, same_ok}
@@ -50,15 +49,13 @@ returns-in_err-found-clause-owed c =
 pub returns-in_err-found-clause-effect : goal.returns-in_err-found-clause-effect
 returns-in_err-found-clause-effect c =
     record {
-      cost = (
-        asked_to (λ (i : Input). IsCostOf c.args.self.now.forward (i.end - i.start) c.args.cache.now.forward c.try_search_fwd.new.cache) c.args.self.now.forward c.args.input.now c.asked-asked.result c.asked-asked.ensures (λ x. x) (λ x. x)
-            (cost_search c.args.self.now.forward c.asked-asked.result c.args.cache.now.forward c.try_search_fwd.new.cache c.try_search_fwd.ensures.effect.cost c.try_search_fwd.ensures.effect.grown),
-        pass_none _ c.args.cache.now.reverse,
-      );
+      cost = (c.asked-asked.result, c.asked-asked.ensures, c.try_search_fwd.ensures.effect.cost);
       grown = (c.try_search_fwd.ensures.effect.grown, grown_same c.args.cache.now.reverse c.args.cache.now.reverse refl);
       reverse = refl;
       learned = λ nothing. on_ok c.from_residual.result _ _ c.from_residual.ensures.1;
       known = λ knows. (let known = c.in_err-found.ensures.effect.known (knows c.asked-asked.result c.asked-asked.ensures) in ((known.0, (refl, refl)), if_err c.from_residual.result _ _ c.from_residual.ensures.1 known.1));
+      ended = on_ok c.from_residual.result _ _ c.from_residual.ensures.1;
+      left = if_err c.from_residual.result _ _ c.from_residual.ensures.1 (c.asked-asked.result, c.asked-asked.ensures, c.in_err-found.ensures.effect.left);
       done = λ past. absurd (err_ok (asked_to (λ (i : Input). i.end < i.start → ◌≡◌ {A = Result (Option HalfMatch) SearchError} (Err c.in_err-found.field-0.0) (Ok None)) c.args.self.now.forward c.args.input.now c.asked-asked.result c.asked-asked.ensures (λ x. x) (λ x. x) (λ l. c.in_err-found.ensures.half.done l) past));
     }
 
@@ -84,15 +81,13 @@ returns-clause-owed c =
 pub returns-clause-effect : goal.returns-clause-effect
 returns-clause-effect c =
     record {
-      cost = (
-        asked_to (λ (i : Input). IsCostOf c.args.self.now.forward (i.end - i.start) c.args.cache.now.forward c.try_search_fwd.new.cache) c.args.self.now.forward c.args.input.now c.asked-asked.result c.asked-asked.ensures (λ x. x) (λ x. x)
-            (cost_search c.args.self.now.forward c.asked-asked.result c.args.cache.now.forward c.try_search_fwd.new.cache c.try_search_fwd.ensures.effect.cost c.try_search_fwd.ensures.effect.grown),
-        pass_none _ c.args.cache.now.reverse,
-      );
+      cost = (c.asked-asked.result, c.asked-asked.ensures, c.try_search_fwd.ensures.effect.cost);
       grown = (c.try_search_fwd.ensures.effect.grown, grown_same c.args.cache.now.reverse c.args.cache.now.reverse refl);
       reverse = refl;
       learned = λ nothing. λ other is. subst (Knows Forward c.args.self.now.forward c.try_search_fwd.new.cache.store) (same_asked c.args.self.now.forward c.args.input.now c.asked-asked.result other c.asked-asked.ensures is) (c.in_ok-found.ensures.effect.learned nothing);
       known = λ knows. (((c.in_ok-found.ensures.effect.known (knows c.asked-asked.result c.asked-asked.ensures)).0, (refl, refl)), tt);
+      ended = (c.asked-asked.result, c.asked-asked.ensures, c.in_ok-found.ensures.effect.ended);
+      left = tt;
       done = λ past.
           let past' = asked_from (λ (i : Input). i.end < i.start) c.args.self.now.forward c.args.input.now c.asked-asked.result c.asked-asked.ensures past past in
           ap (λ f. cache_of f c.args.cache.now.reverse) (c.in_ok-found.ensures.effect.done past');

@@ -6,6 +6,8 @@ use Rattle.automata_config.specs.declared.error.SearchError.{SearchError}
 use Rattle.automata_hybrid.proofs.Searching.{if_err}
 use Rattle.regex_automata.specs.Outcomes.{FindsMatch, MatchLiesIn}
 use Rattle.regex_automata.specs.RegexRefusals.{IsRegexRefusal}
+use Rattle.regex_automata.specs.RegexProgress.{EndsSpan}
+use Rattle.regex_automata.proofs.Leaving.{ends_later, leaves_later}
 use Rattle.regex_automata.proofs.Nexts.{ahead_of, costs_twice, goes_first, goes_later, grown_twice, next_later, on_err, refused_later, some_of}
 use Rattle.regex_automata.proofs.Remembering.{alone_none, alone_some, both_stays, cleared_first, cleared_second, next_known, next_learned}
 use Rattle.regex_automata.proofs.Results.{if_ok, is_err, ok_err, on_ok, same_err}
@@ -95,7 +97,7 @@ pub returns-clause-cost : goal.returns-clause-cost
 returns-clause-cost c =
     let place : c.start.result + 1 ≡ suc c.args.input.now.start = omega (arith, c.start.ensures.start) in
     let rest : c.from-rest.result ≡ from (suc c.args.input.now.start) c.args.input.now = c.from-rest.ensures ∙ ap (λ n. from n c.args.input.now) place in
-    costs_twice c.args.self.now c.args.input.now c.from-rest.result c.args.cache.now c.try_search.new.cache c.try_search-2.new.cache rest c.try_search-2.ensures.effect.grown c.try_search.ensures.effect.cost c.try_search-2.ensures.effect.cost
+    costs_twice c.args.self.now c.args.input.now c.from-rest.result c.args.cache.now c.try_search.new.cache c.try_search-2.new.cache rest c.try_search.ensures.effect.cost c.try_search-2.ensures.effect.cost
 
 pub returns-in_err-found-clause-learned : goal.returns-in_err-found-clause-learned
 returns-in_err-found-clause-learned c =
@@ -157,3 +159,34 @@ returns-then-not-is_empty_at-clause-unsupported c = λ u. absurd (ok_err (c.in_o
 
 pub returns-clause-unsupported : goal.returns-clause-unsupported
 returns-clause-unsupported c = λ u. absurd (ok_err (c.in_ok-found.ensures.owed.unsupported u))
+
+pub returns-in_err-found-clause-ended : goal.returns-in_err-found-clause-ended
+returns-in_err-found-clause-ended c = if_ok c.from_residual.result _ _ c.from_residual.ensures.1
+
+pub returns-in_err-found-clause-left : goal.returns-in_err-found-clause-left
+returns-in_err-found-clause-left c =
+    if_err c.from_residual.result _ _ c.from_residual.ensures.1 (inl c.in_err-found.ensures.effect.left)
+
+pub returns-in_default-clause-ended : goal.returns-in_default-clause-ended
+returns-in_default-clause-ended c =
+    inl (subst (EndsSpan c.args.self.now c.args.input.now c.args.cache.now c.try_search.new.cache) c.in_default.is c.in_ok-found.ensures.effect.ended)
+
+pub returns-then-not-is_empty_at-clause-ended : goal.returns-then-not-is_empty_at-clause-ended
+returns-then-not-is_empty_at-clause-ended c =
+    inl (subst (EndsSpan c.args.self.now c.args.input.now c.args.cache.now c.try_search.new.cache) c.in-Some.is c.in_ok-found.ensures.effect.ended)
+
+pub returns-clause-ended : goal.returns-clause-ended
+returns-clause-ended c =
+    let place : c.start.result + 1 ≡ suc c.args.input.now.start = omega (arith, c.start.ensures.start) in
+    let rest : c.from-rest.result ≡ from (suc c.args.input.now.start) c.args.input.now = c.from-rest.ensures ∙ ap (λ n. from n c.args.input.now) place in
+    ends_later c.args.self.now c.args.input.now c.from-rest.result c.args.cache.now c.try_search.new.cache c.try_search-2.new.cache c.in-Some.found rest
+    (subst (EndsSpan c.args.self.now c.args.input.now c.args.cache.now c.try_search.new.cache) c.in-Some.is c.in_ok-found.ensures.effect.ended)
+    c.try_search-2.result c.try_search-2.ensures.effect.ended
+
+pub returns-clause-left : goal.returns-clause-left
+returns-clause-left c =
+    let place : c.start.result + 1 ≡ suc c.args.input.now.start = omega (arith, c.start.ensures.start) in
+    let rest : c.from-rest.result ≡ from (suc c.args.input.now.start) c.args.input.now = c.from-rest.ensures ∙ ap (λ n. from n c.args.input.now) place in
+    leaves_later c.args.self.now c.args.input.now c.from-rest.result c.args.cache.now c.try_search.new.cache c.try_search-2.new.cache c.in-Some.found rest
+    (subst (EndsSpan c.args.self.now c.args.input.now c.args.cache.now c.try_search.new.cache) c.in-Some.is c.in_ok-found.ensures.effect.ended)
+    c.try_search-2.result c.try_search-2.ensures.effect.left

@@ -6,7 +6,7 @@ use Rattle.automata_hybrid.specs.Within.{LiesPast}
 use Rattle.automata_hybrid.proofs.Growing.{grown_same}
 use Rattle.automata_hybrid.proofs.Searching.{if_err}
 use Rattle.regex_automata.specs.Outcomes.{IsStartFound}
-use Rattle.regex_automata.proofs.Finding.{cache_of, cost_search, pass_none, front_none, front_some, knows_both, knows_front, match_of, match_within, start_within}
+use Rattle.regex_automata.proofs.Finding.{cache_of, pass_none, front_none, front_some, knows_both, knows_front, match_of, match_within, start_within}
 use Rattle.regex_automata.proofs.Nexts.{some_of}
 use Rattle.regex_automata.proofs.Results.{err_ok, if_ok, is_err, ok_err, on_ok, same_err, same_ok, some_none}
 use Rattle.regex_automata.proofs.hybrid.regex.Regex.search.Goals as goal
@@ -41,7 +41,7 @@ returns-in_err-front-clause-unsupported c =
 
 pub returns-in_err-front-clause-cost : goal.returns-in_err-front-clause-cost
 returns-in_err-front-clause-cost c =
-    (cost_search c.args.self.now.forward c.args.input.now c.args.cache.now.forward c.try_search_fwd_base.new.cache c.try_search_fwd_base.ensures.effect.cost c.try_search_fwd_base.ensures.effect.grown, pass_none _ c.args.cache.now.reverse)
+    (c.try_search_fwd_base.ensures.effect.cost, pass_none _ c.args.cache.now.reverse)
 
 pub returns-in_err-front-clause-grown : goal.returns-in_err-front-clause-grown
 returns-in_err-front-clause-grown c =
@@ -73,7 +73,7 @@ returns-in_default-clause-unsupported c =
 
 pub returns-in_default-clause-cost : goal.returns-in_default-clause-cost
 returns-in_default-clause-cost c =
-    (cost_search c.args.self.now.forward c.args.input.now c.args.cache.now.forward c.try_search_fwd_base.new.cache c.try_search_fwd_base.ensures.effect.cost c.try_search_fwd_base.ensures.effect.grown, pass_none _ c.args.cache.now.reverse)
+    (c.try_search_fwd_base.ensures.effect.cost, pass_none _ c.args.cache.now.reverse)
 
 pub returns-in_default-clause-grown : goal.returns-in_default-clause-grown
 returns-in_default-clause-grown c =
@@ -133,7 +133,7 @@ returns-in_err-start-clause-unsupported c =
 
 pub returns-in_err-start-clause-cost : goal.returns-in_err-start-clause-cost
 returns-in_err-start-clause-cost c =
-    (cost_search c.args.self.now.forward c.args.input.now c.args.cache.now.forward c.try_search_fwd_base.new.cache c.try_search_fwd_base.ensures.effect.cost c.try_search_fwd_base.ensures.effect.grown, c.find_start.ensures.cost)
+    (c.try_search_fwd_base.ensures.effect.cost, c.find_start.ensures.cost)
 
 pub returns-in_err-start-clause-grown : goal.returns-in_err-start-clause-grown
 returns-in_err-start-clause-grown c =
@@ -169,7 +169,7 @@ returns-in_default-2-clause-unsupported c =
 
 pub returns-in_default-2-clause-cost : goal.returns-in_default-2-clause-cost
 returns-in_default-2-clause-cost c =
-    (cost_search c.args.self.now.forward c.args.input.now c.args.cache.now.forward c.try_search_fwd_base.new.cache c.try_search_fwd_base.ensures.effect.cost c.try_search_fwd_base.ensures.effect.grown, c.find_start.ensures.cost)
+    (c.try_search_fwd_base.ensures.effect.cost, c.find_start.ensures.cost)
 
 pub returns-in_default-2-clause-grown : goal.returns-in_default-2-clause-grown
 returns-in_default-2-clause-grown c =
@@ -206,7 +206,7 @@ returns-clause-unsupported c =
 
 pub returns-clause-cost : goal.returns-clause-cost
 returns-clause-cost c =
-    (cost_search c.args.self.now.forward c.args.input.now c.args.cache.now.forward c.try_search_fwd_base.new.cache c.try_search_fwd_base.ensures.effect.cost c.try_search_fwd_base.ensures.effect.grown, c.find_start.ensures.cost)
+    (c.try_search_fwd_base.ensures.effect.cost, c.find_start.ensures.cost)
 
 pub returns-clause-grown : goal.returns-clause-grown
 returns-clause-grown c =
@@ -223,3 +223,30 @@ returns-clause-known c =
 pub returns-clause-done : goal.returns-clause-done
 returns-clause-done c =
     λ past. absurd (some_none (sym c.in-Some.is ∙ same_ok (c.in_ok-front.ensures.based.done past)))
+
+pub returns-in_err-front-clause-ended : goal.returns-in_err-front-clause-ended
+returns-in_err-front-clause-ended c = if_ok c.from_residual.result _ _ c.from_residual.ensures.1
+
+pub returns-in_err-front-clause-left : goal.returns-in_err-front-clause-left
+returns-in_err-front-clause-left c =
+    if_err c.from_residual.result _ _ c.from_residual.ensures.1 (inl (c.in_err-front.ensures.effect.left, refl))
+
+pub returns-in_default-clause-ended : goal.returns-in_default-clause-ended
+returns-in_default-clause-ended c = (c.in_ok-front.ensures.effect.ended, refl)
+
+pub returns-in_err-start-clause-ended : goal.returns-in_err-start-clause-ended
+returns-in_err-start-clause-ended c =
+    if_ok c.from_residual-in_err-start.result _ _ c.from_residual-in_err-start.ensures.1
+
+pub returns-in_err-start-clause-left : goal.returns-in_err-start-clause-left
+returns-in_err-start-clause-left c =
+    if_err c.from_residual-in_err-start.result _ _ c.from_residual-in_err-start.ensures.1
+    (inr (c.in_ok-front.ensures.effect.ended, ((with_base c.in-Some.front.0 c.in-Some.front.1), (front_some c.args.self.now.forward c.args.input.now c.in_ok-front.field-0 c.in-Some.front.0 c.in-Some.front.1 c.in_ok-front.ensures.based.found c.in-Some.is), inl c.in_err-start.ensures.left)))
+
+pub returns-in_default-2-clause-left : goal.returns-in_default-2-clause-left
+returns-in_default-2-clause-left c =
+    inr (c.in_ok-front.ensures.effect.ended, ((with_base c.in-Some.front.0 c.in-Some.front.1), (front_some c.args.self.now.forward c.args.input.now c.in_ok-front.field-0 c.in-Some.front.0 c.in-Some.front.1 c.in_ok-front.ensures.based.found c.in-Some.is), inr (refl, c.in_ok-start.ensures.ended)))
+
+pub returns-clause-ended : goal.returns-clause-ended
+returns-clause-ended c =
+    (c.in_ok-front.ensures.effect.ended, ((with_base c.in-Some.front.0 c.in-Some.front.1), (front_some c.args.self.now.forward c.args.input.now c.in_ok-front.field-0 c.in-Some.front.0 c.in-Some.front.1 c.in_ok-front.ensures.based.found c.in-Some.is), c.in_ok-start.ensures.ended))

@@ -36,4 +36,12 @@ returns-clause-owed c =
 pub returns-clause-effect : goal.returns-clause-effect
 returns-clause-effect c =
     let s = c.search-found.ensures in
-    record { cost = s.cost; grown = s.grown; learned = s.learned; known = s.known; done = λ past. (s.done past).1 }
+    record {
+      cost = s.cost;
+      grown = s.grown;
+      learned = s.learned;
+      known = s.known;
+      ended = s.ended;
+      left = s.left;
+      done = λ past. (s.done past).1;
+    }

@@ -1,10 +1,11 @@
-use Rattle.std.proofs.Common.{◌-◌, ◌≤◌, Some, None, refl, subst}
+use Rattle.std.proofs.Common.{◌≤◌, Some, None, refl, subst}
 use Rattle.std.specs.Prelude.{Ok, Err}
 use Rattle.automata_base.specs.Input.{Input}
 use Rattle.automata_base.specs.Spans.{from}
 use Rattle.regex_automata.specs.Iterating.{AreCostsTwice, GoesPast, IsNextMatch, IsNextRefusal, input_at}
 use Rattle.regex_automata.proofs.Backing.{false_true}
 use Rattle.regex_automata.proofs.Items.{fewer_left, gives_error, gives_match, gives_none, learns_next, some_left, tells_error, tells_found}
+use Rattle.regex_automata.proofs.Leaving.{item_error, item_match, item_none}
 use Rattle.regex_automata.proofs.Nexts.{some_of}
 use Rattle.regex_automata.proofs.hybrid.regex.iterate.FindMatchesIterator.next.Goals as goal
 
@@ -19,10 +20,13 @@ returns-in-Ok-Some-clause-steps c =
           goes.0 refl c.end-self.ensures.end c.end.ensures.end,
       refl,
       refl,
-      c.next_match.ensures.grown,
-      subst (λ (i : Input). AreCostsTwice s.regex.now (i.end - i.start) s.cache.now c.next_match.new.cache) c.input-input.ensures c.next_match.ensures.cost,
-      learns_next s.regex.now s.cache.now c.next_match.new.cache c.input-input.result now s.last s.ended (Some (Ok c.in-Ok-Some.found)) c.if-self.false c.input-input.ensures
-          c.in-Ok-Some.ensures.known (λ nothing good. c.in-Ok-Some.ensures.learned nothing),
+      record {
+        cost = subst (λ (i : Input). AreCostsTwice s.regex.now i s.cache.now c.next_match.new.cache) c.input-input.ensures c.next_match.ensures.cost;
+        grown = c.next_match.ensures.grown;
+        learns = learns_next s.regex.now s.cache.now c.next_match.new.cache c.input-input.result now s.last s.ended (Some (Ok c.in-Ok-Some.found)) c.if-self.false c.input-input.ensures
+            c.in-Ok-Some.ensures.known (λ nothing good. c.in-Ok-Some.ensures.learned nothing);
+        progress = item_match s.regex.now c.input-input.result now s.cache.now c.next_match.new.cache c.input-input.ensures s.ended c.in-Ok-Some.field-0 c.in-Ok-Some.found c.if-self.false c.in-Ok-Some.field-0-is c.in-Ok-Some.ensures.ended;
+      },
       tells_found s.regex.now c.input-input.result now s.ended _ (Some (Ok c.in-Ok-Some.found)) c.input-input.ensures c.in-Ok-Some.ensures.unsupported,
     )
 
@@ -45,10 +49,13 @@ returns-in-Err-clause-steps c =
           (subst (λ (i : Input). IsNextRefusal s.regex.now c.next_match.new.cache i s.last c.in-Err.error) c.input-input.ensures c.in-Err.ensures.errors),
       refl,
       refl,
-      c.next_match.ensures.grown,
-      subst (λ (i : Input). AreCostsTwice s.regex.now (i.end - i.start) s.cache.now c.next_match.new.cache) c.input-input.ensures c.next_match.ensures.cost,
-      learns_next s.regex.now s.cache.now c.next_match.new.cache c.input-input.result now s.last s.ended (Some (Err c.in-Err.error)) c.if-self.false c.input-input.ensures
-          c.in-Err.ensures.known (λ nothing good. absurd (false_true good)),
+      record {
+        cost = subst (λ (i : Input). AreCostsTwice s.regex.now i s.cache.now c.next_match.new.cache) c.input-input.ensures c.next_match.ensures.cost;
+        grown = c.next_match.ensures.grown;
+        learns = learns_next s.regex.now s.cache.now c.next_match.new.cache c.input-input.result now s.last s.ended (Some (Err c.in-Err.error)) c.if-self.false c.input-input.ensures
+            c.in-Err.ensures.known (λ nothing good. absurd (false_true good));
+        progress = item_error s.regex.now c.input-input.result now s.cache.now c.next_match.new.cache c.input-input.ensures s.ended c.in-Err.error c.if-self.false c.in-Err.ensures.left;
+      },
       tells_error s.regex.now c.input-input.result now s.ended c.in-Err.error c.input-input.ensures c.in-Err.ensures.unsupported,
     )
 
@@ -68,9 +75,12 @@ returns-in-Ok-None-clause-steps c =
           (subst (IsNextMatch s.regex.now c.input-input.result s.last) c.in-Ok-None.field-0-is c.in-Ok-None.ensures.next)),
       refl,
       refl,
-      c.next_match.ensures.grown,
-      subst (λ (i : Input). AreCostsTwice s.regex.now (i.end - i.start) s.cache.now c.next_match.new.cache) c.input-input.ensures c.next_match.ensures.cost,
-      learns_next s.regex.now s.cache.now c.next_match.new.cache c.input-input.result now s.last s.ended (None) c.if-self.false c.input-input.ensures
-          c.in-Ok-None.ensures.known (λ nothing good. c.in-Ok-None.ensures.learned nothing),
+      record {
+        cost = subst (λ (i : Input). AreCostsTwice s.regex.now i s.cache.now c.next_match.new.cache) c.input-input.ensures c.next_match.ensures.cost;
+        grown = c.next_match.ensures.grown;
+        learns = learns_next s.regex.now s.cache.now c.next_match.new.cache c.input-input.result now s.last s.ended (None) c.if-self.false c.input-input.ensures
+            c.in-Ok-None.ensures.known (λ nothing good. c.in-Ok-None.ensures.learned nothing);
+        progress = item_none s.regex.now c.input-input.result now s.cache.now c.next_match.new.cache c.input-input.ensures s.ended c.in-Ok-None.field-0 c.if-self.false c.in-Ok-None.field-0-is c.in-Ok-None.ensures.ended;
+      },
       tells_found s.regex.now c.input-input.result now s.ended _ None c.input-input.ensures c.in-Ok-None.ensures.unsupported,
     )
