@@ -1,4 +1,5 @@
 pub mod Alike
+pub mod AlikeBytes
 pub mod AlikeClasses
 pub mod AlikeUnits
 pub mod Belows

@@ -1,12 +1,15 @@
 pub mod Checked
+pub mod Checks
 pub mod Compose
 pub mod Cuts
 pub mod Dead
 pub mod Decisions
 pub mod Finals
 pub mod FirstVisits
+pub mod Follow
 pub mod Follows
 pub mod Fuels
+pub mod Included
 pub mod Invariants
 pub mod Late
 pub mod LookSets
@@ -18,6 +21,7 @@ pub mod Readings
 pub mod Rows
 pub mod Samples
 pub mod Searches
+pub mod Selecting
 pub mod Sets
 pub mod Sift
 pub mod Steps

@@ -13,5 +13,6 @@ pub mod Samples
 pub mod Starts
 pub mod Text
 pub mod Total
+pub mod Tried
 pub mod TruePairs
 pub mod Units

@@ -1,10 +1,27 @@
 -- The accounted bytes of a cache, and the capacity that it needs.
-use Rattle.std.specs.Prelude.{ℕ, ◌+◌, ◌-◌, ◌*◌, Bool, if◌then◌else◌, length, max}
+use Rattle.std.specs.Prelude.{ℕ, ◌+◌, ◌*◌, Bool, if◌then◌else◌, length, max}
 use Rattle.automata_base.specs.Nodes.{Automaton, stack_room}
+use Rattle.automata_base.specs.Powerset.{head_cost, pattern_cost, id_cost}
+
+-- A cell of the table, or a start slot: an ID.
+abbrev pub cell_size : ℕ
+cell_size = 4
+
+-- What each row has beside its cells and the cost of its state: its place in the list.
+abbrev pub row_size : ℕ
+row_size = 16
+
+-- And its place in the map.
+abbrev pub entry_size : ℕ
+entry_size = 20
+
+-- The states of the three rows that every table begins with, each of no lists.
+abbrev pub fixed_rows_cost : ℕ
+fixed_rows_cost = 39
 
 -- The greatest cost of a powerset state.
 abbrev pub max_cost : Automaton → ℕ
-max_cost a = 13 + 4 * length a.start_pattern + 5 * length a.states
+max_cost a = head_cost + pattern_cost * length a.start_pattern + id_cost * length a.states
 
 -- The room for determinisation: two sets of states, the stack of a closure, and one powerset state.
 abbrev pub fixed_cost : Automaton → ℕ
@@ -15,15 +32,12 @@ fixed_cost a = 16 * length a.states + 4 * stack_room a.states + max_cost a
 abbrev pub start_slots : Automaton → (each : Bool) → ℕ
 start_slots a each = 12 + (if each then 6 * length a.start_pattern else 0)
 
--- The bytes of a cache: its cells, its start slots, its states with what they cost together, and the fixed cost. Three
--- states stand for the rows that every table begins with; two of them, being unknown and quit, are in no map.
-abbrev pub accounted : (cells slots states costs fixed : ℕ) → ℕ
-accounted cells slots states costs fixed = 4 * cells + 4 * slots + 16 * states + 20 * (states - 2) + costs + fixed
-
--- Room for the three first rows, for a state in each start slot, and for two states more.
+-- Room for the three first rows, for a state in each start slot, and for two states more. Of the three rows two, the
+-- unknown and the quit one, are in no map.
 abbrev pub minimum_capacity : (stride slots greatest fixed : ℕ) → ℕ
 minimum_capacity stride slots greatest fixed =
-    4 * ((5 + slots) * stride) + 4 * slots + 16 * (5 + slots) + 20 * (3 + slots) + 39 + (2 + slots) * greatest + fixed
+    cell_size * ((5 + slots) * stride) + cell_size * slots + row_size * (5 + slots) + entry_size * (3 + slots)
+    + fixed_rows_cost + (2 + slots) * greatest + fixed
 
 -- The capacity that a cache keeps to: at least the minimum.
 abbrev pub effective_capacity : (given minimum : ℕ) → ℕ

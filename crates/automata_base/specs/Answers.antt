@@ -1,5 +1,6 @@
 -- What searches and walks over a span of a haystack answer, split places skipped.
-use Rattle.std.specs.Prelude.{ℕ, ◌≡◌, ◌<◌, ◌≤◌, ◌+◌, ◌-◌, Bool, true, false, cond, List, [], ◌∷◌, ◌⊎◌, ◌↔◌, length, Option, Some, None}
+use Rattle.std.specs.Prelude.{ℕ, ◌≡◌, ◌<◌, ◌≤◌, ◌+◌, ◌-◌, Bool, true, false, cond, List, [], ◌∷◌, ◌⊎◌, ◌↔◌, length}
+use Rattle.std.specs.Prelude.{Option, Some, None}
 use Rattle.automata_base.specs.Lists.{In}
 use Rattle.automata_base.specs.Paths.{Tape, IsLookAcyclic}
 use Rattle.automata_base.specs.Computed.{IsInRange}
@@ -61,13 +62,6 @@ Answers Tells skipping way input (Some half) =
     × (skipping → is_split input.haystack (offset_in way (later way k input) pair.place) ≡ false)
     × (half.pattern ≡ pair.pattern) × (half.offset ≡ offset_in way (later way k input) pair.place)
     × (half.base ≡ (later way k input).start)
-
--- The same of what the paths answer.
-abbrev pub IsSplitAnswer : Direction → Engine → Input → Type 0
-IsSplitAnswer way d input = IsSplit (SelectsOver way d) way input
-
-abbrev pub ComesTo : Direction → Engine → Input → ℕ → Type 0
-ComesTo way d input k = Tries (SelectsOver way d) (IsSkipping d) way input k
 
 -- What a search answers, by paths.
 abbrev pub IsAnswer : Direction → Engine → Input → Option Half → Type 0

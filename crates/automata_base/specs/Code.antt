@@ -1,4 +1,6 @@
-use Rattle.std.specs.Prelude.{◌≡◌, ℕ, zero, suc, List, [], ◌∷◌, ◌++◌, Bool, true, false, ◌+◌, ◌*◌, ◌-◌, ◌/◌, ◌%◌, ◌==◌, nat_lt, nat_le, length, drop, slice_index, ◌<◌, ◌^◌, if◌then◌else◌}
+-- How a powerset state is coded in bytes, and what its bytes stand for.
+use Rattle.std.specs.Prelude.{◌≡◌, ℕ, zero, suc, List, [], ◌∷◌, ◌++◌, Bool, true, false, ◌+◌, ◌*◌, ◌-◌, ◌/◌, ◌%◌, ◌==◌}
+use Rattle.std.specs.Prelude.{nat_lt, nat_le, length, drop, slice_index, ◌<◌, ◌^◌, if◌then◌else◌}
 use Rattle.std.specs.List.{flat_map}
 use Rattle.std.specs.Int.{w32, to_le_bytes, from_le_bytes}
 use Rattle.std.specs.List.{AllByRecursion}
@@ -20,8 +22,8 @@ is_listed (p ∷ []) = nat_lt 0 p
 is_listed (p ∷ q ∷ ps) = true
 
 -- bit 0 "has patterns", bit 1 "patterns are listed", bit 2 the word flag, bit 3 the half flag
-abbrev pub flags : Bool → Bool → Bool → Bool → ℕ
-flags has listed word half = bit has + 2 * bit listed + 4 * bit word + 8 * bit half
+abbrev pub flag_byte : Bool → Bool → Bool → Bool → ℕ
+flag_byte has listed word half = bit has + 2 * bit listed + 4 * bit word + 8 * bit half
 
 -- a number in four bytes, the least first
 abbrev pub four_bytes : ℕ → List ℕ
@@ -52,7 +54,7 @@ ids_code before (id ∷ ids) = varint (difference before id) ++ ids_code id ids
 
 abbrev pub code : Powerset → List ℕ
 code q =
-    flags (has_any q.patterns) (is_listed q.patterns) q.word q.half
+    flag_byte (has_any q.patterns) (is_listed q.patterns) q.word q.half
     ∷ (four_bytes q.known ++ (four_bytes q.needed ++ (patterns_code q.patterns ++ ids_code 0 q.nfa)))
 
 -- ---- the state of some bytes

@@ -1,3 +1,4 @@
+-- The bytes that a key of the map holds, its own or shared.
 use Rattle.std.specs.Prelude.{ℕ, List}
 use Rattle.std.specs.Rc.{rc_slice_items}
 use Rattle.automata_base.specs.declared.util.determinize.key.Bytes.{Bytes}

@@ -2,7 +2,6 @@ pub mod Accounting
 pub mod Alike
 pub mod Answers
 pub mod Automata
-pub mod Checks
 pub mod Classes
 pub mod Code
 pub mod Computed
@@ -10,7 +9,6 @@ pub mod Cuts
 pub mod Door
 pub mod Engines
 pub mod Equal
-pub mod Follow
 pub mod Getters
 pub mod Input
 pub mod Key

@@ -1,5 +1,5 @@
--- Lists of states in the order of their least keys.
-use Rattle.std.specs.Prelude.{ℕ, zero, suc, ◌≡◌, List, [], ◌∷◌, ◌⊎◌, Option, Some, None}
+-- Lists of numbers: their members, and states in the order of their least keys.
+use Rattle.std.specs.Prelude.{ℕ, zero, suc, ◌≡◌, ◌&&◌, Bool, true, ltb, List, [], ◌∷◌, ◌⊎◌, Option, Some, None}
 use Rattle.automata_base.specs.Order.{Before, Upto}
 
 abbrev pub In : ℕ → List ℕ → Type 0
@@ -39,3 +39,8 @@ From S roots q (k ∷ path) = (root : ℕ) × (nth roots k ≡ Some root) × S r
 -- The list has just the states that fit.
 abbrev pub IsSet : (ℕ → Type 0) → List ℕ → Type 0
 IsSet P xs = ((q : ℕ) → In q xs → P q) × ((q : ℕ) → P q → In q xs)
+
+-- Each is below the bound.
+abbrev pub all_below : ℕ → List ℕ → Bool
+all_below N [] = true
+all_below N (x ∷ xs) = ltb x N && all_below N xs

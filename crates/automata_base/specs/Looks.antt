@@ -1,7 +1,12 @@
 -- The eighteen looks, and where they hold, by the byte before and the byte behind a place.
 use Rattle.std.specs.Prelude.{ℕ, Bool, true, false, not, ◌&&◌, ◌||◌, leb, eqb, Option, Some, None}
 pub use Rattle.automata_base.specs.declared.util.look.Look.{Look}
-pub use Rattle.automata_base.specs.declared.util.look.Look.TheVariants.{Start, End, StartLF, EndLF, StartCRLF, EndCRLF, WordAscii, WordAsciiNegate, WordUnicode, WordUnicodeNegate, WordStartAscii, WordEndAscii, WordStartUnicode, WordEndUnicode, WordStartHalfAscii, WordEndHalfAscii, WordStartHalfUnicode, WordEndHalfUnicode}
+pub use Rattle.automata_base.specs.declared.util.look.Look.TheVariants.{Start, End, StartLF, EndLF, StartCRLF, EndCRLF}
+pub use Rattle.automata_base.specs.declared.util.look.Look.TheVariants.{WordAscii, WordAsciiNegate, WordUnicode}
+pub use Rattle.automata_base.specs.declared.util.look.Look.TheVariants.{WordUnicodeNegate, WordStartAscii, WordEndAscii}
+pub use Rattle.automata_base.specs.declared.util.look.Look.TheVariants.{WordStartUnicode, WordEndUnicode}
+pub use Rattle.automata_base.specs.declared.util.look.Look.TheVariants.{WordStartHalfAscii, WordEndHalfAscii}
+pub use Rattle.automata_base.specs.declared.util.look.Look.TheVariants.{WordStartHalfUnicode, WordEndHalfUnicode}
 
 abbrev pub within : ℕ → ℕ → ℕ → Bool
 within lo hi u = leb lo u && leb u hi

@@ -1,5 +1,5 @@
 -- An NFA as paths see it: its states, the line terminator and the reverse flag.
-use Rattle.std.specs.Prelude.{ℕ, zero, suc, ◌≡◌, Bool, true, false, cond, List, [], ◌∷◌, Option, Some, None}
+use Rattle.std.specs.Prelude.{ℕ, zero, suc, Bool, true, false, cond, List, [], ◌∷◌, Option, Some, None}
 use Rattle.automata_base.specs.Looks.{Look, within}
 use Rattle.automata_base.specs.Lists.{nth}
 
@@ -31,9 +31,6 @@ node n q = node_or_fail (nth n.nodes q)
 -- Which looks hold at a place.
 abbrev pub Truth : Type 0
 Truth = Look → Bool
-
-abbrev pub Includes : Truth → Truth → Type 0
-Includes A B = (look : Look) → A look ≡ true → B look ≡ true
 
 abbrev pub hop_at : Node → Truth → ℕ → Option ℕ
 hop_at (Split alternates) A e = nth alternates e

@@ -1,7 +1,12 @@
 -- Powerset states and the pass: the list walk whose matches come one unit late and whose looks are decided when the
 -- next unit is known.
-use Rattle.std.specs.Prelude.{ℕ, zero, suc, ◌≡◌, ◌<◌, Bool, true, false, not, ◌&&◌, ◌||◌, List, [], ◌∷◌, ◌⊎◌, ◌↔◌, Option, Some, None}
-use Rattle.automata_base.specs.Looks.{Look, Start, End, StartLF, EndLF, StartCRLF, EndCRLF, WordAscii, WordAsciiNegate, WordUnicode, WordUnicodeNegate, WordStartAscii, WordEndAscii, WordStartUnicode, WordEndUnicode, WordStartHalfAscii, WordEndHalfAscii, WordStartHalfUnicode, WordEndHalfUnicode, holds, is_absent, is_byte, is_word, differ, first_half, second_half}
+use Rattle.std.specs.Prelude.{ℕ, zero, suc, ◌≡◌, ◌<◌, Bool, true, false, not, ◌&&◌, ◌||◌, List, [], ◌∷◌, ◌⊎◌, ◌↔◌}
+use Rattle.std.specs.Prelude.{Option, Some, None}
+use Rattle.automata_base.specs.Looks.{Look, Start, End, StartLF, EndLF, StartCRLF, EndCRLF, WordAscii, WordAsciiNegate}
+use Rattle.automata_base.specs.Looks.{WordUnicode, WordUnicodeNegate, WordStartAscii, WordEndAscii, WordStartUnicode}
+use Rattle.automata_base.specs.Looks.{WordEndUnicode, WordStartHalfAscii, WordEndHalfAscii, WordStartHalfUnicode}
+use Rattle.automata_base.specs.Looks.{WordEndHalfUnicode, holds, is_absent, is_byte, is_word, differ, first_half}
+use Rattle.automata_base.specs.Looks.{second_half}
 use Rattle.automata_base.specs.Lists.{In, pick}
 use Rattle.automata_base.specs.Nfa.{Nfa, Assert, Truth, node, accepts, keep}
 use Rattle.automata_base.specs.Paths.{Tape, next, IsClosure}

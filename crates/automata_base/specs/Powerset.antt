@@ -1,3 +1,4 @@
+-- Powerset states, what each of them meets, and what is counted for one.
 use Rattle.std.specs.Prelude.{ℕ, List, [], Bool, false, ◌+◌, ◌*◌, ◌<◌, ◌^◌, nat_eq, length}
 use Rattle.std.specs.List.{AllByRecursion, IsDistinct}
 
@@ -23,9 +24,21 @@ pub record IsPowerset (q : Powerset) : Type 0 where
   pub known : q.known < 2 ^ 32
   pub needed : q.needed < 2 ^ 32
 
+-- what is counted for a state beside its lists
+abbrev pub head_cost : ℕ
+head_cost = 13
+
+-- for each of its patterns
+abbrev pub pattern_cost : ℕ
+pattern_cost = 4
+
+-- for each of its NFA states
+abbrev pub id_cost : ℕ
+id_cost = 5
+
 -- what is counted for a state
 abbrev pub cost : Powerset → ℕ
-cost q = 13 + 4 * length q.patterns + 5 * length q.nfa
+cost q = head_cost + pattern_cost * length q.patterns + id_cost * length q.nfa
 
 -- the state with nothing in it
 abbrev pub dead : Powerset

@@ -1,5 +1,6 @@
 -- Walks over the states of an NFA.
-use Rattle.std.specs.Prelude.{ℕ, ◌≡◌, ◌⊎◌, ◌&&◌, Bool, false, cond, eqb, List, [], ◌∷◌, ◌++◌, map, Option, Some, None, slice_get}
+use Rattle.std.specs.Prelude.{ℕ, ◌≡◌, ◌⊎◌, ◌&&◌, Bool, false, cond, eqb, List, [], ◌∷◌, ◌++◌, map, Option, Some, None}
+use Rattle.std.specs.Prelude.{slice_get}
 use Rattle.automata_base.specs.declared.nfa.thompson.State.{State}
 use Rattle.automata_base.specs.declared.nfa.thompson.State.TheVariants as is
 use Rattle.automata_base.specs.declared.nfa.thompson.reach.Edges.{Edges}
@@ -31,12 +32,12 @@ abbrev pub targets_of : Edges → List State → ℕ → List ℕ
 targets_of edges states q = targets_at edges (node_in states q)
 
 -- The targets lead from `q` over these states to `z`.
-abbrev pub Way : (ℕ → List ℕ) → ℕ → List ℕ → ℕ → Type 0
-Way targets q [] z = q ≡ z
-Way targets q (r ∷ rs) z = In r (targets q) × Way targets r rs z
+abbrev pub Route : (ℕ → List ℕ) → ℕ → List ℕ → ℕ → Type 0
+Route targets q [] z = q ≡ z
+Route targets q (r ∷ rs) z = In r (targets q) × Route targets r rs z
 
 abbrev pub IsReachedBy : (ℕ → List ℕ) → List ℕ → ℕ → Type 0
-IsReachedBy targets roots z = (root : ℕ) × (way : List ℕ) × In root roots × Way targets root way z
+IsReachedBy targets roots z = (root : ℕ) × (way : List ℕ) × In root roots × Route targets root way z
 
 -- Some root leads to `z`.
 abbrev pub IsReached : Edges → List State → List ℕ → ℕ → Type 0

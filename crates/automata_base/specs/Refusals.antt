@@ -1,11 +1,13 @@
 -- The tests of the door.
-use Rattle.std.specs.Prelude.{ℕ, ◌+◌, ◌^◌, Option, Some, None, sum_by, length, Bool, true, ◌&&◌, ltb, leb, if◌then◌else◌, List, [], ◌∷◌}
+use Rattle.std.specs.Prelude.{ℕ, ◌+◌, ◌^◌, Option, Some, None, sum_by, length, Bool, true, ◌&&◌, ltb, leb}
+use Rattle.std.specs.Prelude.{if◌then◌else◌, List, [], ◌∷◌}
 use Rattle.automata_base.specs.declared.nfa.thompson.NfaError.{NfaError}
-use Rattle.automata_base.specs.declared.nfa.thompson.NfaError.TheVariants.{TooLarge, StartRange, StateRange, Ranges, PatternRange}
+use Rattle.automata_base.specs.declared.nfa.thompson.NfaError.TheVariants.{TooLarge, StartRange, StateRange, Ranges}
+use Rattle.automata_base.specs.declared.nfa.thompson.NfaError.TheVariants.{PatternRange}
 use Rattle.automata_base.specs.declared.nfa.thompson.State.{State}
 use Rattle.automata_base.specs.declared.nfa.thompson.State.TheVariants as is
 use Rattle.automata_base.specs.declared.nfa.thompson.Transition.{Transition}
-use Rattle.automata_base.specs.Checks.{all_below}
+use Rattle.automata_base.specs.Lists.{all_below}
 
 abbrev pub transitions_below : ℕ → List Transition → Bool
 transitions_below n [] = true

@@ -1,5 +1,6 @@
 -- What a search and a walk answer, by paths; and what a pass tells.
-use Rattle.std.specs.Prelude.{ℕ, zero, suc, ◌≡◌, ◌<◌, ◌≤◌, Bool, true, false, List, [], ◌∷◌, ◌++◌, ◌⊎◌, length, Option, Some, None}
+use Rattle.std.specs.Prelude.{ℕ, zero, suc, ◌≡◌, ◌<◌, Bool, true, false, List, [], ◌∷◌, ◌++◌, ◌⊎◌, length, Option}
+use Rattle.std.specs.Prelude.{Some, None}
 use Rattle.automata_base.specs.Order.{Before, Upto}
 use Rattle.automata_base.specs.Lists.{IsListOf}
 use Rattle.automata_base.specs.Nfa.{Nfa, accepts}
@@ -56,9 +57,6 @@ IsOverlappingOn kind n t start pairs = Pairs (ArePatternsAt kind n t start) (suc
 abbrev pub Tells : MatchKind → Nfa → Tape → ℕ → ℕ → List ℕ → Type 0
 Tells kind n t start i patterns = (Q : Powerset) × IsPass n kind start t (suc i) Q × (Q.patterns ≡ patterns)
 
-abbrev pub PassTells : MatchKind → Nfa → Tape → ℕ → List Pair → Type 0
-PassTells kind n t start pairs = Pairs (Tells kind n t start) (suc (length t.bytes)) pairs
-
 -- Whether the place `i` of a path with that edge list is preferred to `j` of another.
 abbrev pub IsChosen : MatchKind → (earliest : Bool) → ℕ → List ℕ → ℕ → List ℕ → Type 0
 IsChosen kind true i path j other = (i < j) ⊎ ((i ≡ j) × Upto path other)
@@ -73,18 +71,6 @@ Selects kind earliest n t start (Some pair) =
     (path : List ℕ) × Accepts n t start pair.place pair.pattern path
     × ((j pattern : ℕ) (other : List ℕ) → Accepts n t start j pattern other
     → IsChosen kind earliest pair.place path j other)
-
--- What a search tells of its pass: of the first state with patterns, or else of the last one, the first pattern and
--- the place whose unit gave it.
-abbrev pub PassSelects : MatchKind → Bool → Nfa → Tape → ℕ → Option Pair → Type 0
-PassSelects kind earliest n t start None =
-    (i : ℕ) → i ≤ length t.bytes → Tells kind n t start i []
-PassSelects kind true n t start (Some pair) =
-    (rest : List ℕ) × (pair.place ≤ length t.bytes) × Tells kind n t start pair.place (pair.pattern ∷ rest)
-    × ((j : ℕ) → j < pair.place → Tells kind n t start j [])
-PassSelects kind false n t start (Some pair) =
-    (rest : List ℕ) × (pair.place ≤ length t.bytes) × Tells kind n t start pair.place (pair.pattern ∷ rest)
-    × ((j : ℕ) → pair.place < j → j ≤ length t.bytes → Tells kind n t start j [])
 
 -- For every NFA and either kind, an earliest search finds the nearest end.
 abbrev pub IsNearest : Nfa → Tape → ℕ → Option Pair → Type 0

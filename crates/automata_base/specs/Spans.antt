@@ -1,5 +1,6 @@
 -- Spans of matches, by paths; and how the search over two DFAs finds them.
-use Rattle.std.specs.Prelude.{ℕ, suc, ◌≡◌, ◌<◌, ◌≤◌, ◌+◌, Bool, false, List, [], ◌∷◌, ◌++◌, ◌⊎◌, Option, Some, None, is_some}
+use Rattle.std.specs.Prelude.{ℕ, suc, ◌≡◌, ◌<◌, ◌≤◌, ◌+◌, Bool, false, List, [], ◌∷◌, ◌++◌, ◌⊎◌, Option, Some, None}
+use Rattle.std.specs.Prelude.{is_some}
 use Rattle.automata_base.specs.Order.{Begins}
 use Rattle.automata_base.specs.Paths.{Tape, IsPath}
 use Rattle.automata_base.specs.Selections.{Accepts, IsChosen}

@@ -30,17 +30,23 @@ AnswersAreOne =
     (way : Direction) (d : Engine) (input : Input) (a b : Option Half) → IsAnswer way d input a → IsAnswer way d input b
     → a ≡ b
 
--- An iteration over a true pair tells the spans, one list for each input.
+abbrev pub IterationsAreOne : Type 0
+IterationsAreOne =
+    (d : Engine) (input : Input) (ms ms' : List Match) → AreSpans d input ms → AreSpans d input ms' → ms ≡ ms'
+
+-- Each input has one match, one answer of a plain search, and one list of matches.
+pub record AreOne : Type 0 where
+  pub span : SpansAreOne
+  pub answer : AnswersAreOne
+  pub list : IterationsAreOne
+
+-- An iteration over a true pair tells the spans.
 abbrev pub IterationsAreRight : Type 0
 IterationsAreRight =
     (f r : Engine) (input : Input) (ms : List Match)
     → IsTruePair f r → KeepsUtf8 Forward f → IsInput input → AreFound f r input ms → AreSpans f input ms
 
-abbrev pub IterationsAreOne : Type 0
-IterationsAreOne =
-    (d : Engine) (input : Input) (ms ms' : List Match) → AreSpans d input ms → AreSpans d input ms' → ms ≡ ms'
-
--- Ends rise, by paths and over any two DFAs, so matches are at most one more than the span has bytes.
+-- Ends rise, so matches are at most one more than the span has bytes.
 abbrev pub EndsRise : Type 0
 EndsRise =
     (d : Engine) (input : Input) (ms : List Match) → input.end ≤ length input.haystack → AreSpans d input ms
@@ -50,6 +56,11 @@ abbrev pub FoundEndsRise : Type 0
 FoundEndsRise =
     (f r : Engine) (input : Input) (ms : List Match) → input.end ≤ length input.haystack → AreFound f r input ms
     → Rise input.end None ms × (length ms ≤ suc (input.end - input.start))
+
+-- By paths, and over any two DFAs.
+pub record AllEndsRise : Type 0 where
+  pub spans : EndsRise
+  pub found : FoundEndsRise
 
 -- Where the input is not earliest or nothing is skipped, there is a match exactly if a search finds one.
 abbrev pub MatchIffFound : Type 0

@@ -1,5 +1,6 @@
 -- A haystack, its places, and the tapes of its spans. A place is an offset between bytes, from 0 to the length.
-use Rattle.std.specs.Prelude.{ℕ, zero, suc, ◌≡◌, ◌<◌, ◌≤◌, ◌+◌, ◌-◌, Bool, false, List, ◌⊎◌, take, drop, reverse, Option, Some, None}
+use Rattle.std.specs.Prelude.{ℕ, zero, suc, ◌≡◌, ◌<◌, ◌≤◌, ◌+◌, ◌-◌, Bool, false, List, ◌⊎◌, take, drop, reverse}
+use Rattle.std.specs.Prelude.{Option, Some, None}
 use Rattle.automata_base.specs.Lists.{nth}
 use Rattle.automata_base.specs.Looks.{within}
 use Rattle.automata_base.specs.Paths.{Tape, prev, next}

@@ -1,6 +1,6 @@
 //! The laws that searches stand on. Each function does nothing: its contract is the law.
 ghost use Rattle.automata_base.specs.LateIsRight.{SearchesAreRight, WalksAreRight, NearestEndsAreRight, EndsAreRight, PairsAreRight};
-ghost use Rattle.automata_base.specs.StartIsRight.{StartsAreRight, SpansAreFound, SpansAreOne, AnswersAreOne, IterationsAreRight, IterationsAreOne, EndsRise, FoundEndsRise, MatchIffFound, BackMeetsNone};
+ghost use Rattle.automata_base.specs.StartIsRight.{StartsAreRight, SpansAreFound, AreOne, IterationsAreRight, AllEndsRise, MatchIffFound, BackMeetsNone};
 ghost use Rattle.automata_base.specs.StepLaws.{ClassesStepAlike, ClassesQuitAlike, StartsAreAlike, DeadStaysDead, PassesSelect, PassesFindNearest, PassesFindFarthest};
 ghost use Rattle.automata_base.specs.StepLaws.{PowersetStartsAreRight, SuccessorsAreRight};
 ghost use Rattle.automata_base.specs.Told.{ToldEndsAreRight, ToldIsOne, ToldIsRight};
@@ -23,12 +23,9 @@ pub fn late_is_right()
 pub fn start_is_right()
     ensures starts { StartsAreRight }
     ensures found { SpansAreFound }
-    ensures one_span { SpansAreOne }
-    ensures one_answer { AnswersAreOne }
+    ensures one { AreOne }
     ensures iterations { IterationsAreRight }
-    ensures one_list { IterationsAreOne }
-    ensures rise { EndsRise }
-    ensures found_rise { FoundEndsRise }
+    ensures rise { AllEndsRise }
     ensures matches { MatchIffFound }
     ensures quits { BackMeetsNone }
 {}

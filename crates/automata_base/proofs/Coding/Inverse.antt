@@ -6,11 +6,11 @@ use Rattle.std.proofs.lemmas.Nat.{from_le_bytes-to_le_bytes_4}
 use Rattle.std.proofs.lemmas.Map.Steps.{length-le_from_distinct_below}
 use Rattle.std.proofs.lemmas.List.{drop_at}
 use Rattle.automata_base.specs.Powerset.{Powerset, IsPowerset, IsId, cost}
-use Rattle.automata_base.specs.Code.{flags, has_any, is_listed, four_bytes, patterns_code, ids_code, code, is_set, number_at, numbers_at, numbers, ids_of, patterns_of, ids_bytes, decoded, IsCode}
+use Rattle.automata_base.specs.Code.{flag_byte, has_any, is_listed, four_bytes, patterns_code, ids_code, code, is_set, number_at, numbers_at, numbers, ids_of, patterns_of, ids_bytes, decoded, IsCode}
 use Rattle.automata_base.proofs.Coding.Groups.{ids_of-ids_code, numbers_at-four_bytes, length-four_bytes, length-ids_code}
 
 -- the four bits of the first byte
-pub flag_bits : (a b c d : Bool) (rest : List ℕ) → (is_set 1 (flags a b c d ∷ rest) ≡ a) × (is_set 2 (flags a b c d ∷ rest) ≡ b) × (is_set 4 (flags a b c d ∷ rest) ≡ c) × (is_set 8 (flags a b c d ∷ rest) ≡ d)
+pub flag_bits : (a b c d : Bool) (rest : List ℕ) → (is_set 1 (flag_byte a b c d ∷ rest) ≡ a) × (is_set 2 (flag_byte a b c d ∷ rest) ≡ b) × (is_set 4 (flag_byte a b c d ∷ rest) ≡ c) × (is_set 8 (flag_byte a b c d ∷ rest) ≡ d)
 flag_bits true true true true rest = (refl, refl, refl, refl)
 flag_bits true true true false rest = (refl, refl, refl, refl)
 flag_bits true true false true rest = (refl, refl, refl, refl)

@@ -2,7 +2,7 @@
 use Rattle.std.proofs.Common.{ℕ, zero, suc, ◌≡◌, Bool, true, false, not, ◌&&◌, ◌||◌, eqb, if◌then◌else◌, List, [], ◌∷◌, length, Option, Some, None, refl, sym, ap, ◌∙◌, subst}
 use Rattle.std.proofs.lemmas.Bool.{eqb-true}
 use Rattle.automata_base.specs.declared.util.search.Anchored.{Anchored}
-use Rattle.automata_base.specs.Alike.{IsAlike, behind_of}
+use Rattle.automata_base.specs.Alike.{behind_of}
 use Rattle.automata_base.specs.Computed.{first_visits, closure_of, once_past, known_looks, make, arrive, any_look, decide}
 use Rattle.automata_base.specs.Cuts.{MatchKind, All, LeftmostFirst, cut_for, targets}
 use Rattle.automata_base.specs.Lists.{pick}
@@ -16,6 +16,7 @@ use Rattle.automata_base.specs.Steps.{start_or_dead, start_state_of, successor, 
 use Rattle.automata_base.specs.Truths.{truth_of, all_looks}
 use Rattle.automata_base.proofs.Determinizing.AlikeUnits.{SeesAlike, arrive_alike, decide_alike}
 use Rattle.automata_base.proofs.Paths.LookSets.{truth_of_none}
+use Rattle.automata_base.proofs.Determinizing.AlikeBytes.{IsAlike}
 
 sees_bytes : (a : Automaton) (u v : ℕ) → IsAlike a u v → SeesAlike (nfa_of a) (Some u) (Some v)
 sees_bytes a u v s = record {

@@ -5,7 +5,6 @@ use Rattle.std.proofs.lemmas.Grind.{common_steps}
 use Rattle.automata_base.specs.declared.nfa.thompson.State.{State}
 use Rattle.automata_base.specs.declared.nfa.thompson.State.TheVariants as is
 use Rattle.automata_base.specs.declared.nfa.thompson.Transition.{Transition}
-use Rattle.automata_base.specs.Alike.{is_line_look, IsAlike}
 use Rattle.automata_base.specs.Classes.{is_quit, bounds, transitions_bound, targets_bound, quits_bound, look_bounds, state_bounds, states_bound, is_boundary, boundary_count, class_of}
 use Rattle.automata_base.specs.Looks.{differ}
 use Rattle.automata_base.specs.Computed.{any_node, looks_at}
@@ -19,6 +18,7 @@ use Rattle.automata_base.specs.Powerset.{Powerset}
 use Rattle.automata_base.specs.Steps.{successor, NeedsOwnLooks}
 use Rattle.automata_base.proofs.Determinizing.Alike.{alike_step}
 use Rattle.automata_base.proofs.Values.Boundaries.{count_none, count_grows}
+use Rattle.automata_base.proofs.Determinizing.AlikeBytes.{is_line_look, IsAlike}
 
 count_more : (f : ℕ → Bool) (n : ℕ) → boundary_count f (suc n) ≡ boundary_count f n + cond (f (suc n)) 1 0
 unfolding boundary_count

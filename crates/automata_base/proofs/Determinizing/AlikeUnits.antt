@@ -1,6 +1,5 @@
 -- Units in which an NFA's looks see the same make the same of a list of states.
 use Rattle.std.proofs.Common.{ℕ, zero, suc, ◌≡◌, Bool, true, false, not, ◌&&◌, ◌||◌, cond, eqb, List, [], ◌∷◌, ◌++◌, length, Option, refl, ap, ap₂, ◌∙◌}
-use Rattle.automata_base.specs.Alike.{is_line_look}
 use Rattle.automata_base.specs.Computed.{is_in, visits_with, first_visits, closure_of, any_node, any_state, always, known_looks, is_full, arrive, any_look, decide}
 use Rattle.automata_base.specs.Lists.{pick}
 use Rattle.automata_base.specs.Looks.{Look, Start, End, StartLF, EndLF, StartCRLF, EndCRLF, WordAscii, WordAsciiNegate, WordUnicode, WordUnicodeNegate, WordStartAscii, WordEndAscii, WordStartUnicode, WordEndUnicode, WordStartHalfAscii, WordEndHalfAscii, WordStartHalfUnicode, WordEndHalfUnicode, is_absent, is_byte, is_word, differ, first_half, second_half, look_index}
@@ -11,6 +10,7 @@ use Rattle.automata_base.specs.Truths.{truth_of, set_of, all_looks}
 use Rattle.automata_base.specs.Visits.{children, children_at}
 use Rattle.automata_base.proofs.Paths.Machines.{any_node_true, any_node_from, code_one}
 use Rattle.automata_base.proofs.Paths.Unique.{powerset_path}
+use Rattle.automata_base.proofs.Determinizing.AlikeBytes.{is_line_look}
 
 -- Two truths that agree on the NFA's looks close alike.
 same_children :

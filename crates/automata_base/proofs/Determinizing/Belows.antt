@@ -1,8 +1,7 @@
 -- Tests of lists of numbers, and what they say of each.
 use Rattle.std.proofs.Common.{ℕ, ◌≡◌, ◌<◌, ◌&&◌, true, List, [], ◌∷◌, inl, inr, refl, ap, ◌∙◌}
 use Rattle.std.proofs.lemmas.Bool.{lt-ltb}
-use Rattle.automata_base.specs.Checks.{all_below}
-use Rattle.automata_base.specs.Lists.{In}
+use Rattle.automata_base.specs.Lists.{all_below, In}
 
 pub all_below_from : (n : ℕ) (xs : List ℕ) → ((s : ℕ) → In s xs → s < n) → all_below n xs ≡ true
 all_below_from n [] h = refl

@@ -7,9 +7,9 @@ use Rattle.std.specs.Prelude.{sum_by}
 use Rattle.std.proofs.lemmas.Bool.{ltb-true}
 use Rattle.automata_base.specs.Looks.{Look}
 use Rattle.automata_base.specs.Nfa.{node_or_fail, accepts_at}
-use Rattle.automata_base.specs.Lists.{nth}
+use Rattle.automata_base.specs.Lists.{nth, all_below}
 use Rattle.automata_base.specs.Computed.{looks_at, any_node}
-use Rattle.automata_base.specs.Checks.{all_below, node_below, nodes_below, ranges_below}
+use Rattle.automata_base.proofs.Paths.Checks.{node_below, nodes_below, ranges_below}
 use Rattle.automata_base.specs.declared.nfa.thompson.State.{State}
 use Rattle.automata_base.specs.declared.nfa.thompson.State.TheVariants.{ByteRange, Sparse, Dense, Look as LookState, Union, BinaryUnion, Capture, Fail, Match}
 use Rattle.automata_base.specs.declared.nfa.thompson.Transition.{Transition}

@@ -73,11 +73,11 @@ same_pair : {a b : Pair} → ◌≡◌ {A = Option Pair} (Some a) (Some b) → a
 same_pair e = cc
 
 -- what the patterns of a state tell at a place
-record IsAt (patterns : List ℕ) (i : ℕ) (pair : Pair) : Type 0 where
+record IsToldAt (patterns : List ℕ) (i : ℕ) (pair : Pair) : Type 0 where
   place : pair.place ≡ i
   pattern : In pair.pattern patterns
 
-pair_told : (patterns : List ℕ) (i : ℕ) (o : Option Pair) (pair : Pair) → pair_at patterns i o ≡ Some pair → (o ≡ Some pair) ⊎ IsAt patterns i pair
+pair_told : (patterns : List ℕ) (i : ℕ) (o : Option Pair) (pair : Pair) → pair_at patterns i o ≡ Some pair → (o ≡ Some pair) ⊎ IsToldAt patterns i pair
 pair_told [] i o pair e = inl e
 pair_told (p ∷ ps) i o pair e =
     let at : Pair = record { pattern = p; place = i } in
@@ -96,14 +96,14 @@ module _ (kind : MatchKind) (a : Automaton) (mode : Anchored) (t : Tape) (pair :
   below_more : (k : ℕ) → ToldBelow k → ToldBelow (suc k)
   below_more k b = (omega (arith, b.0), b.1)
 
-  here : (k : ℕ) → IsAt (told_at a kind mode t k) k pair → ToldBelow (suc k)
+  here : (k : ℕ) → IsToldAt (told_at a kind mode t k) k pair → ToldBelow (suc k)
   here k s = (omega (arith, s.place), subst (λ i. In pair.pattern (told_at a kind mode t i)) (sym s.place) s.pattern)
 
   last_below : (k : ℕ) → last_told a kind mode t k ≡ Some pair → ToldBelow k
   unfolding last_told
   last_below zero e = absurd (no_pair e)
   last_below (suc k) e = go (λ before. last_below k before) (pair_told (told_at a kind mode t k) k (last_told a kind mode t k) pair e) where
-    go : (last_told a kind mode t k ≡ Some pair → ToldBelow k) → (last_told a kind mode t k ≡ Some pair) ⊎ IsAt (told_at a kind mode t k) k pair → ToldBelow (suc k)
+    go : (last_told a kind mode t k ≡ Some pair → ToldBelow k) → (last_told a kind mode t k ≡ Some pair) ⊎ IsToldAt (told_at a kind mode t k) k pair → ToldBelow (suc k)
     go sooner (inl before) = below_more k (sooner before)
     go sooner (inr s) = here k s
 
@@ -111,7 +111,7 @@ module _ (kind : MatchKind) (a : Automaton) (mode : Anchored) (t : Tape) (pair :
   unfolding first_told
   first_below zero e = absurd (no_pair e)
   first_below (suc k) e = go (λ before. first_below k before) (earlier_told (first_told a kind mode t k) (pair_at (told_at a kind mode t k) k None) pair e) where
-    next : (◌≡◌ {A = Option Pair} None (Some pair)) ⊎ IsAt (told_at a kind mode t k) k pair → ToldBelow (suc k)
+    next : (◌≡◌ {A = Option Pair} None (Some pair)) ⊎ IsToldAt (told_at a kind mode t k) k pair → ToldBelow (suc k)
     next (inl n) = absurd (no_pair n)
     next (inr s) = here k s
 

@@ -2,7 +2,7 @@
 use Rattle.std.proofs.Common.{ℕ, zero, suc, ◌≡◌, Bool, true, false, cond, List, [], ◌∷◌, ◌↔◌, Option, Some, None, inl, inr, refl, sym, ap, ◌∙◌, subst}
 use Rattle.automata_base.specs.Lists.{In, IsListOf, pick, From}
 use Rattle.automata_base.specs.Looks.{Look, holds}
-use Rattle.automata_base.specs.Nfa.{Nfa, Node, Split, Assert, Read, Accept, Truth, node, Includes, hop, hop_at, keep, ends, stays_at, ends_at}
+use Rattle.automata_base.specs.Nfa.{Nfa, Node, Split, Assert, Read, Accept, Truth, node, hop, hop_at, keep, ends, stays_at, ends_at}
 use Rattle.automata_base.specs.Paths.{IsPathAt, IsLookAcyclic, IsClosure}
 use Rattle.automata_base.specs.Passes.{IsUnit, Occurs, IsKnownLook, IsNeeded, IsMake, true_looks, IsNews, IsDecided}
 use Rattle.automata_base.specs.Powerset.{Powerset}
@@ -12,6 +12,7 @@ use Rattle.automata_base.proofs.Paths.Sift.{Sifted, sift, same, picked_in}
 use Rattle.automata_base.proofs.Paths.Late.{late, Ending, keep_sieve, ends_sieve, kept_at, ends_stay, keep_true}
 use Rattle.automata_base.proofs.Paths.Truths.{truths}
 use Rattle.automata_base.specs.Truths.{truth_of}
+use Rattle.automata_base.proofs.Paths.Included.{Includes}
 
 -- The looks that `A` has true at a state are true in `B`.
 abbrev pub Agrees : Nfa → Truth → Truth → ℕ → Type 0

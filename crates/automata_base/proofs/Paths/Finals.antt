@@ -4,12 +4,13 @@ use Rattle.automata_base.specs.Lists.{IsSet}
 use Rattle.automata_base.specs.Nfa.{Nfa}
 use Rattle.automata_base.specs.Paths.{Tape, IsLookAcyclic}
 use Rattle.automata_base.specs.Cuts.{MatchKind, All}
-use Rattle.automata_base.specs.Selections.{Accepts, Pair, IsNearest, IsFarthest, Pairs, Tells, PassSelects, Selects, IsOverlappingOn}
+use Rattle.automata_base.specs.Selections.{Accepts, Pair, IsNearest, IsFarthest, Pairs, Tells, Selects, IsOverlappingOn}
 use Rattle.automata_base.specs.Computed.{told_of, pair_at, last_of, earlier_or, first_of, search_of, pairs_upto, IsInRange}
 use Rattle.automata_base.specs.Passes.{IsTape}
 use Rattle.automata_base.proofs.Paths.Searches.{sel_right, walk_right}
 use Rattle.automata_base.proofs.Paths.Sets.{nearest_right, farthest_right, pairs_right}
 use Rattle.automata_base.proofs.Paths.Machines.{told_right}
+use Rattle.automata_base.proofs.Paths.Selecting.{PassSelects}
 
 -- The last place below `k` where something is told.
 abbrev pub IsLast : (ℕ → List ℕ → Type 0) → ℕ → Option Pair → Type 0

@@ -5,7 +5,7 @@ use Rattle.automata_base.specs.Lists.{nth}
 use Rattle.automata_base.specs.Nfa.{Nfa, hop}
 use Rattle.automata_base.specs.Paths.{Tape, truth, IsPathFrom, Moves}
 use Rattle.automata_base.specs.Computed.{is_in}
-use Rattle.automata_base.specs.Follow.{Stand, taken, follow}
+use Rattle.automata_base.proofs.Paths.Follow.{Stand, taken, follow}
 use Rattle.automata_base.proofs.Paths.Orders.{none_some}
 use Rattle.automata_base.proofs.Paths.Places.{hop_takes}
 use Rattle.automata_base.proofs.Paths.Fuels.{is_in_true, is_in_false}

@@ -2,12 +2,13 @@
 use Rattle.std.proofs.Common.{ℕ, ◌≡◌, Bool, true, false, cond, List, [], ◌∷◌, ◌++◌, ◌⊎◌, Some, None, inl, inr, refl, sym, ap, ◌∙◌, subst, true≢false}
 use Rattle.automata_base.specs.Order.{Begins}
 use Rattle.automata_base.specs.Lists.{nth, IsListOf, pick, From}
-use Rattle.automata_base.specs.Nfa.{Nfa, Node, Split, Assert, Read, Accept, Truth, node, Includes, hop, hop_at, keep, ends, stays_at, ends_at}
+use Rattle.automata_base.specs.Nfa.{Nfa, Node, Split, Assert, Read, Accept, Truth, node, hop, hop_at, keep, ends, stays_at, ends_at}
 use Rattle.automata_base.specs.Paths.{IsPathAt, all_true, HasEpsilonPath, LeadsOn, IsLookAcyclic, IsClosure}
 use Rattle.automata_base.proofs.Paths.Orders.{cons_head, cons_tail, nil_cons, some_inj, none_some}
 use Rattle.automata_base.proofs.Paths.Walks.{walk_more, walk_forget, walk_join, run_join, fork, fork_at}
 use Rattle.automata_base.proofs.Paths.Compose.{Composes, Divides, compose}
 use Rattle.automata_base.proofs.Paths.Sift.{Sifted, IsSieve, sift, same}
+use Rattle.automata_base.proofs.Paths.Included.{Includes}
 
 sieve_by : (b : Bool) (q r : ℕ) → cond b (Some q) None ≡ Some r → q ≡ r
 sieve_by true q r e = some_inj e

@@ -1,6 +1,12 @@
 use Rattle.std.proofs.lemmas.Bool.{cases_lt}
 use Rattle.std.proofs.Common.{Option, Some, None, ◌≤◌, ℕ, ◌≡◌, ◌<◌, List, [], ◌∷◌, ◌++◌, ◌⊎◌, inl, inr, refl, sym, ap₂, ◌∙◌, subst, ⊎_elim, eq-or-lt_of_le, lt_trans, lt_irrefl}
-use Rattle.automata_base.specs.Order.{Before, Upto, Under, Begins}
+use Rattle.automata_base.specs.Order.{Before, Upto, Begins}
+
+-- Less by a difference, so whatever follows.
+abbrev pub Under : List ℕ → List ℕ → Type 0
+Under [] ys = ⊥
+Under (x ∷ xs) [] = ⊥
+Under (x ∷ xs) (y ∷ ys) = (x < y) ⊎ ((x ≡ y) × Under xs ys)
 
 pub under_append : (xs ys a b : List ℕ) → Under xs ys → Before (xs ++ a) (ys ++ b)
 under_append [] ys a b h = elim h [ ]

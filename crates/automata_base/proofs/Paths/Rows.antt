@@ -6,7 +6,7 @@ use Rattle.automata_base.specs.Paths.{Tape}
 use Rattle.automata_base.specs.Cuts.{MatchKind, All, LeftmostFirst}
 use Rattle.automata_base.specs.Selections.{Pair, Selects, IsOverlappingOn}
 use Rattle.automata_base.specs.Computed.{search_of, pairs_upto}
-use Rattle.automata_base.specs.Checks.{is_in_range, is_look_cycle_free, tape_fits}
+use Rattle.automata_base.proofs.Paths.Checks.{is_in_range, is_look_cycle_free, tape_fits}
 use Rattle.automata_base.proofs.Paths.Samples.{ab, aa, abc, bound, crlf, date, whole, answer}
 use Rattle.automata_base.proofs.Paths.Checked.{in_range, look_cycle_free, is_tape}
 use Rattle.automata_base.proofs.Paths.Finals.{search_right, walked_right}

@@ -6,10 +6,11 @@ use Rattle.automata_base.specs.Lists.{In, nth}
 use Rattle.automata_base.specs.Nfa.{Nfa}
 use Rattle.automata_base.specs.Paths.{Tape, IsPathFrom, IsLookAcyclic}
 use Rattle.automata_base.specs.Cuts.{MatchKind, All, LeftmostFirst}
-use Rattle.automata_base.specs.Selections.{Accepts, IsFirstAt, ArePatternsAt, Tells, Pair, Pairs, IsOverlappingOn, PassTells, Selects, PassSelects}
+use Rattle.automata_base.specs.Selections.{Accepts, IsFirstAt, ArePatternsAt, Tells, Pair, Pairs, IsOverlappingOn, Selects}
 use Rattle.automata_base.proofs.Paths.Orders.{cons_head, nil_cons, none_some, upto_before}
 use Rattle.automata_base.specs.Passes.{IsTape}
 use Rattle.automata_base.proofs.Paths.Invariants.{pass_tells}
+use Rattle.automata_base.proofs.Paths.Selecting.{PassTells, PassSelects}
 
 pub pairs_map :
     (At At' : ℕ → List ℕ → Type 0) (k : ℕ) (pairs : List Pair)

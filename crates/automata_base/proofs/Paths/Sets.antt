@@ -2,12 +2,12 @@
 use Rattle.std.proofs.Common.{ℕ, zero, suc, ◌≡◌, ◌<◌, ◌≤◌, true, false, List, [], ◌∷◌, ◌++◌, ◌⊎◌, ◌↔◌, length, Option, Some, None, inl, inr, refl, sym, ap, ◌∙◌, subst, arith, ⊎_elim, eq-or-lt_of_le, le_of_suc-le-suc}
 use Rattle.automata_base.specs.Lists.{In, IsSet, nth, IsListOf, cons_some, pick, From}
 use Rattle.automata_base.specs.Looks.{Look}
-use Rattle.automata_base.specs.Nfa.{Nfa, Truth, Includes, node, hop, takes, accepts, keep, ends, stays_at, ends_at}
+use Rattle.automata_base.specs.Nfa.{Nfa, Truth, node, hop, takes, accepts, keep, ends, stays_at, ends_at}
 use Rattle.automata_base.specs.Paths.{IsPathAt, Tape, IsPath, truth, prev, next, IsClosure}
 use Rattle.automata_base.specs.Cuts.{MatchKind, All, LeftmostFirst, cut, cut_for, IsOnce, targets}
 use Rattle.automata_base.specs.Passes.{IsUnit, IsTape, IsKnownLook, IsMake, IsClosureOf, IsDecided, IsSuccessor, IsPass}
 use Rattle.automata_base.specs.Powerset.{Powerset}
-use Rattle.automata_base.specs.Selections.{Accepts, IsNearest, IsFarthest, Tells, Pair, PassSelects}
+use Rattle.automata_base.specs.Selections.{Accepts, IsNearest, IsFarthest, Tells, Pair}
 use Rattle.automata_base.proofs.Paths.Orders.{some_inj, none_some, nil_cons, cons_head}
 use Rattle.automata_base.proofs.Paths.Walks.{walk_more, walk_forget, in_either}
 use Rattle.automata_base.proofs.Paths.Places.{path_extend, last_place, walk_path, path_walk, accepts_ends}
@@ -20,6 +20,8 @@ use Rattle.automata_base.proofs.Paths.Readings.{sorted_has, targets_all, targets
 use Rattle.automata_base.proofs.Paths.Decisions.{decides_known, news_closure, truth_between}
 use Rattle.automata_base.proofs.Paths.Invariants.{next_byte}
 use Rattle.automata_base.proofs.Paths.Searches.{accepting_inside}
+use Rattle.automata_base.proofs.Paths.Included.{Includes}
+use Rattle.automata_base.proofs.Paths.Selecting.{PassSelects}
 
 abbrev pub HasWalk : Nfa → Truth → ℕ → ℕ → Type 0
 HasWalk n A q z = (path : List ℕ) × IsPathAt n A [] q path z

@@ -4,9 +4,9 @@ use Rattle.automata_base.specs.Order.{Before}
 use Rattle.automata_base.specs.Nfa.{accepts}
 use Rattle.automata_base.specs.Paths.{Tape}
 use Rattle.automata_base.specs.Selections.{Accepts, IsAllAt}
-use Rattle.automata_base.specs.Checks.{is_look_cycle_free}
+use Rattle.automata_base.proofs.Paths.Checks.{is_look_cycle_free}
 use Rattle.automata_base.proofs.Paths.Samples.{look_cycle}
-use Rattle.automata_base.specs.Follow.{follow}
+use Rattle.automata_base.proofs.Paths.Follow.{follow}
 use Rattle.automata_base.proofs.Paths.Orders.{none_some}
 use Rattle.automata_base.proofs.Paths.Follows.{follow_path, path_follow, stand, stand_state, nowhere}
 

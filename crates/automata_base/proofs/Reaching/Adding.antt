@@ -5,9 +5,8 @@ use Rattle.std.proofs.lemmas.Bool.{ltb-true}
 use Rattle.std.proofs.lemmas.List.{drop_all, take-append-le}
 use Rattle.automata_base.specs.declared.nfa.thompson.State.{State}
 use Rattle.automata_base.specs.declared.nfa.thompson.Transition.{Transition}
-use Rattle.automata_base.specs.Checks.{all_below}
+use Rattle.automata_base.specs.Lists.{all_below, In}
 use Rattle.automata_base.specs.Computed.{is_in}
-use Rattle.automata_base.specs.Lists.{In}
 use Rattle.automata_base.specs.Nodes.{dense_from}
 use Rattle.automata_base.specs.Once.{once_from}
 use Rattle.automata_base.specs.Reach.{nexts}

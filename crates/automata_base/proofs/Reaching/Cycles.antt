@@ -5,7 +5,7 @@ use Rattle.std.proofs.Math.Nat.{eq-or-lt_of_le}
 use Rattle.std.proofs.lemmas.Bool.{ltb-true}
 use Rattle.automata_base.specs.declared.nfa.thompson.State.{State}
 use Rattle.automata_base.specs.declared.nfa.thompson.reach.Edges.TheVariants.{Epsilon}
-use Rattle.automata_base.specs.Checks.{node_below}
+use Rattle.automata_base.proofs.Paths.Checks.{node_below}
 use Rattle.automata_base.specs.Lists.{In}
 use Rattle.automata_base.specs.Looks.{Look}
 use Rattle.automata_base.specs.Nfa.{Node, Split, Assert, Read, Accept}

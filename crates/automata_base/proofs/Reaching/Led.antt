@@ -13,7 +13,7 @@ use Rattle.automata_base.specs.Looks.{Look, within}
 use Rattle.automata_base.specs.Nfa.{Node, Range, Split, Assert, Read, Accept, node, hop, hop_at, takes_in, takes_at}
 use Rattle.automata_base.specs.Nodes.{Automaton, nfa_of, node_of, ranges_of, dense_from}
 use Rattle.automata_base.specs.Paths.{all_true, Run, HasEpsilonPath, LeadsOn, IsLookAcyclic}
-use Rattle.automata_base.specs.Reach.{node_in, nexts, byte_targets, targets_of, look_target, Way, IsReached, LeadsBack, AreLooksAcyclic, ReachesMatch, SkipsFrom}
+use Rattle.automata_base.specs.Reach.{node_in, nexts, byte_targets, targets_of, look_target, Route, IsReached, LeadsBack, AreLooksAcyclic, ReachesMatch, SkipsFrom}
 use Rattle.automata_base.specs.Refusals.{ordered_from, state_ordered, states_ordered}
 use Rattle.automata_base.specs.Visits.{children}
 use Rattle.automata_base.proofs.Determinizing.Distinct.{In-left, In-right, In-either}
@@ -39,14 +39,14 @@ module _ (a : Automaton) where
   hop_to : (q e r : ℕ) → hop (nfa_of a) all_true q e ≡ Some r → In r (children (nfa_of a) all_true q)
   hop_to q e r h = nth_in (children (nfa_of a) all_true q) e r (sym (hop_children (nfa_of a) all_true q e) ∙ h)
 
-  run_from : (q : ℕ) (way : List ℕ) (z : ℕ) → Way (targets_of Epsilon a.states) q way z → HasEpsilonPath (nfa_of a) q z
+  run_from : (q : ℕ) (way : List ℕ) (z : ℕ) → Route (targets_of Epsilon a.states) q way z → HasEpsilonPath (nfa_of a) q z
   run_from q [] z w = ([], w)
   run_from q (r ∷ way) z w =
       let e = hop_from q r w.0 in
       let h = run_from r way z w.1 in
       (e.0 ∷ h.0, (r, e.1, h.1))
 
-  run_to : (q : ℕ) (path : List ℕ) (z : ℕ) → Run (nfa_of a) q path z → (way : List ℕ) × Way (targets_of Epsilon a.states) q way z
+  run_to : (q : ℕ) (path : List ℕ) (z : ℕ) → Run (nfa_of a) q path z → (way : List ℕ) × Route (targets_of Epsilon a.states) q way z
   run_to q [] z w = ([], w)
   run_to q (e ∷ path) z w = let h = run_to w.0 path z w.2 in (w.0 ∷ h.0, (hop_to q e w.0 w.1, h.1))
 
@@ -185,11 +185,11 @@ module _ (a : Automaton) (ordered : states_ordered a.states ≡ true) where
   edge_to q r (inr h) =
       In-right r (children (nfa_of a) all_true q) (byte_targets (node_in a.states q)) (takes_target (node_in a.states q) h.0 r h.1)
 
-  road_from : (q : ℕ) (way : List ℕ) (z : ℕ) → Way (targets_of Every a.states) q way z → Road (nfa_of a) q way z
+  road_from : (q : ℕ) (way : List ℕ) (z : ℕ) → Route (targets_of Every a.states) q way z → Road (nfa_of a) q way z
   road_from q [] z w = w
   road_from q (r ∷ way) z w = (edge_from q r w.0, road_from r way z w.1)
 
-  road_to : (q : ℕ) (way : List ℕ) (z : ℕ) → Road (nfa_of a) q way z → Way (targets_of Every a.states) q way z
+  road_to : (q : ℕ) (way : List ℕ) (z : ℕ) → Road (nfa_of a) q way z → Route (targets_of Every a.states) q way z
   road_to q [] z w = w
   road_to q (r ∷ way) z w = (edge_to q r w.0, road_to r way z w.1)
 

@@ -6,7 +6,7 @@ use Rattle.std.proofs.lemmas.Option.{slice_get-get_or}
 use Rattle.automata_base.specs.declared.nfa.thompson.State.{State}
 use Rattle.automata_base.specs.declared.nfa.thompson.State.TheVariants.{ByteRange, Sparse, Dense, Look, Union, BinaryUnion, Capture, Fail, Match}
 use Rattle.automata_base.specs.declared.nfa.thompson.reach.Edges.TheVariants.{Every}
-use Rattle.automata_base.specs.Checks.{node_below}
+use Rattle.automata_base.proofs.Paths.Checks.{node_below}
 use Rattle.automata_base.specs.Nfa.{Node, Split, Assert, Read, Accept}
 use Rattle.automata_base.specs.Nodes.{node_of}
 use Rattle.automata_base.specs.Reach.{node_in, second_of, second_at, is_any_byte_of, IsReached, SkipsFrom}

@@ -10,7 +10,7 @@ use Rattle.automata_base.specs.Nodes.{extra_of, stack_room}
 use Rattle.automata_base.specs.Refusals.{alternates_of, is_small, is_narrow, starts_below, states_below, states_ordered, matches_below, unless, door_refusal}
 use Rattle.automata_base.proofs.Determinizing.Tests_of_lists.{extra_is}
 use Rattle.automata_base.proofs.Paths.Checked.{both}
-use Rattle.automata_base.specs.Checks.{all_below}
+use Rattle.automata_base.specs.Lists.{all_below}
 
 abbrev pub chain : (small narrow starts targets ranges patterns : Bool) → Option NfaError
 chain small narrow starts targets ranges patterns =

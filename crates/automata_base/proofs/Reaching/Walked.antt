@@ -3,12 +3,12 @@ use Rattle.std.proofs.Common.{ℕ, ◌≡◌, ◌<◌, ◌≤◌, ◌+◌, ◌�
 use Rattle.std.proofs.lemmas.List.{take_more, take_all}
 use Rattle.automata_base.specs.Lists.{In}
 use Rattle.automata_base.specs.Once.{once_from}
-use Rattle.automata_base.specs.Reach.{Way, IsReachedBy}
+use Rattle.automata_base.specs.Reach.{Route, IsReachedBy}
 use Rattle.automata_base.proofs.Determinizing.Distinct.{In-either, In-get_or}
 use Rattle.automata_base.proofs.Reaching.Adding.{once_keeps, once_has, once_only, once_take}
 
 way_more :
-    (G : ℕ → List ℕ) (q : ℕ) (way : List ℕ) (z r : ℕ) → Way G q way z → In r (G z) → (way' : List ℕ) × Way G q way' r
+    (G : ℕ → List ℕ) (q : ℕ) (way : List ℕ) (z r : ℕ) → Route G q way z → In r (G z) → (way' : List ℕ) × Route G q way' r
 way_more G q [] z r w i = (r ∷ [], (subst (λ v. In r (G v)) (sym w) i, refl))
 way_more G q (s ∷ way) z r w i = let h = way_more G s way z r w.1 i in (s ∷ h.0, (w.0, h.1))
 
@@ -69,6 +69,6 @@ walk_ends G roots at items l w z = (w.sound z, λ h. along h.0 h.1 (w.has h.0 h.
     closed : (q r : ℕ) → In q items → In r (G q) → In r items
     closed q r i j = w.closed q r (subst (λ v. In q v) (sym (take_all at items l)) i) j
 
-    along : (q : ℕ) (way : List ℕ) → In q items → Way G q way z → In z items
+    along : (q : ℕ) (way : List ℕ) → In q items → Route G q way z → In z items
     along q [] i h = subst (λ v. In v items) h i
     along q (r ∷ way) i h = along r way (closed q r i h.0) h.1

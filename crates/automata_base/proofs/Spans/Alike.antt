@@ -2,12 +2,13 @@
 use Rattle.std.proofs.Common.{ℕ, suc, ◌≡◌, ◌<◌, ◌≤◌, ◌+◌, ◌-◌, true, List, [], ◌∷◌, length, inl, inr, sym, ap, ◌∙◌, subst, arith}
 use Rattle.automata_base.specs.Looks.{holds}
 use Rattle.automata_base.specs.Lists.{nth}
-use Rattle.automata_base.specs.Nfa.{Nfa, Includes}
+use Rattle.automata_base.specs.Nfa.{Nfa}
 use Rattle.automata_base.specs.Paths.{Tape, prev, next, truth, IsPathFrom}
 use Rattle.automata_base.proofs.Paths.Walks.{hop_more}
 use Rattle.automata_base.proofs.Paths.Places.{path_grows}
 use Rattle.automata_base.specs.Tapes.{forward_tape, reverse_tape, byte_before}
 use Rattle.automata_base.proofs.Spans.Bytes.{forward_next, forward_prev, forward_byte, reverse_next, reverse_prev, reverse_byte}
+use Rattle.automata_base.proofs.Paths.Included.{Includes}
 
 -- Place `i` of `t` and place `i'` of `t'` are one if `a + i ≡ b + i'`; up to place `m` of `t` the two show the same.
 abbrev pub AreAlike : Tape → Tape → (a b m : ℕ) → Type 0

@@ -8,7 +8,7 @@ use Rattle.automata_base.specs.Passes.{IsTape}
 use Rattle.automata_base.proofs.Paths.Finals.{search_right, walked_right}
 use Rattle.automata_base.specs.Tapes.{IsHaystack, Direction, Forward, Backward, tape_of, is_split}
 use Rattle.automata_base.specs.Engines.{Engine, Anchored, No, Yes, Pattern, first_state, IsSkipping}
-use Rattle.automata_base.specs.Answers.{Half, SelectsFrom, SelectsOver, later, offset_in, ComesTo, IsSplitAnswer, IsAnswer, IsInput, IsSound, with_offsets, without_split, IsOverlappingFrom, IsOverlapping}
+use Rattle.automata_base.specs.Answers.{Half, SelectsFrom, SelectsOver, later, offset_in, IsAnswer, IsInput, IsSound, with_offsets, without_split, IsOverlappingFrom, IsOverlapping}
 use Rattle.automata_base.specs.Input.{Input}
 use Rattle.automata_base.specs.Spans.{back, Outcome, Found, NotAPair, from, IsShort, IsTrySearch}
 use Rattle.automata_base.specs.Matches.{Match}
@@ -17,6 +17,7 @@ use Rattle.automata_base.proofs.Spans.Empties.{is_skipping, skipping_tests}
 use Rattle.automata_base.proofs.Spans.Total.{tape_units, later_input}
 use Rattle.automata_base.proofs.Spans.Answered.{haystack_later}
 use Rattle.automata_base.proofs.Spans.Starts.{yes_no, pattern_no, Answered, answered}
+use Rattle.automata_base.proofs.Spans.Tried.{ComesTo, IsSplitAnswer}
 
 abbrev pub sel_from_of : Engine → Bool → Tape → Option ℕ → Option Pair
 sel_from_of d earliest t None = None

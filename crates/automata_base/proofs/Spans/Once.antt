@@ -11,10 +11,11 @@ use Rattle.automata_base.specs.Matches.{Match}
 use Rattle.automata_base.proofs.Paths.Places.{path_end}
 use Rattle.automata_base.specs.Tapes.{Direction, Forward, tape_of, forward_tape}
 use Rattle.automata_base.specs.Engines.{Engine, Anchored, No, Yes, Pattern, first_state, IsSkipping}
-use Rattle.automata_base.specs.Answers.{Half, SelectsFrom, SelectsOver, later, ComesTo, IsSplitAnswer, IsAnswer}
+use Rattle.automata_base.specs.Answers.{Half, SelectsFrom, SelectsOver, later, IsAnswer}
 use Rattle.automata_base.specs.Input.{Input}
 use Rattle.automata_base.proofs.Spans.Answered.{answers_once}
 use Rattle.automata_base.proofs.Spans.Starts.{no_pair}
+use Rattle.automata_base.proofs.Spans.Tried.{ComesTo, IsSplitAnswer}
 
 upto_once : (xs ys : List ℕ) → Upto xs ys → Upto ys xs → xs ≡ ys
 upto_once xs ys (inl e) k = e

@@ -8,13 +8,14 @@ use Rattle.automata_base.proofs.Paths.Orders.{some_inj}
 use Rattle.automata_base.proofs.Paths.Places.{path_grows}
 use Rattle.automata_base.specs.Tapes.{IsHaystack, Forward, Backward, forward_tape, reverse_tape, is_split}
 use Rattle.automata_base.specs.Engines.{Engine, Anchored, No, Yes, Pattern, first_state, LoopsLazily, IsSkipping}
-use Rattle.automata_base.specs.Answers.{Half, SelectsFrom, later, ComesTo, IsSplitAnswer, IsAnswer}
+use Rattle.automata_base.specs.Answers.{Half, SelectsFrom, later, IsAnswer}
 use Rattle.automata_base.specs.Input.{Input}
 use Rattle.automata_base.specs.TruePairs.{Joins, IsTruePair, KeepsUtf8}
 use Rattle.automata_base.specs.Spans.{Chooses}
 use Rattle.automata_base.proofs.Spans.Chosen.{StartsAt, least_start, all_farthest}
 use Rattle.automata_base.proofs.Spans.Text.{unsplit}
 use Rattle.automata_base.proofs.Spans.Backs.{end_inside, forward_bytes, narrow, goes_back, comes_forth}
+use Rattle.automata_base.proofs.Spans.Tried.{ComesTo, IsSplitAnswer}
 
 pub no_pair : {x : Pair} → ◌≡◌ {A = Option Pair} (Some x) None → ⊥
 no_pair e = cc

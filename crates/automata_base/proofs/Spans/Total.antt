@@ -9,7 +9,7 @@ use Rattle.automata_base.specs.Computed.{search_of, IsInRange}
 use Rattle.automata_base.proofs.Paths.Finals.{search_right}
 use Rattle.automata_base.specs.Tapes.{IsHaystack, Direction, Forward, Backward, tape_of, between, byte_before, is_split}
 use Rattle.automata_base.specs.Engines.{Engine, No, first_state, IsSkipping}
-use Rattle.automata_base.specs.Answers.{Half, SelectsFrom, SelectsOver, later, offset_in, ComesTo, IsSplitAnswer, IsAnswer, IsInput, IsSound}
+use Rattle.automata_base.specs.Answers.{Half, SelectsFrom, SelectsOver, later, offset_in, IsAnswer, IsInput, IsSound}
 use Rattle.automata_base.specs.Input.{Input}
 use Rattle.automata_base.specs.TruePairs.{IsTruePair, KeepsUtf8}
 use Rattle.automata_base.specs.Spans.{IsSpan, IsShort, back, Outcome, Found, NotAPair, IsTrySearch}
@@ -20,6 +20,7 @@ use Rattle.automata_base.proofs.Spans.Starts.{mode_cases, Answered, answered}
 use Rattle.automata_base.proofs.Spans.Right.{span_right}
 use Rattle.automata_base.proofs.Spans.Empties.{skips_or_not}
 use Rattle.automata_base.proofs.Spans.Answered.{haystack_later}
+use Rattle.automata_base.proofs.Spans.Tried.{ComesTo, IsSplitAnswer}
 
 unit_of : (o : Option ℕ) → ((u : ℕ) → o ≡ Some u → u < 256) → IsUnit o
 unit_of None f = tt

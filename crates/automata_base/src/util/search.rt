@@ -355,7 +355,8 @@ impl<'h> Input<'h> {
         }
     }
 
-    /// Whether a search may stop at the first end that it comes to. By default it may not.
+    /// Whether a search may stop at the first end that it comes to. By default it may not. Where split places are
+    /// skipped, an earliest search doesn't tell whether there is a match: `Regex::is_match` does.
     pub fn earliest(self, yes: bool) -> Input<'h>
         ensures { result ≡ record self.entry { earliest = yes } }
     {

@@ -5,7 +5,7 @@ ghost use Rattle.automata_hybrid.specs.Table.{has_patterns};
 ghost use Rattle.automata_hybrid.specs.Ids.{offset_limit};
 
 use crate::id::LazyStateID;
-use automata_base::util::determinize::state::State;
+use automata_base::util::determinize::State;
 
 /// A row's state, and whether it was added as a start with its tag.
 #[derive(Drop)]

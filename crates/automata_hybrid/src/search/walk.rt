@@ -5,8 +5,7 @@ ghost use Rattle.automata_hybrid.specs.Walks.{At, Ended, Fresh, ended_walk, fres
 
 use crate::dfa::cache::Cache;
 use crate::id::LazyStateID;
-use automata_base::util::determinize::key::Key;
-use automata_base::util::determinize::state::State;
+use automata_base::util::determinize::{Key, State};
 use automata_base::util::primitives::PatternID;
 use automata_base::util::search::HalfMatch;
 use std::alloc::AllocError;

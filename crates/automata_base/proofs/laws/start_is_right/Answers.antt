@@ -12,23 +12,14 @@ returns-clause-starts c = λ f r input outcome pair keeps b s. span_right f r in
 pub returns-clause-found : goal.returns-clause-found
 returns-clause-found c = span_found
 
-pub returns-clause-one_span : goal.returns-clause-one_span
-returns-clause-one_span c = span_once
-
-pub returns-clause-one_answer : goal.returns-clause-one_answer
-returns-clause-one_answer c = answer_once
+pub returns-clause-one : goal.returns-clause-one
+returns-clause-one c = record { span = span_once; answer = answer_once; list = spans_once }
 
 pub returns-clause-iterations : goal.returns-clause-iterations
 returns-clause-iterations c = λ f r input ms pair keeps b s. spans_right f r input ms pair keeps b.0 b.1 s
 
-pub returns-clause-one_list : goal.returns-clause-one_list
-returns-clause-one_list c = spans_once
-
 pub returns-clause-rise : goal.returns-clause-rise
-returns-clause-rise c = spans_rise
-
-pub returns-clause-found_rise : goal.returns-clause-found_rise
-returns-clause-found_rise c = found_rise
+returns-clause-rise c = record { spans = spans_rise; found = found_rise }
 
 pub returns-clause-matches : goal.returns-clause-matches
 returns-clause-matches c = match_iff_find

@@ -1,5 +1,5 @@
 ghost use Rattle.std.specs.Prelude.{◌≡◌, ◌<◌, ◌≤◌, ◌-◌, ◌+◌, ltb, leb, ◌&&◌, ℕ, Some, length};
-ghost use Rattle.automata_base.specs.Checks.{all_below};
+ghost use Rattle.automata_base.specs.Lists.{all_below};
 ghost use Rattle.automata_base.specs.Computed.{any_node};
 ghost use Rattle.automata_base.specs.Looks.{look_index};
 ghost use Rattle.automata_base.specs.Nodes.{nodes_of, stack_room, extra_of};

@@ -1,6 +1,5 @@
 ghost use Rattle.std.specs.Prelude.{◌≡◌, ◌<◌, ◌≤◌, ◌^◌, ◌↔◌, ℕ, [], ◌∷◌, true, length, get_or, IfOk, IsTrue, Some, None};
-ghost use Rattle.automata_base.specs.Checks.{all_below};
-ghost use Rattle.automata_base.specs.Lists.{In};
+ghost use Rattle.automata_base.specs.Lists.{all_below, In};
 ghost use Rattle.automata_base.specs.Nodes.{node_of, ranges_of, dense_from};
 ghost use Rattle.automata_base.specs.Once.{once_from};
 ghost use Rattle.automata_base.specs.Paths.{all_true};

@@ -1,5 +1,5 @@
 // The NFA states of a state, read one by one from its bytes.
-ghost use Rattle.automata_base.specs.Checks.{all_below};
+ghost use Rattle.automata_base.specs.Lists.{all_below};
 ghost use Rattle.std.specs.Prelude.{◌≡◌, OnOk};
 ghost use Rattle.std.specs.Iterator.{YieldsFirst, item_count};
 

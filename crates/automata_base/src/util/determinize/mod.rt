@@ -5,16 +5,16 @@ ghost use Rattle.automata_base.specs.Starts.{IsOf};
 
 pub(crate) mod closure;
 pub(crate) mod construct;
-pub mod count;
+mod count;
 pub(crate) mod deciding;
-pub mod ids;
-pub mod key;
+mod ids;
+mod key;
 pub mod laws;
 pub(crate) mod lists;
 mod read;
-pub mod scratch;
+mod scratch;
 pub(crate) mod sparse_set;
-pub mod state;
+mod state;
 mod valid;
 mod write;
 

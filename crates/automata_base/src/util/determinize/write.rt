@@ -1,7 +1,7 @@
 // The bytes of a state, appended to a vector.
 ghost use Rattle.std.specs.Prelude.{◌≡◌, ◌++◌, ◌<◌, ◌^◌, length, OnOk, IsTrue};
 ghost use Rattle.std.specs.List.{flat_map};
-ghost use Rattle.automata_base.specs.Code.{four_bytes, varint, ids_code, code, difference, is_listed, patterns_code, flags, has_any};
+ghost use Rattle.automata_base.specs.Code.{four_bytes, varint, ids_code, code, difference, is_listed, patterns_code, flag_byte, has_any};
 
 use crate::util::primitives::{PatternID, StateID};
 use std::alloc::AllocError;
@@ -87,7 +87,7 @@ fn push_patterns(out: &mut Vec<u8>, patterns: &[PatternID]) -> Result<(), AllocE
 
 /// The first byte.
 fn flags_of(patterns: &[PatternID], word: bool, half: bool) -> u8
-    ensures { result ≡ flags (has_any patterns.now) (is_listed patterns.now) word half }
+    ensures { result ≡ flag_byte (has_any patterns.now) (is_listed patterns.now) word half }
 {
     let listed = lists(patterns);
     u8::from(!patterns.is_empty()) + 2 * u8::from(listed) + 4 * u8::from(word) + 8 * u8::from(half)

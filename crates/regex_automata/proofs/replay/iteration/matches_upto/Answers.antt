@@ -37,7 +37,7 @@ returns-clause-owed c =
           (λ start o f. outcome_right p front rear (from start input) (Found o) acyclic (c.haystack-haystack.ensures.bytes, within) f)
           ms error s.found;
       spans = right;
-      beginning = λ sound whole spans. collected_begins (IsSpan (forward_engine p)) (c.start_is_right.ensures.one_span (forward_engine p)) input ms whole error (right sound) spans;
+      beginning = λ sound whole spans. collected_begins (IsSpan (forward_engine p)) (c.start_is_right.ensures.one.span (forward_engine p)) input ms whole error (right sound) spans;
       rise = first_rise p input within ms first;
       few = first_few p input within ms first;
       errors = may_refuse_next p cache input ms error of s.errors;

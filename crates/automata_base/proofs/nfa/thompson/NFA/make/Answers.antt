@@ -1,7 +1,7 @@
 use Rattle.std.proofs.Common.{◌≡◌, ◌<◌, ◌≤◌, ◌↔◌, true, eqb, length, sym, ap, ◌∙◌, subst}
 use Rattle.std.specs.Prelude.{IsTrue}
 use Rattle.automata_base.specs.Automata.{IsConsistent}
-use Rattle.automata_base.specs.Checks.{all_below}
+use Rattle.automata_base.specs.Lists.{all_below}
 use Rattle.automata_base.specs.Computed.{any_node}
 use Rattle.automata_base.specs.Looks.{look_index}
 use Rattle.automata_base.specs.Nodes.{nodes_of}

@@ -1,5 +1,5 @@
 use Rattle.std.proofs.Common.{sym, ◌∙◌, refl, ltb, ℕ}
-use Rattle.automata_base.specs.Checks.{all_below}
+use Rattle.automata_base.specs.Lists.{all_below}
 use Rattle.automata_base.proofs.Determinizing.Tests_of_lists.{test_fails, test_next}
 use Rattle.automata_base.proofs.nfa.thompson.door.ids_below.Goals as goal
 

@@ -1,5 +1,5 @@
 use Rattle.std.proofs.Common.{◌≡◌, drop}
-use Rattle.automata_base.specs.Checks.{all_below}
+use Rattle.automata_base.specs.Lists.{all_below}
 use Rattle.automata_base.proofs.nfa.thompson.door.ids_below.Given as goal
 
 abbrev pub invariant-loop-i : goal.invariant-loop-i

@@ -1,5 +1,5 @@
 use Rattle.std.proofs.Common.{◌≡◌, length}
-use Rattle.automata_base.specs.Checks.{all_below}
+use Rattle.automata_base.specs.Lists.{all_below}
 use Rattle.automata_base.proofs.util.determinize.ids.are_below.Given as goal
 
 abbrev pub invariant-rest : goal.invariant-rest

@@ -1,12 +1,9 @@
--- Tests of an NFA.
+-- Tests of an NFA and of a tape, which compute.
 use Rattle.std.specs.Prelude.{ℕ, suc, Bool, true, not, ◌&&◌, ltb, List, [], ◌∷◌, length, Option, Some, None}
+use Rattle.automata_base.specs.Lists.{all_below}
 use Rattle.automata_base.specs.Nfa.{Nfa, Node, Split, Assert, Read, Accept, Range}
 use Rattle.automata_base.specs.Paths.{all_true, Tape}
 use Rattle.automata_base.specs.Computed.{is_in, closure_of}
-
-abbrev pub all_below : ℕ → List ℕ → Bool
-all_below N [] = true
-all_below N (x ∷ xs) = ltb x N && all_below N xs
 
 abbrev pub ranges_below : ℕ → List Range → Bool
 ranges_below N [] = true

@@ -1,0 +1,22 @@
+-- What a pass tells of its span: to a walk, and to a search.
+use Rattle.std.specs.Prelude.{ℕ, suc, ◌<◌, ◌≤◌, Bool, true, false, List, [], ◌∷◌, length, Option, Some, None}
+use Rattle.automata_base.specs.Cuts.{MatchKind}
+use Rattle.automata_base.specs.Nfa.{Nfa}
+use Rattle.automata_base.specs.Paths.{Tape}
+use Rattle.automata_base.specs.Selections.{Pair, Pairs, Tells}
+
+-- The whole list of a walk, by its pass.
+abbrev pub PassTells : MatchKind → Nfa → Tape → ℕ → List Pair → Type 0
+PassTells kind n t start pairs = Pairs (Tells kind n t start) (suc (length t.bytes)) pairs
+
+-- What a search tells of its pass: of the first state with patterns, or else of the last one, the first pattern and
+-- the place whose unit gave it.
+abbrev pub PassSelects : MatchKind → Bool → Nfa → Tape → ℕ → Option Pair → Type 0
+PassSelects kind earliest n t start None =
+    (i : ℕ) → i ≤ length t.bytes → Tells kind n t start i []
+PassSelects kind true n t start (Some pair) =
+    (rest : List ℕ) × (pair.place ≤ length t.bytes) × Tells kind n t start pair.place (pair.pattern ∷ rest)
+    × ((j : ℕ) → j < pair.place → Tells kind n t start j [])
+PassSelects kind false n t start (Some pair) =
+    (rest : List ℕ) × (pair.place ≤ length t.bytes) × Tells kind n t start pair.place (pair.pattern ∷ rest)
+    × ((j : ℕ) → pair.place < j → j ≤ length t.bytes → Tells kind n t start j [])
