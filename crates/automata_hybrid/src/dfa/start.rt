@@ -24,6 +24,7 @@ use automata_config::error::{SearchError, StartError, StepError};
 
 impl Cache {
     /// The start state of a slot. A known one takes no memory.
+    #[inline(always)]
     pub(crate) fn start(
         &mut self,
         dfa: &DFA,
@@ -114,6 +115,7 @@ impl Cache {
 impl DFA {
     /// The kind of what is behind a start: 0 for any byte that isn't said here, 1 for a word byte, 2 for none, 3 for a
     /// line feed, 4 for a carriage return, 5 for a line terminator that is none of these two.
+    #[inline(always)]
     fn behind(&self, prev: Option<u8>) -> usize
         ensures { result ≡ behind_of self.now.nfa.flags.line_terminator prev }
     {
@@ -136,6 +138,7 @@ impl DFA {
     }
 
     /// The start slot of a group, behind a byte or behind none.
+    #[inline(always)]
     fn slot(&self, group: usize, prev: Option<u8>) -> usize
         requires { group * 6 + 6 ≤ self.now.slots }
         ensures value { result ≡ group * 6 + behind_of self.now.nfa.flags.line_terminator prev }
@@ -146,6 +149,7 @@ impl DFA {
     }
 
     /// The start slot of a mode. Past the last pattern there is none.
+    #[inline(always)]
     fn mode_slot(&self, mode: Anchored, prev: Option<u8>) -> Result<Option<usize>, StartError>
         ensures within { IfOk result (λ o. IfSome o (λ slot. slot < self.now.slots)) }
         ensures same { IfOk result (λ o. IfSome o
@@ -197,6 +201,7 @@ impl DFA {
         self.quits[usize::from(byte)]
     }
 
+    #[inline(always)]
     fn quits_behind(&self, prev: Option<u8>) -> Option<u8>
         ensures { result ≡ quit_behind self.now prev }
     {
@@ -209,6 +214,7 @@ impl DFA {
     /// The start state of a mode behind a byte. Refused where that is a quit byte, where the mode isn't supported,
     /// where the state finds no room and the settings allow no clear, and where memory is out. A quit byte behind is
     /// told first, and a mode that isn't supported then.
+    #[inline(always)]
     pub fn start_state(
         &self,
         cache: &mut Cache,
@@ -239,6 +245,7 @@ impl DFA {
     }
 
     /// The start state of a mode's slot.
+    #[inline(always)]
     fn start_at(
         &self,
         cache: &mut Cache,
@@ -268,6 +275,7 @@ impl DFA {
 
     /// The start state of a forward search. The byte behind is the one before the span. A quit byte is told at its own
     /// offset, and giving up at the span's start.
+    #[inline(always)]
     pub fn start_state_forward(
         &self,
         cache: &mut Cache,
@@ -297,6 +305,7 @@ impl DFA {
 
     /// The start state of a reverse search. The byte behind is the one at the span's end. A quit byte is told at its
     /// own offset, the span's end, and giving up there too.
+    #[inline(always)]
     pub fn start_state_reverse(
         &self,
         cache: &mut Cache,

@@ -157,6 +157,7 @@ impl DFA {
     }
 
     /// Follows known transitions without a tag, from an ID without one.
+    #[inline(always)]
     pub(super) fn follow_fwd(
         &self,
         cache: &Cache,
@@ -644,6 +645,7 @@ impl DFA {
     }
 
     /// The step at the span's end: on the byte behind it, or on the haystack's end.
+    #[inline(always)]
     fn find_end_fwd(
         &self,
         cache: &mut Cache,

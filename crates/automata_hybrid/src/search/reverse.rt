@@ -147,6 +147,7 @@ impl DFA {
     }
 
     /// Follows known transitions without a tag, from an ID without one.
+    #[inline(always)]
     pub(super) fn follow_rev(
         &self,
         cache: &Cache,
@@ -632,6 +633,7 @@ impl DFA {
     }
 
     /// The step at the span's start: on the byte before it, or on the haystack's end.
+    #[inline(always)]
     fn find_end_rev(
         &self,
         cache: &mut Cache,
@@ -670,6 +672,7 @@ impl DFA {
 
     /// The state after the byte before the span. A quit byte is told at its own offset, and a refusal at the span's
     /// start.
+    #[inline(always)]
     fn read_before(
         &self,
         cache: &mut Cache,
