@@ -18,7 +18,7 @@ use Rattle.automata_hybrid.specs.Knowing.{IsOfInput}
 use Rattle.automata_hybrid.specs.KnowingWalks.{KnowsWalk, KnowsWhich}
 use Rattle.automata_hybrid.specs.Machine.{Machine}
 use Rattle.automata_hybrid.specs.Owing.{IsMemory, IsStoreOf, IsUnhindered, IsUnsupported, unsupported_error}
-use Rattle.automata_hybrid.specs.SearchedWalks.{EndsCall, LeavesCall}
+use Rattle.automata_hybrid.specs.SearchedWalks.{EndsCall, EndsSet, LeavesCall, LeavesSet}
 use Rattle.automata_hybrid.specs.Walking.{AreWalked, HasItsState, HasTold, IsWalkRefusal, TellsNext, half_nth, start_count}
 use Rattle.automata_hybrid.specs.Walks.{At, Ended, Fresh, Walk, without_match}
 use Rattle.automata_hybrid.specs.Which.{IsWhichRefusal}
@@ -117,3 +117,6 @@ pub record IsWhichEffect (m : Machine) (input : Input) (set : List Bool) (old ne
   pub learned : ClearedNothing old.store new.store → OnOk result (KnowsWhich m new.store input set)
   -- with all that known it takes no memory, and changes nothing but the progress
   pub known : KnowsWhich m old.store input set → IsStill old new × IfErr result IsOfInput
+  -- the searched bytes, and the search that is open: what the calls of its walk leave one after another
+  pub ended : OnOk result (EndsSet m input set old.store new.store)
+  pub left : IfErr result (LeavesSet m input set old.store new.store)

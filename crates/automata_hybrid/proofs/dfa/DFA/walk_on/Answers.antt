@@ -289,7 +289,7 @@ returns-clause-ends c =
       | in-None v ↦
           let finish : Finishes d c.args.self.now c.args.input.now w.units c.in_ok-arrival.arrival.units = subst (λ (o : Option ℕ). IsArrival d c.args.self.now c.advance.new.cache.store.table c.args.input.now w.units o c.in_ok-arrival.arrival.units) v.in-None.«is» arrives in
           subst (λ (x : Walk). EndsCall d c.args.self.now c.args.input.now w x c.args.cache.now.store c.advance.new.cache.store) (sym (v.walk-is ∙ v.end-in-None.ensures))
-          (inr (some, last.0, inr (last.1, last.2, last.3, λ e. finish.stops (suc last.0) (omega (arith, last.2))), ended))
+          (inr (some, last.0, inr (last.1, last.2, last.3, λ e. (refl, finish.stops (suc last.0) (omega (arith, last.2)))), ended))
       | in-Some v ↦
           subst (λ (x : Walk). EndsCall d c.args.self.now c.args.input.now w x c.args.cache.now.store c.advance.new.cache.store) (sym v.walk-is)
           (inr (some, last.0, inr (last.1, v.stand.ensures.units ∙ last.2, last.3, λ e. absurd (v.stand.ensures.on e)), ended))
