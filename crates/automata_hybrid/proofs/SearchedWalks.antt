@@ -1,9 +1,9 @@
 -- What the calls of a walk leave of the progress.
-use Rattle.std.proofs.Common.{ℕ, suc, ◌≡◌, ◌∙◌, ◌+◌, ◌-◌, ◌≤◌, ◌<◌, ◌⊎◌, ⊎_elim, length, Option, None, Some, inl, inr, refl, sym, ap, subst, arith}
-use Rattle.std.specs.Prelude.{Err, IfErr, Ok, OnErr, OnOk, Result}
+use Rattle.std.proofs.Common.{ℕ, ◌≡◌, ◌∙◌, ◌-◌, ◌≤◌, ◌⊎◌, ⊎_elim, length, Option, inl, inr, refl, ap, subst, arith}
+use Rattle.std.specs.Prelude.{Err, IfErr, Ok, OnErr, Result}
 use Rattle.automata_base.specs.Input.{Input}
 use Rattle.automata_base.specs.Paths.{next}
-use Rattle.automata_base.specs.Powerset.{Powerset, dead}
+use Rattle.automata_base.specs.Powerset.{Powerset}
 use Rattle.automata_base.specs.Tapes.{Direction, Forward, Backward}
 use Rattle.automata_base.specs.declared.util.search.Anchored.{Anchored}
 use Rattle.automata_config.specs.declared.error.SearchError.{SearchError}
@@ -11,12 +11,12 @@ use Rattle.automata_config.specs.declared.error.SearchError.TheVariants as searc
 use Rattle.automata_hybrid.specs.declared.dfa.progress.Searched.{Searched}
 use Rattle.automata_hybrid.specs.Stores.{Stored, with_searched}
 use Rattle.automata_hybrid.specs.Caches.{CacheView, counted, with_store}
-use Rattle.automata_hybrid.specs.Growing.{ClearedNothing, IsGrown, KeepsProgress}
+use Rattle.automata_hybrid.specs.Growing.{IsGrown, KeepsProgress}
 use Rattle.automata_hybrid.specs.Machine.{Machine}
-use Rattle.automata_hybrid.specs.Progressing.{finished, progress_cleared, started, updated}
+use Rattle.automata_hybrid.specs.Progressing.{finished, started, updated}
 use Rattle.automata_hybrid.specs.Searched.{CountsFrom, IsEndedAt, IsLeftAt, IsMovedTo, IsOpenAt, none_searched}
-use Rattle.automata_hybrid.specs.SearchedWalks.{EndsAtUnit, EndsCall, IsLastUnit, IsLeftAtUnit, LeavesCall, ReadsNoUnit}
-use Rattle.automata_hybrid.specs.Searches.{HasReadNoQuit, given_up_offset, state_in, tape_in}
+use Rattle.automata_hybrid.specs.SearchedWalks.{EndsAtUnit, IsLeftAtUnit, ReadsNoUnit}
+use Rattle.automata_hybrid.specs.Searches.{HasReadNoQuit, given_up_offset, tape_in}
 use Rattle.automata_hybrid.specs.Starting.{IsStartRefusedAt}
 use Rattle.automata_hybrid.specs.Walking.{IsResumeRefusal, IsSilent, IsUnitRefusal, WalkReads}
 use Rattle.automata_hybrid.specs.Walks.{At, Ended, Fresh, Stage, Walk}

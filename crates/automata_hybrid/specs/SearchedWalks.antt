@@ -67,10 +67,11 @@ LeavesCall way m input walk old new e =
 
 -- a set is gone on with when its walk has told its first pairs
 abbrev pub IsOpenAfter : Machine → Input → (set : List Bool) → (told : ℕ) → Type 0
-IsOpenAfter m input set told = (pairs : List Pair) → AreWalked Forward m input pairs → IsOpen input set (take told pairs)
+IsOpenAfter m input set told =
+    (pairs : List Pair) → AreWalked Forward m input pairs → IsOpen input set (take told pairs)
 
 -- so many calls of the walk of a set have ended, one after another, each where the set was gone on with
-abbrev pub HaveCalled : Machine → Input → (set : List Bool) → (calls : ℕ) → (old : Stored) → Walk → (new : Stored) → Type 0
+abbrev pub HaveCalled : Machine → Input → (set : List Bool) → (calls : ℕ) → Stored → Walk → Stored → Type 0
 HaveCalled m input set zero old walk new = (walk ≡ fresh_walk) × (new ≡ old)
 HaveCalled m input set (suc calls) old walk new =
     (before : Walk) × (mid : Stored) × HaveCalled m input set calls old before mid × IsOpenAfter m input set calls

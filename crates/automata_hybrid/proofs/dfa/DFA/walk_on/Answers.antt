@@ -10,7 +10,6 @@ use Rattle.automata_hybrid.specs.Searches.{HasReadNoQuit, given_up_offset, state
 use Rattle.automata_hybrid.specs.Table.{Rows, Leads}
 use Rattle.automata_hybrid.specs.Walking.{Finishes, HasToldBy, IsAdvanceRefusal, IsArrival, TellsNext, WalkReads}
 use Rattle.automata_hybrid.specs.Walks.{Ended, Walk, way_of}
-use Rattle.automata_hybrid.specs.declared.dfa.progress.Searched.{Searched}
 use Rattle.automata_hybrid.proofs.Growing.{grown_after, grown_moved, grown_trans, nothing_second}
 use Rattle.automata_hybrid.proofs.KnowingWalks.{has_state, nothing_after, state_after, state_still, still_same, unit_knows, units_all}
 use Rattle.automata_hybrid.proofs.SearchedWalks.{dies_at, reads_some, recounts_ended, recounts_left, unit_high, unit_low}
