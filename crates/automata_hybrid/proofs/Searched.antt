@@ -12,7 +12,7 @@ use Rattle.automata_hybrid.specs.declared.dfa.progress.Progress.{Progress}
 use Rattle.automata_hybrid.specs.declared.dfa.progress.Searched.{Searched}
 use Rattle.automata_hybrid.specs.declared.dfa.row.Row.{Row}
 use Rattle.automata_hybrid.specs.Stores.{Stored, with_searched}
-use Rattle.automata_hybrid.specs.Effects.{IsComputed, IsStarted}
+use Rattle.automata_hybrid.specs.Effects.{IsAddedStart, IsComputed, IsStarted}
 use Rattle.automata_hybrid.specs.Caches.{CacheView, with_store}
 use Rattle.automata_hybrid.specs.Growing.{IsGrown, IsKeptOrCleared, KeepsProgress}
 use Rattle.automata_hybrid.specs.Machine.{Machine}
@@ -52,6 +52,11 @@ started_progress old new slot id r (inr (lacks, between, inl (fits, g), e)) =
 started_progress old new slot id r (inr (lacks, between, inr (full, may, g), e)) =
     clears_progress old new (ap (λ (s : Stored). s.clears) e ∙ ap (λ (s : Stored). s.clears) g)
     (ap (λ (s : Stored). s.searched) e ∙ ap (λ (s : Stored). s.searched) g)
+
+pub added_progress : (old new : Stored) (r : Row) → IsAddedStart old r new → KeepsProgress old new
+added_progress old new r (inl (fits, e)) = inl (ap (λ (s : Stored). s.searched) e)
+added_progress old new r (inr (full, may, e)) =
+    clears_progress old new (ap (λ (s : Stored). s.clears) e) (ap (λ (s : Stored). s.searched) e)
 
 -- what came before a step, a step, and what it left
 module _ (input : Input) (s : Searched) (first : ℕ) (old mid new : CacheView) (before : IsGrown old mid) (after : IsGrown mid new) where
@@ -188,7 +193,7 @@ module _ (way : Direction) (m : Machine) (input : Input) (s : Searched) (old mid
       )
 
 -- a search begins as if nothing had been searched, where a clear came before
-started_cleared : (s : Searched) (first : ℕ) → started (progress_cleared s) first ≡ started none_searched first
+pub started_cleared : (s : Searched) (first : ℕ) → started (progress_cleared s) first ≡ started none_searched first
 started_cleared s first = go s.running where
   go :
       (r : Option Progress)

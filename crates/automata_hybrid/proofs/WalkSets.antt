@@ -17,11 +17,12 @@ use Rattle.automata_hybrid.specs.Knowing.{KnowsItsStart}
 use Rattle.automata_hybrid.specs.KnowingWalks.{IsOpen, KnowsItsState, KnowsWalk, KnowsWhich}
 use Rattle.automata_hybrid.specs.Machine.{Machine, greatest}
 use Rattle.automata_base.specs.Powerset.{Powerset, cost}
+use Rattle.automata_hybrid.specs.SearchedWalks.{HaveCalled}
 use Rattle.automata_hybrid.specs.Searches.{tape_in}
 use Rattle.automata_hybrid.specs.Slots.{supports}
 use Rattle.automata_hybrid.specs.Starting.{quit_behind}
 use Rattle.automata_hybrid.specs.Walking.{AreWalked, GoesOn, HasItsState, HasTold, HasToldAt, HasToldBy, TellsNext, half_nth, start_count}
-use Rattle.automata_hybrid.specs.Walks.{At, Ended, Fresh, Stage, Walk}
+use Rattle.automata_hybrid.specs.Walks.{At, Ended, Fresh, Stage, Walk, fresh_walk}
 use Rattle.automata_hybrid.specs.Which.{IsJoined}
 use Rattle.automata_hybrid.proofs.Searching.{false_true}
 use Rattle.automata_hybrid.proofs.Walked.{Begins, told_rises, walked_begin}
@@ -286,6 +287,29 @@ module _ (m : Machine) (input : Input) (old : List Bool) where
             open_at = inr lacks;
           }
 
+      -- by one call more
+      pub calls_more :
+          (e : input.earliest ≡ false) (lacks : IsLacking (set new half.pattern true)) (cache last : Stored)
+          → HaveCalled m input old (suc j.k) cache next last → HaveCalled m input old (joins_more e lacks).k cache next last
+      unfolding joins_more
+      calls_more e lacks cache last called = called
+
+-- a walk that hasn't begun has made no call
+pub joins_begin :
+    (m : Machine) (input : Input) (walk : Walk) (set : List Bool) (c : Stored) → walk ≡ fresh_walk
+    → (j : Joins m input walk set set) × HaveCalled m input set j.k c walk c
+joins_begin m input walk set c fresh = (
+  record {
+    k = 0;
+    told = subst (λ (w : Walk). HasTold Forward m input w 0) (sym fresh) (refl, refl);
+    first = λ e. refl;
+    joined = λ pairs walked. joined_none set;
+    capacity = refl;
+    open_at = inl refl;
+  },
+  (fresh, refl),
+)
+
 -- the mode isn't supported where no quit byte stands behind the start
 abbrev pub MayNotStart : Machine → Input → Type 0
 MayNotStart m input =
@@ -415,3 +439,46 @@ pub which_still :
     (m : Machine) (input : Input) (set : List Bool) (old new : CacheView)
     → IsGrown old new → new.count ≡ old.count → KnowsWhich m old.store input set → KnowsWhich m new.store input set
 which_still m input set old new g same knows = subst (λ (c : Stored). KnowsWhich m c input set) (sym (g.idle same).1) knows
+
+-- a set that is gone on with is open after the pairs that its walk has told
+pub open_after :
+    (m : Machine) (input : Input) (walk : Walk) (old new : List Bool) (j : Joins m input walk old new)
+    (pairs : List Pair) → AreWalked Forward m input pairs → IsOpen input old (take j.k pairs)
+open_after m input walk old new j pairs walked = go j.open_at input.earliest refl where
+  none : j.k ≡ 0 → IsOpen input old (take j.k pairs)
+  none z = inl (ap (λ n. take n pairs) z)
+
+  go : (j.k ≡ 0) ⊎ IsLacking new → (b : Bool) → input.earliest ≡ b → IsOpen input old (take j.k pairs)
+  go (inl z) b e = none z
+  go (inr lacks) true e = none (j.first e)
+  go (inr lacks) false e =
+      let absent : In lacks.pattern (members new) → ⊥ = (λ i. false_true (sym lacks.absent ∙ in_flag new lacks.pattern i)) in
+      let below : lacks.pattern < length old = omega (arith, lacks.below, j.capacity) in
+      inr (
+        e,
+        (
+          lacks.pattern,
+          below,
+          λ i. absent ((j.joined pairs walked lacks.pattern).1 (inl i)),
+          λ h. absent ((j.joined pairs walked lacks.pattern).1 (inr (below, h))),
+        ),
+      )
+
+-- an earliest set or a full one isn't gone on with
+pub closes :
+    (input : Input) (old new : List Bool) (pairs : List Pair) (k : ℕ) (half : HalfMatch)
+    → half_nth pairs k ≡ Some half → length new ≡ length old → IsJoined (take (suc k) pairs) old new
+    → (input.earliest ≡ true) ⊎ (length (members new) ≡ length new) → IsOpen input old (take (suc k) pairs) → ⊥
+closes input old new pairs k half found capacity joined stop is_open = go is_open stop where
+  taken : (ps : List Pair) (n : ℕ) → half_nth ps n ≡ Some half → take (suc n) ps ≡ [] → ⊥
+  taken [] n f e = absurd (cc)
+  taken (x ∷ xs) n f e = absurd (cc)
+
+  go : IsOpen input old (take (suc k) pairs) → (input.earliest ≡ true) ⊎ (length (members new) ≡ length new) → ⊥
+  go (inl none) s = taken pairs k found none
+  go (inr (e, rest)) (inl early) = false_true (sym e ∙ early)
+  go (inr (e, (p, below, absent, other))) (inr full) =
+      among ((joined p).0 (flag_in new p (full_at new 0 p full (omega (arith, below, capacity))))) where
+        among : In p (members old) ⊎ ((p < length old) × HasPattern p (take (suc k) pairs)) → ⊥
+        among (inl i) = absent i
+        among (inr (b, h)) = other h

@@ -24,6 +24,7 @@ pub mod Walks
 pub mod Walking
 pub mod KnowingWalks
 pub mod Agreeing
+pub mod SearchedWalks
 pub mod Which
 pub mod Within
 pub mod Owing

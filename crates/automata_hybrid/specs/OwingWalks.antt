@@ -18,6 +18,7 @@ use Rattle.automata_hybrid.specs.Knowing.{IsOfInput}
 use Rattle.automata_hybrid.specs.KnowingWalks.{KnowsWalk, KnowsWhich}
 use Rattle.automata_hybrid.specs.Machine.{Machine}
 use Rattle.automata_hybrid.specs.Owing.{IsMemory, IsStoreOf, IsUnhindered, IsUnsupported, unsupported_error}
+use Rattle.automata_hybrid.specs.SearchedWalks.{EndsCall, EndsSet, LeavesCall, LeavesSet}
 use Rattle.automata_hybrid.specs.Walking.{AreWalked, HasItsState, HasTold, IsWalkRefusal, TellsNext, half_nth, start_count}
 use Rattle.automata_hybrid.specs.Walks.{At, Ended, Fresh, Walk, without_match}
 use Rattle.automata_hybrid.specs.Which.{IsWhichRefusal}
@@ -75,6 +76,9 @@ pub record IsCallEffect (way : Direction) (m : Machine) (input : Input) (walk ne
   pub learned : ClearedNothing old.store new.store → OnOk result (KnowsWalk way m new.store input walk)
   -- with all that known it takes no memory, and changes nothing but the progress
   pub known : KnowsWalk way m old.store input walk → IsStill old new × (walk.lost ≡ false → IfErr result IsOfInput)
+  -- the searched bytes, and the search that is open
+  pub ended : OnOk result (EndsCall way m input walk next old.store new.store)
+  pub left : IfErr result (LeavesCall way m input walk old.store new.store)
   -- where nothing is read, nothing at all
   pub ready : ReadsNothing input walk → new ≡ old
 
@@ -113,3 +117,6 @@ pub record IsWhichEffect (m : Machine) (input : Input) (set : List Bool) (old ne
   pub learned : ClearedNothing old.store new.store → OnOk result (KnowsWhich m new.store input set)
   -- with all that known it takes no memory, and changes nothing but the progress
   pub known : KnowsWhich m old.store input set → IsStill old new × IfErr result IsOfInput
+  -- the searched bytes, and the search that is open: what the calls of its walk leave one after another
+  pub ended : OnOk result (EndsSet m input set old.store new.store)
+  pub left : IfErr result (LeavesSet m input set old.store new.store)

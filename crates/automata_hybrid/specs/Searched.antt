@@ -113,6 +113,7 @@ abbrev pub HaveEnded : Direction → Machine → Input → (passes : ℕ) → (o
 HaveEnded way m input zero old new = new ≡ old
 HaveEnded way m input (suc passes) old new =
     (mid : Stored) × HaveEnded way m input passes old mid × HasEnded way m (later way passes input) mid new
+    × (mid.clears ≤ new.clears)
 
 -- a search that answers has ended the passes over the spans that it tried
 abbrev pub EndsProgress : Direction → Machine → Input → (old new : Stored) → Type 0
@@ -123,4 +124,4 @@ EndsProgress way m input old new =
 abbrev pub LeavesProgress : Direction → Machine → Input → (old new : Stored) → SearchError → Type 0
 LeavesProgress way m input old new e =
     (passes : ℕ) × (mid : Stored) × TriesSpans way m input (suc passes) × HaveEnded way m input passes old mid
-    × IsLeft way m (later way passes input) mid new e
+    × IsLeft way m (later way passes input) mid new e × (mid.clears ≤ new.clears)

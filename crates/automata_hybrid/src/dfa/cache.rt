@@ -9,7 +9,7 @@ ghost use Rattle.automata_hybrid.specs.Stores.{IsCacheError, KeepsStarts, cell_o
 ghost use Rattle.automata_hybrid.specs.Usage.{Fits, refuses_to_clear, cleared, usage, GivesUp};
 ghost use Rattle.automata_hybrid.specs.Effects.{IsAdded, IsAddedStart, grown};
 ghost use Rattle.automata_hybrid.specs.Caches.{IsRow, IsCacheOf, fresh_cache, counted, with_store};
-ghost use Rattle.automata_hybrid.specs.Growing.{IsGrown};
+ghost use Rattle.automata_hybrid.specs.Growing.{IsGrown, KeepsProgress};
 ghost use Rattle.automata_hybrid.specs.Owing.{IsStoreOf};
 ghost use Rattle.automata_hybrid.specs.Walking.{IsRowState};
 ghost use Rattle.automata_hybrid.specs.Walks.{HasKey, state_held};
@@ -148,6 +148,7 @@ impl Cache {
         ensures grown { IsGrown self.old (counted self.new) }
         ensures gives_up { IfErr result (λ e. IsCacheError e → GivesUp self.old.store state) }
         ensures err { OnErr result (self.new ≡ self.old) }
+        ensures progress { KeepsProgress self.old.store self.new.store }
     {
         self.see_cells();
         let id = self.add_start(dfa, state, false)?;

@@ -5,10 +5,11 @@ ghost use Rattle.automata_base.specs.Tapes.{Forward, Backward};
 ghost use Rattle.automata_hybrid.specs.Stores.{IsCacheError};
 ghost use Rattle.automata_hybrid.specs.Usage.{GivesUp};
 ghost use Rattle.automata_hybrid.specs.Caches.{IsCacheOf, counted};
-ghost use Rattle.automata_hybrid.specs.Growing.{ClearedNothing, IsGrown, IsStill};
+ghost use Rattle.automata_hybrid.specs.Growing.{ClearedNothing, IsGrown, IsStill, KeepsProgress};
 ghost use Rattle.automata_hybrid.specs.Knowing.{IsOfInput};
 ghost use Rattle.automata_hybrid.specs.KnowingWalks.{HasLearnedUnits, KnowsItsState, KnowsWalk};
 ghost use Rattle.automata_hybrid.specs.OwingWalks.{IsCallEffect, IsWalkCall};
+ghost use Rattle.automata_hybrid.specs.SearchedWalks.{EndsCall, LeavesCall};
 ghost use Rattle.automata_hybrid.specs.Searches.{state_in, tape_in};
 ghost use Rattle.automata_hybrid.specs.Slots.{supports};
 ghost use Rattle.automata_hybrid.specs.Starting.{MayStart, quit_behind};
@@ -102,6 +103,7 @@ impl DFA {
         ensures gives_up { IfErr result (λ e. IsCacheError e → (q : Powerset) → walk.now.stage ≡ At q
             → GivesUp cache.old.store q) }
         ensures err { OnErr result (cache.new ≡ cache.old) }
+        ensures progress { KeepsProgress cache.old.store cache.new.store }
     {
         if let Some(id) = walk.find_in(cache) {
             return Ok(id);
@@ -144,6 +146,8 @@ impl DFA {
             → KnowsItsState (way_of way) self.now cache.old.store input.now walk.now.stage)
             → (cache.new ≡ cache.old) × IfErr result IsOfInput }
         ensures learned { OnOk result (KnowsItsState (way_of way) self.now cache.new.store input.now walk.now.stage) }
+        ensures progress { KeepsProgress cache.old.store cache.new.store }
+        ensures kept { OnErr result (cache.new.store.searched ≡ cache.old.store.searched) }
     {
         if walk.is_fresh() {
             return self.walk_start(cache, input, way);
@@ -203,6 +207,10 @@ impl DFA {
             walk.new.units) }
         ensures stops { OnOk result (walk.new.stage ≡ Ended → (j : ℕ) → walk.new.units ≤ j
             → WalkReads (way_of way) self.now input.now j → ⊥) }
+        ensures ends { OnOk result (EndsCall (way_of way) self.now input.now walk.old walk.new cache.old.store
+            cache.new.store) }
+        ensures leaves { IfErr result (LeavesCall (way_of way) self.now input.now walk.old cache.old.store
+            cache.new.store) }
     {
         self.see_skips();
         let _haystack = input.haystack();
@@ -300,6 +308,10 @@ impl DFA {
         ensures stops { input.now.start ≤ input.now.end → (walk.old.stage ≡ Ended → ⊥)
             → OnOk result (walk.new.stage ≡ Ended → (j : ℕ) → walk.new.units ≤ j
             → WalkReads (way_of way) self.now input.now j → ⊥) }
+        ensures ends { OnOk result (EndsCall (way_of way) self.now input.now walk.old walk.new cache.old.store
+            cache.new.store) }
+        ensures leaves { IfErr result (LeavesCall (way_of way) self.now input.now walk.old cache.old.store
+            cache.new.store) }
     {
         match self.go_on(cache, input, way, walk, &None) {
             Ok(_) => Ok(()),
@@ -356,6 +368,10 @@ impl DFA {
         ensures stops { input.now.start ≤ input.now.end → (walk.old.stage ≡ Ended → ⊥)
             → OnOk result (walk.new.stage ≡ Ended → (j : ℕ) → walk.new.units ≤ j
             → WalkReads (way_of way) self.now input.now j → ⊥) }
+        ensures ends { OnOk result (EndsCall (way_of way) self.now input.now walk.old walk.new cache.old.store
+            cache.new.store) }
+        ensures leaves { IfErr result (LeavesCall (way_of way) self.now input.now walk.old cache.old.store
+            cache.new.store) }
     {
         let _haystack = input.haystack();
         walk.forget_match();

@@ -1,5 +1,5 @@
 //! The units of a walk, in either direction, and going on over them to the next state that tells patterns.
-ghost use Rattle.std.specs.Prelude.{ℕ, ◌≡◌, ◌+◌, ◌-◌, ◌<◌, ◌≤◌, ◌⊎◌, IfOk, IfErr, OnOk, None, Some, Err, [], true, false, suc, length};
+ghost use Rattle.std.specs.Prelude.{ℕ, ◌≡◌, ◌+◌, ◌-◌, ◌<◌, ◌≤◌, ◌⊎◌, IfOk, IfErr, OnOk, OnErr, None, Some, Err, [], true, false, suc, length};
 ghost use Rattle.automata_base.specs.Answers.{offset_in};
 ghost use Rattle.automata_base.specs.Classes.{class_in, is_quit};
 ghost use Rattle.automata_base.specs.Paths.{next};
@@ -7,12 +7,16 @@ ghost use Rattle.automata_base.specs.Powerset.{Powerset};
 ghost use Rattle.automata_base.specs.Steps.{successor};
 ghost use Rattle.automata_base.specs.Tapes.{is_split};
 ghost use Rattle.automata_hybrid.specs.Stores.{IsKnownTransition};
-ghost use Rattle.automata_hybrid.specs.Caches.{IsCacheOf, counted};
-ghost use Rattle.automata_hybrid.specs.Growing.{ClearedNothing, IsGrown};
+ghost use Rattle.automata_hybrid.specs.Caches.{CacheView, IsCacheOf, counted};
+ghost use Rattle.automata_hybrid.specs.Growing.{ClearedNothing, IsGrown, KeepsProgress};
 ghost use Rattle.automata_hybrid.specs.Knowing.{IsOfInput, KnowsItsStart, KnowsUnit};
 ghost use Rattle.automata_hybrid.specs.KnowingWalks.{HasLearnedUnits, KnowsUnits};
 ghost use Rattle.automata_hybrid.specs.Passing.{HasLearnedUnit, IsFollowed};
+ghost use Rattle.automata_hybrid.specs.declared.dfa.progress.Searched.{Searched};
 ghost use Rattle.automata_hybrid.specs.Searches.{HasReadNoQuit, IsStepRefusal, Skips, behind_offset, given_up_offset, state_in, tape_in, unit_offset};
+ghost use Rattle.automata_hybrid.specs.Progressing.{started};
+ghost use Rattle.automata_hybrid.specs.Searched.{IsLeftAt, IsMovedTo};
+ghost use Rattle.automata_hybrid.specs.SearchedWalks.{EndsAtUnit, HasJustMoved, IsLeftAtUnit};
 ghost use Rattle.automata_hybrid.specs.Slots.{supports};
 ghost use Rattle.automata_hybrid.specs.Starting.{IsStartRefusalAt, MayStart, quit_behind};
 ghost use Rattle.automata_base.specs.declared.util.search.MatchErrorKind.TheVariants.{UnsupportedAnchored as UnsupportedMode};
@@ -142,6 +146,8 @@ impl DFA {
             → KnowsItsStart (way_of way) self.now cache.old.store input.now)
             → (cache.new ≡ cache.old) × IfErr result IsOfInput }
         ensures learned { OnOk result (KnowsItsStart (way_of way) self.now cache.new.store input.now) }
+        ensures progress { KeepsProgress cache.old.store cache.new.store }
+        ensures kept { OnErr result (cache.new.store.searched ≡ cache.old.store.searched) }
     {
         cache.see_slots();
         match way {
@@ -174,6 +180,10 @@ impl DFA {
         ensures learned { ClearedNothing cache.old.store cache.new.store
             → OnOk result (IsKnownTransition cache.new.store id (class_in self.now.classes byte)) }
         ensures below { class_in self.now.classes byte < self.now.stride }
+        ensures moved { (before : CacheView) → HasJustMoved at before cache.old
+            → OnOk result (IsMovedTo at before.store cache.new.store) }
+        ensures left { (before : CacheView) → HasJustMoved at before cache.old
+            → IfErr result (IsLeftAt self.now (Some byte) at before.store cache.new.store) }
     {
         self.see_classes();
         let next = self.step(cache, id, byte, at)?;
@@ -211,6 +221,10 @@ impl DFA {
             → (cache.new.count ≡ cache.old.count) × IfErr result IsOfInput }
         ensures learned { ClearedNothing cache.old.store cache.new.store
             → OnOk result (HasLearnedUnit (way_of way) self.now cache.new.store input.now place) }
+        ensures moved { OnOk result (IsMovedTo (given_up_offset (way_of way) input.now place) cache.old.store
+            cache.new.store) }
+        ensures left { IfErr result (IsLeftAt self.now (next (tape_in (way_of way) input.now) place)
+            (given_up_offset (way_of way) input.now place) cache.old.store cache.new.store) }
     {
         let _haystack = input.haystack();
         let at = span_offset(input, way, place);
@@ -311,6 +325,13 @@ impl DFA {
             → (cache.new.count ≡ cache.old.count) × IfErr result IsOfInput }
         ensures learned { ClearedNothing cache.old.store cache.new.store
             → IfOk result (λ a. HasLearnedUnits (way_of way) self.now cache.new.store input.now units a.units) }
+        ensures ended { (before : Searched)
+            → cache.old.store.searched ≡ started before (given_up_offset (way_of way) input.now units)
+            → IfOk result (λ a. (k : ℕ) × (units ≤ k) × (a.units ≡ suc k) × WalkReads (way_of way) self.now input.now k
+            × EndsAtUnit (way_of way) input.now before units k cache.old.store cache.new.store) }
+        ensures left { (before : Searched)
+            → cache.old.store.searched ≡ started before (given_up_offset (way_of way) input.now units)
+            → IfErr result (IsLeftAtUnit (way_of way) self.now input.now before units cache.old.store cache.new.store) }
     {
         let _haystack = input.haystack();
         let last = last_place(input);

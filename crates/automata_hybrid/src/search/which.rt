@@ -11,6 +11,7 @@ ghost use Rattle.automata_hybrid.specs.Growing.{ClearedNothing, IsGrown, IsStill
 ghost use Rattle.automata_hybrid.specs.Knowing.{IsOfInput};
 ghost use Rattle.automata_hybrid.specs.KnowingWalks.{KnowsWhich};
 ghost use Rattle.automata_hybrid.specs.OwingWalks.{IsWhich, IsWhichEffect};
+ghost use Rattle.automata_hybrid.specs.SearchedWalks.{EndsSet, LeavesSet};
 ghost use Rattle.automata_hybrid.specs.Slots.{supports};
 ghost use Rattle.automata_hybrid.specs.Starting.{quit_behind};
 ghost use Rattle.automata_base.specs.declared.util.search.MatchErrorKind.TheVariants.{UnsupportedAnchored as UnsupportedMode};
@@ -75,6 +76,8 @@ impl DFA {
             → IsStill cache.old cache.new × IfErr result IsOfInput }
         ensures learned { ClearedNothing cache.old.store cache.new.store
             → OnOk result (KnowsWhich self.now cache.new.store input.now patset.old) }
+        ensures ends { OnOk result (EndsSet self.now input.now patset.old cache.old.store cache.new.store) }
+        ensures leaves { IfErr result (LeavesSet self.now input.now patset.old cache.old.store cache.new.store) }
     {
         walk_is_right(self.get_nfa());
         let _haystack = input.haystack();

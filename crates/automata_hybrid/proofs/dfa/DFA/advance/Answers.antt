@@ -1,16 +1,18 @@
-use Rattle.std.proofs.Common.{ℕ, suc, ◌≡◌, ◌∙◌, ◌≤◌, ◌+◌, ◌-◌, inl, inr, length, refl, sym, subst, arith, ⊎_elim}
+use Rattle.std.proofs.Common.{ℕ, suc, ◌≡◌, ◌∙◌, ◌<◌, ◌≤◌, ◌+◌, ◌-◌, inl, inr, length, refl, sym, ap, subst, arith, ⊎_elim}
 use Rattle.automata_base.specs.Powerset.{dead}
 use Rattle.automata_base.specs.Tapes.{Direction}
 use Rattle.automata_hybrid.specs.Growing.{ClearedNothing}
 use Rattle.automata_hybrid.specs.KnowingWalks.{HasLearnedUnits}
 use Rattle.automata_hybrid.specs.Passing.{IsFollowed}
-use Rattle.automata_hybrid.specs.Searches.{HasReadNoQuit, state_in, tape_in}
+use Rattle.automata_hybrid.specs.Searched.{IsOpenAt}
+use Rattle.automata_hybrid.specs.Searches.{HasReadNoQuit, given_up_offset, state_in, tape_in}
 use Rattle.automata_hybrid.specs.Table.{Names, Rows}
-use Rattle.automata_hybrid.specs.Walking.{IsSilent}
+use Rattle.automata_hybrid.specs.Walking.{IsSilent, WalkReads}
 use Rattle.automata_hybrid.specs.Walks.{way_of}
 use Rattle.automata_hybrid.proofs.Following.{followed_clean, followed_silent}
 use Rattle.automata_hybrid.proofs.Growing.{grown_moved, grown_same, grown_trans, nothing_first, nothing_second}
 use Rattle.automata_hybrid.proofs.KnowingWalks.{unit_knows, units_more, units_moved, units_none}
+use Rattle.automata_hybrid.proofs.SearchedWalks.{span_ends, unit_ends, unit_left, unit_open}
 use Rattle.automata_hybrid.proofs.Searching.{false_true, if_err}
 use Rattle.automata_hybrid.proofs.Stepping.{dead_tagged}
 use Rattle.automata_hybrid.proofs.Walked.{clean_more, finish_dead, finish_read, silent_same, silent_step}
@@ -78,6 +80,13 @@ loop-read-preserved c =
           (units_more d c.args.self.now c.loop-read.cache c.read_unit.new.cache c.args.input.now c.args.units c.loop-read.read k c.follow-stop.result.id c.in_ok-next.ensures.grown second
           (c.loop-read.invariant.learned first) f (c.in_ok-next.ensures.learned second)));
       silent = subst (IsSilent d c.args.self.now c.args.input.now c.args.units) more silent;
+      progress = λ s e.
+          (let underway : (x : ℕ) × IsOpenAt c.args.input.now s (given_up_offset d c.args.input.now c.args.units) x c.args.cache.now.store c.loop-read.cache.store = c.loop-read.invariant.progress s e in (
+            given_up_offset d c.args.input.now k,
+            unit_open d c.args.self.now c.args.input.now s c.args.units k underway.0 c.args.cache.now c.loop-read.cache c.read_unit.new.cache c.requires.«open» c.follow-stop.ensures.within
+                c.loop-read.invariant.grown c.in_ok-next.ensures.grown underway.1 c.in_ok-next.ensures.moved,
+          ));
+      reads = λ less. (k, sym more, c.in_ok-next.ensures.reads);
     }
 
 pub returns-in_err-next-clause-errors : goal.returns-in_err-next-clause-errors
@@ -183,6 +192,8 @@ loop-read-init c =
       idle = λ n told knows. refl;
       learned = λ nothing. units_none d c.args.self.now c.args.cache.now.store c.args.input.now c.args.units;
       silent = silent_same d c.args.self.now c.args.input.now c.args.units;
+      progress = λ s e. (given_up_offset d c.args.input.now c.args.units, (s, given_up_offset d c.args.input.now c.args.units, inl (refl, refl), e));
+      reads = λ less. absurd (omega (arith, less));
     }
 
 pub returns-clause-arrives : goal.returns-clause-arrives
@@ -191,3 +202,59 @@ returns-clause-arrives c =
     let units : c.args.input.now.end - c.args.input.now.start ≡ length (tape_in d c.args.input.now).bytes = units_in d c.args.input.now c.requires.«open» c.haystack-haystack.ensures.within.1 in
     let all : c.loop-read.read ≡ suc (length (tape_in d c.args.input.now).bytes) = omega (arith, units, c.loop-read-test.false, c.last_place-last.ensures, c.loop-read.invariant.within) in
     finish_read d c.args.self.now c.args.input.now c.args.units c.loop-read.read all c.loop-read.invariant.from c.loop-read.invariant.clean c.loop-read.invariant.silent
+
+pub returns-then-is_dead-clause-ended : goal.returns-then-is_dead-clause-ended
+returns-then-is_dead-clause-ended c = λ s e.
+    let d : Direction = way_of c.args.way in
+    let k : ℕ = c.follow-stop.result.at in
+    let f : IsFollowed d c.args.self.now c.loop-read.cache.store c.args.input.now c.loop-read.read k c.follow-stop.result.id = c.follow-stop.ensures.followed in
+    let more : suc k ≡ k + 1 = omega arith in
+    let underway : (x : ℕ) × IsOpenAt c.args.input.now s (given_up_offset d c.args.input.now c.args.units) x c.args.cache.now.store c.loop-read.cache.store = c.loop-read.invariant.progress s e in (
+      k,
+      omega (arith, c.loop-read.invariant.from, f.more),
+      sym more,
+      c.in_ok-next.ensures.reads,
+      unit_ends d c.args.self.now c.args.input.now s c.args.units k underway.0 c.args.cache.now c.loop-read.cache c.read_unit.new.cache c.requires.«open» c.follow-stop.ensures.within
+          c.loop-read.invariant.grown c.in_ok-next.ensures.grown underway.1 c.end_search.new.self c.span_offset-at.result c.span_offset-at.ensures c.end_search.ensures.value c.in_ok-next.ensures.moved,
+    )
+
+pub returns-then-tells-clause-ended : goal.returns-then-tells-clause-ended
+returns-then-tells-clause-ended c = λ s e.
+    let d : Direction = way_of c.args.way in
+    let k : ℕ = c.follow-stop.result.at in
+    let f : IsFollowed d c.args.self.now c.loop-read.cache.store c.args.input.now c.loop-read.read k c.follow-stop.result.id = c.follow-stop.ensures.followed in
+    let more : suc k ≡ k + 1 = omega arith in
+    let underway : (x : ℕ) × IsOpenAt c.args.input.now s (given_up_offset d c.args.input.now c.args.units) x c.args.cache.now.store c.loop-read.cache.store = c.loop-read.invariant.progress s e in (
+      k,
+      omega (arith, c.loop-read.invariant.from, f.more),
+      sym more,
+      c.in_ok-next.ensures.reads,
+      unit_ends d c.args.self.now c.args.input.now s c.args.units k underway.0 c.args.cache.now c.loop-read.cache c.read_unit.new.cache c.requires.«open» c.follow-stop.ensures.within
+          c.loop-read.invariant.grown c.in_ok-next.ensures.grown underway.1 c.end_search-then-tells.new.self c.span_offset-at.result c.span_offset-at.ensures c.end_search-then-tells.ensures.value c.in_ok-next.ensures.moved,
+    )
+
+pub returns-in_err-next-clause-left : goal.returns-in_err-next-clause-left
+returns-in_err-next-clause-left c = λ s e.
+    let d : Direction = way_of c.args.way in
+    let k : ℕ = c.follow-stop.result.at in
+    let f : IsFollowed d c.args.self.now c.loop-read.cache.store c.args.input.now c.loop-read.read k c.follow-stop.result.id = c.follow-stop.ensures.followed in
+    let underway : (x : ℕ) × IsOpenAt c.args.input.now s (given_up_offset d c.args.input.now c.args.units) x c.args.cache.now.store c.loop-read.cache.store = c.loop-read.invariant.progress s e in
+    if_err c.from_residual.result _ _ c.from_residual.ensures.1
+    (unit_left d c.args.self.now c.args.input.now s c.args.units k underway.0 c.args.cache.now c.loop-read.cache c.read_unit.new.cache c.requires.«open» c.follow-stop.ensures.within
+    c.loop-read.invariant.grown c.in_err-next.ensures.grown underway.1 c.in_err-next.field-0.0 (omega (arith, c.loop-read.invariant.from, f.more)) c.in_err-next.ensures.reads
+    (followed_clean f c.loop-read.invariant.clean) (followed_silent f c.loop-read.invariant.silent) c.in_err-next.ensures.errors c.in_err-next.ensures.left)
+
+pub returns-clause-ended : goal.returns-clause-ended
+returns-clause-ended c = λ s e.
+    let d : Direction = way_of c.args.way in
+    let less : c.args.units < c.loop-read.read = omega (arith, c.requires.within, c.loop-read-test.false, c.last_place-last.ensures) in
+    let last : (k : ℕ) × (c.loop-read.read ≡ suc k) × WalkReads d c.args.self.now c.args.input.now k = c.loop-read.invariant.reads less in
+    let here : c.last_place-last.result ≡ last.0 = omega (arith, c.last_place-last.ensures, c.loop-read-test.false, c.loop-read.invariant.within, last.1) in
+    let underway : (x : ℕ) × IsOpenAt c.args.input.now s (given_up_offset d c.args.input.now c.args.units) x c.args.cache.now.store c.loop-read.cache.store = c.loop-read.invariant.progress s e in (
+      last.0,
+      omega (arith, less, last.1),
+      last.1,
+      last.2,
+      span_ends d c.args.input.now s c.args.units last.0 underway.0 c.span_offset.result c.args.cache.now c.loop-read.cache c.end_search-2.new.self c.requires.«open» (omega (arith, here, c.last_place-last.ensures))
+          c.loop-read.invariant.grown underway.1 (c.span_offset.ensures ∙ ap (given_up_offset d c.args.input.now) here) c.end_search-2.ensures.value,
+    )

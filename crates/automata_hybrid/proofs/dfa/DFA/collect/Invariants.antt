@@ -3,6 +3,7 @@ use Rattle.automata_hybrid.specs.Caches.{IsCacheOf}
 use Rattle.automata_hybrid.specs.Growing.{ClearedNothing, IsGrown}
 use Rattle.automata_hybrid.specs.KnowingWalks.{KnowsWhich}
 use Rattle.automata_base.specs.Tapes.{Forward}
+use Rattle.automata_hybrid.specs.SearchedWalks.{HaveCalled}
 use Rattle.automata_hybrid.specs.Searches.{tape_in}
 use Rattle.automata_hybrid.specs.Starting.{MayStart}
 use Rattle.automata_hybrid.specs.Walking.{CanGoOn, HasItsState, IsNamedAt, start_count}
@@ -24,7 +25,7 @@ invariant-loop-walk l = record {
   at : IsNamedAt l.cache.store.table l.walk.stage l.at;
   can : CanGoOn l.walk l.at;
   learned : ClearedNothing l.fn.cache.store l.cache.store → l.input.start ≤ l.input.end → MayStart l.self l.input.anchored (tape_in Forward l.input).before → HasLearnedWalk l.self l.cache.store l.input l.walk;
-  joins : Joins l.self l.input l.walk l.fn.patset l.patset;
+  joins : (j : Joins l.self l.input l.walk l.fn.patset l.patset) × HaveCalled l.self l.input l.fn.patset j.k l.fn.cache.store l.walk l.cache.store;
 }
 
 abbrev pub decreases-loop-walk : goal.decreases-loop-walk

@@ -1,13 +1,16 @@
-use Rattle.std.proofs.Common.{◌≡◌, ◌∙◌, ◌-◌, ◌<◌, ◌≤◌, length, refl, sym, ap, subst, arith}
+use Rattle.std.proofs.Common.{◌≡◌, ◌∙◌, ◌-◌, ◌<◌, ◌≤◌, inl, inr, length, refl, sym, ap, subst, arith}
 use Rattle.std.specs.Prelude.{OnOk, IfErr}
 use Rattle.automata_base.specs.Answers.{offset_in}
 use Rattle.automata_base.specs.Matches.{HalfMatch}
 use Rattle.automata_base.specs.Tapes.{Direction}
+use Rattle.automata_config.specs.declared.error.SearchError.TheVariants as search
 use Rattle.automata_hybrid.specs.KnowingWalks.{HasLearnedUnits, KnowsWalk}
+use Rattle.automata_hybrid.specs.SearchedWalks.{EndsCall, LeavesCall}
 use Rattle.automata_hybrid.specs.Searches.{tape_in}
 use Rattle.automata_hybrid.specs.Walking.{HasTold, IsWalkRefusal, TellsNext}
 use Rattle.automata_hybrid.specs.Walks.{At, Ended, Fresh, Walk, way_of}
 use Rattle.automata_hybrid.proofs.KnowingWalks.{still_same}
+use Rattle.automata_hybrid.proofs.SearchedWalks.{stuck_refusal}
 use Rattle.automata_hybrid.proofs.Searching.{false_true}
 use Rattle.automata_hybrid.proofs.WalkCalls.{ended_at, next_done, next_ended, next_read, next_same, undone}
 use Rattle.automata_hybrid.proofs.WalkUnits.{units_in}
@@ -150,3 +153,46 @@ returns-then-units-last_place-clause-stops c = λ undone on ended j l reads.
     let same : c.end-then-units-last_place.new.self.units ≡ c.forget_match.new.self.units = ap (λ (w : Walk). w.units) c.end-then-units-last_place.ensures ∙ c.units-then-units-last_place.ensures in
     let few : j ≤ length (tape_in (way_of c.args.way) c.args.input.now).bytes = reads.0 in
     absurd (omega (arith, units, same, few, l, c.units-2.ensures, c.last_place.ensures, c.if-units-last_place.true))
+
+pub returns-then-has_ended-clause-ends : goal.returns-then-has_ended-clause-ends
+returns-then-has_ended-clause-ends c =
+    inl (inl (subst (λ (w : Walk). w.stage ≡ Ended) c.forget_match.ensures (c.has_ended.ensures.yes c.if-has_ended.true)), refl)
+
+pub returns-then-is_done-clause-ends : goal.returns-then-is_done-clause-ends
+returns-then-is_done-clause-ends c =
+    let done : c.args.input.now.end < c.args.input.now.start = c.is_done.ensures.done.0 c.if-is_done.true in
+    inl (inr (inr (omega (arith, done))), refl)
+
+pub returns-in-Some-clause-ends : goal.returns-in-Some-clause-ends
+returns-in-Some-clause-ends c =
+    let left = c.in-Some.ensures.left in
+    inl (
+      inr (inl (
+        left.0,
+        subst (λ (w : Walk). w.stage ≡ At left.0) c.forget_match.ensures left.1,
+        subst (λ (w : Walk). w.told < length left.0.patterns) c.forget_match.ensures left.2,
+      )),
+      refl,
+    )
+
+pub returns-then-units-last_place-clause-ends : goal.returns-then-units-last_place-clause-ends
+returns-then-units-last_place-clause-ends c =
+    let units : c.units-2.result ≡ c.args.walk.now.units = c.units-2.ensures ∙ ap (λ (w : Walk). w.units) c.forget_match.ensures in
+    inl (inr (inr (omega (arith, units, c.last_place.ensures, c.if-units-last_place.true))), refl)
+
+pub returns-clause-ends : goal.returns-clause-ends
+returns-clause-ends c =
+    subst (λ (w : Walk). OnOk c.walk_on.result (EndsCall (way_of c.args.way) c.args.self.now c.args.input.now w c.walk_on.new.walk c.args.cache.now.store c.walk_on.new.cache.store)) c.forget_match.ensures c.walk_on.ensures.ends
+
+pub returns-then-is_stuck-clause-leaves : goal.returns-then-is_stuck-clause-leaves
+returns-then-is_stuck-clause-leaves c =
+    subst (λ (w : Walk). LeavesCall (way_of c.args.way) c.args.self.now c.args.input.now w c.args.cache.now.store c.args.cache.now.store search.OutOfMemory) c.forget_match.ensures
+    (inl (
+      stuck_refusal (way_of c.args.way) c.args.self.now c.args.cache.now.store c.args.input.now c.forget_match.new.self.stage c.forget_match.new.self.units
+          (c.is_stuck.ensures.begun c.if-is_stuck.true) (c.has_ended.ensures.no c.if-has_ended.false),
+      refl,
+    ))
+
+pub returns-clause-leaves : goal.returns-clause-leaves
+returns-clause-leaves c =
+    subst (λ (w : Walk). IfErr c.walk_on.result (LeavesCall (way_of c.args.way) c.args.self.now c.args.input.now w c.args.cache.now.store c.walk_on.new.cache.store)) c.forget_match.ensures c.walk_on.ensures.leaves

@@ -1,6 +1,7 @@
-use Rattle.std.proofs.Common.{refl, sym, subst}
+use Rattle.std.proofs.Common.{inl, inr, refl, sym, subst}
 use Rattle.automata_hybrid.specs.Searches.{IsStepRefusal}
 use Rattle.automata_hybrid.proofs.Growing.{grown_moved, grown_trans}
+use Rattle.automata_hybrid.proofs.Searched.{ended_by, moved_by}
 use Rattle.automata_hybrid.proofs.Searching.{false_true, if_err}
 use Rattle.automata_hybrid.proofs.Stepping.{unquit, quits}
 use Rattle.automata_hybrid.proofs.dfa.DFA.read_byte.Goals as goal
@@ -30,3 +31,24 @@ returns-clause-clean c =
 
 pub returns-clause-named : goal.returns-clause-named
 returns-clause-named c = λ q n. c.in_ok-next.ensures.named (returns-clause-clean c) q n
+
+pub returns-in_err-next-clause-left : goal.returns-in_err-next-clause-left
+returns-in_err-next-clause-left c = λ before m.
+    if_err c.from_residual.result _ _ c.from_residual.ensures.1
+    (inr (c.in_err-next.ensures.room, moved_by before c.args.cache.now c.step.new.cache c.args.at m c.in_err-next.ensures.progress))
+
+pub returns-then-is_quit-clause-left : goal.returns-then-is_quit-clause-left
+returns-then-is_quit-clause-left c = λ before m.
+    inl (
+      (
+        _,
+        refl,
+        quits c.args.self.now c.args.cache.now.store.table c.step.new.cache.store.table c.args.id c.in_ok-next.next c.args.byte c.requires.valid.0
+            c.see_ids.ensures.small (λ p. c.see_ids.ensures.low c.in_ok-next.next p) (c.if-is_quit.ensures.0 refl) c.in_ok-next.ensures.named c.requires.valid.1,
+      ),
+      ended_by before c.args.cache.now c.step.new.cache c.end_search.new.self c.args.at m c.in_ok-next.ensures.progress c.end_search.ensures.value,
+    )
+
+pub returns-clause-moved : goal.returns-clause-moved
+returns-clause-moved c = λ before m.
+    moved_by before c.args.cache.now c.step.new.cache c.args.at m c.in_ok-next.ensures.progress

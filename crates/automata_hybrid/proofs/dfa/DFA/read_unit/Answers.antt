@@ -1,11 +1,14 @@
-use Rattle.std.proofs.Common.{◌≡◌, ◌∙◌, Some, None, sym, ap, subst}
-use Rattle.std.proofs.lemmas.Result.{IfOk-weaker}
+use Rattle.std.proofs.Common.{◌≡◌, ◌∙◌, Some, None, inr, sym, ap, subst}
+use Rattle.std.specs.Prelude.{IfErr, OnOk}
+use Rattle.std.proofs.lemmas.Result.{IfErr-weaker, IfOk-weaker}
 use Rattle.automata_base.specs.Paths.{next}
 use Rattle.automata_base.specs.Steps.{successor}
-use Rattle.automata_hybrid.specs.Searches.{state_in, tape_in}
+use Rattle.automata_hybrid.specs.Searched.{IsLeftAt, IsMovedTo}
+use Rattle.automata_hybrid.specs.Searches.{given_up_offset, state_in, tape_in}
 use Rattle.automata_hybrid.specs.Table.{Rows, Leads, Names}
 use Rattle.automata_hybrid.specs.Walks.{way_of}
 use Rattle.automata_hybrid.proofs.Growing.{grown_moved, grown_trans}
+use Rattle.automata_hybrid.proofs.Searched.{moved_by, on_ok}
 use Rattle.automata_hybrid.proofs.Searching.{state_more}
 use Rattle.automata_hybrid.proofs.dfa.DFA.read_unit.Goals as goal
 
@@ -28,3 +31,27 @@ returns-in-None-clause-leads c =
 pub returns-in-None-clause-grown : goal.returns-in-None-clause-grown
 returns-in-None-clause-grown c =
     grown_trans c.args.cache.now c.move_search.new.self c.read_end.new.cache (grown_moved c.args.cache.now c.move_search.new.self c.move_search.ensures.value) c.read_end.ensures.grown
+
+pub returns-in-Some-clause-moved : goal.returns-in-Some-clause-moved
+returns-in-Some-clause-moved c =
+    subst (λ a. OnOk c.read_byte.result (IsMovedTo a c.args.cache.now.store c.read_byte.new.cache.store)) c.span_offset-at.ensures
+    (c.read_byte.ensures.moved c.args.cache.now c.move_search.ensures.value)
+
+pub returns-in-Some-clause-left : goal.returns-in-Some-clause-left
+returns-in-Some-clause-left c =
+    let unit : next (tape_in (way_of c.args.way) c.args.input.now) c.args.place ≡ Some c.in-Some.byte = sym c.unit_at.ensures ∙ c.in-Some.is in
+    subst (λ u. IfErr c.read_byte.result (IsLeftAt c.args.self.now u (given_up_offset (way_of c.args.way) c.args.input.now c.args.place) c.args.cache.now.store c.read_byte.new.cache.store)) (sym unit)
+    (subst (λ a. IfErr c.read_byte.result (IsLeftAt c.args.self.now (Some c.in-Some.byte) a c.args.cache.now.store c.read_byte.new.cache.store)) c.span_offset-at.ensures
+    (c.read_byte.ensures.left c.args.cache.now c.move_search.ensures.value))
+
+pub returns-in-None-clause-moved : goal.returns-in-None-clause-moved
+returns-in-None-clause-moved c =
+    subst (λ a. OnOk c.read_end.result (IsMovedTo a c.args.cache.now.store c.read_end.new.cache.store)) c.span_offset-at.ensures
+    (on_ok c.read_end.result (moved_by c.args.cache.now c.move_search.new.self c.read_end.new.cache c.span_offset-at.result c.move_search.ensures.value c.read_end.ensures.progress))
+
+pub returns-in-None-clause-left : goal.returns-in-None-clause-left
+returns-in-None-clause-left c =
+    subst (λ a. IfErr c.read_end.result (IsLeftAt c.args.self.now (next (tape_in (way_of c.args.way) c.args.input.now) c.args.place) a c.args.cache.now.store c.read_end.new.cache.store)) c.span_offset-at.ensures
+    (IfErr-weaker c.read_end.result _ _
+    (λ e room. inr (room, moved_by c.args.cache.now c.move_search.new.self c.read_end.new.cache c.span_offset-at.result c.move_search.ensures.value c.read_end.ensures.progress))
+    c.read_end.ensures.room)

@@ -90,7 +90,7 @@ loop-later-preserved c =
           (most_more k (c.args.input.now.end - c.args.input.now.start) (c.loop-later.later.end - c.loop-later.later.start) c.args.cache.now.count c.loop-later.cache.count c.pass_fwd.new.cache.count c.loop-later.invariant.bounded c.in_ok-half.ensures.counted (omega (arith, end, place)));
       done = λ e. absurd (omega (arith, e, start, c.loop-later.invariant.from));
       progress = subst (λ n. HaveEnded Forward c.args.self.now c.args.input.now n c.args.cache.now.store c.pass_fwd.new.cache.store) next
-          (c.loop-later.cache.store, c.loop-later.invariant.progress, subst (λ i. HasEnded Forward c.args.self.now i c.loop-later.cache.store c.pass_fwd.new.cache.store) same c.in_ok-half.ensures.ended);
+          (c.loop-later.cache.store, c.loop-later.invariant.progress, subst (λ i. HasEnded Forward c.args.self.now i c.loop-later.cache.store c.pass_fwd.new.cache.store) same c.in_ok-half.ensures.ended, c.in_ok-half.ensures.grown.clears);
       tries = subst (λ n. Tries (Finds Forward c.args.self.now) (Skips c.args.self.now) Forward c.args.input.now n) next (tries_on Forward c.args.self.now c.args.input.now c.loop-later.later k same c.loop-later.invariant.tries within c.in-Some.half (sym c.in-Some.is ∙ c.in_ok-half.ensures.found) c.in_ok-half.ensures.clean (c.if-not-skips_at.ensures.yes refl).0 (subst (λ n. is_split c.loop-later.later.haystack n ≡ true) c.offset.ensures (c.if-not-skips_at.ensures.yes refl).1) mode);
     }
 
@@ -311,7 +311,7 @@ returns-in_default-clause-ended c =
     let within : c.args.input.now.start + k ≤ c.args.input.now.end = omega (arith, ahead, end, place) in (
       suc k,
       spans_tried Forward c.args.self.now c.args.input.now k c.loop-later.invariant.tries within,
-      (c.loop-later.cache.store, c.loop-later.invariant.progress, subst (λ i. HasEnded Forward c.args.self.now i c.loop-later.cache.store c.pass_fwd.new.cache.store) same c.in_ok-half.ensures.ended),
+      (c.loop-later.cache.store, c.loop-later.invariant.progress, subst (λ i. HasEnded Forward c.args.self.now i c.loop-later.cache.store c.pass_fwd.new.cache.store) same c.in_ok-half.ensures.ended, c.in_ok-half.ensures.grown.clears),
     )
 
 pub returns-then-not-skips_at-clause-ended : goal.returns-then-not-skips_at-clause-ended
@@ -324,7 +324,7 @@ returns-then-not-skips_at-clause-ended c =
     let within : c.args.input.now.start + k ≤ c.args.input.now.end = omega (arith, ahead, end, place) in (
       suc k,
       spans_tried Forward c.args.self.now c.args.input.now k c.loop-later.invariant.tries within,
-      (c.loop-later.cache.store, c.loop-later.invariant.progress, subst (λ i. HasEnded Forward c.args.self.now i c.loop-later.cache.store c.pass_fwd.new.cache.store) same c.in_ok-half.ensures.ended),
+      (c.loop-later.cache.store, c.loop-later.invariant.progress, subst (λ i. HasEnded Forward c.args.self.now i c.loop-later.cache.store c.pass_fwd.new.cache.store) same c.in_ok-half.ensures.ended, c.in_ok-half.ensures.grown.clears),
     )
 
 pub returns-then-is_anchored-clause-ended : goal.returns-then-is_anchored-clause-ended
@@ -337,7 +337,7 @@ returns-then-is_anchored-clause-ended c =
     let within : c.args.input.now.start + k ≤ c.args.input.now.end = omega (arith, ahead, end, place) in (
       suc k,
       spans_tried Forward c.args.self.now c.args.input.now k c.loop-later.invariant.tries within,
-      (c.loop-later.cache.store, c.loop-later.invariant.progress, subst (λ i. HasEnded Forward c.args.self.now i c.loop-later.cache.store c.pass_fwd.new.cache.store) same c.in_ok-half.ensures.ended),
+      (c.loop-later.cache.store, c.loop-later.invariant.progress, subst (λ i. HasEnded Forward c.args.self.now i c.loop-later.cache.store c.pass_fwd.new.cache.store) same c.in_ok-half.ensures.ended, c.in_ok-half.ensures.grown.clears),
     )
 
 pub returns-in_err-half-clause-left : goal.returns-in_err-half-clause-left
@@ -354,6 +354,7 @@ returns-in_err-half-clause-left c =
       spans_tried Forward c.args.self.now c.args.input.now k c.loop-later.invariant.tries within,
       c.loop-later.invariant.progress,
       subst (λ i. IsLeft Forward c.args.self.now i c.loop-later.cache.store c.pass_fwd.new.cache.store c.in_err-half.field-0.0) same c.in_err-half.ensures.left,
+      c.in_err-half.ensures.grown.clears,
     )
 
 pub returns-clause-ended : goal.returns-clause-ended

@@ -104,7 +104,7 @@ loop-later-preserved c =
           (most_more k (c.args.input.now.end - c.args.input.now.start) (c.loop-later.later.end - c.loop-later.later.start) c.args.cache.now.count c.loop-later.cache.count c.pass_rev.new.cache.count c.loop-later.invariant.bounded c.in_ok-half.ensures.counted (omega (arith, begin, c.loop-later.invariant.to)));
       done = λ e. absurd (omega (arith, e, end, some, c.loop-later.invariant.to));
       progress = subst (λ n. HaveEnded Backward c.args.self.now c.args.input.now n c.args.cache.now.store c.pass_rev.new.cache.store) next
-          (c.loop-later.cache.store, c.loop-later.invariant.progress, subst (λ i. HasEnded Backward c.args.self.now i c.loop-later.cache.store c.pass_rev.new.cache.store) same c.in_ok-half.ensures.ended);
+          (c.loop-later.cache.store, c.loop-later.invariant.progress, subst (λ i. HasEnded Backward c.args.self.now i c.loop-later.cache.store c.pass_rev.new.cache.store) same c.in_ok-half.ensures.ended, c.in_ok-half.ensures.grown.clears);
       tries = subst (λ n. Tries (Finds Backward c.args.self.now) (Skips c.args.self.now) Backward c.args.input.now n) next
           (tries_on Backward c.args.self.now c.args.input.now c.loop-later.later k same c.loop-later.invariant.tries within c.in-Some.half (sym c.in-Some.is ∙ c.in_ok-half.ensures.found) c.in_ok-half.ensures.clean (c.if-not-skips_at.ensures.yes refl).0 (subst (λ n. is_split c.loop-later.later.haystack n ≡ true) c.offset.ensures (c.if-not-skips_at.ensures.yes refl).1) mode);
     }
@@ -345,7 +345,7 @@ returns-in_default-clause-ended c =
     let within : c.args.input.now.start + k ≤ c.args.input.now.end = ended_within c.args.input.now c.loop-later.later c.loop-later.invariant.same c.loop-later.invariant.to ahead in (
       suc k,
       spans_tried Backward c.args.self.now c.args.input.now k c.loop-later.invariant.tries within,
-      (c.loop-later.cache.store, c.loop-later.invariant.progress, subst (λ i. HasEnded Backward c.args.self.now i c.loop-later.cache.store c.pass_rev.new.cache.store) same c.in_ok-half.ensures.ended),
+      (c.loop-later.cache.store, c.loop-later.invariant.progress, subst (λ i. HasEnded Backward c.args.self.now i c.loop-later.cache.store c.pass_rev.new.cache.store) same c.in_ok-half.ensures.ended, c.in_ok-half.ensures.grown.clears),
     )
 
 pub returns-then-not-skips_at-clause-ended : goal.returns-then-not-skips_at-clause-ended
@@ -356,7 +356,7 @@ returns-then-not-skips_at-clause-ended c =
     let within : c.args.input.now.start + k ≤ c.args.input.now.end = ended_within c.args.input.now c.loop-later.later c.loop-later.invariant.same c.loop-later.invariant.to ahead in (
       suc k,
       spans_tried Backward c.args.self.now c.args.input.now k c.loop-later.invariant.tries within,
-      (c.loop-later.cache.store, c.loop-later.invariant.progress, subst (λ i. HasEnded Backward c.args.self.now i c.loop-later.cache.store c.pass_rev.new.cache.store) same c.in_ok-half.ensures.ended),
+      (c.loop-later.cache.store, c.loop-later.invariant.progress, subst (λ i. HasEnded Backward c.args.self.now i c.loop-later.cache.store c.pass_rev.new.cache.store) same c.in_ok-half.ensures.ended, c.in_ok-half.ensures.grown.clears),
     )
 
 pub returns-then-is_anchored-clause-ended : goal.returns-then-is_anchored-clause-ended
@@ -367,7 +367,7 @@ returns-then-is_anchored-clause-ended c =
     let within : c.args.input.now.start + k ≤ c.args.input.now.end = ended_within c.args.input.now c.loop-later.later c.loop-later.invariant.same c.loop-later.invariant.to ahead in (
       suc k,
       spans_tried Backward c.args.self.now c.args.input.now k c.loop-later.invariant.tries within,
-      (c.loop-later.cache.store, c.loop-later.invariant.progress, subst (λ i. HasEnded Backward c.args.self.now i c.loop-later.cache.store c.pass_rev.new.cache.store) same c.in_ok-half.ensures.ended),
+      (c.loop-later.cache.store, c.loop-later.invariant.progress, subst (λ i. HasEnded Backward c.args.self.now i c.loop-later.cache.store c.pass_rev.new.cache.store) same c.in_ok-half.ensures.ended, c.in_ok-half.ensures.grown.clears),
     )
 
 pub returns-then-end-eq0-clause-ended : goal.returns-then-end-eq0-clause-ended
@@ -378,7 +378,7 @@ returns-then-end-eq0-clause-ended c =
     let within : c.args.input.now.start + k ≤ c.args.input.now.end = ended_within c.args.input.now c.loop-later.later c.loop-later.invariant.same c.loop-later.invariant.to ahead in (
       suc k,
       spans_tried Backward c.args.self.now c.args.input.now k c.loop-later.invariant.tries within,
-      (c.loop-later.cache.store, c.loop-later.invariant.progress, subst (λ i. HasEnded Backward c.args.self.now i c.loop-later.cache.store c.pass_rev.new.cache.store) same c.in_ok-half.ensures.ended),
+      (c.loop-later.cache.store, c.loop-later.invariant.progress, subst (λ i. HasEnded Backward c.args.self.now i c.loop-later.cache.store c.pass_rev.new.cache.store) same c.in_ok-half.ensures.ended, c.in_ok-half.ensures.grown.clears),
     )
 
 pub returns-in_err-half-clause-left : goal.returns-in_err-half-clause-left
@@ -393,6 +393,7 @@ returns-in_err-half-clause-left c =
       spans_tried Backward c.args.self.now c.args.input.now k c.loop-later.invariant.tries within,
       c.loop-later.invariant.progress,
       subst (λ i. IsLeft Backward c.args.self.now i c.loop-later.cache.store c.pass_rev.new.cache.store c.in_err-half.field-0.0) same c.in_err-half.ensures.left,
+      c.in_err-half.ensures.grown.clears,
     )
 
 pub returns-clause-ended : goal.returns-clause-ended

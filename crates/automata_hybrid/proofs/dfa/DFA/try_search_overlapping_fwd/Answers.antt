@@ -61,6 +61,8 @@ returns-clause-effect c =
       there = s.there;
       learned = s.learned;
       known = s.idle;
+      ended = s.ends;
+      left = s.leaves;
       ready =
           call_ready input old (λ end. (s.ended end).1) (λ q at few kept. (s.same q at few kept).1)
           (λ kept past. (s.done kept past).1);

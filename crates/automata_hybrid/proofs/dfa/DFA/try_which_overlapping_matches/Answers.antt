@@ -36,4 +36,6 @@ returns-clause-effect c =
       grown = s.grown;
       learned = s.learned;
       known = s.idle;
+      ended = s.ends;
+      left = s.leaves;
     }

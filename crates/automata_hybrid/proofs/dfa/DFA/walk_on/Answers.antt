@@ -1,15 +1,18 @@
-use Rattle.std.proofs.Common.{ℕ, ◌≡◌, ◌∙◌, ◌-◌, ◌≤◌, inl, inr, length, Option, refl, sym, ap, subst, arith}
+use Rattle.std.proofs.Common.{ℕ, suc, ◌≡◌, ◌∙◌, ◌-◌, ◌≤◌, inl, inr, length, Option, refl, sym, ap, subst, arith}
 use Rattle.automata_base.specs.Powerset.{dead}
 use Rattle.automata_base.specs.Tapes.{Direction}
 use Rattle.automata_hybrid.specs.Caches.{CacheView}
 use Rattle.automata_hybrid.specs.Growing.{ClearedNothing, IsGrown}
 use Rattle.automata_hybrid.specs.KnowingWalks.{HasLearnedUnits, IsToRead}
-use Rattle.automata_hybrid.specs.Searches.{HasReadNoQuit, state_in, tape_in}
+use Rattle.automata_hybrid.specs.Progressing.{finished, started}
+use Rattle.automata_hybrid.specs.SearchedWalks.{EndsAtUnit, EndsCall, IsLeftAtUnit}
+use Rattle.automata_hybrid.specs.Searches.{HasReadNoQuit, given_up_offset, state_in, tape_in}
 use Rattle.automata_hybrid.specs.Table.{Rows, Leads}
 use Rattle.automata_hybrid.specs.Walking.{Finishes, HasToldBy, IsAdvanceRefusal, IsArrival, TellsNext, WalkReads}
 use Rattle.automata_hybrid.specs.Walks.{Ended, Walk, way_of}
 use Rattle.automata_hybrid.proofs.Growing.{grown_after, grown_moved, grown_trans, nothing_second}
 use Rattle.automata_hybrid.proofs.KnowingWalks.{has_state, nothing_after, state_after, state_still, still_same, unit_knows, units_all}
+use Rattle.automata_hybrid.proofs.SearchedWalks.{dies_at, reads_some, recounts_ended, recounts_left, unit_high, unit_low}
 use Rattle.automata_hybrid.proofs.Searching.{dead_more, if_err}
 use Rattle.automata_hybrid.proofs.Stepping.{dead_tagged}
 use Rattle.automata_hybrid.proofs.WalkCalls.{clean_here, next_finishes, told_here}
@@ -220,4 +223,73 @@ returns-clause-stops c =
           subst (λ (x : Walk). x.stage ≡ Ended → (j : ℕ) → x.units ≤ j → WalkReads d c.args.self.now c.args.input.now j → ⊥) (sym (v.walk-is ∙ v.end-in-None.ensures)) (λ ended. finish.stops)
       | in-Some v ↦
           subst (λ (x : Walk). x.stage ≡ Ended → (j : ℕ) → x.units ≤ j → WalkReads d c.args.self.now c.args.input.now j → ⊥) (sym v.walk-is) (λ ended. absurd (v.stand.ensures.on ended))
+    ]
+
+pub returns-in_err-from-clause-leaves : goal.returns-in_err-from-clause-leaves
+returns-in_err-from-clause-leaves c =
+    if_err c.from_residual.result _ _ c.from_residual.ensures.1 (inl (c.in_err-from.ensures.errors, c.in_err-from.ensures.kept))
+
+pub returns-then-is_dead-clause-ends : goal.returns-then-is_dead-clause-ends
+returns-then-is_dead-clause-ends c =
+    let d : Direction = way_of c.args.way in
+    let w : Walk = c.args.walk.now in
+    let input = c.args.input.now in
+    let first : c.span_offset-place.result ≡ given_up_offset d c.args.input.now w.units = c.span_offset-place.ensures ∙ ap (given_up_offset d c.args.input.now) c.units.ensures in
+    let same : c.end.new.self.units ≡ w.units = ap (λ (v : Walk). v.units) c.end.ensures ∙ c.units-then-is_dead.ensures in
+    let leads : Leads c.search_start.new.self.store.table c.in_ok-from.from (state_in d c.args.self.now c.args.input.now w.units) = subst (λ (t : Rows). Leads t c.in_ok-from.from (state_in d c.args.self.now c.args.input.now w.units)) (sym c.search_start.ensures.table) c.in_ok-from.ensures.leads in
+    let dies : state_in d c.args.self.now c.args.input.now w.units ≡ dead = (dead_tagged c.search_start.new.self.store.table c.in_ok-from.from (c.see_ids.ensures.low c.in_ok-from.from) c.see_ids.ensures.small _ leads).0 (c.if-is_dead.ensures.0 refl) in
+    let here : c.end_search.new.self.store.searched ≡ finished (started c.resume.new.cache.store.searched c.span_offset-place.result) c.span_offset-place.result =
+    ap (λ (v : CacheView). v.store.searched) c.end_search.ensures.value ∙ ap (λ (v : CacheView). finished v.store.searched c.span_offset-place.result) c.search_start.ensures.value in
+    let cleared : c.search_start.new.self.store.clears ≡ c.resume.new.cache.store.clears = ap (λ (v : CacheView). v.store.clears) c.search_start.ensures.value in
+    let after : c.end_search.new.self.store.clears ≡ c.search_start.new.self.store.clears = ap (λ (v : CacheView). v.store.clears) c.end_search.ensures.value in
+    inr (
+      reads_some c.args.input.now w c.requires.«open» c.requires.goes_on c.requires.all_told c.requires.within,
+      w.units,
+      inl (refl, same, dies),
+      dies_at c.args.input.now (given_up_offset d c.args.input.now w.units) (unit_low d c.args.input.now w.units c.requires.«open») (unit_high d c.args.input.now w.units c.requires.«open» c.requires.within)
+          c.args.cache.now.store c.resume.new.cache.store c.search_start.new.self.store c.end_search.new.self.store
+          c.in_ok-from.ensures.grown.clears cleared (omega (arith, after)) c.in_ok-from.ensures.progress
+          (subst (λ a. c.end_search.new.self.store.searched ≡ finished (started c.resume.new.cache.store.searched a) a) first here),
+    )
+
+pub returns-in_err-arrival-clause-leaves : goal.returns-in_err-arrival-clause-leaves
+returns-in_err-arrival-clause-leaves c =
+    let d : Direction = way_of c.args.way in
+    let w : Walk = c.args.walk.now in
+    let first : c.span_offset-place.result ≡ given_up_offset d c.args.input.now c.units-2.result = c.span_offset-place.ensures ∙ ap (given_up_offset d c.args.input.now) (c.units.ensures ∙ sym c.units-2.ensures) in
+    let begins : c.search_start.new.self.store.searched ≡ started c.resume.new.cache.store.searched (given_up_offset d c.args.input.now c.units-2.result) =
+    ap (λ (v : CacheView). v.store.searched) c.search_start.ensures.value ∙ ap (started c.resume.new.cache.store.searched) first in
+    let cleared : c.search_start.new.self.store.clears ≡ c.resume.new.cache.store.clears = ap (λ (v : CacheView). v.store.clears) c.search_start.ensures.value in
+    let left : IsLeftAtUnit d c.args.self.now c.args.input.now c.resume.new.cache.store.searched w.units c.search_start.new.self.store c.advance.new.cache.store c.in_err-arrival.field-0.0 =
+    subst (λ n. IsLeftAtUnit d c.args.self.now c.args.input.now c.resume.new.cache.store.searched n c.search_start.new.self.store c.advance.new.cache.store c.in_err-arrival.field-0.0) c.units-2.ensures
+    (c.in_err-arrival.ensures.left c.resume.new.cache.store.searched begins) in
+    if_err c.from_residual-in_err-arrival.result _ _ c.from_residual-in_err-arrival.ensures.1
+    (inr (recounts_left d c.args.self.now c.args.input.now c.args.cache.now.store c.resume.new.cache.store c.search_start.new.self.store c.advance.new.cache.store w.units c.requires.«open» c.requires.within
+    c.in_ok-from.ensures.grown.clears cleared c.in_err-arrival.ensures.grown.clears c.in_ok-from.ensures.progress c.in_err-arrival.field-0.0 left))
+
+pub returns-clause-ends : goal.returns-clause-ends
+returns-clause-ends c =
+    let d : Direction = way_of c.args.way in
+    let w : Walk = c.args.walk.now in
+    let first : c.span_offset-place.result ≡ given_up_offset d c.args.input.now c.units-2.result = c.span_offset-place.ensures ∙ ap (given_up_offset d c.args.input.now) (c.units.ensures ∙ sym c.units-2.ensures) in
+    let begins : c.search_start.new.self.store.searched ≡ started c.resume.new.cache.store.searched (given_up_offset d c.args.input.now c.units-2.result) =
+    ap (λ (v : CacheView). v.store.searched) c.search_start.ensures.value ∙ ap (started c.resume.new.cache.store.searched) first in
+    let cleared : c.search_start.new.self.store.clears ≡ c.resume.new.cache.store.clears = ap (λ (v : CacheView). v.store.clears) c.search_start.ensures.value in
+    let last : (k : ℕ) × (w.units ≤ k) × (c.in_ok-arrival.arrival.units ≡ suc k) × WalkReads d c.args.self.now c.args.input.now k × EndsAtUnit d c.args.input.now c.resume.new.cache.store.searched w.units k c.search_start.new.self.store c.advance.new.cache.store =
+    subst (λ n. (k : ℕ) × (n ≤ k) × (c.in_ok-arrival.arrival.units ≡ suc k) × WalkReads d c.args.self.now c.args.input.now k × EndsAtUnit d c.args.input.now c.resume.new.cache.store.searched n k c.search_start.new.self.store c.advance.new.cache.store) c.units-2.ensures
+    (c.in_ok-arrival.ensures.ended c.resume.new.cache.store.searched begins) in
+    let ended : EndsAtUnit d c.args.input.now c.args.cache.now.store.searched w.units last.0 c.args.cache.now.store c.advance.new.cache.store =
+    recounts_ended c.args.input.now (given_up_offset d c.args.input.now w.units) (unit_low d c.args.input.now w.units c.requires.«open») (unit_high d c.args.input.now w.units c.requires.«open» c.requires.within)
+    c.args.cache.now.store c.resume.new.cache.store c.search_start.new.self.store c.advance.new.cache.store
+    c.in_ok-from.ensures.grown.clears cleared c.in_ok-arrival.ensures.grown.clears c.in_ok-from.ensures.progress (given_up_offset d c.args.input.now last.0) last.4 in
+    let some = reads_some c.args.input.now w c.requires.«open» c.requires.goes_on c.requires.all_told c.requires.within in
+    let arrives : IsArrival d c.args.self.now c.advance.new.cache.store.table c.args.input.now w.units c.in_ok-arrival.arrival.id c.in_ok-arrival.arrival.units = subst (λ n. IsArrival d c.args.self.now c.advance.new.cache.store.table c.args.input.now n c.in_ok-arrival.arrival.id c.in_ok-arrival.arrival.units) c.units-2.ensures c.in_ok-arrival.ensures.arrives in
+    elim c.match-arrival.branch [
+      | in-None v ↦
+          let finish : Finishes d c.args.self.now c.args.input.now w.units c.in_ok-arrival.arrival.units = subst (λ (o : Option ℕ). IsArrival d c.args.self.now c.advance.new.cache.store.table c.args.input.now w.units o c.in_ok-arrival.arrival.units) v.in-None.«is» arrives in
+          subst (λ (x : Walk). EndsCall d c.args.self.now c.args.input.now w x c.args.cache.now.store c.advance.new.cache.store) (sym (v.walk-is ∙ v.end-in-None.ensures))
+          (inr (some, last.0, inr (last.1, last.2, last.3, λ e. (refl, finish.stops (suc last.0) (omega (arith, last.2)))), ended))
+      | in-Some v ↦
+          subst (λ (x : Walk). EndsCall d c.args.self.now c.args.input.now w x c.args.cache.now.store c.advance.new.cache.store) (sym v.walk-is)
+          (inr (some, last.0, inr (last.1, v.stand.ensures.units ∙ last.2, last.3, λ e. absurd (v.stand.ensures.on e)), ended))
     ]

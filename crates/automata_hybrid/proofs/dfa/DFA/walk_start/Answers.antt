@@ -16,6 +16,7 @@ use Rattle.automata_hybrid.specs.Walks.{way_of}
 use Rattle.automata_hybrid.specs.declared.search.walk.Way.{Way}
 use Rattle.automata_hybrid.proofs.Knowing.{learned_start, start_idle}
 use Rattle.automata_hybrid.proofs.Searching.{state_first}
+use Rattle.automata_hybrid.proofs.SearchedWalks.{start_keeps}
 use Rattle.automata_hybrid.proofs.Starting.{may_start, refusal_at, unsupported_at}
 use Rattle.automata_hybrid.proofs.dfa.DFA.walk_start.Goals as goal
 
@@ -86,3 +87,13 @@ pub returns-in-Backward-clause-learned : goal.returns-in-Backward-clause-learned
 returns-in-Backward-clause-learned c =
     subst (λ (w : Way). OnOk c.start_state_reverse.result (KnowsItsStart (way_of w) c.args.self.now c.start_state_reverse.new.cache.store c.args.input.now)) (sym c.in-Backward.is)
     (learned_start c.args.self.now c.args.cache.now c.start_state_reverse.new.cache c.args.input.now.anchored (nth c.args.input.now.haystack c.args.input.now.end) c.start_state_reverse.result c.start_state_reverse.ensures.answer)
+
+pub returns-in-Forward-clause-kept : goal.returns-in-Forward-clause-kept
+returns-in-Forward-clause-kept c =
+    start_keeps c.args.self.now c.args.input.now.anchored (byte_before c.args.input.now.haystack c.args.input.now.start) (c.args.input.now.start - 1) c.args.input.now.start c.args.cache.now c.start_state_forward.new.cache
+    c.start_state_forward.result c.start_state_forward.ensures.refusal
+
+pub returns-in-Backward-clause-kept : goal.returns-in-Backward-clause-kept
+returns-in-Backward-clause-kept c =
+    start_keeps c.args.self.now c.args.input.now.anchored (nth c.args.input.now.haystack c.args.input.now.end) c.args.input.now.end c.args.input.now.end c.args.cache.now c.start_state_reverse.new.cache
+    c.start_state_reverse.result c.start_state_reverse.ensures.refusal

@@ -1,0 +1,187 @@
+-- What the calls of a walk leave of the progress.
+use Rattle.std.proofs.Common.{ℕ, ◌≡◌, ◌∙◌, ◌-◌, ◌≤◌, ◌⊎◌, ⊎_elim, length, Option, inl, inr, refl, ap, subst, arith}
+use Rattle.std.specs.Prelude.{Err, IfErr, Ok, OnErr, Result}
+use Rattle.automata_base.specs.Input.{Input}
+use Rattle.automata_base.specs.Paths.{next}
+use Rattle.automata_base.specs.Powerset.{Powerset}
+use Rattle.automata_base.specs.Tapes.{Direction, Forward, Backward}
+use Rattle.automata_base.specs.declared.util.search.Anchored.{Anchored}
+use Rattle.automata_config.specs.declared.error.SearchError.{SearchError}
+use Rattle.automata_config.specs.declared.error.SearchError.TheVariants as search
+use Rattle.automata_hybrid.specs.declared.dfa.progress.Searched.{Searched}
+use Rattle.automata_hybrid.specs.Stores.{Stored, with_searched}
+use Rattle.automata_hybrid.specs.Caches.{CacheView, counted, with_store}
+use Rattle.automata_hybrid.specs.Growing.{IsGrown, KeepsProgress}
+use Rattle.automata_hybrid.specs.Machine.{Machine}
+use Rattle.automata_hybrid.specs.Progressing.{finished, started, updated}
+use Rattle.automata_hybrid.specs.Searched.{CountsFrom, IsEndedAt, IsLeftAt, IsMovedTo, IsOpenAt, none_searched}
+use Rattle.automata_hybrid.specs.SearchedWalks.{EndsAtUnit, IsLeftAtUnit, ReadsNoUnit}
+use Rattle.automata_hybrid.specs.Searches.{HasReadNoQuit, given_up_offset, tape_in}
+use Rattle.automata_hybrid.specs.Starting.{IsStartRefusedAt}
+use Rattle.automata_hybrid.specs.Walking.{IsResumeRefusal, IsSilent, IsUnitRefusal, WalkReads}
+use Rattle.automata_hybrid.specs.Walks.{At, Ended, Fresh, Stage, Walk}
+use Rattle.automata_hybrid.proofs.Growing.{grown_moved, grown_same, grown_trans}
+use Rattle.automata_hybrid.proofs.Searched.{ended_after, ends_kept, ends_open, started_cleared, stays_open}
+
+-- a refused start moves no progress
+pub start_keeps :
+    (m : Machine) (mode : Anchored) (behind : Option ℕ) (behind_at start_at : ℕ) (old new : CacheView)
+    (r : Result ℕ SearchError) → IfErr r (IsStartRefusedAt m mode behind behind_at start_at old new)
+    → OnErr r (new.store.searched ≡ old.store.searched)
+start_keeps m mode behind behind_at start_at old new (Ok n) h = tt
+start_keeps m mode behind behind_at start_at old new (Err e) h = same h.refused.unchanged where
+  same : (new ≡ old) ⊎ (new ≡ counted old) → new.store.searched ≡ old.store.searched
+  same (inl u) = ap (λ (v : CacheView). v.store.searched) u
+  same (inr u) = ap (λ (v : CacheView). v.store.searched) u
+
+-- the unit at a place has its offset in the span
+pub unit_low : (way : Direction) (input : Input) (k : ℕ) → input.start ≤ input.end → input.start ≤ given_up_offset way input k
+unit_low Forward input k undone = omega arith
+unit_low Backward input k undone = omega arith
+
+pub unit_high :
+    (way : Direction) (input : Input) (k : ℕ) → input.start ≤ input.end → k ≤ input.end - input.start
+    → given_up_offset way input k ≤ input.end
+unit_high Forward input k undone within = omega (arith, undone, within)
+unit_high Backward input k undone within = omega (arith, undone)
+
+-- a search that is open moved to a unit
+module _ (way : Direction) (m : Machine) (input : Input) (s : Searched) (from k x : ℕ) (old mid new : CacheView)
+    (undone : input.start ≤ input.end) (within : k ≤ input.end - input.start) (before : IsGrown old mid)
+    (after : IsGrown mid new) (o : IsOpenAt input s (given_up_offset way input from) x old.store mid.store) where
+  pub unit_open :
+      IsMovedTo (given_up_offset way input k) mid.store new.store
+      → IsOpenAt input s (given_up_offset way input from) (given_up_offset way input k) old.store new.store
+  unit_open moved =
+      stays_open input s (given_up_offset way input from) old mid new before after x (given_up_offset way input k)
+      (unit_low way input k undone) (unit_high way input k undone within) o moved
+
+  -- and ended there
+  pub unit_ends :
+      (ended : CacheView) (at : ℕ) → at ≡ given_up_offset way input k
+      → ended ≡ with_store new (with_searched new.store (finished new.store.searched at))
+      → IsMovedTo (given_up_offset way input k) mid.store new.store
+      → EndsAtUnit way input s from k old.store ended.store
+  unit_ends ended at e ends moved =
+      ends_open input s (given_up_offset way input from) old mid ended before
+      (grown_trans mid new ended after (grown_moved new ended ends)) x (given_up_offset way input k)
+      (unit_low way input k undone) (unit_high way input k undone within) o
+      (ended_after mid new ended (given_up_offset way input k) moved
+      (subst (λ a. ended ≡ with_store new (with_searched new.store (finished new.store.searched a))) e ends))
+
+  -- or was refused there
+  pub unit_left :
+      (e : SearchError) → from ≤ k → WalkReads way m input k → HasReadNoQuit way m input k → IsSilent way m input from k
+      → IsUnitRefusal way m new.store input k e
+      → IsLeftAt m (next (tape_in way input) k) (given_up_offset way input k) mid.store new.store e
+      → IsLeftAtUnit way m input s from old.store new.store e
+  unit_left e l reads clean silent refused left = (
+    k,
+    l,
+    reads,
+    clean,
+    silent,
+    refused,
+    ⊎_elim
+        (λ quits. inl (
+          quits.0,
+          ends_open input s (given_up_offset way input from) old mid new before after x
+              (given_up_offset way input k) (unit_low way input k undone) (unit_high way input k undone within) o quits.1,
+        ))
+        (λ room. inr (room.0, unit_open room.1)) left,
+  )
+
+-- it ended at the last unit of the span, where it is
+pub span_ends :
+    (way : Direction) (input : Input) (s : Searched) (from k x at : ℕ) (old mid ended : CacheView)
+    → input.start ≤ input.end → k ≤ input.end - input.start → IsGrown old mid
+    → IsOpenAt input s (given_up_offset way input from) x old.store mid.store → at ≡ given_up_offset way input k
+    → ended ≡ with_store mid (with_searched mid.store (finished mid.store.searched at))
+    → EndsAtUnit way input s from k old.store ended.store
+span_ends way input s from k x at old mid ended undone within before o e ends =
+    ends_kept input s (given_up_offset way input from) old mid ended ended before (given_up_offset way input k) x
+    (subst (λ a. ended ≡ with_store mid (with_searched mid.store (finished mid.store.searched a))) e ends)
+    (grown_same ended ended refl) (unit_low way input k undone) (unit_high way input k undone within) o (inl refl)
+
+-- a call asked for the state that it goes on from, and then began at an offset
+module _ (input : Input) (first : ℕ) (low : input.start ≤ first) (high : first ≤ input.end) (old begun mid new : Stored)
+    (up : old.clears ≤ begun.clears) (same : mid.clears ≡ begun.clears) (more : mid.clears ≤ new.clears)
+    (kept : KeepsProgress old begun) where
+  abbrev Recounted : (beside : Searched) (from : ℕ) → Type 0
+  Recounted beside from =
+      (b : Searched) × (f : ℕ) × CountsFrom input old.searched first old new b f × (started beside from ≡ started b f)
+
+  recount : (beside : Searched) (from : ℕ) → CountsFrom input begun.searched first mid new beside from → Recounted beside from
+  recount beside from (inr c) = (
+    beside,
+    from,
+    inr (λ nothing. c.0 (omega (arith, nothing.0, up, same, more), omega (arith, nothing.0, nothing.1, up, same, more)), c.1, c.2, c.3),
+    refl,
+  )
+  recount beside from (inl c) = go kept where
+    go : KeepsProgress old begun → Recounted beside from
+    go (inl e) = (beside, from, inl (c.0 ∙ e, c.1), refl)
+    go (inr (cleared, e)) = (
+      none_searched,
+      first,
+      inr (λ nothing. cleared (omega (arith, nothing.0, up, same, more), nothing.1), refl, low, high),
+      (λ i. started (c.0 i) (c.1 i)) ∙ (ap (λ (s : Searched). started s first) e ∙ started_cleared old.searched first),
+    )
+
+  pub recounts_ended : (at : ℕ) → IsEndedAt input begun.searched first at mid new → IsEndedAt input old.searched first at old new
+  recounts_ended at (beside, from, counts, e) = go (recount beside from counts) where
+    go : Recounted beside from → IsEndedAt input old.searched first at old new
+    go (b, f, c, s) = (b, f, c, e ∙ ap (λ (v : Searched). finished v at) s)
+
+  pub recounts_open : (at : ℕ) → IsOpenAt input begun.searched first at mid new → IsOpenAt input old.searched first at old new
+  recounts_open at (beside, from, counts, e) = go (recount beside from counts) where
+    go : Recounted beside from → IsOpenAt input old.searched first at old new
+    go (b, f, c, s) = (b, f, c, e ∙ ap (λ (v : Searched). updated v at) s)
+
+  -- it ended at once
+  pub dies_at : new.searched ≡ finished (started begun.searched first) first → IsEndedAt input old.searched first first old new
+  dies_at e = recounts_ended first (begun.searched, first, inl (refl, refl), e)
+
+-- a walk goes on over units
+pub reads_some :
+    (input : Input) (w : Walk) → input.start ≤ input.end → (w.stage ≡ Ended → ⊥)
+    → ((q : Powerset) → w.stage ≡ At q → length q.patterns ≤ w.told) → w.units ≤ input.end - input.start
+    → ReadsNoUnit input w → ⊥
+reads_some input w undone on told within (inl ended) = on ended
+reads_some input w undone on told within (inr (inl (q, at, few))) =
+    (let all : length q.patterns ≤ w.told = told q at in omega (arith, all, few))
+reads_some input w undone on told within (inr (inr past)) = omega (arith, undone, within, past)
+
+-- a walk that lost its state isn't gone on with
+pub stuck_refusal :
+    (way : Direction) (m : Machine) (c : Stored) (input : Input) (stage : Stage) (units : ℕ)
+    → (stage ≡ Fresh → ⊥) → (stage ≡ Ended → ⊥) → IsResumeRefusal way m c input stage units search.OutOfMemory
+stuck_refusal way m c input Fresh units begun on = absurd (begun refl)
+stuck_refusal way m c input (At q) units begun on = inl refl
+stuck_refusal way m c input Ended units begun on = absurd (on refl)
+
+-- a step that was refused after that
+pub recounts_left :
+    (way : Direction) (m : Machine) (input : Input) (old begun mid new : Stored) (units : ℕ)
+    → input.start ≤ input.end → units ≤ input.end - input.start → old.clears ≤ begun.clears
+    → mid.clears ≡ begun.clears → mid.clears ≤ new.clears → KeepsProgress old begun → (e : SearchError)
+    → IsLeftAtUnit way m input begun.searched units mid new e → IsLeftAtUnit way m input old.searched units old new e
+recounts_left way m input old begun mid new units undone within up same more kept e (k, l, reads, clean, silent, refused, left) = (
+  k,
+  l,
+  reads,
+  clean,
+  silent,
+  refused,
+  ⊎_elim
+      (λ quits. inl (
+        quits.0,
+        recounts_ended input (given_up_offset way input units) (unit_low way input units undone)
+            (unit_high way input units undone within) old begun mid new up same more kept (given_up_offset way input k) quits.1,
+      ))
+      (λ room. inr (
+        room.0,
+        recounts_open input (given_up_offset way input units) (unit_low way input units undone)
+            (unit_high way input units undone within) old begun mid new up same more kept (given_up_offset way input k) room.1,
+      )) left,
+)
