@@ -3,7 +3,7 @@
 #     tools/measure.sh [ROUNDS]
 # It needs g++ and RE2's headers; without rustc the twin is left out. Each round runs all programs once with all works;
 # for each work it prints the middle of the rounds in microseconds of the processor, here, by the twin and by RE2, and
-# the times of these two by ours. What the works are stands in measure/measure.in. The twin, measure/twin.rs, is of the
+# the times of these two by ours. What the works are stands in measure/measure.in. The twin, measure/twin, is of the
 # same design, with unchecked loads. MEASURE_COPY names a copy to use again.
 set -eu
 rounds=${1:-7}
@@ -23,7 +23,8 @@ here=$copy/crates/measure/out/measure
 g++ -O2 -o "$copy/re2" "$top/tools/measure/re2.cc" -lre2
 rm -f "$copy/twin"
 if command -v rustc > /dev/null; then
-    rustc --edition 2021 -O -C target-cpu=x86-64-v2 -C panic=abort -o "$copy/twin" "$top/tools/measure/twin.rs"
+    rustc --edition 2021 --crate-name twin -O -C codegen-units=1 -C target-cpu=x86-64-v2 -C panic=abort \
+        -o "$copy/twin" "$top/tools/measure/twin/main.rs"
 else
     echo 'without rustc there is no twin'
 fi
