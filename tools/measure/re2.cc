@@ -99,6 +99,25 @@ static void first(const char* work, const std::string& pattern) {
   printf("%s %ld %ld\n", work, count, time);
 }
 
+// The same with the time of the parse and the program.
+static void whole(const char* work, const std::string& pattern) {
+  StringPiece text("in 2018, worwx and 12");
+  long count = 0, time = 0;
+  for (int i = 0; i < 20000; i++) {
+    long start = now();
+    RE2 re(pattern, latin());
+    if (re.Match(text, 0, text.size(), RE2::UNANCHORED, nullptr, 0)) count++;
+    time += now() - start;
+  }
+  printf("%s %ld %ld\n", work, count, time);
+}
+
+static std::string twenty() {
+  std::string p;
+  for (char c = 'a'; c < 'u'; c++) p += std::string(p.empty() ? "" : "|") + c + "or" + c + "x";
+  return p;
+}
+
 int main(int n, char** words) {
   for (int i = 1; i < n; i++) {
     std::string w = words[i];
@@ -114,10 +133,8 @@ int main(int n, char** words) {
     else if (w == "sets") sets(name, kLine);
     else if (w == "nosets") sets(name, kOther);
     else if (w == "first") first(name, "[0-9]{4}");
-    else if (w == "first20") {
-      std::string p;
-      for (char c = 'a'; c < 'u'; c++) p += std::string(p.empty() ? "" : "|") + c + "or" + c + "x";
-      first(name, p);
-    }
+    else if (w == "first20") first(name, twenty());
+    else if (w == "whole") whole(name, "[0-9]{4}");
+    else if (w == "whole20") whole(name, twenty());
   }
 }
