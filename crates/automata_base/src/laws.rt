@@ -1,10 +1,14 @@
 //! The laws that searches stand on. Each function does nothing: its contract is the law.
-ghost use Rattle.automata_base.specs.LateIsRight.{SearchesAreRight, WalksAreRight, NearestEndsAreRight, EndsAreRight, PairsAreRight};
-ghost use Rattle.automata_base.specs.StartIsRight.{StartsAreRight, SpansAreFound, AreOne, IterationsAreRight, AllEndsRise, MatchIffFound, BackMeetsNone};
-ghost use Rattle.automata_base.specs.StepLaws.{ClassesStepAlike, ClassesQuitAlike, StartsAreAlike, DeadStaysDead, PassesSelect, PassesFindNearest, PassesFindFarthest};
+ghost use Rattle.automata_base.specs.LateIsRight.{SearchesAreRight, WalksAreRight, NearestEndsAreRight, EndsAreRight};
+ghost use Rattle.automata_base.specs.LateIsRight.{PairsAreRight};
+ghost use Rattle.automata_base.specs.StartIsRight.{StartsAreRight, SpansAreFound, AreOne, IterationsAreRight};
+ghost use Rattle.automata_base.specs.StartIsRight.{AllEndsRise, MatchIffFound, BackMeetsNone};
+ghost use Rattle.automata_base.specs.StepLaws.{ClassesStepAlike, ClassesQuitAlike, StartsAreAlike, DeadStaysDead};
+ghost use Rattle.automata_base.specs.StepLaws.{PassesSelect, PassesFindNearest, PassesFindFarthest};
 ghost use Rattle.automata_base.specs.StepLaws.{PowersetStartsAreRight, SuccessorsAreRight};
 ghost use Rattle.automata_base.specs.Told.{ToldEndsAreRight, ToldIsOne, ToldIsRight};
-ghost use Rattle.automata_base.specs.WalkLaws.{AllPairsAreTold, OverlappingIsTold, WalkIsRight, WalksAreOne, WalksAreTold};
+ghost use Rattle.automata_base.specs.WalkLaws.{AllPairsAreTold, OverlappingIsTold, WalkIsRight, WalksAreOne};
+ghost use Rattle.automata_base.specs.WalkLaws.{WalksAreTold};
 ghost use Rattle.automata_base.specs.Within.{StatesTellOwn, ToldLiesWithin, WalkLiesWithin};
 
 use crate::nfa::thompson::NFA;

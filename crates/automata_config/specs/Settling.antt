@@ -1,5 +1,6 @@
 -- What a configuration makes of an automaton: a quit set, classes, a capacity; or a refusal.
-use Rattle.std.specs.Prelude.{ℕ, ◌≡◌, ◌+◌, ◌*◌, ◌<◌, ◌≤◌, Bool, not, ◌&&◌, ◌||◌, nat_le, nat_lt, eqb, if◌then◌else◌, List, [], ◌∷◌, map, Option, Some, None}
+use Rattle.std.specs.Prelude.{ℕ, ◌≡◌, ◌+◌, ◌*◌, ◌<◌, ◌≤◌, Bool, not, ◌&&◌, ◌||◌, nat_le, nat_lt, eqb, if◌then◌else◌}
+use Rattle.std.specs.Prelude.{List, [], ◌∷◌, map, Option, Some, None}
 use Rattle.std.specs.List.{list_all, list_any, range_with_len}
 use Rattle.automata_base.specs.Accounting.{start_slots, max_cost, fixed_cost, minimum_capacity, effective_capacity}
 use Rattle.automata_base.specs.Classes.{is_quit, class_of, class_in, stride_for}
@@ -7,11 +8,16 @@ use Rattle.automata_base.specs.Computed.{any_node}
 use Rattle.automata_base.specs.Looks.{look_index}
 use Rattle.automata_base.specs.Nodes.{Automaton, nfa_of}
 use Rattle.automata_base.specs.declared.util.look.Look.{Look}
-use Rattle.automata_base.specs.declared.util.look.Look.TheVariants.{WordUnicode, WordUnicodeNegate, WordStartUnicode, WordEndUnicode, WordStartHalfUnicode, WordEndHalfUnicode}
-use Rattle.automata_config.specs.Options.{Options, starts_for_each_pattern_of, byte_classes_of, unicode_word_boundary_of, quits_of, cache_capacity_of, skip_cache_capacity_check_of}
+use Rattle.automata_base.specs.declared.util.look.Look.TheVariants.{WordUnicode, WordUnicodeNegate, WordStartUnicode}
+use Rattle.automata_base.specs.declared.util.look.Look.TheVariants.{WordEndUnicode, WordStartHalfUnicode}
+use Rattle.automata_base.specs.declared.util.look.Look.TheVariants.{WordEndHalfUnicode}
+use Rattle.automata_config.specs.Options.{Options, starts_for_each_pattern_of, byte_classes_of}
+use Rattle.automata_config.specs.Options.{unicode_word_boundary_of, quits_of, cache_capacity_of}
+use Rattle.automata_config.specs.Options.{skip_cache_capacity_check_of}
 use Rattle.automata_config.specs.Settled.{Settled}
 use Rattle.automata_config.specs.declared.error.BuildError.{BuildError}
-use Rattle.automata_config.specs.declared.error.BuildError.TheVariants.{Unsupported, InsufficientCacheCapacity, InsufficientStateIDCapacity}
+use Rattle.automata_config.specs.declared.error.BuildError.TheVariants.{Unsupported, InsufficientCacheCapacity}
+use Rattle.automata_config.specs.declared.error.BuildError.TheVariants.{InsufficientStateIDCapacity}
 
 -- Whether the look is a state of the automaton.
 abbrev pub occurs : Automaton → Look → Bool

@@ -60,9 +60,11 @@ impl Model for Config {
 }
 
 impl Config {
-    ghost use Rattle.std.specs.Prelude.{◌≡◌, ◌≤◌, ◌&&◌, not, nat_lt, length, Some, None, if◌then◌else◌, IfOk, IsTrue, slice_set};
+    ghost use Rattle.std.specs.Prelude.{◌≡◌, ◌≤◌, ◌&&◌, not, nat_lt, length, Some, None, if◌then◌else◌, IfOk, IsTrue};
+    ghost use Rattle.std.specs.Prelude.{slice_set};
     ghost use Rattle.std.specs.Result.{result_err};
-    ghost use Rattle.automata_config.specs.Settling.{settled_minimum, settled_stride, settled_quits, greatest_offset, is_unsupported, settling_refusal, IsSettled};
+    ghost use Rattle.automata_config.specs.Settling.{settled_minimum, settled_stride, settled_quits, greatest_offset};
+    ghost use Rattle.automata_config.specs.Settling.{is_unsupported, settling_refusal, IsSettled};
     ghost use Rattle.automata_base.specs.Classes.{is_quit};
     ghost use Rattle.automata_config.specs.Options.{unset, overwritten};
     ghost use Rattle.automata_config.specs.Options as options;

@@ -1,8 +1,11 @@
 ghost use Rattle.std.specs.Prelude.{◌≡◌};
 ghost use Rattle.automata_config.specs.declared.error.BuildError.TheVariants.{OutOfMemory as BuildOutOfMemory};
-ghost use Rattle.automata_config.specs.declared.error.StepError.TheVariants.{Cache as StepCache, OutOfMemory as StepOutOfMemory};
-ghost use Rattle.automata_config.specs.declared.error.StartError.TheVariants.{Cache as StartCache, OutOfMemory as StartOutOfMemory};
-ghost use Rattle.automata_config.specs.declared.error.SearchError.TheVariants.{Match as SearchMatch, OutOfMemory as SearchOutOfMemory};
+ghost use Rattle.automata_config.specs.declared.error.StepError.TheVariants.{Cache as StepCache};
+ghost use Rattle.automata_config.specs.declared.error.StepError.TheVariants.{OutOfMemory as StepOutOfMemory};
+ghost use Rattle.automata_config.specs.declared.error.StartError.TheVariants.{Cache as StartCache};
+ghost use Rattle.automata_config.specs.declared.error.StartError.TheVariants.{OutOfMemory as StartOutOfMemory};
+ghost use Rattle.automata_config.specs.declared.error.SearchError.TheVariants.{Match as SearchMatch};
+ghost use Rattle.automata_config.specs.declared.error.SearchError.TheVariants.{OutOfMemory as SearchOutOfMemory};
 
 use automata_base::util::search::{Anchored, MatchError};
 use std::alloc::{AllocError, AllocFailed};

@@ -5,7 +5,9 @@ use Rattle.automata_base.specs.Classes.{stride_of}
 use Rattle.automata_base.specs.Nodes.{Automaton}
 use Rattle.automata_base.specs.declared.nfa.thompson.State.{State}
 use Rattle.automata_base.specs.declared.nfa.thompson.State.TheVariants.{Match, Fail}
-use Rattle.automata_config.specs.Options.{Options, match_kind_of, minimum_cache_clear_count_of, minimum_bytes_per_state_of, specialize_start_states_of, starts_for_each_pattern_of}
+use Rattle.automata_config.specs.Options.{Options, match_kind_of, minimum_cache_clear_count_of}
+use Rattle.automata_config.specs.Options.{minimum_bytes_per_state_of, specialize_start_states_of}
+use Rattle.automata_config.specs.Options.{starts_for_each_pattern_of}
 use Rattle.automata_config.specs.Settled.{Settled}
 use Rattle.automata_config.specs.Settling.{IsSettled}
 use Rattle.automata_hybrid.specs.Machine.{Machine}

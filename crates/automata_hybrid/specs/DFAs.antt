@@ -1,4 +1,5 @@
-use Rattle.automata_config.specs.Options.{match_kind_of, minimum_cache_clear_count_of, minimum_bytes_per_state_of, specialize_start_states_of, starts_for_each_pattern_of}
+use Rattle.automata_config.specs.Options.{match_kind_of, minimum_cache_clear_count_of, minimum_bytes_per_state_of}
+use Rattle.automata_config.specs.Options.{specialize_start_states_of, starts_for_each_pattern_of}
 use Rattle.automata_hybrid.specs.Machine.{Machine}
 use Rattle.automata_hybrid.specs.declared.dfa.DFA.TheInside.{Inside}
 

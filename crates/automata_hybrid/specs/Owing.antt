@@ -1,5 +1,6 @@
 -- What a search answers by its DFA and its input alone, whatever the cache, and what it makes of its cache.
-use Rattle.std.specs.Prelude.{ℕ, ◌≡◌, ◌<◌, ◌≤◌, true, false, Option, None, option_map, Result, Ok, Err, IfOk, IfErr, IfSome, OnOk}
+use Rattle.std.specs.Prelude.{ℕ, ◌≡◌, ◌<◌, ◌≤◌, true, false, Option, None, option_map, Result, Ok, Err, IfOk, IfErr}
+use Rattle.std.specs.Prelude.{IfSome, OnOk}
 use Rattle.automata_base.specs.Answers.{Half, IsAnswer}
 use Rattle.automata_base.specs.Engines.{engine_of}
 use Rattle.automata_base.specs.Input.{Input}

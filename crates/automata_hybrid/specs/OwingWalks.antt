@@ -1,6 +1,7 @@
 -- What a call of a walk and a set answer by their DFA and their input alone, whatever the cache, and what they make of
 -- their cache.
-use Rattle.std.specs.Prelude.{ℕ, ◌≡◌, ◌<◌, ◌≤◌, ◌+◌, ◌-◌, ◌⊎◌, Bool, true, false, List, length, Result, Err, IfErr, IfSome, OnOk, OnErr}
+use Rattle.std.specs.Prelude.{ℕ, ◌≡◌, ◌<◌, ◌≤◌, ◌+◌, ◌-◌, ◌⊎◌, Bool, true, false, List, length, Result, Err, IfErr}
+use Rattle.std.specs.Prelude.{IfSome, OnOk, OnErr}
 use Rattle.automata_base.specs.Answers.{ArePatterns, ArePatternsFound, IsOverlapping}
 use Rattle.automata_base.specs.Engines.{engine_of}
 use Rattle.automata_base.specs.Input.{Input}
@@ -19,7 +20,8 @@ use Rattle.automata_hybrid.specs.KnowingWalks.{KnowsWalk, KnowsWhich}
 use Rattle.automata_hybrid.specs.Machine.{Machine}
 use Rattle.automata_hybrid.specs.Owing.{IsMemory, IsStoreOf, IsUnhindered, IsUnsupported, unsupported_error}
 use Rattle.automata_hybrid.specs.SearchedWalks.{EndsCall, EndsSet, LeavesCall, LeavesSet}
-use Rattle.automata_hybrid.specs.Walking.{AreWalked, HasItsState, HasTold, IsWalkRefusal, TellsNext, half_nth, start_count}
+use Rattle.automata_hybrid.specs.Walking.{AreWalked, HasItsState, HasTold, IsWalkRefusal, TellsNext, half_nth}
+use Rattle.automata_hybrid.specs.Walking.{start_count}
 use Rattle.automata_hybrid.specs.Walks.{At, Ended, Fresh, Walk, without_match}
 use Rattle.automata_hybrid.specs.Which.{IsWhichRefusal}
 use Rattle.automata_hybrid.specs.Within.{LiesIn}

@@ -13,7 +13,8 @@ use Rattle.automata_base.specs.Tapes.{Direction, Forward, Backward, tape_of}
 use Rattle.automata_base.specs.Telling.{state_after, told_upto}
 use Rattle.automata_base.specs.Told.{told_over}
 use Rattle.automata_base.specs.Steps.{successor}
-use Rattle.automata_base.specs.declared.util.search.MatchErrorKind.TheVariants.{Quit as QuitAt, GaveUp, UnsupportedAnchored as UnsupportedMode}
+use Rattle.automata_base.specs.declared.util.search.MatchErrorKind.TheVariants.{Quit as QuitAt, GaveUp}
+use Rattle.automata_base.specs.declared.util.search.MatchErrorKind.TheVariants.{UnsupportedAnchored as UnsupportedMode}
 use Rattle.automata_config.specs.declared.error.SearchError.{SearchError}
 use Rattle.automata_config.specs.declared.error.SearchError.TheVariants as search
 use Rattle.automata_hybrid.specs.Stores.{Stored}

@@ -3,7 +3,8 @@ use Rattle.automata_base.specs.Powerset.{Powerset}
 use Rattle.automata_base.specs.Classes.{is_quit}
 use Rattle.automata_base.specs.Steps.{start_state_of}
 use Rattle.automata_base.specs.declared.util.search.Anchored.{Anchored}
-use Rattle.automata_base.specs.declared.util.search.MatchErrorKind.TheVariants.{Quit as QuitAt, GaveUp, UnsupportedAnchored as UnsupportedMode}
+use Rattle.automata_base.specs.declared.util.search.MatchErrorKind.TheVariants.{Quit as QuitAt, GaveUp}
+use Rattle.automata_base.specs.declared.util.search.MatchErrorKind.TheVariants.{UnsupportedAnchored as UnsupportedMode}
 use Rattle.automata_config.specs.declared.error.StepError.{StepError}
 use Rattle.automata_config.specs.declared.error.StepError.TheVariants as step
 use Rattle.automata_config.specs.declared.error.StartError.{StartError}

@@ -1,5 +1,6 @@
 -- The accounted bytes of a cache, what fits, and when a clear is refused.
-use Rattle.std.specs.Prelude.{◌≡◌, ℕ, ◌+◌, ◌*◌, ◌^◌, ◌<◌, ◌≤◌, length, Bool, true, false, cond, Option, None, Some, sum_by, nat_lt}
+use Rattle.std.specs.Prelude.{◌≡◌, ℕ, ◌+◌, ◌*◌, ◌^◌, ◌<◌, ◌≤◌, length, Bool, true, false, cond, Option, None, Some}
+use Rattle.std.specs.Prelude.{sum_by, nat_lt}
 use Rattle.automata_base.specs.Powerset.{Powerset, cost}
 use Rattle.automata_base.specs.Accounting.{minimum_capacity}
 use Rattle.automata_hybrid.specs.declared.dfa.settings.Settings.{Settings}

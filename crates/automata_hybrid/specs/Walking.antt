@@ -17,7 +17,8 @@ use Rattle.automata_hybrid.specs.Stores.{Stored}
 use Rattle.automata_hybrid.specs.Usage.{GivesUp}
 use Rattle.automata_hybrid.specs.Machine.{Machine, greatest}
 use Rattle.automata_hybrid.specs.Owned.{IsOwn}
-use Rattle.automata_hybrid.specs.Searches.{HasReadNoQuit, IsStepRefusal, Skips, behind_offset, given_up_offset, state_in, tape_in, unit_offset}
+use Rattle.automata_hybrid.specs.Searches.{HasReadNoQuit, IsStepRefusal, Skips, behind_offset, given_up_offset}
+use Rattle.automata_hybrid.specs.Searches.{state_in, tape_in, unit_offset}
 use Rattle.automata_hybrid.specs.Starting.{IsStartRefusalAt, MayStart}
 use Rattle.automata_hybrid.specs.Table.{Rows, Has, Names}
 use Rattle.automata_hybrid.specs.Walks.{At, Ended, Fresh, Stage, Walk}

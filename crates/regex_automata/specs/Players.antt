@@ -1,5 +1,6 @@
 -- How what a replay keeps stands to the history of its requests and replies.
-use Rattle.std.specs.Prelude.{ℕ, ◌≡◌, ◌+◌, ◌<◌, List, [], ◌∷◌, length, slice_index_or, slice_set, Option, Some, Result, OnOk, OnErr}
+use Rattle.std.specs.Prelude.{ℕ, ◌≡◌, ◌+◌, ◌<◌, List, [], ◌∷◌, length, slice_index_or, slice_set, Option, Some, Result}
+use Rattle.std.specs.Prelude.{OnOk, OnErr}
 use Rattle.automata_base.specs.Input.{Input}
 use Rattle.automata_base.specs.Lists.{nth}
 use Rattle.automata_base.specs.Matches.{HalfMatch}

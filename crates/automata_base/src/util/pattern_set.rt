@@ -40,7 +40,8 @@ impl Model for PatternSet {
 }
 
 impl PatternSet {
-    ghost use Rattle.std.specs.Prelude.{◌≡◌, ◌<◌, ◌≤◌, ◌↔◌, [], false, true, not, length, IfOk, IfErr, OnErr, IsErr, IsTrue, replicate, slice_set};
+    ghost use Rattle.std.specs.Prelude.{◌≡◌, ◌<◌, ◌≤◌, ◌↔◌, [], false, true, not, length, IfOk, IfErr, OnErr, IsErr};
+    ghost use Rattle.std.specs.Prelude.{IsTrue, replicate, slice_set};
     ghost use Rattle.automata_base.specs.PatternSet.{has, members, AreSmall};
 
     /// The empty set.

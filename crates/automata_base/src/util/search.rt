@@ -281,7 +281,13 @@ impl<'h> Model for Input<'h> {
 
     ghost Value = { spec.Input };
 
-    ghost view = { λ i. record { haystack = i.haystack.now; start = i.span.start; end = i.span.end; anchored = i.anchored; earliest = i.earliest } };
+    ghost view = { λ i. record {
+      haystack = i.haystack.now;
+      start = i.span.start;
+      end = i.span.end;
+      anchored = i.anchored;
+      earliest = i.earliest;
+    } };
 
     ghost invariant = { λ i. spec.Allows i.haystack.now i.span.start i.span.end };
 }

@@ -1,11 +1,14 @@
-ghost use Rattle.std.specs.Prelude.{ℕ, ◌≡◌, ◌*◌, ◌^◌, ◌<◌, ◌≤◌, None, Some, IfOk, IfErr, OnOk, OnErr, slice_index, length, is_some, IsSome, IsTrue, ◌↔◌, ◌⊎◌, true, false, IsBitSet};
+ghost use Rattle.std.specs.Prelude.{ℕ, ◌≡◌, ◌*◌, ◌^◌, ◌<◌, ◌≤◌, None, Some, IfOk, IfErr, OnOk, OnErr, slice_index};
+ghost use Rattle.std.specs.Prelude.{length, is_some, IsSome, IsTrue, ◌↔◌, ◌⊎◌, true, false, IsBitSet};
 ghost use Rattle.automata_base.specs.Powerset.{Powerset, cost, dead};
 ghost use Rattle.automata_base.specs.Steps.{successor, start_state_of};
 ghost use Rattle.automata_hybrid.specs.Owned.{IsOwn};
 ghost use Rattle.automata_hybrid.specs.Machine.{next_of, start_of, greatest, template_of};
 ghost use Rattle.automata_hybrid.specs.Ids.{dead_id, unknown_id, fixed_from, offset_limit};
-ghost use Rattle.automata_hybrid.specs.Table.{id_of, Names, IsValid, Leads, MayLead, IsCell, HasCells, HasItsMatchTag, HasRowIds, Has};
-ghost use Rattle.automata_hybrid.specs.Stores.{IsCacheError, KeepsStarts, cell_of, with_next, with_start, with_searched};
+ghost use Rattle.automata_hybrid.specs.Table.{id_of, Names, IsValid, Leads, MayLead, IsCell, HasCells, HasItsMatchTag};
+ghost use Rattle.automata_hybrid.specs.Table.{HasRowIds, Has};
+ghost use Rattle.automata_hybrid.specs.Stores.{IsCacheError, KeepsStarts, cell_of, with_next, with_start};
+ghost use Rattle.automata_hybrid.specs.Stores.{with_searched};
 ghost use Rattle.automata_hybrid.specs.Usage.{Fits, refuses_to_clear, cleared, usage, GivesUp};
 ghost use Rattle.automata_hybrid.specs.Effects.{IsAdded, IsAddedStart, grown};
 ghost use Rattle.automata_hybrid.specs.Caches.{IsRow, IsCacheOf, fresh_cache, counted, with_store};

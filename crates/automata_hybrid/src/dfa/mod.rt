@@ -1,4 +1,5 @@
-ghost use Rattle.std.specs.Prelude.{ℕ, ◌≡◌, ◌<◌, ◌≤◌, ◌^◌, IfOk, OnOk, OnErr, Some, None, true, false, slice_index, length};
+ghost use Rattle.std.specs.Prelude.{ℕ, ◌≡◌, ◌<◌, ◌≤◌, ◌^◌, IfOk, OnOk, OnErr, Some, None, true, false, slice_index};
+ghost use Rattle.std.specs.Prelude.{length};
 ghost use Rattle.automata_base.specs.Powerset.{Powerset};
 ghost use Rattle.automata_base.specs.Classes.{class_in, eoi_class, is_quit};
 ghost use Rattle.automata_base.specs.Steps.{successor};

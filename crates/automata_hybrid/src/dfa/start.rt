@@ -1,4 +1,5 @@
-ghost use Rattle.std.specs.Prelude.{◌≡◌, ◌+◌, ◌-◌, ◌*◌, ◌<◌, ◌≤◌, None, Some, IfOk, IfErr, IfSome, IfNone, ◌↔◌, OnOk, OnErr, length, slice_index, Ok, Err, false, Option, ◌⊎◌};
+ghost use Rattle.std.specs.Prelude.{◌≡◌, ◌+◌, ◌-◌, ◌*◌, ◌<◌, ◌≤◌, None, Some, IfOk, IfErr, IfSome, IfNone, ◌↔◌, OnOk};
+ghost use Rattle.std.specs.Prelude.{OnErr, length, slice_index, Ok, Err, false, Option, ◌⊎◌};
 ghost use Rattle.automata_base.specs.Alike.{behind_of};
 ghost use Rattle.automata_base.specs.Powerset.{Powerset, cost, dead};
 ghost use Rattle.automata_base.specs.Classes.{is_quit};
@@ -6,7 +7,8 @@ ghost use Rattle.automata_base.specs.Steps.{start_state_of};
 ghost use Rattle.automata_hybrid.specs.Machine.{start_of, greatest};
 ghost use Rattle.automata_base.specs.Tapes.{byte_before};
 ghost use Rattle.automata_base.specs.Lists.{nth};
-ghost use Rattle.automata_hybrid.specs.Starting.{quit_behind, start_refusal, search_refusal, MayStart, IsStartAnswer, IsStartRefused, IsStartRefusedAt, IsStartEffect};
+ghost use Rattle.automata_hybrid.specs.Starting.{quit_behind, start_refusal, search_refusal, MayStart, IsStartAnswer};
+ghost use Rattle.automata_hybrid.specs.Starting.{IsStartRefused, IsStartRefusedAt, IsStartEffect};
 ghost use Rattle.automata_hybrid.specs.Slots.{supports, slot_of, slot_behind};
 ghost use Rattle.automata_hybrid.specs.Table.{Leads, Has, HasItsMatchTag, KeepsStartTags, TagsNewStates};
 ghost use Rattle.automata_hybrid.specs.Stores.{IsCacheError, IsKnownStart, KeepsStarts};

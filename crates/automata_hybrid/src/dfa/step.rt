@@ -1,9 +1,11 @@
-ghost use Rattle.std.specs.Prelude.{◌≡◌, ◌+◌, ◌<◌, ◌≤◌, None, Some, IfOk, IfErr, IsBitSet, OnOk, OnErr, length, slice_index, Ok, true, false, ◌⊎◌};
+ghost use Rattle.std.specs.Prelude.{◌≡◌, ◌+◌, ◌<◌, ◌≤◌, None, Some, IfOk, IfErr, IsBitSet, OnOk, OnErr, length};
+ghost use Rattle.std.specs.Prelude.{slice_index, Ok, true, false, ◌⊎◌};
 ghost use Rattle.automata_base.specs.Powerset.{Powerset, cost};
 ghost use Rattle.automata_base.specs.Steps.{successor};
 ghost use Rattle.automata_hybrid.specs.Owned.{IsOwn};
 ghost use Rattle.automata_hybrid.specs.Machine.{next_of, template_of, greatest};
-ghost use Rattle.automata_hybrid.specs.Table.{Names, IsValid, Leads, Has, HasItsMatchTag, KeepsStartTags, TagsNewStates};
+ghost use Rattle.automata_hybrid.specs.Table.{Names, IsValid, Leads, Has, HasItsMatchTag, KeepsStartTags};
+ghost use Rattle.automata_hybrid.specs.Table.{TagsNewStates};
 ghost use Rattle.automata_hybrid.specs.Stores.{IsCacheError, IsKnownTransition, cell_of, IsNext, KeepsStarts};
 ghost use Rattle.automata_hybrid.specs.Usage.{GivesUp};
 ghost use Rattle.automata_hybrid.specs.Effects.{IsComputed};

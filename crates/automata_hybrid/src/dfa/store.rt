@@ -1,4 +1,5 @@
-ghost use Rattle.std.specs.Prelude.{ℕ, ◌≡◌, ◌+◌, ◌-◌, ◌*◌, ◌/◌, ◌^◌, ◌<◌, ◌≤◌, ◌↔◌, ◌⊎◌, None, Some, IfOk, OnOk, OnErr, length, slice_index, IsTrue, IfErr, is_ok, is_some, true, false, IsBitSet};
+ghost use Rattle.std.specs.Prelude.{ℕ, ◌≡◌, ◌+◌, ◌-◌, ◌*◌, ◌/◌, ◌^◌, ◌<◌, ◌≤◌, ◌↔◌, ◌⊎◌, None, Some, IfOk, OnOk, OnErr};
+ghost use Rattle.std.specs.Prelude.{length, slice_index, IsTrue, IfErr, is_ok, is_some, true, false, IsBitSet};
 ghost use Rattle.automata_base.specs.Powerset.{Powerset, cost, dead};
 ghost use Rattle.automata_base.specs.Accounting.{minimum_capacity};
 ghost use Rattle.automata_hybrid.specs.Owned.{IsOwn};
@@ -6,7 +7,8 @@ ghost use Rattle.automata_hybrid.specs.Ids.{dead_id, unknown_id, fixed_from, off
 ghost use Rattle.automata_hybrid.specs.Machine.{next_of, start_of, greatest, template_of, IsTemplate};
 ghost use Rattle.automata_hybrid.specs.Table.{id_of, Names, IsValid, Leads, MayLead, IsCell, HasCells, HasRowIds, Has};
 ghost use Rattle.automata_hybrid.specs.Clears.{row_of};
-ghost use Rattle.automata_hybrid.specs.Stores.{with_table, IsCacheError, cell_of, with_next, fresh_store, settings_of, with_start, KeepsStarts};
+ghost use Rattle.automata_hybrid.specs.Stores.{with_table, IsCacheError, cell_of, with_next, fresh_store, settings_of};
+ghost use Rattle.automata_hybrid.specs.Stores.{with_start, KeepsStarts};
 ghost use Rattle.automata_hybrid.specs.Usage.{usage, Fits, refuses_to_clear, cleared};
 ghost use Rattle.automata_hybrid.specs.Effects.{grown, put_found, cleared_saving, IsAdded, IsAddedStart};
 ghost use Rattle.automata_hybrid.specs.Caches.{IsRow};

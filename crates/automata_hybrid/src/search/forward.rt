@@ -1,4 +1,5 @@
-ghost use Rattle.std.specs.Prelude.{◌≡◌, ◌+◌, ◌-◌, ◌<◌, ◌≤◌, ◌⊎◌, IfOk, IfErr, IfSome, IsBitSet, IsTrue, OnOk, Option, None, Err, Ok, true, false, option_map};
+ghost use Rattle.std.specs.Prelude.{◌≡◌, ◌+◌, ◌-◌, ◌<◌, ◌≤◌, ◌⊎◌, IfOk, IfErr, IfSome, IsBitSet, IsTrue, OnOk, Option};
+ghost use Rattle.std.specs.Prelude.{None, Err, Ok, true, false, option_map};
 ghost use Rattle.automata_base.specs.Matches as matches;
 ghost use Rattle.automata_base.specs.Tapes.{Forward, byte_before};
 ghost use Rattle.automata_base.specs.declared.util.search.MatchErrorKind.TheVariants.{UnsupportedAnchored as UnsupportedMode};
@@ -12,9 +13,11 @@ ghost use Rattle.automata_hybrid.specs.Passing.{HasLearned, HasLearnedAll, IsAt,
 ghost use Rattle.automata_base.specs.Paths.{next};
 ghost use Rattle.automata_base.specs.Powerset.{Powerset, dead};
 ghost use Rattle.automata_hybrid.specs.Progressing.{started};
-ghost use Rattle.automata_hybrid.specs.Searched.{EndsAtLast, EndsProgress, HasEnded, IsEndedBy, IsLeft, IsLeftAt, IsLeftOpen, LeavesProgress};
+ghost use Rattle.automata_hybrid.specs.Searched.{EndsAtLast, EndsProgress, HasEnded, IsEndedBy, IsLeft, IsLeftAt};
+ghost use Rattle.automata_hybrid.specs.Searched.{IsLeftOpen, LeavesProgress};
 ghost use Rattle.automata_hybrid.specs.declared.dfa.progress.Searched.{Searched};
-ghost use Rattle.automata_hybrid.specs.Searches.{given_up_offset, IsFound, IsPassRefusal, IsRefused, MeetsNoQuit, state_in, tape_in, with_base};
+ghost use Rattle.automata_hybrid.specs.Searches.{given_up_offset, IsFound, IsPassRefusal, IsRefused, MeetsNoQuit};
+ghost use Rattle.automata_hybrid.specs.Searches.{state_in, tape_in, with_base};
 ghost use Rattle.automata_hybrid.specs.Slots.{supports};
 ghost use Rattle.automata_hybrid.specs.Starting.{MayStart, quit_behind};
 ghost use Rattle.automata_hybrid.specs.Table.{IsValid, Names};

@@ -1,5 +1,6 @@
 //! Overlapping walks: each call tells the next match, over whatever caches of the DFA.
-ghost use Rattle.std.specs.Prelude.{ℕ, ◌≡◌, ◌+◌, ◌-◌, ◌<◌, ◌≤◌, ◌⊎◌, ◌^◌, IfOk, IfErr, IfNone, IfSome, OnOk, OnErr, None, Some, Err, true, false, length, slice_index};
+ghost use Rattle.std.specs.Prelude.{ℕ, ◌≡◌, ◌+◌, ◌-◌, ◌<◌, ◌≤◌, ◌⊎◌, ◌^◌, IfOk, IfErr, IfNone, IfSome, OnOk, OnErr};
+ghost use Rattle.std.specs.Prelude.{None, Some, Err, true, false, length, slice_index};
 ghost use Rattle.automata_base.specs.Powerset.{Powerset};
 ghost use Rattle.automata_base.specs.Tapes.{Forward, Backward};
 ghost use Rattle.automata_hybrid.specs.Stores.{IsCacheError};
@@ -15,7 +16,9 @@ ghost use Rattle.automata_hybrid.specs.Slots.{supports};
 ghost use Rattle.automata_hybrid.specs.Starting.{MayStart, quit_behind};
 ghost use Rattle.automata_base.specs.declared.util.search.MatchErrorKind.TheVariants.{UnsupportedAnchored as UnsupportedMode};
 ghost use Rattle.automata_hybrid.specs.Table.{Leads, Names};
-ghost use Rattle.automata_hybrid.specs.Walking.{Arrives, CanGoOn, GoesOn, HasItsState, HasTold, HasToldBy, IsNamedAt, IsResumeRefusal, IsRowState, IsWalkOf, IsWalkRefusal, TellsNext, WalkReads, start_count};
+ghost use Rattle.automata_hybrid.specs.Walking.{Arrives, CanGoOn, GoesOn, HasItsState, HasTold, HasToldBy, IsNamedAt};
+ghost use Rattle.automata_hybrid.specs.Walking.{IsResumeRefusal, IsRowState, IsWalkOf, IsWalkRefusal, TellsNext};
+ghost use Rattle.automata_hybrid.specs.Walking.{WalkReads, start_count};
 ghost use Rattle.automata_hybrid.specs.Walks.{At, Ended, Fresh, way_of, without_match};
 
 use crate::dfa::DFA;

@@ -1,5 +1,6 @@
 //! The units of a walk, in either direction, and going on over them to the next state that tells patterns.
-ghost use Rattle.std.specs.Prelude.{ℕ, ◌≡◌, ◌+◌, ◌-◌, ◌<◌, ◌≤◌, ◌⊎◌, IfOk, IfErr, OnOk, OnErr, None, Some, Err, [], true, false, suc, length};
+ghost use Rattle.std.specs.Prelude.{ℕ, ◌≡◌, ◌+◌, ◌-◌, ◌<◌, ◌≤◌, ◌⊎◌, IfOk, IfErr, OnOk, OnErr, None, Some, Err, []};
+ghost use Rattle.std.specs.Prelude.{true, false, suc, length};
 ghost use Rattle.automata_base.specs.Answers.{offset_in};
 ghost use Rattle.automata_base.specs.Classes.{class_in, is_quit};
 ghost use Rattle.automata_base.specs.Paths.{next};
@@ -13,7 +14,8 @@ ghost use Rattle.automata_hybrid.specs.Knowing.{IsOfInput, KnowsItsStart, KnowsU
 ghost use Rattle.automata_hybrid.specs.KnowingWalks.{HasLearnedUnits, KnowsUnits};
 ghost use Rattle.automata_hybrid.specs.Passing.{HasLearnedUnit, IsFollowed};
 ghost use Rattle.automata_hybrid.specs.declared.dfa.progress.Searched.{Searched};
-ghost use Rattle.automata_hybrid.specs.Searches.{HasReadNoQuit, IsStepRefusal, Skips, behind_offset, given_up_offset, state_in, tape_in, unit_offset};
+ghost use Rattle.automata_hybrid.specs.Searches.{HasReadNoQuit, IsStepRefusal, Skips, behind_offset, given_up_offset};
+ghost use Rattle.automata_hybrid.specs.Searches.{state_in, tape_in, unit_offset};
 ghost use Rattle.automata_hybrid.specs.Progressing.{started};
 ghost use Rattle.automata_hybrid.specs.Searched.{IsLeftAt, IsMovedTo};
 ghost use Rattle.automata_hybrid.specs.SearchedWalks.{EndsAtUnit, HasJustMoved, IsLeftAtUnit};

@@ -1,7 +1,9 @@
-ghost use Rattle.std.specs.Prelude.{ℕ, ◌≡◌, ◌+◌, ◌<◌, ◌≤◌, ◌^◌, IfOk, IfSome, IfNone, Option, None, Some, true, false, length, slice_index, suc};
+ghost use Rattle.std.specs.Prelude.{ℕ, ◌≡◌, ◌+◌, ◌<◌, ◌≤◌, ◌^◌, IfOk, IfSome, IfNone, Option, None, Some, true, false};
+ghost use Rattle.std.specs.Prelude.{length, slice_index, suc};
 ghost use Rattle.automata_base.specs.Powerset.{Powerset};
 ghost use Rattle.automata_hybrid.specs.Table.{id_of};
-ghost use Rattle.automata_hybrid.specs.Walks.{At, Ended, Fresh, ended_walk, fresh_walk, is_lost, state_held, with_match, without_match, HasKey};
+ghost use Rattle.automata_hybrid.specs.Walks.{At, Ended, Fresh, ended_walk, fresh_walk, is_lost, state_held};
+ghost use Rattle.automata_hybrid.specs.Walks.{with_match, without_match, HasKey};
 
 use crate::dfa::cache::Cache;
 use crate::id::LazyStateID;

@@ -185,7 +185,8 @@ impl Clone for NFA {
 }
 
 impl NFA {
-    ghost use Rattle.std.specs.Prelude.{◌≡◌, ◌<◌, ◌≤◌, ◌↔◌, ℕ, true, None, Some, IfOk, IsOkUnless, IsTrue, length, slice_get, slice_index_or};
+    ghost use Rattle.std.specs.Prelude.{◌≡◌, ◌<◌, ◌≤◌, ◌↔◌, ℕ, true, None, Some, IfOk, IsOkUnless, IsTrue, length};
+    ghost use Rattle.std.specs.Prelude.{slice_get, slice_index_or};
     ghost use Rattle.automata_base.specs.Door.{IsDoor, IsLooks};
     ghost use Rattle.automata_base.specs.Getters.{HasEmpty, IsAlwaysStartAnchored, SkipsLazily};
     ghost use Rattle.automata_base.specs.Looks.{Look};

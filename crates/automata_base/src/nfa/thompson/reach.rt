@@ -1,9 +1,11 @@
-ghost use Rattle.std.specs.Prelude.{◌≡◌, ◌<◌, ◌≤◌, ◌^◌, ◌↔◌, ℕ, [], ◌∷◌, true, length, get_or, IfOk, IsTrue, Some, None};
+ghost use Rattle.std.specs.Prelude.{◌≡◌, ◌<◌, ◌≤◌, ◌^◌, ◌↔◌, ℕ, [], ◌∷◌, true, length, get_or, IfOk, IsTrue, Some};
+ghost use Rattle.std.specs.Prelude.{None};
 ghost use Rattle.automata_base.specs.Lists.{all_below, In};
 ghost use Rattle.automata_base.specs.Nodes.{node_of, ranges_of, dense_from};
 ghost use Rattle.automata_base.specs.Once.{once_from};
 ghost use Rattle.automata_base.specs.Paths.{all_true};
-ghost use Rattle.automata_base.specs.Reach.{node_in, nexts, byte_targets, targets_at, IsReached, IsMatchAt, ReachesMatch};
+ghost use Rattle.automata_base.specs.Reach.{node_in, nexts, byte_targets, targets_at, IsReached, IsMatchAt};
+ghost use Rattle.automata_base.specs.Reach.{ReachesMatch};
 ghost use Rattle.automata_base.specs.Reach.{second_of, second_at, is_any_byte_of, SkipsFrom};
 ghost use Rattle.automata_base.specs.Refusals.{transitions_below, state_below, states_below};
 ghost use Rattle.automata_base.specs.Visits.{children_at};

@@ -1,4 +1,5 @@
-ghost use Rattle.std.specs.Prelude.{◌≡◌, ◌+◌, ◌<◌, ◌≤◌, ◌||◌, [], ◌∷◌, ◌++◌, List, ℕ, length, take, eqb, Bool, Some, None, option_map};
+ghost use Rattle.std.specs.Prelude.{◌≡◌, ◌+◌, ◌<◌, ◌≤◌, ◌||◌, [], ◌∷◌, ◌++◌, List, ℕ, length, take, eqb, Bool, Some};
+ghost use Rattle.std.specs.Prelude.{None, option_map};
 ghost use Rattle.automata_base.specs.Lists.{In, pick};
 ghost use Rattle.automata_base.specs.Nfa.{stays_at, accepts_at, takes_at, accepts, takes, keep};
 ghost use Rattle.automata_base.specs.Computed.{looks_at, any_state};

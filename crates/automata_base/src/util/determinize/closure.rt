@@ -1,4 +1,5 @@
-ghost use Rattle.std.specs.Prelude.{◌≡◌, ◌+◌, ◌<◌, ◌≤◌, [], ◌∷◌, ◌++◌, List, ℕ, length, reverse, All, vec_len, vec_capacity, option_to_list};
+ghost use Rattle.std.specs.Prelude.{◌≡◌, ◌+◌, ◌<◌, ◌≤◌, [], ◌∷◌, ◌++◌, List, ℕ, length, reverse, All, vec_len};
+ghost use Rattle.std.specs.Prelude.{vec_capacity, option_to_list};
 ghost use Rattle.automata_base.specs.Paths.{IsClosure};
 ghost use Rattle.automata_base.specs.Visits.{children_at, IsUnderWay};
 ghost use Rattle.automata_base.specs.Nodes.{node_of, nfa_of, stack_room};
@@ -70,7 +71,8 @@ pub fn close_one(
     requires whole { set.old.capacity ≡ length nfa.now.states }
     requires empty { stack.old.items ≡ [] }
     requires room { stack_room nfa.now.states ≤ vec_capacity stack.old }
-    ensures way { (roots tail : List ℕ) → IsUnderWay (nfa_of nfa.now) (truth_of looks) roots (start ∷ tail) set.old.items
+    ensures way { (roots tail : List ℕ)
+        → IsUnderWay (nfa_of nfa.now) (truth_of looks) roots (start ∷ tail) set.old.items
         → IsUnderWay (nfa_of nfa.now) (truth_of looks) roots tail set.new.items }
     ensures whole { set.new.capacity ≡ set.old.capacity }
     ensures emptied { stack.new.items ≡ [] }

@@ -1,10 +1,12 @@
-ghost use Rattle.std.specs.Prelude.{◌≡◌, ◌+◌, ◌<◌, ◌≤◌, ◌↔◌, [], ◌∷◌, ◌++◌, List, ℕ, length, All, true, false, IsTrue, IsFalse, Option, Some, None, vec_len, vec_capacity, ◌&&◌, cond};
+ghost use Rattle.std.specs.Prelude.{◌≡◌, ◌+◌, ◌<◌, ◌≤◌, ◌↔◌, [], ◌∷◌, ◌++◌, List, ℕ, length, All, true, false, IsTrue};
+ghost use Rattle.std.specs.Prelude.{IsFalse, Option, Some, None, vec_len, vec_capacity, ◌&&◌, cond};
 ghost use Rattle.automata_base.specs.Lists.{In, pick, cons_some};
 ghost use Rattle.automata_base.specs.Nfa.{accepts};
 ghost use Rattle.automata_base.specs.Paths.{IsClosure};
 ghost use Rattle.automata_base.specs.Visits.{IsUnderWay};
 ghost use Rattle.automata_base.specs.Cuts.{cut_for, IsOnce, targets};
-ghost use Rattle.automata_base.specs.Passes.{IsMake, IsClosureOf, IsDecided, IsSuccessor, IsStart, Occurs, is_word_look, is_crlf_look};
+ghost use Rattle.automata_base.specs.Passes.{IsMake, IsClosureOf, IsDecided, IsSuccessor, IsStart, Occurs};
+ghost use Rattle.automata_base.specs.Passes.{is_word_look, is_crlf_look};
 ghost use Rattle.automata_base.specs.Computed.{known_looks, any_state, any_node, is_full, is_in, once_past};
 ghost use Rattle.automata_base.specs.Nodes.{node_of, nfa_of, stack_room};
 ghost use Rattle.automata_base.specs.Looks.{Look};
@@ -210,7 +212,8 @@ fn close_maybe(
     requires whole { set.old.capacity ≡ length nfa.now.states }
     requires empty { stack.old.items ≡ [] }
     requires room { stack_room nfa.now.states ≤ vec_capacity stack.old }
-    ensures way { (roots tail : List ℕ) → IsUnderWay (nfa_of nfa.now) (truth_of looks) roots (cons_some start tail) set.old.items
+    ensures way { (roots tail : List ℕ)
+        → IsUnderWay (nfa_of nfa.now) (truth_of looks) roots (cons_some start tail) set.old.items
         → IsUnderWay (nfa_of nfa.now) (truth_of looks) roots tail set.new.items }
     ensures whole { set.new.capacity ≡ set.old.capacity }
     ensures emptied { stack.new.items ≡ [] }

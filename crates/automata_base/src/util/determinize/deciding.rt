@@ -1,4 +1,5 @@
-ghost use Rattle.std.specs.Prelude.{◌≡◌, ◌<◌, ◌&&◌, ◌||◌, not, cond, true, false, eqb, IsTrue, IsFalse, IfSome, OnSome, None, ℕ};
+ghost use Rattle.std.specs.Prelude.{◌≡◌, ◌<◌, ◌&&◌, ◌||◌, not, cond, true, false, eqb, IsTrue, IsFalse, IfSome, OnSome};
+ghost use Rattle.std.specs.Prelude.{None, ℕ};
 ghost use Rattle.automata_base.specs.Looks.{is_word_byte, is_word, is_absent, is_byte, differ, first_half, second_half};
 ghost use Rattle.automata_base.specs.Passes.{decided, true_looks, IsNews};
 ghost use Rattle.automata_base.specs.Computed.{always, known_looks, any_node};

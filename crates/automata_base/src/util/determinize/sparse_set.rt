@@ -1,4 +1,5 @@
-ghost use Rattle.std.specs.Prelude.{◌≡◌, ◌<◌, ◌≤◌, ◌^◌, [], ◌∷◌, ◌++◌, IfOk, IsTrue, IsFalse, Contains, if◌then◌else◌, ℕ, length};
+ghost use Rattle.std.specs.Prelude.{◌≡◌, ◌<◌, ◌≤◌, ◌^◌, [], ◌∷◌, ◌++◌, IfOk, IsTrue, IsFalse, Contains, if◌then◌else◌};
+ghost use Rattle.std.specs.Prelude.{ℕ, length};
 ghost use Rattle.automata_base.specs.Lists.{In};
 
 use crate::util::primitives::StateID;

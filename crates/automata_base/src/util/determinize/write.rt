@@ -1,7 +1,8 @@
 // The bytes of a state, appended to a vector.
 ghost use Rattle.std.specs.Prelude.{◌≡◌, ◌++◌, ◌<◌, ◌^◌, length, OnOk, IsTrue};
 ghost use Rattle.std.specs.List.{flat_map};
-ghost use Rattle.automata_base.specs.Code.{four_bytes, varint, ids_code, code, difference, is_listed, patterns_code, flag_byte, has_any};
+ghost use Rattle.automata_base.specs.Code.{four_bytes, varint, ids_code, code, difference, is_listed, patterns_code};
+ghost use Rattle.automata_base.specs.Code.{flag_byte, has_any};
 
 use crate::util::primitives::{PatternID, StateID};
 use std::alloc::AllocError;

@@ -14,8 +14,10 @@ ghost use Rattle.regex_automata.specs.Outcomes.{FindsMatch, IsStartFound, MatchL
 ghost use Rattle.regex_automata.specs.Owing.{IsSpanOf};
 ghost use Rattle.regex_automata.specs.RegexEffects.{IsSpanEffect};
 ghost use Rattle.regex_automata.specs.RegexProgress.{EndsBack, EndsSpan, LeavesBack, LeavesSpan};
-ghost use Rattle.regex_automata.specs.RegexCaches.{AreCachesOf, AreGrown, AreStill, KnowsBack, KnowsBoth, NothingCleared};
-ghost use Rattle.regex_automata.specs.RegexRefusals.{HasReason, IsBackRefused, IsFree, IsOfGiven, IsOfMemory, IsRegexRefusal};
+ghost use Rattle.regex_automata.specs.RegexCaches.{AreCachesOf, AreGrown, AreStill, KnowsBack, KnowsBoth};
+ghost use Rattle.regex_automata.specs.RegexCaches.{NothingCleared};
+ghost use Rattle.regex_automata.specs.RegexRefusals.{HasReason, IsBackRefused, IsFree, IsOfGiven, IsOfMemory};
+ghost use Rattle.regex_automata.specs.RegexRefusals.{IsRegexRefusal};
 
 use crate::hybrid::dfa;
 use crate::hybrid::regex::{Cache, Regex};
