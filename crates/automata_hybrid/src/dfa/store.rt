@@ -43,7 +43,8 @@ impl Model for Store {
 
     ghost view = { λ c. record { table = c.table; starts = c.starts.items; clears = c.clears; searched = c.searched } };
 
-    ghost invariant = { λ c. IsCache (record { table = c.table; starts = c.starts.items; clears = c.clears; searched = c.searched }) c.settings };
+    ghost invariant = { λ c. IsCache
+        (record { table = c.table; starts = c.starts.items; clears = c.clears; searched = c.searched }) c.settings };
 }
 
 impl Store {

@@ -40,7 +40,8 @@ impl Model for Table {
 
     ghost view = { λ t. record { of = t.of.value; cells = t.cells.items; rows = t.rows.items } };
 
-    ghost invariant = { λ t. IsHeld (record { of = t.of.value; cells = t.cells.items; rows = t.rows.items }) t.stride t.template.items t.map t.costs };
+    ghost invariant = { λ t. IsHeld (record { of = t.of.value; cells = t.cells.items; rows = t.rows.items }) t.stride
+        t.template.items t.map t.costs };
 }
 
 /// A row's cell at a class. The column is found first, so that from one row to the next there is one load alone.

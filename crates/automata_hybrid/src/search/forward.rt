@@ -251,7 +251,8 @@ impl DFA {
         ensures within { result.at ≤ start + 4 }
         ensures valid { IsValid cache.now.store.table result.id }
         ensures untagged { result.id < offset_limit }
-        ensures followed { Names cache.now.store.table from (state_in Forward self.now input.now (start - input.now.start))
+        ensures followed { Names cache.now.store.table from (state_in Forward self.now input.now
+            (start - input.now.start))
             → IsFollowed Forward self.now cache.now.store input.now
             (start - input.now.start) (result.at - input.now.start) result.id }
     {
@@ -306,7 +307,8 @@ impl DFA {
         requires within { start ≤ input.now.end }
         ensures from { start ≤ result }
         ensures within { result ≤ input.now.end }
-        ensures followed { Names cache.now.store.table id (state_in Forward self.now input.now (start - input.now.start))
+        ensures followed { Names cache.now.store.table id (state_in Forward self.now input.now
+            (start - input.now.start))
             → IsFollowed Forward self.now cache.now.store input.now
             (start - input.now.start) (result - input.now.start) id }
     {
@@ -337,7 +339,8 @@ impl DFA {
         requires within { start ≤ input.now.end }
         ensures from { start ≤ result.at }
         ensures within { result.at ≤ input.now.end }
-        ensures followed { Names cache.now.store.table from (state_in Forward self.now input.now (start - input.now.start))
+        ensures followed { Names cache.now.store.table from (state_in Forward self.now input.now
+            (start - input.now.start))
             → IsFollowed Forward self.now cache.now.store input.now
             (start - input.now.start) (result.at - input.now.start) result.id }
     {

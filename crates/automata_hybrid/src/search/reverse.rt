@@ -241,7 +241,8 @@ impl DFA {
         ensures within { result.at ≤ start }
         ensures valid { IsValid cache.now.store.table result.id }
         ensures untagged { result.id < offset_limit }
-        ensures followed { Names cache.now.store.table from (state_in Backward self.now input.now (input.now.end - start))
+        ensures followed { Names cache.now.store.table from (state_in Backward self.now input.now
+            (input.now.end - start))
             → IsFollowed Backward self.now cache.now.store input.now
             (input.now.end - start) (input.now.end - result.at) result.id }
     {
@@ -325,7 +326,8 @@ impl DFA {
         requires within { start ≤ input.now.end }
         ensures from { input.now.start ≤ result.at }
         ensures within { result.at ≤ start }
-        ensures followed { Names cache.now.store.table from (state_in Backward self.now input.now (input.now.end - start))
+        ensures followed { Names cache.now.store.table from (state_in Backward self.now input.now
+            (input.now.end - start))
             → IsFollowed Backward self.now cache.now.store input.now
             (input.now.end - start) (input.now.end - result.at) result.id }
     {
