@@ -9,17 +9,18 @@ use Rattle.automata_hybrid.specs.Agreeing.{AnswersAgree, WalksAgree}
 use Rattle.automata_hybrid.specs.Machine.{Machine}
 use Rattle.automata_hybrid.specs.Walking.{AreWalked}
 use Rattle.automata_hybrid.proofs.Skipping.{found_told}
+use Rattle.automata_config.specs.Options.{match_kind_of}
 
 pub answers_agree : ToldIsOne → AnswersAgree
 answers_agree one way m other input first second nfa kind f s =
-    one way m.nfa m.kind input first second (found_told way m input first f)
+    one way m.nfa (match_kind_of m.config) input first second (found_told way m input first f)
     (subst (λ (k : MatchKind). IsTold way m.nfa k input second) (sym kind)
-    (subst (λ (a : Automaton). IsTold way a other.kind input second) (sym nfa) (found_told way other input second s)))
+    (subst (λ (a : Automaton). IsTold way a (match_kind_of other.config) input second) (sym nfa) (found_told way other input second s)))
 
 pub walks_agree : (m : Machine) → WalksAreTold m.nfa → WalksAgree m
 walks_agree m told way other input first second first_told second_told k nfa kind f s f' s' =
-    let list : (pairs : List Pair) × AreWalked way m input pairs = told way m.kind input in
+    let list : (pairs : List Pair) × AreWalked way m input pairs = told way (match_kind_of m.config) input in
     let same : AreWalked way other input list.0 =
-    subst (λ (a : Automaton). AreTold way a other.kind input list.0) (sym nfa)
+    subst (λ (a : Automaton). AreTold way a (match_kind_of other.config) input list.0) (sym nfa)
     (subst (λ (l : MatchKind). AreTold way m.nfa l input list.0) (sym kind) list.1) in
     ((f' k f).1 list.0 list.1).0 ∙ sym (((s' k s).1 list.0 same).0)

@@ -20,6 +20,7 @@ use Rattle.automata_hybrid.specs.Slots.{supports}
 use Rattle.automata_hybrid.specs.Starting.{quit_behind, IsStartRefusalAt}
 use Rattle.automata_hybrid.proofs.Searching.{false_true}
 use Rattle.automata_hybrid.proofs.Units.{forward_unit, forward_units, backward_unit, backward_units}
+use Rattle.automata_config.specs.Options.{minimum_cache_clear_count_of}
 
 -- a byte of the haystack in reach of a span
 abbrev pub InReach : Input → ℕ → Type 0
@@ -73,15 +74,15 @@ later_mode : (way : Direction) (k : ℕ) (input : Input) → (later way k input)
 later_mode Forward k input = refl
 later_mode Backward k input = refl
 
-pub no_limit : (m : Machine) (c : Stored) (q : Powerset) → c.table.of ≡ m → m.minimum_clear_count ≡ None → GivesUp c q → ⊥
+pub no_limit : (m : Machine) (c : Stored) (q : Powerset) → c.table.of ≡ m → minimum_cache_clear_count_of m.config ≡ None → GivesUp c q → ⊥
 no_limit m c q same free gives =
-    let limit : c.table.of.minimum_clear_count ≡ None = ap (λ (n : Machine). n.minimum_clear_count) same ∙ free in
-    let rule : refuses_at c.table.of.minimum_clear_count c ≡ true = gives.2 in
+    let limit : minimum_cache_clear_count_of c.table.of.config ≡ None = ap (λ (n : Machine). minimum_cache_clear_count_of n.config) same ∙ free in
+    let rule : refuses_at (minimum_cache_clear_count_of c.table.of.config) c ≡ true = gives.2 in
     false_true (subst (λ o. refuses_at o c ≡ true) limit rule)
 
 module _ (way : Direction) (m : Machine) (c : Stored) (input : Input) (k : ℕ) (within : input.start + k ≤ input.end)
     (few : input.end ≤ length input.haystack) (same : c.table.of ≡ m) (reach : NoQuitInReach m input)
-    (mode : supports m input.anchored ≡ true) (free : m.minimum_clear_count ≡ None) where
+    (mode : supports m input.anchored ≡ true) (free : minimum_cache_clear_count_of m.config ≡ None) where
   unquit : (byte : ℕ) → InReach (later way k input) byte → is_quit m.quits byte ≡ true → ⊥
   unquit byte r q =
       let o : InReach input byte = later_reach way k input byte within r in
@@ -125,5 +126,5 @@ module _ (way : Direction) (m : Machine) (c : Stored) (input : Input) (k : ℕ) 
 pub refused_memory :
     (way : Direction) (m : Machine) (c : Stored) (input : Input) (e : SearchError)
     → input.end ≤ length input.haystack → c.table.of ≡ m → NoQuitInReach m input → supports m input.anchored ≡ true
-    → m.minimum_clear_count ≡ None → IsRefused way m c input e → e ≡ search.OutOfMemory
+    → minimum_cache_clear_count_of m.config ≡ None → IsRefused way m c input e → e ≡ search.OutOfMemory
 refused_memory way m c input e few same reach mode free r = pass_memory way m c input r.0 r.2 few same reach mode free e r.3

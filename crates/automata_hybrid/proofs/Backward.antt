@@ -9,7 +9,7 @@ use Rattle.automata_base.specs.Powerset.{Powerset, dead}
 use Rattle.automata_base.specs.Steps.{start_state_of}
 use Rattle.automata_base.specs.Tapes.{Backward}
 use Rattle.automata_base.proofs.Paths.Orders.{some_inj}
-use Rattle.automata_hybrid.specs.Machine.{Machine}
+use Rattle.automata_hybrid.specs.Machine.{Machine, table_stride}
 use Rattle.automata_hybrid.specs.Searches.{unit_offset, given_up_offset, tape_in, state_in}
 use Rattle.automata_hybrid.specs.Table.{Rows, Leads, Names}
 use Rattle.automata_hybrid.proofs.Searching.{state_first}
@@ -64,7 +64,7 @@ quit_free m read clean byte e = subst (λ v. is_quit m.quits v ≡ false) (some_
 -- a pass begins dead, or in the state that its start names
 module _ (m : Machine) (t : Rows) (input : Input) (id : ℕ)
     (named : Leads t id (start_state_of m.nfa input.anchored (tape_in Backward input).before))
-    (low : (q : Powerset) → Names t id q → id < 2 ^ 29) (small : t.of.stride ≤ 512) where
+    (low : (q : Powerset) → Names t id q → id < 2 ^ 29) (small : table_stride t.of ≤ 512) where
   begins : Leads t id (state_in Backward m input 0)
   begins = subst (Leads t id) (state_first Backward m input) named
 

@@ -3,10 +3,10 @@ use Rattle.std.specs.List.{sum_by}
 use Rattle.std.proofs.Math.Nat.{mul-le-mul_right}
 use Rattle.std.proofs.lemmas.List.Sums.{sum_by_push}
 use Rattle.automata_base.specs.Powerset.{Powerset, cost}
-use Rattle.automata_base.specs.Accounting.{minimum_capacity}
+use Rattle.automata_base.specs.Accounting.{minimum_capacity, fixed_cost}
 use Rattle.automata_hybrid.specs.declared.dfa.row.Row.{Row}
 use Rattle.automata_hybrid.specs.Ids.{dead_id, quit_id}
-use Rattle.automata_hybrid.specs.Machine.{Machine, greatest, template_of, start_of}
+use Rattle.automata_hybrid.specs.Machine.{Machine, greatest, template_of, start_of, table_stride, slot_count}
 use Rattle.std.proofs.lemmas.List.{length-replicate, get_or-replicate, get_or-set_same, get_or-set_other}
 use Rattle.std.proofs.lemmas.Option.{slice_get_within, get_or_from_slice_get, slice_get-get_or}
 use Rattle.std.proofs.lemmas.Bool.{cases_eq}
@@ -39,17 +39,17 @@ few_fits n cells most stride slots sum fixed capacity extra few whole cheap enou
     let f : (5 + slots) * stride ≡ (slots + 4) * stride + stride = omega arith in
     omega (arith, few, whole, cheap, enough, le, le2, e, f, little)
 
-pub Fits-few : (c : Stored) (settings : Settings) → IsCache c settings → length c.table.rows ≤ length c.starts + 1 → length c.table.cells ≡ (length c.table.rows + 3) * c.table.of.stride → sum_by row_cost c.table.rows ≤ length c.table.rows * greatest c.table.of
+pub Fits-few : (c : Stored) (settings : Settings) → IsCache c settings → length c.table.rows ≤ length c.starts + 1 → length c.table.cells ≡ (length c.table.rows + 3) * table_stride c.table.of → sum_by row_cost c.table.rows ≤ length c.table.rows * greatest c.table.of
     → (extra : ℕ) → extra ≤ greatest c.table.of → Fits c extra
 Fits-few c settings i few whole cheap extra little =
     let more : length c.table.rows + 3 ≤ length c.starts + 4 = omega (arith, few) in
-    let le : (length c.table.rows + 3) * c.table.of.stride ≤ (length c.starts + 4) * c.table.of.stride = mul-le-mul_right c.table.of.stride more in
-    (few_fits (length c.table.rows) (length c.table.cells) (greatest c.table.of) c.table.of.stride (length c.starts) (sum_by row_cost c.table.rows) c.table.of.fixed c.table.of.capacity extra few whole cheap i.enough little, omega (arith, le, whole, i.offsets))
+    let le : (length c.table.rows + 3) * table_stride c.table.of ≤ (length c.starts + 4) * table_stride c.table.of = mul-le-mul_right (table_stride c.table.of) more in
+    (few_fits (length c.table.rows) (length c.table.cells) (greatest c.table.of) (table_stride c.table.of) (length c.starts) (sum_by row_cost c.table.rows) (fixed_cost c.table.of.nfa) c.table.of.capacity extra few whole cheap i.enough little, omega (arith, le, whole, i.offsets))
 
 -- one more row that fits
-pub IsCache-grown : (c : Stored) (settings : Settings) (t : Rows) (r : Row) → IsCache c settings → length (template_of c.table.of) ≡ c.table.of.stride → AllStarts t c.starts → t ≡ with_row c.table r → Fits c (cost r.state) → IsCache (with_table c t) settings
+pub IsCache-grown : (c : Stored) (settings : Settings) (t : Rows) (r : Row) → IsCache c settings → length (template_of c.table.of) ≡ table_stride c.table.of → AllStarts t c.starts → t ≡ with_row c.table r → Fits c (cost r.state) → IsCache (with_table c t) settings
 IsCache-grown c settings t r i wide named e fits =
-    let cells : length (c.table.cells ++ template_of c.table.of) ≡ length c.table.cells + c.table.of.stride = length-append c.table.cells (template_of c.table.of) ∙ ap (λ n. length c.table.cells + n) wide in
+    let cells : length (c.table.cells ++ template_of c.table.of) ≡ length c.table.cells + table_stride c.table.of = length-append c.table.cells (template_of c.table.of) ∙ ap (λ n. length c.table.cells + n) wide in
     let rows : length (c.table.rows ++ r ∷ []) ≡ length c.table.rows + 1 = length-append c.table.rows (r ∷ []) in
     let costs : sum_by row_cost (c.table.rows ++ r ∷ []) ≡ sum_by row_cost c.table.rows + cost r.state = sum_by_push row_cost c.table.rows r in
     let used : usage (with_table c (with_row c.table r)) ≤ c.table.of.capacity = omega (arith, cells, rows, costs, fits.0) in
@@ -64,12 +64,12 @@ IsCache-grown c settings t r i wide named e fits =
     }
 
 -- another table with few rows, which has what the slots name
-pub IsCache-few : (c : Stored) (settings : Settings) (t : Rows) → IsCache c settings → AllStarts t c.starts → t.of ≡ c.table.of → length t.rows ≤ length c.starts + 1 → length t.cells ≡ (length t.rows + 3) * t.of.stride → sum_by row_cost t.rows ≤ length t.rows * greatest t.of → IsCache (with_table c t) settings
+pub IsCache-few : (c : Stored) (settings : Settings) (t : Rows) → IsCache c settings → AllStarts t c.starts → t.of ≡ c.table.of → length t.rows ≤ length c.starts + 1 → length t.cells ≡ (length t.rows + 3) * table_stride t.of → sum_by row_cost t.rows ≤ length t.rows * greatest t.of → IsCache (with_table c t) settings
 IsCache-few c settings t i named s few whole cheap =
-    let enough : minimum_capacity t.of.stride (length c.starts) (greatest t.of) t.of.fixed ≤ t.of.capacity = rw s i.enough in
+    let enough : minimum_capacity (table_stride t.of) (length c.starts) (greatest t.of) (fixed_cost t.of.nfa) ≤ t.of.capacity = rw s i.enough in
     record {
       named = named;
-      within = few_within (length t.rows) (length t.cells) (greatest t.of) t.of.stride (length c.starts) (sum_by row_cost t.rows) t.of.fixed t.of.capacity few whole cheap enough;
+      within = few_within (length t.rows) (length t.cells) (greatest t.of) (table_stride t.of) (length c.starts) (sum_by row_cost t.rows) (fixed_cost t.of.nfa) t.of.capacity few whole cheap enough;
       enough = enough;
       offsets = rw s i.offsets;
       slots = rw s i.slots;
@@ -82,16 +82,16 @@ unknown_at n slot id h =
     let within : slot < n = subst (λ m. slot < m) (length-replicate n (2 ^ 31)) (slice_get_within (replicate n (2 ^ 31)) slot id h) in
     sym (get_or_from_slice_get (replicate n (2 ^ 31)) slot id 0 h) ∙ get_or-replicate n slot (2 ^ 31) 0 within
 
-pub IsCache-fresh : (m : Machine) (settings : Settings) → settings ≡ settings_of m → minimum_capacity m.stride m.slots (greatest m) m.fixed ≤ m.capacity → (m.slots + 4) * m.stride < 2 ^ 27 → m.capacity < 2 ^ 64 → IsCache (fresh_store m) settings
+pub IsCache-fresh : (m : Machine) (settings : Settings) → settings ≡ settings_of m → minimum_capacity (table_stride m) (slot_count m) (greatest m) (fixed_cost m.nfa) ≤ m.capacity → (slot_count m + 4) * table_stride m < 2 ^ 27 → m.capacity < 2 ^ 64 → IsCache (fresh_store m) settings
 IsCache-fresh m settings same enough offsets bounded =
-    let n : length (replicate m.slots (2 ^ 31)) ≡ m.slots = length-replicate m.slots (2 ^ 31) in
-    let a : length (replicate m.stride (2 ^ 31)) ≡ m.stride = length-replicate m.stride (2 ^ 31) in
-    let b : length (replicate m.stride (dead_id m.stride)) ≡ m.stride = length-replicate m.stride (dead_id m.stride) in
-    let d : length (replicate m.stride (quit_id m.stride)) ≡ m.stride = length-replicate m.stride (quit_id m.stride) in
-    let cells : length (fixed_rows m.stride) ≡ (0 + 3) * m.stride = omega (arith, length-append (replicate m.stride (2 ^ 31)) (replicate m.stride (dead_id m.stride) ++ replicate m.stride (quit_id m.stride)), length-append (replicate m.stride (dead_id m.stride)) (replicate m.stride (quit_id m.stride)), a, b, d) in
+    let n : length (replicate (slot_count m) (2 ^ 31)) ≡ slot_count m = length-replicate (slot_count m) (2 ^ 31) in
+    let a : length (replicate (table_stride m) (2 ^ 31)) ≡ table_stride m = length-replicate (table_stride m) (2 ^ 31) in
+    let b : length (replicate (table_stride m) (dead_id (table_stride m))) ≡ table_stride m = length-replicate (table_stride m) (dead_id (table_stride m)) in
+    let d : length (replicate (table_stride m) (quit_id (table_stride m))) ≡ table_stride m = length-replicate (table_stride m) (quit_id (table_stride m)) in
+    let cells : length (fixed_rows (table_stride m)) ≡ (0 + 3) * table_stride m = omega (arith, length-append (replicate (table_stride m) (2 ^ 31)) (replicate (table_stride m) (dead_id (table_stride m)) ++ replicate (table_stride m) (quit_id (table_stride m))), length-append (replicate (table_stride m) (dead_id (table_stride m))) (replicate (table_stride m) (quit_id (table_stride m))), a, b, d) in
     record {
-      named = λ slot id h. inl (unknown_at m.slots slot id h);
-      within = subst (λ k. usage_by (fresh m) k m.fixed ≤ m.capacity) (sym n) (few_within 0 (length (fixed_rows m.stride)) (greatest m) m.stride m.slots 0 m.fixed m.capacity (omega arith) cells (omega arith) enough);
+      named = λ slot id h. inl (unknown_at (slot_count m) slot id h);
+      within = subst (λ k. usage_by (fresh m) k (fixed_cost m.nfa) ≤ m.capacity) (sym n) (few_within 0 (length (fixed_rows (table_stride m))) (greatest m) (table_stride m) (slot_count m) 0 (fixed_cost m.nfa) m.capacity (omega arith) cells (omega arith) enough);
       enough = rw n enough;
       offsets = rw n offsets;
       slots = n;
@@ -100,13 +100,13 @@ IsCache-fresh m settings same enough offsets bounded =
     }
 
 -- the start states alone
-pub IsCache-cleared : (c : Stored) (settings : Settings) (t : Rows) (starts : List ℕ) (clears : ℕ) (searched : Searched) → IsCache c settings → AllStarts t starts → t.of ≡ c.table.of → length starts ≡ length c.starts → length t.rows ≤ length starts → length t.cells ≡ (length t.rows + 3) * t.of.stride → sum_by row_cost t.rows ≤ length t.rows * greatest t.of
+pub IsCache-cleared : (c : Stored) (settings : Settings) (t : Rows) (starts : List ℕ) (clears : ℕ) (searched : Searched) → IsCache c settings → AllStarts t starts → t.of ≡ c.table.of → length starts ≡ length c.starts → length t.rows ≤ length starts → length t.cells ≡ (length t.rows + 3) * table_stride t.of → sum_by row_cost t.rows ≤ length t.rows * greatest t.of
     → IsCache (record { table = t; starts = starts; clears = clears; searched = searched }) settings
 IsCache-cleared c settings t starts clears searched i named s n few whole cheap =
-    let enough : minimum_capacity t.of.stride (length starts) (greatest t.of) t.of.fixed ≤ t.of.capacity = rw (s, n) i.enough in
+    let enough : minimum_capacity (table_stride t.of) (length starts) (greatest t.of) (fixed_cost t.of.nfa) ≤ t.of.capacity = rw (s, n) i.enough in
     record {
       named = named;
-      within = few_within (length t.rows) (length t.cells) (greatest t.of) t.of.stride (length starts) (sum_by row_cost t.rows) t.of.fixed t.of.capacity (omega (arith, few)) whole cheap enough;
+      within = few_within (length t.rows) (length t.cells) (greatest t.of) (table_stride t.of) (length starts) (sum_by row_cost t.rows) (fixed_cost t.of.nfa) t.of.capacity (omega (arith, few)) whole cheap enough;
       enough = enough;
       offsets = rw (s, n) i.offsets;
       slots = rw (s, n) i.slots;
@@ -126,9 +126,9 @@ IsCache-start c settings slot id i leads within =
     let n : length c.starts ≡ length (set c.starts slot id) = sym (length-set c.starts slot id) in
     record {
       named = named;
-      within = subst (λ k. usage_by c.table k c.table.of.fixed ≤ c.table.of.capacity) n i.within;
-      enough = subst (λ k. minimum_capacity c.table.of.stride k (greatest c.table.of) c.table.of.fixed ≤ c.table.of.capacity) n i.enough;
-      offsets = subst (λ k. (k + 4) * c.table.of.stride < 2 ^ 27) n i.offsets;
+      within = subst (λ k. usage_by c.table k (fixed_cost c.table.of.nfa) ≤ c.table.of.capacity) n i.within;
+      enough = subst (λ k. minimum_capacity (table_stride c.table.of) k (greatest c.table.of) (fixed_cost c.table.of.nfa) ≤ c.table.of.capacity) n i.enough;
+      offsets = subst (λ k. (k + 4) * table_stride c.table.of < 2 ^ 27) n i.offsets;
       slots = sym n ∙ i.slots;
       same = i.same;
       bounded = i.bounded;
@@ -143,6 +143,6 @@ IsCache-start c settings slot id i leads within =
           (cases_eq k slot)
 
 -- what leads to a state is known
-pub Leads-known : (t : Rows) (id : ℕ) (q : Powerset) → ((n : ℕ) (p : Powerset) → Names t n p → n < 2 ^ 29) → t.of.stride ≤ 512 → Leads t id q → id < 2 ^ 31
+pub Leads-known : (t : Rows) (id : ℕ) (q : Powerset) → ((n : ℕ) (p : Powerset) → Names t n p → n < 2 ^ 29) → table_stride t.of ≤ 512 → Leads t id q → id < 2 ^ 31
 Leads-known t id q low small (inl (e, d)) = omega (arith, e, small)
 Leads-known t id q low small (inr h) = omega (arith, low id q h)

@@ -2,17 +2,18 @@ use Rattle.std.proofs.Common.{◌≡◌, ℕ, zero, suc, ◌+◌, ◌-◌, ◌*�
 use Rattle.std.specs.Prelude.{◌==◌}
 use Rattle.std.proofs.lemmas.Bool.{cases_lt, cases_eq, eqb-true, eqb-false}
 use Rattle.std.proofs.lemmas.List.{length-replicate, get_or-replicate, get_or-set_same, get_or-set_other}
-use Rattle.automata_base.specs.Accounting.{fixed_cost, start_slots, minimum_capacity}
+use Rattle.automata_base.specs.Accounting.{fixed_cost, start_slots, minimum_capacity, effective_capacity}
 use Rattle.automata_base.specs.Classes.{class_in, eoi_class, is_quit, is_boundary, boundary_count, class_of, stride_of, stride_for}
 use Rattle.automata_base.specs.Powerset.{Powerset}
 use Rattle.automata_base.specs.Steps.{successor}
 use Rattle.automata_base.proofs.Determinizing.AlikeClasses.{class_step, class_quits}
-use Rattle.automata_config.specs.Options.{Options, starts_for_each_pattern_of, byte_classes_of}
+use Rattle.automata_config.specs.Options.{starts_for_each_pattern_of, byte_classes_of, match_kind_of, cache_capacity_of}
 use Rattle.automata_config.specs.Settled.{Settled}
 use Rattle.automata_config.specs.Settling.{IsSettled, settled_minimum, greatest_offset}
 use Rattle.automata_hybrid.specs.Ids.{quit_id}
 use Rattle.automata_hybrid.specs.Owned.{IsOwn}
 use Rattle.automata_hybrid.specs.Machine.{Machine, IsMachine, marked, template_of, byte_of, next_of, greatest}
+use Rattle.automata_hybrid.specs.Machine.{table_stride, slot_count}
 
 count_more : (f : ℕ → Bool) (n : ℕ) → boundary_count f n ≤ boundary_count f (suc n)
 unfolding boundary_count
@@ -98,78 +99,88 @@ byte_of-none cs class (suc n) none = go (class_in cs n == class) refl (byte_of-n
   go false f again = again
 
 -- what a DFA is built of
-pub record IsBuilt (o : Options) (s : Settled) (m : Machine) : Type 0 where
-  pub settled : IsSettled o m.nfa s
+pub record IsBuilt (s : Settled) (m : Machine) : Type 0 where
+  pub settled : IsSettled m.config m.nfa s
   pub classes : m.classes ≡ s.classes
   pub quits : m.quits ≡ s.quits
-  pub stride : m.stride ≡ stride_of s.classes
   pub end_below : eoi_class s.classes < stride_of s.classes
   pub small : stride_of s.classes ≤ 512
-  pub slots : m.slots ≡ start_slots m.nfa (starts_for_each_pattern_of o)
-  pub fixed : m.fixed ≡ fixed_cost m.nfa
   pub capacity : m.capacity ≡ s.capacity
-  pub per_pattern : m.per_pattern ≡ starts_for_each_pattern_of o
 
-class_is : (o : Options) (s : Settled) (m : Machine) → IsBuilt o s m → (b : ℕ) → b < 256 → class_in m.classes b ≡ class_of m.nfa m.quits (byte_classes_of o) b
-class_is o s m i b h = rw (i.classes, i.quits) (i.settled.classes b h)
+-- the stride of a machine, by its classes
+pub table_stride-is : (m : Machine) → table_stride m ≡ stride_of m.classes
+unfolding table_stride
+table_stride-is m = refl
 
-class_below : (o : Options) (s : Settled) (m : Machine) → IsBuilt o s m → (b : ℕ) → b < 256 → class_in m.classes b < eoi_class m.classes
-class_below o s m i b h =
-    let f : ℕ → Bool = is_boundary m.nfa m.quits (byte_classes_of o) in
+stride_is : (s : Settled) (m : Machine) → IsBuilt s m → table_stride m ≡ stride_of s.classes
+stride_is s m i = table_stride-is m ∙ ap (λ (xs : List ℕ). stride_of xs) i.classes
+
+-- the start slots of a machine, by its automaton and its settings
+pub slot_count-is : (m : Machine) → slot_count m ≡ start_slots m.nfa (starts_for_each_pattern_of m.config)
+unfolding slot_count
+slot_count-is m = refl
+
+class_is : (s : Settled) (m : Machine) → IsBuilt s m → (b : ℕ) → b < 256 → class_in m.classes b ≡ class_of m.nfa m.quits (byte_classes_of m.config) b
+class_is s m i b h = rw (i.classes, i.quits) (i.settled.classes b h)
+
+class_below : (s : Settled) (m : Machine) → IsBuilt s m → (b : ℕ) → b < 256 → class_in m.classes b < eoi_class m.classes
+class_below s m i b h =
+    let f : ℕ → Bool = is_boundary m.nfa m.quits (byte_classes_of m.config) in
     let le : boundary_count f b ≤ boundary_count f 255 = count_up_to f b 255 (omega (arith, h)) in
-    let last : class_in m.classes 255 ≡ boundary_count f 255 = class_is o s m i 255 (lit< tt) in
-    omega (arith, le, last, class_is o s m i b h)
+    let last : class_in m.classes 255 ≡ boundary_count f 255 = class_is s m i 255 (lit< tt) in
+    omega (arith, le, last, class_is s m i b h)
 
-class_within : (o : Options) (s : Settled) (m : Machine) → IsBuilt o s m → (b : ℕ) → b < 256 → class_in m.classes b < m.stride
-class_within o s m i b h =
-    let e : eoi_class m.classes < m.stride = rw (i.stride, i.classes) i.end_below in
-    omega (arith, e, class_below o s m i b h)
+class_within : (s : Settled) (m : Machine) → IsBuilt s m → (b : ℕ) → b < 256 → class_in m.classes b < table_stride m
+class_within s m i b h =
+    let e : eoi_class m.classes < table_stride m = rw (stride_is s m i, i.classes) i.end_below in
+    omega (arith, e, class_below s m i b h)
 
 -- what is built is a machine
-pub IsBuilt-IsMachine : (o : Options) (s : Settled) (m : Machine) → IsBuilt o s m → IsMachine m
+pub IsBuilt-IsMachine : (s : Settled) (m : Machine) → IsBuilt s m → IsMachine m
 unfolding template_of next_of IsOwn settled_minimum greatest_offset
-IsBuilt-IsMachine o s m i =
-    let end : eoi_class m.classes < m.stride = rw (i.stride, i.classes) i.end_below in
-    let small : m.stride ≤ 512 = rw i.stride i.small in
+IsBuilt-IsMachine s m i =
+    let end : eoi_class m.classes < table_stride m = rw (stride_is s m i, i.classes) i.end_below in
+    let small : table_stride m ≤ 512 = rw (stride_is s m i) i.small in
     record {
       template = record {
         positive = omega (arith, end);
         small = small;
-        whole = marked-length m.classes m.quits m.stride 256;
-        cells = λ class l. marked-either m.classes m.quits m.stride 256 class l;
+        whole = marked-length m.classes m.quits (table_stride m) 256;
+        cells = λ class l. marked-either m.classes m.quits (table_stride m) 256 class l;
       };
       below = end;
-      quit = λ b h q. marked-quit m.classes m.quits m.stride 256 b h (class_within o s m i b h) q;
-      free = λ b h q. marked-free m.classes m.quits m.stride 256 (class_in m.classes b) (class_within o s m i b h) (apart b h q);
-      end_free = marked-free m.classes m.quits m.stride 256 (eoi_class m.classes) end (λ b h q e. absurd (omega (arith, e, class_below o s m i b h)));
+      quit = λ b h q. marked-quit m.classes m.quits (table_stride m) 256 b h (class_within s m i b h) q;
+      free = λ b h q. marked-free m.classes m.quits (table_stride m) 256 (class_in m.classes b) (class_within s m i b h) (apart b h q);
+      end_free = marked-free m.classes m.quits (table_stride m) 256 (eoi_class m.classes) end (λ b h q e. absurd (omega (arith, e, class_below s m i b h)));
       alike = λ b q h own. alike b q h own (byte_of-some m.classes (class_in m.classes b) 256 b h refl);
-      end_alike = λ q own. ap (successor m.nfa m.kind q) (sym (byte_of-none m.classes (eoi_class m.classes) 256 (λ b h e. absurd (omega (arith, e, class_below o s m i b h)))));
+      end_alike = λ q own. ap (successor m.nfa (match_kind_of m.config) q) (sym (byte_of-none m.classes (eoi_class m.classes) 256 (λ b h e. absurd (omega (arith, e, class_below s m i b h)))));
       enough = enough;
-      slots = i.slots ∙ ap (start_slots m.nfa) (sym i.per_pattern);
       offsets = offsets;
     } where
       apart : (b : ℕ) → b < 256 → is_quit m.quits b ≡ false → (u : ℕ) → u < 256 → is_quit m.quits u ≡ true → class_in m.classes b ≡ class_in m.classes u → ⊥
       apart b h q u k p e =
-          let same : is_quit m.quits b ≡ is_quit m.quits u = class_quits m.nfa m.quits (byte_classes_of o) b u (sym (class_is o s m i b h) ∙ e ∙ class_is o s m i u k) in
+          let same : is_quit m.quits b ≡ is_quit m.quits u = class_quits m.nfa m.quits (byte_classes_of m.config) b u (sym (class_is s m i b h) ∙ e ∙ class_is s m i u k) in
           let clash : false ≡ true = sym q ∙ same ∙ p in
           cc
 
-      alike : (b : ℕ) (q : Powerset) → b < 256 → IsOwn m.nfa q → IsOfClass m.classes (class_in m.classes b) 256 → successor m.nfa m.kind q (Some b) ≡ successor m.nfa m.kind q (byte_of m.classes (class_in m.classes b) 256)
+      alike : (b : ℕ) (q : Powerset) → b < 256 → IsOwn m.nfa q → IsOfClass m.classes (class_in m.classes b) 256 → successor m.nfa (match_kind_of m.config) q (Some b) ≡ successor m.nfa (match_kind_of m.config) q (byte_of m.classes (class_in m.classes b) 256)
       alike b q h own j =
-          let e : class_of m.nfa m.quits (byte_classes_of o) b ≡ class_of m.nfa m.quits (byte_classes_of o) j.byte = sym (class_is o s m i b h) ∙ sym j.class_is ∙ class_is o s m i j.byte j.below in
-          class_step m.nfa m.quits (byte_classes_of o) m.kind q b j.byte e own.1 ∙ ap (successor m.nfa m.kind q) (sym j.found)
+          let e : class_of m.nfa m.quits (byte_classes_of m.config) b ≡ class_of m.nfa m.quits (byte_classes_of m.config) j.byte = sym (class_is s m i b h) ∙ sym j.class_is ∙ class_is s m i j.byte j.below in
+          class_step m.nfa m.quits (byte_classes_of m.config) (match_kind_of m.config) q b j.byte e own.1 ∙ ap (successor m.nfa (match_kind_of m.config) q) (sym j.found)
 
-      same_stride : m.stride ≡ stride_for (class_of m.nfa s.quits (byte_classes_of o) 255 + 2)
-      same_stride = i.stride ∙ ap (λ n. stride_for (n + 2)) (i.settled.classes 255 (lit< tt))
+      same_stride : table_stride m ≡ stride_for (class_of m.nfa s.quits (byte_classes_of m.config) 255 + 2)
+      same_stride = stride_is s m i ∙ ap (λ n. stride_for (n + 2)) (i.settled.classes 255 (lit< tt))
 
-      minimum_is : settled_minimum o m.nfa ≡ minimum_capacity m.stride m.slots (greatest m) m.fixed
-      minimum_is = rw (same_stride, i.slots, i.fixed, i.settled.quits) refl
+      minimum_is : settled_minimum m.config m.nfa ≡ minimum_capacity (table_stride m) (slot_count m) (greatest m) (fixed_cost m.nfa)
+      minimum_is = rw (same_stride, slot_count-is m, i.settled.quits) refl
 
-      enough : minimum_capacity m.stride m.slots (greatest m) m.fixed ≤ m.capacity
-      enough = rw (i.capacity, i.settled.capacity, ← minimum_is) (omega arith)
+      enough : minimum_capacity (table_stride m) (slot_count m) (greatest m) (fixed_cost m.nfa) ≤ m.capacity
+      enough =
+          let given : m.capacity ≡ effective_capacity (cache_capacity_of m.config) (settled_minimum m.config m.nfa) = i.capacity ∙ i.settled.capacity in
+          subst (λ n. n ≤ m.capacity) minimum_is (subst (λ n. settled_minimum m.config m.nfa ≤ n) (sym given) (omega arith))
 
-      offsets : (m.slots + 4) * m.stride < 2 ^ 27
+      offsets : (slot_count m + 4) * table_stride m < 2 ^ 27
       offsets =
-          let le : (4 + start_slots m.nfa (starts_for_each_pattern_of o)) * m.stride ≤ 134217727 = rw (same_stride, i.settled.quits) i.settled.offsets in
-          let e : (m.slots + 4) * m.stride ≡ (4 + start_slots m.nfa (starts_for_each_pattern_of o)) * m.stride = rw i.slots (omega arith) in
+          let le : (4 + start_slots m.nfa (starts_for_each_pattern_of m.config)) * table_stride m ≤ 134217727 = rw (same_stride, i.settled.quits) i.settled.offsets in
+          let e : (slot_count m + 4) * table_stride m ≡ (4 + start_slots m.nfa (starts_for_each_pattern_of m.config)) * table_stride m = rw (slot_count-is m) (omega arith) in
           omega (arith, le, e)

@@ -11,7 +11,7 @@ use Rattle.automata_base.proofs.Paths.Orders.{some_inj}
 use Rattle.automata_hybrid.specs.Stores.{Stored, IsKnownTransition}
 use Rattle.automata_hybrid.specs.Ids.{quit_id}
 use Rattle.automata_hybrid.specs.Stepping.{unit_class}
-use Rattle.automata_hybrid.specs.Machine.{Machine}
+use Rattle.automata_hybrid.specs.Machine.{Machine, table_stride}
 use Rattle.automata_hybrid.specs.Passing.{HasLearned, HasLearnedUnit, IsAt, IsFollowed, IsQuiet, half_of}
 use Rattle.automata_hybrid.specs.Searches.{HasReadNoQuit, state_in, tape_in, told_in}
 use Rattle.automata_hybrid.specs.Table.{Leads, Names}
@@ -19,6 +19,7 @@ use Rattle.automata_hybrid.specs.Walking.{IsSilent}
 use Rattle.automata_hybrid.proofs.Searching.{lt_or_le, state_more, told_quiet}
 use Rattle.automata_hybrid.proofs.Stepping.{Leads-Names, Leads-silent}
 use Rattle.automata_hybrid.proofs.Walked.{silent_none, silent_same, silent_trans}
+use Rattle.automata_config.specs.Options.{match_kind_of}
 
 -- nothing was followed yet
 pub followed_none :
@@ -31,23 +32,23 @@ followed_none way m c input from id n =
 pub followed_more :
     (way : Direction) (m : Machine) (c : Stored) (input : Input) (from k id id' byte : ℕ)
     → id' < 2 ^ 27 → next (tape_in way input) k ≡ Some byte
-    → IsKnownTransition c id (class_in m.classes byte) → class_in m.classes byte < c.table.of.stride
-    → (is_quit m.quits byte ≡ true → id' ≡ quit_id m.stride)
-    → (is_quit m.quits byte ≡ false → id' < 2 ^ 31 → (q : Powerset) → Names c.table id q → Leads c.table id' (successor m.nfa m.kind q (Some byte)))
+    → IsKnownTransition c id (class_in m.classes byte) → class_in m.classes byte < table_stride c.table.of
+    → (is_quit m.quits byte ≡ true → id' ≡ quit_id (table_stride m))
+    → (is_quit m.quits byte ≡ false → id' < 2 ^ 31 → (q : Powerset) → Names c.table id q → Leads c.table id' (successor m.nfa (match_kind_of m.config) q (Some byte)))
     → IsFollowed way m c input from k id → IsFollowed way m c input from (suc k) id'
 followed_more way m c input from k id id' byte low unit known below quit named f = go (is_quit m.quits byte) refl where
   go : (b : Bool) → is_quit m.quits byte ≡ b → IsFollowed way m c input from (suc k) id'
-  go true e = absurd (let h : id' ≡ quit_id m.stride = quit e in omega (arith, h, low))
+  go true e = absurd (let h : id' ≡ quit_id (table_stride m) = quit e in omega (arith, h, low))
   go false e =
-      let after : state_in way m input (suc k) ≡ successor m.nfa m.kind (state_in way m input k) (Some byte) =
-      state_more way m input k ∙ ap (successor m.nfa m.kind (state_in way m input k)) unit in
+      let after : state_in way m input (suc k) ≡ successor m.nfa (match_kind_of m.config) (state_in way m input k) (Some byte) =
+      state_more way m input k ∙ ap (successor m.nfa (match_kind_of m.config) (state_in way m input k)) unit in
       let leads : Leads c.table id' (state_in way m input (suc k)) =
       subst (Leads c.table id') (sym after) (named e (omega (arith, low)) (state_in way m input k) f.named) in
       let here : IsQuiet way m c input k = record {
         clean = λ other same. subst (λ v. is_quit m.quits v ≡ false) (some_inj (sym unit ∙ same)) e;
         known = (
           (id, f.named, subst (λ v. IsKnownTransition c id (unit_class m v)) (sym unit) known),
-          subst (λ v. unit_class m v < c.table.of.stride) (sym unit) below,
+          subst (λ v. unit_class m v < table_stride c.table.of) (sym unit) below,
         );
         silent = Leads-silent c.table id' (state_in way m input (suc k)) leads low;
       } in

@@ -10,7 +10,7 @@ use Rattle.automata_hybrid.specs.Growing.{IsGrown, Keeps, ClearedNothing, HasRoo
 use Rattle.automata_hybrid.proofs.Effects.{HasRoom-Fits, HasRoom-grown, Keeps-grown, Keeps-trans, counts_up}
 use Rattle.automata_base.specs.Powerset.{cost}
 use Rattle.automata_hybrid.specs.declared.dfa.row.Row.{Row}
-use Rattle.automata_hybrid.specs.Machine.{greatest, template_of}
+use Rattle.automata_hybrid.specs.Machine.{greatest, template_of, table_stride}
 use Rattle.automata_hybrid.specs.Progressing.{saturated}
 use Rattle.automata_hybrid.specs.Table.{HasCells}
 
@@ -19,8 +19,8 @@ pub room_less : (c : Stored) (n k : ℕ) → k ≤ n → HasRoom c n → HasRoom
 room_less c n k l r =
     record {
       capacity =
-          (let times : k * (4 * c.table.of.stride + 36 + greatest c.table.of) ≤ n * (4 * c.table.of.stride + 36 + greatest c.table.of) =
-          mul-le-mul_right (4 * c.table.of.stride + 36 + greatest c.table.of) l in
+          (let times : k * (4 * table_stride c.table.of + 36 + greatest c.table.of) ≤ n * (4 * table_stride c.table.of + 36 + greatest c.table.of) =
+          mul-le-mul_right (4 * table_stride c.table.of + 36 + greatest c.table.of) l in
           below (usage c) _ _ c.table.of.capacity times r.capacity);
       offsets = λ i h. r.offsets i (omega (arith, l, h));
     } where
@@ -118,7 +118,7 @@ pub grown_again :
     (old new : CacheView) (r : Row)
     → IsAddedStart old.store r new.store → new.count ≡ old.count → new.store.table.of ≡ old.store.table.of
     → KeepsStarts old.store.starts new.store.starts
-    → HasCells old.store.table → length (template_of old.store.table.of) ≡ old.store.table.of.stride → old.store.clears < 2 ^ 64
+    → HasCells old.store.table → length (template_of old.store.table.of) ≡ table_stride old.store.table.of → old.store.clears < 2 ^ 64
     → cost r.state ≤ greatest old.store.table.of → IsGrown old (counted new)
 grown_again old new r (inl (fits, e)) count of starts cells wide small little =
     grown_one old (counted new) of (omega (arith, count))

@@ -7,7 +7,7 @@ use Rattle.std.proofs.lemmas.Bool.{cases_Bool}
 use Rattle.automata_base.specs.Powerset.{Powerset}
 use Rattle.automata_base.specs.Equal.{powerset_eq, powerset_eq-Decides}
 use Rattle.automata_hybrid.specs.declared.dfa.row.Row.{Row}
-use Rattle.automata_hybrid.specs.Machine.{start_of}
+use Rattle.automata_hybrid.specs.Machine.{start_of, table_stride}
 use Rattle.automata_hybrid.specs.Table.{Rows, id_of, Names, MayLead, with_row}
 use Rattle.automata_hybrid.specs.Clears.{AllStarts, row_of, put_if, put, or_unknown, Kept, keep_found, keep_slot, keep_slots, IsPut}
 use Rattle.automata_hybrid.proofs.Rows.{Names-more, find_id-push_other}
@@ -104,5 +104,5 @@ AllStarts-none t xs e = subst (λ ys. AllStarts t ys) (sym e) none where
 pub absent-more : (old t : Rows) (r : Row) (q : Powerset) → (id_of old r.state ≡ None → ⊥) → id_of old q ≡ None → id_of t q ≡ None → id_of (with_row t r) q ≡ None
 absent-more old t r q had o n = ⊎_elim
     (λ (e : powerset_eq q r.state ≡ true). absurd (had (subst (λ p. id_of old p ≡ None) ((powerset_eq-Decides q r.state).0 e) o)))
-    (λ (e : powerset_eq q r.state ≡ false). find_id-push_other t.of.stride (3 * t.of.stride) q t.rows r e ∙ n)
+    (λ (e : powerset_eq q r.state ≡ false). find_id-push_other (table_stride t.of) (3 * table_stride t.of) q t.rows r e ∙ n)
     (cases_Bool (powerset_eq q r.state))

@@ -19,7 +19,7 @@ use Rattle.automata_hybrid.specs.Caches.{CacheView, with_store}
 use Rattle.automata_hybrid.specs.Growing.{IsGrown, ClearedNothing, Keeps}
 use Rattle.automata_hybrid.specs.Knowing.{IsOfInput, Knows, KnowsItsStart, KnowsPass, KnowsUnit}
 use Rattle.automata_hybrid.specs.Stepping.{unit_class}
-use Rattle.automata_hybrid.specs.Machine.{Machine}
+use Rattle.automata_hybrid.specs.Machine.{Machine, table_stride, slot_count}
 use Rattle.automata_hybrid.specs.Passing.{HasLearned, HasLearnedAll, HasLearnedUnit, IsAt}
 use Rattle.automata_hybrid.specs.Searches.{Finds, Reads, Skips, state_in, tape_in}
 use Rattle.automata_hybrid.specs.Slots.{slot_behind, supports}
@@ -59,10 +59,10 @@ module _ (way : Direction) (m : Machine) (old new : Stored) (input : Input) (of 
   pub unit_still : (j : ℕ) → HasLearnedUnit way m old input j → HasLearnedUnit way m new input j
   unit_still j had =
       let unit : KnowsUnit way m old input j = had.0 in
-      let below : unit_class m (next (tape_in way input) j) < old.table.of.stride = had.1 in
+      let below : unit_class m (next (tape_in way input) j) < table_stride old.table.of = had.1 in
       let row : Names new.table unit.0 (state_in way m input j) = keeps.rows unit.0 (state_in way m input j) unit.1 in
       let cell = keeps.cells unit.0 (unit_class m (next (tape_in way input) j)) (state_in way m input j, unit.1) below unit.2 in
-      ((unit.0, row, subst (λ n. n < 2 ^ 31) (sym cell) unit.2), subst (λ (n : Machine). unit_class m (next (tape_in way input) j) < n.stride) (sym of) below)
+      ((unit.0, row, subst (λ n. n < 2 ^ 31) (sym cell) unit.2), subst (λ (n : Machine). unit_class m (next (tape_in way input) j) < table_stride n) (sym of) below)
 
   pub learned_still : (k : ℕ) → HasLearned way m old input k → HasLearned way m new input k
   learned_still k learned = λ j l reads. unit_still j (learned j l reads)
@@ -77,14 +77,14 @@ module _ (way : Direction) (m : Machine) (old new : Stored) (input : Input) (of 
 pub learned_more :
     (way : Direction) (m : Machine) (c : Stored) (input : Input) (k id : ℕ) (u : Option ℕ)
     → HasLearned way m c input k → Names c.table id (state_in way m input k) → next (tape_in way input) k ≡ u
-    → IsKnownTransition c id (unit_class m u) → unit_class m u < c.table.of.stride → HasLearned way m c input (suc k)
+    → IsKnownTransition c id (unit_class m u) → unit_class m u < table_stride c.table.of → HasLearned way m c input (suc k)
 learned_more way m c input k id u learned named unit known below = λ j l reads. go j reads (lt_or_le j k) l where
   go : (j : ℕ) → Reads way m input j → (j < k) ⊎ (k ≤ j) → j < suc k → HasLearnedUnit way m c input j
   go j reads (inl less) l = learned j less reads
   go j reads (inr more) l =
       let same : k ≡ j = omega (arith, more, l) in
       subst (HasLearnedUnit way m c input) same
-      ((id, named, subst (λ v. IsKnownTransition c id (unit_class m v)) (sym unit) known), subst (λ v. unit_class m v < c.table.of.stride) (sym unit) below)
+      ((id, named, subst (λ v. IsKnownTransition c id (unit_class m v)) (sym unit) known), subst (λ v. unit_class m v < table_stride c.table.of) (sym unit) below)
 
 -- a pass that reads nothing more has learned all
 pub learned_all :
@@ -105,13 +105,13 @@ pub learned_step :
     → IsGrown old new → new.store.table.of ≡ m → ClearedNothing old.store new.store
     → KnowsItsStart way m old.store input → HasLearned way m old.store input k
     → Names old.store.table id (state_in way m input k) → next (tape_in way input) k ≡ u
-    → IsKnownTransition new.store id (unit_class m u) → unit_class m u < m.stride
+    → IsKnownTransition new.store id (unit_class m u) → unit_class m u < table_stride m
     → KnowsItsStart way m new.store input × HasLearned way m new.store input (suc k)
 learned_step way m old new input k id u g of nothing begin learned named unit known below =
     let keeps : Keeps old.store new.store = g.kept nothing in (
       begin_still way m old.store new.store input g.of keeps begin,
       learned_more way m new.store input k id u (learned_still way m old.store new.store input g.of keeps k learned)
-          (keeps.rows id (state_in way m input k) named) unit known (subst (λ (n : Machine). unit_class m u < n.stride) (sym of) below),
+          (keeps.rows id (state_in way m input k) named) unit known (subst (λ (n : Machine). unit_class m u < table_stride n) (sym of) below),
     )
 
 -- a pass that reads nothing behind this unit has learned all
@@ -119,7 +119,7 @@ pub learned_ends :
     (way : Direction) (m : Machine) (old new : CacheView) (input : Input) (k id : ℕ) (u : Option ℕ)
     → IsGrown old new → new.store.table.of ≡ m
     → Names old.store.table id (state_in way m input k) → next (tape_in way input) k ≡ u
-    → (ClearedNothing old.store new.store → IsKnownTransition new.store id (unit_class m u)) → unit_class m u < m.stride
+    → (ClearedNothing old.store new.store → IsKnownTransition new.store id (unit_class m u)) → unit_class m u < table_stride m
     → ((j : ℕ) → suc k ≤ j → Reads way m input j → ⊥)
     → KnowsItsStart way m old.store input → HasLearned way m old.store input k → ClearedNothing old.store new.store
     → HasLearnedAll way m new.store input
@@ -147,7 +147,7 @@ begun_moved way m input old between new k e f =
 
 -- a start that is known, where it may be asked for, changes nothing and isn't refused for want of room
 module _ (m : Machine) (old new : CacheView) (mode : Anchored) (behind : Option ℕ) (r : Result ℕ SearchError) (behind_at start_at : ℕ)
-    (slots : length old.store.starts ≡ m.slots)
+    (slots : length old.store.starts ≡ slot_count m)
     (refusal : IfErr r (IsStartRefusedAt m mode behind behind_at start_at old new))
     (effect : IsStartEffect m mode behind old new)
     (begin : MayStart m mode behind → HasSlot m mode behind → IsKnownStart old.store (slot_behind m mode behind)) where
@@ -167,12 +167,12 @@ module _ (m : Machine) (old new : CacheView) (mode : Anchored) (behind : Option 
 
   same : new ≡ old
   same = go (quit_behind m behind) refl (supports m mode) refl where
-    in_slot : MayStart m mode behind → (slot_behind m mode behind < m.slots) ⊎ (m.slots ≤ slot_behind m mode behind) → new ≡ old
+    in_slot : MayStart m mode behind → (slot_behind m mode behind < slot_count m) ⊎ (slot_count m ≤ slot_behind m mode behind) → new ≡ old
     in_slot may (inl l) = effect.known (knows may l)
     in_slot may (inr l) = effect.past may l
 
     go : (o : Option ℕ) → quit_behind m behind ≡ o → (b : Bool) → supports m mode ≡ b → new ≡ old
-    go None e true f = in_slot (e, f) (lt_or_le (slot_behind m mode behind) m.slots)
+    go None e true f = in_slot (e, f) (lt_or_le (slot_behind m mode behind) (slot_count m))
     go None e false f = effect.barred (λ may. false_true (sym f ∙ may.1))
     go (Some byte) e b f = effect.barred (λ may. none_some (sym may.0 ∙ e))
 

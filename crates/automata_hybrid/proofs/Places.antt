@@ -10,7 +10,7 @@ use Rattle.automata_base.specs.Equal.{powerset_eq, powerset_eq-Decides}
 use Rattle.automata_hybrid.specs.declared.dfa.row.Row.{Row}
 use Rattle.automata_hybrid.specs.Owned.{IsOwn}
 use Rattle.automata_hybrid.specs.Ids.{tags}
-use Rattle.automata_hybrid.specs.Machine.{next_of, greatest, template_of}
+use Rattle.automata_hybrid.specs.Machine.{next_of, greatest, template_of, table_stride}
 use Rattle.std.specs.List.{sum_by}
 use Rattle.std.proofs.lemmas.List.Sums.{sum_by-cons}
 use Rattle.automata_hybrid.specs.Table.{Rows, has_patterns, find_id, Names, IsValid, Leads, IsCell, row_id, with_cell, cell_at, HasRowIds, IsTable, IsStepped, HasState, StateMap, row_cost}
@@ -56,16 +56,16 @@ pub record Placed (t : Rows) (id : ℕ) (q : Powerset) : Type 0 where
   pub has : slice_get t.rows place ≡ Some row
   pub state : row.state ≡ q
   pub within : place < length t.rows
-  pub offset : id % 2 ^ 27 ≡ (place + 3) * t.of.stride
+  pub offset : id % 2 ^ 27 ≡ (place + 3) * table_stride t.of
   pub low : id < 2 ^ 29
 
 pub Names-Placed : (t : Rows) (m : StateMap) (costs id : ℕ) (q : Powerset) → IsTable t m costs → Names t id q → Placed t id q
 Names-Placed t m costs id q i h =
-    let f = find_id-Found t.of.stride (3 * t.of.stride) q t.rows id h in
+    let f = find_id-Found (table_stride t.of) (3 * table_stride t.of) q t.rows id h in
     let within : f.place < length t.rows = slice_get_within t.rows f.place f.row f.has in
-    let le : (f.place + 4) * t.of.stride ≤ (length t.rows + 3) * t.of.stride = mul-le-mul_right t.of.stride (omega (arith, within)) in
-    let low : (f.place + 3) * t.of.stride < 2 ^ 27 = omega (arith, le, i.whole, i.small) in
-    let at : 3 * t.of.stride + f.place * t.of.stride ≡ (f.place + 3) * t.of.stride = omega arith in
+    let le : (f.place + 4) * table_stride t.of ≤ (length t.rows + 3) * table_stride t.of = mul-le-mul_right (table_stride t.of) (omega (arith, within)) in
+    let low : (f.place + 3) * table_stride t.of < 2 ^ 27 = omega (arith, le, i.whole, i.small) in
+    let at : 3 * table_stride t.of + f.place * table_stride t.of ≡ (f.place + 3) * table_stride t.of = omega arith in
     record {
       place = f.place;
       row = f.row;
@@ -76,22 +76,22 @@ Names-Placed t m costs id q i h =
       low = rw (f.«is») (tags_low _ f.row.started (has_patterns f.row.state) (omega (arith, low, at)));
     }
 
-pub Placed-cell : (t : Rows) (m : StateMap) (costs id class : ℕ) (q : Powerset) → IsTable t m costs → Placed t id q → class < t.of.stride → cell_at id class < length t.cells
-Placed-cell t m costs id class q i p l = rw (p.offset, i.whole) (inside p.place (length t.rows) t.of.stride class p.within l)
+pub Placed-cell : (t : Rows) (m : StateMap) (costs id class : ℕ) (q : Powerset) → IsTable t m costs → Placed t id q → class < table_stride t.of → cell_at id class < length t.cells
+Placed-cell t m costs id class q i p l = rw (p.offset, i.whole) (inside p.place (length t.rows) (table_stride t.of) class p.within l)
 
-pub Placed-place : (t : Rows) (m : StateMap) (costs id : ℕ) (q : Powerset) → IsTable t m costs → (p : Placed t id q) → (id % 2 ^ 27) / t.of.stride ≡ p.place + 3
+pub Placed-place : (t : Rows) (m : StateMap) (costs id : ℕ) (q : Powerset) → IsTable t m costs → (p : Placed t id q) → (id % 2 ^ 27) / table_stride t.of ≡ p.place + 3
 Placed-place t m costs id q i p =
-    let e : (p.place + 3) * t.of.stride ≡ (p.place + 3) * t.of.stride + 0 = omega arith in
-    ap (λ n. n / t.of.stride) (p.offset ∙ e) ∙ div-mul-add (p.place + 3) t.of.stride 0 i.template.positive
+    let e : (p.place + 3) * table_stride t.of ≡ (p.place + 3) * table_stride t.of + 0 = omega arith in
+    ap (λ n. n / table_stride t.of) (p.offset ∙ e) ∙ div-mul-add (p.place + 3) (table_stride t.of) 0 i.template.positive
 
-pub Placed-HasState : (t : Rows) (m : StateMap) (costs id k : ℕ) (q : Powerset) → IsTable t m costs → Placed t id q → k ≡ (id % 2 ^ 27) / t.of.stride - 3 → HasState t k q
+pub Placed-HasState : (t : Rows) (m : StateMap) (costs id k : ℕ) (q : Powerset) → IsTable t m costs → Placed t id q → k ≡ (id % 2 ^ 27) / table_stride t.of - 3 → HasState t k q
 Placed-HasState t m costs id k q i p e =
     let same : k ≡ p.place = omega (arith, Placed-place t m costs id q i p, e) in
     (p.row, subst (λ n. slice_get t.rows n ≡ Some p.row) (sym same) p.has, p.state)
 
-pub Placed-IsCell : (t : Rows) (m : StateMap) (costs id class : ℕ) (q : Powerset) → IsTable t m costs → Placed t id q → class < t.of.stride → IsCell t q class (get_or t.cells (cell_at id class) 0)
+pub Placed-IsCell : (t : Rows) (m : StateMap) (costs id class : ℕ) (q : Powerset) → IsTable t m costs → Placed t id q → class < table_stride t.of → IsCell t q class (get_or t.cells (cell_at id class) 0)
 Placed-IsCell t m costs id class q i p l =
-    subst (λ n. IsCell t q class (get_or t.cells (n + class) 0)) (sym p.offset) (subst (λ w. IsCell t w class (get_or t.cells ((p.place + 3) * t.of.stride + class) 0)) p.state (i.stepped p.place class p.row p.has l))
+    subst (λ n. IsCell t q class (get_or t.cells (n + class) 0)) (sym p.offset) (subst (λ w. IsCell t w class (get_or t.cells ((p.place + 3) * table_stride t.of + class) 0)) p.state (i.stepped p.place class p.row p.has l))
 
 pub some_inj : (x y : Row) → Some x ≡ Some y → x ≡ y
 some_inj x y e = cc
@@ -104,15 +104,15 @@ one_cell a b c d s l m e =
     (f, g)
 
 -- a cell that is written with what names the next state
-pub IsTable-with_cell : (t : Rows) (m : StateMap) (costs id class next : ℕ) (q : Powerset) → IsTable t m costs → Names t id q → class < t.of.stride → get_or (template_of t.of) class 0 ≡ 2 ^ 31 → Leads t next (next_of t.of q class) → IsTable (with_cell t id class next) m costs
+pub IsTable-with_cell : (t : Rows) (m : StateMap) (costs id class next : ℕ) (q : Powerset) → IsTable t m costs → Names t id q → class < table_stride t.of → get_or (template_of t.of) class 0 ≡ 2 ^ 31 → Leads t next (next_of t.of q class) → IsTable (with_cell t id class next) m costs
 IsTable-with_cell t m costs id class next q i h l free leads =
     let p = Names-Placed t m costs id q i h in
-    let far : 3 * t.of.stride ≤ cell_at id class = omega (arith, p.offset, mul-le-mul_right t.of.stride (le3 p.place)) in
+    let far : 3 * table_stride t.of ≤ cell_at id class = omega (arith, p.offset, mul-le-mul_right (table_stride t.of) (le3 p.place)) in
     record {
       template = i.template;
       whole = length-set t.cells (cell_at id class) next ∙ i.whole;
       small = rw length-set i.small;
-      fixed = take-set-le (3 * t.of.stride) t.cells (cell_at id class) next far ∙ i.fixed;
+      fixed = take-set-le (3 * table_stride t.of) t.cells (cell_at id class) next far ∙ i.fixed;
       stepped = stepped p;
       distinct = i.distinct;
       alive = i.alive;
@@ -124,16 +124,16 @@ IsTable-with_cell t m costs id class next q i h l free leads =
 
       stepped : Placed t id q → IsStepped (with_cell t id class next)
       stepped p k c r has lc = ⊎_elim
-          (λ (e : (k + 3) * t.of.stride + c ≡ cell_at id class). same e)
-          (λ (ne : (k + 3) * t.of.stride + c ≡ cell_at id class → ⊥). subst (IsCell t r.state c) (sym (get_or-set_other t.cells (cell_at id class) ((k + 3) * t.of.stride + c) next 0 ne)) (i.stepped k c r has lc))
-          (cases_eq ((k + 3) * t.of.stride + c) (cell_at id class)) where
-            same : (k + 3) * t.of.stride + c ≡ cell_at id class → IsCell t r.state c (get_or (set t.cells (cell_at id class) next) ((k + 3) * t.of.stride + c) 0)
+          (λ (e : (k + 3) * table_stride t.of + c ≡ cell_at id class). same e)
+          (λ (ne : (k + 3) * table_stride t.of + c ≡ cell_at id class → ⊥). subst (IsCell t r.state c) (sym (get_or-set_other t.cells (cell_at id class) ((k + 3) * table_stride t.of + c) next 0 ne)) (i.stepped k c r has lc))
+          (cases_eq ((k + 3) * table_stride t.of + c) (cell_at id class)) where
+            same : (k + 3) * table_stride t.of + c ≡ cell_at id class → IsCell t r.state c (get_or (set t.cells (cell_at id class) next) ((k + 3) * table_stride t.of + c) 0)
             same e =
-                let both = one_cell (k + 3) (p.place + 3) c class t.of.stride lc l (e ∙ ap (λ n. n + class) p.offset) in
+                let both = one_cell (k + 3) (p.place + 3) c class (table_stride t.of) lc l (e ∙ ap (λ n. n + class) p.offset) in
                 let place : k ≡ p.place = omega (arith, both.0) in
                 let row : Some r ≡ Some p.row = sym has ∙ ap (slice_get t.rows) place ∙ p.has in
                 let state : r.state ≡ q = ap (λ (x : Row). x.state) (some_inj r p.row row) ∙ p.state in
-                let read : next ≡ get_or (set t.cells (cell_at id class) next) ((k + 3) * t.of.stride + c) 0 = sym (get_or-set_same t.cells (cell_at id class) next 0 (Placed-cell t m costs id class q i p l)) ∙ ap (λ n. get_or (set t.cells (cell_at id class) next) n 0) (sym e) in
+                let read : next ≡ get_or (set t.cells (cell_at id class) next) ((k + 3) * table_stride t.of + c) 0 = sym (get_or-set_same t.cells (cell_at id class) next 0 (Placed-cell t m costs id class q i p l)) ∙ ap (λ n. get_or (set t.cells (cell_at id class) next) n 0) (sym e) in
                 subst (IsCell t r.state c) read (subst (λ d. IsCell t r.state d next) (sym both.1) (subst (λ w. IsCell t w class next) (sym state) (inr (free, inr leads))))
 
 pub costs_le : (rs : List Row) (m : ℕ) → ((k : ℕ) (r : Row) → slice_get rs k ≡ Some r → cost r.state ≤ m) → sum_by row_cost rs ≤ length rs * m
@@ -151,11 +151,11 @@ IsTable-costs t m costs i = costs_le t.rows (greatest t.of) (λ k r h. (i.alive 
 -- an ID at a row's offset, with that row's tags, is the row's
 pub placed_valid :
     (t : Rows) (m : StateMap) (costs id index : ℕ) (r : Row)
-    → IsTable t m costs → 3 ≤ index → slice_get t.rows (index - 3) ≡ Some r → index * t.of.stride ≡ id % 2 ^ 27 → id ≡ row_id (id % 2 ^ 27) r
+    → IsTable t m costs → 3 ≤ index → slice_get t.rows (index - 3) ≡ Some r → index * table_stride t.of ≡ id % 2 ^ 27 → id ≡ row_id (id % 2 ^ 27) r
     → IsValid t id
 placed_valid t m costs id index r i three has at same =
     let place : index - 3 + 3 ≡ index = omega (arith, three) in
-    let e : id ≡ row_id ((index - 3 + 3) * t.of.stride) r = same ∙ ap (λ n. row_id n r) (sym at ∙ ap (λ n. n * t.of.stride) (sym place)) in
+    let e : id ≡ row_id ((index - 3 + 3) * table_stride t.of) r = same ∙ ap (λ n. row_id n r) (sym at ∙ ap (λ n. n * table_stride t.of) (sym place)) in
     (r.state, i.distinct (index - 3) r has ∙ ap Some (sym e))
 
 -- and a valid ID is at its row's offset, with its tags
@@ -164,29 +164,29 @@ pub record IsAtRow (t : Rows) (id index : ℕ) : Type 0 where
   pub behind : 3 ≤ index
   pub within : index < length t.rows + 3
   pub has : slice_get t.rows (index - 3) ≡ Some row
-  pub at : index * t.of.stride ≡ id % 2 ^ 27
+  pub at : index * table_stride t.of ≡ id % 2 ^ 27
   pub same : id ≡ row_id (id % 2 ^ 27) row
 
 pub valid_at :
-    (t : Rows) (m : StateMap) (costs id : ℕ) → IsTable t m costs → IsValid t id → IsAtRow t id ((id % 2 ^ 27) / t.of.stride)
+    (t : Rows) (m : StateMap) (costs id : ℕ) → IsTable t m costs → IsValid t id → IsAtRow t id ((id % 2 ^ 27) / table_stride t.of)
 valid_at t m costs id i v =
-    let f = find_id-Found t.of.stride (3 * t.of.stride) v.0 t.rows id v.1 in
+    let f = find_id-Found (table_stride t.of) (3 * table_stride t.of) v.0 t.rows id v.1 in
     let within : f.place < length t.rows = slice_get_within t.rows f.place f.row f.has in
-    let le : (f.place + 4) * t.of.stride ≤ (length t.rows + 3) * t.of.stride = mul-le-mul_right t.of.stride (omega (arith, within)) in
-    let low : (f.place + 3) * t.of.stride < 2 ^ 27 = omega (arith, le, i.whole, i.small) in
-    let at : 3 * t.of.stride + f.place * t.of.stride ≡ (f.place + 3) * t.of.stride = omega arith in
-    let offset : id % 2 ^ 27 ≡ (f.place + 3) * t.of.stride =
+    let le : (f.place + 4) * table_stride t.of ≤ (length t.rows + 3) * table_stride t.of = mul-le-mul_right (table_stride t.of) (omega (arith, within)) in
+    let low : (f.place + 3) * table_stride t.of < 2 ^ 27 = omega (arith, le, i.whole, i.small) in
+    let at : 3 * table_stride t.of + f.place * table_stride t.of ≡ (f.place + 3) * table_stride t.of = omega arith in
+    let offset : id % 2 ^ 27 ≡ (f.place + 3) * table_stride t.of =
     ap (λ n. n % 2 ^ 27) (f.«is» ∙ ap (λ n. row_id n f.row) at) ∙ tags_mod _ f.row.started (has_patterns f.row.state) low in
-    let whole : (f.place + 3) * t.of.stride ≡ (f.place + 3) * t.of.stride + 0 = omega arith in
-    let index : (id % 2 ^ 27) / t.of.stride ≡ f.place + 3 =
-    ap (λ n. n / t.of.stride) (offset ∙ whole) ∙ div-mul-add (f.place + 3) t.of.stride 0 i.template.positive in
-    let behind : (id % 2 ^ 27) / t.of.stride - 3 ≡ f.place = omega (arith, index) in
+    let whole : (f.place + 3) * table_stride t.of ≡ (f.place + 3) * table_stride t.of + 0 = omega arith in
+    let index : (id % 2 ^ 27) / table_stride t.of ≡ f.place + 3 =
+    ap (λ n. n / table_stride t.of) (offset ∙ whole) ∙ div-mul-add (f.place + 3) (table_stride t.of) 0 i.template.positive in
+    let behind : (id % 2 ^ 27) / table_stride t.of - 3 ≡ f.place = omega (arith, index) in
     record {
       row = f.row;
       behind = omega (arith, index);
       within = omega (arith, index, within);
       has = subst (λ n. slice_get t.rows n ≡ Some f.row) (sym behind) f.has;
-      at = ap (λ n. n * t.of.stride) index ∙ sym offset;
+      at = ap (λ n. n * table_stride t.of) index ∙ sym offset;
       same = f.«is» ∙ ap (λ n. row_id n f.row) (at ∙ sym offset);
     }
 
@@ -211,11 +211,11 @@ has_some q = (λ e. ltb-true 0 (length q.patterns) e, λ l. lt-ltb 0 (length q.p
 
 pub Names-tagged : (t : Rows) (m : StateMap) (costs id : ℕ) (q : Powerset) → IsTable t m costs → Names t id q → IsBitSet id 27 ↔ (0 < length q.patterns)
 Names-tagged t m costs id q i h =
-    let f = find_id-Found t.of.stride (3 * t.of.stride) q t.rows id h in
+    let f = find_id-Found (table_stride t.of) (3 * table_stride t.of) q t.rows id h in
     let within : f.place < length t.rows = slice_get_within t.rows f.place f.row f.has in
-    let le : (f.place + 4) * t.of.stride ≤ (length t.rows + 3) * t.of.stride = mul-le-mul_right t.of.stride (omega (arith, within)) in
-    let low : 3 * t.of.stride + f.place * t.of.stride < 2 ^ 27 = omega (arith, le, i.whole, i.small) in
-    let bit = tags_bit (3 * t.of.stride + f.place * t.of.stride) f.row.started (has_patterns f.row.state) low in
+    let le : (f.place + 4) * table_stride t.of ≤ (length t.rows + 3) * table_stride t.of = mul-le-mul_right (table_stride t.of) (omega (arith, within)) in
+    let low : 3 * table_stride t.of + f.place * table_stride t.of < 2 ^ 27 = omega (arith, le, i.whole, i.small) in
+    let bit = tags_bit (3 * table_stride t.of + f.place * table_stride t.of) f.row.started (has_patterns f.row.state) low in
     let some = has_some q in
     let s : has_patterns f.row.state ≡ has_patterns q = ap has_patterns f.state in
     (λ b. some.0 (sym s ∙ bit.0 (subst (λ v. IsBitSet v 27) f.«is» b)), λ l. subst (λ v. IsBitSet v 27) (sym f.«is») (bit.1 (s ∙ some.1 l)))
@@ -227,9 +227,9 @@ no_patterns (p ∷ ps) n = absurd (n (omega arith))
 -- an ID without the match tag names a state without patterns
 pub Names-silent : (t : Rows) (id : ℕ) (q : Powerset) → Names t id q → id < 2 ^ 27 → q.patterns ≡ []
 Names-silent t id q h l =
-    let f = find_id-Found t.of.stride (3 * t.of.stride) q t.rows id h in
+    let f = find_id-Found (table_stride t.of) (3 * table_stride t.of) q t.rows id h in
     let s : has_patterns f.row.state ≡ has_patterns q = ap has_patterns f.state in
-    no_patterns q.patterns (λ some. heavy f.row.started (has_patterns f.row.state) (3 * t.of.stride + f.place * t.of.stride) (s ∙ (has_some q).1 some) (subst (λ v. v < 2 ^ 27) f.«is» l)) where
+    no_patterns q.patterns (λ some. heavy f.row.started (has_patterns f.row.state) (3 * table_stride t.of + f.place * table_stride t.of) (s ∙ (has_some q).1 some) (subst (λ v. v < 2 ^ 27) f.«is» l)) where
       heavy : (a b : Bool) (x : ℕ) → b ≡ true → x + tags a b < 2 ^ 27 → ⊥
       heavy true true x e l = omega (arith, l)
       heavy false true x e l = omega (arith, l)
@@ -250,5 +250,5 @@ Names-own t m costs id q i h =
 pub IsTable-ids : (t : Rows) (m : StateMap) (costs : ℕ) → IsTable t m costs → HasRowIds t
 IsTable-ids t m costs i k r h =
     let within : k < length t.rows = slice_get_within t.rows k r h in
-    let le : (k + 4) * t.of.stride ≤ (length t.rows + 3) * t.of.stride = mul-le-mul_right t.of.stride (omega (arith, within)) in
+    let le : (k + 4) * table_stride t.of ≤ (length t.rows + 3) * table_stride t.of = mul-le-mul_right (table_stride t.of) (omega (arith, within)) in
     (i.distinct k r h, omega (arith, le, i.whole, i.small))

@@ -12,7 +12,7 @@ use Rattle.automata_hybrid.specs.declared.dfa.row.Row.{Row}
 use Rattle.automata_base.specs.Powerset.{dead}
 use Rattle.automata_hybrid.specs.Owned.{IsOwn}
 use Rattle.automata_hybrid.specs.Ids.{quit_id}
-use Rattle.automata_hybrid.specs.Machine.{next_of, greatest, template_of, IsTemplate}
+use Rattle.automata_hybrid.specs.Machine.{next_of, greatest, template_of, IsTemplate, table_stride}
 use Rattle.automata_hybrid.specs.Table.{Rows, find_id, id_of, Names, Leads, IsCell, row_id, row_cost, with_row, IsTable, IsStepped, StateMap}
 
 -- a state that rows have keeps its ID when more come
@@ -40,7 +40,7 @@ flipped : (q p : Powerset) → powerset_eq q p ≡ false → powerset_eq p q ≡
 flipped q p h = (decided powerset_eq powerset_eq-Decides).symm p q ∙ h
 
 pub Names-more : (t : Rows) (r : Row) (id : ℕ) (q : Powerset) → Names t id q → Names (with_row t r) id q
-Names-more t r id q h = find_id-more t.of.stride (3 * t.of.stride) q t.rows (r ∷ []) id h
+Names-more t r id q h = find_id-more (table_stride t.of) (3 * table_stride t.of) q t.rows (r ∷ []) id h
 
 pub Leads-more : (t : Rows) (r : Row) (id : ℕ) (q : Powerset) → Leads t id q → Leads (with_row t r) id q
 Leads-more t r id q (inl h) = inl h
@@ -52,10 +52,10 @@ IsCell-more t r q class id (inr (h, inl e)) = inr (h, inl e)
 IsCell-more t r q class id (inr (h, inr l)) = inr (h, inr (Leads-more t r id (next_of t.of q class) l))
 
 -- a new row is named at once
-pub Names-new : (t : Rows) (r : Row) → length t.cells ≡ (length t.rows + 3) * t.of.stride → id_of t r.state ≡ None → Names (with_row t r) (row_id (length t.cells) r) r.state
+pub Names-new : (t : Rows) (r : Row) → length t.cells ≡ (length t.rows + 3) * table_stride t.of → id_of t r.state ≡ None → Names (with_row t r) (row_id (length t.cells) r) r.state
 Names-new t r whole none =
-    let e : 3 * t.of.stride + length t.rows * t.of.stride ≡ length t.cells = omega (arith, whole) in
-    find_id-push_new t.of.stride (3 * t.of.stride) t.rows r none ∙ ap (λ n. Some (row_id n r)) e
+    let e : 3 * table_stride t.of + length t.rows * table_stride t.of ≡ length t.cells = omega (arith, whole) in
+    find_id-push_new (table_stride t.of) (3 * table_stride t.of) t.rows r none ∙ ap (λ n. Some (row_id n r)) e
 
 -- an element of a list with one more
 pub at_push : (rs : List Row) (r : Row) (k : ℕ) (x : Row) → slice_get (rs ++ r ∷ []) k ≡ Some x → (slice_get rs k ≡ Some x) ⊎ ((k ≡ length rs) × (r ≡ x))
@@ -72,17 +72,17 @@ inside k n s class h l =
     let le : (k + 4) * s ≤ (n + 3) * s = mul-le-mul_right s (omega (arith, h)) in
     omega (arith, le, l)
 
-IsTable-stepped : (t : Rows) (r : Row) → IsTemplate t.of.stride (template_of t.of) → length t.cells ≡ (length t.rows + 3) * t.of.stride → IsStepped t → IsStepped (with_row t r)
+IsTable-stepped : (t : Rows) (r : Row) → IsTemplate (table_stride t.of) (template_of t.of) → length t.cells ≡ (length t.rows + 3) * table_stride t.of → IsStepped t → IsStepped (with_row t r)
 IsTable-stepped t r template whole old k class x h l = go (at_push t.rows r k x h) where
-  go : (slice_get t.rows k ≡ Some x) ⊎ ((k ≡ length t.rows) × (r ≡ x)) → IsCell (with_row t r) x.state class (get_or (t.cells ++ (template_of t.of)) ((k + 3) * t.of.stride + class) 0)
+  go : (slice_get t.rows k ≡ Some x) ⊎ ((k ≡ length t.rows) × (r ≡ x)) → IsCell (with_row t r) x.state class (get_or (t.cells ++ (template_of t.of)) ((k + 3) * table_stride t.of + class) 0)
   go (inl e) =
-      let within : (k + 3) * t.of.stride + class < length t.cells = rw whole (inside k (length t.rows) t.of.stride class (slice_get_within t.rows k x e) l) in
-      subst (IsCell (with_row t r) x.state class) (sym (get_or_append_left t.cells (template_of t.of) 0 ((k + 3) * t.of.stride + class) within)) (IsCell-more t r x.state class _ (old k class x e l))
+      let within : (k + 3) * table_stride t.of + class < length t.cells = rw whole (inside k (length t.rows) (table_stride t.of) class (slice_get_within t.rows k x e) l) in
+      subst (IsCell (with_row t r) x.state class) (sym (get_or_append_left t.cells (template_of t.of) 0 ((k + 3) * table_stride t.of + class) within)) (IsCell-more t r x.state class _ (old k class x e l))
   go (inr (e, f)) =
-      let at : length t.cells + class ≡ (k + 3) * t.of.stride + class = rw (e, whole) refl in
-      let read : get_or (template_of t.of) class 0 ≡ get_or (t.cells ++ (template_of t.of)) ((k + 3) * t.of.stride + class) 0 = sym (get_or-append-add t.cells (template_of t.of) class 0) ∙ ap (λ i. get_or (t.cells ++ (template_of t.of)) i 0) at in
+      let at : length t.cells + class ≡ (k + 3) * table_stride t.of + class = rw (e, whole) refl in
+      let read : get_or (template_of t.of) class 0 ≡ get_or (t.cells ++ (template_of t.of)) ((k + 3) * table_stride t.of + class) 0 = sym (get_or-append-add t.cells (template_of t.of) class 0) ∙ ap (λ i. get_or (t.cells ++ (template_of t.of)) i 0) at in
       subst (IsCell (with_row t r) x.state class) read (new (template.cells class l)) where
-        new : (get_or (template_of t.of) class 0 ≡ quit_id t.of.stride) ⊎ (get_or (template_of t.of) class 0 ≡ 2 ^ 31) → IsCell (with_row t r) x.state class (get_or (template_of t.of) class 0)
+        new : (get_or (template_of t.of) class 0 ≡ quit_id (table_stride t.of)) ⊎ (get_or (template_of t.of) class 0 ≡ 2 ^ 31) → IsCell (with_row t r) x.state class (get_or (template_of t.of) class 0)
         new (inl q) = inl (q, q)
         new (inr u) = inr (u, inl u)
 
@@ -90,23 +90,23 @@ IsTable-stepped t r template whole old k class x h l = go (at_push t.rows r k x 
 pub IsTable-with_row : (t : Rows) (r : Row) (m n : StateMap) (costs : ℕ) → IsTable t m costs → id_of t r.state ≡ None → (r.state ≡ dead → ⊥) → cost r.state ≤ greatest t.of → IsOwn t.of.nfa r.state → length t.cells < 2 ^ 27
     → ((p : Powerset) → get powerset_eq n p ≡ cond (powerset_eq r.state p) (Some (row_id (length t.cells) r)) (get powerset_eq m p)) → IsTable (with_row t r) n (costs + cost r.state)
 IsTable-with_row t r m n costs i none live cheap of fits new =
-    let more : length (t.cells ++ (template_of t.of)) ≡ length t.cells + t.of.stride = length-append t.cells (template_of t.of) ∙ ap (λ k. length t.cells + k) i.template.whole in
+    let more : length (t.cells ++ (template_of t.of)) ≡ length t.cells + table_stride t.of = length-append t.cells (template_of t.of) ∙ ap (λ k. length t.cells + k) i.template.whole in
     let one : length (t.rows ++ r ∷ []) ≡ length t.rows + 1 = length-append t.rows (r ∷ []) in
-    let few : 3 * t.of.stride ≤ length t.cells = rw i.whole (grind arith) in
+    let few : 3 * table_stride t.of ≤ length t.cells = rw i.whole (grind arith) in
     record {
       template = i.template;
       whole = more ∙ rw (i.whole, one) (omega arith);
       small = omega (arith, more, fits);
-      fixed = rw (take-append-le (3 * t.of.stride) t.cells (template_of t.of) few) i.fixed;
+      fixed = rw (take-append-le (3 * table_stride t.of) t.cells (template_of t.of) few) i.fixed;
       stepped = IsTable-stepped t r i.template i.whole i.stepped;
       distinct = λ k x h. distinct k x (at_push t.rows r k x h);
       alive = λ k x h. alive k x (at_push t.rows r k x h);
       mapped = λ p. ⊎_elim (λ (e : powerset_eq r.state p ≡ true). same p e) (λ (e : powerset_eq r.state p ≡ false). other p e) (cases_Bool (powerset_eq r.state p));
       costs_of = ap (λ n. n + cost r.state) i.costs_of ∙ sym (sum_by_push row_cost t.rows r);
     } where
-      distinct : (k : ℕ) (x : Row) → (slice_get t.rows k ≡ Some x) ⊎ ((k ≡ length t.rows) × (r ≡ x)) → Names (with_row t r) (row_id ((k + 3) * t.of.stride) x) x.state
+      distinct : (k : ℕ) (x : Row) → (slice_get t.rows k ≡ Some x) ⊎ ((k ≡ length t.rows) × (r ≡ x)) → Names (with_row t r) (row_id ((k + 3) * table_stride t.of) x) x.state
       distinct k x (inl e) = Names-more t r _ x.state (i.distinct k x e)
-      distinct k x (inr (e, f)) = subst (λ y. Names (with_row t r) (row_id ((k + 3) * t.of.stride) y) y.state) f (subst (λ n. Names (with_row t r) (row_id n r) r.state) (i.whole ∙ rw e refl) (Names-new t r i.whole none))
+      distinct k x (inr (e, f)) = subst (λ y. Names (with_row t r) (row_id ((k + 3) * table_stride t.of) y) y.state) f (subst (λ n. Names (with_row t r) (row_id n r) r.state) (i.whole ∙ rw e refl) (Names-new t r i.whole none))
 
       alive : (k : ℕ) (x : Row) → (slice_get t.rows k ≡ Some x) ⊎ ((k ≡ length t.rows) × (r ≡ x)) → (x.state ≡ dead → ⊥) × (cost x.state ≤ greatest t.of) × IsOwn t.of.nfa x.state
       alive k x (inl e) = i.alive k x e
@@ -116,7 +116,7 @@ IsTable-with_row t r m n costs i none live cheap of fits new =
       same p e = new p ∙ rw e (sym (subst (λ w. id_of (with_row t r) w ≡ Some (row_id (length t.cells) r)) ((powerset_eq-Decides r.state p).0 e) (Names-new t r i.whole none)))
 
       other : (p : Powerset) → powerset_eq r.state p ≡ false → get powerset_eq n p ≡ id_of (with_row t r) p
-      other p e = new p ∙ rw e (i.mapped p ∙ sym (find_id-push_other t.of.stride (3 * t.of.stride) p t.rows r (flipped r.state p e)))
+      other p e = new p ∙ rw e (i.mapped p ∙ sym (find_id-push_other (table_stride t.of) (3 * table_stride t.of) p t.rows r (flipped r.state p e)))
 
 -- a state that isn't in the map isn't in the rows
 pub IsTable-map : (t : Rows) (m n : StateMap) (costs : ℕ) → IsTable t m costs → ((p : Powerset) → get powerset_eq n p ≡ get powerset_eq m p) → IsTable t n costs

@@ -24,11 +24,12 @@ use Rattle.automata_hybrid.specs.Searches.{IsStepRefusal, IsPassRefusal, unit_of
 use Rattle.automata_hybrid.specs.Starting.{quit_behind}
 use Rattle.automata_hybrid.specs.Table.{Rows, Leads, Names}
 use Rattle.automata_base.specs.Classes.{is_quit}
+use Rattle.automata_config.specs.Options.{match_kind_of}
 
 -- one unit more
 pub state_more :
     (way : Direction) (m : Machine) (input : Input) (k : ℕ)
-    → state_in way m input (suc k) ≡ successor m.nfa m.kind (state_in way m input k) (next (tape_in way input) k)
+    → state_in way m input (suc k) ≡ successor m.nfa (match_kind_of m.config) (state_in way m input k) (next (tape_in way input) k)
 unfolding state_after
 state_more way m input k = refl
 
@@ -67,7 +68,7 @@ pub found_more :
     → (input.earliest ≡ true → half_of way input (told_in way m input k) ≡ None)
     → half_of way input (told_in way m input (suc k))
     ≡ half_at (state_in way m input (suc k)).patterns (offset_in way input k) (half_of way input (told_in way m input k))
-found_more way m input k first = found_by way input m.kind input.earliest m.nfa input.anchored (tape_in way input) k first
+found_more way m input k first = found_by way input (match_kind_of m.config) input.earliest m.nfa input.anchored (tape_in way input) k first
 
 -- the dead state stays, and tells nothing
 pub dead_more :
@@ -80,8 +81,8 @@ dead_more way m input k (suc n) l e = go (λ more. dead_more way m input k n mor
   go before (inl same) = subst (λ i. state_in way m input i ≡ dead) same e
   go before (inr less) =
       state_more way m input n
-      ∙ (ap (λ q. successor m.nfa m.kind q (next (tape_in way input) n)) (before (omega (arith, less)))
-      ∙ dead_stays m.nfa m.kind (next (tape_in way input) n))
+      ∙ (ap (λ q. successor m.nfa (match_kind_of m.config) q (next (tape_in way input) n)) (before (omega (arith, less)))
+      ∙ dead_stays m.nfa (match_kind_of m.config) (next (tape_in way input) n))
 
 earlier_none : (o : Option Pair) → earlier_or o None ≡ o
 earlier_none None = refl
@@ -99,13 +100,13 @@ silent kind true a mode t k n =
 pub told_quiet :
     (way : Direction) (m : Machine) (input : Input) (k : ℕ)
     → (state_in way m input (suc k)).patterns ≡ [] → told_in way m input (suc k) ≡ told_in way m input k
-told_quiet way m input k e = silent m.kind input.earliest m.nfa input.anchored (tape_in way input) k e
+told_quiet way m input k e = silent (match_kind_of m.config) input.earliest m.nfa input.anchored (tape_in way input) k e
 
 quiet :
     (way : Direction) (m : Machine) (input : Input) (k n : ℕ)
     → k ≤ n → state_in way m input (suc k) ≡ dead → told_in way m input (suc n) ≡ told_in way m input n
 quiet way m input k n l e =
-    silent m.kind input.earliest m.nfa input.anchored (tape_in way input) n
+    silent (match_kind_of m.config) input.earliest m.nfa input.anchored (tape_in way input) n
     (ap (λ (q : Powerset). q.patterns) (dead_more way m input (suc k) (suc n) (omega (arith, l)) e))
 
 dead_tells :
@@ -158,7 +159,7 @@ pub found_first :
     → half_of way input (told_in way m input k) ≡ found_over way m input
 found_first way m input k l e some =
     ap (half_of way input)
-    (sym (told_stays m.kind input.earliest m.nfa input.anchored (tape_in way input) k
+    (sym (told_stays (match_kind_of m.config) input.earliest m.nfa input.anchored (tape_in way input) k
     (suc (length (tape_in way input).bytes)) (told_in way m input k) l e refl (λ f. some (ap (half_of way input) f))))
 
 pub lt_or_le : (j k : ℕ) → (j < k) ⊎ (k ≤ j)
@@ -194,7 +195,7 @@ stops_last way m input k l j less r = let f : j ≤ length (tape_in way input).b
 -- a pass that stands at a place reads one unit more, which is no quit byte
 module _ (way : Direction) (m : Machine) (t t' : Rows) (input : Input) (k id id' : ℕ) (u : Option ℕ)
     (found found' : Option HalfMatch) (at : IsAt way m t input k id found) (unit : next (tape_in way input) k ≡ u)
-    (reads : (q : Powerset) → Names t id q → Leads t' id' (successor m.nfa m.kind q u))
+    (reads : (q : Powerset) → Names t id q → Leads t' id' (successor m.nfa (match_kind_of m.config) q u))
     (free : (byte : ℕ) → u ≡ Some byte → is_quit m.quits byte ≡ false) where
   -- the ID found tells its patterns at the offset of the place
   abbrev pub Tells : Type 0
@@ -202,7 +203,7 @@ module _ (way : Direction) (m : Machine) (t t' : Rows) (input : Input) (k id id'
 
   pub more_leads : Leads t' id' (state_in way m input (suc k))
   more_leads =
-      subst (λ q. Leads t' id' q) (sym (state_more way m input k ∙ ap (successor m.nfa m.kind (state_in way m input k)) unit))
+      subst (λ q. Leads t' id' q) (sym (state_more way m input k ∙ ap (successor m.nfa (match_kind_of m.config) (state_in way m input k)) unit))
       (reads (state_in way m input k) at.named)
 
   more_first : input.earliest ≡ true → half_of way input (told_in way m input k) ≡ None
@@ -261,7 +262,7 @@ module _ (way : Direction) (m : Machine) (t t' : Rows) (input : Input) (k id id'
       Tells → input.earliest ≡ true → (found' ≡ None → ⊥) → (j : ℕ) → suc k ≤ j → Reads way m input j → ⊥
   stops_ends tells e some j l r =
       some (more_found tells ∙ ap (half_of way input)
-      (sym (told_stays m.kind input.earliest m.nfa input.anchored (tape_in way input) (suc k) j (told_in way m input (suc k)) l e refl
+      (sym (told_stays (match_kind_of m.config) input.earliest m.nfa input.anchored (tape_in way input) (suc k) j (told_in way m input (suc k)) l e refl
       (λ f. some (more_found tells ∙ ap (half_of way input) f))) ∙ r.2 e))
 
   pub clean_ends :
@@ -285,7 +286,7 @@ pub starts_at :
 unfolding last_told first_told
 starts_at way m t input id n =
     record { named = n; told = go input.earliest; nothing = λ e. refl; clean = λ j byte l e. absurd (omega (arith, l)) } where
-      go : (e : Bool) → None ≡ half_of way input (told_upto m.kind e m.nfa input.anchored (tape_in way input) 0)
+      go : (e : Bool) → None ≡ half_of way input (told_upto (match_kind_of m.config) e m.nfa input.anchored (tape_in way input) 0)
       go true = refl
       go false = refl
 
@@ -296,7 +297,7 @@ pub starts_dead :
 unfolding last_told first_told
 starts_dead way m input d =
     go input.earliest ∙ found_dead way m input 0 (omega arith) (dead_more way m input 0 1 (omega arith) d) where
-      go : (e : Bool) → None ≡ half_of way input (told_upto m.kind e m.nfa input.anchored (tape_in way input) 0)
+      go : (e : Bool) → None ≡ half_of way input (told_upto (match_kind_of m.config) e m.nfa input.anchored (tape_in way input) 0)
       go true = refl
       go false = refl
 

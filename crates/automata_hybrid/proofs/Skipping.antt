@@ -14,6 +14,7 @@ use Rattle.automata_hybrid.specs.Machine.{Machine}
 use Rattle.automata_hybrid.specs.Passing.{half_of, found_over}
 use Rattle.automata_hybrid.specs.Searches.{Finds, Skips, IsFound, IsRefused, IsPassRefusal, MeetsNoQuit, with_base}
 use Rattle.automata_hybrid.proofs.Searching.{false_true, half_none}
+use Rattle.automata_config.specs.Options.{match_kind_of}
 
 -- the pair that a half match stands for
 pub record Stands (way : Direction) (input : Input) (o : Option Pair) (half : HalfMatch) : Type 0 where
@@ -68,13 +69,13 @@ module _ (way : Direction) (m : Machine) (input now : Input) (k : ℕ) (same : n
   -- it found nothing
   pub finds_none : None ≡ found_over way m now → MeetsNoQuit way m now → IsFound way m input None
   finds_none e c =
-      let none : told_over way m.nfa m.kind (later way k input) ≡ None = half_none way (later way k input) _ (sym (there None e)) in
+      let none : told_over way m.nfa (match_kind_of m.config) (later way k input) ≡ None = half_none way (later way k input) _ (sym (there None e)) in
       (k, tries, inr (inl (sym none, clear c)))
 
-  stands : (half : HalfMatch) → Some half ≡ found_over way m now → Stands way (later way k input) (told_over way m.nfa m.kind (later way k input)) half
-  stands half e = half_stands way (later way k input) (told_over way m.nfa m.kind (later way k input)) half (there (Some half) e)
+  stands : (half : HalfMatch) → Some half ≡ found_over way m now → Stands way (later way k input) (told_over way m.nfa (match_kind_of m.config) (later way k input)) half
+  stands half e = half_stands way (later way k input) (told_over way m.nfa (match_kind_of m.config) (later way k input)) half (there (Some half) e)
 
-  split_at : (half : HalfMatch) (s : Stands way (later way k input) (told_over way m.nfa m.kind (later way k input)) half) → is_split now.haystack half.offset ≡ is_split input.haystack (offset_in way (later way k input) s.pair.place)
+  split_at : (half : HalfMatch) (s : Stands way (later way k input) (told_over way m.nfa (match_kind_of m.config) (later way k input)) half) → is_split now.haystack half.offset ≡ is_split input.haystack (offset_in way (later way k input) s.pair.place)
   split_at half s =
       ap₂ is_split (ap (λ (i : Input). i.haystack) same ∙ later_haystack way k input) s.offset
 
@@ -83,14 +84,14 @@ module _ (way : Direction) (m : Machine) (input now : Input) (k : ℕ) (same : n
       (half : HalfMatch) → Some half ≡ found_over way m now → MeetsNoQuit way m now
       → (Skips m → is_split now.haystack half.offset ≡ false) → IsFound way m input (Some (with_base half now.start))
   finds_some half e c keeps =
-      let s : Stands way (later way k input) (told_over way m.nfa m.kind (later way k input)) half = stands half e in
+      let s : Stands way (later way k input) (told_over way m.nfa (match_kind_of m.config) (later way k input)) half = stands half e in
       (k, s.pair, tries, within, (sym s.told, clear c), (λ skips. sym (split_at half s) ∙ keeps skips), s.pattern, s.offset, ap (λ (i : Input). i.start) same)
 
   split_there :
       (half : HalfMatch) → Some half ≡ found_over way m now → MeetsNoQuit way m now
       → is_split now.haystack half.offset ≡ true → IsSplit (Finds way m) way (later way k input)
   split_there half e c split =
-      let s : Stands way (later way k input) (told_over way m.nfa m.kind (later way k input)) half = stands half e in (
+      let s : Stands way (later way k input) (told_over way m.nfa (match_kind_of m.config) (later way k input)) half = stands half e in (
         s.pair,
         (sym s.told, clear c),
         ap (λ h. is_split h (offset_in way (later way k input) s.pair.place)) (later_haystack way k input) ∙ (sym (split_at half s) ∙ split),
@@ -113,7 +114,7 @@ module _ (way : Direction) (m : Machine) (input now : Input) (k : ℕ) (same : n
   pub none_stops : None ≡ found_over way m now → (j : ℕ) → k < j → Tries (Finds way m) (Skips m) way input j → ⊥
   none_stops e j less tried =
       let split : IsSplit (Finds way m) way (later way k input) = (tried.1 k less).1 in
-      let none : told_over way m.nfa m.kind (later way k input) ≡ None = half_none way (later way k input) _ (sym (there None e)) in
+      let none : told_over way m.nfa (match_kind_of m.config) (later way k input) ≡ None = half_none way (later way k input) _ (sym (there None e)) in
       some_none (split.1.0 ∙ none)
 
   -- or what isn't left out
@@ -125,7 +126,7 @@ module _ (way : Direction) (m : Machine) (input now : Input) (k : ℕ) (same : n
     go (inl z) = omega (arith, z, less)
     go (inr skips) =
         let split : IsSplit (Finds way m) way (later way k input) = (tried.1 k less).1 in
-        let s : Stands way (later way k input) (told_over way m.nfa m.kind (later way k input)) half = stands half e in
+        let s : Stands way (later way k input) (told_over way m.nfa (match_kind_of m.config) (later way k input)) half = stands half e in
         let same : split.0 ≡ s.pair = some_eq (split.1.0 ∙ s.told) in
         let place : is_split (later way k input).haystack (offset_in way (later way k input) s.pair.place) ≡ true =
         subst (λ (p : Pair). is_split (later way k input).haystack (offset_in way (later way k input) p.place) ≡ true) same split.2 in
@@ -153,6 +154,6 @@ finds_no_more way m input k tries past = (k, tries, inl past)
 -- what a search finds is what its passes tell
 pub found_told :
     (way : Direction) (m : Machine) (input : Input) (o : Option Half)
-    → IsFound way m input o → IsTold way m.nfa m.kind input o
+    → IsFound way m input o → IsTold way m.nfa (match_kind_of m.config) input o
 found_told way m input o found =
-    turn_answers (Finds way m) (TellsOver way m.nfa m.kind) (Skips m) way input (λ k told l f. f.0) o found
+    turn_answers (Finds way m) (TellsOver way m.nfa (match_kind_of m.config)) (Skips m) way input (λ k told l f. f.0) o found

@@ -13,6 +13,7 @@ use Rattle.automata_hybrid.specs.Effects.{cleared_saving, put_found, IsAdded, Is
 use Rattle.automata_hybrid.proofs.Rows.{at_push}
 use Rattle.automata_hybrid.proofs.Places.{Found, find_id-Found, bit_of, zero_one}
 use Rattle.automata_hybrid.proofs.Effects.{one_id}
+use Rattle.automata_hybrid.specs.Machine.{table_stride}
 
 -- the start tag of an ID at a row's offset
 tags_start : (x : ℕ) (a b : Bool) → x < 2 ^ 27 → IsBitSet (x + tags a b) 28 ↔ (a ≡ true)
@@ -25,8 +26,8 @@ tags_start x false false h = let i = bit_of 28 x 0 (x + tags false false) (omega
 marked : (t : Rows) → HasRowIds t → (k : ℕ) (r : Row) → slice_get t.rows k ≡ Some r → (id : ℕ) → Names t id r.state → IsBitSet id 28 ↔ (r.started ≡ true)
 marked t ids k r has id named =
     let at = ids k r has in
-    let same : row_id ((k + 3) * t.of.stride) r ≡ id = one_id t (row_id ((k + 3) * t.of.stride) r) id r.state at.0 named in
-    subst (λ n. IsBitSet n 28 ↔ (r.started ≡ true)) same (tags_start ((k + 3) * t.of.stride) r.started (has_patterns r.state) at.1)
+    let same : row_id ((k + 3) * table_stride t.of) r ≡ id = one_id t (row_id ((k + 3) * table_stride t.of) r) id r.state at.0 named in
+    subst (λ n. IsBitSet n 28 ↔ (r.started ≡ true)) same (tags_start ((k + 3) * table_stride t.of) r.started (has_patterns r.state) at.1)
 
 -- some row is this one
 abbrev pub IsIn : Rows → Row → Type 0
@@ -41,13 +42,13 @@ abbrev pub AllFromOr : Rows → Rows → Bool → Type 0
 AllFromOr old new started = (k : ℕ) (r : Row) → slice_get new.rows k ≡ Some r → IsIn old r ⊎ ((id_of old r.state ≡ None) × (r.started ≡ started))
 
 -- the row of a state
-row_named : (t : Rows) (id : ℕ) (q : Powerset) → Names t id q → Found t.of.stride (3 * t.of.stride) q t.rows id
-row_named t id q h = find_id-Found t.of.stride (3 * t.of.stride) q t.rows id h
+row_named : (t : Rows) (id : ℕ) (q : Powerset) → Names t id q → Found (table_stride t.of) (3 * table_stride t.of) q t.rows id
+row_named t id q h = find_id-Found (table_stride t.of) (3 * table_stride t.of) q t.rows id h
 
 module _ (old new : Rows) (started : Bool) (ids_old : HasRowIds old) (ids_new : HasRowIds new) (all : AllFromOr old new started) where
   pub keeps_tags : KeepsStartTags old new
   keeps_tags q before now h n = go (all f.place f.row f.has) where
-    f : Found new.of.stride (3 * new.of.stride) q new.rows now
+    f : Found (table_stride new.of) (3 * table_stride new.of) q new.rows now
     f = row_named new now q n
 
     there : IsBitSet now 28 ↔ (f.row.started ≡ true)
@@ -59,14 +60,14 @@ module _ (old new : Rows) (started : Bool) (ids_old : HasRowIds old) (ids_new : 
 
   pub tags_new : TagsNewStates old new started
   tags_new q id none n = go (all f.place f.row f.has) where
-    f : Found new.of.stride (3 * new.of.stride) q new.rows id
+    f : Found (table_stride new.of) (3 * table_stride new.of) q new.rows id
     f = row_named new id q n
 
     there : IsBitSet id 28 ↔ (f.row.started ≡ true)
     there = marked new ids_new f.place f.row f.has id (subst (λ p. Names new id p) (sym f.state) n)
 
     go : IsIn old f.row ⊎ ((id_of old f.row.state ≡ None) × (f.row.started ≡ started)) → IsBitSet id 28 ↔ (started ≡ true)
-    go (inl (k, has)) = absurd (none_some (sym none ∙ subst (λ p. Names old (row_id ((k + 3) * old.of.stride) f.row) p) f.state (ids_old k f.row has).0))
+    go (inl (k, has)) = absurd (none_some (sym none ∙ subst (λ p. Names old (row_id ((k + 3) * table_stride old.of) f.row) p) f.state (ids_old k f.row has).0))
     go (inr (free, e)) = subst (λ b. IsBitSet id 28 ↔ (b ≡ true)) e there
 
 -- a table that is as it was

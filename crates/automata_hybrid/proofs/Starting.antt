@@ -12,7 +12,7 @@ use Rattle.automata_config.specs.declared.error.SearchError.{SearchError}
 use Rattle.automata_config.specs.declared.error.SearchError.TheVariants as search
 use Rattle.automata_config.specs.declared.error.StepError.{StepError}
 use Rattle.automata_config.specs.declared.error.StepError.TheVariants as step
-use Rattle.automata_hybrid.specs.Machine.{Machine}
+use Rattle.automata_hybrid.specs.Machine.{Machine, slot_count}
 use Rattle.automata_hybrid.specs.Table.{Has, KeepsStartTags, Leads, Rows, TagsNewStates}
 use Rattle.automata_hybrid.specs.Stores.{Stored, IsCacheError, IsKnownStart}
 use Rattle.automata_hybrid.specs.Usage.{GivesUp}
@@ -21,11 +21,12 @@ use Rattle.automata_hybrid.specs.Growing.{IsGrown, KeepsProgress}
 use Rattle.automata_hybrid.specs.Slots.{slot_behind, supports}
 use Rattle.automata_hybrid.specs.Starting.{IsStartAnswer, IsStartEffect, IsStartRefusal, IsStartRefusalAt, IsStartRefusedAt, KnowsStart, MayStart, quit_behind, search_refusal, start_refusal}
 use Rattle.automata_hybrid.proofs.Searching.{false_true}
+use Rattle.automata_config.specs.Options.{specialize_start_states_of}
 
 -- the start of a mode's slot is known
 pub knows_slot :
     (m : Machine) (c : Stored) (mode : Anchored) (behind : Option ℕ) (slot : ℕ)
-    → MayStart m mode behind → slot ≡ slot_behind m mode behind → slot < m.slots → length c.starts ≡ m.slots
+    → MayStart m mode behind → slot ≡ slot_behind m mode behind → slot < slot_count m → length c.starts ≡ slot_count m
     → IsKnownStart c slot → KnowsStart m c mode behind
 knows_slot m c mode behind slot may at within slots known =
     (may, (omega (arith, at, within, slots), subst (IsKnownStart c) at known))
@@ -33,13 +34,13 @@ knows_slot m c mode behind slot may at within slots known =
 -- what a call at a mode's slot makes of the cache
 pub slot_effect :
     (m : Machine) (mode : Anchored) (behind : Option ℕ) (old new : CacheView) (slot : ℕ)
-    → MayStart m mode behind → slot ≡ slot_behind m mode behind → slot < m.slots → length old.store.starts ≡ m.slots
+    → MayStart m mode behind → slot ≡ slot_behind m mode behind → slot < slot_count m → length old.store.starts ≡ slot_count m
     → IsGrown old new → new.count ≤ old.count + 1
     → ((IsKnownStart old.store slot → ⊥) → new.count ≡ old.count + 1)
     → (IsKnownStart old.store slot → new ≡ old)
     → KeepsProgress old.store new.store
     → KeepsStartTags old.store.table new.store.table
-    → TagsNewStates old.store.table new.store.table m.specialized
+    → TagsNewStates old.store.table new.store.table (specialize_start_states_of m.config)
     → ((q : Powerset) → Has new.store.table q → Has old.store.table q ⊎ (q ≡ start_state_of m.nfa mode behind))
     → IsStartEffect m mode behind old new
 slot_effect m mode behind old new slot may at within slots grown once computed same progress keeps adds only = record {

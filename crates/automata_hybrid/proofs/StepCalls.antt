@@ -11,7 +11,7 @@ use Rattle.automata_hybrid.specs.Effects.{IsComputed}
 use Rattle.automata_hybrid.specs.Caches.{CacheView, HasRow}
 use Rattle.automata_hybrid.specs.Growing.{ClearedNothing, IsGrown, KeepsProgress}
 use Rattle.automata_hybrid.specs.Ids.{fixed_from, quit_id, unknown_id}
-use Rattle.automata_hybrid.specs.Machine.{Machine, next_of, template_of}
+use Rattle.automata_hybrid.specs.Machine.{Machine, next_of, template_of, table_stride}
 use Rattle.automata_hybrid.specs.Searches.{IsNoQuit}
 use Rattle.automata_hybrid.specs.Stepping.{IsStepAnswer, IsStepEffect, quits_on, unit_class}
 use Rattle.automata_hybrid.specs.Table.{Has, HasItsMatchTag, IsValid, KeepsStartTags, Leads, Names, Rows, TagsNewStates}
@@ -19,6 +19,7 @@ use Rattle.automata_hybrid.proofs.Growing.{grown_same}
 use Rattle.automata_hybrid.proofs.Searching.{lt_or_le}
 use Rattle.automata_hybrid.proofs.StartTags.{same_adds, same_keeps}
 use Rattle.automata_hybrid.proofs.Starting.{leads_row}
+use Rattle.automata_config.specs.Options.{match_kind_of}
 
 -- a step from dead or quit changes nothing
 pub fixed_effect :
@@ -59,12 +60,12 @@ fixed_answer m id unit c high below row = record {
 -- a step on a class that isn't a quit byte's leads to the successor
 pub step_named :
     (m : Machine) (t : Rows) (q : Powerset) (class next : ℕ) (unit : Option ℕ)
-    → t.of ≡ m → m.stride ≤ 512 → slice_index (template_of m) class ≡ unknown_id
-    → successor m.nfa m.kind q unit ≡ next_of m q class → IsNext t q class next
-    → Leads t next (successor m.nfa m.kind q unit)
+    → t.of ≡ m → table_stride m ≤ 512 → slice_index (template_of m) class ≡ unknown_id
+    → successor m.nfa (match_kind_of m.config) q unit ≡ next_of m q class → IsNext t q class next
+    → Leads t next (successor m.nfa (match_kind_of m.config) q unit)
 step_named m t q class next unit of small free same (inl (a, e)) =
-    let b : slice_index (template_of m) class ≡ quit_id m.stride =
-    subst (λ (d : Machine). slice_index (template_of d) class ≡ quit_id d.stride) of a in
+    let b : slice_index (template_of m) class ≡ quit_id (table_stride m) =
+    subst (λ (d : Machine). slice_index (template_of d) class ≡ quit_id (table_stride d)) of a in
     absurd (omega (arith, b, free, small))
 step_named m t q class next unit of small free same (inr (a, leads)) =
     subst (λ (p : Powerset). Leads t next p) (ap (λ (d : Machine). next_of d q class) of ∙ sym same) leads
@@ -86,7 +87,7 @@ pub class_effect :
     → KeepsStartTags old.store.table new.store.table
     → TagsNewStates old.store.table new.store.table false
     → ((q : Powerset) → Names old.store.table id q
-    → (p : Powerset) → Has new.store.table p → Has old.store.table p ⊎ (p ≡ successor m.nfa m.kind q unit))
+    → (p : Powerset) → Has new.store.table p → Has old.store.table p ⊎ (p ≡ successor m.nfa (match_kind_of m.config) q unit))
     → IsStepEffect m id unit old new
 class_effect m id unit old new class low at quit grown computed same progress keeps adds only = record {
   grown = grown;
@@ -108,16 +109,16 @@ class_effect m id unit old new class low at quit grown computed same progress ke
 pub class_answer :
     (m : Machine) (id : ℕ) (unit : Option ℕ) (old new : CacheView) (class next : ℕ)
     → id < fixed_from → class ≡ unit_class m unit → IsValid old.store.table id
-    → (quits_on m unit ≡ true → next ≡ quit_id m.stride)
+    → (quits_on m unit ≡ true → next ≡ quit_id (table_stride m))
     → (quits_on m unit ≡ false → (q : Powerset) → Names old.store.table id q
-    → IsNext new.store.table q class next → Leads new.store.table next (successor m.nfa m.kind q unit))
+    → IsNext new.store.table q class next → Leads new.store.table next (successor m.nfa (match_kind_of m.config) q unit))
     → ((q : Powerset) → Names old.store.table id q → IsNext new.store.table q class next)
     → HasItsMatchTag new.store.table next
     → (IsKnownTransition old.store id class → next ≡ cell_of old.store id class)
     → ((IsKnownTransition old.store id class → ⊥) → (q : Powerset) → Names old.store.table id q
-    → IsComputed old.store id class q (successor m.nfa m.kind q unit) new.store next)
+    → IsComputed old.store id class q (successor m.nfa (match_kind_of m.config) q unit) new.store next)
     → ((IsKnownTransition old.store id class → ⊥) → (q : Powerset) → Names old.store.table id q
-    → GivesUp old.store (successor m.nfa m.kind q unit) → ⊥)
+    → GivesUp old.store (successor m.nfa (match_kind_of m.config) q unit) → ⊥)
     → (ClearedNothing old.store new.store → IsKnownTransition new.store id class)
     → (ClearedNothing old.store new.store → cell_of new.store id class ≡ next)
     → IsStepAnswer m id unit old new next
@@ -129,7 +130,7 @@ class_answer m id unit old new class next low at valid quit leads is_next tag kn
   named = λ clean q n. leads clean q n (is_next q n);
   known = λ _ k. known (subst (IsKnownTransition old.store id) (sym at) k) ∙ ap (cell_of old.store id) at;
   computed = λ _ free q n.
-      subst (λ k. IsComputed old.store id k q (successor m.nfa m.kind q unit) new.store next) at
+      subst (λ k. IsComputed old.store id k q (successor m.nfa (match_kind_of m.config) q unit) new.store next) at
       (computed (λ k. free (subst (IsKnownTransition old.store id) at k)) q n);
   room = λ q n free g. room (λ k. free (subst (IsKnownTransition old.store id) at k)) q n g;
   learned = λ _ nothing. subst (IsKnownTransition new.store id) at (learned nothing);

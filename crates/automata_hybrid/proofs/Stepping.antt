@@ -1,7 +1,7 @@
 use Rattle.std.proofs.Common.{◌≡◌, ℕ, List, ◌∷◌, length, Bool, true, false, None, Some, [], ◌+◌, ◌*◌, ◌^◌, ◌<◌, ◌≤◌, inl, inr, refl, sym, ap, subst, arith, get_or, Option}
 use Rattle.automata_base.specs.Lists.{In}
 use Rattle.automata_base.specs.Powerset.{Powerset}
-use Rattle.automata_hybrid.specs.Machine.{Machine, template_of}
+use Rattle.automata_hybrid.specs.Machine.{Machine, template_of, table_stride}
 use Rattle.automata_hybrid.specs.Table.{Rows, IsCell, IsValid, Leads, Names}
 use Rattle.automata_hybrid.specs.Ids.{quit_id}
 use Rattle.automata_hybrid.specs.Caches.{HasRow}
@@ -16,9 +16,10 @@ use Rattle.automata_hybrid.proofs.Places.{Names-silent, no_patterns, bit_of, zer
 use Rattle.automata_base.specs.Classes.{is_quit}
 use Rattle.automata_base.proofs.Paths.Orders.{none_some}
 use Rattle.automata_base.specs.Steps.{successor}
+use Rattle.automata_config.specs.Options.{match_kind_of}
 
 -- an unknown cell stands at no quit class
-pub unknown_free : (t : Rows) (q : Powerset) (class id : ℕ) → IsCell t q class id → t.of.stride ≤ 512 → 2 ^ 31 ≤ id → get_or (template_of t.of) class 0 ≡ 2 ^ 31
+pub unknown_free : (t : Rows) (q : Powerset) (class id : ℕ) → IsCell t q class id → table_stride t.of ≤ 512 → 2 ^ 31 ≤ id → get_or (template_of t.of) class 0 ≡ 2 ^ 31
 unknown_free t q class id (inl (a, b)) s l = absurd (omega (arith, b, s, l))
 unknown_free t q class id (inr (a, b)) s l = a
 
@@ -29,9 +30,9 @@ HasRow-valid t id (inr (inl e)) l = absurd (omega (arith, e, l))
 HasRow-valid t id (inr (inr h)) l = h
 
 -- an ID of a row with the match tag is neither dead nor quit
-pub HasRow-matched : (t : Rows) (id : ℕ) → t.of.stride ≤ 512 → HasRow t id → IsBitSet id 27 → IsValid t id
-HasRow-matched t id small (inl e) b = absurd (zero_one ((bit_of 27 t.of.stride 8 id (omega (arith, small)) (omega (arith, e))).0 b))
-HasRow-matched t id small (inr (inl e)) b = absurd (zero_one ((bit_of 27 (2 * t.of.stride) 4 id (omega (arith, small)) (omega (arith, e))).0 b))
+pub HasRow-matched : (t : Rows) (id : ℕ) → table_stride t.of ≤ 512 → HasRow t id → IsBitSet id 27 → IsValid t id
+HasRow-matched t id small (inl e) b = absurd (zero_one ((bit_of 27 (table_stride t.of) 8 id (omega (arith, small)) (omega (arith, e))).0 b))
+HasRow-matched t id small (inr (inl e)) b = absurd (zero_one ((bit_of 27 (2 * table_stride t.of) 4 id (omega (arith, small)) (omega (arith, e))).0 b))
 HasRow-matched t id small (inr (inr v)) b = v
 
 -- an untagged ID names a state without patterns
@@ -55,18 +56,18 @@ low_bit k n l b = let z : n ≡ 0 * 2 ^ k + n = omega arith in zero_one ((bit_of
 
 -- the bit of quit IDs
 pub Leads-quit :
-    (t : Rows) (id : ℕ) (q : Powerset) → Leads t id q → (Names t id q → id < 2 ^ 29) → t.of.stride ≤ 512 → IsBitSet id 29 → ⊥
+    (t : Rows) (id : ℕ) (q : Powerset) → Leads t id q → (Names t id q → id < 2 ^ 29) → table_stride t.of ≤ 512 → IsBitSet id 29 → ⊥
 Leads-quit t id q (inl (e, d)) low small b =
-    let n : id ≡ 2 * 2 ^ 29 + t.of.stride = omega (arith, e) in
-    zero_one ((bit_of 29 t.of.stride 2 id (omega (arith, small)) n).0 b)
+    let n : id ≡ 2 * 2 ^ 29 + table_stride t.of = omega (arith, e) in
+    zero_one ((bit_of 29 (table_stride t.of) 2 id (omega (arith, small)) n).0 b)
 Leads-quit t id q (inr h) low small b = low_bit 29 id (low h) b
 
 -- the bit of dead IDs
 pub dead_tagged :
-    (t : Rows) (id : ℕ) → ((q : Powerset) → Names t id q → id < 2 ^ 29) → t.of.stride ≤ 512 → IsDeadTagged t id
+    (t : Rows) (id : ℕ) → ((q : Powerset) → Names t id q → id < 2 ^ 29) → table_stride t.of ≤ 512 → IsDeadTagged t id
 dead_tagged t id low small q (inl (e, d)) =
-    let n : id ≡ 1 * 2 ^ 30 + t.of.stride = omega (arith, e) in
-    (λ b. d, λ clear. absurd (clear ((bit_of 30 t.of.stride 1 id (omega (arith, small)) n).1 refl)))
+    let n : id ≡ 1 * 2 ^ 30 + table_stride t.of = omega (arith, e) in
+    (λ b. d, λ clear. absurd (clear ((bit_of 30 (table_stride t.of) 1 id (omega (arith, small)) n).1 refl)))
 dead_tagged t id low small q (inr h) =
     (λ b. absurd (let l : id < 2 ^ 29 = low q h in low_bit 30 id (omega (arith, l)) b), λ clear. h)
 
@@ -76,10 +77,10 @@ ok_one e = cc
 -- a refused step, told at an offset
 pub refused :
     (m : Machine) (c c' : Stored) (q : Powerset) (unit : Option ℕ) (quit_at at : ℕ) (e : StepError)
-    → IsNoQuit m unit → c' ≡ c → (IsCacheError e → GivesUp c (successor m.nfa m.kind q unit))
+    → IsNoQuit m unit → c' ≡ c → (IsCacheError e → GivesUp c (successor m.nfa (match_kind_of m.config) q unit))
     → IsStepRefusal m c' q unit quit_at at (step_refusal e at)
 refused m c c' q unit quit_at at (Cache err) other same gives =
-    (other, subst (λ (s : Stored). GivesUp s (successor m.nfa m.kind q unit)) (sym same) (gives tt), refl)
+    (other, subst (λ (s : Stored). GivesUp s (successor m.nfa (match_kind_of m.config) q unit)) (sym same) (gives tt), refl)
 refused m c c' q unit quit_at at OutOfMemory other same gives = other
 
 -- the end is no quit byte
@@ -94,26 +95,26 @@ quit_bit s l =
 -- a step that led to no quit state read no quit byte
 pub unquit :
     (m : Machine) (t : Rows) (id' byte : ℕ)
-    → t.of ≡ m → t.of.stride ≤ 512 → (IsBitSet id' 29 → ⊥)
-    → (is_quit m.quits byte ≡ true → id' ≡ quit_id m.stride) → is_quit m.quits byte ≡ false
+    → t.of ≡ m → table_stride t.of ≤ 512 → (IsBitSet id' 29 → ⊥)
+    → (is_quit m.quits byte ≡ true → id' ≡ quit_id (table_stride m)) → is_quit m.quits byte ≡ false
 unquit m t id' byte of small clear quit = go (is_quit m.quits byte) refl where
   go : (b : Bool) → is_quit m.quits byte ≡ b → is_quit m.quits byte ≡ false
   go false e = e
   go true e =
-      let s : t.of.stride ≡ m.stride = ap (λ (n : Machine). n.stride) of in
-      absurd (clear (subst (λ v. IsBitSet v 29) (sym (quit e)) (quit_bit m.stride (omega (arith, s, small)))))
+      let s : table_stride t.of ≡ table_stride m = ap (λ (n : Machine). table_stride n) of in
+      absurd (clear (subst (λ v. IsBitSet v 29) (sym (quit e)) (quit_bit (table_stride m) (omega (arith, s, small)))))
 
 -- and one that led there read one
 pub quits :
     (m : Machine) (t t' : Rows) (id id' byte : ℕ) (q : Powerset)
-    → t'.of.stride ≤ 512 → ((p : Powerset) → Names t' id' p → id' < 2 ^ 29) → IsBitSet id' 29
-    → (is_quit m.quits byte ≡ false → (p : Powerset) → Names t id p → Leads t' id' (successor m.nfa m.kind p (Some byte)))
+    → table_stride t'.of ≤ 512 → ((p : Powerset) → Names t' id' p → id' < 2 ^ 29) → IsBitSet id' 29
+    → (is_quit m.quits byte ≡ false → (p : Powerset) → Names t id p → Leads t' id' (successor m.nfa (match_kind_of m.config) p (Some byte)))
     → Names t id q → is_quit m.quits byte ≡ true
 quits m t t' id id' byte q small low bit named h = go (is_quit m.quits byte) refl where
   go : (b : Bool) → is_quit m.quits byte ≡ b → is_quit m.quits byte ≡ true
   go true e = e
   go false e =
-      absurd (Leads-quit t' id' (successor m.nfa m.kind q (Some byte)) (named e q h) (low (successor m.nfa m.kind q (Some byte))) small bit)
+      absurd (Leads-quit t' id' (successor m.nfa (match_kind_of m.config) q (Some byte)) (named e q h) (low (successor m.nfa (match_kind_of m.config) q (Some byte))) small bit)
 
 -- of one pattern the first that a list tells is that one
 pub only_pattern : (ps : List ℕ) → 0 < length ps → ((p : ℕ) → In p ps → p < 1) → 0 ≡ get_or ps 0 0

@@ -19,10 +19,11 @@ use Rattle.automata_hybrid.specs.Walking.{HasTold, IsResumeRefusal, IsWalkRefusa
 use Rattle.automata_hybrid.specs.Walks.{At, Ended, Fresh, Stage, Walk}
 use Rattle.automata_hybrid.proofs.Answering.{InReach, behind_reach, is_behind, no_limit, unit_reach}
 use Rattle.automata_hybrid.proofs.Searching.{false_true}
+use Rattle.automata_config.specs.Options.{minimum_cache_clear_count_of}
 
 module _ (way : Direction) (m : Machine) (c : Stored) (input : Input)
     (few : input.end ≤ length input.haystack) (same : c.table.of ≡ m) (reach : NoQuitInReach m input)
-    (mode : supports m input.anchored ≡ true) (free : m.minimum_clear_count ≡ None) where
+    (mode : supports m input.anchored ≡ true) (free : minimum_cache_clear_count_of m.config ≡ None) where
   unquit : (byte : ℕ) → InReach input byte → is_quit m.quits byte ≡ true → ⊥
   unquit byte r q = false_true (sym (reach r.0 byte r.1 r.2 r.3) ∙ q)
 

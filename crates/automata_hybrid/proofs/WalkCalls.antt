@@ -20,6 +20,7 @@ use Rattle.automata_hybrid.specs.Walks.{At, Ended, Fresh, Stage, Walk, ended_wal
 use Rattle.automata_hybrid.proofs.Growing.{clears_none, clears_none_back}
 use Rattle.automata_hybrid.proofs.Searching.{false_true, lt_or_le}
 use Rattle.automata_hybrid.proofs.Walked.{Begins, finish_all, half_at_place, half_behind, half_past, place_length, told_more, walked_all, walked_begin}
+use Rattle.automata_config.specs.Options.{match_kind_of}
 
 at_inj : (p q : Powerset) → At p ≡ At q → p ≡ q
 at_inj p q e = cc
@@ -115,7 +116,7 @@ module _ (way : Direction) (m : Machine) (input : Input) where
   -- a walk that has told all
   all_none : (k : ℕ) (pairs : List Pair) → HasToldAll way m input k → AreWalked way m input pairs → half_nth pairs k ≡ None
   all_none k pairs t walked =
-      let same : pairs ≡ t.pairs = walks_one way m.nfa m.kind input pairs t.pairs walked t.all in
+      let same : pairs ≡ t.pairs = walks_one way m.nfa (match_kind_of m.config) input pairs t.pairs walked t.all in
       half_past pairs k (subst (λ (zs : List Pair). length zs ≤ k) (sym same) t.none_left)
 
   all_more : (k : ℕ) → HasToldAll way m input k → HasToldAll way m input (suc k)

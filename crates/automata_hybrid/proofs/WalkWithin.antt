@@ -11,6 +11,7 @@ use Rattle.automata_hybrid.specs.Machine.{Machine}
 use Rattle.automata_hybrid.specs.Walking.{IsWalkOf, TellsNext, half_nth}
 use Rattle.automata_hybrid.specs.Walks.{Walk, without_match}
 use Rattle.automata_hybrid.specs.Within.{LiesIn}
+use Rattle.automata_config.specs.Options.{match_kind_of}
 
 none_some : {A : Type 0} {a : A} → ◌≡◌ {A = Option A} None (Some a) → ⊥
 none_some e = cc
@@ -32,9 +33,9 @@ module _ (way : Direction) (m : Machine) (input : Input) (told : WalksAreTold m.
   match_lies : (found : Option HalfMatch) → new.found ≡ found → IsWalkOf way m input old → TellsNext way m input old new → IfSome found (LiesIn m input)
   match_lies None e was next = tt
   match_lies (Some half) e was next =
-      let pairs = told way m.kind input in
+      let pairs = told way (match_kind_of m.config) input in
       let nth : half_nth pairs.0 was.0 ≡ Some half = sym ((next was.0 was.1).1 pairs.0 pairs.1).0 ∙ e in
-      let l = law way m.kind input pairs.0 (pair_of half) few pairs.1 (nth_in pairs.0 was.0 half nth) in
+      let l = law way (match_kind_of m.config) input pairs.0 (pair_of half) few pairs.1 (nth_in pairs.0 was.0 half nth) in
       record { pattern = l.0; from = l.1.0; upto = l.1.1 }
 
   none_lies : (found : Option HalfMatch) → found ≡ None → IfSome found (LiesIn m input)

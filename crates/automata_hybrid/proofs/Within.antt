@@ -12,13 +12,14 @@ use Rattle.automata_hybrid.specs.Machine.{Machine}
 use Rattle.automata_hybrid.specs.Searches.{IsFound, WithoutBase, with_base, without_base}
 use Rattle.automata_hybrid.specs.Within.{LiesIn, LiesPast}
 use Rattle.automata_hybrid.proofs.Skipping.{found_told}
+use Rattle.automata_config.specs.Options.{match_kind_of}
 
 -- what is found lies in the span, not before the start of the span that gave it
 pub found_within :
     (way : Direction) (m : Machine) (input : Input) (half : Half)
     → input.end ≤ length input.haystack → IsFound way m input (Some half)
     → IsInSpan input half.offset × (input.start ≤ half.base) × (half.base ≤ half.offset)
-found_within way m input half few f = told_within way m.nfa m.kind input half few (found_told way m input (Some half) f)
+found_within way m input half few f = told_within way m.nfa (match_kind_of m.config) input half few (found_told way m input (Some half) f)
 
 some_none : {A : Type 0} {a : A} → ◌≡◌ {A = Option A} (Some a) None → ⊥
 some_none e = cc
@@ -32,7 +33,7 @@ module _ (m : Machine) (input : Input) (law : ToldLiesWithin m.nfa) (few : input
       (way : Direction) (half : Half) → IsFound way m input (Some half)
       → LiesIn m input (without_base half) × (input.start ≤ half.base) × (half.base ≤ half.offset)
   found_lies way half f =
-      let l = law way m.kind input half few (found_told way m input (Some half) f) in
+      let l = law way (match_kind_of m.config) input half few (found_told way m input (Some half) f) in
       (record { pattern = l.0; from = l.1.0; upto = l.1.1 }, l.2, l.3)
 
   -- with the start of the span that gave them

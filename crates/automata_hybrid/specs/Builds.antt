@@ -1,13 +1,10 @@
+-- What a machine is built from, and the automata of the two DFAs that need none.
 use Rattle.std.specs.Prelude.{ℕ, ◌≡◌, List, [], ◌∷◌, false}
-use Rattle.automata_base.specs.Accounting.{fixed_cost, start_slots}
 use Rattle.automata_base.specs.Automata.{automaton}
-use Rattle.automata_base.specs.Classes.{stride_of}
 use Rattle.automata_base.specs.Nodes.{Automaton}
 use Rattle.automata_base.specs.declared.nfa.thompson.State.{State}
 use Rattle.automata_base.specs.declared.nfa.thompson.State.TheVariants.{Match, Fail}
-use Rattle.automata_config.specs.Options.{Options, match_kind_of, minimum_cache_clear_count_of}
-use Rattle.automata_config.specs.Options.{minimum_bytes_per_state_of, specialize_start_states_of}
-use Rattle.automata_config.specs.Options.{starts_for_each_pattern_of}
+use Rattle.automata_config.specs.Options.{Options}
 use Rattle.automata_config.specs.Settled.{Settled}
 use Rattle.automata_config.specs.Settling.{IsSettled}
 use Rattle.automata_hybrid.specs.Machine.{Machine}
@@ -17,17 +14,9 @@ abbrev pub built : Options → Automaton → Settled → Machine
 built o a s = record {
   nfa = a;
   config = o;
-  kind = match_kind_of o;
   classes = s.classes;
   quits = s.quits;
-  stride = stride_of s.classes;
-  slots = start_slots a (starts_for_each_pattern_of o);
   capacity = s.capacity;
-  fixed = fixed_cost a;
-  minimum_clear_count = minimum_cache_clear_count_of o;
-  minimum_bytes_per_state = minimum_bytes_per_state_of o;
-  specialized = specialize_start_states_of o;
-  per_pattern = starts_for_each_pattern_of o;
 }
 
 -- the machine is what settings make of an automaton

@@ -1,6 +1,7 @@
+-- What contracts see of a cache, and of which DFA it is.
 use Rattle.std.specs.Prelude.{◌≡◌, ℕ, ◌+◌, ◌⊎◌}
 use Rattle.automata_hybrid.specs.Ids.{unknown_id, dead_id, quit_id}
-use Rattle.automata_hybrid.specs.Machine.{Machine}
+use Rattle.automata_hybrid.specs.Machine.{Machine, table_stride}
 use Rattle.automata_hybrid.specs.Table.{Rows, IsValid}
 use Rattle.automata_hybrid.specs.Stores.{Stored, fresh_store}
 
@@ -27,7 +28,7 @@ with_store c s = record { store = s; count = c.count }
 
 -- an ID of a row but the unknown one
 abbrev pub HasRow : Rows → ℕ → Type 0
-HasRow t id = (id ≡ dead_id t.of.stride) ⊎ ((id ≡ quit_id t.of.stride) ⊎ IsValid t id)
+HasRow t id = (id ≡ dead_id (table_stride t.of)) ⊎ ((id ≡ quit_id (table_stride t.of)) ⊎ IsValid t id)
 
 -- some row has exactly this ID, tags included
 abbrev pub IsRow : Rows → ℕ → Type 0

@@ -1,6 +1,7 @@
+-- What a clear keeps: the start states, each with its slots.
 use Rattle.std.specs.Prelude.{◌≡◌, ℕ, ◌-◌, ◌/◌, ◌%◌, List, [], ◌∷◌, ◌++◌, cond, Option, None, Some, slice_get, nat_le}
 use Rattle.automata_hybrid.specs.declared.dfa.row.Row.{Row}
-use Rattle.automata_hybrid.specs.Machine.{start_of}
+use Rattle.automata_hybrid.specs.Machine.{start_of, table_stride}
 use Rattle.automata_hybrid.specs.Table.{Rows, id_of, with_row, fresh, MayLead, Names}
 use Rattle.automata_hybrid.specs.Ids.{unknown_id, fixed_from, offset_limit}
 
@@ -10,7 +11,7 @@ AllStarts t starts = (slot id : ℕ) → slice_get starts slot ≡ Some id → M
 
 -- the row that an ID names
 abbrev pub row_of : Rows → ℕ → Option Row
-row_of t id = slice_get t.rows ((id % offset_limit) / t.of.stride - 3)
+row_of t id = slice_get t.rows ((id % offset_limit) / table_stride t.of - 3)
 
 abbrev pub put_if : Option ℕ → Rows → Row → Rows
 put_if None t r = with_row t r

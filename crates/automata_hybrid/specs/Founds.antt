@@ -1,3 +1,4 @@
+-- What a look-up of a state finds.
 use Rattle.std.specs.Prelude.{◌≡◌}
 use Rattle.automata_base.specs.Powerset.{Powerset}
 use Rattle.automata_hybrid.specs.Table.{Rows, Leads, Lacks}

@@ -5,7 +5,7 @@ use Rattle.automata_hybrid.specs.Stores.{Stored, IsKnownStart, IsKnownTransition
 use Rattle.automata_hybrid.specs.Usage.{usage}
 use Rattle.automata_hybrid.specs.Caches.{CacheView}
 use Rattle.automata_hybrid.specs.Ids.{offset_limit}
-use Rattle.automata_hybrid.specs.Machine.{greatest}
+use Rattle.automata_hybrid.specs.Machine.{greatest, table_stride}
 use Rattle.automata_hybrid.specs.Progressing.{progress_cleared}
 use Rattle.automata_hybrid.specs.Table.{IsValid, Names}
 use Rattle.automata_hybrid.specs.declared.dfa.progress.Searched.{Searched}
@@ -15,7 +15,7 @@ pub record Keeps (old new : Stored) : Type 0 where
   pub rows : (id : ℕ) (q : Powerset) → Names old.table id q → Names new.table id q
   pub starts : (slot : ℕ) → IsKnownStart old slot → slice_index new.starts slot ≡ slice_index old.starts slot
   pub cells :
-      (id class : ℕ) → IsValid old.table id → class < old.table.of.stride → IsKnownTransition old id class
+      (id class : ℕ) → IsValid old.table id → class < table_stride old.table.of → IsKnownTransition old id class
       → cell_of new id class ≡ cell_of old id class
 
 -- nothing was cleared between: the count of clears is the same, and below the greatest number, where it would stay
@@ -33,8 +33,8 @@ KeepsProgress old new = IsKeptOrCleared old new old.searched new.searched
 
 -- there is room for so many more states, whatever they cost
 pub record HasRoom (c : Stored) (states : ℕ) : Type 0 where
-  pub capacity : usage c + states * (4 * c.table.of.stride + 36 + greatest c.table.of) ≤ c.table.of.capacity
-  pub offsets : (k : ℕ) → k < states → length c.table.cells + k * c.table.of.stride < offset_limit
+  pub capacity : usage c + states * (4 * table_stride c.table.of + 36 + greatest c.table.of) ≤ c.table.of.capacity
+  pub offsets : (k : ℕ) → k < states → length c.table.cells + k * table_stride c.table.of < offset_limit
 
 -- nothing has changed but the progress of searches
 abbrev pub IsStill : CacheView → CacheView → Type 0

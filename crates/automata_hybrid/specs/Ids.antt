@@ -1,3 +1,4 @@
+-- Identifiers of states: an offset of a row and tags, or one of the three fixed ones.
 use Rattle.std.specs.Prelude.{ℕ, ◌+◌, ◌*◌, ◌^◌, Bool, if◌then◌else◌}
 
 -- the tags of a row: started, and with patterns

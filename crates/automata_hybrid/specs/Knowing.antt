@@ -9,7 +9,7 @@ use Rattle.automata_config.specs.declared.error.SearchError.{SearchError}
 use Rattle.automata_config.specs.declared.error.SearchError.TheVariants as search
 use Rattle.automata_hybrid.specs.Stores.{Stored, IsKnownStart, IsKnownTransition}
 use Rattle.automata_hybrid.specs.Growing.{Keeps}
-use Rattle.automata_hybrid.specs.Machine.{Machine}
+use Rattle.automata_hybrid.specs.Machine.{Machine, slot_count}
 use Rattle.automata_hybrid.specs.Searches.{Finds, HasReadNoQuit, Reads, Skips, state_in, tape_in}
 use Rattle.automata_hybrid.specs.Slots.{slot_behind}
 use Rattle.automata_hybrid.specs.Starting.{MayStart}
@@ -25,7 +25,7 @@ KnowsUnit way m c input k =
 -- the start of a pass is known, where it has a slot: there is none for a pattern past the last
 abbrev pub KnowsItsStart : Direction → Machine → Stored → Input → Type 0
 KnowsItsStart way m c input =
-    slot_behind m input.anchored (tape_in way input).before < m.slots
+    slot_behind m input.anchored (tape_in way input).before < slot_count m
     → IsKnownStart c (slot_behind m input.anchored (tape_in way input).before)
 
 -- all that a pass uses is known: its start, and the transition on each unit that it reads, up to a quit byte

@@ -1,32 +1,32 @@
+-- What contracts see of a lazy DFA, and what it determines: its rows, its start states and what it costs.
 use Rattle.std.specs.Prelude.{ℕ, zero, suc, ◌+◌, ◌*◌, ◌/◌, ◌%◌, ◌<◌, ◌≤◌, ◌==◌, eqb, List, Bool, true, false, cond}
 use Rattle.std.specs.Prelude.{Option, None, Some, slice_set, slice_index, length, replicate, ◌≡◌, ◌⊎◌}
 use Rattle.automata_base.specs.Powerset.{Powerset}
 use Rattle.automata_base.specs.Nodes.{Automaton}
-use Rattle.automata_base.specs.Classes.{class_in, eoi_class, is_quit}
+use Rattle.automata_base.specs.Classes.{class_in, eoi_class, is_quit, stride_of}
 use Rattle.automata_base.specs.Steps.{successor, start_state_of}
-use Rattle.automata_base.specs.Accounting.{max_cost, minimum_capacity, start_slots}
+use Rattle.automata_base.specs.Accounting.{max_cost, minimum_capacity, start_slots, fixed_cost}
 use Rattle.automata_hybrid.specs.Owned.{IsOwn}
-use Rattle.automata_base.specs.declared.util.search.MatchKind.{MatchKind}
 use Rattle.automata_base.specs.declared.util.search.Anchored.{Anchored}
 use Rattle.automata_base.specs.declared.util.search.Anchored.TheVariants.{No, Yes, Pattern}
-use Rattle.automata_config.specs.Options.{Options}
+use Rattle.automata_config.specs.Options.{Options, match_kind_of, starts_for_each_pattern_of}
 use Rattle.automata_hybrid.specs.Ids.{quit_id, unknown_id, offset_limit}
 
--- what contracts see of a lazy DFA
+-- its automaton and its settings, and the classes of bytes, the quit set and the capacity that these settle
 pub record Machine : Type 0 where
   pub nfa : Automaton
   pub config : Options
-  pub kind : MatchKind
   pub classes : List ℕ
   pub quits : List Bool
-  pub stride : ℕ
-  pub slots : ℕ
   pub capacity : ℕ
-  pub fixed : ℕ
-  pub minimum_clear_count : Option ℕ
-  pub minimum_bytes_per_state : Option ℕ
-  pub specialized : Bool
-  pub per_pattern : Bool
+
+-- the cells of a row
+unfoldable pub table_stride : Machine → ℕ
+table_stride m = stride_of m.classes
+
+-- the start states that a cache has room for
+unfoldable pub slot_count : Machine → ℕ
+slot_count m = start_slots m.nfa (starts_for_each_pattern_of m.config)
 
 -- a byte of a class, the greatest one below a number; none is the end
 unfoldable pub byte_of : (classes : List ℕ) (class bytes : ℕ) → Option ℕ
@@ -35,7 +35,7 @@ byte_of classes class (suc byte) = cond (class_in classes byte == class) (Some b
 
 -- the state after a unit of a class
 unfoldable pub next_of : Machine → Powerset → ℕ → Powerset
-next_of m q class = successor m.nfa m.kind q (byte_of m.classes class 256)
+next_of m q class = successor m.nfa (match_kind_of m.config) q (byte_of m.classes class 256)
 
 -- the anchored mode of a group of start slots
 abbrev pub mode_of : ℕ → Anchored
@@ -70,7 +70,7 @@ marked classes quits stride (suc byte) =
 
 -- a new row: quit at quit classes, and else unknown
 unfoldable pub template_of : Machine → List ℕ
-template_of m = marked m.classes m.quits m.stride 256
+template_of m = marked m.classes m.quits (table_stride m) 256
 
 pub record IsTemplate (stride : ℕ) (template : List ℕ) : Type 0 where
   pub positive : 0 < stride
@@ -82,19 +82,20 @@ pub record IsTemplate (stride : ℕ) (template : List ℕ) : Type 0 where
 
 -- what each lazy DFA keeps: each byte and the end have a class, whose units step alike, and a fresh cache fits
 pub record IsMachine (m : Machine) : Type 0 where
-  pub template : IsTemplate m.stride (template_of m)
-  pub below : eoi_class m.classes < m.stride
+  pub template : IsTemplate (table_stride m) (template_of m)
+  pub below : eoi_class m.classes < table_stride m
   pub quit :
       (byte : ℕ) → byte < 256 → is_quit m.quits byte ≡ true
-      → slice_index (template_of m) (class_in m.classes byte) ≡ quit_id m.stride
+      → slice_index (template_of m) (class_in m.classes byte) ≡ quit_id (table_stride m)
   pub free :
       (byte : ℕ) → byte < 256 → is_quit m.quits byte ≡ false
       → slice_index (template_of m) (class_in m.classes byte) ≡ unknown_id
   pub end_free : slice_index (template_of m) (eoi_class m.classes) ≡ unknown_id
   pub alike :
       (byte : ℕ) (q : Powerset) → byte < 256 → IsOwn m.nfa q
-      → successor m.nfa m.kind q (Some byte) ≡ next_of m q (class_in m.classes byte)
-  pub end_alike : (q : Powerset) → IsOwn m.nfa q → successor m.nfa m.kind q None ≡ next_of m q (eoi_class m.classes)
-  pub enough : minimum_capacity m.stride m.slots (greatest m) m.fixed ≤ m.capacity
-  pub slots : m.slots ≡ start_slots m.nfa m.per_pattern
-  pub offsets : (m.slots + 4) * m.stride < offset_limit
+      → successor m.nfa (match_kind_of m.config) q (Some byte) ≡ next_of m q (class_in m.classes byte)
+  pub end_alike :
+      (q : Powerset) → IsOwn m.nfa q
+      → successor m.nfa (match_kind_of m.config) q None ≡ next_of m q (eoi_class m.classes)
+  pub enough : minimum_capacity (table_stride m) (slot_count m) (greatest m) (fixed_cost m.nfa) ≤ m.capacity
+  pub offsets : (slot_count m + 4) * table_stride m < offset_limit

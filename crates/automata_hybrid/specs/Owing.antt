@@ -25,6 +25,7 @@ use Rattle.automata_hybrid.specs.Searches.{IsFound, IsRefused, NoQuitInReach, Wi
 use Rattle.automata_hybrid.specs.Slots.{supports}
 use Rattle.automata_hybrid.specs.Starting.{quit_behind}
 use Rattle.automata_hybrid.specs.Within.{LiesIn, LiesPast}
+use Rattle.automata_config.specs.Options.{match_kind_of, minimum_cache_clear_count_of}
 
 -- a cache of this DFA, whose accounted bytes are within its settings
 pub record IsStoreOf (c : Stored) (m : Machine) : Type 0 where
@@ -40,7 +41,7 @@ IsMemory e = e ≡ search.OutOfMemory
 pub record IsUnhindered (m : Machine) (input : Input) : Type 0 where
   pub reach : NoQuitInReach m input
   pub supported : supports m input.anchored ≡ true
-  pub clears : m.minimum_clear_count ≡ None
+  pub clears : minimum_cache_clear_count_of m.config ≡ None
 
 -- the span isn't done, no quit byte is behind the start, and the mode isn't supported
 pub record IsUnsupported (way : Direction) (m : Machine) (input : Input) : Type 0 where
@@ -62,13 +63,15 @@ pub record IsHalf (way : Direction) (m : Machine) (input : Input)
   pub found : IfOk result (WithoutBase (IsFound way m input))
   -- where no cycle passes a look, the answer of the ordered paths
   pub answer :
-      IsLookAcyclic (nfa_of m.nfa) → IfOk result (WithoutBase (IsAnswer way (engine_of m.nfa m.kind) input))
+      IsLookAcyclic (nfa_of m.nfa)
+      → IfOk result (WithoutBase (IsAnswer way (engine_of m.nfa (match_kind_of m.config)) input))
   -- for every automaton, the nearest end in an earliest search, and under kind all the farthest one in another
   pub nearest :
-      input.earliest ≡ true → IfOk result (WithoutBase (IsNearestAnswer way (engine_of m.nfa m.kind) input))
+      input.earliest ≡ true
+      → IfOk result (WithoutBase (IsNearestAnswer way (engine_of m.nfa (match_kind_of m.config)) input))
   pub farthest :
-      input.earliest ≡ false → m.kind ≡ KindAll
-      → IfOk result (WithoutBase (IsFarthestAnswer way (engine_of m.nfa m.kind) input))
+      input.earliest ≡ false → match_kind_of m.config ≡ KindAll
+      → IfOk result (WithoutBase (IsFarthestAnswer way (engine_of m.nfa (match_kind_of m.config)) input))
   -- it lies in the input's span, and its pattern is one of the automaton's
   pub within : IfOk result (λ o. IfSome o (LiesIn m input))
   -- a refusal is one that some cache may give
@@ -92,14 +95,14 @@ pub record IsBased (m : Machine) (input : Input)
   -- where no cycle passes a look, the answer of the ordered paths
   pub answer :
       IsLookAcyclic (nfa_of m.nfa)
-      → IfOk result (λ o. IsAnswer Forward (engine_of m.nfa m.kind) input (based_half o))
+      → IfOk result (λ o. IsAnswer Forward (engine_of m.nfa (match_kind_of m.config)) input (based_half o))
   -- for every automaton, the nearest end in an earliest search, and under kind all the farthest one in another
   pub nearest :
       input.earliest ≡ true
-      → IfOk result (λ o. IsNearestAnswer Forward (engine_of m.nfa m.kind) input (based_half o))
+      → IfOk result (λ o. IsNearestAnswer Forward (engine_of m.nfa (match_kind_of m.config)) input (based_half o))
   pub farthest :
-      input.earliest ≡ false → m.kind ≡ KindAll
-      → IfOk result (λ o. IsFarthestAnswer Forward (engine_of m.nfa m.kind) input (based_half o))
+      input.earliest ≡ false → match_kind_of m.config ≡ KindAll
+      → IfOk result (λ o. IsFarthestAnswer Forward (engine_of m.nfa (match_kind_of m.config)) input (based_half o))
   -- it lies in the input's span, not before the start of the one that gave it; its pattern is one of the automaton's
   pub within : IfOk result (λ o. IfSome o (λ p. LiesPast m input p.0 p.1))
   -- a refusal is one that some cache may give

@@ -25,6 +25,7 @@ use Rattle.automata_hybrid.specs.Walking.{start_count}
 use Rattle.automata_hybrid.specs.Walks.{At, Ended, Fresh, Walk, without_match}
 use Rattle.automata_hybrid.specs.Which.{IsWhichRefusal}
 use Rattle.automata_hybrid.specs.Within.{LiesIn}
+use Rattle.automata_config.specs.Options.{match_kind_of}
 
 -- the next call of a walk reads nothing: the walk has ended, is at the next pattern of one place, or its span is done
 abbrev pub ReadsNothing : Input → Walk → Type 0
@@ -45,7 +46,8 @@ pub record IsWalkCall (way : Direction) (m : Machine) (input : Input) (old new :
   -- where no cycle passes a look, that of the list that the ordered paths define
   pub paths :
       IsLookAcyclic (nfa_of m.nfa) → (k : ℕ) (pairs : List Pair) → HasTold way m input old k
-      → IsOverlapping way (engine_of m.nfa m.kind) input pairs → OnOk result (new.found ≡ half_nth pairs k)
+      → IsOverlapping way (engine_of m.nfa (match_kind_of m.config)) input pairs
+      → OnOk result (new.found ≡ half_nth pairs k)
   -- it lies in the input's span, and its pattern is one of the automaton's
   pub within : IfSome new.found (LiesIn m input)
   -- a refused walk is as before, but for its match, which is none
@@ -97,7 +99,8 @@ pub record IsWhich (m : Machine) (input : Input) (old new : List Bool)
   -- where no cycle passes a look, those of the ordered paths
   pub paths :
       IsLookAcyclic (nfa_of m.nfa)
-      → OnOk result (ArePatternsFound (engine_of m.nfa m.kind) input (length old) (members old) (members new))
+      → OnOk result (ArePatternsFound (engine_of m.nfa (match_kind_of m.config)) input (length old) (members old)
+      (members new))
   pub capacity : length new ≡ length old
   -- a refusal is one that some cache may give
   pub errors : IfErr result (MayRefuseWhich m input old new)

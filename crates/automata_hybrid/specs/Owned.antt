@@ -1,3 +1,4 @@
+-- What states of an automaton are made of.
 use Rattle.automata_base.specs.Nodes.{Automaton}
 use Rattle.automata_base.specs.Powerset.{Powerset}
 use Rattle.automata_base.specs.Starts.{IsOf}

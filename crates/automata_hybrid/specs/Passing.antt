@@ -14,12 +14,13 @@ use Rattle.automata_config.specs.declared.error.StepError.{StepError}
 use Rattle.automata_config.specs.declared.error.StepError.TheVariants as step
 use Rattle.automata_config.specs.declared.error.SearchError.{SearchError}
 use Rattle.automata_config.specs.declared.error.SearchError.TheVariants as search
-use Rattle.automata_hybrid.specs.Machine.{Machine}
+use Rattle.automata_hybrid.specs.Machine.{Machine, table_stride}
 use Rattle.automata_hybrid.specs.Table.{Rows, Names, Leads}
 use Rattle.automata_hybrid.specs.Searches.{HasReadNoQuit, Reads, tape_in, state_in, told_in}
 use Rattle.automata_hybrid.specs.Stores.{Stored}
 use Rattle.automata_hybrid.specs.Knowing.{KnowsItsStart, KnowsUnit}
 use Rattle.automata_hybrid.specs.Stepping.{unit_class}
+use Rattle.automata_config.specs.Options.{match_kind_of}
 
 -- a pair of a pass as a half match: its place is an offset
 abbrev pub half_of : Direction → Input → Option Pair → Option HalfMatch
@@ -33,7 +34,7 @@ half_at (pattern ∷ patterns) at found = Some (record { pattern = pattern; offs
 
 -- what a pass over the span of an input finds
 abbrev pub found_over : Direction → Machine → Input → Option HalfMatch
-found_over way m input = half_of way input (told_over way m.nfa m.kind input)
+found_over way m input = half_of way input (told_over way m.nfa (match_kind_of m.config) input)
 
 -- a pass has read `k` units, none a quit byte: the ID names its state there, and this was found
 pub record IsAt (way : Direction) (m : Machine) (t : Rows) (input : Input) (k id : ℕ) (found : Option HalfMatch) :
@@ -55,7 +56,7 @@ step_refusal step.OutOfMemory at = search.OutOfMemory
 -- the transition on the unit at place `k` is known, at a class that rows have
 abbrev pub HasLearnedUnit : Direction → Machine → Stored → Input → ℕ → Type 0
 HasLearnedUnit way m c input k =
-    KnowsUnit way m c input k × (unit_class m (next (tape_in way input) k) < c.table.of.stride)
+    KnowsUnit way m c input k × (unit_class m (next (tape_in way input) k) < table_stride c.table.of)
 
 -- the unit at place `k` is no quit byte, its transition is known, and the state behind it tells nothing
 pub record IsQuiet (way : Direction) (m : Machine) (c : Stored) (input : Input) (k : ℕ) : Type 0 where

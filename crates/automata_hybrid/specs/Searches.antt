@@ -21,6 +21,7 @@ use Rattle.automata_hybrid.specs.Stores.{Stored}
 use Rattle.automata_hybrid.specs.Usage.{GivesUp}
 use Rattle.automata_hybrid.specs.Machine.{Machine}
 use Rattle.automata_hybrid.specs.Starting.{IsStartRefusalAt, quit_behind}
+use Rattle.automata_config.specs.Options.{match_kind_of}
 
 -- the tape that the span of an input is in a direction
 abbrev pub tape_in : Direction → Input → Tape
@@ -28,11 +29,11 @@ tape_in way input = tape_of way input.haystack input.start input.end
 
 -- the powerset state of a pass behind its first `k` units
 abbrev pub state_in : Direction → Machine → Input → ℕ → Powerset
-state_in way m input k = state_after m.nfa m.kind input.anchored (tape_in way input) k
+state_in way m input k = state_after m.nfa (match_kind_of m.config) input.anchored (tape_in way input) k
 
 -- what its first `k` units tell
 abbrev pub told_in : Direction → Machine → Input → ℕ → Option Pair
-told_in way m input k = told_upto m.kind input.earliest m.nfa input.anchored (tape_in way input) k
+told_in way m input k = told_upto (match_kind_of m.config) input.earliest m.nfa input.anchored (tape_in way input) k
 
 -- a pass reads the unit at place `k`: its state there isn't dead, and an earliest one has told nothing yet
 abbrev pub Reads : Direction → Machine → Input → ℕ → Type 0
@@ -62,7 +63,7 @@ abbrev pub IsStepRefusal : Machine → Stored → Powerset → Option ℕ → (q
 IsStepRefusal m c q unit quit_at given_up_at (search.Match (QuitAt byte offset)) =
     (unit ≡ Some byte) × (is_quit m.quits byte ≡ true) × (offset ≡ quit_at)
 IsStepRefusal m c q unit quit_at given_up_at (search.Match (GaveUp offset)) =
-    IsNoQuit m unit × GivesUp c (successor m.nfa m.kind q unit) × (offset ≡ given_up_at)
+    IsNoQuit m unit × GivesUp c (successor m.nfa (match_kind_of m.config) q unit) × (offset ≡ given_up_at)
 IsStepRefusal m c q unit quit_at given_up_at (search.Match (UnsupportedMode mode)) = ⊥
 IsStepRefusal m c q unit quit_at given_up_at search.OutOfMemory = IsNoQuit m unit
 IsStepRefusal m c q unit quit_at given_up_at search.NotAPair = ⊥
@@ -92,11 +93,11 @@ IsPassRefusal way m c input e =
 
 -- a pass over the span of an input tells this, and meets no quit byte
 abbrev pub Finds : Direction → Machine → Input → Option Pair → Type 0
-Finds way m input told = (told ≡ told_over way m.nfa m.kind input) × MeetsNoQuit way m input
+Finds way m input told = (told ≡ told_over way m.nfa (match_kind_of m.config) input) × MeetsNoQuit way m input
 
 -- split places are skipped
 abbrev pub Skips : Machine → Type 0
-Skips m = IsSkipping (engine_of m.nfa m.kind)
+Skips m = IsSkipping (engine_of m.nfa (match_kind_of m.config))
 
 -- what a search finds: what is told over the first span where that is nothing or not split. No pass that it made met a
 -- quit byte.

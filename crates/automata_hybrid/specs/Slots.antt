@@ -1,9 +1,11 @@
+-- The start slots: one for each mode and each kind of what is behind the start.
 use Rattle.std.specs.Prelude.{ℕ, suc, ◌+◌, ◌*◌, ◌<◌, Bool, true, Option, length}
 use Rattle.automata_base.specs.Alike.{behind_of}
 use Rattle.automata_hybrid.specs.Machine.{Machine}
 use Rattle.automata_hybrid.specs.Stores.{Stored, IsKnownStart}
 use Rattle.automata_base.specs.declared.util.search.Anchored.{Anchored}
 use Rattle.automata_base.specs.declared.util.search.Anchored.TheVariants.{No, Yes, Pattern}
+use Rattle.automata_config.specs.Options.{starts_for_each_pattern_of}
 
 -- the group of start slots of a mode
 abbrev pub group_of : Anchored → ℕ
@@ -23,7 +25,7 @@ slot_behind m mode behind = slot_of mode (behind_of m.nfa.flags.line_terminator 
 abbrev pub supports : Machine → Anchored → Bool
 supports m No = true
 supports m Yes = true
-supports m (Pattern pattern) = m.per_pattern
+supports m (Pattern pattern) = starts_for_each_pattern_of m.config
 
 -- there is such a slot, and its start is known
 abbrev pub HasStart : Stored → ℕ → Type 0

@@ -1,3 +1,4 @@
+-- Starts: when there is one, what it is, why it is refused, and what a call of it makes of the cache.
 use Rattle.std.specs.Prelude.{ℕ, ◌≡◌, ◌+◌, ◌<◌, ◌≤◌, ◌⊎◌, true, false, cond, Option, None, Some, slice_index}
 use Rattle.automata_base.specs.Powerset.{Powerset}
 use Rattle.automata_base.specs.Classes.{is_quit}
@@ -13,7 +14,7 @@ use Rattle.automata_config.specs.declared.error.SearchError.{SearchError}
 use Rattle.automata_config.specs.declared.error.SearchError.TheVariants as search
 use Rattle.automata_hybrid.specs.declared.dfa.row.Row.{Row}
 use Rattle.automata_hybrid.specs.Ids.{dead_id}
-use Rattle.automata_hybrid.specs.Machine.{Machine}
+use Rattle.automata_hybrid.specs.Machine.{Machine, table_stride, slot_count}
 use Rattle.automata_hybrid.specs.Table.{Has, HasItsMatchTag, KeepsStartTags, Leads, TagsNewStates}
 use Rattle.automata_hybrid.specs.Stores.{Stored}
 use Rattle.automata_hybrid.specs.Usage.{GivesUp}
@@ -21,6 +22,7 @@ use Rattle.automata_hybrid.specs.Effects.{IsStarted}
 use Rattle.automata_hybrid.specs.Caches.{CacheView, HasRow, counted}
 use Rattle.automata_hybrid.specs.Growing.{IsGrown, KeepsProgress}
 use Rattle.automata_hybrid.specs.Slots.{supports, slot_behind, HasStart}
+use Rattle.automata_config.specs.Options.{specialize_start_states_of}
 
 -- the byte behind a start, where it is a quit byte
 abbrev pub quit_behind : Machine → Option ℕ → Option ℕ
@@ -33,11 +35,14 @@ MayStart m mode behind = (quit_behind m behind ≡ None) × (supports m mode ≡
 
 -- the mode has a start slot: it has none for a pattern past the last
 abbrev pub HasSlot : Machine → Anchored → Option ℕ → Type 0
-HasSlot m mode behind = slot_behind m mode behind < m.slots
+HasSlot m mode behind = slot_behind m mode behind < slot_count m
 
 -- the row of a start state, which has the start tag where the settings specialize start states
 abbrev pub start_row : Machine → Anchored → Option ℕ → Row
-start_row m mode behind = record { state = start_state_of m.nfa mode behind; started = m.specialized }
+start_row m mode behind = record {
+  state = start_state_of m.nfa mode behind;
+  started = specialize_start_states_of m.config;
+}
 
 -- a search may start, and its start state is known
 abbrev pub KnowsStart : Machine → Stored → Anchored → Option ℕ → Type 0
@@ -89,7 +94,7 @@ pub record IsStartAnswer (m : Machine) (mode : Anchored) (behind : Option ℕ) (
   -- A start that was known is answered as it stood.
   pub known : KnowsStart m old.store mode behind → id ≡ known_start m old.store mode behind
   -- Past the last pattern the start is dead.
-  pub past : m.slots ≤ slot_behind m mode behind → id ≡ dead_id m.stride
+  pub past : slot_count m ≤ slot_behind m mode behind → id ≡ dead_id (table_stride m)
   -- A start that wasn't known was computed, and this is all that it did to the states.
   pub computed :
       HasSlot m mode behind → (KnowsStart m old.store mode behind → ⊥)
@@ -138,13 +143,13 @@ pub record IsStartEffect (m : Machine) (mode : Anchored) (behind : Option ℕ) (
   -- A known start takes no memory, and changes nothing.
   pub known : KnowsStart m old.store mode behind → new ≡ old
   -- Past the last pattern nothing has changed.
-  pub past : MayStart m mode behind → m.slots ≤ slot_behind m mode behind → new ≡ old
+  pub past : MayStart m mode behind → slot_count m ≤ slot_behind m mode behind → new ≡ old
   -- A state that was there keeps its start tag or its lack of one, through a clear too.
   pub start_tags : KeepsStartTags old.store.table new.store.table
   -- The progress of searches stays, but for a clear.
   pub progress : KeepsProgress old.store new.store
   -- A state that was added has the start tag exactly if the settings specialize start states.
-  pub added : TagsNewStates old.store.table new.store.table m.specialized
+  pub added : TagsNewStates old.store.table new.store.table (specialize_start_states_of m.config)
   -- No state was added but the start state.
   pub only :
       (q : Powerset) → Has new.store.table q → Has old.store.table q ⊎ (q ≡ start_state_of m.nfa mode behind)

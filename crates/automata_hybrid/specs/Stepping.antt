@@ -10,8 +10,9 @@ use Rattle.automata_hybrid.specs.Effects.{IsComputed}
 use Rattle.automata_hybrid.specs.Caches.{CacheView, HasRow, counted}
 use Rattle.automata_hybrid.specs.Growing.{ClearedNothing, IsGrown, KeepsProgress}
 use Rattle.automata_hybrid.specs.Ids.{fixed_from, quit_id}
-use Rattle.automata_hybrid.specs.Machine.{Machine}
+use Rattle.automata_hybrid.specs.Machine.{Machine, table_stride}
 use Rattle.automata_hybrid.specs.Table.{Has, HasItsMatchTag, KeepsStartTags, Leads, Names, TagsNewStates}
+use Rattle.automata_config.specs.Options.{match_kind_of}
 
 -- the class of a byte or of the end
 abbrev pub unit_class : Machine → Option ℕ → ℕ
@@ -40,21 +41,21 @@ pub record IsStepAnswer (m : Machine) (id : ℕ) (unit : Option ℕ) (old new : 
   -- Dead leads to dead, and quit to quit.
   pub fixed : fixed_from ≤ id → next ≡ id
   -- A quit byte leads to quit.
-  pub quit : id < fixed_from → quits_on m unit ≡ true → next ≡ quit_id m.stride
+  pub quit : id < fixed_from → quits_on m unit ≡ true → next ≡ quit_id (table_stride m)
   -- Any other unit leads from a state to its successor.
   pub named :
       quits_on m unit ≡ false → (q : Powerset) → Names old.store.table id q
-      → Leads new.store.table next (successor m.nfa m.kind q unit)
+      → Leads new.store.table next (successor m.nfa (match_kind_of m.config) q unit)
   -- A transition that was known is answered as it stood.
   pub known : id < fixed_from → KnowsStep m old.store id unit → next ≡ known_step m old.store id unit
   -- A transition that wasn't known was computed, and this is all that it did to the states.
   pub computed :
       id < fixed_from → (KnowsStep m old.store id unit → ⊥) → (q : Powerset) → Names old.store.table id q
-      → IsComputed old.store id (unit_class m unit) q (successor m.nfa m.kind q unit) new.store next
+      → IsComputed old.store id (unit_class m unit) q (successor m.nfa (match_kind_of m.config) q unit) new.store next
   -- A state that wasn't known to be next had room, or the cache could be cleared for it.
   pub room :
       (q : Powerset) → Names old.store.table id q → (KnowsStep m old.store id unit → ⊥)
-      → GivesUp old.store (successor m.nfa m.kind q unit) → ⊥
+      → GivesUp old.store (successor m.nfa (match_kind_of m.config) q unit) → ⊥
   -- Where the call cleared nothing, the transition is known from then on.
   pub learned : id < fixed_from → ClearedNothing old.store new.store → KnowsStep m new.store id unit
   -- It leads to this ID.
@@ -64,7 +65,8 @@ pub record IsStepAnswer (m : Machine) (id : ℕ) (unit : Option ℕ) (old new : 
 pub record IsStepRefused (m : Machine) (id : ℕ) (unit : Option ℕ) (old new : CacheView) (e : StepError) : Type 0 where
   -- A cache error says that the successor isn't there, has no room, and the cache may not be cleared for it.
   pub gives_up :
-      IsCacheError e → (q : Powerset) → Names old.store.table id q → GivesUp old.store (successor m.nfa m.kind q unit)
+      IsCacheError e → (q : Powerset) → Names old.store.table id q
+      → GivesUp old.store (successor m.nfa (match_kind_of m.config) q unit)
   -- A step from dead or quit is never refused.
   pub low : id < fixed_from
   -- A step on a quit byte is never refused.
@@ -97,4 +99,5 @@ pub record IsStepEffect (m : Machine) (id : ℕ) (unit : Option ℕ) (old new : 
   -- No state was added but the successor.
   pub only :
       (q : Powerset) → Names old.store.table id q
-      → (p : Powerset) → Has new.store.table p → Has old.store.table p ⊎ (p ≡ successor m.nfa m.kind q unit)
+      → (p : Powerset) → Has new.store.table p
+      → Has old.store.table p ⊎ (p ≡ successor m.nfa (match_kind_of m.config) q unit)

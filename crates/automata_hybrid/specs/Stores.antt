@@ -6,8 +6,10 @@ use Rattle.automata_hybrid.specs.declared.dfa.settings.Settings.{Settings}
 use Rattle.automata_config.specs.declared.error.StepError.{StepError}
 use Rattle.automata_config.specs.declared.error.StepError.TheVariants.{Cache, OutOfMemory}
 use Rattle.automata_hybrid.specs.Ids.{quit_id, unknown_id}
-use Rattle.automata_hybrid.specs.Machine.{Machine, next_of, template_of}
+use Rattle.automata_hybrid.specs.Machine.{Machine, next_of, template_of, table_stride, slot_count}
 use Rattle.automata_hybrid.specs.Table.{Rows, Leads, with_cell, cell_at, fresh}
+use Rattle.automata_config.specs.Options.{minimum_cache_clear_count_of, minimum_bytes_per_state_of}
+use Rattle.automata_base.specs.Accounting.{fixed_cost}
 
 -- what contracts see of a cache
 pub record Stored : Type 0 where
@@ -20,9 +22,9 @@ pub record Stored : Type 0 where
 abbrev pub settings_of : Machine → Settings
 settings_of m = record {
   capacity = m.capacity;
-  fixed = m.fixed;
-  minimum_clear_count = m.minimum_clear_count;
-  minimum_bytes_per_state = m.minimum_bytes_per_state;
+  fixed = fixed_cost m.nfa;
+  minimum_clear_count = minimum_cache_clear_count_of m.config;
+  minimum_bytes_per_state = minimum_bytes_per_state_of m.config;
 }
 
 -- with another table
@@ -45,7 +47,7 @@ IsKnownTransition c id class = cell_of c id class < unknown_id
 -- what a step from a state answers: quit at quit classes, and else what names the next state
 abbrev pub IsNext : Rows → Powerset → ℕ → ℕ → Type 0
 IsNext t q class id =
-    ((slice_index (template_of t.of) class ≡ quit_id t.of.stride) × (id ≡ quit_id t.of.stride))
+    ((slice_index (template_of t.of) class ≡ quit_id (table_stride t.of)) × (id ≡ quit_id (table_stride t.of)))
     ⊎ ((slice_index (template_of t.of) class ≡ unknown_id) × Leads t id (next_of t.of q class))
 
 -- with a transition written
@@ -65,7 +67,7 @@ with_start c slot id = record {
 abbrev pub fresh_store : Machine → Stored
 fresh_store m = record {
   table = fresh m;
-  starts = replicate m.slots unknown_id;
+  starts = replicate (slot_count m) unknown_id;
   clears = 0;
   searched = record { bytes = 0; running = None };
 }

@@ -1,3 +1,4 @@
+-- What contracts see of the table: the rows of the states, and what their identifiers name.
 use Rattle.std.specs.Prelude.{◌≡◌, ℕ, ◌+◌, ◌*◌, ◌%◌, ◌<◌, ◌≤◌, ◌⊎◌, ◌↔◌, IsBitSet, List, [], ◌∷◌, ◌++◌, length, Bool}
 use Rattle.std.specs.Prelude.{true, cond, nat_lt, Option, None, Some, slice_index, slice_set, slice_get, replicate}
 use Rattle.std.specs.Prelude.{take, sum_by}
@@ -10,7 +11,7 @@ use Rattle.automata_hybrid.specs.declared.dfa.row.Row.{Row}
 use Rattle.automata_base.specs.Powerset.{dead}
 use Rattle.automata_hybrid.specs.Owned.{IsOwn}
 use Rattle.automata_hybrid.specs.Ids.{tags, dead_id, quit_id, unknown_id, offset_limit}
-use Rattle.automata_hybrid.specs.Machine.{Machine, next_of, greatest, template_of, IsTemplate}
+use Rattle.automata_hybrid.specs.Machine.{Machine, next_of, greatest, template_of, IsTemplate, table_stride}
 
 -- a state has patterns
 abbrev pub has_patterns : Powerset → Bool
@@ -36,7 +37,7 @@ find_id s at q (r ∷ rs) = cond (powerset_eq q r.state) (Some (row_id at r)) (f
 
 -- the ID that a table has for a state
 abbrev pub id_of : Rows → Powerset → Option ℕ
-id_of t q = find_id t.of.stride (3 * t.of.stride) q t.rows
+id_of t q = find_id (table_stride t.of) (3 * table_stride t.of) q t.rows
 
 -- a state that isn't dead, and that no row has
 abbrev pub Lacks : Rows → Powerset → Type 0
@@ -67,7 +68,7 @@ pub record Has (t : Rows) (q : Powerset) : Type 0 where
 
 -- the dead ID for the dead state, and else a row's
 abbrev pub Leads : Rows → ℕ → Powerset → Type 0
-Leads t id q = ((id ≡ dead_id t.of.stride) × (q ≡ dead)) ⊎ Names t id q
+Leads t id q = ((id ≡ dead_id (table_stride t.of)) × (q ≡ dead)) ⊎ Names t id q
 
 -- a cell that isn't known, or that names what it should
 abbrev pub MayLead : Rows → ℕ → Powerset → Type 0
@@ -76,7 +77,7 @@ MayLead t id q = (id ≡ unknown_id) ⊎ Leads t id q
 -- what stands in a cell of a state's row: quit at quit classes, and else what names the next state or nothing yet
 abbrev pub IsCell : Rows → Powerset → ℕ → ℕ → Type 0
 IsCell t q class id =
-    ((slice_index (template_of t.of) class ≡ quit_id t.of.stride) × (id ≡ quit_id t.of.stride))
+    ((slice_index (template_of t.of) class ≡ quit_id (table_stride t.of)) × (id ≡ quit_id (table_stride t.of)))
     ⊎ ((slice_index (template_of t.of) class ≡ unknown_id) × MayLead t id (next_of t.of q class))
 
 -- the three fixed rows
@@ -85,7 +86,7 @@ fixed_rows s = replicate s unknown_id ++ (replicate s (dead_id s) ++ replicate s
 
 -- the fixed rows alone
 abbrev pub fresh : Machine → Rows
-fresh m = record { of = m; cells = fixed_rows m.stride; rows = [] }
+fresh m = record { of = m; cells = fixed_rows (table_stride m); rows = [] }
 
 -- with one more row
 abbrev pub with_row : Rows → Row → Rows
@@ -97,18 +98,19 @@ StateMap = HashMap Powerset ℕ (BuildHasherDefault FoldHasher)
 -- each known cell of a row names the next state of that row's state
 abbrev pub IsStepped : Rows → Type 0
 IsStepped t =
-    (k class : ℕ) (r : Row) → slice_get t.rows k ≡ Some r → class < t.of.stride
-    → IsCell t r.state class (slice_index t.cells ((k + 3) * t.of.stride + class))
+    (k class : ℕ) (r : Row) → slice_get t.rows k ≡ Some r → class < table_stride t.of
+    → IsCell t r.state class (slice_index t.cells ((k + 3) * table_stride t.of + class))
 
 -- each row is found by its state, so no two rows have one state
 abbrev pub IsDistinct : Rows → Type 0
-IsDistinct t = (k : ℕ) (r : Row) → slice_get t.rows k ≡ Some r → Names t (row_id ((k + 3) * t.of.stride) r) r.state
+IsDistinct t =
+    (k : ℕ) (r : Row) → slice_get t.rows k ≡ Some r → Names t (row_id ((k + 3) * table_stride t.of) r) r.state
 
 -- each row is found by its state, and stands below the limit of offsets
 abbrev pub HasRowIds : Rows → Type 0
 HasRowIds t =
     (k : ℕ) (r : Row) → slice_get t.rows k ≡ Some r
-    → Names t (row_id ((k + 3) * t.of.stride) r) r.state × ((k + 3) * t.of.stride < offset_limit)
+    → Names t (row_id ((k + 3) * table_stride t.of) r) r.state × ((k + 3) * table_stride t.of < offset_limit)
 
 abbrev pub IsAlive : Rows → Type 0
 IsAlive t =
@@ -117,10 +119,10 @@ IsAlive t =
 
 -- the table, the states and the map fit each other
 pub record IsTable (t : Rows) (map : StateMap) (costs : ℕ) : Type 0 where
-  pub template : IsTemplate t.of.stride (template_of t.of)
-  pub whole : length t.cells ≡ (length t.rows + 3) * t.of.stride
-  pub small : length t.cells < offset_limit + t.of.stride
-  pub fixed : take (3 * t.of.stride) t.cells ≡ fixed_rows t.of.stride
+  pub template : IsTemplate (table_stride t.of) (template_of t.of)
+  pub whole : length t.cells ≡ (length t.rows + 3) * table_stride t.of
+  pub small : length t.cells < offset_limit + table_stride t.of
+  pub fixed : take (3 * table_stride t.of) t.cells ≡ fixed_rows (table_stride t.of)
   pub stepped : IsStepped t
   pub distinct : IsDistinct t
   pub alive : IsAlive t
@@ -141,7 +143,7 @@ cell_at id class = id % offset_limit + class
 
 -- each row has a cell for each class
 abbrev pub HasCells : Rows → Type 0
-HasCells t = (id class : ℕ) → IsValid t id → class < t.of.stride → cell_at id class < length t.cells
+HasCells t = (id class : ℕ) → IsValid t id → class < table_stride t.of → cell_at id class < length t.cells
 
 abbrev pub with_cell : Rows → ℕ → ℕ → ℕ → Rows
 with_cell t id class next = record { of = t.of; cells = slice_set t.cells (cell_at id class) next; rows = t.rows }
@@ -149,5 +151,5 @@ with_cell t id class next = record { of = t.of; cells = slice_set t.cells (cell_
 -- the parts that a table holds are its machine's
 pub record IsHeld (t : Rows) (s : ℕ) (row : List ℕ) (map : StateMap) (costs : ℕ) : Type 0 where
   pub table : IsTable t map costs
-  pub stride : s ≡ t.of.stride
+  pub stride : s ≡ table_stride t.of
   pub template : row ≡ template_of t.of

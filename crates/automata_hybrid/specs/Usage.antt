@@ -2,14 +2,15 @@
 use Rattle.std.specs.Prelude.{◌≡◌, ℕ, ◌+◌, ◌*◌, ◌^◌, ◌<◌, ◌≤◌, length, Bool, true, false, cond, Option, None, Some}
 use Rattle.std.specs.Prelude.{sum_by, nat_lt}
 use Rattle.automata_base.specs.Powerset.{Powerset, cost}
-use Rattle.automata_base.specs.Accounting.{minimum_capacity}
+use Rattle.automata_base.specs.Accounting.{minimum_capacity, fixed_cost}
 use Rattle.automata_hybrid.specs.declared.dfa.settings.Settings.{Settings}
 use Rattle.automata_hybrid.specs.Ids.{offset_limit}
-use Rattle.automata_hybrid.specs.Machine.{greatest}
+use Rattle.automata_hybrid.specs.Machine.{greatest, table_stride, slot_count}
 use Rattle.automata_hybrid.specs.Table.{Rows, row_cost, Lacks}
 use Rattle.automata_hybrid.specs.Clears.{AllStarts, kept}
 use Rattle.automata_hybrid.specs.Progressing.{saturated, total_len, progress_cleared}
 use Rattle.automata_hybrid.specs.Stores.{Stored, settings_of}
+use Rattle.automata_config.specs.Options.{minimum_cache_clear_count_of, minimum_bytes_per_state_of}
 
 -- the accounted bytes: 4 for each cell and each slot, 16 for each row, 20 for each place in the map, 13 for each of the
 -- three states of fixed rows, of which one is in the map, the costs of all others, and the room for determinisation
@@ -20,13 +21,13 @@ usage_by t slots fixed =
 
 -- those of a cache
 abbrev pub usage : Stored → ℕ
-usage c = usage_by c.table (length c.starts) c.table.of.fixed
+usage c = usage_by c.table (length c.starts) (fixed_cost c.table.of.nfa)
 
 -- a new state of this cost fits: a row of cells, its place among the rows and in the map, and its cost; and so does its
 -- row's offset
 abbrev pub Fits : Stored → ℕ → Type 0
 Fits c extra =
-    (usage c + 4 * c.table.of.stride + 36 + extra ≤ c.table.of.capacity) × (length c.table.cells < offset_limit)
+    (usage c + 4 * table_stride c.table.of + 36 + extra ≤ c.table.of.capacity) × (length c.table.cells < offset_limit)
 
 -- too few bytes were searched for so many states, where a number for each is set
 abbrev pub short_of : Option ℕ → ℕ → ℕ → Bool
@@ -37,12 +38,12 @@ short_of (Some bytes) states searched = nat_lt searched (saturated (bytes * stat
 abbrev pub refuses_at : Option ℕ → Stored → Bool
 refuses_at None c = false
 refuses_at (Some limit) c =
-    cond (nat_lt c.clears limit) false (short_of c.table.of.minimum_bytes_per_state (length c.table.rows + 3)
-    (total_len c.searched))
+    cond (nat_lt c.clears limit) false (short_of (minimum_bytes_per_state_of c.table.of.config)
+    (length c.table.rows + 3) (total_len c.searched))
 
 -- the clear rule
 abbrev pub refuses_to_clear : Stored → Bool
-refuses_to_clear c = refuses_at c.table.of.minimum_clear_count c
+refuses_to_clear c = refuses_at (minimum_cache_clear_count_of c.table.of.config) c
 
 -- a clear that keeps the start states
 abbrev pub cleared : Stored → Stored
@@ -58,9 +59,10 @@ pub record IsCache (c : Stored) (settings : Settings) : Type 0 where
   pub named : AllStarts c.table c.starts
   pub within : usage c ≤ c.table.of.capacity
   pub enough :
-      minimum_capacity c.table.of.stride (length c.starts) (greatest c.table.of) c.table.of.fixed ≤ c.table.of.capacity
-  pub offsets : (length c.starts + 4) * c.table.of.stride < offset_limit
-  pub slots : length c.starts ≡ c.table.of.slots
+      minimum_capacity (table_stride c.table.of) (length c.starts) (greatest c.table.of) (fixed_cost c.table.of.nfa)
+      ≤ c.table.of.capacity
+  pub offsets : (length c.starts + 4) * table_stride c.table.of < offset_limit
+  pub slots : length c.starts ≡ slot_count c.table.of
   pub same : settings ≡ settings_of c.table.of
   pub bounded : c.table.of.capacity < 2 ^ 64
 

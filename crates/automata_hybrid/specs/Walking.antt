@@ -22,14 +22,15 @@ use Rattle.automata_hybrid.specs.Searches.{state_in, tape_in, unit_offset}
 use Rattle.automata_hybrid.specs.Starting.{IsStartRefusalAt, MayStart}
 use Rattle.automata_hybrid.specs.Table.{Rows, Has, Names}
 use Rattle.automata_hybrid.specs.Walks.{At, Ended, Fresh, Stage, Walk}
+use Rattle.automata_config.specs.Options.{match_kind_of}
 
 -- the pairs that a pass tells by its first `k` units; their places are the pass's
 abbrev pub pairs_in : Direction → Machine → Input → ℕ → List Pair
-pairs_in way m input k = pairs_told m.nfa m.kind input.anchored (tape_in way input) k
+pairs_in way m input k = pairs_told m.nfa (match_kind_of m.config) input.anchored (tape_in way input) k
 
 -- the whole list of a walk, by offsets
 abbrev pub AreWalked : Direction → Machine → Input → List Pair → Type 0
-AreWalked way m input pairs = AreTold way m.nfa m.kind input pairs
+AreWalked way m input pairs = AreTold way m.nfa (match_kind_of m.config) input pairs
 
 -- the pair at an index, as a half match
 abbrev pub half_nth : List Pair → ℕ → Option HalfMatch

@@ -21,6 +21,7 @@ use Rattle.regex_automata.specs.SoundPairs.{forward_engine}
 use Rattle.regex_automata.specs.declared.hybrid.regex.Regex.{Regex}
 use Rattle.regex_automata.proofs.Matching.{match_told}
 use Rattle.regex_automata.proofs.Results.{none_some, same_some, some_none}
+use Rattle.automata_config.specs.Options.{match_kind_of}
 
 match_is : (a b : Match) → a.pattern ≡ b.pattern → a.start ≡ b.start → a.end ≡ b.end → a ≡ b
 match_is a b pattern start end = λ i. record { pattern = pattern i; start = start i; end = end i }
@@ -64,31 +65,31 @@ matches_agree agree p other input a b alike f g = same_match agree p other alike
 module _ (one : ToldIsOne) where
   pub truths_agree : TruthsAgree
   truths_agree m other input a b nfa kind f g =
-      f.2 ∙ ap (λ (o : Option Half). is_some o) (one Forward m.nfa m.kind (in_full input) f.0 g.0 f.1 told) ∙ sym g.2
+      f.2 ∙ ap (λ (o : Option Half). is_some o) (one Forward m.nfa (match_kind_of m.config) (in_full input) f.0 g.0 f.1 told) ∙ sym g.2
     where
-      told : IsTold Forward m.nfa m.kind (in_full input) g.0
+      told : IsTold Forward m.nfa (match_kind_of m.config) (in_full input) g.0
       told =
           subst (λ (k : MatchKind). IsTold Forward m.nfa k (in_full input) g.0) (sym kind)
-          (subst (λ (a : Automaton). IsTold Forward a other.kind (in_full input) g.0) (sym nfa) g.1)
+          (subst (λ (a : Automaton). IsTold Forward a (match_kind_of other.config) (in_full input) g.0) (sym nfa) g.1)
 
   -- what the forward search found tells whether there is a match
   front_truth :
       (m : Machine) (input : Input) (truth : Bool) (o : Option Half) → (input.earliest ≡ false) ⊎ (Skips m → ⊥)
       → IsMatchTold m input truth → IsFound Forward m input o → truth ≡ is_some o
   front_truth m input truth o may told found = go may input.earliest refl where
-    here : IsTold Forward m.nfa m.kind input o
+    here : IsTold Forward m.nfa (match_kind_of m.config) input o
     here = found_told Forward m input o found
 
     full : input.earliest ≡ false → truth ≡ is_some o
     full e =
         told.2 ∙ ap (λ (v : Option Half). is_some v)
-        (one Forward m.nfa m.kind (in_full input) told.0 o told.1
-        (subst (λ b. IsTold Forward m.nfa m.kind (record input { earliest = b }) o) e here))
+        (one Forward m.nfa (match_kind_of m.config) (in_full input) told.0 o told.1
+        (subst (λ b. IsTold Forward m.nfa (match_kind_of m.config) (record input { earliest = b }) o) e here))
 
     part : input.earliest ≡ true → (Skips m → ⊥) → truth ≡ is_some o
     part e whole =
-        let w = match_told m input whole o (subst (λ b. IsTold Forward m.nfa m.kind (record input { earliest = b }) o) e here) in
-        told.2 ∙ ap (λ (v : Option Half). is_some v) (one Forward m.nfa m.kind (in_full input) told.0 w.0 told.1 w.1) ∙ sym w.2
+        let w = match_told m input whole o (subst (λ b. IsTold Forward m.nfa (match_kind_of m.config) (record input { earliest = b }) o) e here) in
+        told.2 ∙ ap (λ (v : Option Half). is_some v) (one Forward m.nfa (match_kind_of m.config) (in_full input) told.0 w.0 told.1 w.1) ∙ sym w.2
 
     go : (input.earliest ≡ false) ⊎ (Skips m → ⊥) → (b : Bool) → input.earliest ≡ b → truth ≡ is_some o
     go (inl e) b is = full e

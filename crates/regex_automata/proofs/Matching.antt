@@ -22,6 +22,7 @@ use Rattle.automata_hybrid.specs.Searches.{IsFound, Skips, WithoutBase, without_
 use Rattle.automata_hybrid.proofs.Searching.{lt_or_le}
 use Rattle.automata_hybrid.proofs.Skipping.{found_told}
 use Rattle.regex_automata.specs.Matching.{IsAsked, IsMatchTold, in_part}
+use Rattle.automata_config.specs.Options.{match_kind_of}
 
 -- the first match is there where the last one is
 some_same : (ps : List ℕ) (i : ℕ) (f l : Option Pair) → is_some f ≡ is_some l → is_some (earlier_or f (pair_at ps i None)) ≡ is_some (pair_at ps i l)
@@ -39,23 +40,23 @@ both_told kind a mode t (suc i) = some_same (told_at a kind mode t i) i (first_t
 module _ (m : Machine) (input : Input) (whole : Skips m → ⊥) where
   same_told :
       (k : ℕ)
-      → is_some (told_over Forward m.nfa m.kind (later Forward k (in_part input))) ≡ is_some (told_over Forward m.nfa m.kind (later Forward k (in_full input)))
+      → is_some (told_over Forward m.nfa (match_kind_of m.config) (later Forward k (in_part input))) ≡ is_some (told_over Forward m.nfa (match_kind_of m.config) (later Forward k (in_full input)))
   same_told k =
-      both_told m.kind m.nfa input.anchored (forward_tape input.haystack (input.start + k) input.end)
+      both_told (match_kind_of m.config) m.nfa input.anchored (forward_tape input.haystack (input.start + k) input.end)
       (suc (length (forward_tape input.haystack (input.start + k) input.end).bytes))
 
-  first_try : (k : ℕ) → Tries (TellsOver Forward m.nfa m.kind) (Skips m) Forward (in_part input) k → k ≡ 0
+  first_try : (k : ℕ) → Tries (TellsOver Forward m.nfa (match_kind_of m.config)) (Skips m) Forward (in_part input) k → k ≡ 0
   first_try k tries = go tries.0 where
     go : (k ≡ 0) ⊎ (Skips m × (input.anchored ≡ No)) → k ≡ 0
     go (inl z) = z
     go (inr s) = absurd (whole s.0)
 
-  only_try : (k : ℕ) → k ≡ 0 → Tries (TellsOver Forward m.nfa m.kind) (Skips m) Forward (in_full input) k
+  only_try : (k : ℕ) → k ≡ 0 → Tries (TellsOver Forward m.nfa (match_kind_of m.config)) (Skips m) Forward (in_full input) k
   only_try k z = (inl z, λ j l. absurd (omega (arith, l, z)))
 
   whole_told :
-      (k : ℕ) (o : Option Pair) → k ≡ 0 → input.start + k ≤ input.end → told_over Forward m.nfa m.kind (later Forward k (in_full input)) ≡ o
-      → (answer : Option Half) × IsTold Forward m.nfa m.kind (in_full input) answer × (is_some o ≡ is_some answer)
+      (k : ℕ) (o : Option Pair) → k ≡ 0 → input.start + k ≤ input.end → told_over Forward m.nfa (match_kind_of m.config) (later Forward k (in_full input)) ≡ o
+      → (answer : Option Half) × IsTold Forward m.nfa (match_kind_of m.config) (in_full input) answer × (is_some o ≡ is_some answer)
   whole_told k None z l e = (None, (k, only_try k z, inr (inl (sym e))), refl)
   whole_told k (Some pair) z l e = (
     Some (record { pattern = pair.pattern; offset = offset_in Forward (later Forward k (in_full input)) pair.place; base = input.start + k }),
@@ -64,29 +65,29 @@ module _ (m : Machine) (input : Input) (whole : Skips m → ⊥) where
   )
 
   pub match_told :
-      (o : Option Half) → IsTold Forward m.nfa m.kind (in_part input) o
-      → (answer : Option Half) × IsTold Forward m.nfa m.kind (in_full input) answer × (is_some o ≡ is_some answer)
+      (o : Option Half) → IsTold Forward m.nfa (match_kind_of m.config) (in_part input) o
+      → (answer : Option Half) × IsTold Forward m.nfa (match_kind_of m.config) (in_full input) answer × (is_some o ≡ is_some answer)
   match_told None f = go f.2 where
     z : f.0 ≡ 0
     z = first_try f.0 f.1
 
     go :
         (input.end < input.start + f.0)
-        ⊎ ((◌≡◌ {A = Option Pair} None (told_over Forward m.nfa m.kind (later Forward f.0 (in_part input))))
-        ⊎ (Skips m × (input.anchored ≡ No → ⊥) × IsSplit (TellsOver Forward m.nfa m.kind) Forward (later Forward f.0 (in_part input))))
-        → (answer : Option Half) × IsTold Forward m.nfa m.kind (in_full input) answer × (is_some {T = Half} None ≡ is_some answer)
+        ⊎ ((◌≡◌ {A = Option Pair} None (told_over Forward m.nfa (match_kind_of m.config) (later Forward f.0 (in_part input))))
+        ⊎ (Skips m × (input.anchored ≡ No → ⊥) × IsSplit (TellsOver Forward m.nfa (match_kind_of m.config)) Forward (later Forward f.0 (in_part input))))
+        → (answer : Option Half) × IsTold Forward m.nfa (match_kind_of m.config) (in_full input) answer × (is_some {T = Half} None ≡ is_some answer)
     go (inl past) = (None, (f.0, only_try f.0 z, inl past), refl)
     go (inr (inl none)) = ahead (lt_or_le input.end (input.start + f.0)) where
       ahead :
           (input.end < input.start + f.0) ⊎ (input.start + f.0 ≤ input.end)
-          → (answer : Option Half) × IsTold Forward m.nfa m.kind (in_full input) answer × (is_some {T = Half} None ≡ is_some answer)
+          → (answer : Option Half) × IsTold Forward m.nfa (match_kind_of m.config) (in_full input) answer × (is_some {T = Half} None ≡ is_some answer)
       ahead (inl past) = (None, (f.0, only_try f.0 z, inl past), refl)
       ahead (inr l) =
-          let w = whole_told f.0 (told_over Forward m.nfa m.kind (later Forward f.0 (in_full input))) z l refl in
+          let w = whole_told f.0 (told_over Forward m.nfa (match_kind_of m.config) (later Forward f.0 (in_full input))) z l refl in
           (w.0, w.1, ap (λ (v : Option Pair). is_some v) none ∙ same_told f.0 ∙ w.2)
     go (inr (inr s)) = absurd (whole s.0)
   match_told (Some half) f =
-      let w = whole_told f.0 (told_over Forward m.nfa m.kind (later Forward f.0 (in_full input))) (first_try f.0 f.2) f.3 refl in
+      let w = whole_told f.0 (told_over Forward m.nfa (match_kind_of m.config) (later Forward f.0 (in_full input))) (first_try f.0 f.2) f.3 refl in
       (w.0, w.1, ap (λ (v : Option Pair). is_some v) f.4 ∙ same_told f.0 ∙ w.2)
 
 -- what is searched has the parts of the input but one
@@ -116,12 +117,12 @@ pub truth_told :
     (m : Machine) (input asked : Input) → IsAsked m input asked → (found : Option HalfMatch) (truth : Bool)
     → WithoutBase (IsFound Forward m asked) found → truth ≡ is_some found → IsMatchTold m input truth
 truth_told m input asked (inl a) found truth f e =
-    (f.0, subst (λ (i : Input). IsTold Forward m.nfa m.kind i f.0) a.1 (found_told Forward m asked f.0 f.1), e ∙ same_some found f.0 f.2)
+    (f.0, subst (λ (i : Input). IsTold Forward m.nfa (match_kind_of m.config) i f.0) a.1 (found_told Forward m asked f.0 f.1), e ∙ same_some found f.0 f.2)
 truth_told m input asked (inr a) found truth f e =
-    let w = match_told m input a.0 f.0 (subst (λ (i : Input). IsTold Forward m.nfa m.kind i f.0) a.1 (found_told Forward m asked f.0 f.1)) in
+    let w = match_told m input a.0 f.0 (subst (λ (i : Input). IsTold Forward m.nfa (match_kind_of m.config) i f.0) a.1 (found_told Forward m asked f.0 f.1)) in
     (w.0, w.1, e ∙ same_some found f.0 f.2 ∙ w.2)
 
 pub match_right :
     (m : Machine) → ToldIsRight m.nfa → (input : Input) (truth : Bool) → IsLookAcyclic (nfa_of m.nfa) → IsInput input
-    → IsMatchTold m input truth → IsMatch (engine_of m.nfa m.kind) input truth
-match_right m law input truth acyclic given f = (f.0, law Forward m.kind (in_full input) f.0 acyclic given f.1, f.2)
+    → IsMatchTold m input truth → IsMatch (engine_of m.nfa (match_kind_of m.config)) input truth
+match_right m law input truth acyclic given f = (f.0, law Forward (match_kind_of m.config) (in_full input) f.0 acyclic given f.1, f.2)

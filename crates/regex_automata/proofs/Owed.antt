@@ -22,6 +22,7 @@ use Rattle.regex_automata.specs.RegexRefusals.{IsFree, IsOfMemory, IsRegexRefusa
 use Rattle.regex_automata.specs.SoundPairs.{AreLookAcyclic, IsSoundPair, forward_engine, reverse_engine}
 use Rattle.regex_automata.specs.declared.hybrid.regex.Regex.{Regex}
 use Rattle.regex_automata.specs.declared.hybrid.regex.caches.Cache.{Cache}
+use Rattle.automata_config.specs.Options.{minimum_cache_clear_count_of}
 
 pub are_stores :
     (c : Cache) (p : Regex) → AreCachesOf c p → IsStoreOf c.forward.store c.forward.store.table.of
@@ -93,7 +94,7 @@ pub truth_owed :
     → IfErr r (MayRefuseTruth p.forward input)
     → (input.start ≤ input.end → quit_behind p.forward (tape_in Forward input).before ≡ None
     → supports p.forward input.anchored ≡ false → r ≡ Err (unsupported_error input))
-    → (NoQuitInReach p.forward input → supports p.forward input.anchored ≡ true → p.forward.minimum_clear_count ≡ None
+    → (NoQuitInReach p.forward input → supports p.forward input.anchored ≡ true → minimum_cache_clear_count_of p.forward.config ≡ None
     → IfErr r IsMemory)
     → (input.end < input.start → r ≡ Ok false)
     → IsTruthOf p input r

@@ -20,12 +20,13 @@ use Rattle.regex_automata.specs.SoundPairs.{AreLookAcyclic, IsSoundPair, forward
 use Rattle.regex_automata.specs.declared.hybrid.regex.Regex.{Regex}
 use Rattle.regex_automata.specs.declared.hybrid.regex.caches.Cache.{Cache}
 use Rattle.regex_automata.proofs.Backing.{back_free, never_pair}
+use Rattle.automata_config.specs.Options.{match_kind_of}
 
 module _ (p : Regex) (front : ToldIsRight p.forward.nfa) (rear : ToldIsRight p.reverse.nfa) where
   front_right :
       (input : Input) (o : Option Half) → AreLookAcyclic p → IsInput input → IsFound Forward p.forward input o
       → IsAnswer Forward (forward_engine p) input o
-  front_right input o acyclic given f = front Forward p.forward.kind input o acyclic.0 given (found_told Forward p.forward input o f)
+  front_right input o acyclic given f = front Forward (match_kind_of p.forward.config) input o acyclic.0 given (found_told Forward p.forward input o f)
 
   rear_right :
       (input : Input) (half : Half) (o : Option Half) → AreLookAcyclic p → IsInput input → IsFound Forward p.forward input (Some half)
@@ -33,7 +34,7 @@ module _ (p : Regex) (front : ToldIsRight p.forward.nfa) (rear : ToldIsRight p.r
   rear_right input half o acyclic given f g =
       let w = (found_within Forward p.forward input half given.1 f).0.1 in
       let few = given.1 in
-      rear Backward p.reverse.kind (back input half) o acyclic.1 (given.0, omega (arith, w, few)) (found_told Backward p.reverse (back input half) o g)
+      rear Backward (match_kind_of p.reverse.config) (back input half) o acyclic.1 (given.0, omega (arith, w, few)) (found_told Backward p.reverse (back input half) o g)
 
   start_right :
       (input : Input) (half : Half) (o : Option ℕ) → AreLookAcyclic p → IsInput input → IsFound Forward p.forward input (Some half)

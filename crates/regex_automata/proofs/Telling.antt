@@ -17,6 +17,7 @@ use Rattle.automata_hybrid.specs.Machine.{Machine}
 use Rattle.automata_hybrid.specs.Searches.{Reads, state_in, tape_in}
 use Rattle.automata_hybrid.proofs.Searching.{dead_more, false_true}
 use Rattle.automata_hybrid.proofs.Units.{backward_units, forward_units}
+use Rattle.automata_config.specs.Options.{match_kind_of}
 
 same_pair : {a b : Pair} → ◌≡◌ {A = Option Pair} (Some a) (Some b) → a ≡ b
 same_pair e = cc
@@ -36,12 +37,12 @@ pub units : (way : Direction) (input : Input) → input.start ≤ input.end → 
 units Forward input s e = forward_units input s e
 units Backward input s e = backward_units input s e
 
-module _ (way : Direction) (m : Machine) (input : Input) (pair : Pair) (told : told_over way m.nfa m.kind input ≡ Some pair) where
+module _ (way : Direction) (m : Machine) (input : Input) (pair : Pair) (told : told_over way m.nfa (match_kind_of m.config) input ≡ Some pair) where
   abbrev Last : ℕ
   Last = length (tape_in way input).bytes
 
-  below : ToldBelow m.kind m.nfa input.anchored (tape_in way input) pair (suc Last)
-  below = over_below way m.nfa m.kind input pair told
+  below : ToldBelow (match_kind_of m.config) m.nfa input.anchored (tape_in way input) pair (suc Last)
+  below = over_below way m.nfa (match_kind_of m.config) input pair told
 
   -- a pass tells at a place of its tape
   pub told_within : pair.place ≤ length (tape_in way input).bytes
@@ -51,17 +52,17 @@ module _ (way : Direction) (m : Machine) (input : Input) (pair : Pair) (told : t
   alive j l e =
       subst (In pair.pattern) (ap (λ (q : Powerset). q.patterns) (dead_more way m input j (suc pair.place) (omega (arith, l)) e)) below.1
 
-  untold : (j : ℕ) → j ≤ pair.place → (e : Bool) → told_upto m.kind e m.nfa input.anchored (tape_in way input) (suc Last) ≡ Some pair → e ≡ true → told_upto m.kind e m.nfa input.anchored (tape_in way input) j ≡ None
+  untold : (j : ℕ) → j ≤ pair.place → (e : Bool) → told_upto (match_kind_of m.config) e m.nfa input.anchored (tape_in way input) (suc Last) ≡ Some pair → e ≡ true → told_upto (match_kind_of m.config) e m.nfa input.anchored (tape_in way input) j ≡ None
   untold j l false t e = absurd (false_true e)
-  untold j l true t e = go (first_told m.nfa m.kind input.anchored (tape_in way input) j) refl where
-    go : (o : Option Pair) → first_told m.nfa m.kind input.anchored (tape_in way input) j ≡ o → first_told m.nfa m.kind input.anchored (tape_in way input) j ≡ None
+  untold j l true t e = go (first_told m.nfa (match_kind_of m.config) input.anchored (tape_in way input) j) refl where
+    go : (o : Option Pair) → first_told m.nfa (match_kind_of m.config) input.anchored (tape_in way input) j ≡ o → first_told m.nfa (match_kind_of m.config) input.anchored (tape_in way input) j ≡ None
     go None f = f
     go (Some sooner) f =
         let w = told_within in
-        let stays : first_told m.nfa m.kind input.anchored (tape_in way input) (suc Last) ≡ Some sooner =
-        first_stays m.kind m.nfa input.anchored (tape_in way input) sooner j (suc Last) (omega (arith, l, w)) f in
+        let stays : first_told m.nfa (match_kind_of m.config) input.anchored (tape_in way input) (suc Last) ≡ Some sooner =
+        first_stays (match_kind_of m.config) m.nfa input.anchored (tape_in way input) sooner j (suc Last) (omega (arith, l, w)) f in
         let same : pair ≡ sooner = same_pair (sym t ∙ stays) in
-        let b = first_below m.kind m.nfa input.anchored (tape_in way input) sooner j f in
+        let b = first_below (match_kind_of m.config) m.nfa input.anchored (tape_in way input) sooner j f in
         let p : pair.place ≡ sooner.place = ap (λ (v : Pair). v.place) same in
         absurd (omega (arith, b.0, p, l))
 

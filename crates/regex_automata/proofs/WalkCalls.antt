@@ -20,6 +20,7 @@ use Rattle.automata_hybrid.specs.Walks.{At, Ended, Fresh, Stage, Walk, fresh_wal
 use Rattle.automata_hybrid.specs.Within.{LiesIn}
 use Rattle.regex_automata.specs.Owing.{IsStep, MayRefuseStep}
 use Rattle.regex_automata.specs.Players.{HasAnswered}
+use Rattle.automata_config.specs.Options.{match_kind_of}
 
 not_supported : (m : Machine) (mode : Anchored) (behind : Option ℕ) → MayStart m mode behind → supports m mode ≡ false → ⊥
 not_supported m mode behind may e = let f = may.1 in cc
@@ -38,7 +39,7 @@ module _ (way : Direction) (m : Machine) (input : Input) (old : Walk) (k : ℕ) 
   pub step_answers :
       (new : Walk) (found : Option HalfMatch) → found ≡ new.found → TellsNext way m input old new
       → (IsLookAcyclic (nfa_of m.nfa) → (j : ℕ) (pairs : List Pair) → HasTold way m input old j
-      → IsOverlapping way (engine_of m.nfa m.kind) input pairs → new.found ≡ half_nth pairs j)
+      → IsOverlapping way (engine_of m.nfa (match_kind_of m.config)) input pairs → new.found ≡ half_nth pairs j)
       → IfSome new.found (LiesIn m input) → (old.stage ≡ Fresh → IsUnsupported way m input → ⊥)
       → IsStep way m input k (Ok found)
   step_answers new found is tells paths within supported = record {

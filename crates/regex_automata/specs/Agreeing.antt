@@ -7,14 +7,15 @@ use Rattle.automata_hybrid.specs.Searches.{Skips}
 use Rattle.regex_automata.specs.Matching.{IsMatchTold}
 use Rattle.regex_automata.specs.Outcomes.{FindsMatch}
 use Rattle.regex_automata.specs.declared.hybrid.regex.Regex.{Regex}
+use Rattle.automata_config.specs.Options.{match_kind_of}
 
 -- two regexes are of the same automata and kinds, in whatever else their DFAs differ: capacity, limits, byte classes,
 -- tags of starts, quit bytes
 pub record AreAlike (p other : Regex) : Type 0 where
   pub forward : p.forward.nfa ≡ other.forward.nfa
-  pub forward_kind : p.forward.kind ≡ other.forward.kind
+  pub forward_kind : match_kind_of p.forward.config ≡ match_kind_of other.forward.config
   pub reverse : p.reverse.nfa ≡ other.reverse.nfa
-  pub reverse_kind : p.reverse.kind ≡ other.reverse.kind
+  pub reverse_kind : match_kind_of p.reverse.config ≡ match_kind_of other.reverse.config
 
 -- searches over any caches of one regex find the same match, and so do two regexes that are alike
 abbrev pub MatchesAgree : Type 0
@@ -26,7 +27,8 @@ MatchesAgree =
 abbrev pub TruthsAgree : Type 0
 TruthsAgree =
     (m other : Machine) (input : Input) (first second : Bool)
-    → m.nfa ≡ other.nfa → m.kind ≡ other.kind → IsMatchTold m input first → IsMatchTold other input second
+    → m.nfa ≡ other.nfa → match_kind_of m.config ≡ match_kind_of other.config
+    → IsMatchTold m input first → IsMatchTold other input second
     → first ≡ second
 
 -- where the input is not earliest or no place is skipped, there is a match exactly if a search finds one

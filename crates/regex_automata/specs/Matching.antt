@@ -13,6 +13,7 @@ use Rattle.automata_hybrid.specs.Knowing.{Knows}
 use Rattle.automata_hybrid.specs.Machine.{Machine}
 use Rattle.automata_hybrid.specs.Searched.{EndsProgress, LeavesProgress}
 use Rattle.automata_hybrid.specs.Searches.{IsRefused, Skips}
+use Rattle.automata_config.specs.Options.{match_kind_of}
 
 abbrev pub in_part : Input → Input
 in_part input = record input { earliest = true }
@@ -23,7 +24,8 @@ IsAsked m input asked = (Skips m × (asked ≡ in_full input)) ⊎ ((Skips m →
 
 -- whether there is a match, by what passes tell of the input in full
 abbrev pub IsMatchTold : Machine → Input → Bool → Type 0
-IsMatchTold m input truth = (o : Option Half) × IsTold Forward m.nfa m.kind (in_full input) o × (truth ≡ is_some o)
+IsMatchTold m input truth =
+    (o : Option Half) × IsTold Forward m.nfa (match_kind_of m.config) (in_full input) o × (truth ≡ is_some o)
 
 -- why it is refused, and what it uses
 abbrev pub IsMatchRefused : Machine → Stored → Input → SearchError → Type 0

@@ -27,6 +27,7 @@ use Rattle.regex_automata.specs.RegexRefusals.{IsFree, IsOfMemory, IsRegexRefusa
 use Rattle.regex_automata.specs.SoundPairs.{AreLookAcyclic, IsSoundPair, forward_engine, reverse_engine}
 use Rattle.regex_automata.specs.declared.hybrid.regex.Regex.{Regex}
 use Rattle.regex_automata.specs.declared.hybrid.regex.caches.Cache.{Cache}
+use Rattle.automata_config.specs.Options.{match_kind_of}
 
 -- the two of a regex
 abbrev pub AreStoresOf : Cache → Regex → Type 0
@@ -42,12 +43,14 @@ MayRefuseStep way m input told e =
 pub record IsStep (way : Direction) (m : Machine) (input : Input) (told : ℕ)
     (result : Result (Option HalfMatch) SearchError) : Type 0 where
   -- for every automaton, the next pair of the list that its passes tell, and behind the last one none
-  pub pair : IfOk result (λ found. (pairs : List Pair) → AreWalked way m input pairs → found ≡ half_nth pairs told)
+  pub pair : IfOk result (λ found. (pairs : List Pair) → AreWalked way m input pairs
+      → found ≡ half_nth pairs told)
   -- where no cycle passes a look, that of the list of the ordered paths
   pub paths :
       IsLookAcyclic (nfa_of m.nfa)
       → IfOk result (λ found.
-      (pairs : List Pair) → IsOverlapping way (engine_of m.nfa m.kind) input pairs → found ≡ half_nth pairs told)
+      (pairs : List Pair) → IsOverlapping way (engine_of m.nfa (match_kind_of m.config)) input pairs
+      → found ≡ half_nth pairs told)
   -- it lies in the input's span, and its pattern is one of the automaton's
   pub within : IfOk result (λ found. IfSome found (LiesIn m input))
   -- a refusal is one that some cache may give
@@ -172,7 +175,7 @@ pub record ArePatternsUpto (m : Machine) (input : Input) (capacity : ℕ) (found
   -- where no cycle passes a look, those of the ordered paths
   pub paths :
       IsLookAcyclic (nfa_of m.nfa) → error ≡ None
-      → ArePatternsFound (engine_of m.nfa m.kind) input capacity [] found
+      → ArePatternsFound (engine_of m.nfa (match_kind_of m.config)) input capacity [] found
   -- a refusal is one that some cache may give
   pub errors : IfSome error (MayRefusePatterns m input capacity found)
   -- a mode that isn't supported is told, unless memory is wanting for the set or the list

@@ -15,6 +15,7 @@ use Rattle.regex_automata.specs.declared.hybrid.regex.Regex.{Regex}
 use Rattle.regex_automata.specs.SoundPairs.{AreLookAcyclic, IsSoundPair, forward_engine, reverse_engine}
 use Rattle.regex_automata.specs.Outcomes.{IsOutcome}
 use Rattle.regex_automata.specs.declared.hybrid.regex.caches.Cache.{Cache}
+use Rattle.automata_config.specs.Options.{minimum_cache_clear_count_of}
 
 -- the search back from a forward answer is made, and refused
 abbrev pub IsBackRefused : Regex → Stored → Input → Half → SearchError → Type 0
@@ -33,8 +34,8 @@ pub record IsFree (p : Regex) (input : Input) : Type 0 where
   pub forward : NoQuitInReach p.forward input
   pub reverse : NoQuitInReach p.reverse input
   pub supported : supports p.forward input.anchored ≡ true
-  pub forward_clears : p.forward.minimum_clear_count ≡ None
-  pub reverse_clears : p.reverse.minimum_clear_count ≡ None
+  pub forward_clears : minimum_cache_clear_count_of p.forward.config ≡ None
+  pub reverse_clears : minimum_cache_clear_count_of p.reverse.config ≡ None
 
 -- memory is wanting, or the two are no pair
 abbrev pub IsOfMemory : SearchError → Type 0

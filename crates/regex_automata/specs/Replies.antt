@@ -25,6 +25,7 @@ use Rattle.regex_automata.specs.declared.replay.replies.Reply.TheVariants as rep
 use Rattle.regex_automata.specs.declared.replay.replies.Fault.{Fault}
 use Rattle.regex_automata.specs.declared.replay.replies.Fault.TheVariants as fault
 use Rattle.regex_automata.specs.declared.tokens.error.TokenError.{TokenError}
+use Rattle.automata_config.specs.Options.{match_kind_of}
 
 -- why a request is bad, in this order: there is no regex, or a reset names none; there is no such walk; the walk is of
 -- a regex that isn't the current one
@@ -151,7 +152,8 @@ pub record TellWalk (way : Direction) (m : Machine) (input : Input) (steps : Lis
   pub told : (pairs : List Pair) → AreWalked way m input pairs → AreToldFrom 0 pairs steps
   pub paths :
       IsLookAcyclic (nfa_of m.nfa)
-      → (pairs : List Pair) → IsOverlapping way (engine_of m.nfa m.kind) input pairs → AreToldFrom 0 pairs steps
+      → (pairs : List Pair) → IsOverlapping way (engine_of m.nfa (match_kind_of m.config)) input pairs
+      → AreToldFrom 0 pairs steps
 
 -- the Ok replies to the steps of each walk, in their order, are the pairs of its list, and then none
 abbrev pub TellWalks : List Regex → List Request → List Reply → Type 0

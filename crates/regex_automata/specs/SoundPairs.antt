@@ -5,12 +5,13 @@ use Rattle.automata_base.specs.Paths.{IsLookAcyclic}
 use Rattle.automata_base.specs.Tapes.{Forward}
 use Rattle.automata_base.specs.TruePairs.{IsTruePair, KeepsUtf8}
 use Rattle.regex_automata.specs.declared.hybrid.regex.Regex.{Regex}
+use Rattle.automata_config.specs.Options.{match_kind_of}
 
 abbrev pub forward_engine : Regex → Engine
-forward_engine p = engine_of p.forward.nfa p.forward.kind
+forward_engine p = engine_of p.forward.nfa (match_kind_of p.forward.config)
 
 abbrev pub reverse_engine : Regex → Engine
-reverse_engine p = engine_of p.reverse.nfa p.reverse.kind
+reverse_engine p = engine_of p.reverse.nfa (match_kind_of p.reverse.config)
 
 -- no cycle of edges that read nothing passes a look, in either automaton
 abbrev pub AreLookAcyclic : Regex → Type 0

@@ -22,6 +22,7 @@ use Rattle.regex_automata.specs.Costs.{IsPassCost}
 use Rattle.regex_automata.specs.declared.tokens.error.TokenError.{TokenError}
 use Rattle.regex_automata.specs.declared.tokens.error.TokenError.TheVariants.{NoToken, Search}
 use Rattle.regex_automata.specs.declared.tokens.token.Token.{Token}
+use Rattle.automata_config.specs.Options.{match_kind_of}
 
 -- what is searched at a place: what is left of the span, anchored and in full
 abbrev pub asked : List ℕ → (end place : ℕ) → Input
@@ -152,8 +153,8 @@ pub record AreTokensUpto (m : Machine) (input : Input) (ts : List Match) (error 
   -- where no cycle passes a look, the answers of the ordered paths
   pub paths :
       IsLookAcyclic (nfa_of m.nfa)
-      → AreFoundBy (λ i. WithoutBase (IsAnswer Forward (engine_of m.nfa m.kind) i)) input.haystack input.end input.start
-      ts error
+      → AreFoundBy (λ i. WithoutBase (IsAnswer Forward (engine_of m.nfa (match_kind_of m.config)) i))
+      input.haystack input.end input.start ts error
   -- their bytes joined are a beginning of the span's bytes, and without an error all of them
   pub beginning :
       IsBeginningOf (joined input.haystack ts) (slice_range input.haystack input.start input.end)

@@ -3,7 +3,7 @@ ghost use Rattle.std.specs.Prelude.{length, is_some, IsSome, IsTrue, ◌↔◌, 
 ghost use Rattle.automata_base.specs.Powerset.{Powerset, cost, dead};
 ghost use Rattle.automata_base.specs.Steps.{successor, start_state_of};
 ghost use Rattle.automata_hybrid.specs.Owned.{IsOwn};
-ghost use Rattle.automata_hybrid.specs.Machine.{next_of, start_of, greatest, template_of};
+ghost use Rattle.automata_hybrid.specs.Machine.{next_of, start_of, greatest, template_of, table_stride, slot_count};
 ghost use Rattle.automata_hybrid.specs.Ids.{dead_id, unknown_id, fixed_from, offset_limit};
 ghost use Rattle.automata_hybrid.specs.Table.{id_of, Names, IsValid, Leads, MayLead, IsCell, HasCells, HasItsMatchTag};
 ghost use Rattle.automata_hybrid.specs.Table.{HasRowIds, Has};
@@ -17,6 +17,7 @@ ghost use Rattle.automata_hybrid.specs.Owing.{IsStoreOf};
 ghost use Rattle.automata_hybrid.specs.Walking.{IsRowState};
 ghost use Rattle.automata_hybrid.specs.Walks.{HasKey, state_held};
 ghost use Rattle.automata_hybrid.specs.Progressing.{started, updated, finished, total_len};
+ghost use Rattle.automata_config.specs.Options.{match_kind_of};
 
 use crate::dfa::store::Store;
 use crate::dfa::{DFA, row};
@@ -88,11 +89,11 @@ impl Cache {
         requires of { IsCacheOf self.old dfa.now }
         requires valid { IsValid self.old.store.table id }
         requires alike { (q : Powerset) → IsOwn dfa.now.nfa q
-            → successor dfa.now.nfa dfa.now.kind q unit ≡ next_of dfa.now q class }
+            → successor dfa.now.nfa (match_kind_of dfa.now.config) q unit ≡ next_of dfa.now q class }
         ensures value { IfOk result (λ k. (q : Powerset) → Names self.old.store.table id q
             → k ≡ next_of dfa.now q class) }
         ensures successor { IfOk result (λ k. (q : Powerset) → Names self.old.store.table id q
-            → k ≡ successor dfa.now.nfa dfa.now.kind q unit) }
+            → k ≡ successor dfa.now.nfa (match_kind_of dfa.now.config) q unit) }
         ensures cost { IfOk result (λ k. cost k ≤ greatest dfa.now) }
         ensures is_of { IfOk result (λ k. IsOwn dfa.now.nfa k) }
         ensures counted { self.new ≡ counted self.old }
@@ -169,11 +170,11 @@ impl Cache {
     #[inline(always)]
     pub(crate) fn cell(&self, id: LazyStateID, class: usize) -> LazyStateID
         requires row { IsValid self.now.store.table id }
-        requires class { class < self.now.store.table.of.stride }
+        requires class { class < table_stride self.now.store.table.of }
         ensures value { result ≡ cell_of self.now.store id class }
         ensures named { (q : Powerset) → Names self.now.store.table id q → IsCell self.now.store.table q class result }
         ensures tag { HasItsMatchTag self.now.store.table result }
-        ensures stride { self.now.store.table.of.stride ≤ 512 }
+        ensures stride { table_stride self.now.store.table.of ≤ 512 }
     {
         self.see_ids();
         self.store.cell(id, class)
@@ -183,12 +184,12 @@ impl Cache {
     #[inline(always)]
     pub(crate) fn cell_untagged(&self, id: LazyStateID, class: usize) -> LazyStateID
         requires row { IsValid self.now.store.table id }
-        requires class { class < self.now.store.table.of.stride }
+        requires class { class < table_stride self.now.store.table.of }
         requires untagged { id < offset_limit }
         ensures value { result ≡ cell_of self.now.store id class }
         ensures named { (q : Powerset) → Names self.now.store.table id q → IsCell self.now.store.table q class result }
         ensures tag { HasItsMatchTag self.now.store.table result }
-        ensures stride { self.now.store.table.of.stride ≤ 512 }
+        ensures stride { table_stride self.now.store.table.of ≤ 512 }
     {
         self.see_ids();
         self.store.cell_untagged(id, class)
@@ -197,7 +198,7 @@ impl Cache {
     /// Writes a transition.
     pub(crate) fn set_next(&mut self, id: LazyStateID, class: usize, next: LazyStateID)
         requires row { IsValid self.old.store.table id }
-        requires class { class < self.old.store.table.of.stride }
+        requires class { class < table_stride self.old.store.table.of }
         requires free { slice_index (template_of self.old.store.table.of) class ≡ unknown_id }
         requires next { (q : Powerset) × Names self.old.store.table id q
             × Leads self.old.store.table next (next_of self.old.store.table.of q class) }
@@ -311,21 +312,21 @@ impl Cache {
     }
 
     pub(crate) fn dead(&self) -> LazyStateID
-        ensures { result ≡ dead_id self.now.store.table.of.stride }
+        ensures { result ≡ dead_id (table_stride self.now.store.table.of) }
     {
         self.store.dead()
     }
 
     /// The start slots are as many as the DFA's.
     pub(crate) fn see_slots(&self)
-        ensures { length self.now.store.starts ≡ self.now.store.table.of.slots }
+        ensures { length self.now.store.starts ≡ slot_count self.now.store.table.of }
     {
         self.store.see_slots();
     }
 
     /// Rows are of one width, and each has a cell for each class; the count of clears is a number of 64 bits.
     pub(crate) fn see_cells(&self)
-        ensures wide { length (template_of self.now.store.table.of) ≡ self.now.store.table.of.stride }
+        ensures wide { length (template_of self.now.store.table.of) ≡ table_stride self.now.store.table.of }
         ensures cells { HasCells self.now.store.table }
         ensures clears { self.now.store.clears < 2 ^ 64 }
     {
@@ -339,7 +340,7 @@ impl Cache {
         ensures low { (id : ℕ) (q : Powerset) → Names self.now.store.table id q → id < fixed_from }
         ensures tagged { (id : ℕ) (q : Powerset) → Names self.now.store.table id q
             → IsBitSet id 27 ↔ (0 < length q.patterns) }
-        ensures small { self.now.store.table.of.stride ≤ 512 }
+        ensures small { table_stride self.now.store.table.of ≤ 512 }
         ensures alive { (id : ℕ) (q : Powerset) → Names self.now.store.table id q → q ≡ dead → ⊥ }
     {
         self.store.see_ids();

@@ -1,7 +1,7 @@
 ghost use Rattle.std.specs.Prelude.{ℕ, List, ◌≡◌, ◌+◌, ◌-◌, ◌*◌, ◌/◌, ◌%◌, ◌^◌, ◌<◌, ◌≤◌, None, Some, IfOk, OnOk};
 ghost use Rattle.std.specs.Prelude.{OnErr, length, slice_get, slice_index, sum_by};
 ghost use Rattle.automata_base.specs.Powerset.{Powerset};
-ghost use Rattle.automata_hybrid.specs.Machine.{greatest, start_of, IsTemplate};
+ghost use Rattle.automata_hybrid.specs.Machine.{greatest, start_of, IsTemplate, table_stride};
 ghost use Rattle.automata_hybrid.specs.Table.{id_of, Names, IsValid, row_cost, MayLead};
 ghost use Rattle.automata_hybrid.specs.Clears.{AllStarts, kept, put, row_of, keep_slot, IsPut};
 ghost use Rattle.automata_hybrid.specs.Stores.{KeepsStarts};
@@ -82,7 +82,7 @@ pub fn keep_starts(
 ) -> Result<(Table, Vec<LazyStateID>), AllocError>
     requires of { dfa.now ≡ old.now.of }
     requires named { AllStarts old.now starts.now }
-    requires offsets { (length starts.now + 3) * old.now.of.stride < offset_limit }
+    requires offsets { (length starts.now + 3) * table_stride old.now.of < offset_limit }
     requires costs { (length starts.now + 1) * greatest old.now.of < 2 ^ 64 }
     ensures table { IfOk result (λ p. p.0 ≡ (kept old.now starts.now).table) }
     ensures starts { IfOk result (λ p. p.1.items ≡ (kept old.now starts.now).starts) }

@@ -6,23 +6,24 @@ ghost use Rattle.automata_base.specs.Steps.{successor};
 ghost use Rattle.automata_hybrid.specs.Owned.{IsOwn};
 ghost use Rattle.automata_base.specs.Accounting.{start_slots};
 ghost use Rattle.automata_hybrid.specs.Ids.{quit_id, unknown_id};
-ghost use Rattle.automata_hybrid.specs.Machine.{next_of, template_of};
+ghost use Rattle.automata_hybrid.specs.Machine.{next_of, template_of, table_stride, slot_count};
 ghost use Rattle.automata_config.specs.Settling.{IsSettled};
-ghost use Rattle.automata_config.specs.Options.{unset};
+ghost use Rattle.automata_config.specs.Options.{unset, match_kind_of, specialize_start_states_of};
 ghost use Rattle.automata_hybrid.specs.Caches.{fresh_cache};
 ghost use Rattle.automata_hybrid.specs.Builds.{built};
 ghost use Rattle.automata_hybrid.specs.Stores.{fresh_store, settings_of};
+ghost use Rattle.automata_config.specs.Options.{starts_for_each_pattern_of};
 
 pub mod builder;
 pub mod cache;
-pub mod clears;
-pub mod progress;
-pub mod row;
-pub mod settings;
-pub mod start;
-pub mod step;
-pub mod store;
-pub mod table;
+pub(crate) mod clears;
+pub(crate) mod progress;
+pub(crate) mod row;
+pub(crate) mod settings;
+pub(crate) mod start;
+pub(crate) mod step;
+pub(crate) mod store;
+pub(crate) mod table;
 
 use crate::dfa::builder::Builder;
 use crate::dfa::cache::Cache;
@@ -44,10 +45,7 @@ pub struct DFA {
     config: Config,
     classes: ByteClasses,
     quits: [bool; 256],
-    stride: usize,
-    slots: usize,
     capacity: usize,
-    fixed: usize,
 }
 
 impl Model for DFA {
@@ -72,10 +70,7 @@ impl Clone for DFA {
             config: self.config,
             classes: self.classes,
             quits: self.quits,
-            stride: self.stride,
-            slots: self.slots,
             capacity: self.capacity,
-            fixed: self.fixed,
         })
     }
 }
@@ -101,19 +96,14 @@ impl DFA {
         ensures { result ≡ built config nfa settled }
     {
         let classes = *settled.classes();
-        let stride = classes.stride();
+        let _ = classes.stride();
         let _ = classes.eoi();
-        let slots = start_slots(&nfa, config.get_starts_for_each_pattern());
-        let fixed = fixed_cost(&nfa);
         DFA {
             nfa,
             config,
             classes,
             quits: *settled.quit_set(),
-            stride,
-            slots,
             capacity: settled.capacity(),
-            fixed,
         }
     }
 
@@ -167,7 +157,7 @@ impl DFA {
 
     /// Whether each pattern has starts of its own.
     pub(crate) fn starts_each_pattern(&self) -> bool
-        ensures { result ≡ self.now.per_pattern }
+        ensures { result ≡ starts_for_each_pattern_of self.now.config }
     {
         self.config.get_starts_for_each_pattern()
     }
@@ -181,13 +171,13 @@ impl DFA {
 
     /// Whether start states are tagged.
     pub(crate) fn specializes(&self) -> bool
-        ensures { result ≡ self.now.specialized }
+        ensures { result ≡ specialize_start_states_of self.now.config }
     {
         self.config.get_specialize_start_states()
     }
 
     pub(crate) fn kind(&self) -> MatchKind
-        ensures { result ≡ self.now.kind }
+        ensures { result ≡ match_kind_of self.now.config }
     {
         self.config.get_match_kind()
     }
@@ -196,13 +186,13 @@ impl DFA {
     #[inline(always)]
     pub(crate) fn class_of(&self, byte: u8) -> usize
         ensures value { result ≡ class_in self.now.classes byte }
-        ensures below { result < self.now.stride }
-        ensures small { self.now.stride ≤ 512 }
+        ensures below { result < table_stride self.now }
+        ensures small { table_stride self.now ≤ 512 }
         ensures quit { is_quit self.now.quits byte ≡ true
-            → slice_index (template_of self.now) result ≡ quit_id self.now.stride }
+            → slice_index (template_of self.now) result ≡ quit_id (table_stride self.now) }
         ensures free { is_quit self.now.quits byte ≡ false → slice_index (template_of self.now) result ≡ unknown_id }
         ensures alike { (q : Powerset) → IsOwn self.now.nfa q
-            → successor self.now.nfa self.now.kind q (Some byte) ≡ next_of self.now q result }
+            → successor self.now.nfa (match_kind_of self.now.config) q (Some byte) ≡ next_of self.now q result }
     {
         usize::from(self.classes.get(byte))
     }
@@ -210,19 +200,19 @@ impl DFA {
     /// The class of the haystack's end.
     pub(crate) fn end_class(&self) -> usize
         ensures value { result ≡ eoi_class self.now.classes }
-        ensures below { result < self.now.stride }
-        ensures small { self.now.stride ≤ 512 }
+        ensures below { result < table_stride self.now }
+        ensures small { table_stride self.now ≤ 512 }
         ensures free { slice_index (template_of self.now) result ≡ unknown_id }
         ensures alike { (q : Powerset) → IsOwn self.now.nfa q
-            → successor self.now.nfa self.now.kind q None ≡ next_of self.now q result }
+            → successor self.now.nfa (match_kind_of self.now.config) q None ≡ next_of self.now q result }
     {
         self.classes.eoi()
     }
 
     /// Each byte and the end have a class of their own row.
     pub(crate) fn see_classes(&self)
-        ensures bytes { (byte : ℕ) → byte < 256 → class_in self.now.classes byte < self.now.stride }
-        ensures end { eoi_class self.now.classes < self.now.stride }
+        ensures bytes { (byte : ℕ) → byte < 256 → class_in self.now.classes byte < table_stride self.now }
+        ensures end { eoi_class self.now.classes < table_stride self.now }
     {
         let _ = self.end_class();
         let _ = self.classes.eoi();
@@ -230,18 +220,20 @@ impl DFA {
 
     /// The start slots are as many as the modes give.
     pub(crate) fn see_slots(&self)
-        ensures number { self.now.slots ≡ start_slots self.now.nfa self.now.per_pattern }
-        ensures fits { self.now.slots < 2 ^ 64 }
+        ensures number { slot_count self.now ≡ start_slots self.now.nfa (starts_for_each_pattern_of self.now.config) }
+        ensures fits { slot_count self.now < 2 ^ 64 }
     {
-        let _slots = self.slots;
+        let _capacity = self.capacity;
     }
 
     /// The fixed rows alone.
     pub(crate) fn fresh_store(&self) -> Result<Store, AllocError>
         ensures { IfOk result (λ c. c ≡ fresh_store self.now) }
     {
-        let template = new_row(self.nfa.alloc(), &self.classes, &self.quits, self.stride)?;
-        let store = Store::new(self, self.stride, template, self.slots, self.settings())?;
+        let stride = self.classes.stride();
+        let slots = start_slots(&self.nfa, self.config.get_starts_for_each_pattern());
+        let template = new_row(self.nfa.alloc(), &self.classes, &self.quits, stride)?;
+        let store = Store::new(self, stride, template, slots, self.settings())?;
         Ok(store)
     }
 
@@ -250,7 +242,7 @@ impl DFA {
     {
         Settings {
             capacity: self.capacity,
-            fixed: self.fixed,
+            fixed: fixed_cost(&self.nfa),
             minimum_clear_count: self.config.get_minimum_cache_clear_count(),
             minimum_bytes_per_state: self.config.get_minimum_bytes_per_state(),
         }

@@ -4,11 +4,11 @@ ghost use Rattle.automata_base.specs.Alike.{behind_of};
 ghost use Rattle.automata_base.specs.Powerset.{Powerset, cost, dead};
 ghost use Rattle.automata_base.specs.Classes.{is_quit};
 ghost use Rattle.automata_base.specs.Steps.{start_state_of};
-ghost use Rattle.automata_hybrid.specs.Machine.{start_of, greatest};
+ghost use Rattle.automata_hybrid.specs.Machine.{start_of, greatest, slot_count};
 ghost use Rattle.automata_base.specs.Tapes.{byte_before};
 ghost use Rattle.automata_base.specs.Lists.{nth};
 ghost use Rattle.automata_hybrid.specs.Starting.{quit_behind, start_refusal, search_refusal, MayStart, IsStartAnswer};
-ghost use Rattle.automata_hybrid.specs.Starting.{IsStartRefused, IsStartRefusedAt, IsStartEffect};
+ghost use Rattle.automata_hybrid.specs.Starting.{IsStartRefused, IsStartRefusedAt, IsStartEffect, start_row};
 ghost use Rattle.automata_hybrid.specs.Slots.{supports, slot_of, slot_behind};
 ghost use Rattle.automata_hybrid.specs.Table.{Leads, Has, HasItsMatchTag, KeepsStartTags, TagsNewStates};
 ghost use Rattle.automata_hybrid.specs.Stores.{IsCacheError, IsKnownStart, KeepsStarts};
@@ -16,6 +16,7 @@ ghost use Rattle.automata_hybrid.specs.Usage.{GivesUp};
 ghost use Rattle.automata_hybrid.specs.Effects.{IsStarted};
 ghost use Rattle.automata_hybrid.specs.Growing.{IsGrown, KeepsProgress};
 ghost use Rattle.automata_hybrid.specs.Caches.{IsCacheOf, counted};
+ghost use Rattle.automata_config.specs.Options.{specialize_start_states_of};
 
 use crate::dfa::DFA;
 use crate::dfa::cache::{Cache, Found};
@@ -45,11 +46,12 @@ impl Cache {
         ensures counted { self.new.count ≤ self.old.count + 1 }
         ensures starts { KeepsStarts self.old.store.starts self.new.store.starts }
         ensures start_tags { KeepsStartTags self.old.store.table self.new.store.table }
-        ensures added { TagsNewStates self.old.store.table self.new.store.table dfa.now.specialized }
+        ensures added { TagsNewStates self.old.store.table self.new.store.table
+            (specialize_start_states_of dfa.now.config) }
         ensures found { OnOk result (IsKnownStart self.new.store slot) }
         ensures written { IfOk result (λ n. slice_index self.new.store.starts slot ≡ n) }
         ensures effect { (IsKnownStart self.old.store slot → ⊥) → IfOk result (λ n. IsStarted self.old.store slot
-            (record { state = start_state_of dfa.now.nfa mode prev; started = dfa.now.specialized }) self.new.store n) }
+            (start_row dfa.now mode prev) self.new.store n) }
         ensures gives_up { IfErr result (λ e. IsCacheError e
             → GivesUp self.old.store (start_state_of dfa.now.nfa mode prev)) }
         ensures err { OnErr result (self.new ≡ counted self.old) }
@@ -91,7 +93,7 @@ impl Cache {
         ensures found { OnOk result (IsKnownStart self.new.store slot) }
         ensures written { IfOk result (λ n. slice_index self.new.store.starts slot ≡ n) }
         ensures effect { IfOk result (λ n. IsStarted self.old.store slot
-            (record { state = start_state_of dfa.now.nfa mode prev; started = dfa.now.specialized }) self.new.store n) }
+            (start_row dfa.now mode prev) self.new.store n) }
         ensures only { OnOk result ((p : Powerset) → Has self.new.store.table p → Has self.old.store.table p
             ⊎ (p ≡ start_state_of dfa.now.nfa mode prev)) }
         ensures cheap { OnOk result (cost (start_state_of dfa.now.nfa mode prev) ≤ greatest dfa.now) }
@@ -142,9 +144,9 @@ impl DFA {
     /// The start slot of a group, behind a byte or behind none.
     #[inline(always)]
     fn slot(&self, group: usize, prev: Option<u8>) -> usize
-        requires { group * 6 + 6 ≤ self.now.slots }
+        requires { group * 6 + 6 ≤ slot_count self.now }
         ensures value { result ≡ group * 6 + behind_of self.now.nfa.flags.line_terminator prev }
-        ensures within { result < self.now.slots }
+        ensures within { result < slot_count self.now }
     {
         self.see_slots();
         group * 6 + self.behind(prev)
@@ -153,14 +155,14 @@ impl DFA {
     /// The start slot of a mode. Past the last pattern there is none.
     #[inline(always)]
     fn mode_slot(&self, mode: Anchored, prev: Option<u8>) -> Result<Option<usize>, StartError>
-        ensures within { IfOk result (λ o. IfSome o (λ slot. slot < self.now.slots)) }
+        ensures within { IfOk result (λ o. IfSome o (λ slot. slot < slot_count self.now)) }
         ensures same { IfOk result (λ o. IfSome o
             (λ slot. start_state_of self.now.nfa mode prev ≡ start_of self.now slot)) }
         ensures past { IfOk result (λ o. IfNone o (start_state_of self.now.nfa mode prev ≡ dead)) }
         ensures slot { IfOk result (λ o. IfSome o
             (λ slot. slot ≡ slot_of mode (behind_of self.now.nfa.flags.line_terminator prev))) }
         ensures behind { IfOk result
-            (λ o. IfNone o (self.now.slots ≤ slot_of mode (behind_of self.now.nfa.flags.line_terminator prev))) }
+            (λ o. IfNone o (slot_count self.now ≤ slot_of mode (behind_of self.now.nfa.flags.line_terminator prev))) }
         ensures refused { (result ≡ Err (StartError.UnsupportedAnchored mode)) ↔ (supports self.now mode ≡ false) }
         ensures only { IfErr result (λ e. e ≡ StartError.UnsupportedAnchored mode) }
     {
@@ -257,7 +259,7 @@ impl DFA {
     ) -> Result<LazyStateID, StartError>
         requires of { IsCacheOf cache.old self.now }
         requires may { MayStart self.now mode prev }
-        requires slot { slot < self.now.slots }
+        requires slot { slot < slot_count self.now }
         requires at { slot ≡ slot_behind self.now mode prev }
         requires same { start_state_of self.now.nfa mode prev ≡ start_of self.now slot }
         ensures of { IsCacheOf cache.new self.now }

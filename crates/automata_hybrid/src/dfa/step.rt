@@ -3,7 +3,7 @@ ghost use Rattle.std.specs.Prelude.{slice_index, Ok, true, false, ◌⊎◌};
 ghost use Rattle.automata_base.specs.Powerset.{Powerset, cost};
 ghost use Rattle.automata_base.specs.Steps.{successor};
 ghost use Rattle.automata_hybrid.specs.Owned.{IsOwn};
-ghost use Rattle.automata_hybrid.specs.Machine.{next_of, template_of, greatest};
+ghost use Rattle.automata_hybrid.specs.Machine.{next_of, template_of, greatest, table_stride};
 ghost use Rattle.automata_hybrid.specs.Table.{Names, IsValid, Leads, Has, HasItsMatchTag, KeepsStartTags};
 ghost use Rattle.automata_hybrid.specs.Table.{TagsNewStates};
 ghost use Rattle.automata_hybrid.specs.Stores.{IsCacheError, IsKnownTransition, cell_of, IsNext, KeepsStarts};
@@ -14,6 +14,7 @@ ghost use Rattle.automata_hybrid.specs.Caches.{IsCacheOf, HasRow, counted};
 ghost use Rattle.automata_hybrid.specs.Ids.{quit_id, unknown_id, offset_limit};
 ghost use Rattle.automata_base.specs.Classes.{class_in, is_quit};
 ghost use Rattle.automata_hybrid.specs.Stepping.{IsStepAnswer, IsStepRefused, IsStepEffect};
+ghost use Rattle.automata_config.specs.Options.{match_kind_of};
 
 use crate::dfa::DFA;
 use crate::dfa::cache::{Cache, Found};
@@ -32,35 +33,37 @@ impl Cache {
     ) -> Result<LazyStateID, StepError>
         requires of { IsCacheOf self.old dfa.now }
         requires valid { IsValid self.old.store.table id }
-        requires class { class < dfa.now.stride }
+        requires class { class < table_stride dfa.now }
         requires alike { (q : Powerset) → IsOwn dfa.now.nfa q
-            → successor dfa.now.nfa dfa.now.kind q unit ≡ next_of dfa.now q class }
+            → successor dfa.now.nfa (match_kind_of dfa.now.config) q unit ≡ next_of dfa.now q class }
         ensures of { IsCacheOf self.new dfa.now }
         ensures known { IsKnownTransition self.old.store id class → result ≡ Ok (cell_of self.old.store id class) }
         ensures unchanged { IsKnownTransition self.old.store id class → self.new ≡ self.old }
-        ensures quit { slice_index (template_of dfa.now) class ≡ quit_id dfa.now.stride
-            → (result ≡ Ok (quit_id dfa.now.stride)) × (self.new ≡ self.old) }
+        ensures quit { slice_index (template_of dfa.now) class ≡ quit_id (table_stride dfa.now)
+            → (result ≡ Ok (quit_id (table_stride dfa.now))) × (self.new ≡ self.old) }
         ensures named { IfOk result (λ n. (q : Powerset) → Names self.old.store.table id q
             → IsNext self.new.store.table q class n) }
         ensures tag { IfOk result (HasItsMatchTag self.new.store.table) }
         ensures effect { (IsKnownTransition self.old.store id class → ⊥) → IfOk result (λ n. (q : Powerset)
             → Names self.old.store.table id q
-            → IsComputed self.old.store id class q (successor dfa.now.nfa dfa.now.kind q unit) self.new.store n) }
+            → IsComputed self.old.store id class q (successor dfa.now.nfa (match_kind_of dfa.now.config) q unit)
+            self.new.store n) }
         ensures counted { (IsKnownTransition self.old.store id class → ⊥) → self.new.count ≡ self.old.count + 1 }
         ensures starts { KeepsStarts self.old.store.starts self.new.store.starts }
         ensures start_tags { KeepsStartTags self.old.store.table self.new.store.table }
         ensures added { TagsNewStates self.old.store.table self.new.store.table false }
         ensures gives_up { IfErr result (λ e. IsCacheError e → (q : Powerset) → Names self.old.store.table id q
-            → GivesUp self.old.store (successor dfa.now.nfa dfa.now.kind q unit)) }
+            → GivesUp self.old.store (successor dfa.now.nfa (match_kind_of dfa.now.config) q unit)) }
         ensures err { OnErr result (self.new ≡ counted self.old) }
         ensures learned { ClearedNothing self.old.store self.new.store → IfOk result
             (λ n. IsKnownTransition self.new.store id class) }
         ensures written { ClearedNothing self.old.store self.new.store → IfOk result
             (λ n. cell_of self.new.store id class ≡ n) }
         ensures only { (q : Powerset) → Names self.old.store.table id q → (p : Powerset) → Has self.new.store.table p
-            → Has self.old.store.table p ⊎ (p ≡ successor dfa.now.nfa dfa.now.kind q unit) }
+            → Has self.old.store.table p ⊎ (p ≡ successor dfa.now.nfa (match_kind_of dfa.now.config) q unit) }
         ensures refused { (IsKnownTransition self.old.store id class → ⊥) → (q : Powerset)
-            → Names self.old.store.table id q → GivesUp self.old.store (successor dfa.now.nfa dfa.now.kind q unit)
+            → Names self.old.store.table id q
+            → GivesUp self.old.store (successor dfa.now.nfa (match_kind_of dfa.now.config) q unit)
             → OnOk result ⊥ }
         ensures grown { IsGrown self.old self.new }
         ensures progress { KeepsProgress self.old.store self.new.store }
@@ -87,24 +90,25 @@ impl Cache {
     ) -> Result<LazyStateID, StepError>
         requires of { IsCacheOf self.old dfa.now }
         requires valid { IsValid self.old.store.table id }
-        requires class { class < dfa.now.stride }
+        requires class { class < table_stride dfa.now }
         requires free { slice_index (template_of dfa.now) class ≡ unknown_id }
         requires alike { (q : Powerset) → IsOwn dfa.now.nfa q
-            → successor dfa.now.nfa dfa.now.kind q unit ≡ next_of dfa.now q class }
+            → successor dfa.now.nfa (match_kind_of dfa.now.config) q unit ≡ next_of dfa.now q class }
         ensures of { IsCacheOf self.new dfa.now }
         ensures named { IfOk result (λ n. (q : Powerset) → Names self.old.store.table id q
             → Leads self.new.store.table n (next_of dfa.now q class)) }
         ensures effect { IfOk result (λ n. (q : Powerset) → Names self.old.store.table id q
-            → IsComputed self.old.store id class q (successor dfa.now.nfa dfa.now.kind q unit) self.new.store n) }
+            → IsComputed self.old.store id class q (successor dfa.now.nfa (match_kind_of dfa.now.config) q unit)
+            self.new.store n) }
         ensures only { OnOk result ((q : Powerset) → Names self.old.store.table id q → (p : Powerset)
             → Has self.new.store.table p → Has self.old.store.table p
-            ⊎ (p ≡ successor dfa.now.nfa dfa.now.kind q unit)) }
+            ⊎ (p ≡ successor dfa.now.nfa (match_kind_of dfa.now.config) q unit)) }
         ensures cheap { OnOk result ((q : Powerset) → Names self.old.store.table id q
-            → cost (successor dfa.now.nfa dfa.now.kind q unit) ≤ greatest dfa.now) }
+            → cost (successor dfa.now.nfa (match_kind_of dfa.now.config) q unit) ≤ greatest dfa.now) }
         ensures counted { self.new.count ≡ self.old.count + 1 }
         ensures starts { OnOk result (KeepsStarts self.old.store.starts self.new.store.starts) }
         ensures gives_up { IfErr result (λ e. IsCacheError e → (q : Powerset) → Names self.old.store.table id q
-            → GivesUp self.old.store (successor dfa.now.nfa dfa.now.kind q unit)) }
+            → GivesUp self.old.store (successor dfa.now.nfa (match_kind_of dfa.now.config) q unit)) }
         ensures err { OnErr result (self.new ≡ counted self.old) }
     {
         let key = self.determinise(dfa, id, class, unit)?;
@@ -180,10 +184,11 @@ impl DFA {
         requires row { HasRow cache.now.store.table id }
         requires untagged { id < offset_limit }
         ensures value { result ≡ cell_of cache.now.store id (class_in self.now.classes byte) }
-        ensures quit { is_quit self.now.quits byte ≡ true → result ≡ quit_id self.now.stride }
+        ensures quit { is_quit self.now.quits byte ≡ true → result ≡ quit_id (table_stride self.now) }
         ensures named { is_quit self.now.quits byte ≡ false → result < unknown_id → (q : Powerset)
             → Names cache.now.store.table id q
-            → Leads cache.now.store.table result (successor self.now.nfa self.now.kind q (Some byte)) }
+            → Leads cache.now.store.table result
+            (successor self.now.nfa (match_kind_of self.now.config) q (Some byte)) }
         ensures tag { HasItsMatchTag cache.now.store.table result }
         ensures row { result < unknown_id → HasRow cache.now.store.table result }
     {
@@ -197,10 +202,11 @@ impl DFA {
         requires of { IsCacheOf cache.now self.now }
         requires valid { IsValid cache.now.store.table id }
         ensures value { result ≡ cell_of cache.now.store id (class_in self.now.classes byte) }
-        ensures quit { is_quit self.now.quits byte ≡ true → result ≡ quit_id self.now.stride }
+        ensures quit { is_quit self.now.quits byte ≡ true → result ≡ quit_id (table_stride self.now) }
         ensures named { is_quit self.now.quits byte ≡ false → result < unknown_id
             → (q : Powerset) → Names cache.now.store.table id q
-            → Leads cache.now.store.table result (successor self.now.nfa self.now.kind q (Some byte)) }
+            → Leads cache.now.store.table result
+            (successor self.now.nfa (match_kind_of self.now.config) q (Some byte)) }
         ensures row { result < unknown_id → HasRow cache.now.store.table result }
     {
         cache.see_state(id);

@@ -4,7 +4,7 @@ ghost use Rattle.automata_base.specs.Powerset.{Powerset, cost, dead};
 ghost use Rattle.automata_base.specs.Accounting.{minimum_capacity};
 ghost use Rattle.automata_hybrid.specs.Owned.{IsOwn};
 ghost use Rattle.automata_hybrid.specs.Ids.{dead_id, unknown_id, fixed_from, offset_limit};
-ghost use Rattle.automata_hybrid.specs.Machine.{next_of, start_of, greatest, template_of, IsTemplate};
+ghost use Rattle.automata_hybrid.specs.Machine.{next_of, start_of, greatest, template_of, IsTemplate, table_stride};
 ghost use Rattle.automata_hybrid.specs.Table.{id_of, Names, IsValid, Leads, MayLead, IsCell, HasCells, HasRowIds, Has};
 ghost use Rattle.automata_hybrid.specs.Clears.{row_of};
 ghost use Rattle.automata_hybrid.specs.Stores.{with_table, IsCacheError, cell_of, with_next, fresh_store, settings_of};
@@ -13,6 +13,7 @@ ghost use Rattle.automata_hybrid.specs.Usage.{usage, Fits, refuses_to_clear, cle
 ghost use Rattle.automata_hybrid.specs.Effects.{grown, put_found, cleared_saving, IsAdded, IsAddedStart};
 ghost use Rattle.automata_hybrid.specs.Caches.{IsRow};
 ghost use Rattle.automata_hybrid.specs.Progressing.{started, updated, finished, total_len};
+ghost use Rattle.automata_hybrid.specs.Machine.{slot_count};
 
 use crate::dfa::clears::{keep_row, keep_starts};
 use crate::dfa::progress::Searched;
@@ -57,9 +58,9 @@ impl Store {
         settings: Settings,
     ) -> Result<Store, AllocError>
         requires whole { IsTemplate stride template.items }
-        requires stride { stride ≡ dfa.now.stride }
+        requires stride { stride ≡ table_stride dfa.now }
         requires template { template.items ≡ template_of dfa.now }
-        requires slots { slots ≡ dfa.now.slots }
+        requires slots { slots ≡ slot_count dfa.now }
         requires settings { settings ≡ settings_of dfa.now }
         requires enough { minimum_capacity stride slots (greatest dfa.now) settings.fixed ≤ settings.capacity }
         requires offsets { (slots + 4) * stride < offset_limit }
@@ -180,7 +181,7 @@ impl Store {
 
     /// The start slots are as many as the DFA's.
     pub fn see_slots(&self)
-        ensures { length self.now.starts ≡ self.now.table.of.slots }
+        ensures { length self.now.starts ≡ slot_count self.now.table.of }
     {
         let _ = self.starts.len();
     }
@@ -191,7 +192,7 @@ impl Store {
         ensures low { (id : ℕ) (q : Powerset) → Names self.now.table id q → id < fixed_from }
         ensures tagged { (id : ℕ) (q : Powerset) → Names self.now.table id q
             → IsBitSet id 27 ↔ (0 < length q.patterns) }
-        ensures small { self.now.table.of.stride ≤ 512 }
+        ensures small { table_stride self.now.table.of ≤ 512 }
         ensures alive { (id : ℕ) (q : Powerset) → Names self.now.table id q → q ≡ dead → ⊥ }
     {
         self.table.see_rows();
@@ -206,7 +207,7 @@ impl Store {
 
     /// Rows are of one width, and each has a cell for each class; the count of clears is a number of 64 bits.
     pub fn see_cells(&self)
-        ensures wide { length (template_of self.now.table.of) ≡ self.now.table.of.stride }
+        ensures wide { length (template_of self.now.table.of) ≡ table_stride self.now.table.of }
         ensures cells { HasCells self.now.table }
         ensures clears { self.now.clears < 2 ^ 64 }
     {
@@ -287,7 +288,7 @@ impl Store {
 
     /// The ID of the dead state.
     pub fn dead(&self) -> LazyStateID
-        ensures { result ≡ dead_id self.now.table.of.stride }
+        ensures { result ≡ dead_id (table_stride self.now.table.of) }
     {
         self.table.see_rows();
         LazyStateID::dead(self.table.stride() as u32)
@@ -296,10 +297,10 @@ impl Store {
     /// The cell of a row at a class, which may not be known yet.
     pub fn cell(&self, id: LazyStateID, class: usize) -> LazyStateID
         requires row { IsValid self.now.table id }
-        requires class { class < self.now.table.of.stride }
+        requires class { class < table_stride self.now.table.of }
         ensures value { result ≡ cell_of self.now id class }
         ensures named { (q : Powerset) → Names self.now.table id q → IsCell self.now.table q class result }
-        ensures stride { self.now.table.of.stride ≤ 512 }
+        ensures stride { table_stride self.now.table.of ≤ 512 }
     {
         self.table.cell(id, class)
     }
@@ -308,11 +309,11 @@ impl Store {
     #[inline(always)]
     pub fn cell_untagged(&self, id: LazyStateID, class: usize) -> LazyStateID
         requires row { IsValid self.now.table id }
-        requires class { class < self.now.table.of.stride }
+        requires class { class < table_stride self.now.table.of }
         requires untagged { id < offset_limit }
         ensures value { result ≡ cell_of self.now id class }
         ensures named { (q : Powerset) → Names self.now.table id q → IsCell self.now.table q class result }
-        ensures stride { self.now.table.of.stride ≤ 512 }
+        ensures stride { table_stride self.now.table.of ≤ 512 }
     {
         self.table.cell_untagged(id, class)
     }
@@ -320,7 +321,7 @@ impl Store {
     /// Writes a transition.
     pub fn set_next(&mut self, id: LazyStateID, class: usize, next: LazyStateID)
         requires row { IsValid self.old.table id }
-        requires class { class < self.old.table.of.stride }
+        requires class { class < table_stride self.old.table.of }
         requires free { slice_index (template_of self.old.table.of) class ≡ unknown_id }
         requires next { (q : Powerset) × Names self.old.table id q
             × Leads self.old.table next (next_of self.old.table.of q class) }

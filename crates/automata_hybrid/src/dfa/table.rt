@@ -6,7 +6,7 @@ ghost use Rattle.automata_base.specs.Classes.{eoi_class};
 ghost use Rattle.automata_base.specs.Powerset.{dead};
 ghost use Rattle.automata_hybrid.specs.Owned.{IsOwn};
 ghost use Rattle.automata_hybrid.specs.Ids.{unknown_id, fixed_from, offset_limit};
-ghost use Rattle.automata_hybrid.specs.Machine.{next_of, greatest, template_of, IsTemplate, marked};
+ghost use Rattle.automata_hybrid.specs.Machine.{next_of, greatest, template_of, IsTemplate, marked, table_stride};
 ghost use Rattle.automata_hybrid.specs.Table.{id_of, with_row, fresh, Names, Leads, row_cost, IsValid, HasState};
 ghost use Rattle.automata_hybrid.specs.Table.{IsCell, cell_at, with_cell, HasCells, HasRowIds};
 ghost use Rattle.automata_hybrid.specs.Clears.{AllStarts};
@@ -71,8 +71,8 @@ impl Table {
 
     /// There is a row's worth of cells for each row and the three fixed ones, and no row is dead.
     pub fn see_rows(&self)
-        ensures whole { length self.now.cells ≡ (length self.now.rows + 3) * self.now.of.stride }
-        ensures template { IsTemplate self.now.of.stride (template_of self.now.of) }
+        ensures whole { length self.now.cells ≡ (length self.now.rows + 3) * table_stride self.now.of }
+        ensures template { IsTemplate (table_stride self.now.of) (template_of self.now.of) }
         ensures costs { sum_by row_cost self.now.rows ≤ length self.now.rows * greatest self.now.of }
         ensures ids { HasRowIds self.now }
         ensures low { (id : ℕ) (q : Powerset) → Names self.now id q → id < fixed_from }
@@ -91,7 +91,7 @@ impl Table {
 
     /// Rows are of one width, and each has a cell for each class.
     pub fn see_cells(&self)
-        ensures wide { length (template_of self.now.of) ≡ self.now.of.stride }
+        ensures wide { length (template_of self.now.of) ≡ table_stride self.now.of }
         ensures cells { HasCells self.now }
     {
         let _ = self.rows.len();
@@ -99,7 +99,7 @@ impl Table {
 
     /// How many cells a row has.
     pub fn stride(&self) -> usize
-        ensures { result ≡ self.now.of.stride }
+        ensures { result ≡ table_stride self.now.of }
     {
         self.stride
     }
@@ -172,7 +172,7 @@ impl Table {
         room: usize,
     ) -> Result<Table, AllocError>
         requires whole { IsTemplate stride template.items }
-        requires stride { stride ≡ dfa.now.stride }
+        requires stride { stride ≡ table_stride dfa.now }
         requires template { template.items ≡ template_of dfa.now }
         requires room { (room + 3) * stride < 2 ^ 64 }
         ensures { IfOk result (λ t. t ≡ fresh dfa.now) }
@@ -208,7 +208,7 @@ impl Table {
     /// The place of the row that has this ID.
     pub fn row_index(&self, id: LazyStateID) -> usize
         requires { IsValid self.now id }
-        ensures value { result ≡ (id % offset_limit) / self.now.of.stride - 3 }
+        ensures value { result ≡ (id % offset_limit) / table_stride self.now.of - 3 }
         ensures row { (q : Powerset) → Names self.now id q → HasState self.now result q }
         ensures within { result < length self.now.rows }
     {
@@ -234,10 +234,10 @@ impl Table {
     /// The cell of a row at a class.
     pub fn cell(&self, id: LazyStateID, class: usize) -> LazyStateID
         requires row { IsValid self.now id }
-        requires class { class < self.now.of.stride }
+        requires class { class < table_stride self.now.of }
         ensures value { result ≡ slice_index self.now.cells (cell_at id class) }
         ensures named { (q : Powerset) → Names self.now id q → IsCell self.now q class result }
-        ensures stride { self.now.of.stride ≤ 512 }
+        ensures stride { table_stride self.now.of ≤ 512 }
     {
         cell_in(self.cells.as_slice(), id.offset() as usize, class)
     }
@@ -246,11 +246,11 @@ impl Table {
     #[inline(always)]
     pub fn cell_untagged(&self, id: LazyStateID, class: usize) -> LazyStateID
         requires row { IsValid self.now id }
-        requires class { class < self.now.of.stride }
+        requires class { class < table_stride self.now.of }
         requires untagged { id < offset_limit }
         ensures value { result ≡ slice_index self.now.cells (cell_at id class) }
         ensures named { (q : Powerset) → Names self.now id q → IsCell self.now q class result }
-        ensures stride { self.now.of.stride ≤ 512 }
+        ensures stride { table_stride self.now.of ≤ 512 }
     {
         cell_in(self.cells.as_slice(), id.untagged() as usize, class)
     }
@@ -258,7 +258,7 @@ impl Table {
     /// Writes a transition.
     pub fn set_cell(&mut self, id: LazyStateID, class: usize, next: LazyStateID)
         requires row { IsValid self.old id }
-        requires class { class < self.old.of.stride }
+        requires class { class < table_stride self.old.of }
         requires free { slice_index (template_of self.old.of) class ≡ unknown_id }
         requires next { (q : Powerset) × Names self.old id q × Leads self.old next (next_of self.old.of q class) }
         ensures { self.new ≡ with_cell self.old id class next }

@@ -46,7 +46,7 @@ impl DFA {
 
         // What it answers, whatever the cache; and why this one refuses.
         ensures half { IsHalf Forward self.now input.now result }
-        ensures errors { IfErr result (IsRefused Forward self.now cache.new.store input.now) }
+        ensures refusal { IfErr result (IsRefused Forward self.now cache.new.store input.now) }
 
         // What it makes of the cache.
         ensures effect { IsSearchEffect Forward self.now input.now cache.old cache.new result }
@@ -69,7 +69,7 @@ impl DFA {
 
         // What it answers, whatever the cache; and why this one refuses.
         ensures based { IsBased self.now input.now result }
-        ensures errors { IfErr result (IsRefused Forward self.now cache.new.store input.now) }
+        ensures refusal { IfErr result (IsRefused Forward self.now cache.new.store input.now) }
 
         // What it makes of the cache; with an answer it costs no pass behind the span that gave it.
         ensures effect { IsSearchEffect Forward self.now input.now cache.old cache.new result }
@@ -91,7 +91,7 @@ impl DFA {
         requires { IsCacheOf cache.old self.now }
         ensures of { IsCacheOf cache.new self.now }
         ensures found { IfOk result (λ o. IsFound Forward self.now input.now (option_map (λ p. with_base p.0 p.1) o)) }
-        ensures errors { IfErr result (IsRefused Forward self.now cache.new.store input.now) }
+        ensures refusal { IfErr result (IsRefused Forward self.now cache.new.store input.now) }
         ensures bounded { IsCostOfSearch Forward self.now input.now cache.old cache.new }
         ensures based { IfOk result (λ o. IfSome o (λ p. IsCostUpto self.now input.now p.1 cache.old cache.new)) }
         ensures unsupported { input.now.start ≤ input.now.end → quit_behind self.now
@@ -133,7 +133,7 @@ impl DFA {
         ensures of { IsCacheOf cache.new self.now }
         ensures found { IfOk result (λ o. o ≡ found_over Forward self.now input.now) }
         ensures clean { OnOk result (MeetsNoQuit Forward self.now input.now) }
-        ensures errors { IfErr result (IsPassRefusal Forward self.now cache.new.store input.now) }
+        ensures refusal { IfErr result (IsPassRefusal Forward self.now cache.new.store input.now) }
         ensures counted { cache.new.count ≤ cache.old.count + (input.now.end - input.now.start + 2) }
         ensures grown { IsGrown cache.old cache.new }
         ensures idle { KnowsPass Forward self.now cache.old.store input.now
@@ -609,7 +609,7 @@ impl DFA {
         ensures of { IsCacheOf cache.new self.now }
         ensures found { IfOk result (λ o. o ≡ found_over Forward self.now input.now) }
         ensures clean { OnOk result (MeetsNoQuit Forward self.now input.now) }
-        ensures errors { IfErr result (IsPassRefusal Forward self.now cache.new.store input.now) }
+        ensures refusal { IfErr result (IsPassRefusal Forward self.now cache.new.store input.now) }
         ensures counted { cache.new.count ≤ cache.old.count + (input.now.end - input.now.start + 1) }
         ensures grown { IsGrown cache.old cache.new }
         ensures idle { KnowsPass Forward self.now cache.old.store input.now
@@ -666,7 +666,7 @@ impl DFA {
         ensures of { IsCacheOf cache.new self.now }
         ensures found { IfOk result (λ o. o ≡ found_over Forward self.now input.now) }
         ensures clean { OnOk result (MeetsNoQuit Forward self.now input.now) }
-        ensures errors { IfErr result (IsPassRefusal Forward self.now cache.new.store input.now) }
+        ensures refusal { IfErr result (IsPassRefusal Forward self.now cache.new.store input.now) }
         ensures counted { cache.new.count ≤ cache.old.count + 1 }
         ensures grown { IsGrown cache.old cache.new }
         ensures idle { KnowsPass Forward self.now cache.old.store input.now

@@ -15,6 +15,8 @@ ghost use Rattle.automata_hybrid.specs.Searched.{IsLeftAt, IsMovedTo, IsOfRoom};
 ghost use Rattle.automata_hybrid.specs.Searches.{Skips, IsStepRefusal};
 ghost use Rattle.automata_base.specs.declared.util.search.MatchErrorKind.TheVariants.{Quit as QuitAt};
 ghost use Rattle.automata_hybrid.specs.Table.{IsValid, Leads, Names};
+ghost use Rattle.automata_config.specs.Options.{match_kind_of};
+ghost use Rattle.automata_hybrid.specs.Machine.{table_stride};
 
 mod forward;
 mod overlapping;
@@ -133,11 +135,11 @@ impl DFA {
             → (cache.new ≡ cache.old) × IfErr result (λ e. ⊥) }
         ensures learned { ClearedNothing cache.old.store cache.new.store
             → OnOk result (IsKnownTransition cache.new.store id (class_in self.now.classes byte)) }
-        ensures quit { IfOk result (λ n. is_quit self.now.quits byte ≡ true → n ≡ quit_id self.now.stride) }
+        ensures quit { IfOk result (λ n. is_quit self.now.quits byte ≡ true → n ≡ quit_id (table_stride self.now)) }
         ensures named { IfOk result (λ n. is_quit self.now.quits byte ≡ false → (q : Powerset)
             → Names cache.old.store.table id q → Leads cache.new.store.table n
-            (successor self.now.nfa self.now.kind q (Some byte))) }
-        ensures errors { IfErr result (λ e. (q : Powerset) (quit_at : ℕ) → Names cache.old.store.table id q
+            (successor self.now.nfa (match_kind_of self.now.config) q (Some byte))) }
+        ensures refusal { IfErr result (λ e. (q : Powerset) (quit_at : ℕ) → Names cache.old.store.table id q
             → IsStepRefusal self.now cache.new.store q (Some byte) quit_at at e) }
         ensures room { IfErr result (IsOfRoom at) }
         ensures progress { KeepsProgress cache.old.store cache.new.store }
@@ -163,18 +165,18 @@ impl DFA {
         ensures of { IsCacheOf cache.new self.now }
         ensures counted { cache.new.count ≤ cache.old.count + 1 }
         ensures named { IfOk result (λ n. (q : Powerset) → Names cache.old.store.table id q
-            → Leads cache.new.store.table n (successor self.now.nfa self.now.kind q (Some byte))) }
+            → Leads cache.new.store.table n (successor self.now.nfa (match_kind_of self.now.config) q (Some byte))) }
         ensures dead { IfOk result (IsDeadTagged cache.new.store.table) }
         ensures alive { (q : Powerset) → Names cache.old.store.table id q → q ≡ dead → ⊥ }
         ensures clean { OnOk result (is_quit self.now.quits byte ≡ false) }
-        ensures errors { IfErr result (λ e. (q : Powerset) → Names cache.old.store.table id q
+        ensures refusal { IfErr result (λ e. (q : Powerset) → Names cache.old.store.table id q
             → IsStepRefusal self.now cache.new.store q (Some byte) at at e) }
         ensures grown { IsGrown cache.old cache.new }
         ensures idle { IsKnownTransition cache.old.store id (class_in self.now.classes byte)
             → (cache.new.count ≡ cache.old.count) × IfErr result IsOfInput }
         ensures learned { ClearedNothing cache.old.store cache.new.store
             → OnOk result (IsKnownTransition cache.new.store id (class_in self.now.classes byte)) }
-        ensures below { class_in self.now.classes byte < self.now.stride }
+        ensures below { class_in self.now.classes byte < table_stride self.now }
         ensures moved { OnOk result (IsMovedTo at cache.old.store cache.new.store) }
         ensures left { IfErr result (IsLeftAt self.now (Some byte) at cache.old.store cache.new.store) }
     {
@@ -202,16 +204,16 @@ impl DFA {
         ensures of { IsCacheOf cache.new self.now }
         ensures counted { cache.new.count ≤ cache.old.count + 1 }
         ensures named { IfOk result (λ n. (q : Powerset) → Names cache.old.store.table id q
-            → Leads cache.new.store.table n (successor self.now.nfa self.now.kind q None)) }
+            → Leads cache.new.store.table n (successor self.now.nfa (match_kind_of self.now.config) q None)) }
         ensures alive { (q : Powerset) → Names cache.old.store.table id q → q ≡ dead → ⊥ }
-        ensures errors { IfErr result (λ e. (q : Powerset) → Names cache.old.store.table id q
+        ensures refusal { IfErr result (λ e. (q : Powerset) → Names cache.old.store.table id q
             → IsStepRefusal self.now cache.new.store q None at at e) }
         ensures grown { IsGrown cache.old cache.new }
         ensures idle { IsKnownTransition cache.old.store id (eoi_class self.now.classes)
             → (cache.new.count ≡ cache.old.count) × IfErr result IsOfInput }
         ensures learned { ClearedNothing cache.old.store cache.new.store
             → OnOk result (IsKnownTransition cache.new.store id (eoi_class self.now.classes)) }
-        ensures below { eoi_class self.now.classes < self.now.stride }
+        ensures below { eoi_class self.now.classes < table_stride self.now }
         ensures room { IfErr result (IsOfRoom at) }
         ensures progress { KeepsProgress cache.old.store cache.new.store }
     {

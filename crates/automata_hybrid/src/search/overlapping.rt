@@ -51,7 +51,7 @@ impl DFA {
 
         // What it answers, whatever the cache; and why this one refuses.
         ensures call { IsWalkCall Forward self.now input.now state.old state.new result }
-        ensures errors { state.old.lost ≡ false → (k : ℕ) → HasTold Forward self.now input.now state.old k
+        ensures refusal { state.old.lost ≡ false → (k : ℕ) → HasTold Forward self.now input.now state.old k
             → IfErr result (IsWalkRefusal Forward self.now cache.new.store input.now state.old k) }
 
         // What it makes of the cache.
@@ -79,7 +79,7 @@ impl DFA {
 
         // What it answers, whatever the cache; and why this one refuses.
         ensures call { IsWalkCall Backward self.now input.now state.old state.new result }
-        ensures errors { state.old.lost ≡ false → (k : ℕ) → HasTold Backward self.now input.now state.old k
+        ensures refusal { state.old.lost ≡ false → (k : ℕ) → HasTold Backward self.now input.now state.old k
             → IfErr result (IsWalkRefusal Backward self.now cache.new.store input.now state.old k) }
 
         // What it makes of the cache.
@@ -137,7 +137,7 @@ impl DFA {
         ensures leads { IfOk result (λ id. Leads cache.new.store.table id
             (state_in (way_of way) self.now input.now walk.now.units)) }
         ensures may { OnOk result (MayStart self.now input.now.anchored (tape_in (way_of way) input.now).before) }
-        ensures errors { IfErr result (IsResumeRefusal (way_of way) self.now cache.new.store input.now walk.now.stage
+        ensures refusal { IfErr result (IsResumeRefusal (way_of way) self.now cache.new.store input.now walk.now.stage
             walk.now.units) }
         ensures counted { cache.new.count ≤ cache.old.count + start_count walk.now.stage }
         ensures grown { IsGrown cache.old (counted cache.new) }
@@ -187,7 +187,7 @@ impl DFA {
         ensures sure { IfOk result (λ next. next ≡ None → walk.new.stage ≡ Ended) }
         ensures tells { OnOk result (TellsNext (way_of way) self.now input.now walk.old walk.new) }
         ensures refused { OnErr result (walk.new ≡ walk.old) }
-        ensures errors { (k : ℕ) → HasTold (way_of way) self.now input.now walk.old k
+        ensures refusal { (k : ℕ) → HasTold (way_of way) self.now input.now walk.old k
             → IfErr result (IsWalkRefusal (way_of way) self.now cache.new.store input.now walk.old k) }
         ensures rises { OnOk result (walk.old.units ≤ walk.new.units) }
         ensures bounded { OnOk result (cache.new.count + walk.old.units
@@ -279,7 +279,7 @@ impl DFA {
         ensures of { IsCacheOf cache.new self.now }
         ensures tells { OnOk result (TellsNext (way_of way) self.now input.now walk.old walk.new) }
         ensures refused { OnErr result (walk.new ≡ without_match walk.old) }
-        ensures errors { walk.old.lost ≡ false → (k : ℕ) → HasTold (way_of way) self.now input.now walk.old k
+        ensures refusal { walk.old.lost ≡ false → (k : ℕ) → HasTold (way_of way) self.now input.now walk.old k
             → IfErr result (IsWalkRefusal (way_of way) self.now cache.new.store input.now walk.old k) }
         ensures lost { walk.old.lost ≡ true → IfErr result (λ e. e ≡ SearchError.OutOfMemory) }
         ensures rises { OnOk result (walk.old.units ≤ walk.new.units) }
@@ -340,7 +340,7 @@ impl DFA {
         ensures sure { IfOk result (λ next. next ≡ None → (walk.new.stage ≡ Ended) ⊎ (walk.new.lost ≡ false)) }
         ensures tells { OnOk result (TellsNext (way_of way) self.now input.now walk.old walk.new) }
         ensures refused { OnErr result (walk.new ≡ without_match walk.old) }
-        ensures errors { CanGoOn walk.old at.now → (k : ℕ) → HasTold (way_of way) self.now input.now walk.old k
+        ensures refusal { CanGoOn walk.old at.now → (k : ℕ) → HasTold (way_of way) self.now input.now walk.old k
             → IfErr result (IsWalkRefusal (way_of way) self.now cache.new.store input.now walk.old k) }
         ensures lost { at.now ≡ None → walk.old.lost ≡ true → IfErr result (λ e. e ≡ SearchError.OutOfMemory) }
         ensures rises { OnOk result (walk.old.units ≤ walk.new.units) }

@@ -24,6 +24,8 @@ ghost use Rattle.automata_hybrid.specs.Searches.{MeetsNoQuit, WithoutBase, state
 ghost use Rattle.automata_hybrid.specs.Slots.{supports};
 ghost use Rattle.automata_hybrid.specs.Starting.{MayStart, quit_behind};
 ghost use Rattle.automata_hybrid.specs.Table.{IsValid, Leads, Names};
+ghost use Rattle.automata_config.specs.Options.{match_kind_of};
+ghost use Rattle.automata_hybrid.specs.Machine.{table_stride};
 
 use crate::dfa::DFA;
 use crate::dfa::cache::Cache;
@@ -52,7 +54,7 @@ impl DFA {
 
         // What it answers, whatever the cache; and why this one refuses.
         ensures half { IsHalf Backward self.now input.now result }
-        ensures errors { IfErr result (IsRefused Backward self.now cache.new.store input.now) }
+        ensures refusal { IfErr result (IsRefused Backward self.now cache.new.store input.now) }
 
         // What it makes of the cache.
         ensures effect { IsSearchEffect Backward self.now input.now cache.old cache.new result }
@@ -73,7 +75,7 @@ impl DFA {
         requires { IsCacheOf cache.old self.now }
         ensures of { IsCacheOf cache.new self.now }
         ensures found { IfOk result (WithoutBase (IsFound Backward self.now input.now)) }
-        ensures errors { IfErr result (IsRefused Backward self.now cache.new.store input.now) }
+        ensures refusal { IfErr result (IsRefused Backward self.now cache.new.store input.now) }
         ensures bounded { IsCostOfSearch Backward self.now input.now cache.old cache.new }
         ensures unsupported { input.now.start ≤ input.now.end → quit_behind self.now
             (nth input.now.haystack input.now.end) ≡ None → supports self.now input.now.anchored ≡ false
@@ -117,7 +119,7 @@ impl DFA {
         ensures of { IsCacheOf cache.new self.now }
         ensures found { IfOk result (λ o. o ≡ found_over Backward self.now input.now) }
         ensures clean { OnOk result (MeetsNoQuit Backward self.now input.now) }
-        ensures errors { IfErr result (IsPassRefusal Backward self.now cache.new.store input.now) }
+        ensures refusal { IfErr result (IsPassRefusal Backward self.now cache.new.store input.now) }
         ensures counted { cache.new.count ≤ cache.old.count + (input.now.end - input.now.start + 2) }
         ensures grown { IsGrown cache.old cache.new }
         ensures idle { KnowsPass Backward self.now cache.old.store input.now
@@ -595,7 +597,7 @@ impl DFA {
         ensures of { IsCacheOf cache.new self.now }
         ensures found { IfOk result (λ o. o ≡ found_over Backward self.now input.now) }
         ensures clean { OnOk result (MeetsNoQuit Backward self.now input.now) }
-        ensures errors { IfErr result (IsPassRefusal Backward self.now cache.new.store input.now) }
+        ensures refusal { IfErr result (IsPassRefusal Backward self.now cache.new.store input.now) }
         ensures counted { cache.new.count ≤ cache.old.count + (input.now.end - input.now.start + 1) }
         ensures grown { IsGrown cache.old cache.new }
         ensures idle { KnowsPass Backward self.now cache.old.store input.now
@@ -654,7 +656,7 @@ impl DFA {
         ensures of { IsCacheOf cache.new self.now }
         ensures found { IfOk result (λ o. o ≡ found_over Backward self.now input.now) }
         ensures clean { OnOk result (MeetsNoQuit Backward self.now input.now) }
-        ensures errors { IfErr result (IsPassRefusal Backward self.now cache.new.store input.now) }
+        ensures refusal { IfErr result (IsPassRefusal Backward self.now cache.new.store input.now) }
         ensures counted { cache.new.count ≤ cache.old.count + 1 }
         ensures grown { IsGrown cache.old cache.new }
         ensures idle { KnowsPass Backward self.now cache.old.store input.now
@@ -691,17 +693,17 @@ impl DFA {
         ensures of { IsCacheOf cache.new self.now }
         ensures counted { cache.new.count ≤ cache.old.count + 1 }
         ensures named { IfOk result (λ n. (q : Powerset) → Names cache.old.store.table id q
-            → Leads cache.new.store.table n (successor self.now.nfa self.now.kind q (Some byte))) }
+            → Leads cache.new.store.table n (successor self.now.nfa (match_kind_of self.now.config) q (Some byte))) }
         ensures alive { (q : Powerset) → Names cache.old.store.table id q → q ≡ dead → ⊥ }
         ensures clean { OnOk result (is_quit self.now.quits byte ≡ false) }
-        ensures errors { IfErr result (λ e. (q : Powerset) → Names cache.old.store.table id q
+        ensures refusal { IfErr result (λ e. (q : Powerset) → Names cache.old.store.table id q
             → IsStepRefusal self.now cache.new.store q (Some byte) (start - 1) start e) }
         ensures grown { IsGrown cache.old cache.new }
         ensures idle { IsKnownTransition cache.old.store id (class_in self.now.classes byte)
             → (cache.new.count ≡ cache.old.count) × IfErr result IsOfInput }
         ensures learned { ClearedNothing cache.old.store cache.new.store
             → OnOk result (IsKnownTransition cache.new.store id (class_in self.now.classes byte)) }
-        ensures below { class_in self.now.classes byte < self.now.stride }
+        ensures below { class_in self.now.classes byte < table_stride self.now }
         ensures progress { KeepsProgress cache.old.store cache.new.store }
     {
         self.see_classes();

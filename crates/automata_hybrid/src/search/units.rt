@@ -25,6 +25,8 @@ ghost use Rattle.automata_base.specs.declared.util.search.MatchErrorKind.TheVari
 ghost use Rattle.automata_hybrid.specs.Table.{IsValid, Leads, Names};
 ghost use Rattle.automata_hybrid.specs.Walking.{HasToldBy, IsAdvanceRefusal, IsArrival, IsUnitRefusal, WalkReads};
 ghost use Rattle.automata_hybrid.specs.Walks.{way_of};
+ghost use Rattle.automata_config.specs.Options.{match_kind_of};
+ghost use Rattle.automata_hybrid.specs.Machine.{table_stride};
 
 use crate::dfa::DFA;
 use crate::dfa::cache::Cache;
@@ -136,7 +138,7 @@ impl DFA {
         ensures leads { IfOk result (λ id. Leads cache.new.store.table id
             (state_in (way_of way) self.now input.now 0)) }
         ensures may { OnOk result (MayStart self.now input.now.anchored (tape_in (way_of way) input.now).before) }
-        ensures errors { IfErr result (IsStartRefusalAt self.now cache.new.store input.now.anchored
+        ensures refusal { IfErr result (IsStartRefusalAt self.now cache.new.store input.now.anchored
             (tape_in (way_of way) input.now).before (behind_offset (way_of way) input.now)
             (offset_in (way_of way) input.now 0)) }
         ensures counted { cache.new.count ≤ cache.old.count + 1 }
@@ -172,16 +174,16 @@ impl DFA {
         ensures of { IsCacheOf cache.new self.now }
         ensures counted { cache.new.count ≤ cache.old.count + 1 }
         ensures named { IfOk result (λ n. (q : Powerset) → Names cache.old.store.table id q
-            → Leads cache.new.store.table n (successor self.now.nfa self.now.kind q (Some byte))) }
+            → Leads cache.new.store.table n (successor self.now.nfa (match_kind_of self.now.config) q (Some byte))) }
         ensures clean { OnOk result (is_quit self.now.quits byte ≡ false) }
-        ensures errors { IfErr result (λ e. (q : Powerset) → Names cache.old.store.table id q
+        ensures refusal { IfErr result (λ e. (q : Powerset) → Names cache.old.store.table id q
             → IsStepRefusal self.now cache.new.store q (Some byte) quit_at at e) }
         ensures grown { IsGrown cache.old cache.new }
         ensures idle { IsKnownTransition cache.old.store id (class_in self.now.classes byte)
             → (cache.new.count ≡ cache.old.count) × IfErr result IsOfInput }
         ensures learned { ClearedNothing cache.old.store cache.new.store
             → OnOk result (IsKnownTransition cache.new.store id (class_in self.now.classes byte)) }
-        ensures below { class_in self.now.classes byte < self.now.stride }
+        ensures below { class_in self.now.classes byte < table_stride self.now }
         ensures moved { (before : CacheView) → HasJustMoved at before cache.old
             → OnOk result (IsMovedTo at before.store cache.new.store) }
         ensures left { (before : CacheView) → HasJustMoved at before cache.old
@@ -217,7 +219,7 @@ impl DFA {
         ensures clean { OnOk result ((byte : ℕ) → next (tape_in (way_of way) input.now) place ≡ Some byte
             → is_quit self.now.quits byte ≡ false) }
         ensures reads { WalkReads (way_of way) self.now input.now place }
-        ensures errors { IfErr result (IsUnitRefusal (way_of way) self.now cache.new.store input.now place) }
+        ensures refusal { IfErr result (IsUnitRefusal (way_of way) self.now cache.new.store input.now place) }
         ensures grown { IsGrown cache.old cache.new }
         ensures idle { KnowsUnit (way_of way) self.now cache.old.store input.now place
             → (cache.new.count ≡ cache.old.count) × IfErr result IsOfInput }
@@ -321,7 +323,7 @@ impl DFA {
         ensures most { cache.new.count + units ≤ cache.old.count + (input.now.end - input.now.start + 1) }
         ensures arrives { IfOk result (λ a. IsArrival (way_of way) self.now cache.new.store.table input.now units a.id
             a.units) }
-        ensures errors { IfErr result (IsAdvanceRefusal (way_of way) self.now cache.new.store input.now units) }
+        ensures refusal { IfErr result (IsAdvanceRefusal (way_of way) self.now cache.new.store input.now units) }
         ensures idle { (k : ℕ) → HasToldBy (way_of way) self.now input.now units k
             → KnowsUnits (way_of way) self.now cache.old.store input.now units k
             → (cache.new.count ≡ cache.old.count) × IfErr result IsOfInput }

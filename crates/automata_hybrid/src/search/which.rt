@@ -17,6 +17,7 @@ ghost use Rattle.automata_hybrid.specs.Starting.{quit_behind};
 ghost use Rattle.automata_base.specs.declared.util.search.MatchErrorKind.TheVariants.{UnsupportedAnchored as UnsupportedMode};
 ghost use Rattle.automata_hybrid.specs.Walking.{AreWalked};
 ghost use Rattle.automata_hybrid.specs.Which.{IsWhichRefusal};
+ghost use Rattle.automata_config.specs.Options.{match_kind_of};
 
 use crate::dfa::DFA;
 use crate::dfa::cache::Cache;
@@ -40,7 +41,7 @@ impl DFA {
 
         // What the set is joined with, whatever the cache; and why this one refuses.
         ensures which { IsWhich self.now input.now patset.old patset.new result }
-        ensures errors { IfErr result (IsWhichRefusal self.now cache.new.store input.now patset.old patset.new) }
+        ensures refusal { IfErr result (IsWhichRefusal self.now cache.new.store input.now patset.old patset.new) }
 
         // What it makes of the cache.
         ensures effect { IsWhichEffect self.now input.now patset.old cache.old cache.new result }
@@ -63,10 +64,10 @@ impl DFA {
         ensures found { OnOk result (ArePatterns (AreWalked Forward self.now input.now) input.now (length patset.old)
             (members patset.old) (members patset.new)) }
         ensures paths { IsLookAcyclic (nfa_of self.now.nfa)
-            → OnOk result (ArePatternsFound (engine_of self.now.nfa self.now.kind) input.now (length patset.old)
-            (members patset.old) (members patset.new)) }
+            → OnOk result (ArePatternsFound (engine_of self.now.nfa (match_kind_of self.now.config)) input.now
+            (length patset.old) (members patset.old) (members patset.new)) }
         ensures capacity { length patset.new ≡ length patset.old }
-        ensures errors { IfErr result (IsWhichRefusal self.now cache.new.store input.now patset.old patset.new) }
+        ensures refusal { IfErr result (IsWhichRefusal self.now cache.new.store input.now patset.old patset.new) }
         ensures unsupported { input.now.start ≤ input.now.end → quit_behind self.now
             (byte_before input.now.haystack input.now.start) ≡ None → supports self.now input.now.anchored ≡ false
             → result ≡ Err (SearchError.Match (UnsupportedMode input.now.anchored)) }

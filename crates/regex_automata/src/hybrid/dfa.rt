@@ -1,6 +1,6 @@
 //! The lazy DFA, its settings and its cache.
 
-pub use automata_config::config::Config;
+pub use automata_config::config::{Config, Settled};
 pub use automata_hybrid::dfa::DFA;
 pub use automata_hybrid::dfa::builder::Builder;
 pub use automata_hybrid::dfa::cache::Cache;

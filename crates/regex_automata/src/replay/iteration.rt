@@ -45,7 +45,7 @@ fn take_matches(
     ensures forward { IsCacheOf cache.new.forward regex.now.forward }
     ensures reverse { IsCacheOf cache.new.reverse regex.now.reverse }
     ensures found { AreCollected (FindsMatch regex.now) input.entry result.0.items result.1 }
-    ensures errors { IfSome result.1 (λ e. IsMemory e ⊎ IsRefusedBehind regex.now cache.new input.entry result.0.items
+    ensures refusal { IfSome result.1 (λ e. IsMemory e ⊎ IsRefusedBehind regex.now cache.new input.entry result.0.items
         e) }
     ensures unsupported { IsUnsupported Forward regex.now.forward input.entry
         → (result.0.items ≡ []) × (result.1 ≡ Some (unsupported_error input.entry)) }

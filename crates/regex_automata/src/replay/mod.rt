@@ -7,8 +7,8 @@ ghost use Rattle.regex_automata.specs.Players.{HasPlayed};
 mod iteration;
 mod patterns;
 mod players;
-pub mod replies;
-pub mod requests;
+mod replies;
+mod requests;
 mod tokens;
 mod walks;
 

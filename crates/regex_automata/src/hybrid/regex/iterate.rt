@@ -50,7 +50,7 @@ impl Regex {
         ensures of { AreCachesOf cache.new self.now }
         ensures next { IfOk result (IsNextMatch self.now input.now last) }
         ensures goes_on { IfOk result (λ o. IfSome o (GoesPast self.now input.now last)) }
-        ensures errors { IfErr result (IsNextRefusal self.now cache.new input.now last) }
+        ensures refusal { IfErr result (IsNextRefusal self.now cache.new input.now last) }
         ensures unsupported { IsUnsupported Forward self.now.forward input.now
             → result ≡ Err (unsupported_error input.now) }
         ensures ahead { OnErr result (input.now.start ≤ input.now.end) }

@@ -41,7 +41,7 @@ impl Regex {
 
         // What it answers, whatever the caches; and why these refuse.
         ensures owed { IsTruthOf self.now input.now result }
-        ensures errors { IfErr result (IsMatchRefused self.now.forward cache.new.forward.store input.now) }
+        ensures refusal { IfErr result (IsMatchRefused self.now.forward cache.new.forward.store input.now) }
 
         // What it makes of the caches.
         ensures effect { IsTruthEffect self.now input.now cache.old cache.new result }

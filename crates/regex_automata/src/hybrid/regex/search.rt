@@ -18,6 +18,7 @@ ghost use Rattle.regex_automata.specs.RegexCaches.{AreCachesOf, AreGrown, AreSti
 ghost use Rattle.regex_automata.specs.RegexCaches.{NothingCleared};
 ghost use Rattle.regex_automata.specs.RegexRefusals.{HasReason, IsBackRefused, IsFree, IsOfGiven, IsOfMemory};
 ghost use Rattle.regex_automata.specs.RegexRefusals.{IsRegexRefusal};
+ghost use Rattle.automata_config.specs.Options.{minimum_cache_clear_count_of};
 
 use crate::hybrid::dfa;
 use crate::hybrid::regex::{Cache, Regex};
@@ -65,7 +66,7 @@ impl Regex {
 
         // What it answers, whatever the caches; and why these refuse.
         ensures owed { IsSpanOf self.now input.now result }
-        ensures errors { IfErr result (IsRegexRefusal self.now cache.new input.now) }
+        ensures refusal { IfErr result (IsRegexRefusal self.now cache.new input.now) }
 
         // What it makes of the caches.
         ensures effect { IsSpanEffect self.now input.now cache.old cache.new result }
@@ -86,7 +87,7 @@ impl Regex {
 
         // What it answers, whatever the caches; and why these refuse.
         ensures owed { IsSpanOf self.now input.now result }
-        ensures errors { IfErr result (IsRegexRefusal self.now cache.new input.now) }
+        ensures refusal { IfErr result (IsRegexRefusal self.now cache.new input.now) }
 
         // What it makes of the caches.
         ensures effect { IsSpanEffect self.now input.now cache.old cache.new result }
@@ -124,8 +125,9 @@ impl Regex {
         ensures of { IsCacheOf cache.new self.now.reverse }
         ensures found { IfOk result (IsStartFound self.now input.now (with_base half base)) }
         ensures within { IfOk result (λ o. IfSome o (λ start. (base ≤ start) × (start ≤ half.offset))) }
-        ensures errors { IfErr result (IsBackRefused self.now cache.new.store input.now (with_base half base)) }
-        ensures answers { NoQuitInReach self.now.reverse input.now → self.now.reverse.minimum_clear_count ≡ None
+        ensures refusal { IfErr result (IsBackRefused self.now cache.new.store input.now (with_base half base)) }
+        ensures answers { NoQuitInReach self.now.reverse input.now
+            → minimum_cache_clear_count_of self.now.reverse.config ≡ None
             → IfErr result (λ e. e ≡ SearchError.OutOfMemory) }
         ensures cost { IsPassCost (input.now.end - input.now.start) cache.old cache.new }
         ensures ended { OnOk result (EndsBack self.now input.now (with_base half base) cache.old cache.new) }
@@ -154,7 +156,7 @@ impl Regex {
         ensures of { AreCachesOf cache.new self.now }
         ensures found { IfOk result (FindsMatch self.now input.now) }
         ensures within { IfOk result (λ o. IfSome o (MatchLiesIn self.now input.now)) }
-        ensures errors { IfErr result (HasReason self.now cache.new input.now) }
+        ensures refusal { IfErr result (HasReason self.now cache.new input.now) }
         ensures free { IsFree self.now input.now → IfErr result IsOfMemory }
         ensures unsupported { input.now.start ≤ input.now.end
             → quit_behind self.now.forward (byte_before input.now.haystack input.now.start) ≡ None

@@ -89,13 +89,13 @@ loop-read-preserved c =
       reads = λ less. (k, sym more, c.in_ok-next.ensures.reads);
     }
 
-pub returns-in_err-next-clause-errors : goal.returns-in_err-next-clause-errors
-returns-in_err-next-clause-errors c =
+pub returns-in_err-next-clause-refusal : goal.returns-in_err-next-clause-refusal
+returns-in_err-next-clause-refusal c =
     let d : Direction = way_of c.args.way in
     let k : ℕ = c.follow-stop.result.at in
     let f : IsFollowed d c.args.self.now c.loop-read.cache.store c.args.input.now c.loop-read.read k c.follow-stop.result.id = c.follow-stop.ensures.followed in
     if_err c.from_residual.result _ _ c.from_residual.ensures.1
-    (k, omega (arith, c.loop-read.invariant.from, f.more), c.in_err-next.ensures.reads, followed_clean f c.loop-read.invariant.clean, followed_silent f c.loop-read.invariant.silent, c.in_err-next.ensures.errors)
+    (k, omega (arith, c.loop-read.invariant.from, f.more), c.in_err-next.ensures.reads, followed_clean f c.loop-read.invariant.clean, followed_silent f c.loop-read.invariant.silent, c.in_err-next.ensures.refusal)
 
 pub returns-then-tells-clause-arrives : goal.returns-then-tells-clause-arrives
 returns-then-tells-clause-arrives c =
@@ -242,7 +242,7 @@ returns-in_err-next-clause-left c = λ s e.
     if_err c.from_residual.result _ _ c.from_residual.ensures.1
     (unit_left d c.args.self.now c.args.input.now s c.args.units k underway.0 c.args.cache.now c.loop-read.cache c.read_unit.new.cache c.requires.«open» c.follow-stop.ensures.within
     c.loop-read.invariant.grown c.in_err-next.ensures.grown underway.1 c.in_err-next.field-0.0 (omega (arith, c.loop-read.invariant.from, f.more)) c.in_err-next.ensures.reads
-    (followed_clean f c.loop-read.invariant.clean) (followed_silent f c.loop-read.invariant.silent) c.in_err-next.ensures.errors c.in_err-next.ensures.left)
+    (followed_clean f c.loop-read.invariant.clean) (followed_silent f c.loop-read.invariant.silent) c.in_err-next.ensures.refusal c.in_err-next.ensures.left)
 
 pub returns-clause-ended : goal.returns-clause-ended
 returns-clause-ended c = λ s e.

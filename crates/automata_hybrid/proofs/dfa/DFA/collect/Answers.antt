@@ -15,12 +15,13 @@ use Rattle.automata_hybrid.proofs.LearningSets.{half_none, learned_call, open_st
 use Rattle.automata_hybrid.proofs.Searching.{false_true, if_err, ok_err}
 use Rattle.automata_hybrid.proofs.WalkSets.{IsLacking, Joins, StandsWell, calls_more, closes, joins_all, joins_begin, joins_first, joins_full, joined_more, joins_more, lacking, on_found, open_after, patterns_turn, stands_well, steps_less, which_still, which_walk}
 use Rattle.automata_hybrid.proofs.dfa.DFA.collect.Goals as goal
+use Rattle.automata_config.specs.Options.{match_kind_of}
 
-pub returns-in_err-next-clause-errors : goal.returns-in_err-next-clause-errors
-returns-in_err-next-clause-errors c =
+pub returns-in_err-next-clause-refusal : goal.returns-in_err-next-clause-refusal
+returns-in_err-next-clause-refusal c =
     let j = c.loop-walk.invariant.joins.0 in
     if_err c.from_residual.result _ _ c.from_residual.ensures.1
-    (c.loop-walk.walk, j.k, j.told, c.in_err-next.ensures.errors c.loop-walk.invariant.can j.k j.told, j.joined)
+    (c.loop-walk.walk, j.k, j.told, c.in_err-next.ensures.refusal c.loop-walk.invariant.can j.k j.told, j.joined)
 
 pub returns-in_err-next-clause-grown : goal.returns-in_err-next-clause-grown
 returns-in_err-next-clause-grown c =
@@ -29,14 +30,14 @@ returns-in_err-next-clause-grown c =
 pub returns-in_default-clause-found : goal.returns-in_default-clause-found
 returns-in_default-clause-found c =
     let told : WalksAreTold c.args.self.now.nfa = subst WalksAreTold c.get_nfa.ensures c.walk_is_right.ensures.told in
-    let list : (pairs : List Pair) × AreWalked Forward c.args.self.now c.args.input.now pairs = told Forward c.args.self.now.kind c.args.input.now in
+    let list : (pairs : List Pair) × AreWalked Forward c.args.self.now c.args.input.now pairs = told Forward (match_kind_of c.args.self.now.config) c.args.input.now in
     joins_all c.args.self.now c.args.input.now c.args.patset.now c.loop-walk.walk c.go_on.new.walk c.loop-walk.patset c.loop-walk.invariant.joins.0 c.in_ok-next.ensures.tells list (sym c.get_match.ensures ∙ c.in_default.«is»)
 
 pub returns-in_default-clause-paths : goal.returns-in_default-clause-paths
 returns-in_default-clause-paths c = λ free.
     let law : WalkIsRight c.args.self.now.nfa = subst WalkIsRight c.get_nfa.ensures c.walk_is_right.ensures.right in
-    patterns_turn (AreWalked Forward c.args.self.now c.args.input.now) (IsOverlapping Forward (engine_of c.args.self.now.nfa c.args.self.now.kind) c.args.input.now) c.args.input.now (length c.args.patset.now) (members c.args.patset.now) (members c.loop-walk.patset)
-    (λ pairs walked. law Forward c.args.self.now.kind c.args.input.now pairs free (c.haystack-haystack.ensures.bytes, c.haystack-haystack.ensures.within.1) walked)
+    patterns_turn (AreWalked Forward c.args.self.now c.args.input.now) (IsOverlapping Forward (engine_of c.args.self.now.nfa (match_kind_of c.args.self.now.config)) c.args.input.now) c.args.input.now (length c.args.patset.now) (members c.args.patset.now) (members c.loop-walk.patset)
+    (λ pairs walked. law Forward (match_kind_of c.args.self.now.config) c.args.input.now pairs free (c.haystack-haystack.ensures.bytes, c.haystack-haystack.ensures.within.1) walked)
     (returns-in_default-clause-found c)
 
 pub returns-in_default-clause-grown : goal.returns-in_default-clause-grown
@@ -46,7 +47,7 @@ returns-in_default-clause-grown c =
 pub returns-then-is_full-clause-found : goal.returns-then-is_full-clause-found
 returns-then-is_full-clause-found c =
     let told : WalksAreTold c.args.self.now.nfa = subst WalksAreTold c.get_nfa.ensures c.walk_is_right.ensures.told in
-    let list : (pairs : List Pair) × AreWalked Forward c.args.self.now c.args.input.now pairs = told Forward c.args.self.now.kind c.args.input.now in
+    let list : (pairs : List Pair) × AreWalked Forward c.args.self.now c.args.input.now pairs = told Forward (match_kind_of c.args.self.now.config) c.args.input.now in
     let found : c.go_on.new.walk.found ≡ Some c.in-Some.half = sym c.get_match.ensures ∙ c.in-Some.«is» in
     let put : c.try_insert.new.self ≡ set c.loop-walk.patset c.in-Some.half.pattern true = c.try_insert.ensures.inserted ∙ ap (λ n. set c.loop-walk.patset n true) c.pattern.ensures in
     subst (λ (s : List Bool). ArePatterns (AreWalked Forward c.args.self.now c.args.input.now) c.args.input.now (length c.args.patset.now) (members c.args.patset.now) (members s)) (sym put)
@@ -56,8 +57,8 @@ returns-then-is_full-clause-found c =
 pub returns-then-is_full-clause-paths : goal.returns-then-is_full-clause-paths
 returns-then-is_full-clause-paths c = λ free.
     let law : WalkIsRight c.args.self.now.nfa = subst WalkIsRight c.get_nfa.ensures c.walk_is_right.ensures.right in
-    patterns_turn (AreWalked Forward c.args.self.now c.args.input.now) (IsOverlapping Forward (engine_of c.args.self.now.nfa c.args.self.now.kind) c.args.input.now) c.args.input.now (length c.args.patset.now) (members c.args.patset.now) (members c.try_insert.new.self)
-    (λ pairs walked. law Forward c.args.self.now.kind c.args.input.now pairs free (c.haystack-haystack.ensures.bytes, c.haystack-haystack.ensures.within.1) walked)
+    patterns_turn (AreWalked Forward c.args.self.now c.args.input.now) (IsOverlapping Forward (engine_of c.args.self.now.nfa (match_kind_of c.args.self.now.config)) c.args.input.now) c.args.input.now (length c.args.patset.now) (members c.args.patset.now) (members c.try_insert.new.self)
+    (λ pairs walked. law Forward (match_kind_of c.args.self.now.config) c.args.input.now pairs free (c.haystack-haystack.ensures.bytes, c.haystack-haystack.ensures.within.1) walked)
     (returns-then-is_full-clause-found c)
 
 pub returns-then-is_full-clause-grown : goal.returns-then-is_full-clause-grown
@@ -67,7 +68,7 @@ returns-then-is_full-clause-grown c =
 pub returns-then-get_earliest-clause-found : goal.returns-then-get_earliest-clause-found
 returns-then-get_earliest-clause-found c =
     let told : WalksAreTold c.args.self.now.nfa = subst WalksAreTold c.get_nfa.ensures c.walk_is_right.ensures.told in
-    let list : (pairs : List Pair) × AreWalked Forward c.args.self.now c.args.input.now pairs = told Forward c.args.self.now.kind c.args.input.now in
+    let list : (pairs : List Pair) × AreWalked Forward c.args.self.now c.args.input.now pairs = told Forward (match_kind_of c.args.self.now.config) c.args.input.now in
     let found : c.go_on.new.walk.found ≡ Some c.in-Some.half = sym c.get_match.ensures ∙ c.in-Some.«is» in
     let put : c.try_insert.new.self ≡ set c.loop-walk.patset c.in-Some.half.pattern true = c.try_insert.ensures.inserted ∙ ap (λ n. set c.loop-walk.patset n true) c.pattern.ensures in
     subst (λ (s : List Bool). ArePatterns (AreWalked Forward c.args.self.now c.args.input.now) c.args.input.now (length c.args.patset.now) (members c.args.patset.now) (members s)) (sym put)
@@ -76,8 +77,8 @@ returns-then-get_earliest-clause-found c =
 pub returns-then-get_earliest-clause-paths : goal.returns-then-get_earliest-clause-paths
 returns-then-get_earliest-clause-paths c = λ free.
     let law : WalkIsRight c.args.self.now.nfa = subst WalkIsRight c.get_nfa.ensures c.walk_is_right.ensures.right in
-    patterns_turn (AreWalked Forward c.args.self.now c.args.input.now) (IsOverlapping Forward (engine_of c.args.self.now.nfa c.args.self.now.kind) c.args.input.now) c.args.input.now (length c.args.patset.now) (members c.args.patset.now) (members c.try_insert.new.self)
-    (λ pairs walked. law Forward c.args.self.now.kind c.args.input.now pairs free (c.haystack-haystack.ensures.bytes, c.haystack-haystack.ensures.within.1) walked)
+    patterns_turn (AreWalked Forward c.args.self.now c.args.input.now) (IsOverlapping Forward (engine_of c.args.self.now.nfa (match_kind_of c.args.self.now.config)) c.args.input.now) c.args.input.now (length c.args.patset.now) (members c.args.patset.now) (members c.try_insert.new.self)
+    (λ pairs walked. law Forward (match_kind_of c.args.self.now.config) c.args.input.now pairs free (c.haystack-haystack.ensures.bytes, c.haystack-haystack.ensures.within.1) walked)
     (returns-then-get_earliest-clause-found c)
 
 pub returns-then-get_earliest-clause-grown : goal.returns-then-get_earliest-clause-grown
@@ -96,7 +97,7 @@ loop-walk-smaller c =
 pub loop-walk-preserved : goal.loop-walk-preserved
 loop-walk-preserved c =
     let told : WalksAreTold c.args.self.now.nfa = subst WalksAreTold c.get_nfa.ensures c.walk_is_right.ensures.told in
-    let list : (pairs : List Pair) × AreWalked Forward c.args.self.now c.args.input.now pairs = told Forward c.args.self.now.kind c.args.input.now in
+    let list : (pairs : List Pair) × AreWalked Forward c.args.self.now c.args.input.now pairs = told Forward (match_kind_of c.args.self.now.config) c.args.input.now in
     let found : c.go_on.new.walk.found ≡ Some c.in-Some.half = sym c.get_match.ensures ∙ c.in-Some.«is» in
     let put : c.try_insert.new.self ≡ set c.loop-walk.patset c.in-Some.half.pattern true = c.try_insert.ensures.inserted ∙ ap (λ n. set c.loop-walk.patset n true) c.pattern.ensures in
     let on = on_found c.loop-walk.walk c.go_on.new.walk c.in-Some.half c.in_ok-next.ensures.goes_on found in
@@ -114,7 +115,7 @@ loop-walk-preserved c =
       few = well.units;
       idle = λ knows. (
           let told : WalksAreTold c.args.self.now.nfa = subst WalksAreTold c.get_nfa.ensures c.walk_is_right.ensures.told in
-          let list : (pairs : List Pair) × AreWalked Forward c.args.self.now c.args.input.now pairs = told Forward c.args.self.now.kind c.args.input.now in
+          let list : (pairs : List Pair) × AreWalked Forward c.args.self.now c.args.input.now pairs = told Forward (match_kind_of c.args.self.now.config) c.args.input.now in
           let count : c.loop-walk.cache.count ≡ c.args.cache.now.count = c.loop-walk.invariant.idle knows in
           let here = c.in_ok-next.ensures.idle (which_walk c.args.self.now c.loop-walk.cache.store c.args.input.now c.loop-walk.walk c.args.patset.now c.loop-walk.patset c.loop-walk.invariant.joins.0 list c.loop-walk.invariant.holds
           (which_still c.args.self.now c.args.input.now c.args.patset.now c.args.cache.now c.loop-walk.cache c.loop-walk.invariant.grown count knows)) in
@@ -158,7 +159,7 @@ returns-then-get_earliest-clause-unsupported c = λ undone behind mode.
 pub returns-in_err-next-clause-idle : goal.returns-in_err-next-clause-idle
 returns-in_err-next-clause-idle c = λ knows.
     let told : WalksAreTold c.args.self.now.nfa = subst WalksAreTold c.get_nfa.ensures c.walk_is_right.ensures.told in
-    let list : (pairs : List Pair) × AreWalked Forward c.args.self.now c.args.input.now pairs = told Forward c.args.self.now.kind c.args.input.now in
+    let list : (pairs : List Pair) × AreWalked Forward c.args.self.now c.args.input.now pairs = told Forward (match_kind_of c.args.self.now.config) c.args.input.now in
     let count : c.loop-walk.cache.count ≡ c.args.cache.now.count = c.loop-walk.invariant.idle knows in
     let here = c.in_err-next.ensures.idle (which_walk c.args.self.now c.loop-walk.cache.store c.args.input.now c.loop-walk.walk c.args.patset.now c.loop-walk.patset c.loop-walk.invariant.joins.0 list c.loop-walk.invariant.holds
     (which_still c.args.self.now c.args.input.now c.args.patset.now c.args.cache.now c.loop-walk.cache c.loop-walk.invariant.grown count knows)) in (
@@ -169,7 +170,7 @@ returns-in_err-next-clause-idle c = λ knows.
 pub returns-in_default-clause-idle : goal.returns-in_default-clause-idle
 returns-in_default-clause-idle c = λ knows.
     let told : WalksAreTold c.args.self.now.nfa = subst WalksAreTold c.get_nfa.ensures c.walk_is_right.ensures.told in
-    let list : (pairs : List Pair) × AreWalked Forward c.args.self.now c.args.input.now pairs = told Forward c.args.self.now.kind c.args.input.now in
+    let list : (pairs : List Pair) × AreWalked Forward c.args.self.now c.args.input.now pairs = told Forward (match_kind_of c.args.self.now.config) c.args.input.now in
     let count : c.loop-walk.cache.count ≡ c.args.cache.now.count = c.loop-walk.invariant.idle knows in
     let here = c.in_ok-next.ensures.idle (which_walk c.args.self.now c.loop-walk.cache.store c.args.input.now c.loop-walk.walk c.args.patset.now c.loop-walk.patset c.loop-walk.invariant.joins.0 list c.loop-walk.invariant.holds
     (which_still c.args.self.now c.args.input.now c.args.patset.now c.args.cache.now c.loop-walk.cache c.loop-walk.invariant.grown count knows)) in
@@ -178,7 +179,7 @@ returns-in_default-clause-idle c = λ knows.
 pub returns-then-is_full-clause-idle : goal.returns-then-is_full-clause-idle
 returns-then-is_full-clause-idle c = λ knows.
     let told : WalksAreTold c.args.self.now.nfa = subst WalksAreTold c.get_nfa.ensures c.walk_is_right.ensures.told in
-    let list : (pairs : List Pair) × AreWalked Forward c.args.self.now c.args.input.now pairs = told Forward c.args.self.now.kind c.args.input.now in
+    let list : (pairs : List Pair) × AreWalked Forward c.args.self.now c.args.input.now pairs = told Forward (match_kind_of c.args.self.now.config) c.args.input.now in
     let count : c.loop-walk.cache.count ≡ c.args.cache.now.count = c.loop-walk.invariant.idle knows in
     let here = c.in_ok-next.ensures.idle (which_walk c.args.self.now c.loop-walk.cache.store c.args.input.now c.loop-walk.walk c.args.patset.now c.loop-walk.patset c.loop-walk.invariant.joins.0 list c.loop-walk.invariant.holds
     (which_still c.args.self.now c.args.input.now c.args.patset.now c.args.cache.now c.loop-walk.cache c.loop-walk.invariant.grown count knows)) in
@@ -187,7 +188,7 @@ returns-then-is_full-clause-idle c = λ knows.
 pub returns-then-get_earliest-clause-idle : goal.returns-then-get_earliest-clause-idle
 returns-then-get_earliest-clause-idle c = λ knows.
     let told : WalksAreTold c.args.self.now.nfa = subst WalksAreTold c.get_nfa.ensures c.walk_is_right.ensures.told in
-    let list : (pairs : List Pair) × AreWalked Forward c.args.self.now c.args.input.now pairs = told Forward c.args.self.now.kind c.args.input.now in
+    let list : (pairs : List Pair) × AreWalked Forward c.args.self.now c.args.input.now pairs = told Forward (match_kind_of c.args.self.now.config) c.args.input.now in
     let count : c.loop-walk.cache.count ≡ c.args.cache.now.count = c.loop-walk.invariant.idle knows in
     let here = c.in_ok-next.ensures.idle (which_walk c.args.self.now c.loop-walk.cache.store c.args.input.now c.loop-walk.walk c.args.patset.now c.loop-walk.patset c.loop-walk.invariant.joins.0 list c.loop-walk.invariant.holds
     (which_still c.args.self.now c.args.input.now c.args.patset.now c.args.cache.now c.loop-walk.cache c.loop-walk.invariant.grown count knows)) in
@@ -201,7 +202,7 @@ returns-in_default-clause-learned c = λ nothing undone may.
     let j = c.loop-walk.invariant.joins.0 in
     let all = learned_call c.args.self.now c.args.input.now c.loop-walk.cache c.go_on.new.cache c.loop-walk.walk c.go_on.new.walk j.k stepped second j.told undone may (c.loop-walk.invariant.learned first undone may) (c.in_ok-next.ensures.learned second) (c.in_ok-next.ensures.units second) in
     let told : WalksAreTold c.args.self.now.nfa = subst WalksAreTold c.get_nfa.ensures c.walk_is_right.ensures.told in
-    let list : (pairs : List Pair) × AreWalked Forward c.args.self.now c.args.input.now pairs = told Forward c.args.self.now.kind c.args.input.now in
+    let list : (pairs : List Pair) × AreWalked Forward c.args.self.now c.args.input.now pairs = told Forward (match_kind_of c.args.self.now.config) c.args.input.now in
     let next = (c.in_ok-next.ensures.tells j.k j.told).1 list.0 list.1 in
     let ended : c.go_on.new.walk.stage ≡ Ended = next.1 (half_none list.0 j.k (sym next.0 ∙ (sym c.get_match.ensures ∙ c.in_default.«is»))) in
     set_knows c.args.self.now c.go_on.new.cache.store c.args.input.now c.args.patset.now c.go_on.new.walk all
@@ -215,7 +216,7 @@ returns-then-is_full-clause-learned c = λ nothing undone may.
     let j = c.loop-walk.invariant.joins.0 in
     let all = learned_call c.args.self.now c.args.input.now c.loop-walk.cache c.go_on.new.cache c.loop-walk.walk c.go_on.new.walk j.k stepped second j.told undone may (c.loop-walk.invariant.learned first undone may) (c.in_ok-next.ensures.learned second) (c.in_ok-next.ensures.units second) in
     let told : WalksAreTold c.args.self.now.nfa = subst WalksAreTold c.get_nfa.ensures c.walk_is_right.ensures.told in
-    let list : (pairs : List Pair) × AreWalked Forward c.args.self.now c.args.input.now pairs = told Forward c.args.self.now.kind c.args.input.now in
+    let list : (pairs : List Pair) × AreWalked Forward c.args.self.now c.args.input.now pairs = told Forward (match_kind_of c.args.self.now.config) c.args.input.now in
     let found : c.go_on.new.walk.found ≡ Some c.in-Some.half = sym c.get_match.ensures ∙ c.in-Some.«is» in
     let put : c.try_insert.new.self ≡ set c.loop-walk.patset c.in-Some.half.pattern true = c.try_insert.ensures.inserted ∙ ap (λ n. set c.loop-walk.patset n true) c.pattern.ensures in
     let on = on_found c.loop-walk.walk c.go_on.new.walk c.in-Some.half c.in_ok-next.ensures.goes_on found in
@@ -233,7 +234,7 @@ returns-then-get_earliest-clause-learned c = λ nothing undone may.
     let j = c.loop-walk.invariant.joins.0 in
     let all = learned_call c.args.self.now c.args.input.now c.loop-walk.cache c.go_on.new.cache c.loop-walk.walk c.go_on.new.walk j.k stepped second j.told undone may (c.loop-walk.invariant.learned first undone may) (c.in_ok-next.ensures.learned second) (c.in_ok-next.ensures.units second) in
     let told : WalksAreTold c.args.self.now.nfa = subst WalksAreTold c.get_nfa.ensures c.walk_is_right.ensures.told in
-    let list : (pairs : List Pair) × AreWalked Forward c.args.self.now c.args.input.now pairs = told Forward c.args.self.now.kind c.args.input.now in
+    let list : (pairs : List Pair) × AreWalked Forward c.args.self.now c.args.input.now pairs = told Forward (match_kind_of c.args.self.now.config) c.args.input.now in
     let found : c.go_on.new.walk.found ≡ Some c.in-Some.half = sym c.get_match.ensures ∙ c.in-Some.«is» in
     let put : c.try_insert.new.self ≡ set c.loop-walk.patset c.in-Some.half.pattern true = c.try_insert.ensures.inserted ∙ ap (λ n. set c.loop-walk.patset n true) c.pattern.ensures in
     let on = on_found c.loop-walk.walk c.go_on.new.walk c.in-Some.half c.in_ok-next.ensures.goes_on found in
@@ -260,7 +261,7 @@ pub returns-in_default-clause-ends : goal.returns-in_default-clause-ends
 returns-in_default-clause-ends c =
     let j = c.loop-walk.invariant.joins.0 in
     let told : WalksAreTold c.args.self.now.nfa = subst WalksAreTold c.get_nfa.ensures c.walk_is_right.ensures.told in
-    let list : (pairs : List Pair) × AreWalked Forward c.args.self.now c.args.input.now pairs = told Forward c.args.self.now.kind c.args.input.now in
+    let list : (pairs : List Pair) × AreWalked Forward c.args.self.now c.args.input.now pairs = told Forward (match_kind_of c.args.self.now.config) c.args.input.now in
     let next = (c.in_ok-next.ensures.tells j.k j.told).1 list.0 list.1 in
     let ended : c.go_on.new.walk.stage ≡ Ended = next.1 (half_none list.0 j.k (sym next.0 ∙ (sym c.get_match.ensures ∙ c.in_default.«is»))) in
     (suc j.k, c.go_on.new.walk, (c.loop-walk.walk, c.loop-walk.cache.store, c.loop-walk.invariant.joins.1, open_after c.args.self.now c.args.input.now c.loop-walk.walk c.args.patset.now c.loop-walk.patset j, c.in_ok-next.ensures.tells, c.in_ok-next.ensures.ends, (c.in_ok-next.ensures.there c.loop-walk.invariant.holds).clears), inl ended)

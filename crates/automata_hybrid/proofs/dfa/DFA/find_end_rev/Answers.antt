@@ -26,8 +26,8 @@ returns-then-start-eq0-clause-clean c =
     clean_last Backward c.args.self.now c.args.cache.now.store.table c.read_end.new.cache.store.table c.args.input.now k c.args.id c.in_ok-last.last None c.args.found c.found_at.result
     c.requires.at past c.in_ok-last.ensures.named (λ byte e. absurd (none_some e)) (backward_units c.args.input.now c.requires.open c.start-start.ensures.within.1) c.requires.may.0
 
-pub returns-in_err-last-clause-errors : goal.returns-in_err-last-clause-errors
-returns-in_err-last-clause-errors c =
+pub returns-in_err-last-clause-refusal : goal.returns-in_err-last-clause-refusal
+returns-in_err-last-clause-refusal c =
     let k : ℕ = c.args.input.now.end - c.args.input.now.start in
     let past : next (tape_in Backward c.args.input.now) k ≡ None = backward_end c.args.input.now c.requires.open c.start-start.ensures.within.1 (omega (arith, c.start-start.ensures.start, c.if-start-eq0.true)) in
     let first : c.start-start.result - 1 ≡ c.start-start.result = omega (arith, c.if-start-eq0.true) in
@@ -35,7 +35,7 @@ returns-in_err-last-clause-errors c =
     (step_refuses Backward c.args.self.now c.args.cache.now.store.table c.read_end.new.cache.store c.args.input.now k c.args.id c.start-start.result c.start-start.result None c.args.found c.in_err-last.field-0.0
     c.requires.at (let u : k ≡ length (tape_in Backward c.args.input.now).bytes = backward_units c.args.input.now c.requires.open c.start-start.ensures.within.1 in omega (arith, u)) c.in_err-last.ensures.alive past
     (subst (λ (n : ℕ). unit_offset Backward c.args.input.now k ≡ n) first (end_unit_offset c.args.input.now c.start-start.result c.requires.open c.start-start.ensures.start))
-    (end_given_up_offset c.args.input.now c.start-start.result c.requires.open c.start-start.ensures.start) c.in_err-last.ensures.errors c.requires.may.0)
+    (end_given_up_offset c.args.input.now c.start-start.result c.requires.open c.start-start.ensures.start) c.in_err-last.ensures.refusal c.requires.may.0)
 
 pub returns-clause-found : goal.returns-clause-found
 returns-clause-found c =
@@ -53,15 +53,15 @@ returns-clause-clean c =
     clean_last Backward c.args.self.now c.args.cache.now.store.table c.read_before.new.cache.store.table c.args.input.now k c.args.id c.in_ok-last-2.last _ c.args.found c.found_at-2.result
     c.requires.at read c.in_ok-last-2.ensures.named (λ byte e. subst (λ v. is_quit c.args.self.now.quits v ≡ false) (some_inj e) c.in_ok-last-2.ensures.clean) (backward_units c.args.input.now c.requires.open c.start-start.ensures.within.1) c.requires.may.0
 
-pub returns-in_err-last-2-clause-errors : goal.returns-in_err-last-2-clause-errors
-returns-in_err-last-2-clause-errors c =
+pub returns-in_err-last-2-clause-refusal : goal.returns-in_err-last-2-clause-refusal
+returns-in_err-last-2-clause-refusal c =
     let k : ℕ = c.args.input.now.end - c.args.input.now.start in
     let read : next (tape_in Backward c.args.input.now) k ≡ Some _ = backward_read c.args.input.now c.haystack.result.now c.args.input.now.start (c.start-start.result - 1) (omega arith) c.requires.open c.start-start.ensures.within.1 c.haystack.ensures.same (omega (arith, c.start-start.ensures.start, c.if-start-eq0.false)) in
     if_err c.from_residual-in_err-last-2.result _ _ c.from_residual-in_err-last-2.ensures.1
     (step_refuses Backward c.args.self.now c.args.cache.now.store.table c.read_before.new.cache.store c.args.input.now k c.args.id (c.start-start.result - 1) c.start-start.result _ c.args.found c.in_err-last-2.field-0.0
     c.requires.at (let u : k ≡ length (tape_in Backward c.args.input.now).bytes = backward_units c.args.input.now c.requires.open c.start-start.ensures.within.1 in omega (arith, u)) c.in_err-last-2.ensures.alive read
     (end_unit_offset c.args.input.now c.start-start.result c.requires.open c.start-start.ensures.start)
-    (end_given_up_offset c.args.input.now c.start-start.result c.requires.open c.start-start.ensures.start) c.in_err-last-2.ensures.errors c.requires.may.0)
+    (end_given_up_offset c.args.input.now c.start-start.result c.requires.open c.start-start.ensures.start) c.in_err-last-2.ensures.refusal c.requires.may.0)
 
 pub returns-in_err-last-clause-idle : goal.returns-in_err-last-clause-idle
 returns-in_err-last-clause-idle c = λ knows.

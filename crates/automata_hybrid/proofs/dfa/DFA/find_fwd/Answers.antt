@@ -37,8 +37,8 @@ find_end_fwd-requires-clause-at c =
     let same : c.run_fwd-run.result.at - c.args.input.now.start ≡ c.args.input.now.end - c.args.input.now.start = omega (arith, c.if-run-end.true, c.run_fwd-run.ensures.within, c.end-in-loop-at.ensures.end) in
     subst (λ k. IsAt Forward c.args.self.now c.loop-at.cache.store.table c.args.input.now k c.run_fwd-run.result.id c.run_fwd-run.result.found) same (c.run_fwd-run.ensures.at)
 
-pub returns-in_err-next-clause-errors : goal.returns-in_err-next-clause-errors
-returns-in_err-next-clause-errors c =
+pub returns-in_err-next-clause-refusal : goal.returns-in_err-next-clause-refusal
+returns-in_err-next-clause-refusal c =
     let from : c.args.input.now.start ≤ c.run_fwd-run.result.at = omega (arith, c.loop-at.invariant.from, c.run_fwd-run.ensures.from) in
     let inside : c.run_fwd-run.result.at < c.args.input.now.end = omega (arith, c.if-run-end.false, c.end-in-loop-at.ensures.end) in
     let k : ℕ = c.run_fwd-run.result.at - c.args.input.now.start in
@@ -48,7 +48,7 @@ returns-in_err-next-clause-errors c =
     let few : k ≤ length (tape_in Forward c.args.input.now).bytes = (let u : c.args.input.now.end - c.args.input.now.start ≡ length (tape_in Forward c.args.input.now).bytes = forward_units c.args.input.now c.requires.open c.end-in-loop-at.ensures.within.1 in omega (arith, u, inside)) in
     if_err c.from_residual.result _ _ c.from_residual.ensures.1
     (step_refuses Forward c.args.self.now c.loop-at.cache.store.table c.read.new.cache.store c.args.input.now k c.run_fwd-run.result.id c.run_fwd-run.result.at c.run_fwd-run.result.at _ c.run_fwd-run.result.found c.in_err-next.field-0.0
-    at few c.in_err-next.ensures.alive read (sym place) (sym place) c.in_err-next.ensures.errors c.requires.may.0)
+    at few c.in_err-next.ensures.alive read (sym place) (sym place) c.in_err-next.ensures.refusal c.requires.may.0)
 
 pub returns-then-is_dead-clause-found : goal.returns-then-is_dead-clause-found
 returns-then-is_dead-clause-found c =

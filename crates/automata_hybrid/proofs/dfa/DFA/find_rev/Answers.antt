@@ -38,8 +38,8 @@ find_end_rev-requires-clause-at c =
     (subst (λ (t : Rows). IsAt Backward c.args.self.now t c.args.input.now (c.args.input.now.end - c.run_rev-run.result.at) c.run_rev-run.result.id c.run_rev-run.result.found) (sym c.end_search.ensures.table)
     c.run_rev-run.ensures.at)
 
-pub returns-in_err-id-clause-errors : goal.returns-in_err-id-clause-errors
-returns-in_err-id-clause-errors c =
+pub returns-in_err-id-clause-refusal : goal.returns-in_err-id-clause-refusal
+returns-in_err-id-clause-refusal c =
     let above : c.args.input.now.start < c.run_rev-run.result.at = omega (arith, c.if-run-start.false, c.start-in-loop-at.ensures.start) in
     let below : c.run_rev-run.result.at ≤ c.args.input.now.end = omega (arith, c.run_rev-run.ensures.within, c.loop-at.invariant.within) in
     let k : ℕ = c.args.input.now.end - c.run_rev-run.result.at in
@@ -49,7 +49,7 @@ returns-in_err-id-clause-errors c =
     if_err c.from_residual.result _ _ c.from_residual.ensures.1
     (step_refuses Backward c.args.self.now c.loop-at.cache.store.table c.read.new.cache.store c.args.input.now k c.run_rev-run.result.id (c.run_rev-run.result.at - 1) (c.run_rev-run.result.at - 1) _ c.run_rev-run.result.found c.in_err-id.field-0.0
     at few c.in_err-id.ensures.alive read
-    (span_unit_offset c.args.input.now c.run_rev-run.result.at above below) (span_given_up_offset c.args.input.now c.run_rev-run.result.at above below) c.in_err-id.ensures.errors c.requires.may.0)
+    (span_unit_offset c.args.input.now c.run_rev-run.result.at above below) (span_given_up_offset c.args.input.now c.run_rev-run.result.at above below) c.in_err-id.ensures.refusal c.requires.may.0)
 
 pub returns-then-is_dead-clause-found : goal.returns-then-is_dead-clause-found
 returns-then-is_dead-clause-found c =

@@ -4,7 +4,7 @@ use Rattle.automata_base.specs.Lists.{nth}
 use Rattle.automata_base.specs.Paths.{next}
 use Rattle.automata_base.specs.Tapes.{Forward}
 use Rattle.automata_hybrid.specs.Stores.{IsKnownTransition}
-use Rattle.automata_hybrid.specs.Machine.{Machine}
+use Rattle.automata_hybrid.specs.Machine.{Machine, table_stride}
 use Rattle.automata_hybrid.specs.Passing.{IsFollowed}
 use Rattle.automata_hybrid.specs.Searches.{tape_in}
 use Rattle.automata_hybrid.proofs.Following.{followed_more, followed_none}
@@ -23,9 +23,9 @@ returns-clause-followed c = λ low n.
     let byte : nth c.args.input.now.haystack c.args.at ≡ Some read = nth_read c.args.input.now.haystack c.args.at _ 0 (omega (arith, c.requires.within, c.haystack-haystack.ensures.within.1)) (ap (λ (h : List ℕ). get_or h c.args.at 0) c.haystack-haystack.ensures.same) in
     let unit : next (tape_in Forward c.args.input.now) k ≡ Some read = forward_unit c.args.input.now c.args.at c.requires.from (omega (arith, c.requires.within)) c.haystack-haystack.ensures.within.1 ∙ byte in
     let known : IsKnownTransition c.args.cache.now.store c.args.id (class_in c.args.self.now.classes read) = subst (λ n. n < 2 ^ 31) c.next_state_untagged.ensures.value (omega (arith, low)) in
-    let below : class_in c.args.self.now.classes read < c.args.self.now.stride = c.see_classes.ensures.bytes read (c.haystack-haystack.ensures.bytes _ _ byte) in
+    let below : class_in c.args.self.now.classes read < table_stride c.args.self.now = c.see_classes.ensures.bytes read (c.haystack-haystack.ensures.bytes _ _ byte) in
     subst (λ k. IsFollowed Forward c.args.self.now c.args.cache.now.store c.args.input.now (c.args.at - c.args.input.now.start) k c.next_state_untagged.result) next_k
     (followed_more Forward c.args.self.now c.args.cache.now.store c.args.input.now k k c.args.id c.next_state_untagged.result read low unit known
-    (subst (λ (m : Machine). class_in c.args.self.now.classes read < m.stride) (sym c.requires.of) below)
+    (subst (λ (m : Machine). class_in c.args.self.now.classes read < table_stride m) (sym c.requires.of) below)
     c.next_state_untagged.ensures.quit c.next_state_untagged.ensures.named
     (followed_none Forward c.args.self.now c.args.cache.now.store c.args.input.now k c.args.id n))

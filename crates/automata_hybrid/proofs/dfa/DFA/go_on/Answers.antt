@@ -53,10 +53,10 @@ pub returns-clause-tells : goal.returns-clause-tells
 returns-clause-tells c =
     subst (λ (w : Walk). OnOk c.walk_on.result (TellsNext (way_of c.args.way) c.args.self.now c.args.input.now w c.walk_on.new.walk)) c.forget_match.ensures c.walk_on.ensures.tells
 
-pub returns-clause-errors : goal.returns-clause-errors
-returns-clause-errors c = λ kept k t.
+pub returns-clause-refusal : goal.returns-clause-refusal
+returns-clause-refusal c = λ kept k t.
     subst (λ (w : Walk). IfErr c.walk_on.result (IsWalkRefusal (way_of c.args.way) c.args.self.now c.walk_on.new.cache.store c.args.input.now w k)) c.forget_match.ensures
-    (c.walk_on.ensures.errors k (subst (λ (w : Walk). HasTold (way_of c.args.way) c.args.self.now c.args.input.now w k) (sym c.forget_match.ensures) t))
+    (c.walk_on.ensures.refusal k (subst (λ (w : Walk). HasTold (way_of c.args.way) c.args.self.now c.args.input.now w k) (sym c.forget_match.ensures) t))
 
 pub returns-then-is_stuck-clause-unsupported : goal.returns-then-is_stuck-clause-unsupported
 returns-then-is_stuck-clause-unsupported c = λ fresh undone behind mode.

@@ -3,7 +3,7 @@ use Rattle.automata_base.specs.Classes.{class_in}
 use Rattle.automata_base.specs.Paths.{next}
 use Rattle.automata_base.specs.Tapes.{Backward}
 use Rattle.automata_hybrid.specs.Stores.{IsKnownTransition}
-use Rattle.automata_hybrid.specs.Machine.{Machine}
+use Rattle.automata_hybrid.specs.Machine.{Machine, table_stride}
 use Rattle.automata_hybrid.specs.Passing.{IsLed}
 use Rattle.automata_hybrid.specs.Searches.{tape_in}
 use Rattle.automata_hybrid.proofs.Leading.{led_more, led_none}
@@ -23,9 +23,9 @@ returns-clause-led c = λ low n.
     let unit : next (tape_in Backward c.args.input.now) k ≡ Some read = backward_read c.args.input.now c.haystack-haystack.result.now c.args.at (c.args.at - 1) (omega (arith, c.requires.from)) c.requires.within c.haystack-haystack.ensures.within.1 c.haystack-haystack.ensures.same some in
     let byte : read < 256 = backward_byte c.args.input.now c.haystack-haystack.result.now c.args.at (c.args.at - 1) c.requires.within c.haystack-haystack.ensures.within.1 c.haystack-haystack.ensures.same some c.haystack-haystack.ensures.bytes in
     let known : IsKnownTransition c.args.cache.now.store c.args.id (class_in c.args.self.now.classes read) = subst (λ n. n < 2 ^ 31) c.next_state_known.ensures.value (omega (arith, low)) in
-    let below : class_in c.args.self.now.classes read < c.args.self.now.stride = c.see_classes.ensures.bytes read byte in
+    let below : class_in c.args.self.now.classes read < table_stride c.args.self.now = c.see_classes.ensures.bytes read byte in
     subst (λ k. IsLed Backward c.args.self.now c.args.cache.now.store c.args.input.now (c.args.input.now.end - c.args.at) k c.next_state_known.result) next_k
     (led_more Backward c.args.self.now c.args.cache.now.store c.args.input.now k k c.args.id c.next_state_known.result read low unit known
-    (subst (λ (m : Machine). class_in c.args.self.now.classes read < m.stride) (sym c.requires.of) below)
+    (subst (λ (m : Machine). class_in c.args.self.now.classes read < table_stride m) (sym c.requires.of) below)
     c.next_state_known.ensures.quit c.next_state_known.ensures.named
     (led_none Backward c.args.self.now c.args.cache.now.store c.args.input.now k c.args.id n))

@@ -5,15 +5,11 @@ use Rattle.automata_hybrid.proofs.dfa.DFA.of_settled.Goals as goal
 
 pub invariant_of-result : goal.invariant_of-result
 invariant_of-result c =
-    IsBuilt-IsMachine c.args.config c.args.settled _ (record {
+    IsBuilt-IsMachine c.args.settled _ (record {
       settled = c.requires;
       classes = cc;
       quits = cc;
-      stride = grind (arith, common_steps);
       end_below = grind (arith, common_steps);
       small = grind (arith, common_steps);
-      slots = grind (arith, common_steps);
-      fixed = grind (arith, common_steps);
       capacity = cc;
-      per_pattern = cc;
     })

@@ -7,7 +7,7 @@ use Rattle.automata_hybrid.specs.Stores.{IsKnownStart, with_searched}
 use Rattle.automata_hybrid.specs.Caches.{CacheView, with_store}
 use Rattle.automata_hybrid.specs.Growing.{IsGrown}
 use Rattle.automata_hybrid.specs.Knowing.{IsOfInput, KnowsPass}
-use Rattle.automata_hybrid.specs.Machine.{Machine}
+use Rattle.automata_hybrid.specs.Machine.{Machine, slot_count}
 use Rattle.automata_hybrid.specs.Progressing.{finished, started}
 use Rattle.automata_hybrid.specs.Searched.{IsLeft, KeepsNone}
 use Rattle.automata_hybrid.specs.Slots.{slot_behind}
@@ -64,12 +64,12 @@ find_rev-requires-clause-may c = c.in_ok-start.ensures.answer.may
 
 pub returns-in_err-start-clause-idle : goal.returns-in_err-start-clause-idle
 returns-in_err-start-clause-idle c = λ knows.
-    let begins = start_idle c.args.self.now c.args.cache.now c.start_state_reverse.new.cache c.args.input.now.anchored (nth c.args.input.now.haystack c.args.input.now.end) c.start_state_reverse.result c.args.input.now.end c.args.input.now.end (c.see_slots.ensures ∙ ap (λ (n : Machine). n.slots) c.requires.of) c.start_state_reverse.ensures.refusal c.start_state_reverse.ensures.effect (λ may. (knows may).0) in
+    let begins = start_idle c.args.self.now c.args.cache.now c.start_state_reverse.new.cache c.args.input.now.anchored (nth c.args.input.now.haystack c.args.input.now.end) c.start_state_reverse.result c.args.input.now.end c.args.input.now.end (c.see_slots.ensures ∙ ap (λ (n : Machine). slot_count n) c.requires.of) c.start_state_reverse.ensures.refusal c.start_state_reverse.ensures.effect (λ may. (knows may).0) in
     (ap (λ (v : CacheView). v.count) begins.0, if_err c.from_residual.result _ _ c.from_residual.ensures.1 (subst (λ r. IfErr r IsOfInput) c.in_err-start.was begins.1))
 
 pub returns-then-is_dead-clause-idle : goal.returns-then-is_dead-clause-idle
 returns-then-is_dead-clause-idle c = λ knows.
-    let begins = start_idle c.args.self.now c.args.cache.now c.start_state_reverse.new.cache c.args.input.now.anchored (nth c.args.input.now.haystack c.args.input.now.end) c.start_state_reverse.result c.args.input.now.end c.args.input.now.end (c.see_slots.ensures ∙ ap (λ (n : Machine). n.slots) c.requires.of) c.start_state_reverse.ensures.refusal c.start_state_reverse.ensures.effect (λ may. (knows may).0) in
+    let begins = start_idle c.args.self.now c.args.cache.now c.start_state_reverse.new.cache c.args.input.now.anchored (nth c.args.input.now.haystack c.args.input.now.end) c.start_state_reverse.result c.args.input.now.end c.args.input.now.end (c.see_slots.ensures ∙ ap (λ (n : Machine). slot_count n) c.requires.of) c.start_state_reverse.ensures.refusal c.start_state_reverse.ensures.effect (λ may. (knows may).0) in
     (ap (λ (v : CacheView). v.count) begins.0, tt)
 
 pub returns-then-is_dead-clause-learned : goal.returns-then-is_dead-clause-learned
@@ -83,7 +83,7 @@ returns-then-start-end-clause-grown c = grown_trans c.args.cache.now c.start_sta
 
 pub returns-then-start-end-clause-idle : goal.returns-then-start-end-clause-idle
 returns-then-start-end-clause-idle c = λ knows.
-    let begins = start_idle c.args.self.now c.args.cache.now c.start_state_reverse.new.cache c.args.input.now.anchored (nth c.args.input.now.haystack c.args.input.now.end) c.start_state_reverse.result c.args.input.now.end c.args.input.now.end (c.see_slots.ensures ∙ ap (λ (n : Machine). n.slots) c.requires.of) c.start_state_reverse.ensures.refusal c.start_state_reverse.ensures.effect (λ may. (knows may).0) in
+    let begins = start_idle c.args.self.now c.args.cache.now c.start_state_reverse.new.cache c.args.input.now.anchored (nth c.args.input.now.haystack c.args.input.now.end) c.start_state_reverse.result c.args.input.now.end c.args.input.now.end (c.see_slots.ensures ∙ ap (λ (n : Machine). slot_count n) c.requires.of) c.start_state_reverse.ensures.refusal c.start_state_reverse.ensures.effect (λ may. (knows may).0) in
     let count : c.start_state_reverse.new.cache.count ≡ c.args.cache.now.count = ap (λ (v : CacheView). v.count) begins.0 in
     let idle = c.find_end_rev.ensures.idle (knows_still Backward c.args.self.now c.args.input.now c.args.cache.now c.start_state_reverse.new.cache c.in_ok-start.ensures.effect.grown count knows) in
     (idle.0 ∙ count, idle.1)
@@ -102,7 +102,7 @@ returns-then-is_dead-2-clause-grown c =
 
 pub returns-then-is_dead-2-clause-idle : goal.returns-then-is_dead-2-clause-idle
 returns-then-is_dead-2-clause-idle c = λ knows.
-    let begins = start_idle c.args.self.now c.args.cache.now c.start_state_reverse.new.cache c.args.input.now.anchored (nth c.args.input.now.haystack c.args.input.now.end) c.start_state_reverse.result c.args.input.now.end c.args.input.now.end (c.see_slots.ensures ∙ ap (λ (n : Machine). n.slots) c.requires.of) c.start_state_reverse.ensures.refusal c.start_state_reverse.ensures.effect (λ may. (knows may).0) in
+    let begins = start_idle c.args.self.now c.args.cache.now c.start_state_reverse.new.cache c.args.input.now.anchored (nth c.args.input.now.haystack c.args.input.now.end) c.start_state_reverse.result c.args.input.now.end c.args.input.now.end (c.see_slots.ensures ∙ ap (λ (n : Machine). slot_count n) c.requires.of) c.start_state_reverse.ensures.refusal c.start_state_reverse.ensures.effect (λ may. (knows may).0) in
     (c.end_search.ensures.count ∙ (c.search_start.ensures.count ∙ ap (λ (v : CacheView). v.count) begins.0), tt)
 
 pub returns-then-is_dead-2-clause-learned : goal.returns-then-is_dead-2-clause-learned
@@ -119,7 +119,7 @@ returns-in_err-found-clause-grown c =
 
 pub returns-in_err-found-clause-idle : goal.returns-in_err-found-clause-idle
 returns-in_err-found-clause-idle c = λ knows.
-    let begins = start_idle c.args.self.now c.args.cache.now c.start_state_reverse.new.cache c.args.input.now.anchored (nth c.args.input.now.haystack c.args.input.now.end) c.start_state_reverse.result c.args.input.now.end c.args.input.now.end (c.see_slots.ensures ∙ ap (λ (n : Machine). n.slots) c.requires.of) c.start_state_reverse.ensures.refusal c.start_state_reverse.ensures.effect (λ may. (knows may).0) in
+    let begins = start_idle c.args.self.now c.args.cache.now c.start_state_reverse.new.cache c.args.input.now.anchored (nth c.args.input.now.haystack c.args.input.now.end) c.start_state_reverse.result c.args.input.now.end c.args.input.now.end (c.see_slots.ensures ∙ ap (λ (n : Machine). slot_count n) c.requires.of) c.start_state_reverse.ensures.refusal c.start_state_reverse.ensures.effect (λ may. (knows may).0) in
     let count : c.search_start.new.self.count ≡ c.args.cache.now.count = c.search_start.ensures.count ∙ ap (λ (v : CacheView). v.count) begins.0 in
     let moved : IsGrown c.args.cache.now c.search_start.new.self = grown_trans c.args.cache.now c.start_state_reverse.new.cache c.search_start.new.self c.in_ok-start.ensures.effect.grown (grown_moved c.start_state_reverse.new.cache c.search_start.new.self c.search_start.ensures.value) in
     let still : KnowsPass Backward c.args.self.now c.search_start.new.self.store c.args.input.now = knows_still Backward c.args.self.now c.args.input.now c.args.cache.now c.search_start.new.self moved count knows in
@@ -133,7 +133,7 @@ returns-clause-grown c =
 
 pub returns-clause-idle : goal.returns-clause-idle
 returns-clause-idle c = λ knows.
-    let begins = start_idle c.args.self.now c.args.cache.now c.start_state_reverse.new.cache c.args.input.now.anchored (nth c.args.input.now.haystack c.args.input.now.end) c.start_state_reverse.result c.args.input.now.end c.args.input.now.end (c.see_slots.ensures ∙ ap (λ (n : Machine). n.slots) c.requires.of) c.start_state_reverse.ensures.refusal c.start_state_reverse.ensures.effect (λ may. (knows may).0) in
+    let begins = start_idle c.args.self.now c.args.cache.now c.start_state_reverse.new.cache c.args.input.now.anchored (nth c.args.input.now.haystack c.args.input.now.end) c.start_state_reverse.result c.args.input.now.end c.args.input.now.end (c.see_slots.ensures ∙ ap (λ (n : Machine). slot_count n) c.requires.of) c.start_state_reverse.ensures.refusal c.start_state_reverse.ensures.effect (λ may. (knows may).0) in
     let count : c.search_start.new.self.count ≡ c.args.cache.now.count = c.search_start.ensures.count ∙ ap (λ (v : CacheView). v.count) begins.0 in
     let moved : IsGrown c.args.cache.now c.search_start.new.self = grown_trans c.args.cache.now c.start_state_reverse.new.cache c.search_start.new.self c.in_ok-start.ensures.effect.grown (grown_moved c.start_state_reverse.new.cache c.search_start.new.self c.search_start.ensures.value) in
     let still : KnowsPass Backward c.args.self.now c.search_start.new.self.store c.args.input.now = knows_still Backward c.args.self.now c.args.input.now c.args.cache.now c.search_start.new.self moved count knows in

@@ -19,8 +19,8 @@ returns-clause-named c = λ q n.
 pub returns-clause-dead : goal.returns-clause-dead
 returns-clause-dead c = dead_tagged c.step.new.cache.store.table c.in_ok-next.next (λ q. c.see_ids-2.ensures.low c.in_ok-next.next q) c.see_ids-2.ensures.small
 
-pub returns-then-is_quit-clause-errors : goal.returns-then-is_quit-clause-errors
-returns-then-is_quit-clause-errors c = λ q n.
+pub returns-then-is_quit-clause-refusal : goal.returns-then-is_quit-clause-refusal
+returns-then-is_quit-clause-refusal c = λ q n.
     subst (IsStepRefusal c.args.self.now c.end_search.new.self.store q _ c.args.at c.args.at) (sym c.quit.ensures) (
       refl,
       quits c.args.self.now c.move_search.new.self.store.table c.step.new.cache.store.table c.args.id c.in_ok-next.next c.args.byte q
@@ -43,10 +43,10 @@ pub returns-clause-grown : goal.returns-clause-grown
 returns-clause-grown c =
     grown_trans c.args.cache.now c.move_search.new.self c.step.new.cache (grown_moved c.args.cache.now c.move_search.new.self c.move_search.ensures.value) c.in_ok-next.ensures.grown
 
-pub returns-in_err-next-clause-errors : goal.returns-in_err-next-clause-errors
-returns-in_err-next-clause-errors c =
+pub returns-in_err-next-clause-refusal : goal.returns-in_err-next-clause-refusal
+returns-in_err-next-clause-refusal c =
     if_err c.from_residual.result _ _ c.from_residual.ensures.1
-    (λ q n. c.in_err-next.ensures.errors q c.args.at (subst (λ (t : Rows). Names t c.args.id q) (sym c.move_search.ensures.table) n))
+    (λ q n. c.in_err-next.ensures.refusal q c.args.at (subst (λ (t : Rows). Names t c.args.id q) (sym c.move_search.ensures.table) n))
 
 pub returns-then-is_quit-clause-left : goal.returns-then-is_quit-clause-left
 returns-then-is_quit-clause-left c =

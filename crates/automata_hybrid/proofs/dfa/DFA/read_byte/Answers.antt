@@ -6,12 +6,12 @@ use Rattle.automata_hybrid.proofs.Searching.{false_true, if_err}
 use Rattle.automata_hybrid.proofs.Stepping.{unquit, quits}
 use Rattle.automata_hybrid.proofs.dfa.DFA.read_byte.Goals as goal
 
-pub returns-in_err-next-clause-errors : goal.returns-in_err-next-clause-errors
-returns-in_err-next-clause-errors c =
-    if_err c.from_residual.result _ _ c.from_residual.ensures.1 (λ q n. c.in_err-next.ensures.errors q c.args.quit_at n)
+pub returns-in_err-next-clause-refusal : goal.returns-in_err-next-clause-refusal
+returns-in_err-next-clause-refusal c =
+    if_err c.from_residual.result _ _ c.from_residual.ensures.1 (λ q n. c.in_err-next.ensures.refusal q c.args.quit_at n)
 
-pub returns-then-is_quit-clause-errors : goal.returns-then-is_quit-clause-errors
-returns-then-is_quit-clause-errors c = λ q n.
+pub returns-then-is_quit-clause-refusal : goal.returns-then-is_quit-clause-refusal
+returns-then-is_quit-clause-refusal c = λ q n.
     subst (IsStepRefusal c.args.self.now c.end_search.new.self.store q _ _ c.args.at) (sym c.quit.ensures) (
       refl,
       quits c.args.self.now c.args.cache.now.store.table c.step.new.cache.store.table c.args.id c.in_ok-next.next c.args.byte q

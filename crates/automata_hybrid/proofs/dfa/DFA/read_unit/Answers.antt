@@ -11,11 +11,12 @@ use Rattle.automata_hybrid.proofs.Growing.{grown_moved, grown_trans}
 use Rattle.automata_hybrid.proofs.Searched.{moved_by, on_ok}
 use Rattle.automata_hybrid.proofs.Searching.{state_more}
 use Rattle.automata_hybrid.proofs.dfa.DFA.read_unit.Goals as goal
+use Rattle.automata_config.specs.Options.{match_kind_of}
 
 pub returns-in-Some-clause-leads : goal.returns-in-Some-clause-leads
 returns-in-Some-clause-leads c =
     let unit : next (tape_in (way_of c.args.way) c.args.input.now) c.args.place ≡ Some c.in-Some.byte = sym c.unit_at.ensures ∙ c.in-Some.is in
-    let more = state_more (way_of c.args.way) c.args.self.now c.args.input.now c.args.place ∙ ap (successor c.args.self.now.nfa c.args.self.now.kind (state_in (way_of c.args.way) c.args.self.now c.args.input.now c.args.place)) unit in
+    let more = state_more (way_of c.args.way) c.args.self.now c.args.input.now c.args.place ∙ ap (successor c.args.self.now.nfa (match_kind_of c.args.self.now.config) (state_in (way_of c.args.way) c.args.self.now c.args.input.now c.args.place)) unit in
     IfOk-weaker c.read_byte.result _ _
     (λ n h. subst (λ q. Leads c.read_byte.new.cache.store.table n q) (sym more) (h (state_in (way_of c.args.way) c.args.self.now c.args.input.now c.args.place) (subst (λ (t : Rows). Names t c.args.id (state_in (way_of c.args.way) c.args.self.now c.args.input.now c.args.place)) (sym c.move_search.ensures.table) c.requires.named)))
     c.read_byte.ensures.named
@@ -23,7 +24,7 @@ returns-in-Some-clause-leads c =
 pub returns-in-None-clause-leads : goal.returns-in-None-clause-leads
 returns-in-None-clause-leads c =
     let unit : next (tape_in (way_of c.args.way) c.args.input.now) c.args.place ≡ None = sym c.unit_at.ensures ∙ c.in-None.is in
-    let more = state_more (way_of c.args.way) c.args.self.now c.args.input.now c.args.place ∙ ap (successor c.args.self.now.nfa c.args.self.now.kind (state_in (way_of c.args.way) c.args.self.now c.args.input.now c.args.place)) unit in
+    let more = state_more (way_of c.args.way) c.args.self.now c.args.input.now c.args.place ∙ ap (successor c.args.self.now.nfa (match_kind_of c.args.self.now.config) (state_in (way_of c.args.way) c.args.self.now c.args.input.now c.args.place)) unit in
     IfOk-weaker c.read_end.result _ _
     (λ n h. subst (λ q. Leads c.read_end.new.cache.store.table n q) (sym more) (h (state_in (way_of c.args.way) c.args.self.now c.args.input.now c.args.place) (subst (λ (t : Rows). Names t c.args.id (state_in (way_of c.args.way) c.args.self.now c.args.input.now c.args.place)) (sym c.move_search.ensures.table) c.requires.named)))
     c.read_end.ensures.named

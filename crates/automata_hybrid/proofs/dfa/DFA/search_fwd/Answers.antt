@@ -18,15 +18,15 @@ use Rattle.automata_hybrid.proofs.Searching.{if_err, false_true}
 use Rattle.automata_hybrid.proofs.Skipping.{anchored_stops, none_stops, some_stops, finds_none, finds_some, finds_split, tries_on, refuses}
 use Rattle.automata_hybrid.proofs.dfa.DFA.search_fwd.Goals as goal
 
-pub returns-in_err-half-clause-errors : goal.returns-in_err-half-clause-errors
-returns-in_err-half-clause-errors c =
+pub returns-in_err-half-clause-refusal : goal.returns-in_err-half-clause-refusal
+returns-in_err-half-clause-refusal c =
     let k : ℕ = c.loop-later.later.start - c.args.input.now.start in
     let place : c.loop-later.later.start ≡ c.args.input.now.start + k = omega (arith, c.loop-later.invariant.from) in
     let same : c.loop-later.later ≡ later Forward k c.args.input.now = c.loop-later.invariant.same ∙ ap (λ (s : ℕ). record c.args.input.now { start = s }) place in
     let end : c.loop-later.later.end ≡ c.args.input.now.end = ap (λ (i : Input). i.end) c.loop-later.invariant.same in
     let ahead : c.loop-later.later.start ≤ c.loop-later.later.end = grind (arith, common_steps, c.loop-later-test.ensures.done) in
     let within : c.args.input.now.start + k ≤ c.args.input.now.end = omega (arith, ahead, end, place) in
-    if_err c.from_residual.result _ _ c.from_residual.ensures.1 (refuses Forward c.args.self.now c.args.input.now c.loop-later.later k same c.loop-later.invariant.tries within c.pass_fwd.new.cache.store c.in_err-half.field-0.0 c.in_err-half.ensures.errors)
+    if_err c.from_residual.result _ _ c.from_residual.ensures.1 (refuses Forward c.args.self.now c.args.input.now c.loop-later.later k same c.loop-later.invariant.tries within c.pass_fwd.new.cache.store c.in_err-half.field-0.0 c.in_err-half.ensures.refusal)
 
 pub returns-in_default-clause-found : goal.returns-in_default-clause-found
 returns-in_default-clause-found c =

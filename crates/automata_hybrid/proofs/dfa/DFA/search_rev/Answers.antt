@@ -19,13 +19,13 @@ use Rattle.automata_hybrid.proofs.Searching.{false_true, if_err}
 use Rattle.automata_hybrid.proofs.Skipping.{anchored_stops, none_stops, some_stops, finds_none, finds_some, finds_split, finds_no_more, tries_on, refuses}
 use Rattle.automata_hybrid.proofs.dfa.DFA.search_rev.Goals as goal
 
-pub returns-in_err-half-clause-errors : goal.returns-in_err-half-clause-errors
-returns-in_err-half-clause-errors c =
+pub returns-in_err-half-clause-refusal : goal.returns-in_err-half-clause-refusal
+returns-in_err-half-clause-refusal c =
     let k : ℕ = c.args.input.now.end - c.loop-later.later.end in
     let ahead : c.loop-later.later.start ≤ c.loop-later.later.end = grind (arith, common_steps, c.loop-later-test.ensures.done) in
     let same : c.loop-later.later ≡ later Backward k c.args.input.now = ended c.args.input.now c.loop-later.later c.loop-later.invariant.same c.loop-later.invariant.to ahead in
     let within : c.args.input.now.start + k ≤ c.args.input.now.end = ended_within c.args.input.now c.loop-later.later c.loop-later.invariant.same c.loop-later.invariant.to ahead in
-    if_err c.from_residual.result _ _ c.from_residual.ensures.1 (refuses Backward c.args.self.now c.args.input.now c.loop-later.later k same c.loop-later.invariant.tries within c.pass_rev.new.cache.store c.in_err-half.field-0.0 c.in_err-half.ensures.errors)
+    if_err c.from_residual.result _ _ c.from_residual.ensures.1 (refuses Backward c.args.self.now c.args.input.now c.loop-later.later k same c.loop-later.invariant.tries within c.pass_rev.new.cache.store c.in_err-half.field-0.0 c.in_err-half.ensures.refusal)
 
 pub returns-in_default-clause-found : goal.returns-in_default-clause-found
 returns-in_default-clause-found c =

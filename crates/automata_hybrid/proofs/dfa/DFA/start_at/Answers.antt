@@ -3,7 +3,7 @@ use Rattle.std.specs.Prelude.{slice_index}
 use Rattle.automata_hybrid.specs.Stores.{IsKnownStart}
 use Rattle.automata_hybrid.specs.Effects.{IsStarted}
 use Rattle.automata_hybrid.specs.Caches.{CacheView}
-use Rattle.automata_hybrid.specs.Machine.{Machine}
+use Rattle.automata_hybrid.specs.Machine.{Machine, slot_count}
 use Rattle.automata_hybrid.specs.Starting.{IsStartRefusal, start_row}
 use Rattle.automata_hybrid.proofs.Searching.{ok_err}
 use Rattle.automata_hybrid.proofs.Starting.{knows_slot, leads_row, slot_effect, start_why}
@@ -12,14 +12,14 @@ use Rattle.automata_hybrid.proofs.dfa.DFA.start_at.Goals as goal
 pub returns-in-Ok-clause-effect : goal.returns-in-Ok-clause-effect
 returns-in-Ok-clause-effect c =
     slot_effect c.args.self.now c.args.mode c.args.prev c.args.cache.now c.start.new.self c.args.slot
-    c.requires.may c.requires.at c.requires.slot (c.see_slots.ensures ∙ ap (λ (m : Machine). m.slots) c.requires.of)
+    c.requires.may c.requires.at c.requires.slot (c.see_slots.ensures ∙ ap (λ (m : Machine). slot_count m) c.requires.of)
     c.in-Ok.ensures.grown c.in-Ok.ensures.counted c.in-Ok.ensures.computed c.in-Ok.ensures.unchanged
     c.in-Ok.ensures.progress c.in-Ok.ensures.start_tags c.in-Ok.ensures.added c.in-Ok.ensures.only
 
 pub returns-in-Err-clause-effect : goal.returns-in-Err-clause-effect
 returns-in-Err-clause-effect c =
     slot_effect c.args.self.now c.args.mode c.args.prev c.args.cache.now c.start.new.self c.args.slot
-    c.requires.may c.requires.at c.requires.slot (c.see_slots.ensures ∙ ap (λ (m : Machine). m.slots) c.requires.of)
+    c.requires.may c.requires.at c.requires.slot (c.see_slots.ensures ∙ ap (λ (m : Machine). slot_count m) c.requires.of)
     c.in-Err.ensures.grown c.in-Err.ensures.counted c.in-Err.ensures.computed c.in-Err.ensures.unchanged
     c.in-Err.ensures.progress c.in-Err.ensures.start_tags c.in-Err.ensures.added c.in-Err.ensures.only
 
@@ -29,8 +29,8 @@ returns-in-Ok-clause-answer c =
     let id : ℕ = c.in-Ok.id in
     let old : CacheView = c.args.cache.now in
     let new : CacheView = c.start.new.self in
-    let before : length old.store.starts ≡ m.slots = c.see_slots.ensures ∙ ap (λ (d : Machine). d.slots) c.requires.of in
-    let after : length new.store.starts ≡ m.slots = c.see_slots-in-Ok.ensures ∙ ap (λ (d : Machine). d.slots) c.in-Ok.ensures.of in
+    let before : length old.store.starts ≡ slot_count m = c.see_slots.ensures ∙ ap (λ (d : Machine). slot_count d) c.requires.of in
+    let after : length new.store.starts ≡ slot_count m = c.see_slots-in-Ok.ensures ∙ ap (λ (d : Machine). slot_count d) c.in-Ok.ensures.of in
     record {
       may = c.requires.may;
       row = leads_row new.store.table id _ c.in-Ok.ensures.named;
@@ -54,6 +54,6 @@ returns-in-Err-clause-refusal c = record {
       subst (IsStartRefusal c.args.self.now c.args.cache.now.store c.args.mode c.args.prev) (sym c.start_refusal.ensures)
       (start_why c.args.self.now c.args.cache.now.store c.args.mode c.args.prev c.in-Err.error c.requires.may c.in-Err.ensures.gives_up);
   unknown = λ knows. ok_err (sym (c.start.ensures.known (subst (IsKnownStart c.args.cache.now.store) (sym c.requires.at) knows.1.1)) ∙ c.in-Err.is);
-  slot = λ _. subst (λ s. s < c.args.self.now.slots) c.requires.at c.requires.slot;
+  slot = λ _. subst (λ s. s < slot_count c.args.self.now) c.requires.at c.requires.slot;
   unchanged = inr c.in-Err.ensures.err;
 }

@@ -9,8 +9,8 @@ pub returns-in-Ok-clause-quit : goal.returns-in-Ok-clause-quit
 returns-in-Ok-clause-quit c = λ e.
     c.in-Ok.ensures.answer.quit (c.see_ids.ensures.low c.args.id c.requires.valid.0 c.requires.valid.1) e
 
-pub returns-in-Err-clause-errors : goal.returns-in-Err-clause-errors
-returns-in-Err-clause-errors c = λ q quit_at n.
+pub returns-in-Err-clause-refusal : goal.returns-in-Err-clause-refusal
+returns-in-Err-clause-refusal c = λ q quit_at n.
     subst (IsStepRefusal c.args.self.now c.next_state.new.cache.store q _ quit_at c.args.at) (sym c.refusal.ensures)
     (refused c.args.self.now c.args.cache.now.store c.next_state.new.cache.store q _ quit_at c.args.at c.in-Err.error
     (no_quit_unit c.args.self.now (Some c.args.byte) c.in-Err.ensures.refusal.clean)

@@ -9,6 +9,7 @@ use Rattle.automata_hybrid.proofs.Owing.{is_store, may_refuse}
 use Rattle.automata_hybrid.proofs.Skipping.{found_told}
 use Rattle.automata_hybrid.proofs.Within.{lies_past}
 use Rattle.automata_hybrid.proofs.dfa.DFA.try_search_fwd_base.Goals as goal
+use Rattle.automata_config.specs.Options.{match_kind_of}
 
 pub returns-clause-based : goal.returns-clause-based
 returns-clause-based c =
@@ -25,22 +26,22 @@ returns-clause-based c =
       found = s.found;
       answer = λ acyclic.
           IfOk-weaker r _ _
-          (λ o found. told Forward m.kind input _ acyclic (haystack.bytes, haystack.within.1) (found_told Forward m input _ found))
+          (λ o found. told Forward (match_kind_of m.config) input _ acyclic (haystack.bytes, haystack.within.1) (found_told Forward m input _ found))
           s.found;
       nearest = λ early.
           IfOk-weaker r _ _
-          (λ o found. (ends Forward m.kind input _ (haystack.bytes, haystack.within.1) (found_told Forward m input _ found)).0 early)
+          (λ o found. (ends Forward (match_kind_of m.config) input _ (haystack.bytes, haystack.within.1) (found_told Forward m input _ found)).0 early)
           s.found;
       farthest = λ late all.
           IfOk-weaker r _ _
-          (λ o found. (ends Forward m.kind input _ (haystack.bytes, haystack.within.1) (found_told Forward m input _ found)).1 late all)
+          (λ o found. (ends Forward (match_kind_of m.config) input _ (haystack.bytes, haystack.within.1) (found_told Forward m input _ found)).1 late all)
           s.found;
       within = lies_past m input lies haystack.within.1 r s.found;
-      errors = may_refuse r Forward m cache input (is_store cache m s.of c.see_bounds.ensures) s.errors;
+      errors = may_refuse r Forward m cache input (is_store cache m s.of c.see_bounds.ensures) s.refusal;
       unsupported = λ u. s.unsupported u.undone u.behind u.mode;
       free = λ f.
           IfErr-weaker r _ _ (λ e x. refused_memory Forward m cache input e haystack.within.1 s.of f.reach f.supported f.clears x)
-          s.errors;
+          s.refusal;
       done = λ past. (s.done past).0;
     }
 

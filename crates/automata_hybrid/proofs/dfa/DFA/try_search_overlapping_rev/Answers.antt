@@ -9,6 +9,7 @@ use Rattle.automata_hybrid.proofs.WalkAnswers.{call_memory}
 use Rattle.automata_hybrid.proofs.WalkCalls.{paths_next, still_walk, walk_clears_none}
 use Rattle.automata_hybrid.proofs.WalkWithin.{told_lies}
 use Rattle.automata_hybrid.proofs.dfa.DFA.try_search_overlapping_rev.Goals as goal
+use Rattle.automata_config.specs.Options.{match_kind_of}
 
 pub returns-clause-walk : goal.returns-clause-walk
 returns-clause-walk c =
@@ -30,18 +31,18 @@ returns-clause-call c =
       tells = s.tells;
       paths = λ free k pairs told overlapping.
           paths_next Backward m input old SearchError r new s.tells k pairs told
-          (law Backward m.kind input pairs free (haystack.bytes, haystack.within.1) overlapping);
+          (law Backward (match_kind_of m.config) input pairs free (haystack.bytes, haystack.within.1) overlapping);
       within =
           told_lies Backward m input (subst WalksAreTold c.get_nfa.ensures c.walk_is_right.ensures.told)
           (subst WalkLiesWithin c.get_nfa.ensures c.walk_is_right.ensures.within) haystack.within.1
           old new r c.requires.walk s.tells s.refused;
       refused = s.refused;
       errors = λ kept k told.
-          may_refuse_call r Backward m cache input old k (is_store cache m s.of c.see_bounds.ensures) (s.errors kept k told);
+          may_refuse_call r Backward m cache input old k (is_store cache m s.of c.see_bounds.ensures) (s.refusal kept k told);
       lost = s.lost;
       unsupported = λ fresh u. s.unsupported fresh u.undone u.behind u.mode;
       free = λ f.
-          call_memory Backward m cache input haystack.within.1 s.of f.reach f.supported f.clears old r c.requires.walk s.lost s.errors;
+          call_memory Backward m cache input haystack.within.1 s.of f.reach f.supported f.clears old r c.requires.walk s.lost s.refusal;
       ready =
           call_ready input old (λ end. (s.ended end).0) (λ q at few kept. (s.same q at few kept).0)
           (λ kept past. (s.done kept past).0);

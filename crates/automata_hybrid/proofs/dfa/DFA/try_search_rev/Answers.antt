@@ -9,6 +9,7 @@ use Rattle.automata_hybrid.proofs.Owing.{is_store, may_refuse}
 use Rattle.automata_hybrid.proofs.Skipping.{found_told}
 use Rattle.automata_hybrid.proofs.Within.{lies_in}
 use Rattle.automata_hybrid.proofs.dfa.DFA.try_search_rev.Goals as goal
+use Rattle.automata_config.specs.Options.{match_kind_of}
 
 pub returns-clause-half : goal.returns-clause-half
 returns-clause-half c =
@@ -26,28 +27,28 @@ returns-clause-half c =
       answer = λ acyclic.
           IfOk-weaker r _ _ (λ o found. (
             found.0,
-            told Backward m.kind input _ acyclic (haystack.bytes, haystack.within.1) (found_told Backward m input _ found.1),
+            told Backward (match_kind_of m.config) input _ acyclic (haystack.bytes, haystack.within.1) (found_told Backward m input _ found.1),
             found.2,
           )) s.found;
       nearest = λ early.
           IfOk-weaker r _ _ (λ o found. (
             found.0,
-            (ends Backward m.kind input _ (haystack.bytes, haystack.within.1) (found_told Backward m input _ found.1)).0 early,
+            (ends Backward (match_kind_of m.config) input _ (haystack.bytes, haystack.within.1) (found_told Backward m input _ found.1)).0 early,
             found.2,
           )) s.found;
       farthest = λ late all.
           IfOk-weaker r _ _ (λ o found. (
             found.0,
-            (ends Backward m.kind input _ (haystack.bytes, haystack.within.1) (found_told Backward m input _ found.1)).1 late all,
+            (ends Backward (match_kind_of m.config) input _ (haystack.bytes, haystack.within.1) (found_told Backward m input _ found.1)).1 late all,
             found.2,
           ))
           s.found;
       within = lies_in m input lies haystack.within.1 Backward r s.found;
-      errors = may_refuse r Backward m cache input (is_store cache m s.of c.see_bounds.ensures) s.errors;
+      errors = may_refuse r Backward m cache input (is_store cache m s.of c.see_bounds.ensures) s.refusal;
       unsupported = λ u. s.unsupported u.undone u.behind u.mode;
       free = λ f.
           IfErr-weaker r _ _ (λ e x. refused_memory Backward m cache input e haystack.within.1 s.of f.reach f.supported f.clears x)
-          s.errors;
+          s.refusal;
       done = λ past. (s.done past).0;
     }
 

@@ -19,12 +19,12 @@ returns-clause-which c =
       capacity = s.capacity;
       errors =
           may_refuse_which r m cache input c.args.patset.now c.collect-told.new.patset (is_store cache m s.of c.see_bounds.ensures)
-          s.errors;
+          s.refusal;
       unsupported = λ u. s.unsupported u.undone u.behind u.mode;
       free = λ f.
           IfErr-weaker r _ _ (λ e x.
           walk_memory Forward m cache input c.haystack-haystack.ensures.within.1 s.of f.reach f.supported f.clears x.0 x.1 e x.3)
-          s.errors;
+          s.refusal;
     }
 
 pub returns-clause-effect : goal.returns-clause-effect

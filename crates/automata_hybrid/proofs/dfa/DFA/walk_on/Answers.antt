@@ -21,10 +21,10 @@ use Rattle.automata_hybrid.proofs.WalkUnits.{units_in}
 use Rattle.automata_hybrid.proofs.dfa.DFA.walk_on.Goals.{in-None, in-Some}
 use Rattle.automata_hybrid.proofs.dfa.DFA.walk_on.Goals as goal
 
-pub returns-in_err-from-clause-errors : goal.returns-in_err-from-clause-errors
-returns-in_err-from-clause-errors c = λ k t.
+pub returns-in_err-from-clause-refusal : goal.returns-in_err-from-clause-refusal
+returns-in_err-from-clause-refusal c = λ k t.
     if_err c.from_residual.result _ _ c.from_residual.ensures.1
-    (c.requires.«open», inl (told_here (way_of c.args.way) c.args.self.now c.args.input.now c.args.walk.now k c.see_skips.ensures t c.requires.goes_on c.requires.all_told, c.in_err-from.ensures.errors))
+    (c.requires.«open», inl (told_here (way_of c.args.way) c.args.self.now c.args.input.now c.args.walk.now k c.see_skips.ensures t c.requires.goes_on c.requires.all_told, c.in_err-from.ensures.refusal))
 
 pub returns-then-is_dead-clause-tells : goal.returns-then-is_dead-clause-tells
 returns-then-is_dead-clause-tells c =
@@ -54,11 +54,11 @@ returns-then-is_dead-clause-there c = λ there.
     (grown_moved c.resume.new.cache c.search_start.new.self c.search_start.ensures.value)
     (grown_moved c.search_start.new.self c.end_search.new.self c.end_search.ensures.value))
 
-pub returns-in_err-arrival-clause-errors : goal.returns-in_err-arrival-clause-errors
-returns-in_err-arrival-clause-errors c = λ k t.
+pub returns-in_err-arrival-clause-refusal : goal.returns-in_err-arrival-clause-refusal
+returns-in_err-arrival-clause-refusal c = λ k t.
     let d : Direction = way_of c.args.way in
     let here : HasToldBy d c.args.self.now c.args.input.now c.args.walk.now.units k = told_here d c.args.self.now c.args.input.now c.args.walk.now k c.see_skips.ensures t c.requires.goes_on c.requires.all_told in
-    let r : IsAdvanceRefusal d c.args.self.now c.advance.new.cache.store c.args.input.now c.args.walk.now.units c.in_err-arrival.field-0.0 = subst (λ n. IsAdvanceRefusal d c.args.self.now c.advance.new.cache.store c.args.input.now n c.in_err-arrival.field-0.0) c.units-2.ensures c.in_err-arrival.ensures.errors in
+    let r : IsAdvanceRefusal d c.args.self.now c.advance.new.cache.store c.args.input.now c.args.walk.now.units c.in_err-arrival.field-0.0 = subst (λ n. IsAdvanceRefusal d c.args.self.now c.advance.new.cache.store c.args.input.now n c.in_err-arrival.field-0.0) c.units-2.ensures c.in_err-arrival.ensures.refusal in
     if_err c.from_residual-in_err-arrival.result _ _ c.from_residual-in_err-arrival.ensures.1
     (c.requires.«open», inr (c.in_ok-from.ensures.may, (r.0, r.1, r.2, r.3, r.4 k here, r.5)))
 
@@ -227,7 +227,7 @@ returns-clause-stops c =
 
 pub returns-in_err-from-clause-leaves : goal.returns-in_err-from-clause-leaves
 returns-in_err-from-clause-leaves c =
-    if_err c.from_residual.result _ _ c.from_residual.ensures.1 (inl (c.in_err-from.ensures.errors, c.in_err-from.ensures.kept))
+    if_err c.from_residual.result _ _ c.from_residual.ensures.1 (inl (c.in_err-from.ensures.refusal, c.in_err-from.ensures.kept))
 
 pub returns-then-is_dead-clause-ends : goal.returns-then-is_dead-clause-ends
 returns-then-is_dead-clause-ends c =

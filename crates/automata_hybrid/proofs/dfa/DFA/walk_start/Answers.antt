@@ -7,7 +7,7 @@ use Rattle.automata_base.specs.Tapes.{Forward, Backward, byte_before}
 use Rattle.automata_base.specs.declared.util.search.MatchErrorKind.TheVariants.{UnsupportedAnchored as UnsupportedMode}
 use Rattle.automata_config.specs.declared.error.SearchError.TheVariants as search
 use Rattle.automata_hybrid.specs.Knowing.{IsOfInput, KnowsItsStart}
-use Rattle.automata_hybrid.specs.Machine.{Machine}
+use Rattle.automata_hybrid.specs.Machine.{Machine, slot_count}
 use Rattle.automata_hybrid.specs.Searches.{behind_offset, state_in, tape_in}
 use Rattle.automata_hybrid.specs.Slots.{supports}
 use Rattle.automata_hybrid.specs.Starting.{IsStartRefusalAt, MayStart, quit_behind}
@@ -30,8 +30,8 @@ returns-in-Forward-clause-may c =
     subst (λ (w : Way). OnOk c.start_state_forward.result (MayStart c.args.self.now c.args.input.now.anchored (tape_in (way_of w) c.args.input.now).before)) (sym c.in-Forward.is)
     (may_start c.args.self.now c.args.input.now.anchored (byte_before c.args.input.now.haystack c.args.input.now.start) c.args.cache.now c.start_state_forward.new.cache c.start_state_forward.result c.start_state_forward.ensures.answer)
 
-pub returns-in-Forward-clause-errors : goal.returns-in-Forward-clause-errors
-returns-in-Forward-clause-errors c =
+pub returns-in-Forward-clause-refusal : goal.returns-in-Forward-clause-refusal
+returns-in-Forward-clause-refusal c =
     subst (λ (w : Way). IfErr c.start_state_forward.result (IsStartRefusalAt c.args.self.now c.start_state_forward.new.cache.store c.args.input.now.anchored (tape_in (way_of w) c.args.input.now).before (behind_offset (way_of w) c.args.input.now) (offset_in (way_of w) c.args.input.now 0))) (sym c.in-Forward.is)
     (let at : c.args.input.now.start ≡ c.args.input.now.start + 0 = omega arith in
     subst (λ (n : ℕ). IfErr c.start_state_forward.result (IsStartRefusalAt c.args.self.now c.start_state_forward.new.cache.store c.args.input.now.anchored (byte_before c.args.input.now.haystack c.args.input.now.start) (c.args.input.now.start - 1) n)) at
@@ -47,7 +47,7 @@ returns-in-Forward-clause-idle c =
     subst (λ (w : Way). (MayStart c.args.self.now c.args.input.now.anchored (tape_in (way_of w) c.args.input.now).before → KnowsItsStart (way_of w) c.args.self.now c.args.cache.now.store c.args.input.now)
     → (c.start_state_forward.new.cache ≡ c.args.cache.now) × IfErr c.start_state_forward.result IsOfInput) (sym c.in-Forward.is) (λ knows.
     start_idle c.args.self.now c.args.cache.now c.start_state_forward.new.cache c.args.input.now.anchored (byte_before c.args.input.now.haystack c.args.input.now.start) c.start_state_forward.result (c.args.input.now.start - 1) c.args.input.now.start
-    (c.see_slots.ensures ∙ ap (λ (d : Machine). d.slots) c.requires) c.start_state_forward.ensures.refusal c.start_state_forward.ensures.effect knows)
+    (c.see_slots.ensures ∙ ap (λ (d : Machine). slot_count d) c.requires) c.start_state_forward.ensures.refusal c.start_state_forward.ensures.effect knows)
 
 pub returns-in-Forward-clause-learned : goal.returns-in-Forward-clause-learned
 returns-in-Forward-clause-learned c =
@@ -64,8 +64,8 @@ returns-in-Backward-clause-may c =
     subst (λ (w : Way). OnOk c.start_state_reverse.result (MayStart c.args.self.now c.args.input.now.anchored (tape_in (way_of w) c.args.input.now).before)) (sym c.in-Backward.is)
     (may_start c.args.self.now c.args.input.now.anchored (nth c.args.input.now.haystack c.args.input.now.end) c.args.cache.now c.start_state_reverse.new.cache c.start_state_reverse.result c.start_state_reverse.ensures.answer)
 
-pub returns-in-Backward-clause-errors : goal.returns-in-Backward-clause-errors
-returns-in-Backward-clause-errors c =
+pub returns-in-Backward-clause-refusal : goal.returns-in-Backward-clause-refusal
+returns-in-Backward-clause-refusal c =
     subst (λ (w : Way). IfErr c.start_state_reverse.result (IsStartRefusalAt c.args.self.now c.start_state_reverse.new.cache.store c.args.input.now.anchored (tape_in (way_of w) c.args.input.now).before (behind_offset (way_of w) c.args.input.now) (offset_in (way_of w) c.args.input.now 0))) (sym c.in-Backward.is)
     (let at : c.args.input.now.end ≡ c.args.input.now.end - 0 = omega arith in
     subst (λ (n : ℕ). IfErr c.start_state_reverse.result (IsStartRefusalAt c.args.self.now c.start_state_reverse.new.cache.store c.args.input.now.anchored (nth c.args.input.now.haystack c.args.input.now.end) c.args.input.now.end n)) at
@@ -81,7 +81,7 @@ returns-in-Backward-clause-idle c =
     subst (λ (w : Way). (MayStart c.args.self.now c.args.input.now.anchored (tape_in (way_of w) c.args.input.now).before → KnowsItsStart (way_of w) c.args.self.now c.args.cache.now.store c.args.input.now)
     → (c.start_state_reverse.new.cache ≡ c.args.cache.now) × IfErr c.start_state_reverse.result IsOfInput) (sym c.in-Backward.is) (λ knows.
     start_idle c.args.self.now c.args.cache.now c.start_state_reverse.new.cache c.args.input.now.anchored (nth c.args.input.now.haystack c.args.input.now.end) c.start_state_reverse.result c.args.input.now.end c.args.input.now.end
-    (c.see_slots.ensures ∙ ap (λ (d : Machine). d.slots) c.requires) c.start_state_reverse.ensures.refusal c.start_state_reverse.ensures.effect knows)
+    (c.see_slots.ensures ∙ ap (λ (d : Machine). slot_count d) c.requires) c.start_state_reverse.ensures.refusal c.start_state_reverse.ensures.effect knows)
 
 pub returns-in-Backward-clause-learned : goal.returns-in-Backward-clause-learned
 returns-in-Backward-clause-learned c =

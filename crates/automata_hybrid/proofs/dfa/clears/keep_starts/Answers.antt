@@ -5,7 +5,7 @@ use Rattle.std.proofs.lemmas.List.{get_or_past}
 use Rattle.std.proofs.lemmas.Bool.{cases_lt}
 use Rattle.std.proofs.Math.Nat.{mul-le-mul_right}
 use Rattle.std.specs.Prelude.{sum_by}
-use Rattle.automata_hybrid.specs.Machine.{Machine, start_of, greatest}
+use Rattle.automata_hybrid.specs.Machine.{Machine, start_of, greatest, table_stride}
 use Rattle.automata_hybrid.specs.Table.{Rows, fresh, MayLead, row_cost}
 use Rattle.automata_hybrid.specs.Clears.{keep_slot, keep_slots, Kept}
 use Rattle.automata_hybrid.proofs.Keeping.{kept_step, AllStarts-none}
@@ -65,8 +65,8 @@ returns-clause-known c = λ slot h.
 pub keep_slot-requires-clause-fits : goal.keep_slot-requires-clause-fits
 keep_slot-requires-clause-fits c =
     let few : length c.loop-id.table.rows + 3 ≤ length c.args.starts.now + 3 = omega (arith, c.loop-id.invariant.few, c.loop-id-test.true) in
-    let most = mul-le-mul_right c.args.old.now.of.stride few in
-    let whole = subst (λ (m : Machine). length c.loop-id.table.cells ≡ (length c.loop-id.table.rows + 3) * m.stride) c.loop-id.invariant.of c.see_rows.ensures.whole in
+    let most = mul-le-mul_right (table_stride c.args.old.now.of) few in
+    let whole = subst (λ (m : Machine). length c.loop-id.table.cells ≡ (length c.loop-id.table.rows + 3) * table_stride m) c.loop-id.invariant.of c.see_rows.ensures.whole in
     omega (arith, whole, most, c.requires.offsets)
 
 pub keep_slot-requires-clause-costs : goal.keep_slot-requires-clause-costs

@@ -35,8 +35,8 @@ returns-in_default-clause-found c =
     subst (λ (ms : List Match). AreFirst (FindsMatch c.args.regex.now) c.args.input c.args.input.start None ms) (sym {A = List Match} c.in_default.ensures.items)
     (comes_first (FindsMatch c.args.regex.now) c.args.input c.args.input.start None c.loop-item.found.items s.start s.last i.comes)
 
-pub returns-in_default-clause-errors : goal.returns-in_default-clause-errors
-returns-in_default-clause-errors c = inl refl
+pub returns-in_default-clause-refusal : goal.returns-in_default-clause-refusal
+returns-in_default-clause-refusal c = inl refl
 
 pub returns-in-Err-clause-found : goal.returns-in-Err-clause-found
 returns-in-Err-clause-found c =
@@ -44,8 +44,8 @@ returns-in-Err-clause-found c =
     let s = c.loop-item.item-iterator in
     comes_first (FindsMatch c.args.regex.now) c.args.input c.args.input.start None c.loop-item.found.items s.start s.last i.comes
 
-pub returns-in-Err-clause-errors : goal.returns-in-Err-clause-errors
-returns-in-Err-clause-errors c =
+pub returns-in-Err-clause-refusal : goal.returns-in-Err-clause-refusal
+returns-in-Err-clause-refusal c =
     let i = c.loop-item.invariant in
     let s = c.loop-item.item-iterator in
     let t = c.next.new.self in

@@ -10,6 +10,7 @@ use Rattle.automata_hybrid.specs.Walking.{AreWalked}
 use Rattle.regex_automata.specs.Owing.{MayRefusePatterns}
 use Rattle.regex_automata.proofs.SetLists.{members_rise, memory_where, no_patterns, patterns_told, refused_where, told_where}
 use Rattle.regex_automata.proofs.replay.patterns.patterns_below.Goals as goal
+use Rattle.automata_config.specs.Options.{match_kind_of}
 
 pub returns-in_default-clause-owed : goal.returns-in_default-clause-owed
 returns-in_default-clause-owed c = no_patterns c.args.dfa.now c.args.input.now c.args.capacity c.new-in_default.result.items c.new-in_default.ensures.items
@@ -28,8 +29,8 @@ returns-in-Ok-list_members-clause-owed c =
       rise = members_rise new found c.in-Ok-list_members.ensures;
       told = λ none. patterns_told (AreWalked Forward m input) input c.args.capacity old new found c.in-Ok.ensures.capacity c.in-Ok.ensures.empty c.in-Ok-list_members.ensures
           (told_where told (ArePatterns (AreWalked Forward m input) input _ _ _) s.found (sym error ∙ none));
-      paths = λ acyclic none. patterns_told (IsOverlapping Forward (engine_of m.nfa m.kind) input) input c.args.capacity old new found c.in-Ok.ensures.capacity c.in-Ok.ensures.empty c.in-Ok-list_members.ensures
-          (told_where told (ArePatternsFound (engine_of m.nfa m.kind) input _ _ _) (s.paths acyclic) (sym error ∙ none));
+      paths = λ acyclic none. patterns_told (IsOverlapping Forward (engine_of m.nfa (match_kind_of m.config)) input) input c.args.capacity old new found c.in-Ok.ensures.capacity c.in-Ok.ensures.empty c.in-Ok-list_members.ensures
+          (told_where told (ArePatternsFound (engine_of m.nfa (match_kind_of m.config)) input _ _ _) (s.paths acyclic) (sym error ∙ none));
       errors = subst (λ (e : Option SearchError). IfSome e (MayRefusePatterns m input c.args.capacity found)) (sym error)
           (refused_where told m input c.args.capacity old new found c.in-Ok.ensures.capacity c.in-Ok-list_members.ensures s.errors);
       unsupported = λ u. inr (error ∙ ap result_err (s.unsupported u));

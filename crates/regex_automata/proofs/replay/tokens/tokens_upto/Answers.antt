@@ -7,6 +7,7 @@ use Rattle.std.proofs.Common.{Option, subst, arith}
 use Rattle.regex_automata.specs.Tokens.{AreGiven}
 use Rattle.regex_automata.specs.declared.tokens.error.TokenError.{TokenError}
 use Rattle.regex_automata.proofs.replay.tokens.tokens_upto.Goals as goal
+use Rattle.automata_config.specs.Options.{match_kind_of}
 
 pub returns-clause-of : goal.returns-clause-of
 returns-clause-of c = (c.take_tokens.ensures.forward, c.take_tokens.ensures.reverse)
@@ -23,7 +24,7 @@ returns-clause-owed c =
       given = given;
       found = found_by m input.haystack input.end few (λ i. WithoutBase (IsFound Forward m i)) (λ place o owed. owed.found)
           input.start ts error given;
-      paths = λ acyclic. found_by m input.haystack input.end few (λ i. WithoutBase (IsAnswer Forward (engine_of m.nfa m.kind) i))
+      paths = λ acyclic. found_by m input.haystack input.end few (λ i. WithoutBase (IsAnswer Forward (engine_of m.nfa (match_kind_of m.config)) i))
           (λ place o owed. owed.answer acyclic) input.start ts error given;
       beginning = begins m input.haystack input.end few input.start ts error given;
       whole = λ none. tiles m input.haystack input.end few input.start ts

@@ -32,7 +32,7 @@ returns-in_err-token-clause-item c =
     (subst (λ n. IsHalf Forward n c.asked-input.result found) c.forward-dfa.ensures c.try_search_fwd-found.ensures.half) in
     let errors =
     subst (λ i. IfErr found (IsRefused Forward m store i)) c.asked-input.ensures
-    (subst (λ n. IfErr found (IsRefused Forward n store c.asked-input.result)) c.forward-dfa.ensures c.try_search_fwd-found.ensures.errors) in
+    (subst (λ n. IfErr found (IsRefused Forward n store c.asked-input.result)) c.forward-dfa.ensures c.try_search_fwd-found.ensures.refusal) in
     let given =
     error_is_given m store h c.args.end place found c.in_err-token.field-0.0 c.requires.ahead owed errors
     (sym c.in_err-token.was ∙ c.item.ensures) in

@@ -9,11 +9,12 @@ use Rattle.automata_hybrid.specs.Founds.{IsLookedUp}
 use Rattle.automata_hybrid.specs.declared.dfa.cache.Found.{Found}
 use Rattle.automata_hybrid.specs.declared.dfa.cache.Found.TheVariants.{New}
 use Rattle.automata_hybrid.proofs.dfa.cache.Cache.compute_next.Goals as goal
+use Rattle.automata_config.specs.Options.{match_kind_of}
 
 pub returns-in_ok-from-in-New-clause-effect : goal.returns-in_ok-from-in-New-clause-effect
 returns-in_ok-from-in-New-clause-effect c = λ q n.
     let old : Stored = c.args.self.now.store in
-    let target : Powerset = successor c.args.dfa.now.nfa c.args.dfa.now.kind q c.args.unit in
+    let target : Powerset = successor c.args.dfa.now.nfa (match_kind_of c.args.dfa.now.config) q c.args.unit in
     let s : c.resolve.new.self.store ≡ old = ap (λ (v : CacheView). v.store) (c.resolve.ensures.same ∙ c.determinise.ensures.counted) in
     let d : c.determinise.new.self.store ≡ old = ap (λ (v : CacheView). v.store) c.determinise.ensures.counted in
     let found : IsLookedUp c.determinise.new.self.store.table c.in_ok-key.key (New c.in-New.state) = subst (λ (f : Found). IsLookedUp c.determinise.new.self.store.table c.in_ok-key.key f) c.in-New.is c.in_ok-to.ensures.found in
@@ -26,7 +27,7 @@ returns-in_ok-from-in-New-clause-effect c = λ q n.
 
 pub returns-in_ok-from-in-New-clause-only : goal.returns-in_ok-from-in-New-clause-only
 returns-in_ok-from-in-New-clause-only c = λ q n p has.
-    let target : Powerset = successor c.args.dfa.now.nfa c.args.dfa.now.kind q c.args.unit in
+    let target : Powerset = successor c.args.dfa.now.nfa (match_kind_of c.args.dfa.now.config) q c.args.unit in
     let s : c.resolve.new.self.store ≡ c.args.self.now.store = ap (λ (v : CacheView). v.store) (c.resolve.ensures.same ∙ c.determinise.ensures.counted) in
     let found : IsLookedUp c.determinise.new.self.store.table c.in_ok-key.key (New c.in-New.state) = subst (λ (f : Found). IsLookedUp c.determinise.new.self.store.table c.in_ok-key.key f) c.in-New.is c.in_ok-to.ensures.found in
     let written = subst (λ (v : CacheView). Has v.store.table p) c.set_next-in-New.ensures has in

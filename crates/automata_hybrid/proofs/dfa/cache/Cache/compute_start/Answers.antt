@@ -9,6 +9,7 @@ use Rattle.automata_hybrid.specs.Founds.{IsLookedUp}
 use Rattle.automata_hybrid.specs.declared.dfa.cache.Found.{Found}
 use Rattle.automata_hybrid.specs.declared.dfa.cache.Found.TheVariants.{New}
 use Rattle.automata_hybrid.proofs.dfa.cache.Cache.compute_start.Goals as goal
+use Rattle.automata_config.specs.Options.{specialize_start_states_of}
 
 pub returns-in_ok-id-in-New-clause-effect : goal.returns-in_ok-id-in-New-clause-effect
 returns-in_ok-id-in-New-clause-effect c =
@@ -20,8 +21,8 @@ returns-in_ok-id-in-New-clause-effect c =
     let key : c.in_ok-key.key ≡ target = c.in_ok-key.ensures.value in
     let lacks : Lacks old.table target = subst (λ (v : Stored). Lacks v.table target) d (subst (λ (p : Powerset). Lacks c.determinise_start.new.self.store.table p) key found.1) in
     let before : IsAddedStart old (record { state = c.in-New.state; started = c.specializes.result }) c.add_start.new.self.store = subst (λ (v : Stored). IsAddedStart v (record { state = c.in-New.state; started = c.specializes.result }) c.add_start.new.self.store) s c.in_ok-id-in-New.ensures.effect in
-    let marked : IsAddedStart old (record { state = c.in-New.state; started = c.args.dfa.now.specialized }) c.add_start.new.self.store = subst (λ (b : Bool). IsAddedStart old (record { state = c.in-New.state; started = b }) c.add_start.new.self.store) c.specializes.ensures before in
-    let added : IsAddedStart old (record { state = target; started = c.args.dfa.now.specialized }) c.add_start.new.self.store = subst (λ (p : Powerset). IsAddedStart old (record { state = p; started = c.args.dfa.now.specialized }) c.add_start.new.self.store) (found.0 ∙ key) marked in
+    let marked : IsAddedStart old (record { state = c.in-New.state; started = specialize_start_states_of c.args.dfa.now.config }) c.add_start.new.self.store = subst (λ (b : Bool). IsAddedStart old (record { state = c.in-New.state; started = b }) c.add_start.new.self.store) c.specializes.ensures before in
+    let added : IsAddedStart old (record { state = target; started = specialize_start_states_of c.args.dfa.now.config }) c.add_start.new.self.store = subst (λ (p : Powerset). IsAddedStart old (record { state = p; started = specialize_start_states_of c.args.dfa.now.config }) c.add_start.new.self.store) (found.0 ∙ key) marked in
     inr (lacks, c.add_start.new.self.store, added, ap (λ (v : CacheView). v.store) c.set_start-in-New.ensures.value)
 
 pub returns-in_ok-id-in-New-clause-only : goal.returns-in_ok-id-in-New-clause-only

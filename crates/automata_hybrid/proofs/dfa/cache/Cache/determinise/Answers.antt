@@ -9,6 +9,7 @@ use Rattle.automata_hybrid.specs.Machine.{Machine}
 use Rattle.automata_hybrid.specs.Table.{Names}
 use Rattle.automata_hybrid.specs.Caches.{CacheView}
 use Rattle.automata_hybrid.proofs.dfa.cache.Cache.determinise.Goals as goal
+use Rattle.automata_config.specs.Options.{match_kind_of}
 
 pub next_key-requires-clause-is_of : goal.next_key-requires-clause-is_of
 unfolding IsOwn
@@ -31,5 +32,5 @@ returns-clause-value c = λ q n.
     let own : IsOwn c.args.dfa.now.nfa c.state-from.result.now = subst (λ (u : Machine). IsOwn u.nfa c.state-from.result.now) m c.state-from.ensures.of in
     let named : Names c.self.inside.store.table c.args.id q = subst (λ (v : CacheView). Names v.store.table c.args.id q) (sym c.self.view_is) n in
     let from : c.state-from.result.now ≡ q = c.state-from.ensures.named q named in
-    let same : successor c.get_nfa.result.now c.kind.result c.state-from.result.now c.args.unit ≡ successor c.args.dfa.now.nfa c.args.dfa.now.kind q c.args.unit = λ i. successor (c.get_nfa.ensures i) (c.kind.ensures i) (from i) c.args.unit in
+    let same : successor c.get_nfa.result.now c.kind.result c.state-from.result.now c.args.unit ≡ successor c.args.dfa.now.nfa (match_kind_of c.args.dfa.now.config) q c.args.unit = λ i. successor (c.get_nfa.ensures i) (c.kind.ensures i) (from i) c.args.unit in
     c.in_ok-key.ensures.made.same ∙ same ∙ c.requires.alike q (subst (λ (p : Powerset). IsOwn c.args.dfa.now.nfa p) from own)

@@ -3,7 +3,7 @@ use Rattle.std.proofs.lemmas.Grind.{common_steps}
 use Rattle.std.specs.Prelude.{slice_index}
 use Rattle.automata_base.specs.Powerset.{Powerset, cost}
 use Rattle.automata_base.specs.Steps.{successor}
-use Rattle.automata_hybrid.specs.Machine.{Machine, template_of, greatest, next_of}
+use Rattle.automata_hybrid.specs.Machine.{Machine, template_of, greatest, next_of, table_stride}
 use Rattle.automata_hybrid.specs.Table.{Leads}
 use Rattle.automata_hybrid.proofs.Searched.{computed_progress}
 use Rattle.automata_hybrid.proofs.StartTags.{computed_keeps, computed_adds, same_keeps, same_adds}
@@ -17,6 +17,7 @@ use Rattle.automata_hybrid.proofs.Growing.{grown_counted, grown_one, grown_same}
 use Rattle.automata_hybrid.proofs.Stepping.{unknown_free}
 use Rattle.automata_hybrid.proofs.dfa.cache.Cache.next.Goals.{After-see_ids-2}
 use Rattle.automata_hybrid.proofs.dfa.cache.Cache.next.Goals as goal
+use Rattle.automata_config.specs.Options.{match_kind_of}
 
 pub compute_next-requires-clause-free : goal.compute_next-requires-clause-free
 compute_next-requires-clause-free c =
@@ -29,13 +30,13 @@ unknown c k =
     absurd (omega (arith, k, l, c.cell-cell.ensures.value))
 
 abbrev target : After-see_ids-2 → Powerset
-target c = successor c.args.dfa.now.nfa c.args.dfa.now.kind c.requires.valid.0 c.args.unit
+target c = successor c.args.dfa.now.nfa (match_kind_of c.args.dfa.now.config) c.requires.valid.0 c.args.unit
 
 done : (c : After-see_ids-2) → IsComputed c.args.self.now.store c.args.id c.args.class c.requires.valid.0 (target c) c.compute_next.new.self.store c.in_ok-next.next
 done c = c.in_ok-next.ensures.effect c.requires.valid.0 c.requires.valid.1
 
-below : (c : After-see_ids-2) → c.args.class < c.args.self.now.store.table.of.stride
-below c = subst (λ (m : Machine). c.args.class < m.stride) (sym c.requires.of) c.requires.class
+below : (c : After-see_ids-2) → c.args.class < table_stride c.args.self.now.store.table.of
+below c = subst (λ (m : Machine). c.args.class < table_stride m) (sym c.requires.of) c.requires.class
 
 written : (c : After-see_ids-2) → ClearedNothing c.args.self.now.store c.compute_next.new.self.store → cell_of c.compute_next.new.self.store c.args.id c.args.class ≡ c.in_ok-next.next
 written c nothing =

@@ -13,17 +13,18 @@ use Rattle.automata_hybrid.proofs.Searched.{started_progress}
 use Rattle.automata_hybrid.proofs.StartTags.{started_keeps, started_adds, same_keeps, same_adds}
 use Rattle.automata_hybrid.proofs.dfa.cache.Cache.start.Goals.{After-see_ids-2}
 use Rattle.automata_hybrid.proofs.dfa.cache.Cache.start.Goals as goal
+use Rattle.automata_config.specs.Options.{specialize_start_states_of}
 
 kept : (c : After-see_ids-2) → ClearedNothing c.args.self.now.store c.compute_start.new.self.store → Keeps c.args.self.now.store c.compute_start.new.self.store
 kept c =
     let l : 2 ^ 31 ≤ c.start_slot-found.result = grind (arith, common_steps, c.if-not-is_unknown.ensures.size) in
     let unknown : IsKnownStart c.args.self.now.store c.args.slot → ⊥ = λ k. absurd (omega (arith, k, l, c.start_slot-found.ensures.value)) in
-    let r : Row = record { state = start_state_of c.args.dfa.now.nfa c.args.mode c.args.prev; started = c.args.dfa.now.specialized } in
+    let r : Row = record { state = start_state_of c.args.dfa.now.nfa c.args.mode c.args.prev; started = specialize_start_states_of c.args.dfa.now.config } in
     Keeps-started c.args.self.now.store c.compute_start.new.self.store c.args.slot c.in_ok-id.id r c.in_ok-id.ensures.effect c.see_cells.ensures.cells unknown
 
 roomy : (c : After-see_ids-2) (states : ℕ) → HasRoom c.args.self.now.store (states + 1) → HasRoom c.compute_start.new.self.store states × (c.compute_start.new.self.store.clears ≡ c.args.self.now.store.clears)
 roomy c states room =
-    let r : Row = record { state = start_state_of c.args.dfa.now.nfa c.args.mode c.args.prev; started = c.args.dfa.now.specialized } in
+    let r : Row = record { state = start_state_of c.args.dfa.now.nfa c.args.mode c.args.prev; started = specialize_start_states_of c.args.dfa.now.config } in
     let little : cost r.state ≤ greatest c.args.self.now.store.table.of = subst (λ (m : Machine). cost r.state ≤ greatest m) (sym c.requires.of) c.in_ok-id.ensures.cheap in
     roomy-started c.args.self.now.store c.compute_start.new.self.store c.args.slot c.in_ok-id.id r c.in_ok-id.ensures.effect states c.see_cells.ensures.wide little room
 
@@ -47,7 +48,7 @@ pub returns-then-not-is_unknown-clause-start_tags : goal.returns-then-not-is_unk
 returns-then-not-is_unknown-clause-start_tags c = same_keeps c.args.self.now.store.table c.args.self.now.store.table refl
 
 pub returns-then-not-is_unknown-clause-added : goal.returns-then-not-is_unknown-clause-added
-returns-then-not-is_unknown-clause-added c = same_adds c.args.self.now.store.table c.args.self.now.store.table c.args.dfa.now.specialized refl
+returns-then-not-is_unknown-clause-added c = same_adds c.args.self.now.store.table c.args.self.now.store.table (specialize_start_states_of c.args.dfa.now.config) refl
 
 pub returns-in_err-id-clause-start_tags : goal.returns-in_err-id-clause-start_tags
 returns-in_err-id-clause-start_tags c =
@@ -55,16 +56,16 @@ returns-in_err-id-clause-start_tags c =
 
 pub returns-in_err-id-clause-added : goal.returns-in_err-id-clause-added
 returns-in_err-id-clause-added c =
-    same_adds c.args.self.now.store.table c.compute_start.new.self.store.table c.args.dfa.now.specialized (ap (λ (v : CacheView). v.store.table) c.in_err-id.ensures.err)
+    same_adds c.args.self.now.store.table c.compute_start.new.self.store.table (specialize_start_states_of c.args.dfa.now.config) (ap (λ (v : CacheView). v.store.table) c.in_err-id.ensures.err)
 
 pub returns-clause-start_tags : goal.returns-clause-start_tags
 returns-clause-start_tags c =
-    let r : Row = record { state = start_state_of c.args.dfa.now.nfa c.args.mode c.args.prev; started = c.args.dfa.now.specialized } in
+    let r : Row = record { state = start_state_of c.args.dfa.now.nfa c.args.mode c.args.prev; started = specialize_start_states_of c.args.dfa.now.config } in
     started_keeps c.args.self.now.store c.compute_start.new.self.store c.args.slot c.in_ok-id.id r c.see_ids.ensures.ids c.see_ids-2.ensures.ids c.in_ok-id.ensures.effect
 
 pub returns-clause-added : goal.returns-clause-added
 returns-clause-added c =
-    let r : Row = record { state = start_state_of c.args.dfa.now.nfa c.args.mode c.args.prev; started = c.args.dfa.now.specialized } in
+    let r : Row = record { state = start_state_of c.args.dfa.now.nfa c.args.mode c.args.prev; started = specialize_start_states_of c.args.dfa.now.config } in
     started_adds c.args.self.now.store c.compute_start.new.self.store c.args.slot c.in_ok-id.id r c.see_ids.ensures.ids c.see_ids-2.ensures.ids c.in_ok-id.ensures.effect
 
 pub returns-then-not-is_unknown-clause-progress : goal.returns-then-not-is_unknown-clause-progress
@@ -75,5 +76,5 @@ returns-in_err-id-clause-progress c = inl (ap (λ (v : CacheView). v.store.searc
 
 pub returns-clause-progress : goal.returns-clause-progress
 returns-clause-progress c =
-    let r : Row = record { state = start_state_of c.args.dfa.now.nfa c.args.mode c.args.prev; started = c.args.dfa.now.specialized } in
+    let r : Row = record { state = start_state_of c.args.dfa.now.nfa c.args.mode c.args.prev; started = specialize_start_states_of c.args.dfa.now.config } in
     started_progress c.args.self.now.store c.compute_start.new.self.store c.args.slot c.in_ok-id.id r c.in_ok-id.ensures.effect

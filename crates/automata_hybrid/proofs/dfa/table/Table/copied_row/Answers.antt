@@ -2,7 +2,7 @@ use Rattle.std.proofs.Common.{◌≡◌, ◌∙◌, sym, ap, ◌+◌, ◌*◌, �
 use Rattle.std.proofs.lemmas.Option.{slice_get_read}
 use Rattle.automata_base.specs.Powerset.{Powerset, cost}
 use Rattle.automata_hybrid.specs.Owned.{IsOwn}
-use Rattle.automata_hybrid.specs.Machine.{greatest}
+use Rattle.automata_hybrid.specs.Machine.{greatest, table_stride}
 use Rattle.automata_hybrid.specs.Table.{Rows, IsTable, id_of, row_id}
 use Rattle.automata_hybrid.specs.declared.dfa.row.Row.{Row}
 use Rattle.automata_hybrid.proofs.dfa.table.Table.copied_row.Goals as goal
@@ -21,7 +21,7 @@ returns-clause-had c = λ n.
     let i : IsTable t c.self.inside.map c.self.inside.costs = subst (λ (v : Rows). IsTable v c.self.inside.map c.self.inside.costs) c.self.view_is c.self.invariant.table in
     let d = i.distinct c.args.row r (at c) in
     let m : id_of t r.state ≡ None = subst (λ q. id_of t q ≡ None) c.in_ok-state.ensures.cases n in
-    let clash : None ≡ Some (row_id ((c.args.row + 3) * t.of.stride) r) = sym m ∙ d in
+    let clash : None ≡ Some (row_id ((c.args.row + 3) * table_stride t.of) r) = sym m ∙ d in
     cc
 
 pub returns-clause-cost : goal.returns-clause-cost

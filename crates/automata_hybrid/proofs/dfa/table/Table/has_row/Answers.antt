@@ -6,13 +6,14 @@ use Rattle.automata_hybrid.proofs.Places.{placed_valid, valid_at, some_inj}
 use Rattle.automata_hybrid.specs.Table.{Rows, IsTable, IsValid, row_id}
 use Rattle.automata_hybrid.proofs.dfa.table.Table.has_row.Goals as goal
 use Rattle.automata_hybrid.proofs.dfa.table.Table.has_row.Goals.{then-index-lt3-via-then-index-lt3, then-index-lt3-via-else-index-lt3+then-len-index}
+use Rattle.automata_hybrid.specs.Machine.{table_stride}
 
 pub returns-then-index-lt3 : goal.returns-then-index-lt3
 returns-then-index-lt3 c =
     let t : Rows = c.args.self.now in
     let i : IsTable t c.self.inside.map c.self.inside.costs = subst (λ (v : Rows). IsTable v c.self.inside.map c.self.inside.costs) c.self.view_is c.self.invariant.table in
-    let s : c.self.inside.stride ≡ t.of.stride = c.self.invariant.stride ∙ ap (λ (v : Rows). v.of.stride) c.self.view_is in
-    let e : c.offset-offset.result / c.self.inside.stride ≡ (c.args.id % 2 ^ 27) / t.of.stride =
+    let s : c.self.inside.stride ≡ table_stride t.of = c.self.invariant.stride ∙ ap (λ (v : Rows). table_stride v.of) c.self.view_is in
+    let e : c.offset-offset.result / c.self.inside.stride ≡ (c.args.id % 2 ^ 27) / table_stride t.of =
     ap (λ n. n / c.self.inside.stride) c.offset-offset.ensures ∙ ap (λ z. (c.args.id % 2 ^ 27) / z) s in
     let rows : length c.self.inside.rows.items ≡ length t.rows = ap (λ (v : Rows). length v.rows) c.self.view_is in
     let none : IsValid t c.args.id → ⊥ =
@@ -27,20 +28,20 @@ pub returns-then-index-self : goal.returns-then-index-self
 returns-then-index-self c =
     let t : Rows = c.args.self.now in
     let i : IsTable t c.self.inside.map c.self.inside.costs = subst (λ (v : Rows). IsTable v c.self.inside.map c.self.inside.costs) c.self.view_is c.self.invariant.table in
-    let s : c.self.inside.stride ≡ t.of.stride = c.self.invariant.stride ∙ ap (λ (v : Rows). v.of.stride) c.self.view_is in
-    let e : c.offset-offset.result / c.self.inside.stride ≡ (c.args.id % 2 ^ 27) / t.of.stride =
+    let s : c.self.inside.stride ≡ table_stride t.of = c.self.invariant.stride ∙ ap (λ (v : Rows). table_stride v.of) c.self.view_is in
+    let e : c.offset-offset.result / c.self.inside.stride ≡ (c.args.id % 2 ^ 27) / table_stride t.of =
     ap (λ n. n / c.self.inside.stride) c.offset-offset.ensures ∙ ap (λ z. (c.args.id % 2 ^ 27) / z) s in (
       (λ f. absurd (true≢false (sym f))),
       λ v. let a = valid_at t c.self.inside.map c.self.inside.costs c.args.id i v in
-          absurd (c.if-index-self.true (ap (λ n. n * c.self.inside.stride) e ∙ ap (λ z. (c.args.id % 2 ^ 27) / t.of.stride * z) s ∙ a.at ∙ sym c.offset-offset.ensures)),
+          absurd (c.if-index-self.true (ap (λ n. n * c.self.inside.stride) e ∙ ap (λ z. (c.args.id % 2 ^ 27) / table_stride t.of * z) s ∙ a.at ∙ sym c.offset-offset.ensures)),
     )
 
 pub returns : goal.returns
 returns c =
     let t : Rows = c.args.self.now in
     let i : IsTable t c.self.inside.map c.self.inside.costs = subst (λ (v : Rows). IsTable v c.self.inside.map c.self.inside.costs) c.self.view_is c.self.invariant.table in
-    let s : c.self.inside.stride ≡ t.of.stride = c.self.invariant.stride ∙ ap (λ (v : Rows). v.of.stride) c.self.view_is in
-    let e : c.offset-offset.result / c.self.inside.stride ≡ (c.args.id % 2 ^ 27) / t.of.stride =
+    let s : c.self.inside.stride ≡ table_stride t.of = c.self.invariant.stride ∙ ap (λ (v : Rows). table_stride v.of) c.self.view_is in
+    let e : c.offset-offset.result / c.self.inside.stride ≡ (c.args.id % 2 ^ 27) / table_stride t.of =
     ap (λ n. n / c.self.inside.stride) c.offset-offset.ensures ∙ ap (λ z. (c.args.id % 2 ^ 27) / z) s in
     let row : Row = c.index-row.result.now in
     let three : 3 ≤ c.offset-offset.result / c.self.inside.stride = omega (arith, c.if-index-lt3.false) in
@@ -51,7 +52,7 @@ returns c =
     c.index-row.ensures ∙ ap (λ (v : Rows). get_or v.rows (c.offset-offset.result / c.self.inside.stride - 3) row) c.self.view_is in
     let has : slice_get t.rows (c.offset-offset.result / c.self.inside.stride - 3) ≡ Some row =
     slice_get_read t.rows (length t.rows) (c.offset-offset.result / c.self.inside.stride - 3) row refl few read in
-    let at : c.offset-offset.result / c.self.inside.stride * t.of.stride ≡ c.args.id % 2 ^ 27 =
+    let at : c.offset-offset.result / c.self.inside.stride * table_stride t.of ≡ c.args.id % 2 ^ 27 =
     ap (λ z. c.offset-offset.result / c.self.inside.stride * z) (sym s) ∙ c.if-index-self.false ∙ c.offset-offset.ensures in
     let made : c.id.result ≡ row_id (c.args.id % 2 ^ 27) row = c.id.ensures ∙ ap (λ n. row_id n row) c.offset-offset.ensures in (
       (λ yes. placed_valid t c.self.inside.map c.self.inside.costs c.args.id (c.offset-offset.result / c.self.inside.stride) row i three has at

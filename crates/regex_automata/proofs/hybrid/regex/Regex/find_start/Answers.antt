@@ -46,11 +46,11 @@ try_search_rev-requires c = c.requires.of
 pub returns-in_err-found-clause-of : goal.returns-in_err-found-clause-of
 returns-in_err-found-clause-of c = c.try_search_rev.ensures.of
 
-pub returns-in_err-found-clause-errors : goal.returns-in_err-found-clause-errors
-returns-in_err-found-clause-errors c =
+pub returns-in_err-found-clause-refusal : goal.returns-in_err-found-clause-refusal
+returns-in_err-found-clause-refusal c =
     if_err c.from_residual.result _ _ c.from_residual.ensures.1 (
       c.is_short-short.ensures.no c.if-short.false,
-      subst (λ (i : Input). IsRefused Backward c.args.self.now.reverse c.try_search_rev.new.cache.store i c.in_err-found.field-0.0) c.backward-rest.ensures c.in_err-found.ensures.errors,
+      subst (λ (i : Input). IsRefused Backward c.args.self.now.reverse c.try_search_rev.new.cache.store i c.in_err-found.field-0.0) c.backward-rest.ensures c.in_err-found.ensures.refusal,
     )
 
 pub returns-in_err-found-clause-answers : goal.returns-in_err-found-clause-answers

@@ -24,9 +24,9 @@ pub returns-in_err-found-clause-of : goal.returns-in_err-found-clause-of
 returns-in_err-found-clause-of c =
     (c.try_search_fwd.ensures.of, c.requires.1)
 
-pub returns-in_err-found-clause-errors : goal.returns-in_err-found-clause-errors
-returns-in_err-found-clause-errors c =
-    if_err c.from_residual.result _ _ c.from_residual.ensures.1 (c.asked-asked.result, c.asked-asked.ensures, c.in_err-found.ensures.errors)
+pub returns-in_err-found-clause-refusal : goal.returns-in_err-found-clause-refusal
+returns-in_err-found-clause-refusal c =
+    if_err c.from_residual.result _ _ c.from_residual.ensures.1 (c.asked-asked.result, c.asked-asked.ensures, c.in_err-found.ensures.refusal)
 
 pub returns-in_err-found-clause-owed : goal.returns-in_err-found-clause-owed
 returns-in_err-found-clause-owed c =

@@ -13,8 +13,8 @@ use Rattle.regex_automata.proofs.Remembering.{alone_none, alone_some, both_stays
 use Rattle.regex_automata.proofs.Results.{if_ok, is_err, ok_err, on_ok, same_err}
 use Rattle.regex_automata.proofs.hybrid.regex.Regex.next_match.Goals as goal
 
-pub returns-in_err-found-clause-errors : goal.returns-in_err-found-clause-errors
-returns-in_err-found-clause-errors c = if_err c.from_residual.result _ _ c.from_residual.ensures.1 (inl c.in_err-found.ensures.errors)
+pub returns-in_err-found-clause-refusal : goal.returns-in_err-found-clause-refusal
+returns-in_err-found-clause-refusal c = if_err c.from_residual.result _ _ c.from_residual.ensures.1 (inl c.in_err-found.ensures.refusal)
 
 pub returns-in_err-found-clause-next : goal.returns-in_err-found-clause-next
 returns-in_err-found-clause-next c = if_ok c.from_residual.result _ _ c.from_residual.ensures.1
@@ -77,13 +77,13 @@ returns-clause-goes_on c =
     goes_later c.args.self.now c.args.input.now c.args.last c.try_search-2.result
     (subst (λ (i : Input). IfOk c.try_search-2.result (λ o. IfSome o (MatchLiesIn c.args.self.now i))) rest c.try_search-2.ensures.owed.within)
 
-pub returns-clause-errors : goal.returns-clause-errors
-returns-clause-errors c =
+pub returns-clause-refusal : goal.returns-clause-refusal
+returns-clause-refusal c =
     let found = subst (FindsMatch c.args.self.now c.args.input.now) c.in-Some.is c.in_ok-found.ensures.owed.found in
     let place : c.start.result + 1 ≡ suc c.args.input.now.start = omega (arith, c.start.ensures.start) in
     let rest : c.from-rest.result ≡ from (suc c.args.input.now.start) c.args.input.now = c.from-rest.ensures ∙ ap (λ n. from n c.args.input.now) place in
     refused_later c.args.self.now c.args.input.now c.args.last c.in-Some.found found (c.if-not-is_empty_at.ensures.yes refl) c.try_search-2.new.cache c.try_search-2.result
-    (subst (λ (i : Input). IfErr c.try_search-2.result (IsRegexRefusal c.args.self.now c.try_search-2.new.cache i)) rest c.try_search-2.ensures.errors)
+    (subst (λ (i : Input). IfErr c.try_search-2.result (IsRegexRefusal c.args.self.now c.try_search-2.new.cache i)) rest c.try_search-2.ensures.refusal)
 
 pub returns-clause-ahead : goal.returns-clause-ahead
 returns-clause-ahead c =

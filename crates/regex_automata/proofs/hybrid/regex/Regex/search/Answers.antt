@@ -27,9 +27,9 @@ pub returns-in_err-front-clause-within : goal.returns-in_err-front-clause-within
 returns-in_err-front-clause-within c =
     if_ok c.from_residual.result _ _ c.from_residual.ensures.1
 
-pub returns-in_err-front-clause-errors : goal.returns-in_err-front-clause-errors
-returns-in_err-front-clause-errors c =
-    if_err c.from_residual.result _ _ c.from_residual.ensures.1 (inl c.in_err-front.ensures.errors)
+pub returns-in_err-front-clause-refusal : goal.returns-in_err-front-clause-refusal
+returns-in_err-front-clause-refusal c =
+    if_err c.from_residual.result _ _ c.from_residual.ensures.1 (inl c.in_err-front.ensures.refusal)
 
 pub returns-in_err-front-clause-free : goal.returns-in_err-front-clause-free
 returns-in_err-front-clause-free c =
@@ -119,9 +119,9 @@ pub returns-in_err-start-clause-within : goal.returns-in_err-start-clause-within
 returns-in_err-start-clause-within c =
     if_ok c.from_residual-in_err-start.result _ _ c.from_residual-in_err-start.ensures.1
 
-pub returns-in_err-start-clause-errors : goal.returns-in_err-start-clause-errors
-returns-in_err-start-clause-errors c =
-    if_err c.from_residual-in_err-start.result _ _ c.from_residual-in_err-start.ensures.1 (inr (inl ((with_base c.in-Some.front.0 c.in-Some.front.1), (front_some c.args.self.now.forward c.args.input.now c.in_ok-front.field-0 c.in-Some.front.0 c.in-Some.front.1 c.in_ok-front.ensures.based.found c.in-Some.is), c.in_err-start.ensures.errors)))
+pub returns-in_err-start-clause-refusal : goal.returns-in_err-start-clause-refusal
+returns-in_err-start-clause-refusal c =
+    if_err c.from_residual-in_err-start.result _ _ c.from_residual-in_err-start.ensures.1 (inr (inl ((with_base c.in-Some.front.0 c.in-Some.front.1), (front_some c.args.self.now.forward c.args.input.now c.in_ok-front.field-0 c.in-Some.front.0 c.in-Some.front.1 c.in_ok-front.ensures.based.found c.in-Some.is), c.in_err-start.ensures.refusal)))
 
 pub returns-in_err-start-clause-free : goal.returns-in_err-start-clause-free
 returns-in_err-start-clause-free c =
@@ -155,8 +155,8 @@ pub returns-in_default-2-clause-of : goal.returns-in_default-2-clause-of
 returns-in_default-2-clause-of c =
     (c.try_search_fwd_base.ensures.of, c.find_start.ensures.of)
 
-pub returns-in_default-2-clause-errors : goal.returns-in_default-2-clause-errors
-returns-in_default-2-clause-errors c =
+pub returns-in_default-2-clause-refusal : goal.returns-in_default-2-clause-refusal
+returns-in_default-2-clause-refusal c =
     inr (inr (refl, ((with_base c.in-Some.front.0 c.in-Some.front.1), (front_some c.args.self.now.forward c.args.input.now c.in_ok-front.field-0 c.in-Some.front.0 c.in-Some.front.1 c.in_ok-front.ensures.based.found c.in-Some.is), subst (IsStartFound c.args.self.now c.args.input.now (with_base c.in-Some.front.0 c.in-Some.front.1)) c.in_default-2.is c.in_ok-start.ensures.found)))
 
 pub returns-in_default-2-clause-free : goal.returns-in_default-2-clause-free

@@ -10,12 +10,12 @@ use Rattle.regex_automata.proofs.hybrid.regex.Regex.try_search.Goals as goal
 pub returns-clause-of : goal.returns-clause-of
 returns-clause-of c = c.search-found.ensures.of
 
-pub returns-clause-errors : goal.returns-clause-errors
-returns-clause-errors c =
+pub returns-clause-refusal : goal.returns-clause-refusal
+returns-clause-refusal c =
     let front = subst (λ (a : Automaton). ToldIsRight a) c.get_nfa.ensures c.told_is_right.ensures.answer in
     let rear = subst (λ (a : Automaton). ToldIsRight a) c.get_nfa-2.ensures c.told_is_right-2.ensures.answer in
     refusals c.args.self.now front rear c.start_is_right.ensures.starts c.start_is_right.ensures.quits c.search-found.new.cache c.args.input.now
-    (c.haystack-haystack.ensures.bytes, c.haystack-haystack.ensures.within.1) c.search-found.result c.search-found.ensures.errors c.search-found.ensures.free
+    (c.haystack-haystack.ensures.bytes, c.haystack-haystack.ensures.within.1) c.search-found.result c.search-found.ensures.refusal c.search-found.ensures.free
 
 pub returns-clause-owed : goal.returns-clause-owed
 returns-clause-owed c =
@@ -31,7 +31,7 @@ returns-clause-owed c =
     (λ sound. IfOk-weaker c.search-found.result _ _
     (match_right c.args.self.now front rear c.start_is_right.ensures.starts sound c.args.input.now (c.haystack-haystack.ensures.bytes, c.haystack-haystack.ensures.within.1))
     s.found)
-    s.within (returns-clause-errors c) s.unsupported (λ past. (s.done past).0)
+    s.within (returns-clause-refusal c) s.unsupported (λ past. (s.done past).0)
 
 pub returns-clause-effect : goal.returns-clause-effect
 returns-clause-effect c =

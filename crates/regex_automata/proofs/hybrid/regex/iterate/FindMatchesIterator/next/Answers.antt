@@ -46,7 +46,7 @@ returns-in-Err-clause-steps c =
     let s = c.args.self.now in
     let now = input_at s.haystack.now s.start s.end s.anchored s.earliest in (
       gives_error s.regex.now c.next_match.new.cache now s.last s.ended c.in-Err.error c.if-self.false
-          (subst (λ (i : Input). IsNextRefusal s.regex.now c.next_match.new.cache i s.last c.in-Err.error) c.input-input.ensures c.in-Err.ensures.errors),
+          (subst (λ (i : Input). IsNextRefusal s.regex.now c.next_match.new.cache i s.last c.in-Err.error) c.input-input.ensures c.in-Err.ensures.refusal),
       refl,
       refl,
       record {
