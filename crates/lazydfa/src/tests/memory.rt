@@ -29,8 +29,8 @@ const REPEATED: Row = (
     "a search over known transitions",
     Forward(Entry::Ab),
     "limit=0",
-    &[Find("ab"), Exhaust, Find("ab"), Room],
-    "half 0 2, -, half 0 2, false",
+    &[Find("ab"), Exhaust, Find("ab"), Counts, Room],
+    "half 0 2, -, half 0 2, 0 678 4, false",
 );
 
 #[test]
