@@ -25,6 +25,7 @@ mod item_turns;
 mod long_runs;
 mod memory;
 mod nfa;
+mod one_step;
 mod paths;
 mod plans;
 mod powersets;
