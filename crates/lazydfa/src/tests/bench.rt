@@ -313,7 +313,8 @@ impl Bench {
         Ok(())
     }
 
-    fn end(&mut self) -> Result<(), StepError> {
+    /// The step on the haystack's end, from a state that is there.
+    pub fn end(&mut self) -> Result<(), StepError> {
         if self.has_state() {
             self.at = self.dfa.next_eoi_state(&mut self.cache, self.at)?;
         }
@@ -368,6 +369,63 @@ impl Bench {
 
     pub fn clears_and_memory(&self) -> (usize, usize) {
         (self.cache.clear_count(), self.cache.memory_usage())
+    }
+
+    /// How often the cache was cleared, its memory, the bytes searched, and whether a search is in progress.
+    pub fn totals(&self) -> (usize, usize, usize, bool) {
+        (
+            self.cache.clear_count(),
+            self.cache.memory_usage(),
+            self.cache.search_total_len(),
+            self.cache.in_progress(),
+        )
+    }
+
+    pub fn is_reverse(&self) -> bool {
+        self.dfa.get_nfa().is_reverse()
+    }
+
+    /// The start of a search of an input.
+    pub fn begin(&mut self, input: &Input<'_>) -> Result<(), SearchError> {
+        self.at = if self.is_reverse() {
+            self.dfa.start_state_reverse(&mut self.cache, input)?
+        } else {
+            self.dfa.start_state_forward(&mut self.cache, input)?
+        };
+        Ok(())
+    }
+
+    /// A search is in progress from an offset on.
+    pub fn open(&mut self, at: usize) {
+        self.cache.search_start(at);
+    }
+
+    /// The search in progress has come to an offset.
+    pub fn move_to(&mut self, at: usize) {
+        if self.cache.in_progress() {
+            self.cache.search_update(at);
+        }
+    }
+
+    /// The search in progress ends at an offset.
+    pub fn close(&mut self, at: usize) {
+        if self.cache.in_progress() {
+            self.cache.search_finish(at);
+        }
+    }
+
+    /// The state that was stepped to.
+    pub fn id(&self) -> LazyStateID {
+        self.at
+    }
+
+    /// The first of its patterns.
+    pub fn first_pattern(&self) -> Option<PatternID> {
+        if !self.at.is_match() || !self.has_state() {
+            return None;
+        }
+        let _some = self.dfa.match_len(&self.cache, self.at);
+        Some(self.dfa.match_pattern(&self.cache, self.at, 0))
     }
 
     pub fn reset(&mut self) -> Result<(), AllocError> {

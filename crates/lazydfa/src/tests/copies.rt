@@ -56,7 +56,7 @@ fn is_coded(alloc: Global, parts: &Parts) -> Result<bool, Fail> {
 }
 
 /// Three NFA states and two patterns.
-fn parts(alloc: Global) -> Result<Parts, AllocError> {
+pub fn parts(alloc: Global) -> Result<Parts, AllocError> {
     Ok(Parts {
         nfa: ids_of(alloc, &[3, 4, 1])?,
         patterns: vec![in alloc; pattern_id(0), pattern_id(1)]?,
@@ -67,7 +67,8 @@ fn parts(alloc: Global) -> Result<Parts, AllocError> {
     })
 }
 
-fn coded(alloc: Global, parts: &Parts) -> Result<State, Fail> {
+/// Their state.
+pub fn coded(alloc: Global, parts: &Parts) -> Result<State, Fail> {
     if !parts.is_without_repeats() {
         return Err(Fail::from("a pattern twice"));
     }

@@ -16,6 +16,7 @@ use regex_automata::nfa::thompson::{Flags, NFA, State};
 use regex_automata::util::primitives::{PatternID, StateID};
 use regex_automata::util::search::{HalfMatch, Input};
 use std::alloc::{AllocError, Global};
+use std::fmt::Write;
 use std::process::Abort;
 use std::test::Fail;
 
@@ -227,6 +228,27 @@ const SEARCHED: &[Row] = &[
         "half 0 2, 0 678 2, half 0 2, 0 678 4",
     ),
     (
+        "and needs none with no limit on clears",
+        Forward(Entry::Ab),
+        "capacity=0 skip",
+        TWICE,
+        "half 0 2, 0 678 2, half 0 2, 0 678 4",
+    ),
+    (
+        "a reset forgets it all",
+        Forward(Entry::Ab),
+        "capacity=1735",
+        &[Find("ab"), Find("ab"), Reset, Counts],
+        "half 0 2, half 0 2, -, 0 335 0",
+    ),
+    (
+        "anchored and unanchored over one cache",
+        Forward(Entry::Abc),
+        "",
+        &[FindAnchored("cabac", 0, 5), Find("cabac")],
+        "half 0 1, half 0 1",
+    ),
+    (
         "the example",
         Planned(&EXAMPLE),
         "capacity=65536",
@@ -256,9 +278,72 @@ const SEARCHED: &[Row] = &[
     ),
 ];
 
+/// In reverse by the default settings, so under leftmost-first.
+const SEARCHED_BACK: &[Row] = &[
+    (
+        "the first byte is read at the end step",
+        Reverse(Entry::Ab),
+        "",
+        &[Counts, Find("ab"), Counts],
+        "0 335 0, half 0 0, 0 678 1",
+    ),
+    (
+        "the start of a search over no bytes is there, though the search begins no progress",
+        Reverse(Entry::Ab),
+        "",
+        &[StartOn(""), Find(""), Counts],
+        "false, none, 0 421 0",
+    ),
+    (
+        "a letter before the span, and one behind it",
+        Reverse(Entry::Bnum),
+        "unicode",
+        &[FindIn("\u{3b2}123", 2, 5), FindIn("123\u{3b2}", 0, 3)],
+        "quit b2 1, quit ce 3",
+    ),
+    (
+        "a quit byte before the start is known",
+        Reverse(Entry::Wordend),
+        "quit=78",
+        &[Find("abcxyz")],
+        "quit 78 3",
+    ),
+    (
+        "a place that splits a character is passed, unless anchored there",
+        Reverse(Entry::Empty),
+        "",
+        &[FindIn("\u{2603}", 0, 2), FindAnchored("\u{2603}", 0, 2)],
+        "half 0 0, none",
+    ),
+];
+
 #[test]
 fn searches(rt: HostRuntime) -> Result<(), Fail> {
     tells_all(&rt, SEARCHED)
+}
+
+#[test]
+fn searches_back(rt: HostRuntime) -> Result<(), Fail> {
+    tells_all(&rt, SEARCHED_BACK)
+}
+
+/// With each byte from 80 on as a quit byte, a Unicode word boundary is allowed without the heuristic.
+#[test]
+fn searches_where_no_letter_is_read(rt: HostRuntime) -> Result<(), Fail> {
+    let options = quits_from_80(rt.alloc())?;
+    let calls = [Find(" a"), Find(" a\u{e9}"), Counts];
+    let found = told_by(rt.alloc(), Forward(Entry::Bound), options.as_str(), &calls)?;
+    let want = "half 0 1, quit c3 2, 0 696 4";
+    same_text(&rt, found.as_str(), want, "quit bytes from 80 on");
+    Ok(())
+}
+
+fn quits_from_80(alloc: Global) -> Result<String, Fail> {
+    let mut options = String::new(alloc);
+    for byte in 0x80..=0xFFu8 {
+        write!(options, "quit={byte:02x} ")?;
+    }
+    Ok(options)
 }
 
 /// The classes of bytes, with the one of the end, and the least capacity that may be asked for.
@@ -289,7 +374,13 @@ const SETTLED: &[Row] = &[
         &[Classes, Minimum],
         "12, 2901",
     ),
-    ("", Forward(Entry::Aa), "all", &[Minimum], "1895"),
+    (
+        "",
+        Forward(Entry::Aa),
+        "all",
+        &[Classes, Minimum],
+        "4, 1895",
+    ),
     ("", Forward(Entry::Bnum), "unicode", &[Minimum], "2651"),
     ("", Forward(Entry::Wordend), "", &[Classes], "10"),
     ("", Forward(Entry::Crlf), "", &[Classes], "6"),
@@ -453,17 +544,21 @@ fn matches_always(rt: HostRuntime) -> Result<(), Fail> {
     matches(
         &rt,
         DFA::always_match(rt.alloc()),
-        "1, 0, half 0 1, half 0 1",
+        "1, 0, 1145, half 0 1, half 0 1, 0 344 2",
     )
 }
 
 #[test]
 fn matches_never(rt: HostRuntime) -> Result<(), Fail> {
-    matches(&rt, DFA::never_match(rt.alloc()), "0, 0, none, none")
+    matches(
+        &rt,
+        DFA::never_match(rt.alloc()),
+        "0, 0, 1085, none, none, 0 217 0",
+    )
 }
 
-/// How many patterns there are, the memory, and what searches from the first place to the second answer, of which
-/// one is over a part of a character.
+/// How many patterns there are, the memory, the least capacity, what searches from the first place to the second
+/// answer, of which one is over a part of a character, and the memory of the cache.
 fn matches<R: Abort + AllocGlobal>(
     rt: &R,
     dfa: Result<DFA, BuildError>,
@@ -472,8 +567,10 @@ fn matches<R: Abort + AllocGlobal>(
     let calls = [
         Patterns,
         Memory,
+        Minimum,
         FindIn("abc", 1, 2),
         FindIn("\u{2603}", 1, 2),
+        Counts,
     ];
     let text = text_of(rt.alloc(), dfa, &calls)?;
     same_text(rt, text.as_str(), told, told);

@@ -10,7 +10,10 @@ use crate::catalogue::Entry;
 use crate::error::RunError;
 use crate::run::run;
 use Automaton::{Forward, Reverse};
-use Call::{Counts, End, Exhaust, Find, FindIn, Room, Start, StartOn, State, Step, Steps};
+use Call::{
+    Classes, Counts, End, Exhaust, Find, FindIn, Known, Matched, Memory, Minimum, Patterns, Room,
+    Start, StartOn, State, Step, Steps,
+};
 use regex_automata::hybrid::dfa::{Cache, Config, DFA};
 use regex_automata::hybrid::{BuildError, SearchError, StartError, StepError};
 use regex_automata::nfa::thompson::{NFA, NfaError};
@@ -29,8 +32,8 @@ const REPEATED: Row = (
     "a search over known transitions",
     Forward(Entry::Ab),
     "limit=0",
-    &[Find("ab"), Exhaust, Find("ab"), Room],
-    "half 0 2, -, half 0 2, false",
+    &[Find("ab"), Exhaust, Find("ab"), Counts, Room],
+    "half 0 2, -, half 0 2, 0 678 4, false",
 );
 
 #[test]
@@ -84,6 +87,34 @@ const STEPPED: Row = (
         Step(b'x'),
     ],
     "-, -, -, state 0m, -, -, -, -, state 0m, -, out of memory",
+);
+
+/// What asks of an automaton and its cache takes no memory.
+#[test]
+fn asks_without_memory(rt: HostRuntime) -> Result<(), Fail> {
+    tells(&rt, ASKED)
+}
+
+const ASKED: Row = (
+    "patterns of a match, a known step, and what is counted",
+    Forward(Entry::Aa),
+    "all",
+    &[
+        Start(None),
+        State,
+        Steps("aa"),
+        Exhaust,
+        Matched,
+        Start(None),
+        Known(b'a'),
+        Counts,
+        Classes,
+        Minimum,
+        Patterns,
+        Memory,
+        Room,
+    ],
+    "-, state 0, -, -, patterns 2 last 1, -, state 1, 0 651 0, 4, 1895, 2, 0, false",
 );
 
 /// A start that is known takes no memory, though the cache is full.

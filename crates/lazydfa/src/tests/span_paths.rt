@@ -1,6 +1,6 @@
 //! Spans beside those of the listed paths: from where the selected path starts to where it ends.
 
-use super::paths::{Pieces, answer, spell};
+use super::paths::{CHARACTERS, Pieces, answer, spell};
 use super::regex_bench::{Item, RegexBench};
 use super::same_of;
 use crate::catalogue::Entry;
@@ -104,13 +104,13 @@ pub const MODES: [(Anchored, bool); 5] = [
 ];
 
 impl Listed {
-    /// All haystacks of up to five of the first two pieces, and of up to four of all three.
+    /// All haystacks of up to six of the first two pieces, and of up to four of all three.
     fn compare_all<R: Abort + AllocGlobal>(
         &mut self,
         rt: &R,
         (pieces, most): (Pieces, usize),
     ) -> Result<(), Fail> {
-        for (choices, lengths) in [(2usize, 6usize), (3, 5)] {
+        for (choices, lengths) in [(2usize, 7usize), (3, 5)] {
             let mut count = 1usize;
             for length in 0..lengths {
                 for number in 0..count {
@@ -125,16 +125,21 @@ impl Listed {
         Ok(())
     }
 
-    /// Every span of a haystack in each mode.
+    /// Every span of a haystack, and the whole of it in each other mode. Of a short one every span is compared in each
+    /// mode.
     fn compare_haystack<R: Abort>(&mut self, rt: &R, haystack: &[u8]) -> Result<(), Fail> {
         for end in 0..haystack.len() + 1 {
             for start in 0..end + 1 {
+                let is_full = haystack.len() < 6 || start == 0 && end == haystack.len();
                 for (mode, earliest) in MODES {
-                    let input = Input::new(haystack)
-                        .range(start..end)
-                        .anchored(mode)
-                        .earliest(earliest);
-                    self.compare(rt, &input)?;
+                    let is_plain = mode == Anchored::No && !earliest;
+                    if is_full || is_plain {
+                        let input = Input::new(haystack)
+                            .range(start..end)
+                            .anchored(mode)
+                            .earliest(earliest);
+                        self.compare(rt, &input)?;
+                    }
                 }
             }
         }
@@ -172,7 +177,7 @@ fn compare_with<R: Abort>(
     same_of(rt, &found, &items_of(want), of);
 }
 
-/// The first eight items of an iteration over fewer spans.
+/// The first eight items of an iteration over at most seven spans.
 fn items_of(spans: &[Match]) -> [Item; 8] {
     let mut items = [None; 8];
     for (number, span) in spans.iter().enumerate() {
@@ -224,50 +229,31 @@ fn agree<R: Abort + AllocGlobal>(rt: &R, rows: &[Row]) -> Result<(), Fail> {
     Ok(())
 }
 
+/// The pieces of these are long, so that some haystacks have a match.
 #[rattlefmt::skip]
-const LITERALS: &[Row] = &[
-    (Entry::Ab, [b"a", b"b", b"x"], 5),
-    (Entry::Aa, [b"a", b"b", b"x"], 5),
+const LONG: &[Row] = &[
     (Entry::Date, [b"0000-00-0", b"0", b"-"], 12),
     (Entry::A16, [b"aaaaaaaaaaaaaaa", b"a", b"x"], 18),
 ];
 
 #[rattlefmt::skip]
+const LITERALS: &[Row] = &[
+    (Entry::Ab, [b"a", b"b", b"x"], 8),
+    (Entry::Aa, [b"a", b"b", b"x"], 8),
+    (Entry::Date, [b"0", b"-", b"x"], 8),
+    (Entry::A16, [b"a", b"b", b"x"], 8),
+];
+
+#[rattlefmt::skip]
 const EMPTY: &[Row] = &[
-    (Entry::Always, [b"a", b"b", b"x"], 5),
-    (Entry::Never, [b"a", b"b", b"x"], 5),
-    (Entry::Empty, [b"a", b"\x98", b"\xE2"], 5),
+    (Entry::Always, [b"a", b"b", b"x"], 8),
+    (Entry::Never, [b"a", b"b", b"x"], 8),
 ];
 
-#[rattlefmt::skip]
-const REPEATED: &[Row] = &[
-    (Entry::Abc, [b"a", b"b", b"c"], 5),
-    (Entry::Runs, [b"a", b"1", b" "], 5),
-];
-
-#[rattlefmt::skip]
-const WORDS: &[Row] = &[(Entry::Words, [b"a", b"!", b" "], 5)];
-
-#[rattlefmt::skip]
-const LOOKS: &[Row] = &[
-    (Entry::Bnum, [b"1", b"a", b" "], 5),
-    (Entry::Wordend, [b"a", b" ", b"_"], 5),
-    (Entry::Bound, [b"a", b" ", b"_"], 5),
-    (Entry::Crlf, [b"\r", b"\n", b"a"], 5),
-];
-
-#[rattlefmt::skip]
-const SPLIT: &[Row] = &[
-    (Entry::Snow, [b"a", b"\x98", b" "], 5),
-    (Entry::Snowx, [b"x", b"\x98", b" "], 5),
-];
-
-#[rattlefmt::skip]
-const CHARACTERS: &[Row] = &[
-    (Entry::Empty, [b"a", b"\xE2\x98\x83", b"\xC3\xA9"], 7),
-    (Entry::Snow, [b"a", b"\xE2\x98\x83", b"x"], 7),
-    (Entry::Snowx, [b"x", b"\xE2\x98\x83", b"a"], 7),
-];
+#[test]
+fn long_literals_span_their_paths(rt: HostRuntime) -> Result<(), Fail> {
+    agree(&rt, LONG)
+}
 
 #[test]
 fn literals_span_their_paths(rt: HostRuntime) -> Result<(), Fail> {
@@ -280,26 +266,82 @@ fn empty_matches_span_their_paths(rt: HostRuntime) -> Result<(), Fail> {
 }
 
 #[test]
-fn repetitions_span_their_paths(rt: HostRuntime) -> Result<(), Fail> {
-    agree(&rt, REPEATED)
+fn empty_spans_its_paths(rt: HostRuntime) -> Result<(), Fail> {
+    agree(&rt, &[(Entry::Empty, [b"a", b"\x98", b"\xE2"], 8)])
 }
 
 #[test]
-fn words_span_their_paths(rt: HostRuntime) -> Result<(), Fail> {
-    agree(&rt, WORDS)
+fn any_spans_its_paths(rt: HostRuntime) -> Result<(), Fail> {
+    agree(&rt, &[(Entry::Any, [b"a", b"\x98", b"\xE2"], 8)])
 }
 
 #[test]
-fn looks_span_their_paths(rt: HostRuntime) -> Result<(), Fail> {
-    agree(&rt, LOOKS)
+fn abc_spans_its_paths(rt: HostRuntime) -> Result<(), Fail> {
+    agree(&rt, &[(Entry::Abc, [b"a", b"b", b"c"], 8)])
 }
 
 #[test]
-fn parts_of_characters_span_their_paths(rt: HostRuntime) -> Result<(), Fail> {
-    agree(&rt, SPLIT)
+fn runs_spans_its_paths(rt: HostRuntime) -> Result<(), Fail> {
+    agree(&rt, &[(Entry::Runs, [b"a", b"1", b" "], 8)])
 }
 
 #[test]
-fn whole_characters_span_their_paths(rt: HostRuntime) -> Result<(), Fail> {
-    agree(&rt, CHARACTERS)
+fn words_spans_its_paths(rt: HostRuntime) -> Result<(), Fail> {
+    agree(&rt, &[(Entry::Words, [b"a", b"!", b" "], 8)])
+}
+
+#[test]
+fn bnum_spans_its_paths(rt: HostRuntime) -> Result<(), Fail> {
+    agree(&rt, &[(Entry::Bnum, [b"1", b"a", b" "], 8)])
+}
+
+#[test]
+fn bound_spans_its_paths(rt: HostRuntime) -> Result<(), Fail> {
+    agree(&rt, &[(Entry::Bound, [b"a", b" ", b"_"], 8)])
+}
+
+#[test]
+fn wordend_spans_its_paths(rt: HostRuntime) -> Result<(), Fail> {
+    agree(&rt, &[(Entry::Wordend, [b"a", b" ", b"_"], 8)])
+}
+
+#[test]
+fn crlf_spans_its_paths(rt: HostRuntime) -> Result<(), Fail> {
+    agree(&rt, &[(Entry::Crlf, [b"\r", b"\n", b"a"], 8)])
+}
+
+#[test]
+fn snow_spans_its_paths(rt: HostRuntime) -> Result<(), Fail> {
+    agree(&rt, &[(Entry::Snow, [b"a", b"\x98", b" "], 8)])
+}
+
+#[test]
+fn snowx_spans_its_paths(rt: HostRuntime) -> Result<(), Fail> {
+    agree(&rt, &[(Entry::Snowx, [b"x", b"\x98", b" "], 8)])
+}
+
+#[test]
+fn empty_spans_its_characters(rt: HostRuntime) -> Result<(), Fail> {
+    agree_on_characters(&rt, 0)
+}
+
+#[test]
+fn snow_spans_its_characters(rt: HostRuntime) -> Result<(), Fail> {
+    agree_on_characters(&rt, 1)
+}
+
+#[test]
+fn snowx_spans_its_characters(rt: HostRuntime) -> Result<(), Fail> {
+    agree_on_characters(&rt, 2)
+}
+
+#[test]
+fn any_spans_its_characters(rt: HostRuntime) -> Result<(), Fail> {
+    agree_on_characters(&rt, 3)
+}
+
+/// The entry of this number of those in UTF-8 mode, over whole characters.
+fn agree_on_characters<R: Abort + AllocGlobal>(rt: &R, number: usize) -> Result<(), Fail> {
+    let (entry, pieces) = *CHARACTERS.get(number).ok_or("an entry")?;
+    agree(rt, &[(entry, pieces, 8)])
 }

@@ -4,7 +4,7 @@ use super::bench::Call;
 use super::plans::{Plan, Shape};
 use super::tells::{Automaton, Row, tells_all};
 use crate::catalogue::Entry;
-use Automaton::{Forward, Planned};
+use Automaton::{Forward, Planned, Reverse};
 use Call::{Brief, End, Known, Matched, Start, StartOf, State, Step, Steps, Walk};
 use std::test::Fail;
 
@@ -175,6 +175,13 @@ const STARTED: &[Row] = &[
         "quit=63",
         &[StartOf(0, None), StartOf(0, Some(b'c'))],
         "error computing start state because anchored searches for a specific pattern (0) are not supported or enabled, error computing start state because the look-behind byte c triggered a quit state",
+    ),
+    (
+        "a letter behind a word boundary in reverse",
+        Reverse(Entry::Bnum),
+        "unicode",
+        &[Start(Some(0xB2)), Start(Some(b'a')), State],
+        "error computing start state because the look-behind byte \\xB2 triggered a quit state, -, state 0",
     ),
     (
         "dead past the last pattern",

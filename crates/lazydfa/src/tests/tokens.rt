@@ -85,6 +85,8 @@ const ITEMS: &[Items] = &[
     ("at the span's end", Entry::Runs, "", "", "-; -; -; -; -"),
     ("behind a refusal", Entry::Runs, "quit=78", "ab12x",
         "0 ab; quit search after observing byte 0x78 at offset 4; -; -; -"),
+    ("behind a refusal at once", Entry::Runs, "quit=78", "ab1x",
+        "quit search after observing byte 0x78 at offset 3; -; -; -; -"),
     ("behind an empty match", Entry::Empty, "", "a", "no token at 0; -; -; -; -"),
     ("behind giving up", Entry::A16, "noclasses capacity=37281 limit=1",
         "aaaaaaaaaaaaaaaaaaaaaaaaaaaaaaaaaaaaaaaaaaaaaaaa",

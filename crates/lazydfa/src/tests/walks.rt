@@ -284,6 +284,14 @@ const CACHES: &[Row] = &[
         "half 0 1, half 1 1, half 0 2, half 1 2, 0 724 1, none",
     ),
     (
+        "and one clear would be free there",
+        Forward(Entry::Aa),
+        "all capacity=1895 limit=1",
+        Text("aa"),
+        &[Next, Next, Next, Next, Counts],
+        "half 0 1, half 1 1, half 0 2, half 1 2, 0 724 1",
+    ),
+    (
         "with a search before each call",
         Forward(Entry::Aa),
         "all capacity=1895",

@@ -1,0 +1,518 @@
+//! Plain searches beside a loop of one step a byte, each over a cache of its own: the same replies, clears, memory and
+//! searched bytes.
+
+use super::bench::Bench;
+use super::same_of;
+use super::span_paths::MODES;
+use super::tells::{Automaton, built};
+use crate::catalogue::Entry;
+use regex_automata::hybrid::{SearchError, StepError};
+use regex_automata::util::search::{Anchored, HalfMatch, Input, MatchError};
+use std::alloc::{AllocError, Global};
+use std::process::Abort;
+use std::test::Fail;
+
+/// A refused step, at an offset.
+fn refused(error: StepError, at: usize) -> SearchError {
+    match error {
+        StepError::Cache(_) => SearchError::Match(MatchError::gave_up(at)),
+        StepError::OutOfMemory => SearchError::OutOfMemory,
+    }
+}
+
+/// The step on a byte. A quit byte and a refusal are each told at an offset.
+fn step(bench: &mut Bench, byte: u8, quit_at: usize, at: usize) -> Result<(), SearchError> {
+    if let Err(error) = bench.step(byte) {
+        return Err(refused(error, at));
+    }
+    if bench.id().is_quit() {
+        return Err(SearchError::Match(MatchError::quit(byte, quit_at)));
+    }
+    Ok(())
+}
+
+/// The step on a byte at the offset that the search moves to. A quit byte ends it.
+fn read(bench: &mut Bench, byte: u8, at: usize) -> Result<(), SearchError> {
+    bench.move_to(at);
+    let stepped = step(bench, byte, at, at);
+    if bench.id().is_quit() {
+        bench.close(at);
+    }
+    stepped
+}
+
+/// The step on the haystack's end.
+fn read_end(bench: &mut Bench, at: usize) -> Result<(), SearchError> {
+    match bench.end() {
+        Ok(()) => Ok(()),
+        Err(error) => Err(refused(error, at)),
+    }
+}
+
+/// What was found last, once a state tells its patterns at an offset.
+fn found_at(bench: &Bench, at: usize, found: Option<HalfMatch>) -> Option<HalfMatch> {
+    match bench.first_pattern() {
+        Some(pattern) => Some(HalfMatch::new(pattern, at)),
+        None => found,
+    }
+}
+
+/// Whether a search ends with what it has found at a byte.
+fn ends(bench: &Bench, input: &Input<'_>, found: Option<HalfMatch>) -> bool {
+    bench.id().is_dead() || input.get_earliest() && found.is_some()
+}
+
+fn pass_forward(bench: &mut Bench, input: &Input<'_>) -> Result<Option<HalfMatch>, SearchError> {
+    bench.begin(input)?;
+    bench.open(input.start());
+    if bench.id().is_dead() {
+        bench.close(input.start());
+        return Ok(None);
+    }
+    let mut found = None;
+    for at in input.start()..input.end() {
+        let Some(byte) = input.haystack().get(at) else {
+            return Ok(found);
+        };
+        read(bench, *byte, at)?;
+        found = found_at(bench, at, found);
+        if ends(bench, input, found) {
+            bench.close(at);
+            return Ok(found);
+        }
+    }
+    end_forward(bench, input, found)
+}
+
+/// The step behind the span.
+fn end_forward(
+    bench: &mut Bench,
+    input: &Input<'_>,
+    found: Option<HalfMatch>,
+) -> Result<Option<HalfMatch>, SearchError> {
+    let end = input.end();
+    match input.haystack().get(end) {
+        Some(byte) => read(bench, *byte, end)?,
+        None => {
+            bench.move_to(end);
+            read_end(bench, end)?;
+        }
+    }
+    bench.close(end);
+    Ok(found_at(bench, end, found))
+}
+
+fn pass_reverse(bench: &mut Bench, input: &Input<'_>) -> Result<Option<HalfMatch>, SearchError> {
+    bench.begin(input)?;
+    let (start, end) = (input.start(), input.end());
+    if start < end {
+        bench.open(end.saturating_sub(1));
+    }
+    if bench.id().is_dead() {
+        if start < end {
+            bench.close(end.saturating_sub(1));
+        }
+        return Ok(None);
+    }
+    let mut found = None;
+    for before in start..end {
+        let at = end.saturating_sub(before.saturating_sub(start));
+        let (last, stops) = step_reverse(bench, input, at, found)?;
+        found = last;
+        if stops {
+            return Ok(found);
+        }
+    }
+    if start < end {
+        bench.close(start);
+    }
+    end_reverse(bench, input, found)
+}
+
+/// The step on the byte before an offset: what was found last, and whether that is the answer.
+fn step_reverse(
+    bench: &mut Bench,
+    input: &Input<'_>,
+    at: usize,
+    found: Option<HalfMatch>,
+) -> Result<(Option<HalfMatch>, bool), SearchError> {
+    let before = at.saturating_sub(1);
+    let Some(byte) = input.haystack().get(before) else {
+        return Ok((found, true));
+    };
+    read(bench, *byte, before)?;
+    let found = found_at(bench, at, found);
+    let stops = ends(bench, input, found);
+    if stops {
+        bench.close(before);
+    }
+    Ok((found, stops))
+}
+
+/// The step before the span.
+fn end_reverse(
+    bench: &mut Bench,
+    input: &Input<'_>,
+    found: Option<HalfMatch>,
+) -> Result<Option<HalfMatch>, SearchError> {
+    let start = input.start();
+    let Some(before) = start.checked_sub(1) else {
+        read_end(bench, start)?;
+        return Ok(found_at(bench, start, found));
+    };
+    if let Some(byte) = input.haystack().get(before) {
+        step(bench, *byte, before, start)?;
+    }
+    Ok(found_at(bench, start, found))
+}
+
+/// Whether a match at an offset is left out.
+fn skips(bench: &Bench, input: &Input<'_>, offset: usize) -> bool {
+    let nfa = bench.dfa().get_nfa();
+    nfa.is_utf8() && nfa.has_empty() && !input.is_char_boundary(offset)
+}
+
+/// The span that is tried where a match was left out.
+fn next_span<'h>(input: &Input<'h>, is_reverse: bool) -> Option<Input<'h>> {
+    if input.get_anchored() != Anchored::No {
+        return None;
+    }
+    let (start, end) = if is_reverse {
+        (input.start(), input.end().checked_sub(1)?)
+    } else {
+        (input.start().saturating_add(1), input.end())
+    };
+    if start > end || !input.allows(start, end) {
+        return None;
+    }
+    Some(
+        Input::new(input.haystack())
+            .range(start..end)
+            .earliest(input.get_earliest()),
+    )
+}
+
+fn pass(bench: &mut Bench, input: &Input<'_>) -> Result<Option<HalfMatch>, SearchError> {
+    if bench.is_reverse() {
+        pass_reverse(bench, input)
+    } else {
+        pass_forward(bench, input)
+    }
+}
+
+/// Searches with one step a byte, over one span after another.
+fn find_by_steps(bench: &mut Bench, input: &Input<'_>) -> Result<Option<HalfMatch>, SearchError> {
+    let is_reverse = bench.is_reverse();
+    let mut half = pass(bench, input)?;
+    let mut later = next_span(input, is_reverse);
+    for _ in 0..input.haystack().len() + 1 {
+        match half {
+            Some(found) if skips(bench, input, found.offset()) => {}
+            _ => return Ok(half),
+        }
+        let Some(next) = later else {
+            return Ok(None);
+        };
+        half = pass(bench, &next)?;
+        later = next_span(&next, is_reverse);
+    }
+    Ok(None)
+}
+
+/// What a cache has been through before a search.
+#[derive(Clone, Copy, Debug, PartialEq, Eq)]
+enum History {
+    /// Nothing; and once more, the same search.
+    Fresh,
+    /// Searches of the same haystack.
+    Haystack,
+    /// All searches before.
+    All,
+}
+
+/// Settings as a script has them, and what a cache has been through.
+type Run = (&'static str, History);
+
+/// Two caches of one automaton, for the search and for the loop.
+#[derive(Drop)]
+struct Pair {
+    search: Bench,
+    steps: Bench,
+}
+
+impl Pair {
+    fn new(alloc: Global, automaton: Automaton, options: &str) -> Result<Pair, Fail> {
+        let search = Bench::new(built(alloc, automaton, options)??)?;
+        let steps = Bench::new(built(alloc, automaton, options)??)?;
+        Ok(Pair { search, steps })
+    }
+
+    fn reset(&mut self) -> Result<(), AllocError> {
+        self.search.reset()?;
+        self.steps.reset()
+    }
+
+    fn compare<R: Abort>(&mut self, rt: &R, input: &Input<'_>, of: &(Entry, Run)) {
+        let found = self.search.search(input);
+        let want = find_by_steps(&mut self.steps, input);
+        let found = (found, self.search.totals());
+        let want = (want, self.steps.totals());
+        same_of(rt, &found, &want, &(of, input));
+    }
+
+    /// A search behind what its history has.
+    fn compare_behind<R: Abort>(
+        &mut self,
+        rt: &R,
+        input: &Input<'_>,
+        of: &(Entry, Run),
+    ) -> Result<(), AllocError> {
+        let (_, (_, history)) = of;
+        if *history == History::Fresh {
+            self.reset()?;
+            self.compare(rt, input, of);
+        }
+        self.compare(rt, input, of);
+        Ok(())
+    }
+
+    /// Each span of a haystack.
+    fn compare_spans<R: Abort>(
+        &mut self,
+        rt: &R,
+        haystack: &[u8],
+        of: &(Entry, Run),
+    ) -> Result<(), AllocError> {
+        let (_, (_, history)) = of;
+        if *history == History::Haystack {
+            self.reset()?;
+        }
+        for end in 0..haystack.len() + 1 {
+            for start in 0..end + 1 {
+                let input = Input::new(haystack).range(start..end);
+                self.compare_behind(rt, &input, of)?;
+            }
+        }
+        Ok(())
+    }
+
+    /// Each haystack of two letters.
+    fn compare_haystacks<R: Abort>(
+        &mut self,
+        rt: &R,
+        letters: [u8; 2],
+        of: &(Entry, Run),
+    ) -> Result<(), AllocError> {
+        let mut count = 1usize;
+        for length in 0..LONGEST + 1 {
+            for number in 0..count {
+                let haystack = spell(number, letters);
+                self.compare_spans(rt, &haystack[..length], of)?;
+            }
+            count = count.saturating_mul(2);
+        }
+        Ok(())
+    }
+
+    /// Each long haystack that has the second letter from a place to a place, and the first around it.
+    fn compare_long<R: Abort>(
+        &mut self,
+        rt: &R,
+        letters: [u8; 2],
+        of: &(Entry, Run),
+    ) -> Result<(), AllocError> {
+        let [around, within] = letters;
+        for end in 0..LONG + 1 {
+            for start in 0..end + 1 {
+                let mut haystack = [around; LONG];
+                for place in start..end {
+                    haystack[place] = within;
+                }
+                self.compare_modes(rt, &haystack, of)?;
+            }
+        }
+        Ok(())
+    }
+
+    /// The whole of a haystack in each mode.
+    fn compare_modes<R: Abort>(
+        &mut self,
+        rt: &R,
+        haystack: &[u8],
+        of: &(Entry, Run),
+    ) -> Result<(), AllocError> {
+        for (mode, earliest) in MODES {
+            let input = Input::new(haystack).anchored(mode).earliest(earliest);
+            self.compare_behind(rt, &input, of)?;
+        }
+        Ok(())
+    }
+}
+
+/// The letters that the binary digits of a number choose, the lowest first.
+fn spell(number: usize, letters: [u8; 2]) -> [u8; LONGEST] {
+    let [zero, one] = letters;
+    let mut haystack = [zero; LONGEST];
+    let mut rest = number;
+    for place in 0..LONGEST {
+        if rest % 2 == 1 {
+            haystack[place] = one;
+        }
+        rest /= 2;
+    }
+    haystack
+}
+
+/// How many bytes the longest haystack of all letters has.
+const LONGEST: usize = 9;
+
+/// How many bytes a haystack has that self-loops and runs of matches are followed over.
+const LONG: usize = 40;
+
+/// An entry, and two bytes: of different classes, where it has them.
+const ROWS: [(Entry, [u8; 2]); 17] = [
+    (Entry::Ab, *b"ab"),
+    (Entry::Always, *b"ab"),
+    (Entry::Never, *b"ab"),
+    (Entry::Date, *b"1-"),
+    (Entry::Words, *b"a!"),
+    (Entry::Abc, *b"ca"),
+    (Entry::Aa, *b"ab"),
+    (Entry::Bnum, *b"1 "),
+    (Entry::Wordend, *b"a "),
+    (Entry::Empty, *b"a\x83"),
+    (Entry::Snow, *b"x\x83"),
+    (Entry::Snowx, *b"x\x83"),
+    (Entry::Bound, *b"a\xCE"),
+    (Entry::Crlf, *b"\r\n"),
+    (Entry::Any, *b"a\x83"),
+    (Entry::Runs, *b"a1"),
+    (Entry::A16, *b"ab"),
+];
+
+/// At the default capacity, with no clear count that a refusal waits for, and with one.
+const AMPLE: &[Run] = &[
+    ("unicode", History::Fresh),
+    ("unicode limit=1", History::Fresh),
+];
+
+/// The same at the least capacity.
+const TIGHT: &[Run] = &[
+    ("unicode capacity=0 skip", History::Fresh),
+    ("unicode capacity=0 skip limit=1", History::Fresh),
+];
+
+const USED: &[Run] = &[
+    ("unicode", History::Haystack),
+    ("unicode", History::All),
+    ("unicode limit=1", History::Haystack),
+    ("unicode limit=1", History::All),
+    ("unicode capacity=0 skip", History::Haystack),
+    ("unicode capacity=0 skip", History::All),
+    ("unicode capacity=0 skip limit=1", History::Haystack),
+    ("unicode capacity=0 skip limit=1", History::All),
+];
+
+const KINDS: &[Run] = &[
+    ("unicode", History::Fresh),
+    ("unicode all", History::Fresh),
+    ("unicode tags starts", History::Fresh),
+    ("unicode all tags", History::All),
+    ("unicode capacity=0 skip", History::All),
+    ("unicode capacity=0 skip limit=1", History::Fresh),
+];
+
+/// Which haystacks are searched.
+#[derive(Clone, Copy, PartialEq, Eq)]
+enum Texts {
+    Short,
+    Long,
+}
+
+/// Each entry, by its automaton of one direction.
+fn compare_all<R: Abort + AllocGlobal>(
+    rt: &R,
+    is_reverse: bool,
+    texts: Texts,
+    runs: &[Run],
+) -> Result<(), Fail> {
+    for (entry, letters) in ROWS {
+        let automaton = if is_reverse {
+            Automaton::Reverse(entry)
+        } else {
+            Automaton::Forward(entry)
+        };
+        for run in runs {
+            compare_entry(rt, automaton, letters, texts, &(entry, *run))?;
+        }
+    }
+    Ok(())
+}
+
+fn compare_entry<R: Abort + AllocGlobal>(
+    rt: &R,
+    automaton: Automaton,
+    letters: [u8; 2],
+    texts: Texts,
+    of: &(Entry, Run),
+) -> Result<(), Fail> {
+    let (_, (options, _)) = of;
+    let mut pair = Pair::new(rt.alloc(), automaton, *options)?;
+    compare_texts(rt, &mut pair, letters, texts, of)?;
+    Ok(())
+}
+
+fn compare_texts<R: Abort>(
+    rt: &R,
+    pair: &mut Pair,
+    letters: [u8; 2],
+    texts: Texts,
+    of: &(Entry, Run),
+) -> Result<(), AllocError> {
+    if texts == Texts::Short {
+        return pair.compare_haystacks(rt, letters, of);
+    }
+    let [first, second] = letters;
+    pair.compare_long(rt, letters, of)?;
+    pair.compare_long(rt, [second, first], of)
+}
+
+#[test]
+fn steps_over_a_fresh_cache(rt: HostRuntime) -> Result<(), Fail> {
+    compare_all(&rt, false, Texts::Short, AMPLE)
+}
+
+#[test]
+fn steps_back_over_a_fresh_cache(rt: HostRuntime) -> Result<(), Fail> {
+    compare_all(&rt, true, Texts::Short, AMPLE)
+}
+
+#[test]
+fn steps_over_a_fresh_tight_cache(rt: HostRuntime) -> Result<(), Fail> {
+    compare_all(&rt, false, Texts::Short, TIGHT)
+}
+
+#[test]
+fn steps_back_over_a_fresh_tight_cache(rt: HostRuntime) -> Result<(), Fail> {
+    compare_all(&rt, true, Texts::Short, TIGHT)
+}
+
+#[test]
+fn steps_over_a_used_cache(rt: HostRuntime) -> Result<(), Fail> {
+    compare_all(&rt, false, Texts::Short, USED)
+}
+
+#[test]
+fn steps_back_over_a_used_cache(rt: HostRuntime) -> Result<(), Fail> {
+    compare_all(&rt, true, Texts::Short, USED)
+}
+
+#[test]
+fn steps_over_long_runs(rt: HostRuntime) -> Result<(), Fail> {
+    compare_all(&rt, false, Texts::Long, KINDS)
+}
+
+#[test]
+fn steps_back_over_long_runs(rt: HostRuntime) -> Result<(), Fail> {
+    compare_all(&rt, true, Texts::Long, KINDS)
+}
