@@ -40,7 +40,7 @@ returns-clause-owed c =
       beginning = λ sound whole spans. collected_begins (IsSpan (forward_engine p)) (c.start_is_right.ensures.one.span (forward_engine p)) input ms whole error (right sound) spans;
       rise = first_rise p input within ms first;
       few = first_few p input within ms first;
-      errors = may_refuse_next p cache input ms error of s.errors;
+      errors = may_refuse_next p cache input ms error of s.refusal;
       unsupported = s.unsupported;
-      free = memory_behind p input ms error (first_place p input within ms first) (may_refuse_next p cache input ms error of s.errors);
+      free = memory_behind p input ms error (first_place p input within ms first) (may_refuse_next p cache input ms error of s.refusal);
     }
