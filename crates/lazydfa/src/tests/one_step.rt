@@ -367,27 +367,38 @@ fn spell(number: usize, letters: [u8; 2]) -> [u8; LONGEST] {
 const LONGEST: usize = 9;
 
 /// How many bytes a haystack has that self-loops and runs of matches are followed over.
-const LONG: usize = 40;
+const LONG: usize = 26;
 
 /// An entry, and two bytes: of different classes, where it has them.
-const ROWS: [(Entry, [u8; 2]); 17] = [
+type Letters = (Entry, [u8; 2]);
+
+/// Entries without looks.
+const PLAIN: &[Letters] = &[
     (Entry::Ab, *b"ab"),
     (Entry::Always, *b"ab"),
     (Entry::Never, *b"ab"),
     (Entry::Date, *b"1-"),
-    (Entry::Words, *b"a!"),
     (Entry::Abc, *b"ca"),
     (Entry::Aa, *b"ab"),
+    (Entry::Runs, *b"a1"),
+    (Entry::A16, *b"ab"),
+];
+
+/// Entries with looks.
+const LOOKING: &[Letters] = &[
+    (Entry::Words, *b"a!"),
     (Entry::Bnum, *b"1 "),
     (Entry::Wordend, *b"a "),
+    (Entry::Bound, *b"a\xCE"),
+    (Entry::Crlf, *b"\r\n"),
+];
+
+/// Entries in UTF-8 mode that may match nothing, and one of any bytes.
+const SPLITTING: &[Letters] = &[
     (Entry::Empty, *b"a\x83"),
     (Entry::Snow, *b"x\x83"),
     (Entry::Snowx, *b"x\x83"),
-    (Entry::Bound, *b"a\xCE"),
-    (Entry::Crlf, *b"\r\n"),
     (Entry::Any, *b"a\x83"),
-    (Entry::Runs, *b"a1"),
-    (Entry::A16, *b"ab"),
 ];
 
 /// At the default capacity, with no clear count that a refusal waits for, and with one.
@@ -433,17 +444,18 @@ enum Texts {
 fn compare_all<R: Abort + AllocGlobal>(
     rt: &R,
     is_reverse: bool,
+    entries: &[Letters],
     texts: Texts,
     runs: &[Run],
 ) -> Result<(), Fail> {
-    for (entry, letters) in ROWS {
+    for (entry, letters) in entries {
         let automaton = if is_reverse {
-            Automaton::Reverse(entry)
+            Automaton::Reverse(*entry)
         } else {
-            Automaton::Forward(entry)
+            Automaton::Forward(*entry)
         };
         for run in runs {
-            compare_entry(rt, automaton, letters, texts, &(entry, *run))?;
+            compare_entry(rt, automaton, *letters, texts, &(*entry, *run))?;
         }
     }
     Ok(())
@@ -479,40 +491,120 @@ fn compare_texts<R: Abort>(
 
 #[test]
 fn steps_over_a_fresh_cache(rt: HostRuntime) -> Result<(), Fail> {
-    compare_all(&rt, false, Texts::Short, AMPLE)
+    compare_all(&rt, false, PLAIN, Texts::Short, AMPLE)
 }
 
 #[test]
 fn steps_back_over_a_fresh_cache(rt: HostRuntime) -> Result<(), Fail> {
-    compare_all(&rt, true, Texts::Short, AMPLE)
+    compare_all(&rt, true, PLAIN, Texts::Short, AMPLE)
+}
+
+#[test]
+fn steps_over_a_fresh_cache_with_looks(rt: HostRuntime) -> Result<(), Fail> {
+    compare_all(&rt, false, LOOKING, Texts::Short, AMPLE)
+}
+
+#[test]
+fn steps_back_over_a_fresh_cache_with_looks(rt: HostRuntime) -> Result<(), Fail> {
+    compare_all(&rt, true, LOOKING, Texts::Short, AMPLE)
+}
+
+#[test]
+fn steps_over_a_fresh_cache_around_characters(rt: HostRuntime) -> Result<(), Fail> {
+    compare_all(&rt, false, SPLITTING, Texts::Short, AMPLE)
+}
+
+#[test]
+fn steps_back_over_a_fresh_cache_around_characters(rt: HostRuntime) -> Result<(), Fail> {
+    compare_all(&rt, true, SPLITTING, Texts::Short, AMPLE)
 }
 
 #[test]
 fn steps_over_a_fresh_tight_cache(rt: HostRuntime) -> Result<(), Fail> {
-    compare_all(&rt, false, Texts::Short, TIGHT)
+    compare_all(&rt, false, PLAIN, Texts::Short, TIGHT)
 }
 
 #[test]
 fn steps_back_over_a_fresh_tight_cache(rt: HostRuntime) -> Result<(), Fail> {
-    compare_all(&rt, true, Texts::Short, TIGHT)
+    compare_all(&rt, true, PLAIN, Texts::Short, TIGHT)
+}
+
+#[test]
+fn steps_over_a_fresh_tight_cache_with_looks(rt: HostRuntime) -> Result<(), Fail> {
+    compare_all(&rt, false, LOOKING, Texts::Short, TIGHT)
+}
+
+#[test]
+fn steps_back_over_a_fresh_tight_cache_with_looks(rt: HostRuntime) -> Result<(), Fail> {
+    compare_all(&rt, true, LOOKING, Texts::Short, TIGHT)
+}
+
+#[test]
+fn steps_over_a_fresh_tight_cache_around_characters(rt: HostRuntime) -> Result<(), Fail> {
+    compare_all(&rt, false, SPLITTING, Texts::Short, TIGHT)
+}
+
+#[test]
+fn steps_back_over_a_fresh_tight_cache_around_characters(rt: HostRuntime) -> Result<(), Fail> {
+    compare_all(&rt, true, SPLITTING, Texts::Short, TIGHT)
 }
 
 #[test]
 fn steps_over_a_used_cache(rt: HostRuntime) -> Result<(), Fail> {
-    compare_all(&rt, false, Texts::Short, USED)
+    compare_all(&rt, false, PLAIN, Texts::Short, USED)
 }
 
 #[test]
 fn steps_back_over_a_used_cache(rt: HostRuntime) -> Result<(), Fail> {
-    compare_all(&rt, true, Texts::Short, USED)
+    compare_all(&rt, true, PLAIN, Texts::Short, USED)
+}
+
+#[test]
+fn steps_over_a_used_cache_with_looks(rt: HostRuntime) -> Result<(), Fail> {
+    compare_all(&rt, false, LOOKING, Texts::Short, USED)
+}
+
+#[test]
+fn steps_back_over_a_used_cache_with_looks(rt: HostRuntime) -> Result<(), Fail> {
+    compare_all(&rt, true, LOOKING, Texts::Short, USED)
+}
+
+#[test]
+fn steps_over_a_used_cache_around_characters(rt: HostRuntime) -> Result<(), Fail> {
+    compare_all(&rt, false, SPLITTING, Texts::Short, USED)
+}
+
+#[test]
+fn steps_back_over_a_used_cache_around_characters(rt: HostRuntime) -> Result<(), Fail> {
+    compare_all(&rt, true, SPLITTING, Texts::Short, USED)
 }
 
 #[test]
 fn steps_over_long_runs(rt: HostRuntime) -> Result<(), Fail> {
-    compare_all(&rt, false, Texts::Long, KINDS)
+    compare_all(&rt, false, PLAIN, Texts::Long, KINDS)
 }
 
 #[test]
 fn steps_back_over_long_runs(rt: HostRuntime) -> Result<(), Fail> {
-    compare_all(&rt, true, Texts::Long, KINDS)
+    compare_all(&rt, true, PLAIN, Texts::Long, KINDS)
+}
+
+#[test]
+fn steps_over_long_runs_with_looks(rt: HostRuntime) -> Result<(), Fail> {
+    compare_all(&rt, false, LOOKING, Texts::Long, KINDS)
+}
+
+#[test]
+fn steps_back_over_long_runs_with_looks(rt: HostRuntime) -> Result<(), Fail> {
+    compare_all(&rt, true, LOOKING, Texts::Long, KINDS)
+}
+
+#[test]
+fn steps_over_long_runs_around_characters(rt: HostRuntime) -> Result<(), Fail> {
+    compare_all(&rt, false, SPLITTING, Texts::Long, KINDS)
+}
+
+#[test]
+fn steps_back_over_long_runs_around_characters(rt: HostRuntime) -> Result<(), Fail> {
+    compare_all(&rt, true, SPLITTING, Texts::Long, KINDS)
 }

@@ -79,6 +79,15 @@ impl Regex {
     }
 
     /// The matches of an input, one after another. It takes no memory.
+    ///
+    /// A refused search is the last item, behind the matches that were found before:
+    ///
+    /// ```rust
+    /// for found in regex.find_iter(&mut cache, Input::new(text)) {
+    ///     let found = found?;
+    ///     mark(found.pattern(), found.start()..found.end());
+    /// }
+    /// ```
     pub fn find_iter<'r, 'c, 'h>(
         &'r self,
         cache: &'c mut Cache,

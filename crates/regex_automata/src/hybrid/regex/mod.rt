@@ -16,6 +16,18 @@ pub use iterate::FindMatches;
 use std::alloc::AllocError;
 
 /// The lazy DFAs of a regular expression, for the same patterns.
+///
+/// It is built of an automaton and of one that reads the same expression backward, and searches over a cache of its
+/// own, which serves one search after another:
+///
+/// ```rust
+/// let regex = Regex::builder().build_from_nfas(forward, reverse)?;
+/// let mut cache = regex.create_cache()?;
+/// match regex.find(&mut cache, &Input::new(line))? {
+///     Some(found) => keep(&line[found.start()..found.end()]),
+///     None => skip(line),
+/// }
+/// ```
 #[derive(Drop)]
 pub struct Regex {
     forward: DFA,
