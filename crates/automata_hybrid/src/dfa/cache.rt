@@ -148,7 +148,7 @@ impl Cache {
         requires of { IsOwn dfa.now.nfa state }
         ensures of { IsCacheOf self.new dfa.now }
         ensures named { IfOk result (λ id. Names self.new.store.table id state) }
-        ensures count { self.new.count ≡ self.old.count }
+        ensures counted { self.new.count ≡ self.old.count }
         ensures grown { IsGrown self.old (counted self.new) }
         ensures gives_up { IfErr result (λ e. IsCacheError e → GivesUp self.old.store state) }
         ensures err { OnErr result (self.new ≡ self.old) }
@@ -229,7 +229,7 @@ impl Cache {
             → Names self.new.store.table p.0 q) }
         ensures to { IfOk result (λ p. Names self.new.store.table p.1 state) }
         ensures of { IsCacheOf self.new dfa.now }
-        ensures count { self.new.count ≡ self.old.count }
+        ensures counted { self.new.count ≡ self.old.count }
         ensures gives_up { IfErr result (λ e. IsCacheError e
             → (Fits self.old.store (cost state) → ⊥) × (refuses_to_clear self.old.store ≡ true)) }
         ensures err { OnErr result (self.new ≡ self.old) }
@@ -302,7 +302,7 @@ impl Cache {
             → Has self.old.store.table p ⊎ (p ≡ state)) }
         ensures starts { OnOk result (KeepsStarts self.old.store.starts self.new.store.starts) }
         ensures of { IsCacheOf self.new dfa.now }
-        ensures count { self.new.count ≡ self.old.count }
+        ensures counted { self.new.count ≡ self.old.count }
         ensures gives_up { IfErr result (λ e. IsCacheError e
             → (Fits self.old.store (cost state) → ⊥) × (refuses_to_clear self.old.store ≡ true)) }
         ensures err { OnErr result (self.new ≡ self.old) }
@@ -397,7 +397,7 @@ impl Cache {
         ensures value { self.new ≡ with_store self.old (with_searched self.old.store
             (started self.old.store.searched at)) }
         ensures table { self.new.store.table ≡ self.old.store.table }
-        ensures count { self.new.count ≡ self.old.count }
+        ensures counted { self.new.count ≡ self.old.count }
     {
         self.store.search_start(at);
     }
@@ -423,7 +423,7 @@ impl Cache {
         ensures value { self.new ≡ with_store self.old (with_searched self.old.store
             (updated self.old.store.searched at)) }
         ensures table { self.new.store.table ≡ self.old.store.table }
-        ensures count { self.new.count ≡ self.old.count }
+        ensures counted { self.new.count ≡ self.old.count }
     {
         self.store.search_update(at);
     }
@@ -433,7 +433,7 @@ impl Cache {
         ensures value { self.new ≡ with_store self.old (with_searched self.old.store
             (finished self.old.store.searched at)) }
         ensures table { self.new.store.table ≡ self.old.store.table }
-        ensures count { self.new.count ≡ self.old.count }
+        ensures counted { self.new.count ≡ self.old.count }
     {
         self.store.search_finish(at);
     }

@@ -92,8 +92,8 @@ impl DFA {
         ensures of { IsCacheOf cache.new self.now }
         ensures found { IfOk result (λ o. IsFound Forward self.now input.now (option_map (λ p. with_base p.0 p.1) o)) }
         ensures refusal { IfErr result (IsRefused Forward self.now cache.new.store input.now) }
-        ensures bounded { IsCostOfSearch Forward self.now input.now cache.old cache.new }
-        ensures based { IfOk result (λ o. IfSome o (λ p. IsCostUpto self.now input.now p.1 cache.old cache.new)) }
+        ensures cost { IsCostOfSearch Forward self.now input.now cache.old cache.new }
+        ensures upto { IfOk result (λ o. IfSome o (λ p. IsCostUpto self.now input.now p.1 cache.old cache.new)) }
         ensures unsupported { input.now.start ≤ input.now.end → quit_behind self.now
             (byte_before input.now.haystack input.now.start) ≡ None → supports self.now input.now.anchored ≡ false
             → result ≡ Err (SearchError.Match (UnsupportedMode input.now.anchored)) }
@@ -136,7 +136,7 @@ impl DFA {
         ensures refusal { IfErr result (IsPassRefusal Forward self.now cache.new.store input.now) }
         ensures counted { cache.new.count ≤ cache.old.count + (input.now.end - input.now.start + 2) }
         ensures grown { IsGrown cache.old cache.new }
-        ensures idle { KnowsPass Forward self.now cache.old.store input.now
+        ensures known { KnowsPass Forward self.now cache.old.store input.now
             → (cache.new.count ≡ cache.old.count) × IfErr result IsOfInput }
         ensures learned { ClearedNothing cache.old.store cache.new.store
             → OnOk result (HasLearnedAll Forward self.now cache.new.store input.now) }
@@ -612,7 +612,7 @@ impl DFA {
         ensures refusal { IfErr result (IsPassRefusal Forward self.now cache.new.store input.now) }
         ensures counted { cache.new.count ≤ cache.old.count + (input.now.end - input.now.start + 1) }
         ensures grown { IsGrown cache.old cache.new }
-        ensures idle { KnowsPass Forward self.now cache.old.store input.now
+        ensures known { KnowsPass Forward self.now cache.old.store input.now
             → (cache.new.count ≡ cache.old.count) × IfErr result IsOfInput }
         ensures learned { KnowsItsStart Forward self.now cache.old.store input.now
             → ClearedNothing cache.old.store cache.new.store
@@ -669,7 +669,7 @@ impl DFA {
         ensures refusal { IfErr result (IsPassRefusal Forward self.now cache.new.store input.now) }
         ensures counted { cache.new.count ≤ cache.old.count + 1 }
         ensures grown { IsGrown cache.old cache.new }
-        ensures idle { KnowsPass Forward self.now cache.old.store input.now
+        ensures known { KnowsPass Forward self.now cache.old.store input.now
             → (cache.new.count ≡ cache.old.count) × IfErr result IsOfInput }
         ensures learned { KnowsItsStart Forward self.now cache.old.store input.now
             → HasLearned Forward self.now cache.old.store input.now (input.now.end - input.now.start)

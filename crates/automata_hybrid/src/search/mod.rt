@@ -131,7 +131,7 @@ impl DFA {
         ensures of { IsCacheOf cache.new self.now }
         ensures counted { cache.new.count ≤ cache.old.count + 1 }
         ensures grown { IsGrown cache.old cache.new }
-        ensures idle { IsKnownTransition cache.old.store id (class_in self.now.classes byte)
+        ensures known { IsKnownTransition cache.old.store id (class_in self.now.classes byte)
             → (cache.new ≡ cache.old) × IfErr result (λ e. ⊥) }
         ensures learned { ClearedNothing cache.old.store cache.new.store
             → OnOk result (IsKnownTransition cache.new.store id (class_in self.now.classes byte)) }
@@ -172,7 +172,7 @@ impl DFA {
         ensures refusal { IfErr result (λ e. (q : Powerset) → Names cache.old.store.table id q
             → IsStepRefusal self.now cache.new.store q (Some byte) at at e) }
         ensures grown { IsGrown cache.old cache.new }
-        ensures idle { IsKnownTransition cache.old.store id (class_in self.now.classes byte)
+        ensures known { IsKnownTransition cache.old.store id (class_in self.now.classes byte)
             → (cache.new.count ≡ cache.old.count) × IfErr result IsOfInput }
         ensures learned { ClearedNothing cache.old.store cache.new.store
             → OnOk result (IsKnownTransition cache.new.store id (class_in self.now.classes byte)) }
@@ -209,7 +209,7 @@ impl DFA {
         ensures refusal { IfErr result (λ e. (q : Powerset) → Names cache.old.store.table id q
             → IsStepRefusal self.now cache.new.store q None at at e) }
         ensures grown { IsGrown cache.old cache.new }
-        ensures idle { IsKnownTransition cache.old.store id (eoi_class self.now.classes)
+        ensures known { IsKnownTransition cache.old.store id (eoi_class self.now.classes)
             → (cache.new.count ≡ cache.old.count) × IfErr result IsOfInput }
         ensures learned { ClearedNothing cache.old.store cache.new.store
             → OnOk result (IsKnownTransition cache.new.store id (eoi_class self.now.classes)) }

@@ -145,7 +145,7 @@ impl DFA {
         ensures unsupported { walk.now.stage ≡ Fresh → quit_behind self.now (tape_in (way_of way) input.now).before
             ≡ None → supports self.now input.now.anchored ≡ false
             → result ≡ Err (SearchError.Match (UnsupportedMode input.now.anchored)) }
-        ensures idle { (MayStart self.now input.now.anchored (tape_in (way_of way) input.now).before
+        ensures known { (MayStart self.now input.now.anchored (tape_in (way_of way) input.now).before
             → KnowsItsState (way_of way) self.now cache.old.store input.now walk.now.stage)
             → (cache.new ≡ cache.old) × IfErr result IsOfInput }
         ensures learned { OnOk result (KnowsItsState (way_of way) self.now cache.new.store input.now walk.now.stage) }
@@ -186,11 +186,11 @@ impl DFA {
         ensures at { IfOk result (IsNamedAt cache.new.store.table walk.new.stage) }
         ensures sure { IfOk result (λ next. next ≡ None → walk.new.stage ≡ Ended) }
         ensures tells { OnOk result (TellsNext (way_of way) self.now input.now walk.old walk.new) }
-        ensures refused { OnErr result (walk.new ≡ walk.old) }
+        ensures err { OnErr result (walk.new ≡ walk.old) }
         ensures refusal { (k : ℕ) → HasTold (way_of way) self.now input.now walk.old k
             → IfErr result (IsWalkRefusal (way_of way) self.now cache.new.store input.now walk.old k) }
         ensures rises { OnOk result (walk.old.units ≤ walk.new.units) }
-        ensures bounded { OnOk result (cache.new.count + walk.old.units
+        ensures cost { OnOk result (cache.new.count + walk.old.units
             ≤ cache.old.count + walk.new.units + start_count walk.old.stage) }
         ensures most { cache.new.count + walk.old.units ≤ cache.old.count + (input.now.end - input.now.start + 1)
             + start_count walk.old.stage }
@@ -201,7 +201,7 @@ impl DFA {
         ensures unsupported { walk.old.stage ≡ Fresh → quit_behind self.now (tape_in (way_of way) input.now).before
             ≡ None → supports self.now input.now.anchored ≡ false
             → result ≡ Err (SearchError.Match (UnsupportedMode input.now.anchored)) }
-        ensures idle { KnowsWalk (way_of way) self.now cache.old.store input.now walk.old
+        ensures known { KnowsWalk (way_of way) self.now cache.old.store input.now walk.old
             → IsStill cache.old cache.new × IfErr result IsOfInput }
         ensures learned { ClearedNothing cache.old.store cache.new.store
             → OnOk result (KnowsWalk (way_of way) self.now cache.new.store input.now walk.old) }
@@ -283,7 +283,7 @@ impl DFA {
             → IfErr result (IsWalkRefusal (way_of way) self.now cache.new.store input.now walk.old k) }
         ensures lost { walk.old.lost ≡ true → IfErr result (λ e. e ≡ SearchError.OutOfMemory) }
         ensures rises { OnOk result (walk.old.units ≤ walk.new.units) }
-        ensures bounded { OnOk result (cache.new.count + walk.old.units
+        ensures cost { OnOk result (cache.new.count + walk.old.units
             ≤ cache.old.count + walk.new.units + start_count walk.old.stage) }
         ensures most { cache.new.count ≤ cache.old.count + (input.now.end - input.now.start + 1 - walk.old.units)
             + start_count walk.old.stage }
@@ -301,7 +301,7 @@ impl DFA {
             → quit_behind self.now (tape_in (way_of way) input.now).before ≡ None
             → supports self.now input.now.anchored ≡ false
             → result ≡ Err (SearchError.Match (UnsupportedMode input.now.anchored)) }
-        ensures idle { KnowsWalk (way_of way) self.now cache.old.store input.now walk.old
+        ensures known { KnowsWalk (way_of way) self.now cache.old.store input.now walk.old
             → IsStill cache.old cache.new × (walk.old.lost ≡ false → IfErr result IsOfInput) }
         ensures learned { ClearedNothing cache.old.store cache.new.store
             → OnOk result (KnowsWalk (way_of way) self.now cache.new.store input.now walk.old) }
@@ -344,7 +344,7 @@ impl DFA {
             → IfErr result (IsWalkRefusal (way_of way) self.now cache.new.store input.now walk.old k) }
         ensures lost { at.now ≡ None → walk.old.lost ≡ true → IfErr result (λ e. e ≡ SearchError.OutOfMemory) }
         ensures rises { OnOk result (walk.old.units ≤ walk.new.units) }
-        ensures bounded { OnOk result (cache.new.count + walk.old.units
+        ensures cost { OnOk result (cache.new.count + walk.old.units
             ≤ cache.old.count + walk.new.units + start_count walk.old.stage) }
         ensures most { cache.new.count ≤ cache.old.count + (input.now.end - input.now.start + 1 - walk.old.units)
             + start_count walk.old.stage }
@@ -361,7 +361,7 @@ impl DFA {
             → quit_behind self.now (tape_in (way_of way) input.now).before ≡ None
             → supports self.now input.now.anchored ≡ false
             → result ≡ Err (SearchError.Match (UnsupportedMode input.now.anchored)) }
-        ensures idle { KnowsWalk (way_of way) self.now cache.old.store input.now walk.old
+        ensures known { KnowsWalk (way_of way) self.now cache.old.store input.now walk.old
             → IsStill cache.old cache.new × (CanGoOn walk.old at.now → IfErr result IsOfInput) }
         ensures learned { ClearedNothing cache.old.store cache.new.store
             → OnOk result (KnowsWalk (way_of way) self.now cache.new.store input.now walk.old) }

@@ -76,7 +76,7 @@ impl DFA {
         ensures of { IsCacheOf cache.new self.now }
         ensures found { IfOk result (WithoutBase (IsFound Backward self.now input.now)) }
         ensures refusal { IfErr result (IsRefused Backward self.now cache.new.store input.now) }
-        ensures bounded { IsCostOfSearch Backward self.now input.now cache.old cache.new }
+        ensures cost { IsCostOfSearch Backward self.now input.now cache.old cache.new }
         ensures unsupported { input.now.start ≤ input.now.end → quit_behind self.now
             (nth input.now.haystack input.now.end) ≡ None → supports self.now input.now.anchored ≡ false
             → result ≡ Err (SearchError.Match (UnsupportedMode input.now.anchored)) }
@@ -122,7 +122,7 @@ impl DFA {
         ensures refusal { IfErr result (IsPassRefusal Backward self.now cache.new.store input.now) }
         ensures counted { cache.new.count ≤ cache.old.count + (input.now.end - input.now.start + 2) }
         ensures grown { IsGrown cache.old cache.new }
-        ensures idle { KnowsPass Backward self.now cache.old.store input.now
+        ensures known { KnowsPass Backward self.now cache.old.store input.now
             → (cache.new.count ≡ cache.old.count) × IfErr result IsOfInput }
         ensures learned { ClearedNothing cache.old.store cache.new.store
             → OnOk result (HasLearnedAll Backward self.now cache.new.store input.now) }
@@ -600,7 +600,7 @@ impl DFA {
         ensures refusal { IfErr result (IsPassRefusal Backward self.now cache.new.store input.now) }
         ensures counted { cache.new.count ≤ cache.old.count + (input.now.end - input.now.start + 1) }
         ensures grown { IsGrown cache.old cache.new }
-        ensures idle { KnowsPass Backward self.now cache.old.store input.now
+        ensures known { KnowsPass Backward self.now cache.old.store input.now
             → (cache.new.count ≡ cache.old.count) × IfErr result IsOfInput }
         ensures learned { KnowsItsStart Backward self.now cache.old.store input.now
             → ClearedNothing cache.old.store cache.new.store
@@ -659,7 +659,7 @@ impl DFA {
         ensures refusal { IfErr result (IsPassRefusal Backward self.now cache.new.store input.now) }
         ensures counted { cache.new.count ≤ cache.old.count + 1 }
         ensures grown { IsGrown cache.old cache.new }
-        ensures idle { KnowsPass Backward self.now cache.old.store input.now
+        ensures known { KnowsPass Backward self.now cache.old.store input.now
             → (cache.new.count ≡ cache.old.count) × IfErr result IsOfInput }
         ensures learned { KnowsItsStart Backward self.now cache.old.store input.now
             → HasLearned Backward self.now cache.old.store input.now (input.now.end - input.now.start)
@@ -699,7 +699,7 @@ impl DFA {
         ensures refusal { IfErr result (λ e. (q : Powerset) → Names cache.old.store.table id q
             → IsStepRefusal self.now cache.new.store q (Some byte) (start - 1) start e) }
         ensures grown { IsGrown cache.old cache.new }
-        ensures idle { IsKnownTransition cache.old.store id (class_in self.now.classes byte)
+        ensures known { IsKnownTransition cache.old.store id (class_in self.now.classes byte)
             → (cache.new.count ≡ cache.old.count) × IfErr result IsOfInput }
         ensures learned { ClearedNothing cache.old.store cache.new.store
             → OnOk result (IsKnownTransition cache.new.store id (class_in self.now.classes byte)) }

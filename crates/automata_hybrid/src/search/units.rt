@@ -146,7 +146,7 @@ impl DFA {
         ensures unsupported { quit_behind self.now (tape_in (way_of way) input.now).before ≡ None
             → supports self.now input.now.anchored ≡ false
             → result ≡ Err (SearchError.Match (UnsupportedMode input.now.anchored)) }
-        ensures idle { (MayStart self.now input.now.anchored (tape_in (way_of way) input.now).before
+        ensures known { (MayStart self.now input.now.anchored (tape_in (way_of way) input.now).before
             → KnowsItsStart (way_of way) self.now cache.old.store input.now)
             → (cache.new ≡ cache.old) × IfErr result IsOfInput }
         ensures learned { OnOk result (KnowsItsStart (way_of way) self.now cache.new.store input.now) }
@@ -179,7 +179,7 @@ impl DFA {
         ensures refusal { IfErr result (λ e. (q : Powerset) → Names cache.old.store.table id q
             → IsStepRefusal self.now cache.new.store q (Some byte) quit_at at e) }
         ensures grown { IsGrown cache.old cache.new }
-        ensures idle { IsKnownTransition cache.old.store id (class_in self.now.classes byte)
+        ensures known { IsKnownTransition cache.old.store id (class_in self.now.classes byte)
             → (cache.new.count ≡ cache.old.count) × IfErr result IsOfInput }
         ensures learned { ClearedNothing cache.old.store cache.new.store
             → OnOk result (IsKnownTransition cache.new.store id (class_in self.now.classes byte)) }
@@ -221,7 +221,7 @@ impl DFA {
         ensures reads { WalkReads (way_of way) self.now input.now place }
         ensures refusal { IfErr result (IsUnitRefusal (way_of way) self.now cache.new.store input.now place) }
         ensures grown { IsGrown cache.old cache.new }
-        ensures idle { KnowsUnit (way_of way) self.now cache.old.store input.now place
+        ensures known { KnowsUnit (way_of way) self.now cache.old.store input.now place
             → (cache.new.count ≡ cache.old.count) × IfErr result IsOfInput }
         ensures learned { ClearedNothing cache.old.store cache.new.store
             → OnOk result (HasLearnedUnit (way_of way) self.now cache.new.store input.now place) }
@@ -324,7 +324,7 @@ impl DFA {
         ensures arrives { IfOk result (λ a. IsArrival (way_of way) self.now cache.new.store.table input.now units a.id
             a.units) }
         ensures refusal { IfErr result (IsAdvanceRefusal (way_of way) self.now cache.new.store input.now units) }
-        ensures idle { (k : ℕ) → HasToldBy (way_of way) self.now input.now units k
+        ensures known { (k : ℕ) → HasToldBy (way_of way) self.now input.now units k
             → KnowsUnits (way_of way) self.now cache.old.store input.now units k
             → (cache.new.count ≡ cache.old.count) × IfErr result IsOfInput }
         ensures learned { ClearedNothing cache.old.store cache.new.store

@@ -71,9 +71,9 @@ impl DFA {
         ensures unsupported { input.now.start ≤ input.now.end → quit_behind self.now
             (byte_before input.now.haystack input.now.start) ≡ None → supports self.now input.now.anchored ≡ false
             → result ≡ Err (SearchError.Match (UnsupportedMode input.now.anchored)) }
-        ensures bounded { cache.new.count ≤ cache.old.count + (input.now.end - input.now.start + 2) }
+        ensures cost { cache.new.count ≤ cache.old.count + (input.now.end - input.now.start + 2) }
         ensures grown { IsGrown cache.old cache.new }
-        ensures idle { KnowsWhich self.now cache.old.store input.now patset.old
+        ensures known { KnowsWhich self.now cache.old.store input.now patset.old
             → IsStill cache.old cache.new × IfErr result IsOfInput }
         ensures learned { ClearedNothing cache.old.store cache.new.store
             → OnOk result (KnowsWhich self.now cache.new.store input.now patset.old) }

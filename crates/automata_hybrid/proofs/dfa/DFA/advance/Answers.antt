@@ -71,7 +71,7 @@ loop-read-preserved c =
       idle = λ n told knows. (
           let from : c.args.units ≤ k = omega (arith, c.loop-read.invariant.from, f.more) in
           let count : c.loop-read.cache.count ≡ c.args.cache.now.count = c.loop-read.invariant.idle n told knows in
-          let here = c.in_ok-next.ensures.idle (unit_knows d c.args.self.now c.args.cache.now c.loop-read.cache c.args.input.now c.args.units k n c.loop-read.invariant.grown count knows from c.in_ok-next.ensures.reads (followed_clean f c.loop-read.invariant.clean) (followed_silent f c.loop-read.invariant.silent n told)) in
+          let here = c.in_ok-next.ensures.known (unit_knows d c.args.self.now c.args.cache.now c.loop-read.cache c.args.input.now c.args.units k n c.loop-read.invariant.grown count knows from c.in_ok-next.ensures.reads (followed_clean f c.loop-read.invariant.clean) (followed_silent f c.loop-read.invariant.silent n told)) in
           here.0 ∙ count);
       learned = λ nothing. (
           let second : ClearedNothing c.loop-read.cache.store c.read_unit.new.cache.store = nothing_second c.args.cache.now c.loop-read.cache c.read_unit.new.cache c.loop-read.invariant.grown c.in_ok-next.ensures.grown nothing in
@@ -118,25 +118,25 @@ returns-then-tells-clause-arrives c =
       silent = followed_silent f c.loop-read.invariant.silent;
     }
 
-pub returns-in_err-next-clause-idle : goal.returns-in_err-next-clause-idle
-returns-in_err-next-clause-idle c = λ n told knows.
+pub returns-in_err-next-clause-known : goal.returns-in_err-next-clause-known
+returns-in_err-next-clause-known c = λ n told knows.
     let d : Direction = way_of c.args.way in
     let k : ℕ = c.follow-stop.result.at in
     let f : IsFollowed d c.args.self.now c.loop-read.cache.store c.args.input.now c.loop-read.read k c.follow-stop.result.id = c.follow-stop.ensures.followed in
     let from : c.args.units ≤ k = omega (arith, c.loop-read.invariant.from, f.more) in
     let count : c.loop-read.cache.count ≡ c.args.cache.now.count = c.loop-read.invariant.idle n told knows in
-    let here = c.in_err-next.ensures.idle (unit_knows d c.args.self.now c.args.cache.now c.loop-read.cache c.args.input.now c.args.units k n c.loop-read.invariant.grown count knows from c.in_err-next.ensures.reads (followed_clean f c.loop-read.invariant.clean) (followed_silent f c.loop-read.invariant.silent n told)) in
+    let here = c.in_err-next.ensures.known (unit_knows d c.args.self.now c.args.cache.now c.loop-read.cache c.args.input.now c.args.units k n c.loop-read.invariant.grown count knows from c.in_err-next.ensures.reads (followed_clean f c.loop-read.invariant.clean) (followed_silent f c.loop-read.invariant.silent n told)) in
     (here.0 ∙ count, if_err c.from_residual.result _ _ c.from_residual.ensures.1 here.1)
 
-pub returns-then-is_dead-clause-idle : goal.returns-then-is_dead-clause-idle
-returns-then-is_dead-clause-idle c = λ n told knows.
+pub returns-then-is_dead-clause-known : goal.returns-then-is_dead-clause-known
+returns-then-is_dead-clause-known c = λ n told knows.
     let d : Direction = way_of c.args.way in
     let k : ℕ = c.follow-stop.result.at in
     let f : IsFollowed d c.args.self.now c.loop-read.cache.store c.args.input.now c.loop-read.read k c.follow-stop.result.id = c.follow-stop.ensures.followed in
     let from : c.args.units ≤ k = omega (arith, c.loop-read.invariant.from, f.more) in
     let count : c.loop-read.cache.count ≡ c.args.cache.now.count = c.loop-read.invariant.idle n told knows in
-    let here = c.in_ok-next.ensures.idle (unit_knows d c.args.self.now c.args.cache.now c.loop-read.cache c.args.input.now c.args.units k n c.loop-read.invariant.grown count knows from c.in_ok-next.ensures.reads (followed_clean f c.loop-read.invariant.clean) (followed_silent f c.loop-read.invariant.silent n told)) in
-    (c.end_search.ensures.count ∙ (here.0 ∙ count), tt)
+    let here = c.in_ok-next.ensures.known (unit_knows d c.args.self.now c.args.cache.now c.loop-read.cache c.args.input.now c.args.units k n c.loop-read.invariant.grown count knows from c.in_ok-next.ensures.reads (followed_clean f c.loop-read.invariant.clean) (followed_silent f c.loop-read.invariant.silent n told)) in
+    (c.end_search.ensures.counted ∙ (here.0 ∙ count), tt)
 
 pub returns-then-is_dead-clause-learned : goal.returns-then-is_dead-clause-learned
 returns-then-is_dead-clause-learned c =
@@ -151,15 +151,15 @@ returns-then-is_dead-clause-learned c =
     (units_more d c.args.self.now c.loop-read.cache c.read_unit.new.cache c.args.input.now c.args.units c.loop-read.read k c.follow-stop.result.id c.in_ok-next.ensures.grown second
     (c.loop-read.invariant.learned first) f (c.in_ok-next.ensures.learned second)))
 
-pub returns-then-tells-clause-idle : goal.returns-then-tells-clause-idle
-returns-then-tells-clause-idle c = λ n told knows.
+pub returns-then-tells-clause-known : goal.returns-then-tells-clause-known
+returns-then-tells-clause-known c = λ n told knows.
     let d : Direction = way_of c.args.way in
     let k : ℕ = c.follow-stop.result.at in
     let f : IsFollowed d c.args.self.now c.loop-read.cache.store c.args.input.now c.loop-read.read k c.follow-stop.result.id = c.follow-stop.ensures.followed in
     let from : c.args.units ≤ k = omega (arith, c.loop-read.invariant.from, f.more) in
     let count : c.loop-read.cache.count ≡ c.args.cache.now.count = c.loop-read.invariant.idle n told knows in
-    let here = c.in_ok-next.ensures.idle (unit_knows d c.args.self.now c.args.cache.now c.loop-read.cache c.args.input.now c.args.units k n c.loop-read.invariant.grown count knows from c.in_ok-next.ensures.reads (followed_clean f c.loop-read.invariant.clean) (followed_silent f c.loop-read.invariant.silent n told)) in
-    (c.end_search-then-tells.ensures.count ∙ (here.0 ∙ count), tt)
+    let here = c.in_ok-next.ensures.known (unit_knows d c.args.self.now c.args.cache.now c.loop-read.cache c.args.input.now c.args.units k n c.loop-read.invariant.grown count knows from c.in_ok-next.ensures.reads (followed_clean f c.loop-read.invariant.clean) (followed_silent f c.loop-read.invariant.silent n told)) in
+    (c.end_search-then-tells.ensures.counted ∙ (here.0 ∙ count), tt)
 
 pub returns-then-tells-clause-learned : goal.returns-then-tells-clause-learned
 returns-then-tells-clause-learned c =

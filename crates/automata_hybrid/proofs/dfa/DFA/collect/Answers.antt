@@ -111,13 +111,13 @@ loop-walk-preserved c =
       of = c.in_ok-next.ensures.of;
       grown = grown_trans c.args.cache.now c.loop-walk.cache c.go_on.new.cache c.loop-walk.invariant.grown (c.in_ok-next.ensures.there c.loop-walk.invariant.holds);
       holds = c.in_ok-next.ensures.holds c.loop-walk.invariant.holds;
-      counted = omega (arith, well.begun, c.in_ok-next.ensures.bounded, c.loop-walk.invariant.counted);
+      counted = omega (arith, well.begun, c.in_ok-next.ensures.cost, c.loop-walk.invariant.counted);
       few = well.units;
       idle = λ knows. (
           let told : WalksAreTold c.args.self.now.nfa = subst WalksAreTold c.get_nfa.ensures c.walk_is_right.ensures.told in
           let list : (pairs : List Pair) × AreWalked Forward c.args.self.now c.args.input.now pairs = told Forward (match_kind_of c.args.self.now.config) c.args.input.now in
           let count : c.loop-walk.cache.count ≡ c.args.cache.now.count = c.loop-walk.invariant.idle knows in
-          let here = c.in_ok-next.ensures.idle (which_walk c.args.self.now c.loop-walk.cache.store c.args.input.now c.loop-walk.walk c.args.patset.now c.loop-walk.patset c.loop-walk.invariant.joins.0 list c.loop-walk.invariant.holds
+          let here = c.in_ok-next.ensures.known (which_walk c.args.self.now c.loop-walk.cache.store c.args.input.now c.loop-walk.walk c.args.patset.now c.loop-walk.patset c.loop-walk.invariant.joins.0 list c.loop-walk.invariant.holds
           (which_still c.args.self.now c.args.input.now c.args.patset.now c.args.cache.now c.loop-walk.cache c.loop-walk.invariant.grown count knows)) in
           here.0.0 ∙ count);
       on = on.0;
@@ -156,41 +156,41 @@ pub returns-then-get_earliest-clause-unsupported : goal.returns-then-get_earlies
 returns-then-get_earliest-clause-unsupported c = λ undone behind mode.
     absurd (ok_err (c.in_ok-next.ensures.unsupported (c.loop-walk.invariant.begins (undone, behind, mode)) undone behind mode))
 
-pub returns-in_err-next-clause-idle : goal.returns-in_err-next-clause-idle
-returns-in_err-next-clause-idle c = λ knows.
+pub returns-in_err-next-clause-known : goal.returns-in_err-next-clause-known
+returns-in_err-next-clause-known c = λ knows.
     let told : WalksAreTold c.args.self.now.nfa = subst WalksAreTold c.get_nfa.ensures c.walk_is_right.ensures.told in
     let list : (pairs : List Pair) × AreWalked Forward c.args.self.now c.args.input.now pairs = told Forward (match_kind_of c.args.self.now.config) c.args.input.now in
     let count : c.loop-walk.cache.count ≡ c.args.cache.now.count = c.loop-walk.invariant.idle knows in
-    let here = c.in_err-next.ensures.idle (which_walk c.args.self.now c.loop-walk.cache.store c.args.input.now c.loop-walk.walk c.args.patset.now c.loop-walk.patset c.loop-walk.invariant.joins.0 list c.loop-walk.invariant.holds
+    let here = c.in_err-next.ensures.known (which_walk c.args.self.now c.loop-walk.cache.store c.args.input.now c.loop-walk.walk c.args.patset.now c.loop-walk.patset c.loop-walk.invariant.joins.0 list c.loop-walk.invariant.holds
     (which_still c.args.self.now c.args.input.now c.args.patset.now c.args.cache.now c.loop-walk.cache c.loop-walk.invariant.grown count knows)) in (
       (returns-in_err-next-clause-grown c).idle (here.0.0 ∙ count),
       if_err c.from_residual.result _ _ c.from_residual.ensures.1 (here.1 c.loop-walk.invariant.can),
     )
 
-pub returns-in_default-clause-idle : goal.returns-in_default-clause-idle
-returns-in_default-clause-idle c = λ knows.
+pub returns-in_default-clause-known : goal.returns-in_default-clause-known
+returns-in_default-clause-known c = λ knows.
     let told : WalksAreTold c.args.self.now.nfa = subst WalksAreTold c.get_nfa.ensures c.walk_is_right.ensures.told in
     let list : (pairs : List Pair) × AreWalked Forward c.args.self.now c.args.input.now pairs = told Forward (match_kind_of c.args.self.now.config) c.args.input.now in
     let count : c.loop-walk.cache.count ≡ c.args.cache.now.count = c.loop-walk.invariant.idle knows in
-    let here = c.in_ok-next.ensures.idle (which_walk c.args.self.now c.loop-walk.cache.store c.args.input.now c.loop-walk.walk c.args.patset.now c.loop-walk.patset c.loop-walk.invariant.joins.0 list c.loop-walk.invariant.holds
+    let here = c.in_ok-next.ensures.known (which_walk c.args.self.now c.loop-walk.cache.store c.args.input.now c.loop-walk.walk c.args.patset.now c.loop-walk.patset c.loop-walk.invariant.joins.0 list c.loop-walk.invariant.holds
     (which_still c.args.self.now c.args.input.now c.args.patset.now c.args.cache.now c.loop-walk.cache c.loop-walk.invariant.grown count knows)) in
     ((returns-in_default-clause-grown c).idle (here.0.0 ∙ count), tt)
 
-pub returns-then-is_full-clause-idle : goal.returns-then-is_full-clause-idle
-returns-then-is_full-clause-idle c = λ knows.
+pub returns-then-is_full-clause-known : goal.returns-then-is_full-clause-known
+returns-then-is_full-clause-known c = λ knows.
     let told : WalksAreTold c.args.self.now.nfa = subst WalksAreTold c.get_nfa.ensures c.walk_is_right.ensures.told in
     let list : (pairs : List Pair) × AreWalked Forward c.args.self.now c.args.input.now pairs = told Forward (match_kind_of c.args.self.now.config) c.args.input.now in
     let count : c.loop-walk.cache.count ≡ c.args.cache.now.count = c.loop-walk.invariant.idle knows in
-    let here = c.in_ok-next.ensures.idle (which_walk c.args.self.now c.loop-walk.cache.store c.args.input.now c.loop-walk.walk c.args.patset.now c.loop-walk.patset c.loop-walk.invariant.joins.0 list c.loop-walk.invariant.holds
+    let here = c.in_ok-next.ensures.known (which_walk c.args.self.now c.loop-walk.cache.store c.args.input.now c.loop-walk.walk c.args.patset.now c.loop-walk.patset c.loop-walk.invariant.joins.0 list c.loop-walk.invariant.holds
     (which_still c.args.self.now c.args.input.now c.args.patset.now c.args.cache.now c.loop-walk.cache c.loop-walk.invariant.grown count knows)) in
     ((returns-then-is_full-clause-grown c).idle (here.0.0 ∙ count), tt)
 
-pub returns-then-get_earliest-clause-idle : goal.returns-then-get_earliest-clause-idle
-returns-then-get_earliest-clause-idle c = λ knows.
+pub returns-then-get_earliest-clause-known : goal.returns-then-get_earliest-clause-known
+returns-then-get_earliest-clause-known c = λ knows.
     let told : WalksAreTold c.args.self.now.nfa = subst WalksAreTold c.get_nfa.ensures c.walk_is_right.ensures.told in
     let list : (pairs : List Pair) × AreWalked Forward c.args.self.now c.args.input.now pairs = told Forward (match_kind_of c.args.self.now.config) c.args.input.now in
     let count : c.loop-walk.cache.count ≡ c.args.cache.now.count = c.loop-walk.invariant.idle knows in
-    let here = c.in_ok-next.ensures.idle (which_walk c.args.self.now c.loop-walk.cache.store c.args.input.now c.loop-walk.walk c.args.patset.now c.loop-walk.patset c.loop-walk.invariant.joins.0 list c.loop-walk.invariant.holds
+    let here = c.in_ok-next.ensures.known (which_walk c.args.self.now c.loop-walk.cache.store c.args.input.now c.loop-walk.walk c.args.patset.now c.loop-walk.patset c.loop-walk.invariant.joins.0 list c.loop-walk.invariant.holds
     (which_still c.args.self.now c.args.input.now c.args.patset.now c.args.cache.now c.loop-walk.cache c.loop-walk.invariant.grown count knows)) in
     ((returns-then-get_earliest-clause-grown c).idle (here.0.0 ∙ count), tt)
 

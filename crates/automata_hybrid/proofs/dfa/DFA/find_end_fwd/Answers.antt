@@ -87,37 +87,37 @@ returns-then-end-haystack-clause-learned c = λ begin learned.
     (learned_ends Forward c.args.self.now c.args.cache.now c.read.new.cache c.args.input.now k c.args.id (Some _) c.in_ok-last.ensures.grown c.in_ok-last.ensures.of c.requires.at.named read c.in_ok-last.ensures.learned c.in_ok-last.ensures.below
     (stops_last Forward c.args.self.now c.args.input.now k units) begin learned)
 
-pub returns-then-end-haystack-clause-idle : goal.returns-then-end-haystack-clause-idle
-returns-then-end-haystack-clause-idle c = λ knows.
+pub returns-then-end-haystack-clause-known : goal.returns-then-end-haystack-clause-known
+returns-then-end-haystack-clause-known c = λ knows.
     let k : ℕ = c.args.input.now.end - c.args.input.now.start in
     let end : c.end-end.result ≡ c.args.input.now.start + k = omega (arith, c.end-end.ensures.end, c.requires.open) in
     let read : next (tape_in Forward c.args.input.now) k ≡ Some _ = forward_read c.args.input.now c.haystack-then-end-haystack.result.now c.args.input.now.end c.end-end.result c.requires.open (omega arith) c.end-end.ensures.within.1 (let h : length c.haystack.result.now ≡ length c.args.input.now.haystack = ap (λ (x : List ℕ). length x) c.haystack.ensures.same in omega (arith, h, c.if-end-haystack.true, c.end-end.ensures.end)) c.haystack-then-end-haystack.ensures.same c.end-end.ensures.end in
     let units : k ≡ length (tape_in Forward c.args.input.now).bytes = forward_units c.args.input.now c.requires.open c.end-end.ensures.within.1 in
-    let idle = c.in_ok-last.ensures.idle (knows_here Forward c.args.self.now c.args.cache.now.store c.args.input.now k c.args.id c.args.found (Some _) knows c.requires.may c.requires.at (omega (arith, units)) c.in_ok-last.ensures.alive read) in
-    (c.end_search.ensures.count ∙ idle.0, tt)
+    let idle = c.in_ok-last.ensures.known (knows_here Forward c.args.self.now c.args.cache.now.store c.args.input.now k c.args.id c.args.found (Some _) knows c.requires.may c.requires.at (omega (arith, units)) c.in_ok-last.ensures.alive read) in
+    (c.end_search.ensures.counted ∙ idle.0, tt)
 
-pub returns-in_err-last-clause-idle : goal.returns-in_err-last-clause-idle
-returns-in_err-last-clause-idle c = λ knows.
+pub returns-in_err-last-clause-known : goal.returns-in_err-last-clause-known
+returns-in_err-last-clause-known c = λ knows.
     let k : ℕ = c.args.input.now.end - c.args.input.now.start in
     let end : c.end-end.result ≡ c.args.input.now.start + k = omega (arith, c.end-end.ensures.end, c.requires.open) in
     let read : next (tape_in Forward c.args.input.now) k ≡ Some _ = forward_read c.args.input.now c.haystack-then-end-haystack.result.now c.args.input.now.end c.end-end.result c.requires.open (omega arith) c.end-end.ensures.within.1 (let h : length c.haystack.result.now ≡ length c.args.input.now.haystack = ap (λ (x : List ℕ). length x) c.haystack.ensures.same in omega (arith, h, c.if-end-haystack.true, c.end-end.ensures.end)) c.haystack-then-end-haystack.ensures.same c.end-end.ensures.end in
     let units : k ≡ length (tape_in Forward c.args.input.now).bytes = forward_units c.args.input.now c.requires.open c.end-end.ensures.within.1 in
-    let idle = c.in_err-last.ensures.idle (knows_here Forward c.args.self.now c.args.cache.now.store c.args.input.now k c.args.id c.args.found (Some _) knows c.requires.may c.requires.at (omega (arith, units)) c.in_err-last.ensures.alive read) in
+    let idle = c.in_err-last.ensures.known (knows_here Forward c.args.self.now c.args.cache.now.store c.args.input.now k c.args.id c.args.found (Some _) knows c.requires.may c.requires.at (omega (arith, units)) c.in_err-last.ensures.alive read) in
     (idle.0, if_err c.from_residual.result _ _ c.from_residual.ensures.1 idle.1)
 
 pub returns-in_err-last-2-clause-grown : goal.returns-in_err-last-2-clause-grown
 returns-in_err-last-2-clause-grown c =
     grown_trans c.args.cache.now c.move_search.new.self c.read_end.new.cache (grown_moved c.args.cache.now c.move_search.new.self c.move_search.ensures.value) c.in_err-last-2.ensures.grown
 
-pub returns-in_err-last-2-clause-idle : goal.returns-in_err-last-2-clause-idle
-returns-in_err-last-2-clause-idle c = λ knows.
+pub returns-in_err-last-2-clause-known : goal.returns-in_err-last-2-clause-known
+returns-in_err-last-2-clause-known c = λ knows.
     let k : ℕ = c.args.input.now.end - c.args.input.now.start in
     let past : next (tape_in Forward c.args.input.now) k ≡ None = forward_end c.args.input.now c.requires.open c.end-end.ensures.within.1 (let h : length c.haystack.result.now ≡ length c.args.input.now.haystack = ap (λ (x : List ℕ). length x) c.haystack.ensures.same in omega (arith, h, c.if-end-haystack.false, c.end-end.ensures.end)) in
     let units : k ≡ length (tape_in Forward c.args.input.now).bytes = forward_units c.args.input.now c.requires.open c.end-end.ensures.within.1 in
     let known : IsKnownTransition c.args.cache.now.store c.args.id (unit_class c.args.self.now None) = knows_here Forward c.args.self.now c.args.cache.now.store c.args.input.now k c.args.id c.args.found None knows c.requires.may c.requires.at (omega (arith, units))
     (λ q n. c.in_err-last-2.ensures.alive q (subst (λ (t : Rows). Names t c.args.id q) (sym c.move_search.ensures.table) n)) past in
-    let idle = c.in_err-last-2.ensures.idle (subst (λ (v : CacheView). IsKnownTransition v.store c.args.id (unit_class c.args.self.now None)) (sym c.move_search.ensures.value) known) in
-    (idle.0 ∙ c.move_search.ensures.count, if_err c.from_residual-in_err-last-2.result _ _ c.from_residual-in_err-last-2.ensures.1 idle.1)
+    let idle = c.in_err-last-2.ensures.known (subst (λ (v : CacheView). IsKnownTransition v.store c.args.id (unit_class c.args.self.now None)) (sym c.move_search.ensures.value) known) in
+    (idle.0 ∙ c.move_search.ensures.counted, if_err c.from_residual-in_err-last-2.result _ _ c.from_residual-in_err-last-2.ensures.1 idle.1)
 
 pub returns-clause-grown : goal.returns-clause-grown
 returns-clause-grown c =
@@ -125,15 +125,15 @@ returns-clause-grown c =
     (grown_trans c.args.cache.now c.move_search.new.self c.read_end.new.cache (grown_moved c.args.cache.now c.move_search.new.self c.move_search.ensures.value) c.in_ok-last-2.ensures.grown)
     (grown_moved c.read_end.new.cache c.end_search-2.new.self c.end_search-2.ensures.value)
 
-pub returns-clause-idle : goal.returns-clause-idle
-returns-clause-idle c = λ knows.
+pub returns-clause-known : goal.returns-clause-known
+returns-clause-known c = λ knows.
     let k : ℕ = c.args.input.now.end - c.args.input.now.start in
     let past : next (tape_in Forward c.args.input.now) k ≡ None = forward_end c.args.input.now c.requires.open c.end-end.ensures.within.1 (let h : length c.haystack.result.now ≡ length c.args.input.now.haystack = ap (λ (x : List ℕ). length x) c.haystack.ensures.same in omega (arith, h, c.if-end-haystack.false, c.end-end.ensures.end)) in
     let units : k ≡ length (tape_in Forward c.args.input.now).bytes = forward_units c.args.input.now c.requires.open c.end-end.ensures.within.1 in
     let known : IsKnownTransition c.args.cache.now.store c.args.id (unit_class c.args.self.now None) = knows_here Forward c.args.self.now c.args.cache.now.store c.args.input.now k c.args.id c.args.found None knows c.requires.may c.requires.at (omega (arith, units))
     (λ q n. c.in_ok-last-2.ensures.alive q (subst (λ (t : Rows). Names t c.args.id q) (sym c.move_search.ensures.table) n)) past in
-    let idle = c.in_ok-last-2.ensures.idle (subst (λ (v : CacheView). IsKnownTransition v.store c.args.id (unit_class c.args.self.now None)) (sym c.move_search.ensures.value) known) in
-    (c.end_search-2.ensures.count ∙ (idle.0 ∙ c.move_search.ensures.count), tt)
+    let idle = c.in_ok-last-2.ensures.known (subst (λ (v : CacheView). IsKnownTransition v.store c.args.id (unit_class c.args.self.now None)) (sym c.move_search.ensures.value) known) in
+    (c.end_search-2.ensures.counted ∙ (idle.0 ∙ c.move_search.ensures.counted), tt)
 
 pub returns-clause-learned : goal.returns-clause-learned
 returns-clause-learned c = λ begin learned.

@@ -63,20 +63,20 @@ returns-in_err-last-2-clause-refusal c =
     (end_unit_offset c.args.input.now c.start-start.result c.requires.open c.start-start.ensures.start)
     (end_given_up_offset c.args.input.now c.start-start.result c.requires.open c.start-start.ensures.start) c.in_err-last-2.ensures.refusal c.requires.may.0)
 
-pub returns-in_err-last-clause-idle : goal.returns-in_err-last-clause-idle
-returns-in_err-last-clause-idle c = λ knows.
+pub returns-in_err-last-clause-known : goal.returns-in_err-last-clause-known
+returns-in_err-last-clause-known c = λ knows.
     let k : ℕ = c.args.input.now.end - c.args.input.now.start in
     let past : next (tape_in Backward c.args.input.now) k ≡ None = backward_end c.args.input.now c.requires.open c.start-start.ensures.within.1 (omega (arith, c.start-start.ensures.start, c.if-start-eq0.true)) in
     let units : k ≡ length (tape_in Backward c.args.input.now).bytes = backward_units c.args.input.now c.requires.open c.start-start.ensures.within.1 in
-    let idle = c.in_err-last.ensures.idle (knows_here Backward c.args.self.now c.args.cache.now.store c.args.input.now k c.args.id c.args.found None knows c.requires.may c.requires.at (omega (arith, units)) c.in_err-last.ensures.alive past) in
+    let idle = c.in_err-last.ensures.known (knows_here Backward c.args.self.now c.args.cache.now.store c.args.input.now k c.args.id c.args.found None knows c.requires.may c.requires.at (omega (arith, units)) c.in_err-last.ensures.alive past) in
     (idle.0, if_err c.from_residual.result _ _ c.from_residual.ensures.1 idle.1)
 
-pub returns-then-start-eq0-clause-idle : goal.returns-then-start-eq0-clause-idle
-returns-then-start-eq0-clause-idle c = λ knows.
+pub returns-then-start-eq0-clause-known : goal.returns-then-start-eq0-clause-known
+returns-then-start-eq0-clause-known c = λ knows.
     let k : ℕ = c.args.input.now.end - c.args.input.now.start in
     let past : next (tape_in Backward c.args.input.now) k ≡ None = backward_end c.args.input.now c.requires.open c.start-start.ensures.within.1 (omega (arith, c.start-start.ensures.start, c.if-start-eq0.true)) in
     let units : k ≡ length (tape_in Backward c.args.input.now).bytes = backward_units c.args.input.now c.requires.open c.start-start.ensures.within.1 in
-    let idle = c.in_ok-last.ensures.idle (knows_here Backward c.args.self.now c.args.cache.now.store c.args.input.now k c.args.id c.args.found None knows c.requires.may c.requires.at (omega (arith, units)) c.in_ok-last.ensures.alive past) in
+    let idle = c.in_ok-last.ensures.known (knows_here Backward c.args.self.now c.args.cache.now.store c.args.input.now k c.args.id c.args.found None knows c.requires.may c.requires.at (omega (arith, units)) c.in_ok-last.ensures.alive past) in
     (idle.0, tt)
 
 pub returns-then-start-eq0-clause-learned : goal.returns-then-start-eq0-clause-learned
@@ -87,20 +87,20 @@ returns-then-start-eq0-clause-learned c = λ begin learned nothing.
     learned_ends Backward c.args.self.now c.args.cache.now c.read_end.new.cache c.args.input.now k c.args.id None c.in_ok-last.ensures.grown c.in_ok-last.ensures.of c.requires.at.named past c.in_ok-last.ensures.learned c.in_ok-last.ensures.below
     (stops_last Backward c.args.self.now c.args.input.now k units) begin learned nothing
 
-pub returns-in_err-last-2-clause-idle : goal.returns-in_err-last-2-clause-idle
-returns-in_err-last-2-clause-idle c = λ knows.
+pub returns-in_err-last-2-clause-known : goal.returns-in_err-last-2-clause-known
+returns-in_err-last-2-clause-known c = λ knows.
     let k : ℕ = c.args.input.now.end - c.args.input.now.start in
     let read : next (tape_in Backward c.args.input.now) k ≡ Some _ = backward_read c.args.input.now c.haystack.result.now c.args.input.now.start (c.start-start.result - 1) (omega arith) c.requires.open c.start-start.ensures.within.1 c.haystack.ensures.same (omega (arith, c.start-start.ensures.start, c.if-start-eq0.false)) in
     let units : k ≡ length (tape_in Backward c.args.input.now).bytes = backward_units c.args.input.now c.requires.open c.start-start.ensures.within.1 in
-    let idle = c.in_err-last-2.ensures.idle (knows_here Backward c.args.self.now c.args.cache.now.store c.args.input.now k c.args.id c.args.found (Some _) knows c.requires.may c.requires.at (omega (arith, units)) c.in_err-last-2.ensures.alive read) in
+    let idle = c.in_err-last-2.ensures.known (knows_here Backward c.args.self.now c.args.cache.now.store c.args.input.now k c.args.id c.args.found (Some _) knows c.requires.may c.requires.at (omega (arith, units)) c.in_err-last-2.ensures.alive read) in
     (idle.0, if_err c.from_residual-in_err-last-2.result _ _ c.from_residual-in_err-last-2.ensures.1 idle.1)
 
-pub returns-clause-idle : goal.returns-clause-idle
-returns-clause-idle c = λ knows.
+pub returns-clause-known : goal.returns-clause-known
+returns-clause-known c = λ knows.
     let k : ℕ = c.args.input.now.end - c.args.input.now.start in
     let read : next (tape_in Backward c.args.input.now) k ≡ Some _ = backward_read c.args.input.now c.haystack.result.now c.args.input.now.start (c.start-start.result - 1) (omega arith) c.requires.open c.start-start.ensures.within.1 c.haystack.ensures.same (omega (arith, c.start-start.ensures.start, c.if-start-eq0.false)) in
     let units : k ≡ length (tape_in Backward c.args.input.now).bytes = backward_units c.args.input.now c.requires.open c.start-start.ensures.within.1 in
-    let idle = c.in_ok-last-2.ensures.idle (knows_here Backward c.args.self.now c.args.cache.now.store c.args.input.now k c.args.id c.args.found (Some _) knows c.requires.may c.requires.at (omega (arith, units)) c.in_ok-last-2.ensures.alive read) in
+    let idle = c.in_ok-last-2.ensures.known (knows_here Backward c.args.self.now c.args.cache.now.store c.args.input.now k c.args.id c.args.found (Some _) knows c.requires.may c.requires.at (omega (arith, units)) c.in_ok-last-2.ensures.alive read) in
     (idle.0, tt)
 
 pub returns-clause-learned : goal.returns-clause-learned

@@ -126,7 +126,7 @@ loop-at-preserved c =
       grown = grown_trans c.args.cache.now c.loop-at.cache c.read.new.cache c.loop-at.invariant.grown c.in_ok-next.ensures.grown;
       idle = λ knows. (
           let still : KnowsPass Forward c.args.self.now c.loop-at.cache.store c.args.input.now = knows_still Forward c.args.self.now c.args.input.now c.args.cache.now c.loop-at.cache c.loop-at.invariant.grown (c.loop-at.invariant.idle knows) knows in
-          let idle = c.in_ok-next.ensures.idle (knows_here Forward c.args.self.now c.loop-at.cache.store c.args.input.now k c.run_fwd-run.result.id c.run_fwd-run.result.found (Some _) still c.requires.may at few c.in_ok-next.ensures.alive read) in
+          let idle = c.in_ok-next.ensures.known (knows_here Forward c.args.self.now c.loop-at.cache.store c.args.input.now k c.run_fwd-run.result.id c.run_fwd-run.result.found (Some _) still c.requires.may at few c.in_ok-next.ensures.alive read) in
           idle.0 ∙ c.loop-at.invariant.idle knows);
       learned = λ begin nothing. (
           let before = c.loop-at.invariant.learned begin (nothing_first c.args.cache.now c.loop-at.cache c.read.new.cache c.loop-at.invariant.grown c.in_ok-next.ensures.grown nothing) in
@@ -151,8 +151,8 @@ returns-then-is_dead-clause-grown c =
     (grown_trans c.args.cache.now c.loop-at.cache c.read.new.cache c.loop-at.invariant.grown c.in_ok-next.ensures.grown)
     (grown_moved c.read.new.cache c.end_search.new.self c.end_search.ensures.value)
 
-pub returns-then-is_dead-clause-idle : goal.returns-then-is_dead-clause-idle
-returns-then-is_dead-clause-idle c = λ knows.
+pub returns-then-is_dead-clause-known : goal.returns-then-is_dead-clause-known
+returns-then-is_dead-clause-known c = λ knows.
     let from : c.args.input.now.start ≤ c.run_fwd-run.result.at = omega (arith, c.loop-at.invariant.from, c.run_fwd-run.ensures.from) in
     let inside : c.run_fwd-run.result.at < c.args.input.now.end = omega (arith, c.if-run-end.false, c.end-in-loop-at.ensures.end) in
     let k : ℕ = c.run_fwd-run.result.at - c.args.input.now.start in
@@ -161,8 +161,8 @@ returns-then-is_dead-clause-idle c = λ knows.
     let read : next (tape_in Forward c.args.input.now) k ≡ Some _ = forward_read c.args.input.now c.haystack.result.now c.run_fwd-run.result.at c.run_fwd-run.result.at from (omega (arith, inside)) c.end-in-loop-at.ensures.within.1 (omega (arith, inside, c.end-in-loop-at.ensures.within.1)) c.haystack.ensures.same refl in
     let few : k ≤ length (tape_in Forward c.args.input.now).bytes = (let u : c.args.input.now.end - c.args.input.now.start ≡ length (tape_in Forward c.args.input.now).bytes = forward_units c.args.input.now c.requires.open c.end-in-loop-at.ensures.within.1 in omega (arith, u, inside)) in
     let still : KnowsPass Forward c.args.self.now c.loop-at.cache.store c.args.input.now = knows_still Forward c.args.self.now c.args.input.now c.args.cache.now c.loop-at.cache c.loop-at.invariant.grown (c.loop-at.invariant.idle knows) knows in
-    let idle = c.in_ok-next.ensures.idle (knows_here Forward c.args.self.now c.loop-at.cache.store c.args.input.now k c.run_fwd-run.result.id c.run_fwd-run.result.found (Some _) still c.requires.may at few c.in_ok-next.ensures.alive read) in
-    (c.end_search.ensures.count ∙ (idle.0 ∙ c.loop-at.invariant.idle knows), tt)
+    let idle = c.in_ok-next.ensures.known (knows_here Forward c.args.self.now c.loop-at.cache.store c.args.input.now k c.run_fwd-run.result.id c.run_fwd-run.result.found (Some _) still c.requires.may at few c.in_ok-next.ensures.alive read) in
+    (c.end_search.ensures.counted ∙ (idle.0 ∙ c.loop-at.invariant.idle knows), tt)
 
 pub returns-then-is_dead-clause-learned : goal.returns-then-is_dead-clause-learned
 returns-then-is_dead-clause-learned c = λ begin.
@@ -187,8 +187,8 @@ returns-then-is_some-clause-grown c =
     (grown_trans c.args.cache.now c.loop-at.cache c.read.new.cache c.loop-at.invariant.grown c.in_ok-next.ensures.grown)
     (grown_moved c.read.new.cache c.end_search-then-is_some.new.self c.end_search-then-is_some.ensures.value)
 
-pub returns-then-is_some-clause-idle : goal.returns-then-is_some-clause-idle
-returns-then-is_some-clause-idle c = λ knows.
+pub returns-then-is_some-clause-known : goal.returns-then-is_some-clause-known
+returns-then-is_some-clause-known c = λ knows.
     let from : c.args.input.now.start ≤ c.run_fwd-run.result.at = omega (arith, c.loop-at.invariant.from, c.run_fwd-run.ensures.from) in
     let inside : c.run_fwd-run.result.at < c.args.input.now.end = omega (arith, c.if-run-end.false, c.end-in-loop-at.ensures.end) in
     let k : ℕ = c.run_fwd-run.result.at - c.args.input.now.start in
@@ -197,8 +197,8 @@ returns-then-is_some-clause-idle c = λ knows.
     let read : next (tape_in Forward c.args.input.now) k ≡ Some _ = forward_read c.args.input.now c.haystack.result.now c.run_fwd-run.result.at c.run_fwd-run.result.at from (omega (arith, inside)) c.end-in-loop-at.ensures.within.1 (omega (arith, inside, c.end-in-loop-at.ensures.within.1)) c.haystack.ensures.same refl in
     let few : k ≤ length (tape_in Forward c.args.input.now).bytes = (let u : c.args.input.now.end - c.args.input.now.start ≡ length (tape_in Forward c.args.input.now).bytes = forward_units c.args.input.now c.requires.open c.end-in-loop-at.ensures.within.1 in omega (arith, u, inside)) in
     let still : KnowsPass Forward c.args.self.now c.loop-at.cache.store c.args.input.now = knows_still Forward c.args.self.now c.args.input.now c.args.cache.now c.loop-at.cache c.loop-at.invariant.grown (c.loop-at.invariant.idle knows) knows in
-    let idle = c.in_ok-next.ensures.idle (knows_here Forward c.args.self.now c.loop-at.cache.store c.args.input.now k c.run_fwd-run.result.id c.run_fwd-run.result.found (Some _) still c.requires.may at few c.in_ok-next.ensures.alive read) in
-    (c.end_search-then-is_some.ensures.count ∙ (idle.0 ∙ c.loop-at.invariant.idle knows), tt)
+    let idle = c.in_ok-next.ensures.known (knows_here Forward c.args.self.now c.loop-at.cache.store c.args.input.now k c.run_fwd-run.result.id c.run_fwd-run.result.found (Some _) still c.requires.may at few c.in_ok-next.ensures.alive read) in
+    (c.end_search-then-is_some.ensures.counted ∙ (idle.0 ∙ c.loop-at.invariant.idle knows), tt)
 
 pub returns-then-is_some-clause-learned : goal.returns-then-is_some-clause-learned
 returns-then-is_some-clause-learned c = λ begin.
@@ -220,8 +220,8 @@ returns-then-is_some-clause-learned c = λ begin.
 pub returns-in_err-next-clause-grown : goal.returns-in_err-next-clause-grown
 returns-in_err-next-clause-grown c = grown_trans c.args.cache.now c.loop-at.cache c.read.new.cache c.loop-at.invariant.grown c.in_err-next.ensures.grown
 
-pub returns-in_err-next-clause-idle : goal.returns-in_err-next-clause-idle
-returns-in_err-next-clause-idle c = λ knows.
+pub returns-in_err-next-clause-known : goal.returns-in_err-next-clause-known
+returns-in_err-next-clause-known c = λ knows.
     let from : c.args.input.now.start ≤ c.run_fwd-run.result.at = omega (arith, c.loop-at.invariant.from, c.run_fwd-run.ensures.from) in
     let inside : c.run_fwd-run.result.at < c.args.input.now.end = omega (arith, c.if-run-end.false, c.end-in-loop-at.ensures.end) in
     let k : ℕ = c.run_fwd-run.result.at - c.args.input.now.start in
@@ -230,7 +230,7 @@ returns-in_err-next-clause-idle c = λ knows.
     let read : next (tape_in Forward c.args.input.now) k ≡ Some _ = forward_read c.args.input.now c.haystack.result.now c.run_fwd-run.result.at c.run_fwd-run.result.at from (omega (arith, inside)) c.end-in-loop-at.ensures.within.1 (omega (arith, inside, c.end-in-loop-at.ensures.within.1)) c.haystack.ensures.same refl in
     let few : k ≤ length (tape_in Forward c.args.input.now).bytes = (let u : c.args.input.now.end - c.args.input.now.start ≡ length (tape_in Forward c.args.input.now).bytes = forward_units c.args.input.now c.requires.open c.end-in-loop-at.ensures.within.1 in omega (arith, u, inside)) in
     let still : KnowsPass Forward c.args.self.now c.loop-at.cache.store c.args.input.now = knows_still Forward c.args.self.now c.args.input.now c.args.cache.now c.loop-at.cache c.loop-at.invariant.grown (c.loop-at.invariant.idle knows) knows in
-    let idle = c.in_err-next.ensures.idle (knows_here Forward c.args.self.now c.loop-at.cache.store c.args.input.now k c.run_fwd-run.result.id c.run_fwd-run.result.found (Some _) still c.requires.may at few c.in_err-next.ensures.alive read) in
+    let idle = c.in_err-next.ensures.known (knows_here Forward c.args.self.now c.loop-at.cache.store c.args.input.now k c.run_fwd-run.result.id c.run_fwd-run.result.found (Some _) still c.requires.may at few c.in_err-next.ensures.alive read) in
     (idle.0 ∙ c.loop-at.invariant.idle knows, if_err c.from_residual.result _ _ c.from_residual.ensures.1 idle.1)
 
 pub read-requires-clause-valid : goal.read-requires-clause-valid
@@ -241,10 +241,10 @@ read-requires-clause-valid c =
 pub returns-then-run-end-clause-grown : goal.returns-then-run-end-clause-grown
 returns-then-run-end-clause-grown c = grown_trans c.args.cache.now c.loop-at.cache c.find_end_fwd.new.cache c.loop-at.invariant.grown c.find_end_fwd.ensures.grown
 
-pub returns-then-run-end-clause-idle : goal.returns-then-run-end-clause-idle
-returns-then-run-end-clause-idle c = λ knows.
+pub returns-then-run-end-clause-known : goal.returns-then-run-end-clause-known
+returns-then-run-end-clause-known c = λ knows.
     let still : KnowsPass Forward c.args.self.now c.loop-at.cache.store c.args.input.now = knows_still Forward c.args.self.now c.args.input.now c.args.cache.now c.loop-at.cache c.loop-at.invariant.grown (c.loop-at.invariant.idle knows) knows in
-    let idle = c.find_end_fwd.ensures.idle still in
+    let idle = c.find_end_fwd.ensures.known still in
     (idle.0 ∙ c.loop-at.invariant.idle knows, idle.1)
 
 pub returns-then-run-end-clause-learned : goal.returns-then-run-end-clause-learned
@@ -258,10 +258,10 @@ returns-then-run-end-clause-learned c = λ begin nothing.
 pub returns-clause-grown : goal.returns-clause-grown
 returns-clause-grown c = grown_trans c.args.cache.now c.loop-at.cache c.find_end_fwd-2.new.cache c.loop-at.invariant.grown c.find_end_fwd-2.ensures.grown
 
-pub returns-clause-idle : goal.returns-clause-idle
-returns-clause-idle c = λ knows.
+pub returns-clause-known : goal.returns-clause-known
+returns-clause-known c = λ knows.
     let still : KnowsPass Forward c.args.self.now c.loop-at.cache.store c.args.input.now = knows_still Forward c.args.self.now c.args.input.now c.args.cache.now c.loop-at.cache c.loop-at.invariant.grown (c.loop-at.invariant.idle knows) knows in
-    let idle = c.find_end_fwd-2.ensures.idle still in
+    let idle = c.find_end_fwd-2.ensures.known still in
     (idle.0 ∙ c.loop-at.invariant.idle knows, idle.1)
 
 pub returns-clause-learned : goal.returns-clause-learned

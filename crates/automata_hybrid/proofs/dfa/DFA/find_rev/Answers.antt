@@ -128,7 +128,7 @@ loop-at-preserved c =
       grown = grown_trans c.args.cache.now c.loop-at.cache c.read.new.cache c.loop-at.invariant.grown c.in_ok-id.ensures.grown;
       idle = λ knows. (
           let still : KnowsPass Backward c.args.self.now c.loop-at.cache.store c.args.input.now = knows_still Backward c.args.self.now c.args.input.now c.args.cache.now c.loop-at.cache c.loop-at.invariant.grown (c.loop-at.invariant.idle knows) knows in
-          let idle = c.in_ok-id.ensures.idle (knows_here Backward c.args.self.now c.loop-at.cache.store c.args.input.now k c.run_rev-run.result.id c.run_rev-run.result.found (Some _) still c.requires.may at few c.in_ok-id.ensures.alive read) in
+          let idle = c.in_ok-id.ensures.known (knows_here Backward c.args.self.now c.loop-at.cache.store c.args.input.now k c.run_rev-run.result.id c.run_rev-run.result.found (Some _) still c.requires.may at few c.in_ok-id.ensures.alive read) in
           idle.0 ∙ c.loop-at.invariant.idle knows);
       learned = λ begin nothing. (
           let before = c.loop-at.invariant.learned begin (nothing_first c.args.cache.now c.loop-at.cache c.read.new.cache c.loop-at.invariant.grown c.in_ok-id.ensures.grown nothing) in
@@ -156,8 +156,8 @@ returns-then-is_dead-clause-grown c =
     (grown_trans c.args.cache.now c.loop-at.cache c.read.new.cache c.loop-at.invariant.grown c.in_ok-id.ensures.grown)
     (grown_moved c.read.new.cache c.end_search-then-is_dead.new.self c.end_search-then-is_dead.ensures.value)
 
-pub returns-then-is_dead-clause-idle : goal.returns-then-is_dead-clause-idle
-returns-then-is_dead-clause-idle c = λ knows.
+pub returns-then-is_dead-clause-known : goal.returns-then-is_dead-clause-known
+returns-then-is_dead-clause-known c = λ knows.
     let above : c.args.input.now.start < c.run_rev-run.result.at = omega (arith, c.if-run-start.false, c.start-in-loop-at.ensures.start) in
     let below : c.run_rev-run.result.at ≤ c.args.input.now.end = omega (arith, c.run_rev-run.ensures.within, c.loop-at.invariant.within) in
     let k : ℕ = c.args.input.now.end - c.run_rev-run.result.at in
@@ -165,8 +165,8 @@ returns-then-is_dead-clause-idle c = λ knows.
     let read : next (tape_in Backward c.args.input.now) k ≡ Some _ = span_read c.args.input.now c.run_rev-run.result.at above below c.haystack.result.now c.haystack.ensures.within.1 c.haystack.ensures.same in
     let few : k ≤ length (tape_in Backward c.args.input.now).bytes = span_few c.args.input.now c.run_rev-run.result.at above below c.haystack.ensures.within.1 in
     let still : KnowsPass Backward c.args.self.now c.loop-at.cache.store c.args.input.now = knows_still Backward c.args.self.now c.args.input.now c.args.cache.now c.loop-at.cache c.loop-at.invariant.grown (c.loop-at.invariant.idle knows) knows in
-    let idle = c.in_ok-id.ensures.idle (knows_here Backward c.args.self.now c.loop-at.cache.store c.args.input.now k c.run_rev-run.result.id c.run_rev-run.result.found (Some _) still c.requires.may at few c.in_ok-id.ensures.alive read) in
-    (c.end_search-then-is_dead.ensures.count ∙ (idle.0 ∙ c.loop-at.invariant.idle knows), tt)
+    let idle = c.in_ok-id.ensures.known (knows_here Backward c.args.self.now c.loop-at.cache.store c.args.input.now k c.run_rev-run.result.id c.run_rev-run.result.found (Some _) still c.requires.may at few c.in_ok-id.ensures.alive read) in
+    (c.end_search-then-is_dead.ensures.counted ∙ (idle.0 ∙ c.loop-at.invariant.idle knows), tt)
 
 pub returns-then-is_dead-clause-learned : goal.returns-then-is_dead-clause-learned
 returns-then-is_dead-clause-learned c = λ begin.
@@ -190,8 +190,8 @@ returns-then-is_some-clause-grown c =
     (grown_trans c.args.cache.now c.loop-at.cache c.read.new.cache c.loop-at.invariant.grown c.in_ok-id.ensures.grown)
     (grown_moved c.read.new.cache c.end_search-then-is_some.new.self c.end_search-then-is_some.ensures.value)
 
-pub returns-then-is_some-clause-idle : goal.returns-then-is_some-clause-idle
-returns-then-is_some-clause-idle c = λ knows.
+pub returns-then-is_some-clause-known : goal.returns-then-is_some-clause-known
+returns-then-is_some-clause-known c = λ knows.
     let above : c.args.input.now.start < c.run_rev-run.result.at = omega (arith, c.if-run-start.false, c.start-in-loop-at.ensures.start) in
     let below : c.run_rev-run.result.at ≤ c.args.input.now.end = omega (arith, c.run_rev-run.ensures.within, c.loop-at.invariant.within) in
     let k : ℕ = c.args.input.now.end - c.run_rev-run.result.at in
@@ -199,8 +199,8 @@ returns-then-is_some-clause-idle c = λ knows.
     let read : next (tape_in Backward c.args.input.now) k ≡ Some _ = span_read c.args.input.now c.run_rev-run.result.at above below c.haystack.result.now c.haystack.ensures.within.1 c.haystack.ensures.same in
     let few : k ≤ length (tape_in Backward c.args.input.now).bytes = span_few c.args.input.now c.run_rev-run.result.at above below c.haystack.ensures.within.1 in
     let still : KnowsPass Backward c.args.self.now c.loop-at.cache.store c.args.input.now = knows_still Backward c.args.self.now c.args.input.now c.args.cache.now c.loop-at.cache c.loop-at.invariant.grown (c.loop-at.invariant.idle knows) knows in
-    let idle = c.in_ok-id.ensures.idle (knows_here Backward c.args.self.now c.loop-at.cache.store c.args.input.now k c.run_rev-run.result.id c.run_rev-run.result.found (Some _) still c.requires.may at few c.in_ok-id.ensures.alive read) in
-    (c.end_search-then-is_some.ensures.count ∙ (idle.0 ∙ c.loop-at.invariant.idle knows), tt)
+    let idle = c.in_ok-id.ensures.known (knows_here Backward c.args.self.now c.loop-at.cache.store c.args.input.now k c.run_rev-run.result.id c.run_rev-run.result.found (Some _) still c.requires.may at few c.in_ok-id.ensures.alive read) in
+    (c.end_search-then-is_some.ensures.counted ∙ (idle.0 ∙ c.loop-at.invariant.idle knows), tt)
 
 pub returns-then-is_some-clause-learned : goal.returns-then-is_some-clause-learned
 returns-then-is_some-clause-learned c = λ begin.
@@ -221,8 +221,8 @@ returns-then-is_some-clause-learned c = λ begin.
 pub returns-in_err-id-clause-grown : goal.returns-in_err-id-clause-grown
 returns-in_err-id-clause-grown c = grown_trans c.args.cache.now c.loop-at.cache c.read.new.cache c.loop-at.invariant.grown c.in_err-id.ensures.grown
 
-pub returns-in_err-id-clause-idle : goal.returns-in_err-id-clause-idle
-returns-in_err-id-clause-idle c = λ knows.
+pub returns-in_err-id-clause-known : goal.returns-in_err-id-clause-known
+returns-in_err-id-clause-known c = λ knows.
     let above : c.args.input.now.start < c.run_rev-run.result.at = omega (arith, c.if-run-start.false, c.start-in-loop-at.ensures.start) in
     let below : c.run_rev-run.result.at ≤ c.args.input.now.end = omega (arith, c.run_rev-run.ensures.within, c.loop-at.invariant.within) in
     let k : ℕ = c.args.input.now.end - c.run_rev-run.result.at in
@@ -230,7 +230,7 @@ returns-in_err-id-clause-idle c = λ knows.
     let read : next (tape_in Backward c.args.input.now) k ≡ Some _ = span_read c.args.input.now c.run_rev-run.result.at above below c.haystack.result.now c.haystack.ensures.within.1 c.haystack.ensures.same in
     let few : k ≤ length (tape_in Backward c.args.input.now).bytes = span_few c.args.input.now c.run_rev-run.result.at above below c.haystack.ensures.within.1 in
     let still : KnowsPass Backward c.args.self.now c.loop-at.cache.store c.args.input.now = knows_still Backward c.args.self.now c.args.input.now c.args.cache.now c.loop-at.cache c.loop-at.invariant.grown (c.loop-at.invariant.idle knows) knows in
-    let idle = c.in_err-id.ensures.idle (knows_here Backward c.args.self.now c.loop-at.cache.store c.args.input.now k c.run_rev-run.result.id c.run_rev-run.result.found (Some _) still c.requires.may at few c.in_err-id.ensures.alive read) in
+    let idle = c.in_err-id.ensures.known (knows_here Backward c.args.self.now c.loop-at.cache.store c.args.input.now k c.run_rev-run.result.id c.run_rev-run.result.found (Some _) still c.requires.may at few c.in_err-id.ensures.alive read) in
     (idle.0 ∙ c.loop-at.invariant.idle knows, if_err c.from_residual.result _ _ c.from_residual.ensures.1 idle.1)
 
 pub returns-then-run-start-clause-grown : goal.returns-then-run-start-clause-grown
@@ -238,11 +238,11 @@ returns-then-run-start-clause-grown c =
     let moved : IsGrown c.args.cache.now c.end_search.new.self = grown_trans c.args.cache.now c.loop-at.cache c.end_search.new.self c.loop-at.invariant.grown (grown_moved c.loop-at.cache c.end_search.new.self c.end_search.ensures.value) in
     grown_trans c.args.cache.now c.end_search.new.self c.find_end_rev.new.cache moved c.find_end_rev.ensures.grown
 
-pub returns-then-run-start-clause-idle : goal.returns-then-run-start-clause-idle
-returns-then-run-start-clause-idle c = λ knows.
+pub returns-then-run-start-clause-known : goal.returns-then-run-start-clause-known
+returns-then-run-start-clause-known c = λ knows.
     let moved : IsGrown c.args.cache.now c.end_search.new.self = grown_trans c.args.cache.now c.loop-at.cache c.end_search.new.self c.loop-at.invariant.grown (grown_moved c.loop-at.cache c.end_search.new.self c.end_search.ensures.value) in
-    let count : c.end_search.new.self.count ≡ c.args.cache.now.count = c.end_search.ensures.count ∙ c.loop-at.invariant.idle knows in
-    let idle = c.find_end_rev.ensures.idle (knows_still Backward c.args.self.now c.args.input.now c.args.cache.now c.end_search.new.self moved count knows) in
+    let count : c.end_search.new.self.count ≡ c.args.cache.now.count = c.end_search.ensures.counted ∙ c.loop-at.invariant.idle knows in
+    let idle = c.find_end_rev.ensures.known (knows_still Backward c.args.self.now c.args.input.now c.args.cache.now c.end_search.new.self moved count knows) in
     (idle.0 ∙ count, idle.1)
 
 pub returns-then-run-start-clause-learned : goal.returns-then-run-start-clause-learned
@@ -259,11 +259,11 @@ returns-clause-grown c =
     let moved : IsGrown c.args.cache.now c.end_search-2.new.self = grown_trans c.args.cache.now c.loop-at.cache c.end_search-2.new.self c.loop-at.invariant.grown (grown_moved c.loop-at.cache c.end_search-2.new.self c.end_search-2.ensures.value) in
     grown_trans c.args.cache.now c.end_search-2.new.self c.find_end_rev-2.new.cache moved c.find_end_rev-2.ensures.grown
 
-pub returns-clause-idle : goal.returns-clause-idle
-returns-clause-idle c = λ knows.
+pub returns-clause-known : goal.returns-clause-known
+returns-clause-known c = λ knows.
     let moved : IsGrown c.args.cache.now c.end_search-2.new.self = grown_trans c.args.cache.now c.loop-at.cache c.end_search-2.new.self c.loop-at.invariant.grown (grown_moved c.loop-at.cache c.end_search-2.new.self c.end_search-2.ensures.value) in
-    let count : c.end_search-2.new.self.count ≡ c.args.cache.now.count = c.end_search-2.ensures.count ∙ c.loop-at.invariant.idle knows in
-    let idle = c.find_end_rev-2.ensures.idle (knows_still Backward c.args.self.now c.args.input.now c.args.cache.now c.end_search-2.new.self moved count knows) in
+    let count : c.end_search-2.new.self.count ≡ c.args.cache.now.count = c.end_search-2.ensures.counted ∙ c.loop-at.invariant.idle knows in
+    let idle = c.find_end_rev-2.ensures.known (knows_still Backward c.args.self.now c.args.input.now c.args.cache.now c.end_search-2.new.self moved count knows) in
     (idle.0 ∙ count, idle.1)
 
 pub returns-clause-learned : goal.returns-clause-learned

@@ -86,25 +86,25 @@ pub returns-clause-learned : goal.returns-clause-learned
 returns-clause-learned c = λ nothing.
     subst (λ (w : Walk). OnOk c.walk_on.result (KnowsWalk (way_of c.args.way) c.args.self.now c.walk_on.new.cache.store c.args.input.now w)) c.forget_match.ensures (c.walk_on.ensures.learned nothing)
 
-pub returns-clause-idle : goal.returns-clause-idle
-returns-clause-idle c = λ knows.
-    let still = c.walk_on.ensures.idle (subst (λ (w : Walk). KnowsWalk (way_of c.args.way) c.args.self.now c.args.cache.now.store c.args.input.now w) (sym c.forget_match.ensures) knows) in
+pub returns-clause-known : goal.returns-clause-known
+returns-clause-known c = λ knows.
+    let still = c.walk_on.ensures.known (subst (λ (w : Walk). KnowsWalk (way_of c.args.way) c.args.self.now c.args.cache.now.store c.args.input.now w) (sym c.forget_match.ensures) knows) in
     (still.0, λ kept. still.1)
 
-pub returns-then-has_ended-clause-idle : goal.returns-then-has_ended-clause-idle
-returns-then-has_ended-clause-idle c = λ knows. (still_same c.args.cache.now c.args.cache.now refl, λ kept. tt)
+pub returns-then-has_ended-clause-known : goal.returns-then-has_ended-clause-known
+returns-then-has_ended-clause-known c = λ knows. (still_same c.args.cache.now c.args.cache.now refl, λ kept. tt)
 
-pub returns-then-is_done-clause-idle : goal.returns-then-is_done-clause-idle
-returns-then-is_done-clause-idle c = λ knows. (still_same c.args.cache.now c.args.cache.now refl, λ kept. tt)
+pub returns-then-is_done-clause-known : goal.returns-then-is_done-clause-known
+returns-then-is_done-clause-known c = λ knows. (still_same c.args.cache.now c.args.cache.now refl, λ kept. tt)
 
-pub returns-in-Some-clause-idle : goal.returns-in-Some-clause-idle
-returns-in-Some-clause-idle c = λ knows. (still_same c.args.cache.now c.args.cache.now refl, λ kept. tt)
+pub returns-in-Some-clause-known : goal.returns-in-Some-clause-known
+returns-in-Some-clause-known c = λ knows. (still_same c.args.cache.now c.args.cache.now refl, λ kept. tt)
 
-pub returns-then-units-last_place-clause-idle : goal.returns-then-units-last_place-clause-idle
-returns-then-units-last_place-clause-idle c = λ knows. (still_same c.args.cache.now c.args.cache.now refl, λ kept. tt)
+pub returns-then-units-last_place-clause-known : goal.returns-then-units-last_place-clause-known
+returns-then-units-last_place-clause-known c = λ knows. (still_same c.args.cache.now c.args.cache.now refl, λ kept. tt)
 
-pub returns-then-is_stuck-clause-idle : goal.returns-then-is_stuck-clause-idle
-returns-then-is_stuck-clause-idle c = λ knows.
+pub returns-then-is_stuck-clause-known : goal.returns-then-is_stuck-clause-known
+returns-then-is_stuck-clause-known c = λ knows.
     let stuck = c.is_stuck.ensures.yes c.if-is_stuck.true in (
       still_same c.args.cache.now c.args.cache.now refl,
       λ can. absurd (false_true (sym (can stuck.0) ∙ (sym (ap (λ (w : Walk). w.lost) c.forget_match.ensures) ∙ stuck.1))),

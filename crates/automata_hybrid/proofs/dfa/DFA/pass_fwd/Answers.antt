@@ -42,8 +42,8 @@ find_fwd-requires-clause-named c =
 pub find_fwd-requires-clause-may : goal.find_fwd-requires-clause-may
 find_fwd-requires-clause-may c = c.in_ok-start.ensures.answer.may
 
-pub returns-in_err-start-clause-idle : goal.returns-in_err-start-clause-idle
-returns-in_err-start-clause-idle c = λ knows.
+pub returns-in_err-start-clause-known : goal.returns-in_err-start-clause-known
+returns-in_err-start-clause-known c = λ knows.
     let begins = start_idle c.args.self.now c.args.cache.now c.start_state_forward.new.cache c.args.input.now.anchored (byte_before c.args.input.now.haystack c.args.input.now.start) c.start_state_forward.result (c.args.input.now.start - 1) (c.args.input.now.start) (c.see_slots.ensures ∙ ap (λ (m : Machine). slot_count m) c.requires.of) c.start_state_forward.ensures.refusal c.start_state_forward.ensures.effect (λ may. (knows may).0) in
     (ap (λ (v : CacheView). v.count) begins.0, if_err c.from_residual.result _ _ c.from_residual.ensures.1 (subst (λ r. IfErr r IsOfInput) c.in_err-start.was begins.1))
 
@@ -52,10 +52,10 @@ returns-then-is_dead-clause-grown c =
     let moved : IsGrown c.args.cache.now c.search_start.new.self = grown_trans c.args.cache.now c.start_state_forward.new.cache c.search_start.new.self c.in_ok-start.ensures.effect.grown (grown_moved c.start_state_forward.new.cache c.search_start.new.self c.search_start.ensures.value) in
     grown_trans c.args.cache.now c.search_start.new.self c.end_search.new.self moved (grown_moved c.search_start.new.self c.end_search.new.self c.end_search.ensures.value)
 
-pub returns-then-is_dead-clause-idle : goal.returns-then-is_dead-clause-idle
-returns-then-is_dead-clause-idle c = λ knows.
+pub returns-then-is_dead-clause-known : goal.returns-then-is_dead-clause-known
+returns-then-is_dead-clause-known c = λ knows.
     let begins = start_idle c.args.self.now c.args.cache.now c.start_state_forward.new.cache c.args.input.now.anchored (byte_before c.args.input.now.haystack c.args.input.now.start) c.start_state_forward.result (c.args.input.now.start - 1) (c.args.input.now.start) (c.see_slots.ensures ∙ ap (λ (m : Machine). slot_count m) c.requires.of) c.start_state_forward.ensures.refusal c.start_state_forward.ensures.effect (λ may. (knows may).0) in
-    (c.end_search.ensures.count ∙ (c.search_start.ensures.count ∙ ap (λ (v : CacheView). v.count) begins.0), tt)
+    (c.end_search.ensures.counted ∙ (c.search_start.ensures.counted ∙ ap (λ (v : CacheView). v.count) begins.0), tt)
 
 pub returns-then-is_dead-clause-learned : goal.returns-then-is_dead-clause-learned
 returns-then-is_dead-clause-learned c =
@@ -70,13 +70,13 @@ returns-in_err-found-clause-grown c =
     let moved : IsGrown c.args.cache.now c.search_start.new.self = grown_trans c.args.cache.now c.start_state_forward.new.cache c.search_start.new.self c.in_ok-start.ensures.effect.grown (grown_moved c.start_state_forward.new.cache c.search_start.new.self c.search_start.ensures.value) in
     grown_trans c.args.cache.now c.search_start.new.self c.find_fwd.new.cache moved c.in_err-found.ensures.grown
 
-pub returns-in_err-found-clause-idle : goal.returns-in_err-found-clause-idle
-returns-in_err-found-clause-idle c = λ knows.
+pub returns-in_err-found-clause-known : goal.returns-in_err-found-clause-known
+returns-in_err-found-clause-known c = λ knows.
     let begins = start_idle c.args.self.now c.args.cache.now c.start_state_forward.new.cache c.args.input.now.anchored (byte_before c.args.input.now.haystack c.args.input.now.start) c.start_state_forward.result (c.args.input.now.start - 1) (c.args.input.now.start) (c.see_slots.ensures ∙ ap (λ (m : Machine). slot_count m) c.requires.of) c.start_state_forward.ensures.refusal c.start_state_forward.ensures.effect (λ may. (knows may).0) in
-    let count : c.search_start.new.self.count ≡ c.args.cache.now.count = c.search_start.ensures.count ∙ ap (λ (v : CacheView). v.count) begins.0 in
+    let count : c.search_start.new.self.count ≡ c.args.cache.now.count = c.search_start.ensures.counted ∙ ap (λ (v : CacheView). v.count) begins.0 in
     let moved : IsGrown c.args.cache.now c.search_start.new.self = grown_trans c.args.cache.now c.start_state_forward.new.cache c.search_start.new.self c.in_ok-start.ensures.effect.grown (grown_moved c.start_state_forward.new.cache c.search_start.new.self c.search_start.ensures.value) in
     let still : KnowsPass Forward c.args.self.now c.search_start.new.self.store c.args.input.now = knows_still Forward c.args.self.now c.args.input.now c.args.cache.now c.search_start.new.self moved count knows in
-    let idle = c.in_err-found.ensures.idle still in
+    let idle = c.in_err-found.ensures.known still in
     (idle.0 ∙ count, if_err c.from_residual-in_err-found.result _ _ c.from_residual-in_err-found.ensures.1 idle.1)
 
 pub returns-clause-grown : goal.returns-clause-grown
@@ -84,13 +84,13 @@ returns-clause-grown c =
     let moved : IsGrown c.args.cache.now c.search_start.new.self = grown_trans c.args.cache.now c.start_state_forward.new.cache c.search_start.new.self c.in_ok-start.ensures.effect.grown (grown_moved c.start_state_forward.new.cache c.search_start.new.self c.search_start.ensures.value) in
     grown_trans c.args.cache.now c.search_start.new.self c.find_fwd.new.cache moved c.in_ok-found.ensures.grown
 
-pub returns-clause-idle : goal.returns-clause-idle
-returns-clause-idle c = λ knows.
+pub returns-clause-known : goal.returns-clause-known
+returns-clause-known c = λ knows.
     let begins = start_idle c.args.self.now c.args.cache.now c.start_state_forward.new.cache c.args.input.now.anchored (byte_before c.args.input.now.haystack c.args.input.now.start) c.start_state_forward.result (c.args.input.now.start - 1) (c.args.input.now.start) (c.see_slots.ensures ∙ ap (λ (m : Machine). slot_count m) c.requires.of) c.start_state_forward.ensures.refusal c.start_state_forward.ensures.effect (λ may. (knows may).0) in
-    let count : c.search_start.new.self.count ≡ c.args.cache.now.count = c.search_start.ensures.count ∙ ap (λ (v : CacheView). v.count) begins.0 in
+    let count : c.search_start.new.self.count ≡ c.args.cache.now.count = c.search_start.ensures.counted ∙ ap (λ (v : CacheView). v.count) begins.0 in
     let moved : IsGrown c.args.cache.now c.search_start.new.self = grown_trans c.args.cache.now c.start_state_forward.new.cache c.search_start.new.self c.in_ok-start.ensures.effect.grown (grown_moved c.start_state_forward.new.cache c.search_start.new.self c.search_start.ensures.value) in
     let still : KnowsPass Forward c.args.self.now c.search_start.new.self.store c.args.input.now = knows_still Forward c.args.self.now c.args.input.now c.args.cache.now c.search_start.new.self moved count knows in
-    let idle = c.in_ok-found.ensures.idle still in
+    let idle = c.in_ok-found.ensures.known still in
     (idle.0 ∙ count, tt)
 
 pub returns-clause-learned : goal.returns-clause-learned

@@ -62,13 +62,13 @@ find_end_rev-requires-clause-may c = c.in_ok-start.ensures.answer.may
 pub find_rev-requires-clause-may : goal.find_rev-requires-clause-may
 find_rev-requires-clause-may c = c.in_ok-start.ensures.answer.may
 
-pub returns-in_err-start-clause-idle : goal.returns-in_err-start-clause-idle
-returns-in_err-start-clause-idle c = λ knows.
+pub returns-in_err-start-clause-known : goal.returns-in_err-start-clause-known
+returns-in_err-start-clause-known c = λ knows.
     let begins = start_idle c.args.self.now c.args.cache.now c.start_state_reverse.new.cache c.args.input.now.anchored (nth c.args.input.now.haystack c.args.input.now.end) c.start_state_reverse.result c.args.input.now.end c.args.input.now.end (c.see_slots.ensures ∙ ap (λ (n : Machine). slot_count n) c.requires.of) c.start_state_reverse.ensures.refusal c.start_state_reverse.ensures.effect (λ may. (knows may).0) in
     (ap (λ (v : CacheView). v.count) begins.0, if_err c.from_residual.result _ _ c.from_residual.ensures.1 (subst (λ r. IfErr r IsOfInput) c.in_err-start.was begins.1))
 
-pub returns-then-is_dead-clause-idle : goal.returns-then-is_dead-clause-idle
-returns-then-is_dead-clause-idle c = λ knows.
+pub returns-then-is_dead-clause-known : goal.returns-then-is_dead-clause-known
+returns-then-is_dead-clause-known c = λ knows.
     let begins = start_idle c.args.self.now c.args.cache.now c.start_state_reverse.new.cache c.args.input.now.anchored (nth c.args.input.now.haystack c.args.input.now.end) c.start_state_reverse.result c.args.input.now.end c.args.input.now.end (c.see_slots.ensures ∙ ap (λ (n : Machine). slot_count n) c.requires.of) c.start_state_reverse.ensures.refusal c.start_state_reverse.ensures.effect (λ may. (knows may).0) in
     (ap (λ (v : CacheView). v.count) begins.0, tt)
 
@@ -81,11 +81,11 @@ returns-then-is_dead-clause-learned c = λ nothing.
 pub returns-then-start-end-clause-grown : goal.returns-then-start-end-clause-grown
 returns-then-start-end-clause-grown c = grown_trans c.args.cache.now c.start_state_reverse.new.cache c.find_end_rev.new.cache c.in_ok-start.ensures.effect.grown c.find_end_rev.ensures.grown
 
-pub returns-then-start-end-clause-idle : goal.returns-then-start-end-clause-idle
-returns-then-start-end-clause-idle c = λ knows.
+pub returns-then-start-end-clause-known : goal.returns-then-start-end-clause-known
+returns-then-start-end-clause-known c = λ knows.
     let begins = start_idle c.args.self.now c.args.cache.now c.start_state_reverse.new.cache c.args.input.now.anchored (nth c.args.input.now.haystack c.args.input.now.end) c.start_state_reverse.result c.args.input.now.end c.args.input.now.end (c.see_slots.ensures ∙ ap (λ (n : Machine). slot_count n) c.requires.of) c.start_state_reverse.ensures.refusal c.start_state_reverse.ensures.effect (λ may. (knows may).0) in
     let count : c.start_state_reverse.new.cache.count ≡ c.args.cache.now.count = ap (λ (v : CacheView). v.count) begins.0 in
-    let idle = c.find_end_rev.ensures.idle (knows_still Backward c.args.self.now c.args.input.now c.args.cache.now c.start_state_reverse.new.cache c.in_ok-start.ensures.effect.grown count knows) in
+    let idle = c.find_end_rev.ensures.known (knows_still Backward c.args.self.now c.args.input.now c.args.cache.now c.start_state_reverse.new.cache c.in_ok-start.ensures.effect.grown count knows) in
     (idle.0 ∙ count, idle.1)
 
 pub returns-then-start-end-clause-learned : goal.returns-then-start-end-clause-learned
@@ -100,10 +100,10 @@ returns-then-is_dead-2-clause-grown c =
     let moved : IsGrown c.args.cache.now c.search_start.new.self = grown_trans c.args.cache.now c.start_state_reverse.new.cache c.search_start.new.self c.in_ok-start.ensures.effect.grown (grown_moved c.start_state_reverse.new.cache c.search_start.new.self c.search_start.ensures.value) in
     grown_trans c.args.cache.now c.search_start.new.self c.end_search.new.self moved (grown_moved c.search_start.new.self c.end_search.new.self c.end_search.ensures.value)
 
-pub returns-then-is_dead-2-clause-idle : goal.returns-then-is_dead-2-clause-idle
-returns-then-is_dead-2-clause-idle c = λ knows.
+pub returns-then-is_dead-2-clause-known : goal.returns-then-is_dead-2-clause-known
+returns-then-is_dead-2-clause-known c = λ knows.
     let begins = start_idle c.args.self.now c.args.cache.now c.start_state_reverse.new.cache c.args.input.now.anchored (nth c.args.input.now.haystack c.args.input.now.end) c.start_state_reverse.result c.args.input.now.end c.args.input.now.end (c.see_slots.ensures ∙ ap (λ (n : Machine). slot_count n) c.requires.of) c.start_state_reverse.ensures.refusal c.start_state_reverse.ensures.effect (λ may. (knows may).0) in
-    (c.end_search.ensures.count ∙ (c.search_start.ensures.count ∙ ap (λ (v : CacheView). v.count) begins.0), tt)
+    (c.end_search.ensures.counted ∙ (c.search_start.ensures.counted ∙ ap (λ (v : CacheView). v.count) begins.0), tt)
 
 pub returns-then-is_dead-2-clause-learned : goal.returns-then-is_dead-2-clause-learned
 returns-then-is_dead-2-clause-learned c =
@@ -117,13 +117,13 @@ returns-in_err-found-clause-grown c =
     let moved : IsGrown c.args.cache.now c.search_start.new.self = grown_trans c.args.cache.now c.start_state_reverse.new.cache c.search_start.new.self c.in_ok-start.ensures.effect.grown (grown_moved c.start_state_reverse.new.cache c.search_start.new.self c.search_start.ensures.value) in
     grown_trans c.args.cache.now c.search_start.new.self c.find_rev.new.cache moved c.in_err-found.ensures.grown
 
-pub returns-in_err-found-clause-idle : goal.returns-in_err-found-clause-idle
-returns-in_err-found-clause-idle c = λ knows.
+pub returns-in_err-found-clause-known : goal.returns-in_err-found-clause-known
+returns-in_err-found-clause-known c = λ knows.
     let begins = start_idle c.args.self.now c.args.cache.now c.start_state_reverse.new.cache c.args.input.now.anchored (nth c.args.input.now.haystack c.args.input.now.end) c.start_state_reverse.result c.args.input.now.end c.args.input.now.end (c.see_slots.ensures ∙ ap (λ (n : Machine). slot_count n) c.requires.of) c.start_state_reverse.ensures.refusal c.start_state_reverse.ensures.effect (λ may. (knows may).0) in
-    let count : c.search_start.new.self.count ≡ c.args.cache.now.count = c.search_start.ensures.count ∙ ap (λ (v : CacheView). v.count) begins.0 in
+    let count : c.search_start.new.self.count ≡ c.args.cache.now.count = c.search_start.ensures.counted ∙ ap (λ (v : CacheView). v.count) begins.0 in
     let moved : IsGrown c.args.cache.now c.search_start.new.self = grown_trans c.args.cache.now c.start_state_reverse.new.cache c.search_start.new.self c.in_ok-start.ensures.effect.grown (grown_moved c.start_state_reverse.new.cache c.search_start.new.self c.search_start.ensures.value) in
     let still : KnowsPass Backward c.args.self.now c.search_start.new.self.store c.args.input.now = knows_still Backward c.args.self.now c.args.input.now c.args.cache.now c.search_start.new.self moved count knows in
-    let idle = c.in_err-found.ensures.idle still in
+    let idle = c.in_err-found.ensures.known still in
     (idle.0 ∙ count, if_err c.from_residual-in_err-found.result _ _ c.from_residual-in_err-found.ensures.1 idle.1)
 
 pub returns-clause-grown : goal.returns-clause-grown
@@ -131,13 +131,13 @@ returns-clause-grown c =
     let moved : IsGrown c.args.cache.now c.search_start.new.self = grown_trans c.args.cache.now c.start_state_reverse.new.cache c.search_start.new.self c.in_ok-start.ensures.effect.grown (grown_moved c.start_state_reverse.new.cache c.search_start.new.self c.search_start.ensures.value) in
     grown_trans c.args.cache.now c.search_start.new.self c.find_rev.new.cache moved c.in_ok-found.ensures.grown
 
-pub returns-clause-idle : goal.returns-clause-idle
-returns-clause-idle c = λ knows.
+pub returns-clause-known : goal.returns-clause-known
+returns-clause-known c = λ knows.
     let begins = start_idle c.args.self.now c.args.cache.now c.start_state_reverse.new.cache c.args.input.now.anchored (nth c.args.input.now.haystack c.args.input.now.end) c.start_state_reverse.result c.args.input.now.end c.args.input.now.end (c.see_slots.ensures ∙ ap (λ (n : Machine). slot_count n) c.requires.of) c.start_state_reverse.ensures.refusal c.start_state_reverse.ensures.effect (λ may. (knows may).0) in
-    let count : c.search_start.new.self.count ≡ c.args.cache.now.count = c.search_start.ensures.count ∙ ap (λ (v : CacheView). v.count) begins.0 in
+    let count : c.search_start.new.self.count ≡ c.args.cache.now.count = c.search_start.ensures.counted ∙ ap (λ (v : CacheView). v.count) begins.0 in
     let moved : IsGrown c.args.cache.now c.search_start.new.self = grown_trans c.args.cache.now c.start_state_reverse.new.cache c.search_start.new.self c.in_ok-start.ensures.effect.grown (grown_moved c.start_state_reverse.new.cache c.search_start.new.self c.search_start.ensures.value) in
     let still : KnowsPass Backward c.args.self.now c.search_start.new.self.store c.args.input.now = knows_still Backward c.args.self.now c.args.input.now c.args.cache.now c.search_start.new.self moved count knows in
-    let idle = c.in_ok-found.ensures.idle still in
+    let idle = c.in_ok-found.ensures.known still in
     (idle.0 ∙ count, tt)
 
 pub returns-clause-learned : goal.returns-clause-learned

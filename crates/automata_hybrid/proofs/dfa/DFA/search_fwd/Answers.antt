@@ -79,7 +79,7 @@ loop-later-preserved c =
       grown = grown_trans c.args.cache.now c.loop-later.cache c.pass_fwd.new.cache c.loop-later.invariant.grown c.in_ok-half.ensures.grown;
       known = λ knows. (
           let still : Knows Forward c.args.self.now c.loop-later.cache.store c.args.input.now = search_still Forward c.args.self.now c.args.input.now c.args.cache.now c.loop-later.cache c.loop-later.invariant.grown (c.loop-later.invariant.known knows) knows in
-          let idle = c.in_ok-half.ensures.idle (subst (KnowsPass Forward c.args.self.now c.loop-later.cache.store) (sym same) (still k c.loop-later.invariant.tries within)) in
+          let idle = c.in_ok-half.ensures.known (subst (KnowsPass Forward c.args.self.now c.loop-later.cache.store) (sym same) (still k c.loop-later.invariant.tries within)) in
           idle.0 ∙ c.loop-later.invariant.known knows);
       learned = λ nothing. (
           let first = nothing_first c.args.cache.now c.loop-later.cache c.pass_fwd.new.cache c.loop-later.invariant.grown c.in_ok-half.ensures.grown nothing in
@@ -107,11 +107,11 @@ returns-in_err-half-clause-known c = λ knows.
     let within : c.args.input.now.start + k ≤ c.args.input.now.end = omega (arith, ahead, end, place) in
     let shorter : c.loop-later.later.end - c.loop-later.later.start ≤ c.args.input.now.end - c.args.input.now.start = omega (arith, end, place) in
     let still : Knows Forward c.args.self.now c.loop-later.cache.store c.args.input.now = search_still Forward c.args.self.now c.args.input.now c.args.cache.now c.loop-later.cache c.loop-later.invariant.grown (c.loop-later.invariant.known knows) knows in
-    let idle = c.in_err-half.ensures.idle (subst (KnowsPass Forward c.args.self.now c.loop-later.cache.store) (sym same) (still k c.loop-later.invariant.tries within)) in
+    let idle = c.in_err-half.ensures.known (subst (KnowsPass Forward c.args.self.now c.loop-later.cache.store) (sym same) (still k c.loop-later.invariant.tries within)) in
     (idle.0 ∙ c.loop-later.invariant.known knows, if_err c.from_residual.result _ _ c.from_residual.ensures.1 idle.1)
 
-pub returns-in_err-half-clause-bounded : goal.returns-in_err-half-clause-bounded
-returns-in_err-half-clause-bounded c =
+pub returns-in_err-half-clause-cost : goal.returns-in_err-half-clause-cost
+returns-in_err-half-clause-cost c =
     let k : ℕ = c.loop-later.later.start - c.args.input.now.start in
     let place : c.loop-later.later.start ≡ c.args.input.now.start + k = omega (arith, c.loop-later.invariant.from) in
     let end : c.loop-later.later.end ≡ c.args.input.now.end = ap (λ (i : Input). i.end) c.loop-later.invariant.same in
@@ -144,11 +144,11 @@ returns-in_default-clause-known c = λ knows.
     let within : c.args.input.now.start + k ≤ c.args.input.now.end = omega (arith, ahead, end, place) in
     let shorter : c.loop-later.later.end - c.loop-later.later.start ≤ c.args.input.now.end - c.args.input.now.start = omega (arith, end, place) in
     let still : Knows Forward c.args.self.now c.loop-later.cache.store c.args.input.now = search_still Forward c.args.self.now c.args.input.now c.args.cache.now c.loop-later.cache c.loop-later.invariant.grown (c.loop-later.invariant.known knows) knows in
-    let idle = c.in_ok-half.ensures.idle (subst (KnowsPass Forward c.args.self.now c.loop-later.cache.store) (sym same) (still k c.loop-later.invariant.tries within)) in
+    let idle = c.in_ok-half.ensures.known (subst (KnowsPass Forward c.args.self.now c.loop-later.cache.store) (sym same) (still k c.loop-later.invariant.tries within)) in
     (idle.0 ∙ c.loop-later.invariant.known knows, tt)
 
-pub returns-in_default-clause-bounded : goal.returns-in_default-clause-bounded
-returns-in_default-clause-bounded c =
+pub returns-in_default-clause-cost : goal.returns-in_default-clause-cost
+returns-in_default-clause-cost c =
     let k : ℕ = c.loop-later.later.start - c.args.input.now.start in
     let place : c.loop-later.later.start ≡ c.args.input.now.start + k = omega (arith, c.loop-later.invariant.from) in
     let end : c.loop-later.later.end ≡ c.args.input.now.end = ap (λ (i : Input). i.end) c.loop-later.invariant.same in
@@ -195,11 +195,11 @@ returns-then-not-skips_at-clause-known c = λ knows.
     let within : c.args.input.now.start + k ≤ c.args.input.now.end = omega (arith, ahead, end, place) in
     let shorter : c.loop-later.later.end - c.loop-later.later.start ≤ c.args.input.now.end - c.args.input.now.start = omega (arith, end, place) in
     let still : Knows Forward c.args.self.now c.loop-later.cache.store c.args.input.now = search_still Forward c.args.self.now c.args.input.now c.args.cache.now c.loop-later.cache c.loop-later.invariant.grown (c.loop-later.invariant.known knows) knows in
-    let idle = c.in_ok-half.ensures.idle (subst (KnowsPass Forward c.args.self.now c.loop-later.cache.store) (sym same) (still k c.loop-later.invariant.tries within)) in
+    let idle = c.in_ok-half.ensures.known (subst (KnowsPass Forward c.args.self.now c.loop-later.cache.store) (sym same) (still k c.loop-later.invariant.tries within)) in
     (idle.0 ∙ c.loop-later.invariant.known knows, tt)
 
-pub returns-then-not-skips_at-clause-bounded : goal.returns-then-not-skips_at-clause-bounded
-returns-then-not-skips_at-clause-bounded c =
+pub returns-then-not-skips_at-clause-cost : goal.returns-then-not-skips_at-clause-cost
+returns-then-not-skips_at-clause-cost c =
     let k : ℕ = c.loop-later.later.start - c.args.input.now.start in
     let place : c.loop-later.later.start ≡ c.args.input.now.start + k = omega (arith, c.loop-later.invariant.from) in
     let end : c.loop-later.later.end ≡ c.args.input.now.end = ap (λ (i : Input). i.end) c.loop-later.invariant.same in
@@ -208,8 +208,8 @@ returns-then-not-skips_at-clause-bounded c =
     let units : c.loop-later.later.end - c.loop-later.later.start ≤ c.args.input.now.end - c.args.input.now.start - k = omega (arith, end, place) in
     (suc k, cost_more Forward c.args.self.now c.args.input.now c.args.cache.now c.pass_fwd.new.cache c.loop-later.cache k (c.loop-later.later.end - c.loop-later.later.start) c.loop-later.invariant.tries within c.loop-later.invariant.grown c.loop-later.invariant.bounded c.in_ok-half.ensures.grown c.in_ok-half.ensures.counted units)
 
-pub returns-then-not-skips_at-clause-based : goal.returns-then-not-skips_at-clause-based
-returns-then-not-skips_at-clause-based c =
+pub returns-then-not-skips_at-clause-upto : goal.returns-then-not-skips_at-clause-upto
+returns-then-not-skips_at-clause-upto c =
     let k : ℕ = c.loop-later.later.start - c.args.input.now.start in
     let place : c.loop-later.later.start ≡ c.args.input.now.start + k = omega (arith, c.loop-later.invariant.from) in
     let end : c.loop-later.later.end ≡ c.args.input.now.end = ap (λ (i : Input). i.end) c.loop-later.invariant.same in
@@ -258,11 +258,11 @@ returns-then-is_anchored-clause-known c = λ knows.
     let within : c.args.input.now.start + k ≤ c.args.input.now.end = omega (arith, ahead, end, place) in
     let shorter : c.loop-later.later.end - c.loop-later.later.start ≤ c.args.input.now.end - c.args.input.now.start = omega (arith, end, place) in
     let still : Knows Forward c.args.self.now c.loop-later.cache.store c.args.input.now = search_still Forward c.args.self.now c.args.input.now c.args.cache.now c.loop-later.cache c.loop-later.invariant.grown (c.loop-later.invariant.known knows) knows in
-    let idle = c.in_ok-half.ensures.idle (subst (KnowsPass Forward c.args.self.now c.loop-later.cache.store) (sym same) (still k c.loop-later.invariant.tries within)) in
+    let idle = c.in_ok-half.ensures.known (subst (KnowsPass Forward c.args.self.now c.loop-later.cache.store) (sym same) (still k c.loop-later.invariant.tries within)) in
     (idle.0 ∙ c.loop-later.invariant.known knows, tt)
 
-pub returns-then-is_anchored-clause-bounded : goal.returns-then-is_anchored-clause-bounded
-returns-then-is_anchored-clause-bounded c =
+pub returns-then-is_anchored-clause-cost : goal.returns-then-is_anchored-clause-cost
+returns-then-is_anchored-clause-cost c =
     let k : ℕ = c.loop-later.later.start - c.args.input.now.start in
     let place : c.loop-later.later.start ≡ c.args.input.now.start + k = omega (arith, c.loop-later.invariant.from) in
     let end : c.loop-later.later.end ≡ c.args.input.now.end = ap (λ (i : Input). i.end) c.loop-later.invariant.same in
@@ -296,8 +296,8 @@ returns-then-is_anchored-clause-done c = λ past.
     let shorter : c.loop-later.later.end - c.loop-later.later.start ≤ c.args.input.now.end - c.args.input.now.start = omega (arith, end, place) in
     absurd (omega (arith, past, within))
 
-pub returns-clause-bounded : goal.returns-clause-bounded
-returns-clause-bounded c =
+pub returns-clause-cost : goal.returns-clause-cost
+returns-clause-cost c =
     let k : ℕ = c.loop-later.later.start - c.args.input.now.start in
     (k, cost_before Forward c.args.self.now c.args.input.now c.args.cache.now c.loop-later.cache k c.loop-later.invariant.tries c.loop-later.invariant.grown c.loop-later.invariant.bounded)
 

@@ -93,7 +93,7 @@ loop-later-preserved c =
       grown = grown_trans c.args.cache.now c.loop-later.cache c.pass_rev.new.cache c.loop-later.invariant.grown c.in_ok-half.ensures.grown;
       known = λ knows. (
           let still : Knows Backward c.args.self.now c.loop-later.cache.store c.args.input.now = search_still Backward c.args.self.now c.args.input.now c.args.cache.now c.loop-later.cache c.loop-later.invariant.grown (c.loop-later.invariant.known knows) knows in
-          let idle = c.in_ok-half.ensures.idle (subst (KnowsPass Backward c.args.self.now c.loop-later.cache.store) (sym same) (still k c.loop-later.invariant.tries within)) in
+          let idle = c.in_ok-half.ensures.known (subst (KnowsPass Backward c.args.self.now c.loop-later.cache.store) (sym same) (still k c.loop-later.invariant.tries within)) in
           idle.0 ∙ c.loop-later.invariant.known knows);
       learned = λ nothing. (
           let first = nothing_first c.args.cache.now c.loop-later.cache c.pass_rev.new.cache c.loop-later.invariant.grown c.in_ok-half.ensures.grown nothing in
@@ -121,11 +121,11 @@ returns-in_err-half-clause-known c = λ knows.
     let begin : c.loop-later.later.start ≡ c.args.input.now.start = ap (λ (i : Input). i.start) c.loop-later.invariant.same in
     let shorter : c.loop-later.later.end - c.loop-later.later.start ≤ c.args.input.now.end - c.args.input.now.start = omega (arith, begin, c.loop-later.invariant.to) in
     let still : Knows Backward c.args.self.now c.loop-later.cache.store c.args.input.now = search_still Backward c.args.self.now c.args.input.now c.args.cache.now c.loop-later.cache c.loop-later.invariant.grown (c.loop-later.invariant.known knows) knows in
-    let idle = c.in_err-half.ensures.idle (subst (KnowsPass Backward c.args.self.now c.loop-later.cache.store) (sym same) (still k c.loop-later.invariant.tries within)) in
+    let idle = c.in_err-half.ensures.known (subst (KnowsPass Backward c.args.self.now c.loop-later.cache.store) (sym same) (still k c.loop-later.invariant.tries within)) in
     (idle.0 ∙ c.loop-later.invariant.known knows, if_err c.from_residual.result _ _ c.from_residual.ensures.1 idle.1)
 
-pub returns-in_err-half-clause-bounded : goal.returns-in_err-half-clause-bounded
-returns-in_err-half-clause-bounded c =
+pub returns-in_err-half-clause-cost : goal.returns-in_err-half-clause-cost
+returns-in_err-half-clause-cost c =
     let k : ℕ = c.args.input.now.end - c.loop-later.later.end in
     let ahead : c.loop-later.later.start ≤ c.loop-later.later.end = grind (arith, common_steps, c.loop-later-test.ensures.done) in
     let within : c.args.input.now.start + k ≤ c.args.input.now.end = ended_within c.args.input.now c.loop-later.later c.loop-later.invariant.same c.loop-later.invariant.to ahead in
@@ -155,11 +155,11 @@ returns-in_default-clause-known c = λ knows.
     let begin : c.loop-later.later.start ≡ c.args.input.now.start = ap (λ (i : Input). i.start) c.loop-later.invariant.same in
     let shorter : c.loop-later.later.end - c.loop-later.later.start ≤ c.args.input.now.end - c.args.input.now.start = omega (arith, begin, c.loop-later.invariant.to) in
     let still : Knows Backward c.args.self.now c.loop-later.cache.store c.args.input.now = search_still Backward c.args.self.now c.args.input.now c.args.cache.now c.loop-later.cache c.loop-later.invariant.grown (c.loop-later.invariant.known knows) knows in
-    let idle = c.in_ok-half.ensures.idle (subst (KnowsPass Backward c.args.self.now c.loop-later.cache.store) (sym same) (still k c.loop-later.invariant.tries within)) in
+    let idle = c.in_ok-half.ensures.known (subst (KnowsPass Backward c.args.self.now c.loop-later.cache.store) (sym same) (still k c.loop-later.invariant.tries within)) in
     (idle.0 ∙ c.loop-later.invariant.known knows, tt)
 
-pub returns-in_default-clause-bounded : goal.returns-in_default-clause-bounded
-returns-in_default-clause-bounded c =
+pub returns-in_default-clause-cost : goal.returns-in_default-clause-cost
+returns-in_default-clause-cost c =
     let k : ℕ = c.args.input.now.end - c.loop-later.later.end in
     let ahead : c.loop-later.later.start ≤ c.loop-later.later.end = grind (arith, common_steps, c.loop-later-test.ensures.done) in
     let within : c.args.input.now.start + k ≤ c.args.input.now.end = ended_within c.args.input.now c.loop-later.later c.loop-later.invariant.same c.loop-later.invariant.to ahead in
@@ -202,11 +202,11 @@ returns-then-not-skips_at-clause-known c = λ knows.
     let begin : c.loop-later.later.start ≡ c.args.input.now.start = ap (λ (i : Input). i.start) c.loop-later.invariant.same in
     let shorter : c.loop-later.later.end - c.loop-later.later.start ≤ c.args.input.now.end - c.args.input.now.start = omega (arith, begin, c.loop-later.invariant.to) in
     let still : Knows Backward c.args.self.now c.loop-later.cache.store c.args.input.now = search_still Backward c.args.self.now c.args.input.now c.args.cache.now c.loop-later.cache c.loop-later.invariant.grown (c.loop-later.invariant.known knows) knows in
-    let idle = c.in_ok-half.ensures.idle (subst (KnowsPass Backward c.args.self.now c.loop-later.cache.store) (sym same) (still k c.loop-later.invariant.tries within)) in
+    let idle = c.in_ok-half.ensures.known (subst (KnowsPass Backward c.args.self.now c.loop-later.cache.store) (sym same) (still k c.loop-later.invariant.tries within)) in
     (idle.0 ∙ c.loop-later.invariant.known knows, tt)
 
-pub returns-then-not-skips_at-clause-bounded : goal.returns-then-not-skips_at-clause-bounded
-returns-then-not-skips_at-clause-bounded c =
+pub returns-then-not-skips_at-clause-cost : goal.returns-then-not-skips_at-clause-cost
+returns-then-not-skips_at-clause-cost c =
     let k : ℕ = c.args.input.now.end - c.loop-later.later.end in
     let ahead : c.loop-later.later.start ≤ c.loop-later.later.end = grind (arith, common_steps, c.loop-later-test.ensures.done) in
     let within : c.args.input.now.start + k ≤ c.args.input.now.end = ended_within c.args.input.now c.loop-later.later c.loop-later.invariant.same c.loop-later.invariant.to ahead in
@@ -249,11 +249,11 @@ returns-then-is_anchored-clause-known c = λ knows.
     let begin : c.loop-later.later.start ≡ c.args.input.now.start = ap (λ (i : Input). i.start) c.loop-later.invariant.same in
     let shorter : c.loop-later.later.end - c.loop-later.later.start ≤ c.args.input.now.end - c.args.input.now.start = omega (arith, begin, c.loop-later.invariant.to) in
     let still : Knows Backward c.args.self.now c.loop-later.cache.store c.args.input.now = search_still Backward c.args.self.now c.args.input.now c.args.cache.now c.loop-later.cache c.loop-later.invariant.grown (c.loop-later.invariant.known knows) knows in
-    let idle = c.in_ok-half.ensures.idle (subst (KnowsPass Backward c.args.self.now c.loop-later.cache.store) (sym same) (still k c.loop-later.invariant.tries within)) in
+    let idle = c.in_ok-half.ensures.known (subst (KnowsPass Backward c.args.self.now c.loop-later.cache.store) (sym same) (still k c.loop-later.invariant.tries within)) in
     (idle.0 ∙ c.loop-later.invariant.known knows, tt)
 
-pub returns-then-is_anchored-clause-bounded : goal.returns-then-is_anchored-clause-bounded
-returns-then-is_anchored-clause-bounded c =
+pub returns-then-is_anchored-clause-cost : goal.returns-then-is_anchored-clause-cost
+returns-then-is_anchored-clause-cost c =
     let k : ℕ = c.args.input.now.end - c.loop-later.later.end in
     let ahead : c.loop-later.later.start ≤ c.loop-later.later.end = grind (arith, common_steps, c.loop-later-test.ensures.done) in
     let within : c.args.input.now.start + k ≤ c.args.input.now.end = ended_within c.args.input.now c.loop-later.later c.loop-later.invariant.same c.loop-later.invariant.to ahead in
@@ -296,11 +296,11 @@ returns-then-end-eq0-clause-known c = λ knows.
     let begin : c.loop-later.later.start ≡ c.args.input.now.start = ap (λ (i : Input). i.start) c.loop-later.invariant.same in
     let shorter : c.loop-later.later.end - c.loop-later.later.start ≤ c.args.input.now.end - c.args.input.now.start = omega (arith, begin, c.loop-later.invariant.to) in
     let still : Knows Backward c.args.self.now c.loop-later.cache.store c.args.input.now = search_still Backward c.args.self.now c.args.input.now c.args.cache.now c.loop-later.cache c.loop-later.invariant.grown (c.loop-later.invariant.known knows) knows in
-    let idle = c.in_ok-half.ensures.idle (subst (KnowsPass Backward c.args.self.now c.loop-later.cache.store) (sym same) (still k c.loop-later.invariant.tries within)) in
+    let idle = c.in_ok-half.ensures.known (subst (KnowsPass Backward c.args.self.now c.loop-later.cache.store) (sym same) (still k c.loop-later.invariant.tries within)) in
     (idle.0 ∙ c.loop-later.invariant.known knows, tt)
 
-pub returns-then-end-eq0-clause-bounded : goal.returns-then-end-eq0-clause-bounded
-returns-then-end-eq0-clause-bounded c =
+pub returns-then-end-eq0-clause-cost : goal.returns-then-end-eq0-clause-cost
+returns-then-end-eq0-clause-cost c =
     let k : ℕ = c.args.input.now.end - c.loop-later.later.end in
     let ahead : c.loop-later.later.start ≤ c.loop-later.later.end = grind (arith, common_steps, c.loop-later-test.ensures.done) in
     let within : c.args.input.now.start + k ≤ c.args.input.now.end = ended_within c.args.input.now c.loop-later.later c.loop-later.invariant.same c.loop-later.invariant.to ahead in
@@ -332,8 +332,8 @@ returns-then-end-eq0-clause-done c = λ past.
     let shorter : c.loop-later.later.end - c.loop-later.later.start ≤ c.args.input.now.end - c.args.input.now.start = omega (arith, begin, c.loop-later.invariant.to) in
     absurd (omega (arith, past, within))
 
-pub returns-clause-bounded : goal.returns-clause-bounded
-returns-clause-bounded c =
+pub returns-clause-cost : goal.returns-clause-cost
+returns-clause-cost c =
     let k : ℕ = c.args.input.now.end - c.loop-later.later.end in
     (k, cost_before Backward c.args.self.now c.args.input.now c.args.cache.now c.loop-later.cache k c.loop-later.invariant.tries c.loop-later.invariant.grown c.loop-later.invariant.bounded)
 

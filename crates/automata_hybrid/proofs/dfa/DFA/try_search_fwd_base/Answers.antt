@@ -49,7 +49,7 @@ pub returns-clause-effect : goal.returns-clause-effect
 returns-clause-effect c =
     let s = c.search_fwd-found.ensures in
     record {
-      cost = s.bounded;
+      cost = s.cost;
       grown = s.grown;
       learned = s.learned;
       known = λ knows. (s.grown.idle (s.known knows).0, (s.known knows).1);

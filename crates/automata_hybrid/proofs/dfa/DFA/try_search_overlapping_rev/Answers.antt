@@ -55,13 +55,13 @@ returns-clause-effect c =
     let s = c.call-told.ensures in
     record {
       rises = s.rises;
-      cost = s.bounded;
+      cost = s.cost;
       most = s.most;
       roomy = λ room. walk_clears_none c.args.cache.now c.call-told.new.cache old.stage _ s.grown s.there s.most room;
       grown = s.grown;
       there = s.there;
       learned = s.learned;
-      known = s.idle;
+      known = s.known;
       ended = s.ends;
       left = s.leaves;
       ready =

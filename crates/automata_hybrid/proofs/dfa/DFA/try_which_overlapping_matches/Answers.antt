@@ -31,11 +31,11 @@ pub returns-clause-effect : goal.returns-clause-effect
 returns-clause-effect c =
     let s = c.collect-told.ensures in
     record {
-      cost = s.bounded;
-      roomy = λ room. clears_none c.args.cache.now c.collect-told.new.cache _ s.grown s.bounded room;
+      cost = s.cost;
+      roomy = λ room. clears_none c.args.cache.now c.collect-told.new.cache _ s.grown s.cost room;
       grown = s.grown;
       learned = s.learned;
-      known = s.idle;
+      known = s.known;
       ended = s.ends;
       left = s.leaves;
     }

@@ -104,54 +104,54 @@ returns-clause-there c = λ there.
     (grown_trans c.resume.new.cache c.search_start.new.self c.advance.new.cache
     (grown_moved c.resume.new.cache c.search_start.new.self c.search_start.ensures.value) c.in_ok-arrival.ensures.grown)
 
-pub returns-in_err-from-clause-idle : goal.returns-in_err-from-clause-idle
-returns-in_err-from-clause-idle c = λ knows.
+pub returns-in_err-from-clause-known : goal.returns-in_err-from-clause-known
+returns-in_err-from-clause-known c = λ knows.
     let d : Direction = way_of c.args.way in
     let w : Walk = c.args.walk.now in
     let k : ℕ = c.requires.walk.0 in
     let ready : IsToRead c.args.input.now w.stage w.units w.told = record { undone = c.requires.«open»; on = c.requires.goes_on; all_told = c.requires.all_told; left = c.requires.within } in
-    let same = c.in_err-from.ensures.idle (λ may. (knows k c.requires.walk.1 ready may).0) in
+    let same = c.in_err-from.ensures.known (λ may. (knows k c.requires.walk.1 ready may).0) in
     (still_same c.args.cache.now c.resume.new.cache same.0, if_err c.from_residual.result _ _ c.from_residual.ensures.1 same.1)
 
-pub returns-then-is_dead-clause-idle : goal.returns-then-is_dead-clause-idle
-returns-then-is_dead-clause-idle c = λ knows.
+pub returns-then-is_dead-clause-known : goal.returns-then-is_dead-clause-known
+returns-then-is_dead-clause-known c = λ knows.
     let d : Direction = way_of c.args.way in
     let w : Walk = c.args.walk.now in
     let k : ℕ = c.requires.walk.0 in
     let ready : IsToRead c.args.input.now w.stage w.units w.told = record { undone = c.requires.«open»; on = c.requires.goes_on; all_told = c.requires.all_told; left = c.requires.within } in
     let all = knows k c.requires.walk.1 ready c.in_ok-from.ensures.may in
-    let same = c.in_ok-from.ensures.idle (λ may. all.0) in
-    let count : c.end_search.new.self.count ≡ c.args.cache.now.count = c.end_search.ensures.count ∙ (c.search_start.ensures.count ∙ ap (λ (v : CacheView). v.count) same.0) in
+    let same = c.in_ok-from.ensures.known (λ may. all.0) in
+    let count : c.end_search.new.self.count ≡ c.args.cache.now.count = c.end_search.ensures.counted ∙ (c.search_start.ensures.counted ∙ ap (λ (v : CacheView). v.count) same.0) in
     ((returns-then-is_dead-clause-there c (has_state d c.args.self.now c.args.cache.now.store c.args.input.now w.stage all.0)).idle count, tt)
 
-pub returns-in_err-arrival-clause-idle : goal.returns-in_err-arrival-clause-idle
-returns-in_err-arrival-clause-idle c = λ knows.
+pub returns-in_err-arrival-clause-known : goal.returns-in_err-arrival-clause-known
+returns-in_err-arrival-clause-known c = λ knows.
     let d : Direction = way_of c.args.way in
     let w : Walk = c.args.walk.now in
     let k : ℕ = c.requires.walk.0 in
     let ready : IsToRead c.args.input.now w.stage w.units w.told = record { undone = c.requires.«open»; on = c.requires.goes_on; all_told = c.requires.all_told; left = c.requires.within } in
     let all = knows k c.requires.walk.1 ready c.in_ok-from.ensures.may in
-    let same = c.in_ok-from.ensures.idle (λ may. all.0) in
-    let count : c.search_start.new.self.count ≡ c.args.cache.now.count = c.search_start.ensures.count ∙ ap (λ (v : CacheView). v.count) same.0 in
+    let same = c.in_ok-from.ensures.known (λ may. all.0) in
+    let count : c.search_start.new.self.count ≡ c.args.cache.now.count = c.search_start.ensures.counted ∙ ap (λ (v : CacheView). v.count) same.0 in
     let there = has_state d c.args.self.now c.args.cache.now.store c.args.input.now w.stage all.0 in
     let moved : IsGrown c.args.cache.now c.search_start.new.self = grown_trans c.args.cache.now c.resume.new.cache c.search_start.new.self (c.in_ok-from.ensures.there there) (grown_moved c.resume.new.cache c.search_start.new.self c.search_start.ensures.value) in
     let here : HasToldBy d c.args.self.now c.args.input.now c.units-2.result k = subst (λ n. HasToldBy d c.args.self.now c.args.input.now n k) (sym c.units-2.ensures) (told_here d c.args.self.now c.args.input.now w k c.see_skips.ensures c.requires.walk.1 c.requires.goes_on c.requires.all_told) in
-    let idle = c.in_err-arrival.ensures.idle k here (λ j l reads clean told. unit_knows d c.args.self.now c.args.cache.now c.search_start.new.self c.args.input.now w.units j k moved count all.1 (subst (λ n. n ≤ j) c.units-2.ensures l) reads clean told) in
+    let idle = c.in_err-arrival.ensures.known k here (λ j l reads clean told. unit_knows d c.args.self.now c.args.cache.now c.search_start.new.self c.args.input.now w.units j k moved count all.1 (subst (λ n. n ≤ j) c.units-2.ensures l) reads clean told) in
     ((returns-in_err-arrival-clause-there c there).idle (idle.0 ∙ count), if_err c.from_residual-in_err-arrival.result _ _ c.from_residual-in_err-arrival.ensures.1 idle.1)
 
-pub returns-clause-idle : goal.returns-clause-idle
-returns-clause-idle c = λ knows.
+pub returns-clause-known : goal.returns-clause-known
+returns-clause-known c = λ knows.
     let d : Direction = way_of c.args.way in
     let w : Walk = c.args.walk.now in
     let k : ℕ = c.requires.walk.0 in
     let ready : IsToRead c.args.input.now w.stage w.units w.told = record { undone = c.requires.«open»; on = c.requires.goes_on; all_told = c.requires.all_told; left = c.requires.within } in
     let all = knows k c.requires.walk.1 ready c.in_ok-from.ensures.may in
-    let same = c.in_ok-from.ensures.idle (λ may. all.0) in
-    let count : c.search_start.new.self.count ≡ c.args.cache.now.count = c.search_start.ensures.count ∙ ap (λ (v : CacheView). v.count) same.0 in
+    let same = c.in_ok-from.ensures.known (λ may. all.0) in
+    let count : c.search_start.new.self.count ≡ c.args.cache.now.count = c.search_start.ensures.counted ∙ ap (λ (v : CacheView). v.count) same.0 in
     let there = has_state d c.args.self.now c.args.cache.now.store c.args.input.now w.stage all.0 in
     let moved : IsGrown c.args.cache.now c.search_start.new.self = grown_trans c.args.cache.now c.resume.new.cache c.search_start.new.self (c.in_ok-from.ensures.there there) (grown_moved c.resume.new.cache c.search_start.new.self c.search_start.ensures.value) in
     let here : HasToldBy d c.args.self.now c.args.input.now c.units-2.result k = subst (λ n. HasToldBy d c.args.self.now c.args.input.now n k) (sym c.units-2.ensures) (told_here d c.args.self.now c.args.input.now w k c.see_skips.ensures c.requires.walk.1 c.requires.goes_on c.requires.all_told) in
-    let idle = c.in_ok-arrival.ensures.idle k here (λ j l reads clean told. unit_knows d c.args.self.now c.args.cache.now c.search_start.new.self c.args.input.now w.units j k moved count all.1 (subst (λ n. n ≤ j) c.units-2.ensures l) reads clean told) in
+    let idle = c.in_ok-arrival.ensures.known k here (λ j l reads clean told. unit_knows d c.args.self.now c.args.cache.now c.search_start.new.self c.args.input.now w.units j k moved count all.1 (subst (λ n. n ≤ j) c.units-2.ensures l) reads clean told) in
     ((returns-clause-there c there).idle (idle.0 ∙ count), tt)
 
 pub returns-then-is_dead-clause-learned : goal.returns-then-is_dead-clause-learned

@@ -42,8 +42,8 @@ returns-in-Forward-clause-unsupported c =
     subst (λ (w : Way). quit_behind c.args.self.now (tape_in (way_of w) c.args.input.now).before ≡ None → supports c.args.self.now c.args.input.now.anchored ≡ false → c.start_state_forward.result ≡ Err (search.Match (UnsupportedMode c.args.input.now.anchored))) (sym c.in-Forward.is)
     (unsupported_at c.args.self.now c.args.input.now.anchored (byte_before c.args.input.now.haystack c.args.input.now.start) (c.args.input.now.start - 1) c.args.input.now.start c.args.cache.now c.start_state_forward.new.cache c.start_state_forward.result c.start_state_forward.ensures.answer c.start_state_forward.ensures.refusal)
 
-pub returns-in-Forward-clause-idle : goal.returns-in-Forward-clause-idle
-returns-in-Forward-clause-idle c =
+pub returns-in-Forward-clause-known : goal.returns-in-Forward-clause-known
+returns-in-Forward-clause-known c =
     subst (λ (w : Way). (MayStart c.args.self.now c.args.input.now.anchored (tape_in (way_of w) c.args.input.now).before → KnowsItsStart (way_of w) c.args.self.now c.args.cache.now.store c.args.input.now)
     → (c.start_state_forward.new.cache ≡ c.args.cache.now) × IfErr c.start_state_forward.result IsOfInput) (sym c.in-Forward.is) (λ knows.
     start_idle c.args.self.now c.args.cache.now c.start_state_forward.new.cache c.args.input.now.anchored (byte_before c.args.input.now.haystack c.args.input.now.start) c.start_state_forward.result (c.args.input.now.start - 1) c.args.input.now.start
@@ -76,8 +76,8 @@ returns-in-Backward-clause-unsupported c =
     subst (λ (w : Way). quit_behind c.args.self.now (tape_in (way_of w) c.args.input.now).before ≡ None → supports c.args.self.now c.args.input.now.anchored ≡ false → c.start_state_reverse.result ≡ Err (search.Match (UnsupportedMode c.args.input.now.anchored))) (sym c.in-Backward.is)
     (unsupported_at c.args.self.now c.args.input.now.anchored (nth c.args.input.now.haystack c.args.input.now.end) c.args.input.now.end c.args.input.now.end c.args.cache.now c.start_state_reverse.new.cache c.start_state_reverse.result c.start_state_reverse.ensures.answer c.start_state_reverse.ensures.refusal)
 
-pub returns-in-Backward-clause-idle : goal.returns-in-Backward-clause-idle
-returns-in-Backward-clause-idle c =
+pub returns-in-Backward-clause-known : goal.returns-in-Backward-clause-known
+returns-in-Backward-clause-known c =
     subst (λ (w : Way). (MayStart c.args.self.now c.args.input.now.anchored (tape_in (way_of w) c.args.input.now).before → KnowsItsStart (way_of w) c.args.self.now c.args.cache.now.store c.args.input.now)
     → (c.start_state_reverse.new.cache ≡ c.args.cache.now) × IfErr c.start_state_reverse.result IsOfInput) (sym c.in-Backward.is) (λ knows.
     start_idle c.args.self.now c.args.cache.now c.start_state_reverse.new.cache c.args.input.now.anchored (nth c.args.input.now.haystack c.args.input.now.end) c.start_state_reverse.result c.args.input.now.end c.args.input.now.end

@@ -7,7 +7,7 @@ use Rattle.automata_hybrid.proofs.dfa.cache.Cache.add_again.Goals as goal
 
 pub returns-clause-grown : goal.returns-clause-grown
 returns-clause-grown c =
-    grown_again c.args.self.now c.add_start.new.self (record { state = c.args.state; started = false }) c.in_ok-id.ensures.effect c.in_ok-id.ensures.count
+    grown_again c.args.self.now c.add_start.new.self (record { state = c.args.state; started = false }) c.in_ok-id.ensures.effect c.in_ok-id.ensures.counted
     (c.in_ok-id.ensures.of ∙ sym c.requires.dfa) c.in_ok-id.ensures.starts c.see_cells.ensures.cells c.see_cells.ensures.wide c.see_cells.ensures.clears
     (subst (λ (m : Machine). cost c.args.state ≤ greatest m) (sym c.requires.dfa) c.requires.cost)
 
