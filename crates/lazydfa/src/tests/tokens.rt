@@ -68,28 +68,29 @@ fn answers_requests_for_tokens(rt: HostRuntime) -> Result<(), Fail> {
     prints(&rt, "tok 61\n", "bad regex\n", "no regex")
 }
 
-/// What the row shows, the regex with its options, the haystack, and the first five items: a pattern with the bytes of
-/// its token, or the text of an error.
+/// What the row shows, the regex with its options, the haystack and where its span begins, and the first five items: a
+/// pattern with the bytes of its token, or the text of an error.
 type Items = (
     &'static str,
     Entry,
     &'static str,
-    &'static str,
+    (&'static str, usize),
     &'static str,
 );
 
 #[rattlefmt::skip]
 const ITEMS: &[Items] = &[
-    ("one behind another", Entry::Runs, "", "12ab3", "1 12; 0 ab; 1 3; -; -"),
-    ("behind no token", Entry::Runs, "", "ab 1", "0 ab; no token at 2; -; -; -"),
-    ("at the span's end", Entry::Runs, "", "", "-; -; -; -; -"),
-    ("behind a refusal", Entry::Runs, "quit=78", "ab12x",
+    ("one behind another", Entry::Runs, "", ("12ab3", 0), "1 12; 0 ab; 1 3; -; -"),
+    ("in a span", Entry::Runs, "", ("12 ab", 3), "0 ab; -; -; -; -"),
+    ("behind no token", Entry::Runs, "", ("ab 1", 0), "0 ab; no token at 2; -; -; -"),
+    ("at the span's end", Entry::Runs, "", ("", 0), "-; -; -; -; -"),
+    ("behind a refusal", Entry::Runs, "quit=78", ("ab12x", 0),
         "0 ab; quit search after observing byte 0x78 at offset 4; -; -; -"),
-    ("behind a refusal at once", Entry::Runs, "quit=78", "ab1x",
+    ("behind a refusal at once", Entry::Runs, "quit=78", ("ab1x", 0),
         "quit search after observing byte 0x78 at offset 3; -; -; -; -"),
-    ("behind an empty match", Entry::Empty, "", "a", "no token at 0; -; -; -; -"),
+    ("behind an empty match", Entry::Empty, "", ("a", 0), "no token at 0; -; -; -; -"),
     ("behind giving up", Entry::A16, "noclasses capacity=37281 limit=1",
-        "aaaaaaaaaaaaaaaaaaaaaaaaaaaaaaaaaaaaaaaaaaaaaaaa",
+        ("aaaaaaaaaaaaaaaaaaaaaaaaaaaaaaaaaaaaaaaaaaaaaaaa", 0),
         "0 aaaaaaaaaaaaaaaa; gave up searching at offset 24; -; -; -"),
 ];
 
@@ -102,26 +103,40 @@ fn gives_bytes_and_ends_for_good(rt: HostRuntime) -> Result<(), Fail> {
 }
 
 fn gives<R: Abort + AllocGlobal>(rt: &R, row: Items) -> Result<(), Fail> {
-    let (shows, entry, options, haystack, want) = row;
+    let (shows, entry, options, (haystack, start), want) = row;
     let regex = Pair::Of(entry).build(rt.alloc(), options)??;
     let mut cache = regex.create_cache()?;
     let mut text = String::new(rt.alloc());
-    write_items(&regex, &mut cache, haystack, &mut text)?;
+    write_items(
+        &regex,
+        &mut cache,
+        from(haystack.as_bytes(), start),
+        &mut text,
+    )?;
     same_text(rt, text.as_str(), want, shows);
     Ok(())
+}
+
+/// A haystack from a place on.
+fn from<'h>(haystack: &'h [u8], start: usize) -> Input<'h> {
+    let input = Input::new(haystack);
+    if !input.allows(start, haystack.len()) {
+        return input;
+    }
+    input.range(start..haystack.len())
 }
 
 /// Writes the first five items.
 fn write_items(
     regex: &Regex,
     cache: &mut Cache,
-    haystack: &str,
+    input: Input<'_>,
     text: &mut String,
 ) -> Result<(), AllocError>
     requires { AreCachesOf cache.old regex.now }
     ensures { AreCachesOf cache.new regex.now }
 {
-    let mut tokens = regex.tokens(cache, Input::new(haystack.as_bytes()));
+    let mut tokens = regex.tokens(cache, input);
     write_next(text, "", &mut tokens)?;
     write_next(text, "; ", &mut tokens)?;
     write_next(text, "; ", &mut tokens)?;
@@ -252,8 +267,8 @@ fn write_without_memory(
 ) -> Result<(), AllocError>
     requires { AreCachesOf cache.old regex.now }
 {
-    write_items(regex, cache, "12ab3", text)?;
+    write_items(regex, cache, Input::new(b"12ab3"), text)?;
     text.push_str(" ")?;
     exhaust(alloc);
-    write_items(regex, cache, "12ab3", text)
+    write_items(regex, cache, Input::new(b"12ab3"), text)
 }
