@@ -57,9 +57,9 @@ fn found_at(bench: &Bench, at: usize, found: Option<HalfMatch>) -> Option<HalfMa
     }
 }
 
-/// Whether a search ends with what it has found at a byte.
-fn ends(bench: &Bench, input: &Input<'_>, found: Option<HalfMatch>) -> bool {
-    bench.id().is_dead() || input.get_earliest() && found.is_some()
+/// Whether a search ends at a byte with what it has found.
+fn ends(bench: &Bench, input: &Input<'_>, has_found: bool) -> bool {
+    bench.id().is_dead() || input.get_earliest() && has_found
 }
 
 fn pass_forward(bench: &mut Bench, input: &Input<'_>) -> Result<Option<HalfMatch>, SearchError> {
@@ -76,7 +76,7 @@ fn pass_forward(bench: &mut Bench, input: &Input<'_>) -> Result<Option<HalfMatch
         };
         read(bench, *byte, at)?;
         found = found_at(bench, at, found);
-        if ends(bench, input, found) {
+        if ends(bench, input, found.is_some()) {
             bench.close(at);
             return Ok(found);
         }
@@ -142,7 +142,7 @@ fn step_reverse(
     };
     read(bench, *byte, before)?;
     let found = found_at(bench, at, found);
-    let stops = ends(bench, input, found);
+    let stops = ends(bench, input, found.is_some());
     if stops {
         bench.close(before);
     }

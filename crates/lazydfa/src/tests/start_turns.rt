@@ -45,20 +45,31 @@ impl Starter {
 
     /// The start of a mode, if it isn't refused memory.
     fn start(&mut self, call: Call, mode: Anchored) -> Result<Option<LazyStateID>, Fail> {
-        let input = Input::new(b"@").anchored(mode);
         match call {
-            Config => self.by_config(mode),
-            First => told(self.dfa.start_state_forward(&mut self.cache, &input)),
-            Last => told(self.dfa.start_state_reverse(&mut self.cache, &input)),
+            Config => self.by_config(&start::Config::new().anchored(mode)),
+            First => self.by_input(&Input::new(b"@").anchored(mode), false),
+            Last => self.by_input(&Input::new(b"@").anchored(mode), true),
         }
     }
 
-    fn by_config(&mut self, mode: Anchored) -> Result<Option<LazyStateID>, Fail> {
-        let config = start::Config::new().anchored(mode);
-        match self.dfa.start_state(&mut self.cache, &config) {
+    fn by_config(&mut self, config: &start::Config) -> Result<Option<LazyStateID>, Fail> {
+        match self.dfa.start_state(&mut self.cache, config) {
             Err(StartError::OutOfMemory) => Ok(None),
             started => Ok(Some(started?)),
         }
+    }
+
+    fn by_input(
+        &mut self,
+        input: &Input<'_>,
+        is_reverse: bool,
+    ) -> Result<Option<LazyStateID>, Fail> {
+        let started = if is_reverse {
+            self.dfa.start_state_reverse(&mut self.cache, input)
+        } else {
+            self.dfa.start_state_forward(&mut self.cache, input)
+        };
+        told(started)
     }
 
     /// Whether the step on `@` from a start is dead.
