@@ -214,11 +214,12 @@ pub fn leads<R: Abort + AllocGlobal>(rt: &R, row: Row) -> Result<(), Fail> {
     Ok(())
 }
 
-/// One turn, over room of its own. What is refused is answered once there is memory.
+/// One turn, over room of its own. Each call is lent the turn's memory alone; what is refused is answered once there is
+/// more.
 fn lead_short(alloc: Global, nfa: &NFA, turns: &mut Turns) -> Result<(), Fail> {
     turns.lend(alloc)?;
     let mut maker = maker_short(nfa, turns)?;
-    lead_two(&mut maker, turns)?;
+    lead_two(alloc, &mut maker, turns)?;
     turns.release();
     Ok(())
 }
@@ -232,9 +233,12 @@ fn maker_short(nfa: &NFA, turns: &mut Turns) -> Result<Maker, Fail> {
 }
 
 /// A start and the states behind one byte and two, the last one with its bytes.
-fn lead_two(maker: &mut Maker, turns: &mut Turns) -> Result<(), Fail> {
+fn lead_two(alloc: Global, maker: &mut Maker, turns: &mut Turns) -> Result<(), Fail> {
+    turns.lend(alloc)?;
     let start = start_short(maker, turns)?;
+    turns.lend(alloc)?;
     let one = next_short(maker, &start, turns)?;
+    turns.lend(alloc)?;
     let two = next_short(maker, &one, turns)?;
     check(two.as_bytes() == TWO.4)
 }
