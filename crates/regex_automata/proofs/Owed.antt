@@ -9,7 +9,7 @@ use Rattle.automata_base.specs.Tapes.{Forward}
 use Rattle.automata_config.specs.declared.error.SearchError.{SearchError}
 use Rattle.automata_hybrid.specs.Caches.{CacheView}
 use Rattle.automata_hybrid.specs.Machine.{Machine}
-use Rattle.automata_hybrid.specs.Owing.{IsMemory, IsStoreOf, MayRefuse, unsupported_error}
+use Rattle.automata_hybrid.specs.Owing.{IsMemory, IsStoreOf, IsUnsupported, MayRefuse, unsupported_error}
 use Rattle.automata_hybrid.specs.Searches.{NoQuitInReach, tape_in}
 use Rattle.automata_hybrid.specs.Slots.{supports}
 use Rattle.automata_hybrid.specs.Starting.{quit_behind}
@@ -70,8 +70,7 @@ pub span_owed :
     → (AreLookAcyclic p → IfOk r (TryFinds (forward_engine p) (reverse_engine p) input))
     → (IsSoundPair p → IfOk r (IsSpan (forward_engine p) input)) → IfOk r (λ o. IfSome o (MatchLiesIn p input))
     → IfErr r (IsRegexRefusal p c input)
-    → (input.start ≤ input.end → quit_behind p.forward (tape_in Forward input).before ≡ None
-    → supports p.forward input.anchored ≡ false → r ≡ Err (unsupported_error input))
+    → (IsUnsupported Forward p.forward input → r ≡ Err (unsupported_error input))
     → (input.end < input.start → r ≡ Ok None)
     → IsSpanOf p input r
 span_owed p input r c of found answer span within errors unsupported done = record {
@@ -80,7 +79,7 @@ span_owed p input r c of found answer span within errors unsupported done = reco
   span = span;
   within = within;
   errors = may_refuse_span r p c input of errors;
-  unsupported = λ u. unsupported u.undone u.behind u.mode;
+  unsupported = unsupported;
   free = λ free. refused_free r p c input free errors;
   free_sound = λ sound free. refused_sound r p c input sound free errors;
   done = done;

@@ -66,6 +66,19 @@ pub record IsStep (way : Direction) (m : Machine) (input : Input) (told : ℕ)
 abbrev pub MayRefuseSpan : Regex → Input → SearchError → Type 0
 MayRefuseSpan p input e = (c : Cache) × AreStoresOf c p × IsRegexRefusal p c input e
 
+-- what a search for a span answers by the passes of its two DFAs alone
+pub record IsSpanTold (p : Regex) (input : Input) (result : Result (Option Match) SearchError) : Type 0 where
+  -- what the passes of both tell
+  pub found : IfOk result (FindsMatch p input)
+  -- it lies in the input's span, and its pattern is one of the automata's
+  pub within : IfOk result (λ o. IfSome o (MatchLiesIn p input))
+  -- a mode that isn't supported is told
+  pub unsupported : IsUnsupported Forward p.forward input → result ≡ Err (unsupported_error input)
+  -- where nothing stands in the way, only want of memory is a refusal, or that the two are no pair
+  pub free : IsFree p input → IfErr result IsOfMemory
+  -- in a span that is done there is none
+  pub done : input.end < input.start → result ≡ Ok None
+
 -- what a search for a span answers
 pub record IsSpanOf (p : Regex) (input : Input) (result : Result (Option Match) SearchError) : Type 0 where
   -- for every two automata, what the passes of both tell

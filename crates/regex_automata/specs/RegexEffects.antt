@@ -1,15 +1,17 @@
 -- What a search over two lazy DFAs makes of their caches.
-use Rattle.std.specs.Prelude.{ℕ, ◌≡◌, ◌<◌, Bool, Option, Result, IfErr, IfOk, OnOk}
+use Rattle.std.specs.Prelude.{ℕ, ◌≡◌, ◌-◌, ◌<◌, Bool, Option, Result, IfErr, IfOk, OnOk}
+use Rattle.automata_base.specs.Answers.{Half}
 use Rattle.automata_base.specs.Input.{Input}
 use Rattle.automata_base.specs.Matches.{Match}
 use Rattle.automata_config.specs.declared.error.SearchError.{SearchError}
-use Rattle.automata_hybrid.specs.Growing.{ClearedNothing}
+use Rattle.automata_hybrid.specs.Caches.{CacheView}
+use Rattle.automata_hybrid.specs.Growing.{ClearedNothing, IsGrown, IsStill}
 use Rattle.automata_hybrid.specs.Knowing.{IsOfInput}
-use Rattle.regex_automata.specs.Costs.{AreCostsOf}
-use Rattle.regex_automata.specs.Iterating.{AreCostsTwice, LearnsItem}
+use Rattle.regex_automata.specs.Costs.{AreCostsOf, IsPassCost}
+use Rattle.regex_automata.specs.Iterating.{AreCostsTwice, KnowsNext, LearnsItem}
 use Rattle.regex_automata.specs.Matching.{EndsMatch, IsMatchCost, KnowsMatch, LeavesMatch}
-use Rattle.regex_automata.specs.RegexCaches.{AreGrown, AreStill, KnowsBoth, NothingCleared}
-use Rattle.regex_automata.specs.RegexProgress.{EndsSpan, LeavesItem, LeavesSpan}
+use Rattle.regex_automata.specs.RegexCaches.{AreGrown, AreStill, KnowsBack, KnowsBoth, NothingCleared}
+use Rattle.regex_automata.specs.RegexProgress.{EndsBack, EndsNext, EndsSpan, LeavesBack, LeavesItem, LeavesNext, LeavesSpan}
 use Rattle.regex_automata.specs.RegexRefusals.{IsOfGiven}
 use Rattle.regex_automata.specs.declared.hybrid.regex.Regex.{Regex}
 use Rattle.regex_automata.specs.declared.hybrid.regex.caches.Cache.{Cache}
@@ -30,6 +32,31 @@ pub record IsSpanEffect (p : Regex) (input : Input) (old new : Cache)
   pub left : IfErr result (LeavesSpan p input old new)
   -- with a span that is done, nothing at all
   pub done : input.end < input.start → new ≡ old
+
+-- the search back in it, from a forward answer, which is made or isn't
+pub record IsBackEffect (p : Regex) (input : Input) (half : Half) (old new : CacheView)
+    (result : Result (Option ℕ) SearchError) : Type 0 where
+  -- it is one pass
+  pub cost : IsPassCost (input.end - input.start) old new
+  -- until the next clear nothing is lost
+  pub grown : IsGrown old new
+  -- and what it used is known
+  pub learned : ClearedNothing old.store new.store → OnOk result (KnowsBack p new.store input half)
+  -- with all that known it takes no memory, and changes nothing but the progress
+  pub known : KnowsBack p old.store input half → IsStill old new × IfErr result IsOfInput
+  -- the searched bytes, and the search that is open: where none was made, all is as it was
+  pub ended : OnOk result (EndsBack p input half old new)
+  pub left : IfErr result (LeavesBack p input half old new)
+
+-- a search for the match after another, made once, or once more from a place later
+pub record IsNextEffect (p : Regex) (input : Input) (last : Option ℕ) (old new : Cache)
+    (result : Result (Option Match) SearchError) : Type 0 where
+  pub cost : AreCostsTwice p input old new
+  pub grown : AreGrown old new
+  pub learned : NothingCleared old new → OnOk result (KnowsNext p new input last)
+  pub known : KnowsNext p old input last → AreStill old new × IfErr result IsOfGiven
+  pub ended : IfOk result (EndsNext p input old new)
+  pub left : IfErr result (LeavesNext p input old new)
 
 -- a search for whether there is a match, which leaves the reverse cache as it is
 pub record IsTruthEffect (p : Regex) (input : Input) (old new : Cache)

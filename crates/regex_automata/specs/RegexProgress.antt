@@ -1,5 +1,5 @@
 -- What a search over two lazy DFAs leaves of the progress of searches.
-use Rattle.std.specs.Prelude.{ℕ, suc, ◌≡◌, ◌⊎◌, Option, Some, None, Result, Ok, Err, Bool, true, false}
+use Rattle.std.specs.Prelude.{suc, ◌≡◌, ◌⊎◌, Option, Some, None, Result, Ok, Err, Bool, true, false}
 use Rattle.automata_base.specs.Answers.{Half}
 use Rattle.automata_base.specs.Input.{Input}
 use Rattle.automata_base.specs.Matches.{Match}

@@ -1,16 +1,14 @@
-ghost use Rattle.std.specs.Prelude.{◌≡◌, ◌≤◌, ◌+◌, IfOk, IfErr, IfSome, OnErr, OnOk, None, Err, false, true};
+ghost use Rattle.std.specs.Prelude.{◌≡◌, ◌≤◌, ◌+◌, IfOk, IfErr, IfSome, OnErr, None, Err, false, true};
 ghost use Rattle.std.specs.Iterator.{at_most};
-ghost use Rattle.automata_base.specs.Input.{Allows, IsAllowed};
+ghost use Rattle.automata_base.specs.Input.{Allows};
 ghost use Rattle.automata_base.specs.Spans.{IsEmptyAt, from};
 ghost use Rattle.automata_base.specs.Tapes.{Forward};
 ghost use Rattle.automata_hybrid.specs.Owing.{IsUnsupported, unsupported_error};
-ghost use Rattle.regex_automata.specs.Iterating.{AreCostsTwice, GivesItem, GoesPast, IsNextMatch, IsNextRefusal};
-ghost use Rattle.regex_automata.specs.Iterating.{KnowsNext, input_at, most_items};
+ghost use Rattle.regex_automata.specs.Iterating.{GivesItem, GoesPast, IsNextMatch, IsNextRefusal};
+ghost use Rattle.regex_automata.specs.Iterating.{input_at, most_items};
 ghost use Rattle.regex_automata.specs.Owing.{TellsUnsupported};
-ghost use Rattle.regex_automata.specs.RegexEffects.{IsItemEffect};
-ghost use Rattle.regex_automata.specs.RegexProgress.{EndsNext, LeavesNext};
-ghost use Rattle.regex_automata.specs.RegexRefusals.{IsOfGiven};
-ghost use Rattle.regex_automata.specs.RegexCaches.{AreCachesOf, AreGrown, AreStill, NothingCleared};
+ghost use Rattle.regex_automata.specs.RegexEffects.{IsItemEffect, IsNextEffect};
+ghost use Rattle.regex_automata.specs.RegexCaches.{AreCachesOf};
 
 use crate::hybrid::regex::{Cache, Regex};
 use crate::laws::matches_agree;
@@ -54,15 +52,7 @@ impl Regex {
         ensures unsupported { IsUnsupported Forward self.now.forward input.now
             → result ≡ Err (unsupported_error input.now) }
         ensures ahead { OnErr result (input.now.start ≤ input.now.end) }
-        ensures allowed { IsAllowed input.now }
-        ensures grown { AreGrown cache.old cache.new }
-        ensures cost { AreCostsTwice self.now input.now cache.old cache.new }
-        ensures ended { IfOk result (EndsNext self.now input.now cache.old cache.new) }
-        ensures left { IfErr result (LeavesNext self.now input.now cache.old cache.new) }
-        ensures learned { NothingCleared cache.old cache.new
-            → OnOk result (KnowsNext self.now cache.new input.now last) }
-        ensures known { KnowsNext self.now cache.old input.now last
-            → AreStill cache.old cache.new × IfErr result IsOfGiven }
+        ensures effect { IsNextEffect self.now input.now last cache.old cache.new result }
     {
         matches_agree();
         known_stays(&self.forward);

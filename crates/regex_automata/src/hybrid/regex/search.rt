@@ -1,23 +1,15 @@
-ghost use Rattle.std.specs.Prelude.{◌≡◌, ◌-◌, ◌≤◌, ◌<◌, IfOk, IfErr, OnOk, IfSome, Some, None, Ok, Err, false, true};
+ghost use Rattle.std.specs.Prelude.{◌≡◌, ◌-◌, ◌≤◌, IfOk, IfErr, IfSome, None, false, true};
 ghost use Rattle.automata_base.specs.Spans.{IsShort, back};
-ghost use Rattle.automata_base.specs.Tapes.{byte_before};
-ghost use Rattle.automata_base.specs.declared.util.search.MatchErrorKind.TheVariants.{UnsupportedAnchored as UnsupportedMode};
 ghost use Rattle.automata_hybrid.specs.Caches.{IsCacheOf};
-ghost use Rattle.automata_hybrid.specs.Growing.{ClearedNothing, IsGrown, IsStill};
-ghost use Rattle.automata_hybrid.specs.Knowing.{IsOfInput};
+ghost use Rattle.automata_hybrid.specs.Owing.{IsMemory};
 ghost use Rattle.automata_hybrid.specs.Searches.{NoQuitInReach, with_base};
-ghost use Rattle.automata_hybrid.specs.Slots.{supports};
-ghost use Rattle.automata_hybrid.specs.Starting.{quit_behind};
+ghost use Rattle.automata_hybrid.specs.Within.{LiesPast};
 ghost use Rattle.regex_automata.specs.SoundPairs.{forward_engine};
-ghost use Rattle.regex_automata.specs.Costs.{AreCostsOf, IsPassCost};
-ghost use Rattle.regex_automata.specs.Outcomes.{FindsMatch, IsStartFound, MatchLiesIn};
-ghost use Rattle.regex_automata.specs.Owing.{IsSpanOf};
-ghost use Rattle.regex_automata.specs.RegexEffects.{IsSpanEffect};
-ghost use Rattle.regex_automata.specs.RegexProgress.{EndsBack, EndsSpan, LeavesBack, LeavesSpan};
-ghost use Rattle.regex_automata.specs.RegexCaches.{AreCachesOf, AreGrown, AreStill, KnowsBack, KnowsBoth};
-ghost use Rattle.regex_automata.specs.RegexCaches.{NothingCleared};
-ghost use Rattle.regex_automata.specs.RegexRefusals.{HasReason, IsBackRefused, IsFree, IsOfGiven, IsOfMemory};
-ghost use Rattle.regex_automata.specs.RegexRefusals.{IsRegexRefusal};
+ghost use Rattle.regex_automata.specs.Outcomes.{IsStartFound};
+ghost use Rattle.regex_automata.specs.Owing.{IsSpanOf, IsSpanTold};
+ghost use Rattle.regex_automata.specs.RegexEffects.{IsBackEffect, IsSpanEffect};
+ghost use Rattle.regex_automata.specs.RegexCaches.{AreCachesOf};
+ghost use Rattle.regex_automata.specs.RegexRefusals.{HasReason, IsBackRefused, IsRegexRefusal};
 ghost use Rattle.automata_config.specs.Options.{minimum_cache_clear_count_of};
 
 use crate::hybrid::dfa;
@@ -119,24 +111,14 @@ impl Regex {
         base: usize,
     ) -> Result<Option<usize>, SearchError>
         requires of { IsCacheOf cache.old self.now.reverse }
-        requires from { input.now.start ≤ base }
-        requires ordered { base ≤ half.offset }
-        requires within { half.offset ≤ input.now.end }
+        requires past { LiesPast self.now.forward input.now half base }
         ensures of { IsCacheOf cache.new self.now.reverse }
         ensures found { IfOk result (IsStartFound self.now input.now (with_base half base)) }
         ensures within { IfOk result (λ o. IfSome o (λ start. (base ≤ start) × (start ≤ half.offset))) }
         ensures refusal { IfErr result (IsBackRefused self.now cache.new.store input.now (with_base half base)) }
-        ensures answers { NoQuitInReach self.now.reverse input.now
-            → minimum_cache_clear_count_of self.now.reverse.config ≡ None
-            → IfErr result (λ e. e ≡ SearchError.OutOfMemory) }
-        ensures cost { IsPassCost (input.now.end - input.now.start) cache.old cache.new }
-        ensures ended { OnOk result (EndsBack self.now input.now (with_base half base) cache.old cache.new) }
-        ensures left { IfErr result (LeavesBack self.now input.now (with_base half base) cache.old cache.new) }
-        ensures grown { IsGrown cache.old cache.new }
-        ensures learned { ClearedNothing cache.old.store cache.new.store
-            → OnOk result (KnowsBack self.now cache.new.store input.now (with_base half base)) }
-        ensures known { KnowsBack self.now cache.old.store input.now (with_base half base)
-            → IsStill cache.old cache.new × IfErr result IsOfInput }
+        ensures free { NoQuitInReach self.now.reverse input.now
+            → minimum_cache_clear_count_of self.now.reverse.config ≡ None → IfErr result IsMemory }
+        ensures effect { IsBackEffect self.now input.now (with_base half base) cache.old cache.new result }
     {
         let short = self.is_short(input, half, base);
         let _ = input.end();
@@ -154,21 +136,9 @@ impl Regex {
     fn search(&self, cache: &mut Cache, input: &Input<'_>) -> Result<Option<Match>, SearchError>
         requires { AreCachesOf cache.old self.now }
         ensures of { AreCachesOf cache.new self.now }
-        ensures found { IfOk result (FindsMatch self.now input.now) }
-        ensures within { IfOk result (λ o. IfSome o (MatchLiesIn self.now input.now)) }
+        ensures told { IsSpanTold self.now input.now result }
         ensures refusal { IfErr result (HasReason self.now cache.new input.now) }
-        ensures free { IsFree self.now input.now → IfErr result IsOfMemory }
-        ensures unsupported { input.now.start ≤ input.now.end
-            → quit_behind self.now.forward (byte_before input.now.haystack input.now.start) ≡ None
-            → supports self.now.forward input.now.anchored ≡ false
-            → result ≡ Err (SearchError.Match (UnsupportedMode input.now.anchored)) }
-        ensures cost { AreCostsOf self.now input.now cache.old cache.new }
-        ensures ended { IfOk result (EndsSpan self.now input.now cache.old cache.new) }
-        ensures left { IfErr result (LeavesSpan self.now input.now cache.old cache.new) }
-        ensures grown { AreGrown cache.old cache.new }
-        ensures learned { NothingCleared cache.old cache.new → OnOk result (KnowsBoth self.now cache.new input.now) }
-        ensures known { KnowsBoth self.now cache.old input.now → AreStill cache.old cache.new × IfErr result IsOfGiven }
-        ensures done { input.now.end < input.now.start → (result ≡ Ok None) × (cache.new ≡ cache.old) }
+        ensures effect { IsSpanEffect self.now input.now cache.old cache.new result }
     {
         answers_agree();
         let _ = input.end();

@@ -1,4 +1,4 @@
-use Rattle.std.proofs.Common.{suc, ◌≡◌, ◌∙◌, ◌+◌, None, inl, refl, ap, subst, arith}
+use Rattle.std.proofs.Common.{rules, suc, ◌≡◌, ◌∙◌, ◌+◌, None, inl, refl, ap, subst, arith}
 use Rattle.std.specs.Prelude.{Err, IfOk, IfErr, IfSome}
 use Rattle.automata_base.specs.Input.{Input}
 use Rattle.automata_base.specs.Spans.{from}
@@ -28,15 +28,30 @@ returns-in_err-found-clause-ahead c =
     (ahead_of c.try_search.result c.in_err-found.field-0.0 None c.args.input.now.start c.args.input.now.end
     c.try_search.ensures.owed.done c.in_err-found.was)
 
-pub returns-in_err-found-clause-cost : goal.returns-in_err-found-clause-cost
-returns-in_err-found-clause-cost c = inl c.try_search.ensures.effect.cost
+pub returns-in_err-found-clause-effect : goal.returns-in_err-found-clause-effect
+returns-in_err-found-clause-effect c = record {
+  cost = inl c.try_search.ensures.effect.cost;
+  grown = search rules;
+  learned = λ nothing. on_ok c.from_residual.result _ _ c.from_residual.ensures.1;
+  known = λ knows. (let known = c.in_err-found.ensures.effect.known knows.0 in (known.0, if_err c.from_residual.result _ _ c.from_residual.ensures.1 known.1));
+  ended = if_ok c.from_residual.result _ _ c.from_residual.ensures.1;
+  left = if_err c.from_residual.result _ _ c.from_residual.ensures.1 (inl c.in_err-found.ensures.effect.left);
+}
 
 pub returns-in_default-clause-next : goal.returns-in_default-clause-next
 returns-in_default-clause-next c =
     inl (subst (FindsMatch c.args.self.now c.args.input.now) c.in_default.is c.in_ok-found.ensures.owed.found)
 
-pub returns-in_default-clause-cost : goal.returns-in_default-clause-cost
-returns-in_default-clause-cost c = inl c.try_search.ensures.effect.cost
+pub returns-in_default-clause-effect : goal.returns-in_default-clause-effect
+returns-in_default-clause-effect c = record {
+  cost = inl c.try_search.ensures.effect.cost;
+  grown = search rules;
+  learned = λ nothing. alone_none c.matches_agree.ensures c.args.self.now c.args.input.now c.args.last c.try_search.new.cache (c.in_ok-found.ensures.effect.learned nothing)
+      (subst (FindsMatch c.args.self.now c.args.input.now) c.in_default.is c.in_ok-found.ensures.owed.found);
+  known = λ knows. ((c.in_ok-found.ensures.effect.known knows.0).0, tt);
+  ended = inl (subst (EndsSpan c.args.self.now c.args.input.now c.args.cache.now c.try_search.new.cache) c.in_default.is c.in_ok-found.ensures.effect.ended);
+  left = search rules;
+}
 
 pub returns-then-not-is_empty_at-clause-next : goal.returns-then-not-is_empty_at-clause-next
 returns-then-not-is_empty_at-clause-next c =
@@ -47,8 +62,16 @@ returns-then-not-is_empty_at-clause-goes_on c =
     goes_first c.args.self.now c.args.input.now c.args.last c.in-Some.found
     (some_of c.in_ok-found.field-0 c.in-Some.found (MatchLiesIn c.args.self.now c.args.input.now) c.in_ok-found.ensures.owed.within c.in-Some.is) (c.if-not-is_empty_at.ensures.no refl)
 
-pub returns-then-not-is_empty_at-clause-cost : goal.returns-then-not-is_empty_at-clause-cost
-returns-then-not-is_empty_at-clause-cost c = inl c.try_search.ensures.effect.cost
+pub returns-then-not-is_empty_at-clause-effect : goal.returns-then-not-is_empty_at-clause-effect
+returns-then-not-is_empty_at-clause-effect c = record {
+  cost = inl c.try_search.ensures.effect.cost;
+  grown = search rules;
+  learned = λ nothing. alone_some c.matches_agree.ensures c.args.self.now c.args.input.now c.args.last c.try_search.new.cache (c.in_ok-found.ensures.effect.learned nothing)
+      c.in-Some.found (subst (FindsMatch c.args.self.now c.args.input.now) c.in-Some.is c.in_ok-found.ensures.owed.found) (c.if-not-is_empty_at.ensures.no refl);
+  known = λ knows. ((c.in_ok-found.ensures.effect.known knows.0).0, tt);
+  ended = inl (subst (EndsSpan c.args.self.now c.args.input.now c.args.cache.now c.try_search.new.cache) c.in-Some.is c.in_ok-found.ensures.effect.ended);
+  left = search rules;
+}
 
 pub overflow_add-start : goal.overflow_add-start
 overflow_add-start c =
@@ -90,61 +113,38 @@ returns-clause-ahead c =
     let lies = some_of c.in_ok-found.field-0 c.in-Some.found (MatchLiesIn c.args.self.now c.args.input.now) c.in_ok-found.ensures.owed.within c.in-Some.is in
     on_err c.try_search-2.result _ (omega (arith, lies.0, lies.1, lies.2))
 
-pub returns-clause-grown : goal.returns-clause-grown
-returns-clause-grown c = grown_twice c.args.cache.now c.try_search.new.cache c.try_search-2.new.cache c.try_search.ensures.effect.grown c.try_search-2.ensures.effect.grown
-
-pub returns-clause-cost : goal.returns-clause-cost
-returns-clause-cost c =
-    let place : c.start.result + 1 ≡ suc c.args.input.now.start = omega (arith, c.start.ensures.start) in
-    let rest : c.from-rest.result ≡ from (suc c.args.input.now.start) c.args.input.now = c.from-rest.ensures ∙ ap (λ n. from n c.args.input.now) place in
-    costs_twice c.args.self.now c.args.input.now c.from-rest.result c.args.cache.now c.try_search.new.cache c.try_search-2.new.cache rest c.try_search.ensures.effect.cost c.try_search-2.ensures.effect.cost
-
-pub returns-in_err-found-clause-learned : goal.returns-in_err-found-clause-learned
-returns-in_err-found-clause-learned c =
-    λ nothing. on_ok c.from_residual.result _ _ c.from_residual.ensures.1
-
-pub returns-in_err-found-clause-known : goal.returns-in_err-found-clause-known
-returns-in_err-found-clause-known c =
-    λ knows. (let known = c.in_err-found.ensures.effect.known knows.0 in (known.0, if_err c.from_residual.result _ _ c.from_residual.ensures.1 known.1))
-
-pub returns-in_default-clause-learned : goal.returns-in_default-clause-learned
-returns-in_default-clause-learned c =
-    λ nothing. alone_none c.matches_agree.ensures c.args.self.now c.args.input.now c.args.last c.try_search.new.cache (c.in_ok-found.ensures.effect.learned nothing)
-    (subst (FindsMatch c.args.self.now c.args.input.now) c.in_default.is c.in_ok-found.ensures.owed.found)
-
-pub returns-in_default-clause-known : goal.returns-in_default-clause-known
-returns-in_default-clause-known c =
-    λ knows. ((c.in_ok-found.ensures.effect.known knows.0).0, tt)
-
-pub returns-then-not-is_empty_at-clause-learned : goal.returns-then-not-is_empty_at-clause-learned
-returns-then-not-is_empty_at-clause-learned c =
-    λ nothing. alone_some c.matches_agree.ensures c.args.self.now c.args.input.now c.args.last c.try_search.new.cache (c.in_ok-found.ensures.effect.learned nothing)
-    c.in-Some.found (subst (FindsMatch c.args.self.now c.args.input.now) c.in-Some.is c.in_ok-found.ensures.owed.found) (c.if-not-is_empty_at.ensures.no refl)
-
-pub returns-then-not-is_empty_at-clause-known : goal.returns-then-not-is_empty_at-clause-known
-returns-then-not-is_empty_at-clause-known c =
-    λ knows. ((c.in_ok-found.ensures.effect.known knows.0).0, tt)
-
-pub returns-clause-learned : goal.returns-clause-learned
-returns-clause-learned c =
-    let place : c.start.result + 1 ≡ suc c.args.input.now.start = omega (arith, c.start.ensures.start) in
-    let rest : c.from-rest.result ≡ from (suc c.args.input.now.start) c.args.input.now = c.from-rest.ensures ∙ ap (λ n. from n c.args.input.now) place in
-    λ nothing. (
-    let first = cleared_first c.args.cache.now c.try_search.new.cache c.try_search-2.new.cache c.try_search.ensures.effect.grown c.try_search-2.ensures.effect.grown nothing in
-    let second = cleared_second c.args.cache.now c.try_search.new.cache c.try_search-2.new.cache c.try_search.ensures.effect.grown c.try_search-2.ensures.effect.grown nothing in
-    next_learned c.args.self.now c.args.input.now c.from-rest.result c.args.last c.try_search-2.new.cache c.try_search-2.result rest
-    (both_stays c.args.self.now c.known_stays.ensures c.known_stays-2.ensures c.try_search.new.cache c.try_search-2.new.cache c.args.input.now
-    (c.haystack-haystack.ensures.bytes, c.haystack-haystack.ensures.within.1) c.try_search.ensures.of c.try_search-2.ensures.of c.try_search-2.ensures.effect.grown second
-    (c.in_ok-found.ensures.effect.learned first))
-    (c.try_search-2.ensures.effect.learned second))
-
-pub returns-clause-known : goal.returns-clause-known
-returns-clause-known c =
-    let place : c.start.result + 1 ≡ suc c.args.input.now.start = omega (arith, c.start.ensures.start) in
-    let rest : c.from-rest.result ≡ from (suc c.args.input.now.start) c.args.input.now = c.from-rest.ensures ∙ ap (λ n. from n c.args.input.now) place in
-    let found = subst (FindsMatch c.args.self.now c.args.input.now) c.in-Some.is c.in_ok-found.ensures.owed.found in
-    λ knows. next_known c.args.self.now c.args.input.now c.from-rest.result c.args.last c.args.cache.now c.try_search.new.cache c.try_search-2.new.cache c.try_search-2.result
-    c.in-Some.found rest found (c.if-not-is_empty_at.ensures.yes refl) knows (c.in_ok-found.ensures.effect.known knows.0).0 c.try_search-2.ensures.effect.known
+pub returns-clause-effect : goal.returns-clause-effect
+returns-clause-effect c = record {
+  cost = let place : c.start.result + 1 ≡ suc c.args.input.now.start = omega (arith, c.start.ensures.start) in
+      let rest : c.from-rest.result ≡ from (suc c.args.input.now.start) c.args.input.now = c.from-rest.ensures ∙ ap (λ n. from n c.args.input.now) place in
+      costs_twice c.args.self.now c.args.input.now c.from-rest.result c.args.cache.now c.try_search.new.cache c.try_search-2.new.cache rest c.try_search.ensures.effect.cost c.try_search-2.ensures.effect.cost;
+  grown = grown_twice c.args.cache.now c.try_search.new.cache c.try_search-2.new.cache c.try_search.ensures.effect.grown c.try_search-2.ensures.effect.grown;
+  learned = let place : c.start.result + 1 ≡ suc c.args.input.now.start = omega (arith, c.start.ensures.start) in
+      let rest : c.from-rest.result ≡ from (suc c.args.input.now.start) c.args.input.now = c.from-rest.ensures ∙ ap (λ n. from n c.args.input.now) place in
+      λ nothing. (
+      let first = cleared_first c.args.cache.now c.try_search.new.cache c.try_search-2.new.cache c.try_search.ensures.effect.grown c.try_search-2.ensures.effect.grown nothing in
+      let second = cleared_second c.args.cache.now c.try_search.new.cache c.try_search-2.new.cache c.try_search.ensures.effect.grown c.try_search-2.ensures.effect.grown nothing in
+      next_learned c.args.self.now c.args.input.now c.from-rest.result c.args.last c.try_search-2.new.cache c.try_search-2.result rest
+      (both_stays c.args.self.now c.known_stays.ensures c.known_stays-2.ensures c.try_search.new.cache c.try_search-2.new.cache c.args.input.now
+      (c.haystack-haystack.ensures.bytes, c.haystack-haystack.ensures.within.1) c.try_search.ensures.of c.try_search-2.ensures.of c.try_search-2.ensures.effect.grown second
+      (c.in_ok-found.ensures.effect.learned first))
+      (c.try_search-2.ensures.effect.learned second));
+  known = let place : c.start.result + 1 ≡ suc c.args.input.now.start = omega (arith, c.start.ensures.start) in
+      let rest : c.from-rest.result ≡ from (suc c.args.input.now.start) c.args.input.now = c.from-rest.ensures ∙ ap (λ n. from n c.args.input.now) place in
+      let found = subst (FindsMatch c.args.self.now c.args.input.now) c.in-Some.is c.in_ok-found.ensures.owed.found in
+      λ knows. next_known c.args.self.now c.args.input.now c.from-rest.result c.args.last c.args.cache.now c.try_search.new.cache c.try_search-2.new.cache c.try_search-2.result
+      c.in-Some.found rest found (c.if-not-is_empty_at.ensures.yes refl) knows (c.in_ok-found.ensures.effect.known knows.0).0 c.try_search-2.ensures.effect.known;
+  ended = let place : c.start.result + 1 ≡ suc c.args.input.now.start = omega (arith, c.start.ensures.start) in
+      let rest : c.from-rest.result ≡ from (suc c.args.input.now.start) c.args.input.now = c.from-rest.ensures ∙ ap (λ n. from n c.args.input.now) place in
+      ends_later c.args.self.now c.args.input.now c.from-rest.result c.args.cache.now c.try_search.new.cache c.try_search-2.new.cache c.in-Some.found rest
+      (subst (EndsSpan c.args.self.now c.args.input.now c.args.cache.now c.try_search.new.cache) c.in-Some.is c.in_ok-found.ensures.effect.ended)
+      c.try_search-2.result c.try_search-2.ensures.effect.ended;
+  left = let place : c.start.result + 1 ≡ suc c.args.input.now.start = omega (arith, c.start.ensures.start) in
+      let rest : c.from-rest.result ≡ from (suc c.args.input.now.start) c.args.input.now = c.from-rest.ensures ∙ ap (λ n. from n c.args.input.now) place in
+      leaves_later c.args.self.now c.args.input.now c.from-rest.result c.args.cache.now c.try_search.new.cache c.try_search-2.new.cache c.in-Some.found rest
+      (subst (EndsSpan c.args.self.now c.args.input.now c.args.cache.now c.try_search.new.cache) c.in-Some.is c.in_ok-found.ensures.effect.ended)
+      c.try_search-2.result c.try_search-2.ensures.effect.left;
+}
 
 pub returns-in_err-found-clause-unsupported : goal.returns-in_err-found-clause-unsupported
 returns-in_err-found-clause-unsupported c =
@@ -159,34 +159,3 @@ returns-then-not-is_empty_at-clause-unsupported c = λ u. absurd (ok_err (c.in_o
 
 pub returns-clause-unsupported : goal.returns-clause-unsupported
 returns-clause-unsupported c = λ u. absurd (ok_err (c.in_ok-found.ensures.owed.unsupported u))
-
-pub returns-in_err-found-clause-ended : goal.returns-in_err-found-clause-ended
-returns-in_err-found-clause-ended c = if_ok c.from_residual.result _ _ c.from_residual.ensures.1
-
-pub returns-in_err-found-clause-left : goal.returns-in_err-found-clause-left
-returns-in_err-found-clause-left c =
-    if_err c.from_residual.result _ _ c.from_residual.ensures.1 (inl c.in_err-found.ensures.effect.left)
-
-pub returns-in_default-clause-ended : goal.returns-in_default-clause-ended
-returns-in_default-clause-ended c =
-    inl (subst (EndsSpan c.args.self.now c.args.input.now c.args.cache.now c.try_search.new.cache) c.in_default.is c.in_ok-found.ensures.effect.ended)
-
-pub returns-then-not-is_empty_at-clause-ended : goal.returns-then-not-is_empty_at-clause-ended
-returns-then-not-is_empty_at-clause-ended c =
-    inl (subst (EndsSpan c.args.self.now c.args.input.now c.args.cache.now c.try_search.new.cache) c.in-Some.is c.in_ok-found.ensures.effect.ended)
-
-pub returns-clause-ended : goal.returns-clause-ended
-returns-clause-ended c =
-    let place : c.start.result + 1 ≡ suc c.args.input.now.start = omega (arith, c.start.ensures.start) in
-    let rest : c.from-rest.result ≡ from (suc c.args.input.now.start) c.args.input.now = c.from-rest.ensures ∙ ap (λ n. from n c.args.input.now) place in
-    ends_later c.args.self.now c.args.input.now c.from-rest.result c.args.cache.now c.try_search.new.cache c.try_search-2.new.cache c.in-Some.found rest
-    (subst (EndsSpan c.args.self.now c.args.input.now c.args.cache.now c.try_search.new.cache) c.in-Some.is c.in_ok-found.ensures.effect.ended)
-    c.try_search-2.result c.try_search-2.ensures.effect.ended
-
-pub returns-clause-left : goal.returns-clause-left
-returns-clause-left c =
-    let place : c.start.result + 1 ≡ suc c.args.input.now.start = omega (arith, c.start.ensures.start) in
-    let rest : c.from-rest.result ≡ from (suc c.args.input.now.start) c.args.input.now = c.from-rest.ensures ∙ ap (λ n. from n c.args.input.now) place in
-    leaves_later c.args.self.now c.args.input.now c.from-rest.result c.args.cache.now c.try_search.new.cache c.try_search-2.new.cache c.in-Some.found rest
-    (subst (EndsSpan c.args.self.now c.args.input.now c.args.cache.now c.try_search.new.cache) c.in-Some.is c.in_ok-found.ensures.effect.ended)
-    c.try_search-2.result c.try_search-2.ensures.effect.left

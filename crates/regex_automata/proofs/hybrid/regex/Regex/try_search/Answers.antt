@@ -15,7 +15,7 @@ returns-clause-refusal c =
     let front = subst (λ (a : Automaton). ToldIsRight a) c.get_nfa.ensures c.told_is_right.ensures.answer in
     let rear = subst (λ (a : Automaton). ToldIsRight a) c.get_nfa-2.ensures c.told_is_right-2.ensures.answer in
     refusals c.args.self.now front rear c.start_is_right.ensures.starts c.start_is_right.ensures.quits c.search-found.new.cache c.args.input.now
-    (c.haystack-haystack.ensures.bytes, c.haystack-haystack.ensures.within.1) c.search-found.result c.search-found.ensures.refusal c.search-found.ensures.free
+    (c.haystack-haystack.ensures.bytes, c.haystack-haystack.ensures.within.1) c.search-found.result c.search-found.ensures.refusal c.search-found.ensures.told.free
 
 pub returns-clause-owed : goal.returns-clause-owed
 returns-clause-owed c =
@@ -24,24 +24,11 @@ returns-clause-owed c =
     let rear = subst (λ (a : Automaton). ToldIsRight a) c.get_nfa-2.ensures c.told_is_right-2.ensures.answer in
     span_owed c.args.self.now c.args.input.now c.search-found.result c.search-found.new.cache
     (are_stores c.search-found.new.cache c.args.self.now s.of c.see_bounds.ensures.forward c.see_bounds.ensures.reverse)
-    s.found
+    s.told.found
     (λ acyclic. IfOk-weaker c.search-found.result _ _
     (λ o found. outcome_right c.args.self.now front rear c.args.input.now (Found o) acyclic (c.haystack-haystack.ensures.bytes, c.haystack-haystack.ensures.within.1) found)
-    s.found)
+    s.told.found)
     (λ sound. IfOk-weaker c.search-found.result _ _
     (match_right c.args.self.now front rear c.start_is_right.ensures.starts sound c.args.input.now (c.haystack-haystack.ensures.bytes, c.haystack-haystack.ensures.within.1))
-    s.found)
-    s.within (returns-clause-refusal c) s.unsupported (λ past. (s.done past).0)
-
-pub returns-clause-effect : goal.returns-clause-effect
-returns-clause-effect c =
-    let s = c.search-found.ensures in
-    record {
-      cost = s.cost;
-      grown = s.grown;
-      learned = s.learned;
-      known = s.known;
-      ended = s.ended;
-      left = s.left;
-      done = λ past. (s.done past).1;
-    }
+    s.told.found)
+    s.told.within (returns-clause-refusal c) s.told.unsupported s.told.done
