@@ -25,7 +25,6 @@ fn backward<'h>(input: &Input<'h>, half: HalfMatch, base: usize) -> Input<'h>
     requires within { half.offset ≤ input.now.end }
     ensures { result ≡ back input.now (with_base half base) }
 {
-    let _ = input.end();
     Input::new(input.haystack())
         .range(base..half.offset())
         .anchored(Anchored::Yes)
@@ -121,7 +120,6 @@ impl Regex {
         ensures effect { IsBackEffect self.now input.now (with_base half base) cache.old cache.new result }
     {
         let short = self.is_short(input, half, base);
-        let _ = input.end();
         if short {
             return Ok(Some(base));
         }
@@ -141,7 +139,6 @@ impl Regex {
         ensures effect { IsSpanEffect self.now input.now cache.old cache.new result }
     {
         answers_agree();
-        let _ = input.end();
         let Some(front) = self.forward.try_search_fwd_base(&mut cache.forward, input)? else {
             return Ok(None);
         };
