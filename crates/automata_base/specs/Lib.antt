@@ -30,6 +30,7 @@ pub mod PatternSet
 pub mod Powerset
 pub mod Reach
 pub mod Refusals
+pub mod Rooms
 pub mod Scratches
 pub mod Selections
 pub mod Spans

@@ -1,10 +1,13 @@
 -- What the powerset construction answers.
-use Rattle.std.specs.Prelude.{ℕ, ◌≡◌, ◌≤◌, Option}
+use Rattle.std.specs.Prelude.{ℕ, ◌≡◌, ◌≤◌, length, List, Option}
 use Rattle.automata_base.specs.Accounting.{max_cost}
-use Rattle.automata_base.specs.Cuts.{MatchKind}
+use Rattle.automata_base.specs.Cuts.{IsOnce, MatchKind}
 use Rattle.automata_base.specs.Engines.{Anchored}
+use Rattle.automata_base.specs.Lists.{pick}
+use Rattle.automata_base.specs.Nfa.{accepts}
 use Rattle.automata_base.specs.Nodes.{Automaton, nfa_of}
-use Rattle.automata_base.specs.Passes.{IsSuccessor}
+use Rattle.automata_base.specs.Once.{Distinct}
+use Rattle.automata_base.specs.Passes.{IsClosureOf, IsSuccessor}
 use Rattle.automata_base.specs.Powerset.{Powerset, cost}
 use Rattle.automata_base.specs.Starts.{IsOf, IsStartOf}
 use Rattle.automata_base.specs.Steps.{NeedsOwnLooks, start_state_of, successor}
@@ -34,3 +37,20 @@ pub record IsStepMade (a : Automaton) (kind : MatchKind) (from : Powerset) (unit
   pub is_of : IsOf a made
   -- it costs no more than any state of the automaton may
   pub bounded : cost made ≤ max_cost a
+
+-- the patterns that the states of a list match
+pub record AreMatched (a : Automaton) (list patterns : List ℕ) : Type 0 where
+  -- they stand in the order of the list, and none of them twice
+  pub once : IsOnce (pick (accepts (nfa_of a)) list) patterns
+  pub distinct : Distinct patterns
+  -- they are no more than the automaton has
+  pub few : length patterns ≤ length a.start_pattern
+
+-- the powerset state that has these patterns, and the NFA states of the closure of the roots behind a unit
+pub record IsClosureMade (a : Automaton) (matched roots : List ℕ) (unit : Option ℕ) (made : Powerset) : Type 0 where
+  -- it is that by the definition
+  pub closure : IsClosureOf (nfa_of a) matched roots unit made
+  pub patterns : made.patterns ≡ matched
+  -- its NFA states are the automaton's, and no more of them
+  pub is_of : IsOf a made
+  pub few : length made.nfa ≤ length a.states

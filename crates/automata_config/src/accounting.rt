@@ -35,7 +35,6 @@ fn pattern_count(nfa: &NFA) -> usize
     ensures number { result ≡ length nfa.now.start_pattern }
     ensures few { result ≤ 2 ^ 27 }
 {
-    let _ = nfa.states();
     nfa.pattern_starts().len()
 }
 

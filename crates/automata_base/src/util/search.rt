@@ -1,5 +1,3 @@
-ghost use Rattle.automata_base.specs.Tapes.{IsHaystack};
-
 use crate::util::primitives::PatternID;
 use std::fmt;
 use std::marker::Model;
@@ -278,6 +276,7 @@ pub struct Input<'h> {
 
 impl<'h> Model for Input<'h> {
     ghost use Rattle.automata_base.specs.Input as spec;
+    ghost use Rattle.automata_base.specs.Tapes.{IsHaystack};
 
     ghost Value = { spec.Input };
 
@@ -289,7 +288,7 @@ impl<'h> Model for Input<'h> {
       earliest = i.earliest;
     } };
 
-    ghost invariant = { λ i. spec.Allows i.haystack.now i.span.start i.span.end };
+    ghost invariant = { λ i. spec.Allows i.haystack.now i.span.start i.span.end × IsHaystack i.haystack.now };
 }
 
 impl<'h> Input<'h> {
@@ -430,7 +429,6 @@ impl<'h> Input<'h> {
         ensures within { IsAllowed self.now }
         ensures bound { length self.now.haystack < 2 ^ 63 }
     {
-        see_bytes(self.haystack);
         self.haystack
     }
 
@@ -500,8 +498,3 @@ impl<'h> Input<'h> {
         }
     }
 }
-
-/// Each byte of a haystack is below 256.
-fn see_bytes(haystack: &[u8])
-    ensures { IsHaystack haystack.now }
-{}

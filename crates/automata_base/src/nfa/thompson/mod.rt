@@ -185,7 +185,7 @@ impl Clone for NFA {
 }
 
 impl NFA {
-    ghost use Rattle.std.specs.Prelude.{◌≡◌, ◌<◌, ◌≤◌, ◌↔◌, ℕ, true, None, Some, IfOk, IsOkUnless, IsTrue, length};
+    ghost use Rattle.std.specs.Prelude.{◌≡◌, ◌<◌, ◌≤◌, ◌^◌, ◌↔◌, ℕ, true, None, Some, IfOk, IsOkUnless, IsTrue, length};
     ghost use Rattle.std.specs.Prelude.{slice_get, slice_index_or};
     ghost use Rattle.automata_base.specs.Door.{IsDoor, IsLooks};
     ghost use Rattle.automata_base.specs.Getters.{HasEmpty, IsAlwaysStartAnchored, SkipsLazily};
@@ -336,7 +336,8 @@ impl NFA {
 
     /// Where anchored searches for each pattern start, in the order of the patterns.
     pub fn pattern_starts(&self) -> &[StateID]
-        ensures { result.now ≡ self.now.start_pattern }
+        ensures same { result.now ≡ self.now.start_pattern }
+        ensures few { length self.now.start_pattern ≤ 2 ^ 27 }
     {
         self.data.start_pattern.as_slice()
     }

@@ -1,8 +1,9 @@
-ghost use Rattle.std.specs.Prelude.{◌≡◌, ◌+◌, ◌<◌, ◌≤◌, [], ◌∷◌, ◌++◌, List, ℕ, length, reverse, All, vec_len};
+ghost use Rattle.std.specs.Prelude.{◌≡◌, ◌+◌, ◌<◌, ◌≤◌, ◌∷◌, ◌++◌, List, ℕ, length, reverse, All, vec_len};
 ghost use Rattle.std.specs.Prelude.{vec_capacity, option_to_list};
 ghost use Rattle.automata_base.specs.Paths.{IsClosure};
 ghost use Rattle.automata_base.specs.Visits.{children_at, IsUnderWay};
-ghost use Rattle.automata_base.specs.Nodes.{node_of, nfa_of, stack_room};
+ghost use Rattle.automata_base.specs.Nodes.{node_of, nfa_of};
+ghost use Rattle.automata_base.specs.Rooms.{IsClosureRoom};
 ghost use Rattle.automata_base.specs.Truths.{truth_of};
 
 use crate::nfa::thompson::{NFA, State};
@@ -68,15 +69,11 @@ pub fn close_one(
     set: &mut SparseSet,
 )
     requires start { start < length nfa.now.states }
-    requires whole { set.old.capacity ≡ length nfa.now.states }
-    requires empty { stack.old.items ≡ [] }
-    requires room { stack_room nfa.now.states ≤ vec_capacity stack.old }
+    requires room { IsClosureRoom nfa.now stack.old set.old }
     ensures way { (roots tail : List ℕ)
         → IsUnderWay (nfa_of nfa.now) (truth_of looks) roots (start ∷ tail) set.old.items
         → IsUnderWay (nfa_of nfa.now) (truth_of looks) roots tail set.new.items }
-    ensures whole { set.new.capacity ≡ set.old.capacity }
-    ensures emptied { stack.new.items ≡ [] }
-    ensures room { vec_capacity stack.old ≤ vec_capacity stack.new }
+    ensures room { IsClosureRoom nfa.now stack.new set.new }
 {
     stack.push(start).unwrap();
     while let Some(top) = stack.pop() {
@@ -102,13 +99,9 @@ pub fn close(
     set: &mut SparseSet,
 )
     requires roots { All (λ root. root < length nfa.now.states) roots.now }
-    requires whole { set.old.capacity ≡ length nfa.now.states }
-    requires empty { stack.old.items ≡ [] }
-    requires room { stack_room nfa.now.states ≤ vec_capacity stack.old }
+    requires room { IsClosureRoom nfa.now stack.old set.old }
     ensures closure { IsClosure (nfa_of nfa.now) (truth_of looks) roots.now set.new.items }
-    ensures whole { set.new.capacity ≡ set.old.capacity }
-    ensures emptied { stack.new.items ≡ [] }
-    ensures room { vec_capacity stack.old ≤ vec_capacity stack.new }
+    ensures room { IsClosureRoom nfa.now stack.new set.new }
 {
     set.clear();
     for root in roots {

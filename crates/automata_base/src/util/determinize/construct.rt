@@ -1,20 +1,20 @@
-ghost use Rattle.std.specs.Prelude.{◌≡◌, ◌+◌, ◌<◌, ◌≤◌, ◌↔◌, [], ◌∷◌, ◌++◌, List, ℕ, length, All, true, false, IsTrue};
-ghost use Rattle.std.specs.Prelude.{IsFalse, Option, Some, None, vec_len, vec_capacity, ◌&&◌, cond};
-ghost use Rattle.automata_base.specs.Lists.{In, pick, cons_some};
-ghost use Rattle.automata_base.specs.Nfa.{accepts};
-ghost use Rattle.automata_base.specs.Paths.{IsClosure};
-ghost use Rattle.automata_base.specs.Visits.{IsUnderWay};
-ghost use Rattle.automata_base.specs.Cuts.{cut_for, IsOnce, targets};
-ghost use Rattle.automata_base.specs.Passes.{IsMake, IsClosureOf, IsDecided, IsSuccessor, IsStart, Occurs};
-ghost use Rattle.automata_base.specs.Passes.{is_word_look, is_crlf_look};
-ghost use Rattle.automata_base.specs.Computed.{known_looks, any_state, any_node, is_full, is_in, once_past};
-ghost use Rattle.automata_base.specs.Nodes.{node_of, nfa_of, stack_room};
+ghost use Rattle.std.specs.Prelude.{◌≡◌, ◌+◌, ◌<◌, ◌≤◌, [], ◌∷◌, ◌++◌, List, ℕ, length, true, false, IsTrue, IsFalse};
+ghost use Rattle.std.specs.Prelude.{Option, Some, None, vec_len, vec_capacity, ◌&&◌, cond};
+ghost use Rattle.automata_base.specs.Computed.{known_looks, any_node, is_full, is_in};
+ghost use Rattle.automata_base.specs.Cuts.{cut_for, targets};
+ghost use Rattle.automata_base.specs.Door.{IsDoor};
+ghost use Rattle.automata_base.specs.Lists.{In, cons_some};
 ghost use Rattle.automata_base.specs.Looks.{Look};
-ghost use Rattle.automata_base.specs.Truths.{truth_of};
-ghost use Rattle.automata_base.specs.Parts.{powerset_of};
+ghost use Rattle.automata_base.specs.Made.{AreMatched, IsClosureMade, IsStartMade, IsStepMade};
+ghost use Rattle.automata_base.specs.Nodes.{nfa_of};
 ghost use Rattle.automata_base.specs.Once.{Distinct};
-ghost use Rattle.automata_base.specs.Starts.{IsStartAt};
+ghost use Rattle.automata_base.specs.Parts.{powerset_of};
+ghost use Rattle.automata_base.specs.Passes.{IsMake, is_word_look, is_crlf_look};
+ghost use Rattle.automata_base.specs.Paths.{IsClosure};
+ghost use Rattle.automata_base.specs.Rooms.{IsClosureRoom, IsPartsRoom, IsStepRoom};
 ghost use Rattle.automata_base.specs.Starts.{IsOf};
+ghost use Rattle.automata_base.specs.Truths.{truth_of};
+ghost use Rattle.automata_base.specs.Visits.{IsUnderWay};
 
 use crate::nfa::thompson::NFA;
 use crate::nfa::thompson::reading::{pattern_of, target};
@@ -27,7 +27,7 @@ use crate::util::determinize::sparse_set::SparseSet;
 use crate::util::determinize::state::{Parts, State};
 use crate::util::look::LookSet;
 use crate::util::primitives::{PatternID, StateID};
-use crate::util::search::MatchKind;
+use crate::util::search::{Anchored, MatchKind};
 
 fn has_word(nfa: &NFA) -> bool
     ensures { result ≡ any_node is_word_look (nfa_of nfa.now).nodes }
@@ -70,13 +70,12 @@ fn has_any(list: &[StateID]) -> bool
 /// Makes a powerset state of a closure, the patterns being there.
 fn fill(nfa: &NFA, set: &SparseSet, known: LookSet, prev: Option<u8>, parts: &mut Parts)
     requires whole { set.now.capacity ≡ length nfa.now.states }
-    requires room { length nfa.now.states ≤ vec_capacity parts.old.nfa }
+    requires parts { IsPartsRoom nfa.now parts.old }
     requires known { (look : Look) → truth_of known look ≡ known_looks (nfa_of nfa.now) prev look }
     ensures make { IsMake (nfa_of nfa.now) parts.old.patterns.items set.now.items prev (powerset_of parts.new) }
-    ensures patterns { parts.new.patterns ≡ parts.old.patterns }
-    ensures below { (q : ℕ) → In q parts.new.nfa.items → q < length nfa.now.states }
+    ensures below { IsOf nfa.now (powerset_of parts.new) }
     ensures few { length parts.new.nfa.items ≤ length nfa.now.states }
-    ensures room { vec_capacity parts.old.nfa ≤ vec_capacity parts.new.nfa }
+    ensures parts { IsPartsRoom nfa.now parts.new }
 {
     let needed = keep_states(nfa, set.as_slice(), &mut parts.nfa);
     let some = has_some(needed);
@@ -102,19 +101,12 @@ fn arrive(
     parts: &mut Parts,
 )
     requires below { (q : ℕ) → In q list.now → q < length nfa.now.states }
-    requires whole { set.old.capacity ≡ length nfa.now.states }
-    requires empty { stack.old.items ≡ [] }
-    requires places { stack_room nfa.now.states ≤ vec_capacity stack.old }
-    requires room { length nfa.now.states ≤ vec_capacity parts.old.nfa }
-    ensures arrival { IsClosureOf (nfa_of nfa.now) parts.old.patterns.items (targets (nfa_of nfa.now) unit list.now)
-        unit (powerset_of parts.new) }
-    ensures patterns { parts.new.patterns ≡ parts.old.patterns }
-    ensures below { (q : ℕ) → In q parts.new.nfa.items → q < length nfa.now.states }
-    ensures few { length parts.new.nfa.items ≤ length nfa.now.states }
-    ensures whole { set.new.capacity ≡ set.old.capacity }
-    ensures emptied { stack.new.items ≡ [] }
-    ensures places { vec_capacity stack.old ≤ vec_capacity stack.new }
-    ensures room { vec_capacity parts.old.nfa ≤ vec_capacity parts.new.nfa }
+    requires room { IsClosureRoom nfa.now stack.old set.old }
+    requires parts { IsPartsRoom nfa.now parts.old }
+    ensures made { IsClosureMade nfa.now parts.old.patterns.items (targets (nfa_of nfa.now) unit list.now) unit
+        (powerset_of parts.new) }
+    ensures room { IsClosureRoom nfa.now stack.new set.new }
+    ensures parts { IsPartsRoom nfa.now parts.new }
 {
     let known = known_behind(nfa, unit);
     set.clear();
@@ -131,15 +123,11 @@ fn close_unit(
     set: &mut SparseSet,
 )
     requires below { (q : ℕ) → In q list.now → q < length nfa.now.states }
-    requires whole { set.old.capacity ≡ length nfa.now.states }
+    requires room { IsClosureRoom nfa.now stack.old set.old }
     requires fresh { set.old.items ≡ [] }
-    requires empty { stack.old.items ≡ [] }
-    requires places { stack_room nfa.now.states ≤ vec_capacity stack.old }
     ensures closure { IsClosure (nfa_of nfa.now) (truth_of known) (targets (nfa_of nfa.now) unit list.now)
         set.new.items }
-    ensures whole { set.new.capacity ≡ set.old.capacity }
-    ensures emptied { stack.new.items ≡ [] }
-    ensures places { vec_capacity stack.old ≤ vec_capacity stack.new }
+    ensures room { IsClosureRoom nfa.now stack.new set.new }
 {
     match unit {
         Some(u) => close_targets(nfa, list, u, known, stack, set),
@@ -157,15 +145,11 @@ fn close_targets(
     set: &mut SparseSet,
 )
     requires below { (q : ℕ) → In q list.now → q < length nfa.now.states }
-    requires whole { set.old.capacity ≡ length nfa.now.states }
+    requires room { IsClosureRoom nfa.now stack.old set.old }
     requires fresh { set.old.items ≡ [] }
-    requires empty { stack.old.items ≡ [] }
-    requires places { stack_room nfa.now.states ≤ vec_capacity stack.old }
     ensures closure { IsClosure (nfa_of nfa.now) (truth_of known) (targets (nfa_of nfa.now) (Some u) list.now)
         set.new.items }
-    ensures whole { set.new.capacity ≡ set.old.capacity }
-    ensures emptied { stack.new.items ≡ [] }
-    ensures places { vec_capacity stack.old ≤ vec_capacity stack.new }
+    ensures room { IsClosureRoom nfa.now stack.new set.new }
 {
     for i in 0..list.len() {
         close_maybe(nfa, target(nfa.state(list[i]), u), known, stack, set);
@@ -176,9 +160,7 @@ fn close_targets(
 fn read_patterns(nfa: &NFA, list: &[StateID], patterns: &mut Vec<PatternID>)
     requires below { (q : ℕ) → In q list.now → q < length nfa.now.states }
     requires room { length nfa.now.start_pattern ≤ vec_capacity patterns.old }
-    ensures once { IsOnce (pick (accepts (nfa_of nfa.now)) list.now) patterns.new.items }
-    ensures distinct { Distinct patterns.new.items }
-    ensures few { length patterns.new.items ≤ length nfa.now.start_pattern }
+    ensures matched { AreMatched nfa.now list.now patterns.new.items }
     ensures room { vec_capacity patterns.old ≤ vec_capacity patterns.new }
 {
     patterns.clear();
@@ -209,15 +191,11 @@ fn close_maybe(
     set: &mut SparseSet,
 )
     requires start { (q : ℕ) → start ≡ Some q → q < length nfa.now.states }
-    requires whole { set.old.capacity ≡ length nfa.now.states }
-    requires empty { stack.old.items ≡ [] }
-    requires room { stack_room nfa.now.states ≤ vec_capacity stack.old }
+    requires room { IsClosureRoom nfa.now stack.old set.old }
     ensures way { (roots tail : List ℕ)
         → IsUnderWay (nfa_of nfa.now) (truth_of looks) roots (cons_some start tail) set.old.items
         → IsUnderWay (nfa_of nfa.now) (truth_of looks) roots tail set.new.items }
-    ensures whole { set.new.capacity ≡ set.old.capacity }
-    ensures emptied { stack.new.items ≡ [] }
-    ensures room { vec_capacity stack.old ≤ vec_capacity stack.new }
+    ensures room { IsClosureRoom nfa.now stack.new set.new }
 {
     match start {
         Some(q) => close_one(nfa, q, looks, stack, set),
@@ -243,13 +221,9 @@ fn close_start(
     set: &mut SparseSet,
 )
     requires start { start < length nfa.now.states }
-    requires whole { set.old.capacity ≡ length nfa.now.states }
-    requires empty { stack.old.items ≡ [] }
-    requires places { stack_room nfa.now.states ≤ vec_capacity stack.old }
+    requires room { IsClosureRoom nfa.now stack.old set.old }
     ensures closure { IsClosure (nfa_of nfa.now) (truth_of known) (start ∷ []) set.new.items }
-    ensures whole { set.new.capacity ≡ set.old.capacity }
-    ensures emptied { stack.new.items ≡ [] }
-    ensures places { vec_capacity stack.old ≤ vec_capacity stack.new }
+    ensures room { IsClosureRoom nfa.now stack.new set.new }
 {
     set.clear();
     close_one(nfa, start, known, stack, set);
@@ -265,19 +239,11 @@ fn start_at(
     parts: &mut Parts,
 )
     requires start { start < length nfa.now.states }
-    requires whole { set.old.capacity ≡ length nfa.now.states }
-    requires empty { stack.old.items ≡ [] }
-    requires places { stack_room nfa.now.states ≤ vec_capacity stack.old }
-    requires room { length nfa.now.states ≤ vec_capacity parts.old.nfa }
-    ensures start { IsStart (nfa_of nfa.now) start prev (powerset_of parts.new) }
-    ensures below { IsOf nfa.now (powerset_of parts.new) }
-    ensures few { length parts.new.nfa.items ≤ length nfa.now.states }
-    ensures patterns { parts.new.patterns.items ≡ [] }
-    ensures kept { vec_capacity parts.old.patterns ≤ vec_capacity parts.new.patterns }
-    ensures whole { set.new.capacity ≡ set.old.capacity }
-    ensures emptied { stack.new.items ≡ [] }
-    ensures places { vec_capacity stack.old ≤ vec_capacity stack.new }
-    ensures room { vec_capacity parts.old.nfa ≤ vec_capacity parts.new.nfa }
+    requires room { IsClosureRoom nfa.now stack.old set.old }
+    requires parts { IsPartsRoom nfa.now parts.old }
+    ensures made { IsClosureMade nfa.now [] (start ∷ []) prev (powerset_of parts.new) }
+    ensures room { IsClosureRoom nfa.now stack.new set.new }
+    ensures parts { IsPartsRoom nfa.now parts.new }
 {
     let known = known_behind(nfa, prev);
     close_start(nfa, start, known, stack, set);
@@ -285,31 +251,24 @@ fn start_at(
     fill(nfa, set, known, prev, parts);
 }
 
-/// The start at a state, or the dead state.
+/// The start of a mode: at a state, or the dead state.
 pub fn start_into(
     nfa: &NFA,
-    start: Option<StateID>,
+    mode: Anchored,
     prev: Option<u8>,
     stack: &mut Vec<StateID>,
     set: &mut SparseSet,
     parts: &mut Parts,
 )
-    requires start { (q : ℕ) → start ≡ Some q → q < length nfa.now.states }
-    requires whole { set.old.capacity ≡ length nfa.now.states }
-    requires empty { stack.old.items ≡ [] }
-    requires places { stack_room nfa.now.states ≤ vec_capacity stack.old }
-    requires room { length nfa.now.states ≤ vec_capacity parts.old.nfa }
-    ensures start { IsStartAt (nfa_of nfa.now) start prev (powerset_of parts.new) }
-    ensures below { IsOf nfa.now (powerset_of parts.new) }
-    ensures few { length parts.new.nfa.items ≤ length nfa.now.states }
-    ensures patterns { parts.new.patterns.items ≡ [] }
-    ensures kept { vec_capacity parts.old.patterns ≤ vec_capacity parts.new.patterns }
-    ensures whole { set.new.capacity ≡ set.old.capacity }
-    ensures emptied { stack.new.items ≡ [] }
-    ensures places { vec_capacity stack.old ≤ vec_capacity stack.new }
-    ensures room { vec_capacity parts.old.nfa ≤ vec_capacity parts.new.nfa }
+    requires door { IsDoor nfa.now }
+    requires room { IsClosureRoom nfa.now stack.old set.old }
+    requires parts { IsPartsRoom nfa.now parts.old }
+    ensures made { IsStartMade nfa.now mode prev (powerset_of parts.new) }
+    ensures distinct { Distinct parts.new.patterns.items }
+    ensures room { IsClosureRoom nfa.now stack.new set.new }
+    ensures parts { IsPartsRoom nfa.now parts.new }
 {
-    match start {
+    match nfa.start(mode) {
         Some(q) => start_at(nfa, q, prev, stack, set, parts),
         None => {
             parts.nfa.clear();
@@ -333,24 +292,13 @@ fn advance(
     parts: &mut Parts,
 )
     requires below { (q : ℕ) → In q list.now → q < length nfa.now.states }
-    requires whole { set.old.capacity ≡ length nfa.now.states }
-    requires empty { stack.old.items ≡ [] }
-    requires places { stack_room nfa.now.states ≤ vec_capacity stack.old }
-    requires room { length nfa.now.states ≤ vec_capacity parts.old.nfa }
-    requires slots { length nfa.now.start_pattern ≤ vec_capacity parts.old.patterns }
-    ensures once { IsOnce (pick (accepts (nfa_of nfa.now)) (cut_for kind (nfa_of nfa.now) list.now))
-        parts.new.patterns.items }
-    ensures arrival { IsClosureOf (nfa_of nfa.now) parts.new.patterns.items
+    requires room { IsClosureRoom nfa.now stack.old set.old }
+    requires parts { IsPartsRoom nfa.now parts.old }
+    ensures matched { AreMatched nfa.now (cut_for kind (nfa_of nfa.now) list.now) parts.new.patterns.items }
+    ensures made { IsClosureMade nfa.now parts.new.patterns.items
         (targets (nfa_of nfa.now) unit (cut_for kind (nfa_of nfa.now) list.now)) unit (powerset_of parts.new) }
-    ensures below { IsOf nfa.now (powerset_of parts.new) }
-    ensures few { length parts.new.nfa.items ≤ length nfa.now.states }
-    ensures seldom { length parts.new.patterns.items ≤ length nfa.now.start_pattern }
-    ensures distinct { Distinct parts.new.patterns.items }
-    ensures whole { set.new.capacity ≡ set.old.capacity }
-    ensures emptied { stack.new.items ≡ [] }
-    ensures places { vec_capacity stack.old ≤ vec_capacity stack.new }
-    ensures room { vec_capacity parts.old.nfa ≤ vec_capacity parts.new.nfa }
-    ensures slots { vec_capacity parts.old.patterns ≤ vec_capacity parts.new.patterns }
+    ensures room { IsClosureRoom nfa.now stack.new set.new }
+    ensures parts { IsPartsRoom nfa.now parts.new }
 {
     let end = cut_length(nfa, kind, list);
     let upto = &list[..end];
@@ -370,25 +318,13 @@ pub fn next_into(
     two: &mut SparseSet,
     parts: &mut Parts,
 )
+    requires door { IsDoor nfa.now }
     requires is_of { IsOf nfa.now from.now }
     requires list { list.now ≡ from.now.nfa }
-    requires whole { one.old.capacity ≡ length nfa.now.states }
-    requires also { two.old.capacity ≡ length nfa.now.states }
-    requires empty { stack.old.items ≡ [] }
-    requires places { stack_room nfa.now.states ≤ vec_capacity stack.old }
-    requires room { length nfa.now.states ≤ vec_capacity parts.old.nfa }
-    requires slots { length nfa.now.start_pattern ≤ vec_capacity parts.old.patterns }
-    ensures succ { IsSuccessor (nfa_of nfa.now) kind from.now unit (powerset_of parts.new) }
-    ensures below { IsOf nfa.now (powerset_of parts.new) }
-    ensures few { length parts.new.nfa.items ≤ length nfa.now.states }
-    ensures seldom { length parts.new.patterns.items ≤ length nfa.now.start_pattern }
+    requires room { IsStepRoom nfa.now stack.old one.old two.old parts.old }
+    ensures made { IsStepMade nfa.now kind from.now unit (powerset_of parts.new) }
     ensures distinct { Distinct parts.new.patterns.items }
-    ensures whole { one.new.capacity ≡ one.old.capacity }
-    ensures also { two.new.capacity ≡ two.old.capacity }
-    ensures emptied { stack.new.items ≡ [] }
-    ensures places { vec_capacity stack.old ≤ vec_capacity stack.new }
-    ensures room { vec_capacity parts.old.nfa ≤ vec_capacity parts.new.nfa }
-    ensures slots { vec_capacity parts.old.patterns ≤ vec_capacity parts.new.patterns }
+    ensures room { IsStepRoom nfa.now stack.new one.new two.new parts.new }
 {
     match news(nfa, from, unit) {
         Some(truth) => {

@@ -108,11 +108,9 @@ pub fn start_key(
     ensures count { scratch.new.count ≡ scratch.old.count + 1 }
 {
     scratch.count.tick();
-    let _ = nfa.states();
-    let start = nfa.start(mode);
     start_into(
         nfa,
-        start,
+        mode,
         prev,
         &mut scratch.stack,
         &mut scratch.one,
@@ -137,7 +135,6 @@ pub fn next_key(
     ensures count { scratch.new.count ≡ scratch.old.count + 1 }
 {
     scratch.count.tick();
-    let _ = nfa.states();
     read_ids(from.nfa(), &mut scratch.list)?;
     next_into(
         nfa,

@@ -13,7 +13,7 @@ use crate::util::determinize::key::Key;
 use crate::util::determinize::read::{ids_in, pattern_at, pattern_count, read_patterns, u32_at};
 use crate::util::determinize::valid::are_distinct;
 use crate::util::determinize::write::push_state;
-use crate::util::primitives::{PatternID, StateID, see_patterns, see_states};
+use crate::util::primitives::{PatternID, StateID, see_patterns};
 use std::alloc::{AllocError, Global};
 use std::hash::{Hash, Hasher};
 use std::marker::Model;
@@ -45,7 +45,6 @@ impl Parts {
         ensures code { OnOk result (IsCode out.new.items) }
         ensures state { OnOk result (decoded out.new.items ≡ powerset_of self.now) }
     {
-        see_states(&self.nfa);
         see_patterns(&self.patterns);
         out.clear();
         push_state(

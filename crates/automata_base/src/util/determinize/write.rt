@@ -1,8 +1,9 @@
 // The bytes of a state, appended to a vector.
-ghost use Rattle.std.specs.Prelude.{◌≡◌, ◌++◌, ◌<◌, ◌^◌, length, OnOk, IsTrue};
+ghost use Rattle.std.specs.Prelude.{◌≡◌, ◌++◌, ◌<◌, ◌^◌, length, All, OnOk, IsTrue};
 ghost use Rattle.std.specs.List.{flat_map};
 ghost use Rattle.automata_base.specs.Code.{four_bytes, varint, ids_code, code, difference, is_listed, patterns_code};
 ghost use Rattle.automata_base.specs.Code.{flag_byte, has_any};
+ghost use Rattle.automata_base.specs.Powerset.{IsId};
 
 use crate::util::primitives::{PatternID, StateID};
 use std::alloc::AllocError;
@@ -53,6 +54,7 @@ fn difference_of(before: u32, id: u32) -> u64
 /// Appends NFA states, each by its difference to the one before.
 fn push_ids(out: &mut Vec<u8>, ids: &[StateID]) -> Result<(), AllocError>
     ensures ok { OnOk result (out.new.items ≡ out.old.items ++ ids_code 0 ids.now) }
+    ensures ids { OnOk result (All IsId ids.now) }
 {
     let mut before = 0;
     for id in ids {
@@ -107,6 +109,7 @@ pub fn push_state(
     requires { length patterns.now < 2 ^ 32 }
     ensures ok { OnOk result (out.new.items ≡ out.old.items ++ code
         (record { nfa = nfa.now; patterns = patterns.now; known = known; needed = needed; word = word; half = half })) }
+    ensures ids { OnOk result (All IsId nfa.now) }
 {
     out.push(flags_of(patterns, word, half))?;
     push_u32(out, known)?;

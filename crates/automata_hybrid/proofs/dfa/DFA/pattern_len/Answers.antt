@@ -3,4 +3,4 @@ use Rattle.automata_hybrid.specs.Machine.{Machine}
 use Rattle.automata_hybrid.proofs.dfa.DFA.pattern_len.Goals as goal
 
 pub returns : goal.returns
-returns c = ap length c.pattern_starts.ensures ∙ ap (λ (m : Machine). length m.nfa.start_pattern) c.self.view_is
+returns c = ap length c.pattern_starts.ensures.same ∙ ap (λ (m : Machine). length m.nfa.start_pattern) c.self.view_is

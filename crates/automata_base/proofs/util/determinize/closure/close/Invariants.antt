@@ -1,5 +1,6 @@
-use Rattle.std.proofs.Common.{◌≡◌, ◌≤◌, [], drop, length, vec_capacity}
+use Rattle.std.proofs.Common.{drop}
 use Rattle.automata_base.specs.Nodes.{nfa_of}
+use Rattle.automata_base.specs.Rooms.{IsClosureRoom}
 use Rattle.automata_base.specs.Truths.{truth_of}
 use Rattle.automata_base.specs.Visits.{IsUnderWay}
 use Rattle.automata_base.proofs.util.determinize.closure.close.Given as goal
@@ -7,6 +8,4 @@ use Rattle.automata_base.proofs.util.determinize.closure.close.Given as goal
 abbrev pub invariant-loop-root : goal.invariant-loop-root
 invariant-loop-root l =
     IsUnderWay (nfa_of l.nfa) (truth_of l.looks) l.roots (drop l.root-index l.roots) l.set.items
-    × (l.set.capacity ≡ length l.nfa.states)
-    × (l.stack.items ≡ [])
-    × (vec_capacity l.fn.stack ≤ vec_capacity l.stack)
+    × IsClosureRoom l.nfa l.stack l.set

@@ -1,4 +1,4 @@
-use Rattle.std.proofs.Common.{arith, ◌≡◌, ◌+◌, ◌<◌, ◌≤◌, [], ◌∷◌, ◌++◌, length, reverse, vec_len, vec_capacity, refl, sym, ap, ◌∙◌, subst, inl}
+use Rattle.std.proofs.Common.{arith, ◌≡◌, ◌+◌, ◌<◌, ◌≤◌, [], ◌∷◌, ◌++◌, length, reverse, vec_len, vec_capacity, refl, sym, ap, ◌∙◌, subst, inl, rules}
 use Rattle.std.proofs.lemmas.List.{nil_from_length}
 use Rattle.automata_base.specs.Nodes.{stack_room, node_of}
 use Rattle.automata_base.specs.Truths.{truth_of}
@@ -9,18 +9,18 @@ use Rattle.automata_base.proofs.util.determinize.closure.close_one.Goals as goal
 pub unwrap-requires : goal.unwrap-requires
 unwrap-requires c =
     let len : vec_len c.args.stack.now ≡ length c.args.stack.now.items = c.args.stack.now.ok.0 in
-    let none : length c.args.stack.now.items ≡ 0 = ap length c.requires.empty in
+    let none : length c.args.stack.now.items ≡ 0 = ap length c.requires.room.empty in
     let some : 0 < stack_room c.args.nfa.now.states = room_positive c.args.nfa.now.states in
-    let room : stack_room c.args.nfa.now.states ≤ vec_capacity c.args.stack.now = c.requires.room in
+    let room : stack_room c.args.nfa.now.states ≤ vec_capacity c.args.stack.now = c.requires.room.places in
     c.push.ensures.succeeds (omega arith)
 
 pub loop-top-init : goal.loop-top-init
 loop-top-init c =
     let items : c.push.new.self.items ≡ c.args.stack.now.items ++ c.args.start ∷ [] = rw c.unwrap.ensures at c.push.ensures.items in
-    let turned : reverse c.push.new.self.items ≡ c.args.start ∷ [] = ap reverse (items ∙ ap (λ z. z ++ c.args.start ∷ []) c.requires.empty) in (
+    let turned : reverse c.push.new.self.items ≡ c.args.start ∷ [] = ap reverse (items ∙ ap (λ z. z ++ c.args.start ∷ []) c.requires.room.empty) in (
       subst (Walking c.args.nfa.now c.args.looks c.args.set.now.items c.args.start c.args.set.now.items) (sym turned)
           (walk_begins c.args.nfa.now c.args.looks c.args.set.now.items c.args.start c.requires.start),
-      c.requires.whole,
+      c.requires.room.whole,
       c.push.ensures.capacity,
     )
 
@@ -60,7 +60,7 @@ expand-requires c =
     c.state.ensures.same (c.if-not-insert.ensures.new refl) c.follow.invariant.0 in
     let len : vec_len c.follow.stack ≡ length c.follow.stack.items = c.follow.stack.ok.0 in
     let kept : vec_capacity c.args.stack.now ≤ vec_capacity c.follow.stack = c.follow.invariant.3 in
-    let enough : stack_room c.args.nfa.now.states ≤ vec_capacity c.args.stack.now = c.requires.room in
+    let enough : stack_room c.args.nfa.now.states ≤ vec_capacity c.args.stack.now = c.requires.room.places in
     omega arith
 
 followed : (c : goal.In-Some-expand) →
@@ -108,3 +108,9 @@ returns-clause-way c =
     let none : c.loop-top.stack.items ≡ [] = nil_from_length c.loop-top.stack.items (sym c.loop-top.stack.ok.0 ∙ c.in_default.ensures.cases.0) in
     walk_ends c.args.nfa.now c.args.looks c.args.set.now.items c.args.start c.loop-top.set.items
     (subst (Walking c.args.nfa.now c.args.looks c.args.set.now.items c.args.start c.loop-top.set.items) (ap reverse none) c.loop-top.invariant.0)
+
+pub returns-clause-room : goal.returns-clause-room
+returns-clause-room c =
+    let kept : vec_capacity c.args.stack.now ≤ vec_capacity c.loop-top.stack = c.loop-top.invariant.2 in
+    let enough : stack_room c.args.nfa.now.states ≤ vec_capacity c.args.stack.now = c.requires.room.places in
+    record { whole = c.loop-top.invariant.1; empty = search rules; places = search rules }

@@ -1,4 +1,4 @@
-use Rattle.std.proofs.Common.{◌≡◌, ◌<◌, ◌≤◌, length, Some, sym, ap, ◌∙◌, subst, ◌+◌, arith, drop, vec_capacity}
+use Rattle.std.proofs.Common.{◌≡◌, ◌<◌, length, Some, sym, ap, ◌∙◌, subst, ◌+◌, drop}
 use Rattle.std.proofs.lemmas.List.{drop_all}
 use Rattle.automata_base.specs.Nodes.{nfa_of}
 use Rattle.automata_base.specs.Truths.{truth_of}
@@ -18,9 +18,7 @@ pub loop-i-init : goal.loop-i-init
 loop-i-init c = (
   subst (IsUnderWay (nfa_of c.args.nfa.now) (truth_of c.args.known) (targets (nfa_of c.args.nfa.now) (Some c.args.u) c.args.list.now) (targets (nfa_of c.args.nfa.now) (Some c.args.u) c.args.list.now))
       (sym c.requires.fresh) (under_way_start (nfa_of c.args.nfa.now) (truth_of c.args.known) (targets (nfa_of c.args.nfa.now) (Some c.args.u) c.args.list.now)),
-  c.requires.whole,
-  c.requires.empty,
-  omega arith,
+  c.requires.room,
 )
 
 pub close_maybe-requires-clause-start : goal.close_maybe-requires-clause-start
@@ -34,17 +32,13 @@ pub loop-i-preserved : goal.loop-i-preserved
 loop-i-preserved c =
     let below = below_at c.args.list.now (length c.args.nfa.now.states) c.loop-i.i c.index-list-i.result c.requires.below c.loop-i-test.true c.index-list-i.is in
     let here : takes (nfa_of c.args.nfa.now) c.index-list-i.result c.args.u ≡ c.target.result =
-    ap (λ m. takes_at m c.args.u) (node_at c.args.nfa.now.states c.index-list-i.result c.state.result.now c.state.result.now below c.state.ensures.same) ∙ sym c.target.ensures in
-    let kept : vec_capacity c.args.stack.now ≤ vec_capacity c.loop-i.stack = c.loop-i.invariant.3 in
-    let more : vec_capacity c.loop-i.stack ≤ vec_capacity c.close_maybe.new.stack = c.close_maybe.ensures.room in (
+    ap (λ m. takes_at m c.args.u) (node_at c.args.nfa.now.states c.index-list-i.result c.state.result.now c.state.result.now below c.state.ensures.same) ∙ sym c.target.ensures in (
       c.close_maybe.ensures.way (targets (nfa_of c.args.nfa.now) (Some c.args.u) c.args.list.now) (targets (nfa_of c.args.nfa.now) (Some c.args.u) (drop (c.loop-i.i + 1) c.args.list.now))
           (subst (λ z. IsUnderWay (nfa_of c.args.nfa.now) (truth_of c.args.known) (targets (nfa_of c.args.nfa.now) (Some c.args.u) c.args.list.now) z c.loop-i.set.items)
           (pick_next (λ b. takes (nfa_of c.args.nfa.now) b c.args.u) c.args.list.now c.loop-i.i c.index-list-i.result c.loop-i-test.true c.index-list-i.is
           ∙ ap (λ z. cons_some z (targets (nfa_of c.args.nfa.now) (Some c.args.u) (drop (c.loop-i.i + 1) c.args.list.now))) here)
           c.loop-i.invariant.0),
-      c.close_maybe.ensures.whole ∙ c.loop-i.invariant.1,
-      c.close_maybe.ensures.emptied,
-      omega arith,
+      c.close_maybe.ensures.room,
     )
 
 pub returns-clause-closure : goal.returns-clause-closure

@@ -1,5 +1,6 @@
-use Rattle.std.proofs.Common.{◌≡◌, ◌≤◌, [], drop, length, vec_capacity, Some}
+use Rattle.std.proofs.Common.{drop, Some}
 use Rattle.automata_base.specs.Nodes.{nfa_of}
+use Rattle.automata_base.specs.Rooms.{IsClosureRoom}
 use Rattle.automata_base.specs.Truths.{truth_of}
 use Rattle.automata_base.specs.Cuts.{targets}
 use Rattle.automata_base.specs.Visits.{IsUnderWay}
@@ -8,6 +9,4 @@ use Rattle.automata_base.proofs.util.determinize.construct.close_targets.Given a
 abbrev pub invariant-loop-i : goal.invariant-loop-i
 invariant-loop-i l =
     IsUnderWay (nfa_of l.nfa) (truth_of l.known) (targets (nfa_of l.nfa) (Some l.u) l.list) (targets (nfa_of l.nfa) (Some l.u) (drop l.i l.list)) l.set.items
-    × (l.set.capacity ≡ length l.nfa.states)
-    × (l.stack.items ≡ [])
-    × (vec_capacity l.fn.stack ≤ vec_capacity l.stack)
+    × IsClosureRoom l.nfa l.stack l.set

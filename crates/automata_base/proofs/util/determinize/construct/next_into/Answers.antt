@@ -1,13 +1,14 @@
-use Rattle.std.proofs.Common.{◌<◌, ◌∙◌, length, sym, subst, inl, inr, refl}
+use Rattle.std.proofs.Common.{◌<◌, length, sym, subst, inl, inr, refl}
 use Rattle.std.specs.Prelude.{All}
 use Rattle.automata_base.specs.Nodes.{nfa_of}
 use Rattle.automata_base.specs.Parts.{powerset_of}
-use Rattle.automata_base.specs.Lists.{In, pick}
-use Rattle.automata_base.specs.Nfa.{accepts}
+use Rattle.automata_base.specs.Lists.{In}
+use Rattle.automata_base.specs.Made.{AreMatched, IsClosureMade}
 use Rattle.automata_base.specs.Paths.{IsClosure}
-use Rattle.automata_base.specs.Cuts.{cut_for, IsOnce, targets}
-use Rattle.automata_base.specs.Passes.{true_looks, IsClosureOf}
+use Rattle.automata_base.specs.Cuts.{cut_for, targets}
+use Rattle.automata_base.specs.Passes.{true_looks}
 use Rattle.automata_base.proofs.Determinizing.Keeping.{all_in}
+use Rattle.automata_base.proofs.Determinizing.Made.{step_made}
 use Rattle.automata_base.proofs.util.determinize.construct.next_into.Goals as goal
 
 pub close-requires-clause-roots : goal.close-requires-clause-roots
@@ -16,33 +17,30 @@ close-requires-clause-roots c =
 
 pub advance-requires-clause-below : goal.advance-requires-clause-below
 advance-requires-clause-below c = λ q i.
-    subst (λ z. q < z) (c.close.ensures.whole ∙ c.requires.whole) (c.as_slice.ensures.below q (subst (λ z. In q z) c.as_slice.ensures.items i))
+    subst (λ z. q < z) c.close.ensures.room.whole (c.as_slice.ensures.below q (subst (λ z. In q z) c.as_slice.ensures.items i))
 
 pub advance-requires-in-None-clause-below : goal.advance-requires-in-None-clause-below
 advance-requires-in-None-clause-below c = λ q i. c.requires.is_of q (subst (λ z. In q z) c.requires.list i)
 
-pub returns-in-Some-clause-succ : goal.returns-in-Some-clause-succ
-returns-in-Some-clause-succ c = (
-  c.close.new.set.items,
-  c.advance.new.parts.patterns.items,
-  inl (
-    c.in-Some.ensures.news,
-    subst (λ xs. IsClosure (nfa_of c.args.nfa.now) (true_looks (nfa_of c.args.nfa.now) c.args.from.now c.args.unit) xs c.close.new.set.items) c.requires.list
-        (subst (λ A. IsClosure (nfa_of c.args.nfa.now) A c.args.list.now c.close.new.set.items) (λ i look. c.in-Some.ensures.truth look i) c.close.ensures.closure),
-  ),
-  subst (λ xs. IsOnce (pick (accepts (nfa_of c.args.nfa.now)) (cut_for c.args.kind (nfa_of c.args.nfa.now) xs)) c.advance.new.parts.patterns.items)
-      c.as_slice.ensures.items c.advance.ensures.once,
-  subst (λ xs. IsClosureOf (nfa_of c.args.nfa.now) c.advance.new.parts.patterns.items (targets (nfa_of c.args.nfa.now) c.args.unit (cut_for c.args.kind (nfa_of c.args.nfa.now) xs)) c.args.unit (powerset_of c.advance.new.parts))
-      c.as_slice.ensures.items c.advance.ensures.arrival,
-)
+pub returns-in-Some-clause-made : goal.returns-in-Some-clause-made
+returns-in-Some-clause-made c =
+    step_made c.args.nfa.now c.args.kind c.args.from.now c.args.unit c.close.new.set.items (powerset_of c.advance.new.parts)
+    c.requires.door c.requires.is_of
+    (inl (
+      c.in-Some.ensures.news,
+      subst (λ xs. IsClosure (nfa_of c.args.nfa.now) (true_looks (nfa_of c.args.nfa.now) c.args.from.now c.args.unit) xs c.close.new.set.items) c.requires.list
+          (subst (λ A. IsClosure (nfa_of c.args.nfa.now) A c.args.list.now c.close.new.set.items) (λ i look. c.in-Some.ensures.truth look i) c.close.ensures.closure),
+    ))
+    (subst (λ xs. AreMatched c.args.nfa.now (cut_for c.args.kind (nfa_of c.args.nfa.now) xs) c.advance.new.parts.patterns.items)
+    c.as_slice.ensures.items c.advance.ensures.matched)
+    (subst (λ xs. IsClosureMade c.args.nfa.now c.advance.new.parts.patterns.items (targets (nfa_of c.args.nfa.now) c.args.unit (cut_for c.args.kind (nfa_of c.args.nfa.now) xs)) c.args.unit (powerset_of c.advance.new.parts))
+    c.as_slice.ensures.items c.advance.ensures.made)
 
-pub returns-in-None-clause-succ : goal.returns-in-None-clause-succ
-returns-in-None-clause-succ c = (
-  c.args.from.now.nfa,
-  c.advance-in-None.new.parts.patterns.items,
-  inr (c.in-None.ensures.none refl, refl),
-  subst (λ xs. IsOnce (pick (accepts (nfa_of c.args.nfa.now)) (cut_for c.args.kind (nfa_of c.args.nfa.now) xs)) c.advance-in-None.new.parts.patterns.items)
-      c.requires.list c.advance-in-None.ensures.once,
-  subst (λ xs. IsClosureOf (nfa_of c.args.nfa.now) c.advance-in-None.new.parts.patterns.items (targets (nfa_of c.args.nfa.now) c.args.unit (cut_for c.args.kind (nfa_of c.args.nfa.now) xs)) c.args.unit (powerset_of c.advance-in-None.new.parts))
-      c.requires.list c.advance-in-None.ensures.arrival,
-)
+pub returns-in-None-clause-made : goal.returns-in-None-clause-made
+returns-in-None-clause-made c =
+    step_made c.args.nfa.now c.args.kind c.args.from.now c.args.unit c.args.from.now.nfa (powerset_of c.advance-in-None.new.parts)
+    c.requires.door c.requires.is_of (inr (c.in-None.ensures.none refl, refl))
+    (subst (λ xs. AreMatched c.args.nfa.now (cut_for c.args.kind (nfa_of c.args.nfa.now) xs) c.advance-in-None.new.parts.patterns.items)
+    c.requires.list c.advance-in-None.ensures.matched)
+    (subst (λ xs. IsClosureMade c.args.nfa.now c.advance-in-None.new.parts.patterns.items (targets (nfa_of c.args.nfa.now) c.args.unit (cut_for c.args.kind (nfa_of c.args.nfa.now) xs)) c.args.unit (powerset_of c.advance-in-None.new.parts))
+    c.requires.list c.advance-in-None.ensures.made)

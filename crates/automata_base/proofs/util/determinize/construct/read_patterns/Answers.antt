@@ -34,12 +34,9 @@ loop-i-preserved c =
       omega arith,
     )
 
-pub returns-clause-once : goal.returns-clause-once
-returns-clause-once c =
-    once_done (accepts (nfa_of c.args.nfa.now)) c.args.list.now c.loop-i.patterns.items c.loop-i.i c.loop-i-test.false c.loop-i.invariant.0.0
-
-pub returns-clause-few : goal.returns-clause-few
-returns-clause-few c = distinct_below (length c.args.nfa.now.start_pattern) c.loop-i.patterns.items c.loop-i.invariant.0.1 c.loop-i.invariant.0.2
-
-pub returns-clause-distinct : goal.returns-clause-distinct
-returns-clause-distinct c = c.loop-i.invariant.0.1
+pub returns-clause-matched : goal.returns-clause-matched
+returns-clause-matched c = record {
+  once = once_done (accepts (nfa_of c.args.nfa.now)) c.args.list.now c.loop-i.patterns.items c.loop-i.i c.loop-i-test.false c.loop-i.invariant.0.0;
+  distinct = c.loop-i.invariant.0.1;
+  few = distinct_below (length c.args.nfa.now.start_pattern) c.loop-i.patterns.items c.loop-i.invariant.0.1 c.loop-i.invariant.0.2;
+}

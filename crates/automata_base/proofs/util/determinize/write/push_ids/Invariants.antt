@@ -1,6 +1,10 @@
-use Rattle.std.proofs.Common.{◌≡◌, ◌++◌, drop}
+use Rattle.std.proofs.Common.{ℕ, ◌≡◌, ◌<◌, ◌++◌, drop, get_or}
 use Rattle.automata_base.specs.Code.{ids_code}
+use Rattle.automata_base.specs.Powerset.{IsId}
 use Rattle.automata_base.proofs.util.determinize.write.push_ids.Given as goal
 
 abbrev pub invariant-loop-id : goal.invariant-loop-id
-invariant-loop-id l = l.out.items ++ ids_code l.before (drop l.id-index l.ids) ≡ l.fn.out.items ++ ids_code 0 l.ids
+invariant-loop-id l = record {
+  code : l.out.items ++ ids_code l.before (drop l.id-index l.ids) ≡ l.fn.out.items ++ ids_code 0 l.ids;
+  ids : (k d : ℕ) → k < l.id-index → IsId (get_or l.ids k d);
+}

@@ -8,15 +8,15 @@ use Rattle.automata_base.proofs.Coding.Inverse.{count_fits, IsCode-code, decoded
 use Rattle.automata_base.proofs.util.determinize.state.Parts.write.Goals as goal
 
 pub push_state-requires : goal.push_state-requires
-push_state-requires c = omega (arith, c.deref-4.ensures.len, c.deref-2.ensures.len, count_fits _ (recursion_from_All IsId _ c.see_patterns.ensures) (subst (IsDistinct nat_eq) (sym c.deref-2.ensures.value) c.requires))
+push_state-requires c = omega (arith, c.deref-3.ensures.len, c.deref.ensures.len, count_fits _ (recursion_from_All IsId _ c.see_patterns.ensures) (subst (IsDistinct nat_eq) (sym c.deref.ensures.value) c.requires))
 
 pub returns-clause-bytes : goal.returns-clause-bytes
-returns-clause-bytes c = rw (c.clear.ensures.items, c.deref-3.ensures.value, c.deref-4.ensures.value) at c.in_ok-push_state.ensures.ok
+returns-clause-bytes c = rw (c.clear.ensures.items, c.deref-2.ensures.value, c.deref-3.ensures.value) at c.in_ok-push_state.ensures.ok
 
 is_powerset : (c : goal.In_ok-push_state) → IsPowerset (powerset_of c.args.self.now)
 is_powerset c = record {
-  nfa = recursion_from_All IsId c.args.self.now.nfa.items (subst (All IsId) c.deref.ensures.value c.see_states.ensures);
-  patterns = recursion_from_All IsId c.args.self.now.patterns.items (subst (All IsId) c.deref-2.ensures.value c.see_patterns.ensures);
+  nfa = recursion_from_All IsId c.args.self.now.nfa.items (subst (All IsId) c.deref-2.ensures.value c.in_ok-push_state.ensures.ids);
+  patterns = recursion_from_All IsId c.args.self.now.patterns.items (subst (All IsId) c.deref.ensures.value c.see_patterns.ensures);
   distinct = c.requires;
   known = search rules;
   needed = search rules;

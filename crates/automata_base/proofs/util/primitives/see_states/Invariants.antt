@@ -1,6 +1,0 @@
-use Rattle.std.proofs.Common.{ℕ, ◌<◌, get_or}
-use Rattle.automata_base.specs.Powerset.{IsId}
-use Rattle.automata_base.proofs.util.primitives.see_states.Given as goal
-
-abbrev pub invariant-loop-id : goal.invariant-loop-id
-invariant-loop-id l = (k d : ℕ) → k < l.id-index → IsId (get_or l.ids k d)
