@@ -1,14 +1,14 @@
 -- What a search makes of its cache, span after span.
 use Rattle.std.proofs.Common.{ℕ, zero, suc, ◌≡◌, ◌∙◌, ◌+◌, ◌-◌, ◌<◌, ◌≤◌, refl, sym, subst, arith}
-use Rattle.std.specs.Prelude.{Result, Ok, Err}
+use Rattle.std.specs.Prelude.{Ok, Err}
 use Rattle.automata_base.specs.Answers.{Tries, later}
 use Rattle.automata_base.specs.Input.{Input}
 use Rattle.automata_base.specs.Tapes.{Direction, Forward, Backward}
 use Rattle.automata_config.specs.declared.error.SearchError.{SearchError}
 use Rattle.automata_hybrid.specs.Caches.{CacheView}
 use Rattle.automata_hybrid.specs.Costs.{IsCostOfPasses, passes_most}
-use Rattle.automata_hybrid.specs.Growing.{ClearedNothing, IsGrown, IsStill}
-use Rattle.automata_hybrid.specs.Knowing.{IsOfInput, Knows, KnowsPass}
+use Rattle.automata_hybrid.specs.Growing.{ClearedNothing, IsGrown}
+use Rattle.automata_hybrid.specs.Knowing.{Knows, KnowsPass}
 use Rattle.automata_hybrid.specs.Machine.{Machine}
 use Rattle.automata_hybrid.specs.Owing.{IsSearchEffect}
 use Rattle.automata_hybrid.specs.Passed.{IsPassEffect}

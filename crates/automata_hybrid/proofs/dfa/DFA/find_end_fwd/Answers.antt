@@ -1,12 +1,6 @@
-use Rattle.std.proofs.Common.{ℕ, ◌∙◌, ◌≡◌, ◌+◌, ◌-◌, false, inr, List, length, refl, Some, None, sym, ap, subst, arith}
-use Rattle.automata_base.specs.Classes.{is_quit}
+use Rattle.std.proofs.Common.{ℕ, ◌≡◌, ◌+◌, ◌-◌, inr, List, length, refl, Some, None, sym, ap, subst, arith}
 use Rattle.automata_base.specs.Paths.{next}
 use Rattle.automata_base.specs.Tapes.{Forward}
-use Rattle.automata_base.proofs.Paths.Orders.{some_inj, none_some}
-use Rattle.automata_hybrid.specs.Stores.{IsKnownTransition}
-use Rattle.automata_hybrid.specs.Caches.{CacheView}
-use Rattle.automata_hybrid.specs.Growing.{IsGrown}
-use Rattle.automata_hybrid.specs.Stepping.{unit_class}
 use Rattle.automata_hybrid.specs.Passing.{IsAt}
 use Rattle.automata_hybrid.specs.Passed.{IsRestEffect}
 use Rattle.automata_hybrid.specs.Reading.{IsEndProgress}

@@ -1,8 +1,6 @@
-use Rattle.std.proofs.Common.{ℕ, ◌≡◌, ◌-◌, false, length, Some, None, refl, subst, arith}
-use Rattle.automata_base.specs.Classes.{is_quit}
+use Rattle.std.proofs.Common.{ℕ, ◌≡◌, ◌-◌, length, Some, None, refl, subst, arith}
 use Rattle.automata_base.specs.Paths.{next}
 use Rattle.automata_base.specs.Tapes.{Backward}
-use Rattle.automata_base.proofs.Paths.Orders.{some_inj, none_some}
 use Rattle.automata_hybrid.specs.Passed.{IsRestEffect}
 use Rattle.automata_hybrid.specs.Searches.{unit_offset, tape_in}
 use Rattle.automata_hybrid.proofs.Passed.{last_answer, rest_read, rest_refused}

@@ -8,13 +8,13 @@ use Rattle.automata_hybrid.specs.Searched.{EndsAtLast, IsLeftOpen, IsOpenAt}
 use Rattle.automata_hybrid.specs.Searches.{Reads, given_up_offset, tape_in}
 use Rattle.automata_hybrid.specs.Table.{Rows}
 use Rattle.automata_hybrid.proofs.Growing.{grown_moved, grown_same, grown_trans, nothing_first, nothing_second}
-use Rattle.automata_hybrid.proofs.Knowing.{begun_moved, knows_here, knows_still, learned_ends, learned_moved, learned_none, learned_step}
+use Rattle.automata_hybrid.proofs.Knowing.{knows_here, knows_still, learned_none, learned_step}
 use Rattle.automata_hybrid.proofs.Passed.{dead_answer, dead_stops, first_answer, first_stops, rest_read, rest_refused, rest_then}
 use Rattle.automata_hybrid.proofs.Reading.{at_err}
 use Rattle.automata_hybrid.specs.Passed.{IsRestEffect}
 use Rattle.automata_hybrid.proofs.Searched.{ended_after, last_here, last_kept, left_here, on_err, on_ok, stays_open}
 use Rattle.automata_hybrid.proofs.Units.{backward_units}
-use Rattle.automata_hybrid.proofs.Searching.{stops_dead, stops_ends, stops_last, more_leads, more_at, more_dead, clean_dead, more_ends, clean_ends, starts_at, step_refuses, if_err, false_true, some_is, none_is}
+use Rattle.automata_hybrid.proofs.Searching.{stops_dead, stops_ends, stops_last, more_leads, more_at, step_refuses, if_err, false_true, some_is, none_is}
 use Rattle.automata_hybrid.proofs.Backward.{end_given_up_offset, span_place, span_unit_offset, span_given_up_offset, span_more, span_few, span_read, quit_free}
 use Rattle.automata_hybrid.proofs.dfa.DFA.find_rev.Goals as goal
 use Rattle.automata_hybrid.proofs.dfa.DFA.find_rev.Goals.{else-get_earliest-via-then-get_earliest+else-is_some, else-get_earliest-via-else-get_earliest}

@@ -2,23 +2,18 @@ use Rattle.std.proofs.Common.{◌≡◌, ◌∙◌, ◌-◌, ap, None, refl, sym
 use Rattle.automata_base.specs.Powerset.{dead}
 use Rattle.automata_base.specs.Tapes.{Forward, byte_before}
 use Rattle.std.specs.Prelude.{Err}
-use Rattle.automata_hybrid.specs.Stores.{IsKnownStart, with_searched}
+use Rattle.automata_hybrid.specs.Stores.{with_searched}
 use Rattle.automata_hybrid.specs.Caches.{CacheView, with_store}
-use Rattle.automata_hybrid.specs.Growing.{IsGrown}
-use Rattle.automata_hybrid.specs.Knowing.{IsOfInput, KnowsPass}
 use Rattle.automata_hybrid.specs.Machine.{Machine, slot_count}
-use Rattle.automata_hybrid.specs.Passing.{HasLearnedAll}
 use Rattle.automata_hybrid.specs.Progressing.{finished, started}
-use Rattle.automata_hybrid.specs.Slots.{slot_behind}
-use Rattle.automata_hybrid.proofs.Growing.{grown_moved, grown_trans, nothing_second}
-use Rattle.automata_hybrid.proofs.Knowing.{knows_still, learned_all, learned_moved, learned_none, start_idle}
+use Rattle.automata_hybrid.proofs.Growing.{grown_moved}
 use Rattle.automata_hybrid.specs.Searches.{given_up_offset, state_in}
 use Rattle.automata_hybrid.specs.Starting.{quit_behind}
 use Rattle.automata_hybrid.specs.Table.{Rows, Leads, Names}
-use Rattle.automata_hybrid.proofs.Searching.{starts_at, starts_dead, clean_start, if_err, stops_start, state_first, false_true}
+use Rattle.automata_hybrid.proofs.Searching.{starts_at, starts_dead, clean_start, stops_start, state_first, false_true}
 use Rattle.automata_hybrid.proofs.Passed.{pass_rest, pass_unstarted, rest_dead}
 use Rattle.automata_hybrid.proofs.Reading.{at_err}
-use Rattle.automata_hybrid.specs.Passed.{IsPassEffect, IsRestEffect}
+use Rattle.automata_hybrid.specs.Passed.{IsPassEffect}
 use Rattle.automata_hybrid.proofs.Searched.{pass_dies, pass_ends, pass_opens}
 use Rattle.automata_hybrid.proofs.Stepping.{dead_tagged}
 use Rattle.automata_hybrid.proofs.dfa.DFA.pass_fwd.Goals as goal

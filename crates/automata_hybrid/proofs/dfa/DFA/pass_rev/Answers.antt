@@ -3,17 +3,13 @@ use Rattle.automata_base.specs.Lists.{nth}
 use Rattle.automata_base.specs.Powerset.{dead}
 use Rattle.automata_base.specs.Tapes.{Backward}
 use Rattle.std.specs.Prelude.{Err}
-use Rattle.automata_hybrid.specs.Stores.{IsKnownStart, with_searched}
+use Rattle.automata_hybrid.specs.Stores.{with_searched}
 use Rattle.automata_hybrid.specs.Caches.{CacheView, with_store}
-use Rattle.automata_hybrid.specs.Growing.{IsGrown}
-use Rattle.automata_hybrid.specs.Knowing.{IsOfInput, KnowsPass}
 use Rattle.automata_hybrid.specs.Machine.{Machine, slot_count}
 use Rattle.automata_hybrid.specs.Progressing.{finished, started}
 use Rattle.automata_hybrid.specs.Searched.{IsLeft, KeepsNone}
-use Rattle.automata_hybrid.specs.Slots.{slot_behind}
-use Rattle.automata_hybrid.proofs.Growing.{grown_moved, grown_trans, nothing_second}
-use Rattle.automata_hybrid.proofs.Knowing.{knows_still, learned_all, learned_moved, learned_none, start_idle}
-use Rattle.automata_hybrid.specs.Passing.{HasLearned, HasLearnedAll, IsAt}
+use Rattle.automata_hybrid.proofs.Growing.{grown_moved}
+use Rattle.automata_hybrid.specs.Passing.{IsAt}
 use Rattle.automata_hybrid.specs.Searches.{given_up_offset, state_in}
 use Rattle.automata_hybrid.specs.Starting.{quit_behind}
 use Rattle.automata_hybrid.specs.Table.{Rows, Names}
@@ -22,7 +18,7 @@ use Rattle.automata_hybrid.proofs.Reading.{at_err}
 use Rattle.automata_hybrid.specs.Passed.{IsPassEffect, IsRestEffect}
 use Rattle.automata_hybrid.proofs.Searched.{kept_twice, on_err, on_ok, pass_dies, pass_ends, pass_opens}
 use Rattle.automata_hybrid.proofs.Backward.{begins_dead, begins_alive}
-use Rattle.automata_hybrid.proofs.Searching.{if_err, stops_start, starts_at, starts_dead, clean_start, false_true}
+use Rattle.automata_hybrid.proofs.Searching.{stops_start, starts_at, starts_dead, clean_start, false_true}
 use Rattle.automata_hybrid.proofs.dfa.DFA.pass_rev.Goals as goal
 
 pub returns-then-is_dead-clause-answer : goal.returns-then-is_dead-clause-answer

@@ -1,4 +1,4 @@
-use Rattle.std.proofs.Common.{◌<◌, inl, inr, refl, sym, subst, arith}
+use Rattle.std.proofs.Common.{inl, inr, refl, sym, subst, arith}
 use Rattle.automata_hybrid.specs.Reading.{IsReadEffect, IsReadProgress}
 use Rattle.automata_hybrid.specs.Searches.{IsStepRefusal}
 use Rattle.automata_hybrid.specs.Table.{Rows, Names}

@@ -1,4 +1,4 @@
-use Rattle.std.proofs.Common.{◌-◌, ◌<◌, refl, sym, subst, arith}
+use Rattle.std.proofs.Common.{◌-◌, refl, sym, subst, arith}
 use Rattle.automata_hybrid.specs.Reading.{IsReadEffect}
 use Rattle.automata_hybrid.specs.Searches.{IsStepRefusal}
 use Rattle.automata_hybrid.proofs.Reading.{at_err, read_answered, read_quits, read_refused, told_refusal}
