@@ -8,7 +8,7 @@ ghost use Rattle.automata_hybrid.specs.Ids.{fixed_from, offset_limit};
 ghost use Rattle.automata_hybrid.specs.Owing.{IsBased, IsHalf, IsSearchEffect, IsUnsupported, based_half};
 ghost use Rattle.automata_hybrid.specs.Owing.{unsupported_error};
 ghost use Rattle.automata_hybrid.specs.Passed.{IsPassAnswer, IsPassEffect, IsRestEffect, IsUnderway};
-ghost use Rattle.automata_hybrid.specs.Passing.{HasLearned, IsAt, IsFollowed, IsLed};
+ghost use Rattle.automata_hybrid.specs.Passing.{HasLearned, IsAt, IsBetween, IsFollowed, IsLed, IsUntagged};
 ghost use Rattle.automata_base.specs.Paths.{next};
 ghost use Rattle.automata_base.specs.Powerset.{Powerset, dead};
 ghost use Rattle.automata_hybrid.specs.Progressing.{started};
@@ -221,14 +221,11 @@ impl DFA {
         from: LazyStateID,
     ) -> Stop
         requires of { IsCacheOf cache.now self.now }
-        requires valid { IsValid cache.now.store.table from }
-        requires untagged { from < offset_limit }
+        requires untagged { IsUntagged cache.now.store.table from }
         requires from { input.now.start ≤ start }
         requires within { start + 4 ≤ input.now.end }
-        ensures from { start ≤ result.at }
-        ensures within { result.at ≤ start + 4 }
-        ensures valid { IsValid cache.now.store.table result.id }
-        ensures untagged { result.id < offset_limit }
+        ensures at { IsBetween start (start + 4) result.at }
+        ensures untagged { IsUntagged cache.now.store.table result.id }
         ensures followed { Names cache.now.store.table from (state_in Forward self.now input.now
             (start - input.now.start))
             → IsFollowed Forward self.now cache.now.store input.now
@@ -427,10 +424,8 @@ impl DFA {
         requires of { IsCacheOf cache.now self.now }
         requires valid { IsValid cache.now.store.table from }
         requires from { input.now.start ≤ start }
-        requires within { start ≤ end }
-        requires end { end ≤ input.now.end }
-        ensures from { start ≤ result.at }
-        ensures within { result.at ≤ end }
+        requires end { IsBetween start input.now.end end }
+        ensures at { IsBetween start end result.at }
         ensures valid { IsValid cache.now.store.table result.id }
         ensures led { Names cache.now.store.table from (state_in Forward self.now input.now (start - input.now.start))
             → IsLed Forward self.now cache.now.store input.now

@@ -8,7 +8,7 @@ ghost use Rattle.automata_hybrid.specs.Growing.{KeepsProgress};
 ghost use Rattle.automata_hybrid.specs.Ids.{fixed_from, offset_limit};
 ghost use Rattle.automata_hybrid.specs.Owing.{IsHalf, IsSearchEffect, IsUnsupported, unsupported_error};
 ghost use Rattle.automata_hybrid.specs.Passed.{IsPassAnswer, IsPassEffect, IsRestEffect, IsUnderway};
-ghost use Rattle.automata_hybrid.specs.Passing.{HasLearned, IsAt, IsFollowed, IsLed};
+ghost use Rattle.automata_hybrid.specs.Passing.{HasLearned, IsAt, IsBetween, IsFollowed, IsLed, IsUntagged};
 ghost use Rattle.automata_hybrid.specs.Progressing.{started};
 ghost use Rattle.automata_hybrid.specs.Reading.{IsReadAnswer, IsReadEffect, IsReadRefusal};
 ghost use Rattle.automata_hybrid.specs.Searched.{EndsAtLast, IsLeftOpen};
@@ -205,14 +205,11 @@ impl DFA {
         from: LazyStateID,
     ) -> Stop
         requires of { IsCacheOf cache.now self.now }
-        requires valid { IsValid cache.now.store.table from }
-        requires untagged { from < offset_limit }
+        requires untagged { IsUntagged cache.now.store.table from }
         requires from { input.now.start + 4 ≤ start }
         requires within { start ≤ input.now.end }
-        ensures from { start ≤ result.at + 4 }
-        ensures within { result.at ≤ start }
-        ensures valid { IsValid cache.now.store.table result.id }
-        ensures untagged { result.id < offset_limit }
+        ensures at { IsBetween (start - 4) start result.at }
+        ensures untagged { IsUntagged cache.now.store.table result.id }
         ensures followed { Names cache.now.store.table from (state_in Backward self.now input.now
             (input.now.end - start))
             → IsFollowed Backward self.now cache.now.store input.now
@@ -406,11 +403,9 @@ impl DFA {
     ) -> Stop
         requires of { IsCacheOf cache.now self.now }
         requires valid { IsValid cache.now.store.table from }
-        requires first { input.now.start ≤ first }
-        requires from { first ≤ start }
+        requires first { IsBetween input.now.start start first }
         requires within { start ≤ input.now.end }
-        ensures from { first ≤ result.at }
-        ensures within { result.at ≤ start }
+        ensures at { IsBetween first start result.at }
         ensures valid { IsValid cache.now.store.table result.id }
         ensures led { Names cache.now.store.table from (state_in Backward self.now input.now (input.now.end - start))
             → IsLed Backward self.now cache.now.store input.now
