@@ -1,6 +1,6 @@
 -- What the passes of a search cost.
 use Rattle.std.proofs.Common.{ℕ, zero, suc, ◌≡◌, ◌<◌, ◌≤◌, ◌+◌, ◌*◌, ◌-◌, ◌⊎◌, inl, inr, Option, refl, sym, subst, arith, eq-or-lt_of_le}
-use Rattle.automata_base.specs.Answers.{Tries}
+use Rattle.automata_base.specs.Answers.{Tries, later}
 use Rattle.automata_base.specs.declared.util.search.Anchored.TheVariants.{No}
 use Rattle.automata_base.specs.Input.{Input}
 use Rattle.automata_base.specs.Selections.{Pair}
@@ -8,6 +8,7 @@ use Rattle.automata_base.specs.Tapes.{Direction}
 use Rattle.automata_hybrid.specs.Caches.{CacheView}
 use Rattle.automata_hybrid.specs.Costs.{IsCostOfPasses, IsCostOfSearch, passes_most}
 use Rattle.automata_hybrid.specs.Growing.{IsGrown}
+use Rattle.automata_hybrid.specs.Knowing.{KnowsItsStart}
 use Rattle.automata_hybrid.specs.Machine.{Machine}
 use Rattle.automata_hybrid.specs.Searches.{Finds, Skips}
 use Rattle.automata_hybrid.proofs.Growing.{clears_none, grown_trans}
@@ -54,31 +55,58 @@ tries_before T S way input j k l tries = (first tries.0, λ i less. tries.1 i (o
   first (inl e) = inl (omega (arith, e, l))
   first (inr free) = inr free
 
+-- how often so many passes of a search determinised, and how often where their starts were known
+pub record AreCounted (way : Direction) (m : Machine) (input : Input) (passes : ℕ) (old new : CacheView) : Type 0 where
+  pub most : new.count ≤ old.count + passes_most passes (input.end - input.start)
+  pub started :
+      ((k : ℕ) → k < passes → KnowsItsStart way m old.store (later way k input))
+      → new.count + passes ≤ old.count + passes_most passes (input.end - input.start)
+
+-- one pass more
+pub counted_more :
+    (way : Direction) (m : Machine) (input now : Input) (passes units : ℕ) (old between new : CacheView)
+    → AreCounted way m input passes old between → IsGrown old between → now ≡ later way passes input
+    → new.count ≤ between.count + (units + 2)
+    → (KnowsItsStart way m between.store now → new.count ≤ between.count + (units + 1))
+    → units ≤ input.end - input.start - passes → AreCounted way m input (suc passes) old new
+counted_more way m input now passes units old between new before grown same pass begun few = record {
+  most = most_more passes (input.end - input.start) units old.count between.count new.count before.most pass few;
+  started = λ begins. (
+      let first : between.count + passes ≤ old.count + passes_most passes (input.end - input.start) =
+      before.started (λ k l. begins k (omega (arith, l))) in
+      let begin : KnowsItsStart way m between.store now =
+      subst (KnowsItsStart way m between.store) (sym same) (λ l. grown.starts _ (begins passes (omega arith) l)) in
+      let once : new.count ≤ between.count + (units + 1) = begun begin in
+      let one : passes_most (suc passes) (input.end - input.start) ≡ passes_most passes (input.end - input.start) + (input.end - input.start - passes + 2) = refl in
+      omega (arith, first, once, one, few)
+      );
+}
+
 module _ (way : Direction) (m : Machine) (input : Input) (old new : CacheView) where
   -- the passes before a span that the spans tried come to
   pub cost_before :
       (k : ℕ) → Tries (Finds way m) (Skips m) way input k → IsGrown old new
-      → new.count ≤ old.count + passes_most k (input.end - input.start) → IsCostOfPasses way m input k old new
+      → AreCounted way m input k old new → IsCostOfPasses way m input k old new
   cost_before k tries grown counted =
       record {
         tried = λ j less. (tries_before (Finds way m) (Skips m) way input j k (omega (arith, less)) tries, (tries.1 j less).0);
-        counted = counted;
-        room = λ room. clears_none old new (passes_most k (input.end - input.start)) grown counted room;
+        counted = counted.most;
+        started = counted.started;
+        room = λ room. clears_none old new (passes_most k (input.end - input.start)) grown counted.most room;
       }
 
   -- and the one over it
   pub cost_more :
-      (between : CacheView) (k units : ℕ) → Tries (Finds way m) (Skips m) way input k → input.start + k ≤ input.end
-      → IsGrown old between → between.count ≤ old.count + passes_most k (input.end - input.start)
-      → IsGrown between new → new.count ≤ between.count + (units + 2) → units ≤ input.end - input.start - k
+      (between : CacheView) (k : ℕ) → Tries (Finds way m) (Skips m) way input k → input.start + k ≤ input.end
+      → IsGrown old between → IsGrown between new → AreCounted way m input (suc k) old new
       → IsCostOfPasses way m input (suc k) old new
-  cost_more between k units tries within first before second pass few =
-      let counted : new.count ≤ old.count + passes_most (suc k) (input.end - input.start) =
-      most_more k (input.end - input.start) units old.count between.count new.count before pass few in
+  cost_more between k tries within first second counted =
       record {
         tried = λ j less. (tries_before (Finds way m) (Skips m) way input j k (omega (arith, less)) tries, omega (arith, less, within));
-        counted = counted;
-        room = λ room. clears_none old new (passes_most (suc k) (input.end - input.start)) (grown_trans old between new first second) counted room;
+        counted = counted.most;
+        started = counted.started;
+        room = λ room.
+            clears_none old new (passes_most (suc k) (input.end - input.start)) (grown_trans old between new first second) counted.most room;
       }
 
   -- one pass, where no place is skipped or the search is anchored

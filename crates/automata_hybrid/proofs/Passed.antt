@@ -206,6 +206,7 @@ pub pass_unstarted :
     → IsPassEffect {T = T} way m input old new (Err e)
 pass_unstarted way m input behind_at start_at old new e slots refused effect first second = record {
   counted = omega (arith, effect.counted);
+  started = λ begin. omega (arith, effect.counted);
   grown = effect.grown;
   known = λ knows. (
       let idle = start_idle m old new input.anchored (tape_in way input).before (Err e) behind_at start_at slots refused effect (λ may. (knows may).0) in
@@ -235,6 +236,11 @@ pub pass_rest :
     → IsPassEffect way m input old new result
 pass_rest way m input id old begun mid new result slots answer effect moved rest ended left = record {
   counted = omega (arith, effect.counted, same, rest.counted);
+  started = λ begin. (
+      let idle = start_idle m old begun input.anchored (tape_in way input).before (Ok id) 0 0 slots tt effect (λ may. begin) in
+      let here : begun.count ≡ old.count = ap (λ (v : CacheView). v.count) idle.0 in
+      omega (arith, here, same, rest.counted)
+      );
   grown = grown_trans old mid new before rest.grown;
   known = λ knows. (
       let idle = start_idle m old begun input.anchored (tape_in way input).before (Ok id) 0 0 slots tt effect (λ may. (knows may).0) in

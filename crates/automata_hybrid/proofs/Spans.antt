@@ -1,12 +1,12 @@
 -- What a search makes of its cache, span after span.
 use Rattle.std.proofs.Common.{ℕ, zero, suc, ◌≡◌, ◌∙◌, ◌+◌, ◌-◌, ◌<◌, ◌≤◌, refl, sym, subst, arith}
-use Rattle.std.specs.Prelude.{Ok, Err}
+use Rattle.std.specs.Prelude.{Result, Ok, Err}
 use Rattle.automata_base.specs.Answers.{Tries, later}
 use Rattle.automata_base.specs.Input.{Input}
 use Rattle.automata_base.specs.Tapes.{Direction, Forward, Backward}
 use Rattle.automata_config.specs.declared.error.SearchError.{SearchError}
 use Rattle.automata_hybrid.specs.Caches.{CacheView}
-use Rattle.automata_hybrid.specs.Costs.{IsCostOfPasses, passes_most}
+use Rattle.automata_hybrid.specs.Costs.{IsCostOfPasses}
 use Rattle.automata_hybrid.specs.Growing.{ClearedNothing, IsGrown}
 use Rattle.automata_hybrid.specs.Knowing.{Knows, KnowsPass}
 use Rattle.automata_hybrid.specs.Machine.{Machine}
@@ -14,7 +14,7 @@ use Rattle.automata_hybrid.specs.Owing.{IsSearchEffect}
 use Rattle.automata_hybrid.specs.Passed.{IsPassEffect}
 use Rattle.automata_hybrid.specs.Searched.{HasEnded, HaveEnded, IsLeft}
 use Rattle.automata_hybrid.specs.Searches.{Finds, Skips}
-use Rattle.automata_hybrid.proofs.Costing.{cost_before, cost_more, most_more}
+use Rattle.automata_hybrid.proofs.Costing.{AreCounted, cost_before, cost_more, counted_more}
 use Rattle.automata_hybrid.proofs.Growing.{grown_trans, nothing_first, nothing_second}
 use Rattle.automata_hybrid.proofs.Knowing.{LearnedSpans, search_still, spans_all, spans_more, spans_still}
 use Rattle.automata_hybrid.proofs.Searched.{spans_before, spans_tried}
@@ -40,7 +40,7 @@ module _ (way : Direction) (m : Machine) (input : Input) (k : ℕ) (tries : Trie
     (old between : CacheView) (grown : IsGrown old between)
     (known : Knows way m old.store input → between.count ≡ old.count)
     (learned : ClearedNothing old.store between.store → LearnedSpans way m between.store input k)
-    (counted : between.count ≤ old.count + passes_most k (input.end - input.start))
+    (counted : AreCounted way m input k old between)
     (ended : HaveEnded way m input k old.store between.store) where
   -- and tries no other one
   pub effect_before :
@@ -61,8 +61,16 @@ module _ (way : Direction) (m : Machine) (input : Input) (k : ℕ) (tries : Trie
     few : now.end - now.start ≤ input.end - input.start - k
     few = subst (λ (i : Input). i.end - i.start ≤ input.end - input.start - k) (sym same) (later_few way k input)
 
-    cost : IsGrown between new → new.count ≤ between.count + (now.end - now.start + 2) → IsCostOfPasses way m input (suc k) old new
-    cost after most = cost_more way m input old new between k (now.end - now.start) tries within grown counted after most few
+    counts :
+        {T : Type 0} {result : Result T SearchError} → IsPassEffect way m now between new result
+        → AreCounted way m input (suc k) old new
+    counts pass =
+        counted_more way m input now k (now.end - now.start) old between new counted grown same pass.counted pass.started few
+
+    cost :
+        {T : Type 0} {result : Result T SearchError} → IsPassEffect way m now between new result
+        → IsCostOfPasses way m input (suc k) old new
+    cost pass = cost_more way m input old new between k tries within grown pass.grown (counts pass)
 
     idle : Knows way m old.store input → KnowsPass way m between.store now
     idle knows =
@@ -81,16 +89,15 @@ module _ (way : Direction) (m : Machine) (input : Input) (k : ℕ) (tries : Trie
       pub spans_known : Knows way m old.store input → new.count ≡ old.count
       spans_known knows = (pass.known (idle knows)).0.0 ∙ known knows
 
-      pub spans_counted : new.count ≤ old.count + passes_most (suc k) (input.end - input.start)
-      spans_counted =
-          most_more k (input.end - input.start) (now.end - now.start) old.count between.count new.count counted pass.counted few
+      pub spans_counted : AreCounted way m input (suc k) old new
+      spans_counted = counts pass
 
       pub spans_ended : HaveEnded way m input (suc k) old.store new.store
       spans_ended =
           (between.store, ended, subst (λ (i : Input). HasEnded way m i between.store new.store) same pass.ended, pass.grown.clears)
 
       pub spans_cost : IsCostOfPasses way m input (suc k) old new
-      spans_cost = cost pass.grown pass.counted
+      spans_cost = cost pass
 
       -- which is the last one
       pub effect_after :
@@ -112,7 +119,7 @@ module _ (way : Direction) (m : Machine) (input : Input) (k : ℕ) (tries : Trie
         {T U : Type 0} (e : SearchError) → IsPassEffect {T = U} way m now between new (Err e)
         → IsSearchEffect {T = T} way m input old new (Err e)
     effect_refused e pass = record {
-      cost = (suc k, cost pass.grown pass.counted);
+      cost = (suc k, cost pass);
       grown = grown_trans old between new grown pass.grown;
       learned = λ nothing. tt;
       known = λ knows. (

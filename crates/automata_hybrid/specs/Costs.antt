@@ -1,10 +1,11 @@
 -- How often searches determinise, and when they clear nothing.
 use Rattle.std.specs.Prelude.{ℕ, zero, suc, ◌≡◌, ◌+◌, ◌-◌, ◌<◌, ◌≤◌}
-use Rattle.automata_base.specs.Answers.{Tries}
+use Rattle.automata_base.specs.Answers.{Tries, later}
 use Rattle.automata_base.specs.Input.{Input}
 use Rattle.automata_base.specs.Tapes.{Direction, Forward}
 use Rattle.automata_hybrid.specs.Caches.{CacheView}
 use Rattle.automata_hybrid.specs.Growing.{HasRoom}
+use Rattle.automata_hybrid.specs.Knowing.{KnowsItsStart}
 use Rattle.automata_hybrid.specs.Machine.{Machine}
 use Rattle.automata_hybrid.specs.Searches.{Finds, Skips}
 
@@ -20,6 +21,10 @@ pub record IsCostOfPasses (way : Direction) (m : Machine) (input : Input) (passe
   -- each is over a span that the search tries
   pub tried : (k : ℕ) → k < passes → Tries (Finds way m) (Skips m) way input k × (input.start + k ≤ input.end)
   pub counted : new.count ≤ old.count + passes_most passes (input.end - input.start)
+  -- a start that is known isn't determinised again: where those of all are, each pass determinises once less
+  pub started :
+      ((k : ℕ) → k < passes → KnowsItsStart way m old.store (later way k input))
+      → new.count + passes ≤ old.count + passes_most passes (input.end - input.start)
   -- where there is room for as many states, nothing is cleared
   pub room : HasRoom old.store (passes_most passes (input.end - input.start)) → new.store.clears ≡ old.store.clears
 

@@ -29,6 +29,8 @@ pub record IsPassEffect {T : Type 0} (way : Direction) (m : Machine) (input : In
     (result : Result T SearchError) : Type 0 where
   -- It determinised at most once for each byte of the span, for its start and at its end.
   pub counted : new.count ≤ old.count + (input.end - input.start + 2)
+  -- A start that is known isn't determinised again.
+  pub started : KnowsItsStart way m old.store input → new.count ≤ old.count + (input.end - input.start + 1)
   -- The cache has grown; where the pass cleared nothing, nothing is lost.
   pub grown : IsGrown old new
   -- With all known that it uses it takes no memory, and nothing changes but the progress of searches.

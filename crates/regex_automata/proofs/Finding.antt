@@ -41,7 +41,7 @@ pass_fewer few bytes old new l one grown =
 -- no pass costs nothing
 pub cost_none : (m : Machine) (input : Input) (c : CacheView) → IsCostOfSearch Forward m input c c
 cost_none m input c =
-    (0, record { tried = λ k l. absurd (omega (arith, l)); counted = omega arith; room = λ r. refl })
+    (0, record { tried = λ k l. absurd (omega (arith, l)); counted = omega arith; started = λ begins. omega arith; room = λ r. refl })
 
 yes_no : ◌≡◌ {A = Anchored} Yes No → ⊥
 yes_no e = cc

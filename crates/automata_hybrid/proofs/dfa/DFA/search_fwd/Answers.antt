@@ -7,9 +7,10 @@ use Rattle.automata_base.specs.Tapes.{Forward, is_split}
 use Rattle.automata_hybrid.specs.Searches.{Finds, IsFound, Skips, with_base}
 use Rattle.automata_hybrid.specs.Slots.{supports}
 use Rattle.automata_hybrid.specs.Growing.{ClearedNothing}
-use Rattle.automata_hybrid.specs.Costs.{IsCostOfPasses, passes_most}
+use Rattle.automata_hybrid.specs.Costs.{IsCostOfPasses}
 use Rattle.automata_hybrid.specs.Searched.{HaveEnded}
 use Rattle.automata_hybrid.proofs.Growing.{grown_trans}
+use Rattle.automata_hybrid.proofs.Costing.{AreCounted}
 use Rattle.automata_hybrid.proofs.Knowing.{LearnedSpans}
 use Rattle.automata_hybrid.proofs.Reading.{at_err}
 use Rattle.automata_hybrid.specs.Owing.{IsSearchEffect}
@@ -80,7 +81,7 @@ loop-later-preserved c =
       known = spans_known Forward c.args.self.now c.args.input.now k c.loop-later.invariant.tries c.args.cache.now c.loop-later.cache c.loop-later.invariant.grown c.loop-later.invariant.known c.loop-later.invariant.learned c.loop-later.invariant.bounded c.loop-later.invariant.progress c.loop-later.later same within c.pass_fwd.new.cache _ c.in_ok-half.ensures.effect;
       learned = subst (λ n. ClearedNothing c.args.cache.now.store c.pass_fwd.new.cache.store → LearnedSpans Forward c.args.self.now c.pass_fwd.new.cache.store c.args.input.now n) next
           (spans_learned Forward c.args.self.now c.args.input.now k c.loop-later.invariant.tries c.args.cache.now c.loop-later.cache c.loop-later.invariant.grown c.loop-later.invariant.known c.loop-later.invariant.learned c.loop-later.invariant.bounded c.loop-later.invariant.progress c.loop-later.later same within c.pass_fwd.new.cache _ c.in_ok-half.ensures.effect);
-      bounded = subst (λ n. c.pass_fwd.new.cache.count ≤ c.args.cache.now.count + passes_most n (c.args.input.now.end - c.args.input.now.start)) next
+      bounded = subst (λ n. AreCounted Forward c.args.self.now c.args.input.now n c.args.cache.now c.pass_fwd.new.cache) next
           (spans_counted Forward c.args.self.now c.args.input.now k c.loop-later.invariant.tries c.args.cache.now c.loop-later.cache c.loop-later.invariant.grown c.loop-later.invariant.known c.loop-later.invariant.learned c.loop-later.invariant.bounded c.loop-later.invariant.progress c.loop-later.later same within c.pass_fwd.new.cache _ c.in_ok-half.ensures.effect);
       done = λ e. absurd (omega (arith, e, start, c.loop-later.invariant.from));
       progress = subst (λ n. HaveEnded Forward c.args.self.now c.args.input.now n c.args.cache.now.store c.pass_fwd.new.cache.store) next
