@@ -98,14 +98,14 @@ module _ (way : Direction) (m : Machine) (c : Stored) (input : Input) (k : ℕ) 
       (behind_at start_at : ℕ) (e : SearchError)
       → IsStartRefusalAt m c (later way k input).anchored (tape_in way (later way k input)).before behind_at start_at e
       → e ≡ search.OutOfMemory
-  start_memory behind_at start_at e (start.Quit byte, r, told) =
+  start_memory behind_at start_at e (start.Quit byte, r, told, unknown) =
       let b : ((tape_in way (later way k input)).before ≡ Some byte) × (is_quit m.quits byte ≡ true) =
       is_behind m (tape_in way (later way k input)).before byte r in
       absurd (unquit byte (behind_reach way (later way k input) byte ahead.0 b.0) b.1)
-  start_memory behind_at start_at e (start.UnsupportedAnchored mode', r, told) =
+  start_memory behind_at start_at e (start.UnsupportedAnchored mode', r, told, unknown) =
       absurd (false_true (sym r.1 ∙ (ap (supports m) (later_mode way k input) ∙ mode)))
-  start_memory behind_at start_at e (start.Cache err, r, told) = absurd (no_limit m c _ same free r.1)
-  start_memory behind_at start_at e (start.OutOfMemory, r, told) = told
+  start_memory behind_at start_at e (start.Cache err, r, told, unknown) = absurd (no_limit m c _ same free r.1)
+  start_memory behind_at start_at e (start.OutOfMemory, r, told, unknown) = told
 
   step_memory :
       (j quit_at given_up_at : ℕ) (q : Powerset) (e : SearchError)

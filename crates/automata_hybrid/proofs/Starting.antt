@@ -74,11 +74,15 @@ pub refusal_at :
     (m : Machine) (mode : Anchored) (behind : Option ℕ) (behind_at start_at : ℕ) (old new : CacheView) (e : SearchError)
     → IsStartRefusedAt m mode behind behind_at start_at old new e
     → IsStartRefusalAt m new.store mode behind behind_at start_at e
-refusal_at m mode behind behind_at start_at old new e h =
-    (h.error, subst (λ (c : Stored). IsStartRefusal m c mode behind h.error) (sym (same h.refused.unchanged)) h.refused.why, h.told) where
-      same : (new ≡ old) ⊎ (new ≡ counted old) → new.store ≡ old.store
-      same (inl u) = ap (λ (v : CacheView). v.store) u
-      same (inr u) = ap (λ (v : CacheView). v.store) u
+refusal_at m mode behind behind_at start_at old new e h = (
+  h.error,
+  subst (λ (c : Stored). IsStartRefusal m c mode behind h.error) (sym (same h.refused.unchanged)) h.refused.why,
+  h.told,
+  λ knows. h.refused.unknown (subst (λ (c : Stored). KnowsStart m c mode behind) (same h.refused.unchanged) knows),
+) where
+  same : (new ≡ old) ⊎ (new ≡ counted old) → new.store ≡ old.store
+  same (inl u) = ap (λ (v : CacheView). v.store) u
+  same (inr u) = ap (λ (v : CacheView). v.store) u
 
 -- behind no quit byte, a mode that isn't supported is refused for that
 pub unsupported_at :

@@ -30,12 +30,12 @@ module _ (way : Direction) (m : Machine) (c : Stored) (input : Input)
   start_memory :
       (behind_at start_at : ℕ) (e : SearchError)
       → input.start ≤ input.end → IsStartRefusalAt m c input.anchored (tape_in way input).before behind_at start_at e → e ≡ search.OutOfMemory
-  start_memory behind_at start_at e l (start.Quit byte, r, told) =
+  start_memory behind_at start_at e l (start.Quit byte, r, told, unknown) =
       let b : ((tape_in way input).before ≡ Some byte) × (is_quit m.quits byte ≡ true) = is_behind m (tape_in way input).before byte r in
       absurd (unquit byte (behind_reach way input byte l b.0) b.1)
-  start_memory behind_at start_at e l (start.UnsupportedAnchored mode', r, told) = absurd (false_true (sym r.1 ∙ mode))
-  start_memory behind_at start_at e l (start.Cache err, r, told) = absurd (no_limit m c _ same free r.1)
-  start_memory behind_at start_at e l (start.OutOfMemory, r, told) = told
+  start_memory behind_at start_at e l (start.UnsupportedAnchored mode', r, told, unknown) = absurd (false_true (sym r.1 ∙ mode))
+  start_memory behind_at start_at e l (start.Cache err, r, told, unknown) = absurd (no_limit m c _ same free r.1)
+  start_memory behind_at start_at e l (start.OutOfMemory, r, told, unknown) = told
 
   step_memory :
       (j quit_at given_up_at : ℕ) (q : Powerset) (e : SearchError)

@@ -95,7 +95,8 @@ HasEnded way m input old new =
     (KeepsNone way input × KeepsProgress old new)
     ⊎ ((KeepsNone way input → ⊥) × EndsAtLast way m input old.searched old new)
 
--- a pass was refused: at its start, which leaves the progress as it was; or it has ended; or it is left open
+-- a pass was refused: at its start, which isn't known, and which leaves the progress as it was; or it has ended; or it
+-- is left open
 abbrev pub IsLeft : Direction → Machine → Input → (old new : Stored) → SearchError → Type 0
 IsLeft way m input old new e =
     (IsStartRefusalAt m new input.anchored (tape_in way input).before

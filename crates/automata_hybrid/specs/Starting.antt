@@ -75,10 +75,12 @@ search_refusal (start.Quit byte) behind at = search.Match (QuitAt byte behind)
 search_refusal (start.UnsupportedAnchored mode) behind at = search.Match (UnsupportedMode mode)
 search_refusal start.OutOfMemory behind at = search.OutOfMemory
 
--- why a search has no start state: why there is none, told with the offset of the byte behind or of the start
+-- why a search has no start state: why there is none, told with the offset of the byte behind or of the start; it isn't
+-- known
 abbrev pub IsStartRefusalAt : Machine → Stored → Anchored → Option ℕ → (behind_at start_at : ℕ) → SearchError → Type 0
 IsStartRefusalAt m c mode behind behind_at start_at e =
     (error : StartError) × IsStartRefusal m c mode behind error × (e ≡ search_refusal error behind_at start_at)
+    × (KnowsStart m c mode behind → ⊥)
 
 -- what the ID is that a start answers
 pub record IsStartAnswer (m : Machine) (mode : Anchored) (behind : Option ℕ) (old new : CacheView) (id : ℕ) :

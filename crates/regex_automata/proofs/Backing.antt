@@ -71,12 +71,12 @@ pass_free :
     (m : Machine) (c : Stored) (input : Input) (byte at : ℕ) → input.start ≤ input.end → input.end ≤ length input.haystack
     → MeetsNone (is_quit m.quits) (tape_in Backward input) (input.end - input.start)
     → IsPassRefusal Backward m c input (search.Match (QuitAt byte at)) → ⊥
-pass_free m c input byte at ahead few clean (inl (start.Quit b, why, told)) =
+pass_free m c input byte at ahead few clean (inl (start.Quit b, why, told, unknown)) =
     let q = quits_behind m (tape_in Backward input).before b why in
     false_true (sym (clean b (inl (sym q.0))) ∙ q.1)
-pass_free m c input byte at ahead few clean (inl (start.UnsupportedAnchored mode, why, told)) = cc
-pass_free m c input byte at ahead few clean (inl (start.Cache err, why, told)) = cc
-pass_free m c input byte at ahead few clean (inl (start.OutOfMemory, why, told)) = cc
+pass_free m c input byte at ahead few clean (inl (start.UnsupportedAnchored mode, why, told, unknown)) = cc
+pass_free m c input byte at ahead few clean (inl (start.Cache err, why, told, unknown)) = cc
+pass_free m c input byte at ahead few clean (inl (start.OutOfMemory, why, told, unknown)) = cc
 pass_free m c input byte at ahead few clean (inr r) =
     let n = units Backward input ahead few in
     let l : r.0 ≤ input.end - input.start = (let reads = r.2.0 in omega (arith, n, reads)) in
@@ -101,8 +101,8 @@ back_free law m rev c input half byte at same few ahead within f r = go r.1.0 wh
 
 -- no search alone tells that
 pub never_pair : (way : Direction) (m : Machine) (c : Stored) (input : Input) → IsRefused way m c input search.NotAPair → ⊥
-never_pair way m c input (k, tries, within, inl (start.Quit b, why, told)) = cc
-never_pair way m c input (k, tries, within, inl (start.UnsupportedAnchored mode, why, told)) = cc
-never_pair way m c input (k, tries, within, inl (start.Cache err, why, told)) = cc
-never_pair way m c input (k, tries, within, inl (start.OutOfMemory, why, told)) = cc
+never_pair way m c input (k, tries, within, inl (start.Quit b, why, told, unknown)) = cc
+never_pair way m c input (k, tries, within, inl (start.UnsupportedAnchored mode, why, told, unknown)) = cc
+never_pair way m c input (k, tries, within, inl (start.Cache err, why, told, unknown)) = cc
+never_pair way m c input (k, tries, within, inl (start.OutOfMemory, why, told, unknown)) = cc
 never_pair way m c input (k, tries, within, inr r) = absurd r.4
