@@ -29,3 +29,4 @@ pub mod Which
 pub mod Within
 pub mod Owing
 pub mod OwingWalks
+pub mod Resuming
