@@ -10,7 +10,7 @@ use Rattle.automata_hybrid.specs.OwingWalks.{IsCallEffect}
 use Rattle.automata_hybrid.specs.Resuming.{IsCallAnswer, IsCallRefused, resumed}
 use Rattle.automata_hybrid.specs.Searches.{tape_in}
 use Rattle.automata_hybrid.specs.Walking.{TellsNext}
-use Rattle.automata_hybrid.specs.Walks.{At, Ended, Fresh, Walk, ended_walk, way_of, with_match, without_match}
+use Rattle.automata_hybrid.specs.Walks.{At, Ended, Walk, ended_walk, way_of, with_match, without_match}
 use Rattle.automata_hybrid.proofs.KnowingWalks.{units_none}
 use Rattle.automata_hybrid.proofs.Resuming.{effect_none, effect_stuck, refused_stuck}
 use Rattle.automata_hybrid.proofs.WalkCalls.{ended_at, next_done, next_ended, next_read, next_same, undone}
