@@ -83,10 +83,6 @@ refused m c c' q unit quit_at at (Cache err) other same gives =
     (other, subst (λ (s : Stored). GivesUp s (successor m.nfa (match_kind_of m.config) q unit)) (sym same) (gives tt), refl)
 refused m c c' q unit quit_at at OutOfMemory other same gives = other
 
--- the end is no quit byte
-pub end_no_quit : (m : Machine) → IsNoQuit m None
-end_no_quit m byte e = absurd (none_some e)
-
 pub quit_bit : (s : ℕ) → s ≤ 512 → IsBitSet (quit_id s) 29
 quit_bit s l =
     let n : quit_id s ≡ 1 * 2 ^ 29 + 2 * s = omega arith in

@@ -20,6 +20,8 @@ pub mod Searched
 pub mod Costs
 pub mod Knowing
 pub mod Passing
+pub mod Reading
+pub mod Passed
 pub mod Walks
 pub mod Walking
 pub mod KnowingWalks

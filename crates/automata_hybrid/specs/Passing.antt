@@ -15,7 +15,8 @@ use Rattle.automata_config.specs.declared.error.StepError.TheVariants as step
 use Rattle.automata_config.specs.declared.error.SearchError.{SearchError}
 use Rattle.automata_config.specs.declared.error.SearchError.TheVariants as search
 use Rattle.automata_hybrid.specs.Machine.{Machine, table_stride}
-use Rattle.automata_hybrid.specs.Table.{Rows, Names, Leads}
+use Rattle.automata_hybrid.specs.Ids.{offset_limit}
+use Rattle.automata_hybrid.specs.Table.{IsValid, Rows, Names, Leads}
 use Rattle.automata_hybrid.specs.Searches.{HasReadNoQuit, Reads, tape_in, state_in, told_in}
 use Rattle.automata_hybrid.specs.Stores.{Stored}
 use Rattle.automata_hybrid.specs.Knowing.{KnowsItsStart, KnowsUnit}
@@ -63,6 +64,16 @@ pub record IsQuiet (way : Direction) (m : Machine) (c : Stored) (input : Input) 
   pub clean : (byte : ℕ) → next (tape_in way input) k ≡ Some byte → is_quit m.quits byte ≡ false
   pub known : HasLearnedUnit way m c input k
   pub silent : (state_in way m input (suc k)).patterns ≡ []
+
+-- an offset lies between two others
+pub record IsBetween (low high at : ℕ) : Type 0 where
+  pub from : low ≤ at
+  pub upto : at ≤ high
+
+-- some row has exactly this ID, which has no tag
+pub record IsUntagged (t : Rows) (id : ℕ) : Type 0 where
+  pub valid : IsValid t id
+  pub untagged : id < offset_limit
 
 -- known transitions led a pass from its first `from` units on, to this ID behind its first `to`; none of them told
 -- anything

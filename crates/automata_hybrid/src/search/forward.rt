@@ -1,25 +1,23 @@
 ghost use Rattle.std.specs.Prelude.{◌≡◌, ◌+◌, ◌-◌, ◌<◌, ◌≤◌, ◌⊎◌, IfOk, IfErr, IfSome, IsBitSet, IsTrue, OnOk, Option};
-ghost use Rattle.std.specs.Prelude.{None, Err, Ok, true, false, option_map};
+ghost use Rattle.std.specs.Prelude.{None, Err, Ok, true, false};
 ghost use Rattle.automata_base.specs.Matches as matches;
-ghost use Rattle.automata_base.specs.Tapes.{Forward, byte_before};
-ghost use Rattle.automata_base.specs.declared.util.search.MatchErrorKind.TheVariants.{UnsupportedAnchored as UnsupportedMode};
+ghost use Rattle.automata_base.specs.Tapes.{Forward};
 ghost use Rattle.automata_hybrid.specs.Caches.{IsCacheOf};
-ghost use Rattle.automata_hybrid.specs.Costs.{IsCostOfSearch, IsCostUpto};
-ghost use Rattle.automata_hybrid.specs.Growing.{IsGrown, ClearedNothing};
+ghost use Rattle.automata_hybrid.specs.Costs.{IsCostUpto};
 ghost use Rattle.automata_hybrid.specs.Ids.{fixed_from, offset_limit};
-ghost use Rattle.automata_hybrid.specs.Knowing.{IsOfInput, KnowsItsStart, KnowsPass, Knows};
-ghost use Rattle.automata_hybrid.specs.Owing.{IsBased, IsHalf, IsSearchEffect};
-ghost use Rattle.automata_hybrid.specs.Passing.{HasLearned, HasLearnedAll, IsAt, IsFollowed, IsLed, found_over};
+ghost use Rattle.automata_hybrid.specs.Owing.{IsBased, IsHalf, IsSearchEffect, IsUnsupported, based_half};
+ghost use Rattle.automata_hybrid.specs.Owing.{unsupported_error};
+ghost use Rattle.automata_hybrid.specs.Passed.{IsPassAnswer, IsPassEffect, IsRestEffect, IsUnderway};
+ghost use Rattle.automata_hybrid.specs.Passing.{HasLearned, IsAt, IsBetween, IsFollowed, IsLed, IsUntagged};
 ghost use Rattle.automata_base.specs.Paths.{next};
 ghost use Rattle.automata_base.specs.Powerset.{Powerset, dead};
 ghost use Rattle.automata_hybrid.specs.Progressing.{started};
-ghost use Rattle.automata_hybrid.specs.Searched.{EndsAtLast, EndsProgress, HasEnded, IsEndedBy, IsLeft, IsLeftAt};
-ghost use Rattle.automata_hybrid.specs.Searched.{IsLeftOpen, LeavesProgress};
+ghost use Rattle.automata_hybrid.specs.Reading.{IsEndProgress};
+ghost use Rattle.automata_hybrid.specs.Searched.{EndsAtLast};
+ghost use Rattle.automata_hybrid.specs.Searched.{IsLeftOpen};
 ghost use Rattle.automata_hybrid.specs.declared.dfa.progress.Searched.{Searched};
-ghost use Rattle.automata_hybrid.specs.Searches.{given_up_offset, IsFound, IsPassRefusal, IsRefused, MeetsNoQuit};
-ghost use Rattle.automata_hybrid.specs.Searches.{state_in, tape_in, with_base};
-ghost use Rattle.automata_hybrid.specs.Slots.{supports};
-ghost use Rattle.automata_hybrid.specs.Starting.{MayStart, quit_behind};
+ghost use Rattle.automata_hybrid.specs.Searches.{given_up_offset, IsFound, IsPassRefusal, IsRefused};
+ghost use Rattle.automata_hybrid.specs.Searches.{state_in, tape_in};
 ghost use Rattle.automata_hybrid.specs.Table.{IsValid, Names};
 
 use crate::dfa::DFA;
@@ -90,21 +88,12 @@ impl DFA {
     ) -> Result<Option<(HalfMatch, usize)>, SearchError>
         requires { IsCacheOf cache.old self.now }
         ensures of { IsCacheOf cache.new self.now }
-        ensures found { IfOk result (λ o. IsFound Forward self.now input.now (option_map (λ p. with_base p.0 p.1) o)) }
+        ensures found { IfOk result (λ o. IsFound Forward self.now input.now (based_half o)) }
         ensures refusal { IfErr result (IsRefused Forward self.now cache.new.store input.now) }
-        ensures cost { IsCostOfSearch Forward self.now input.now cache.old cache.new }
+        ensures effect { IsSearchEffect Forward self.now input.now cache.old cache.new result }
         ensures upto { IfOk result (λ o. IfSome o (λ p. IsCostUpto self.now input.now p.1 cache.old cache.new)) }
-        ensures unsupported { input.now.start ≤ input.now.end → quit_behind self.now
-            (byte_before input.now.haystack input.now.start) ≡ None → supports self.now input.now.anchored ≡ false
-            → result ≡ Err (SearchError.Match (UnsupportedMode input.now.anchored)) }
-        ensures grown { IsGrown cache.old cache.new }
-        ensures known { Knows Forward self.now cache.old.store input.now
-            → (cache.new.count ≡ cache.old.count) × IfErr result IsOfInput }
-        ensures learned { ClearedNothing cache.old.store cache.new.store
-            → OnOk result (Knows Forward self.now cache.new.store input.now) }
-        ensures done { input.now.end < input.now.start → (result ≡ Ok None) × (cache.new ≡ cache.old) }
-        ensures ended { OnOk result (EndsProgress Forward self.now input.now cache.old.store cache.new.store) }
-        ensures left { IfErr result (LeavesProgress Forward self.now input.now cache.old.store cache.new.store) }
+        ensures unsupported { IsUnsupported Forward self.now input.now → result ≡ Err (unsupported_error input.now) }
+        ensures done { input.now.end < input.now.start → result ≡ Ok None }
     {
         let mut later = with_span(input, input.start(), input.end());
         while !later.is_done() {
@@ -131,21 +120,10 @@ impl DFA {
         requires of { IsCacheOf cache.old self.now }
         requires open { input.now.start ≤ input.now.end }
         ensures of { IsCacheOf cache.new self.now }
-        ensures found { IfOk result (λ o. o ≡ found_over Forward self.now input.now) }
-        ensures clean { OnOk result (MeetsNoQuit Forward self.now input.now) }
+        ensures answer { IfOk result (IsPassAnswer Forward self.now input.now) }
         ensures refusal { IfErr result (IsPassRefusal Forward self.now cache.new.store input.now) }
-        ensures counted { cache.new.count ≤ cache.old.count + (input.now.end - input.now.start + 2) }
-        ensures grown { IsGrown cache.old cache.new }
-        ensures known { KnowsPass Forward self.now cache.old.store input.now
-            → (cache.new.count ≡ cache.old.count) × IfErr result IsOfInput }
-        ensures learned { ClearedNothing cache.old.store cache.new.store
-            → OnOk result (HasLearnedAll Forward self.now cache.new.store input.now) }
-        ensures unsupported { quit_behind self.now (byte_before input.now.haystack input.now.start) ≡ None
-            → supports self.now input.now.anchored ≡ false
-            → result ≡ Err (SearchError.Match (UnsupportedMode input.now.anchored)) }
-        ensures supported { OnOk result (supports self.now input.now.anchored ≡ true) }
-        ensures ended { OnOk result (HasEnded Forward self.now input.now cache.old.store cache.new.store) }
-        ensures left { IfErr result (IsLeft Forward self.now input.now cache.old.store cache.new.store) }
+        ensures unsupported { IsUnsupported Forward self.now input.now → result ≡ Err (unsupported_error input.now) }
+        ensures effect { IsPassEffect Forward self.now input.now cache.old cache.new result }
     {
         cache.see_slots();
         let start = self.start_state_forward(cache, input)?;
@@ -243,14 +221,11 @@ impl DFA {
         from: LazyStateID,
     ) -> Stop
         requires of { IsCacheOf cache.now self.now }
-        requires valid { IsValid cache.now.store.table from }
-        requires untagged { from < offset_limit }
+        requires untagged { IsUntagged cache.now.store.table from }
         requires from { input.now.start ≤ start }
         requires within { start + 4 ≤ input.now.end }
-        ensures from { start ≤ result.at }
-        ensures within { result.at ≤ start + 4 }
-        ensures valid { IsValid cache.now.store.table result.id }
-        ensures untagged { result.id < offset_limit }
+        ensures at { IsBetween start (start + 4) result.at }
+        ensures untagged { IsUntagged cache.now.store.table result.id }
         ensures followed { Names cache.now.store.table from (state_in Forward self.now input.now
             (start - input.now.start))
             → IsFollowed Forward self.now cache.now.store input.now
@@ -449,10 +424,8 @@ impl DFA {
         requires of { IsCacheOf cache.now self.now }
         requires valid { IsValid cache.now.store.table from }
         requires from { input.now.start ≤ start }
-        requires within { start ≤ end }
-        requires end { end ≤ input.now.end }
-        ensures from { start ≤ result.at }
-        ensures within { result.at ≤ end }
+        requires end { IsBetween start input.now.end end }
+        ensures at { IsBetween start end result.at }
         ensures valid { IsValid cache.now.store.table result.id }
         ensures led { Names cache.now.store.table from (state_in Forward self.now input.now (start - input.now.start))
             → IsLed Forward self.now cache.now.store input.now
@@ -603,20 +576,11 @@ impl DFA {
         start: LazyStateID,
     ) -> Result<Option<HalfMatch>, SearchError>
         requires of { IsCacheOf cache.old self.now }
-        requires named { Names cache.old.store.table start (state_in Forward self.now input.now 0) }
-        requires may { MayStart self.now input.now.anchored (tape_in Forward input.now).before }
-        requires open { input.now.start ≤ input.now.end }
+        requires at { IsUnderway Forward self.now cache.old.store.table input.now 0 start None }
         ensures of { IsCacheOf cache.new self.now }
-        ensures found { IfOk result (λ o. o ≡ found_over Forward self.now input.now) }
-        ensures clean { OnOk result (MeetsNoQuit Forward self.now input.now) }
+        ensures answer { IfOk result (IsPassAnswer Forward self.now input.now) }
         ensures refusal { IfErr result (IsPassRefusal Forward self.now cache.new.store input.now) }
-        ensures counted { cache.new.count ≤ cache.old.count + (input.now.end - input.now.start + 1) }
-        ensures grown { IsGrown cache.old cache.new }
-        ensures known { KnowsPass Forward self.now cache.old.store input.now
-            → (cache.new.count ≡ cache.old.count) × IfErr result IsOfInput }
-        ensures learned { KnowsItsStart Forward self.now cache.old.store input.now
-            → ClearedNothing cache.old.store cache.new.store
-            → OnOk result (HasLearnedAll Forward self.now cache.new.store input.now) }
+        ensures effect { IsRestEffect Forward self.now input.now 0 cache.old cache.new result }
         ensures ended { (before : Searched)
             → cache.old.store.searched ≡ started before (given_up_offset Forward input.now 0)
             → OnOk result (EndsAtLast Forward self.now input.now before cache.old.store cache.new.store) }
@@ -660,26 +624,17 @@ impl DFA {
         found: Option<HalfMatch>,
     ) -> Result<Option<HalfMatch>, SearchError>
         requires of { IsCacheOf cache.old self.now }
-        requires open { input.now.start ≤ input.now.end }
-        requires may { MayStart self.now input.now.anchored (tape_in Forward input.now).before }
-        requires at { IsAt Forward self.now cache.old.store.table input.now (input.now.end - input.now.start) id found }
+        requires at { IsUnderway Forward self.now cache.old.store.table input.now (input.now.end - input.now.start) id
+            found }
         ensures of { IsCacheOf cache.new self.now }
-        ensures found { IfOk result (λ o. o ≡ found_over Forward self.now input.now) }
-        ensures clean { OnOk result (MeetsNoQuit Forward self.now input.now) }
+        ensures answer { IfOk result (IsPassAnswer Forward self.now input.now) }
         ensures refusal { IfErr result (IsPassRefusal Forward self.now cache.new.store input.now) }
-        ensures counted { cache.new.count ≤ cache.old.count + 1 }
-        ensures grown { IsGrown cache.old cache.new }
-        ensures known { KnowsPass Forward self.now cache.old.store input.now
-            → (cache.new.count ≡ cache.old.count) × IfErr result IsOfInput }
-        ensures learned { KnowsItsStart Forward self.now cache.old.store input.now
-            → HasLearned Forward self.now cache.old.store input.now (input.now.end - input.now.start)
-            → ClearedNothing cache.old.store cache.new.store
-            → OnOk result (HasLearnedAll Forward self.now cache.new.store input.now) }
+        ensures effect { IsRestEffect Forward self.now input.now (input.now.end - input.now.start) cache.old cache.new
+            result }
         ensures alive { (q : Powerset) → Names cache.old.store.table id q → q ≡ dead → ⊥ }
-        ensures ended { OnOk result (IsEndedBy input.now.end cache.old.store cache.new.store) }
-        ensures left { IfErr result (IsLeftAt self.now
+        ensures progress { IsEndProgress self.now
             (next (tape_in Forward input.now) (input.now.end - input.now.start)) input.now.end
-            cache.old.store cache.new.store) }
+            cache.old.store cache.new.store result }
     {
         let end = input.end();
         if end < input.haystack().len() {

@@ -1,22 +1,17 @@
-ghost use Rattle.std.specs.Prelude.{ℕ, ◌≡◌, IsBitSet, slice_index, ◌+◌, ◌^◌, ◌<◌, ◌≤◌, ◌↔◌, ◌⊎◌, IfOk, IfErr, OnOk};
-ghost use Rattle.std.specs.Prelude.{IsTrue, Some, None, true, false};
-ghost use Rattle.automata_base.specs.Classes.{class_in, eoi_class, is_quit};
+ghost use Rattle.std.specs.Prelude.{◌≡◌, IsBitSet, slice_index, ◌<◌, IfOk, IfErr};
+ghost use Rattle.std.specs.Prelude.{Some, None, true, false};
 ghost use Rattle.automata_base.specs.Input.{Allows};
-ghost use Rattle.automata_base.specs.Powerset.{Powerset, dead};
-ghost use Rattle.automata_base.specs.Steps.{successor};
-ghost use Rattle.automata_hybrid.specs.Stores.{IsKnownTransition};
+ghost use Rattle.automata_base.specs.Powerset.{Powerset};
 ghost use Rattle.automata_hybrid.specs.Caches.{IsCacheOf};
-ghost use Rattle.automata_hybrid.specs.Growing.{IsGrown, ClearedNothing, KeepsProgress};
-ghost use Rattle.automata_hybrid.specs.Knowing.{IsOfInput};
-ghost use Rattle.automata_hybrid.specs.Ids.{quit_id};
+ghost use Rattle.automata_hybrid.specs.Growing.{KeepsProgress};
 ghost use Rattle.automata_base.specs.Tapes.{is_split};
 ghost use Rattle.automata_hybrid.specs.Passing.{IsDeadTagged, half_at, step_refusal};
-ghost use Rattle.automata_hybrid.specs.Searched.{IsLeftAt, IsMovedTo, IsOfRoom};
-ghost use Rattle.automata_hybrid.specs.Searches.{Skips, IsStepRefusal};
+ghost use Rattle.automata_hybrid.specs.Reading.{IsReadAnswer, IsReadEffect, IsReadProgress, IsReadRefusal};
+ghost use Rattle.automata_hybrid.specs.Reading.{IsStepRefusedAt};
+ghost use Rattle.automata_hybrid.specs.Searches.{Skips};
 ghost use Rattle.automata_base.specs.declared.util.search.MatchErrorKind.TheVariants.{Quit as QuitAt};
+ghost use Rattle.automata_hybrid.specs.Stepping.{IsStepAnswer, IsStepEffect};
 ghost use Rattle.automata_hybrid.specs.Table.{IsValid, Leads, Names};
-ghost use Rattle.automata_config.specs.Options.{match_kind_of};
-ghost use Rattle.automata_hybrid.specs.Machine.{table_stride};
 
 mod forward;
 mod overlapping;
@@ -129,22 +124,10 @@ impl DFA {
         requires of { IsCacheOf cache.old self.now }
         requires valid { IsValid cache.old.store.table id }
         ensures of { IsCacheOf cache.new self.now }
-        ensures counted { cache.new.count ≤ cache.old.count + 1 }
-        ensures grown { IsGrown cache.old cache.new }
-        ensures known { IsKnownTransition cache.old.store id (class_in self.now.classes byte)
-            → (cache.new ≡ cache.old) × IfErr result (λ e. ⊥) }
-        ensures learned { ClearedNothing cache.old.store cache.new.store
-            → OnOk result (IsKnownTransition cache.new.store id (class_in self.now.classes byte)) }
-        ensures quit { IfOk result (λ n. is_quit self.now.quits byte ≡ true → n ≡ quit_id (table_stride self.now)) }
-        ensures named { IfOk result (λ n. is_quit self.now.quits byte ≡ false → (q : Powerset)
-            → Names cache.old.store.table id q → Leads cache.new.store.table n
-            (successor self.now.nfa (match_kind_of self.now.config) q (Some byte))) }
-        ensures refusal { IfErr result (λ e. (q : Powerset) (quit_at : ℕ) → Names cache.old.store.table id q
-            → IsStepRefusal self.now cache.new.store q (Some byte) quit_at at e) }
-        ensures room { IfErr result (IsOfRoom at) }
-        ensures progress { KeepsProgress cache.old.store cache.new.store }
+        ensures answer { IfOk result (IsStepAnswer self.now id (Some byte) cache.old cache.new) }
+        ensures refusal { IfErr result (IsStepRefusedAt self.now id (Some byte) at cache.old cache.new) }
+        ensures effect { IsStepEffect self.now id (Some byte) cache.old cache.new }
     {
-        cache.see_ids();
         match self.next_state(cache, id, byte) {
             Ok(next) => Ok(next),
             Err(error) => Err(refusal(error, at)),
@@ -163,22 +146,11 @@ impl DFA {
         requires of { IsCacheOf cache.old self.now }
         requires valid { IsValid cache.old.store.table id }
         ensures of { IsCacheOf cache.new self.now }
-        ensures counted { cache.new.count ≤ cache.old.count + 1 }
-        ensures named { IfOk result (λ n. (q : Powerset) → Names cache.old.store.table id q
-            → Leads cache.new.store.table n (successor self.now.nfa (match_kind_of self.now.config) q (Some byte))) }
+        ensures answer { IfOk result (IsReadAnswer self.now id (Some byte) cache.old cache.new) }
         ensures dead { IfOk result (IsDeadTagged cache.new.store.table) }
-        ensures alive { (q : Powerset) → Names cache.old.store.table id q → q ≡ dead → ⊥ }
-        ensures clean { OnOk result (is_quit self.now.quits byte ≡ false) }
-        ensures refusal { IfErr result (λ e. (q : Powerset) → Names cache.old.store.table id q
-            → IsStepRefusal self.now cache.new.store q (Some byte) at at e) }
-        ensures grown { IsGrown cache.old cache.new }
-        ensures known { IsKnownTransition cache.old.store id (class_in self.now.classes byte)
-            → (cache.new.count ≡ cache.old.count) × IfErr result IsOfInput }
-        ensures learned { ClearedNothing cache.old.store cache.new.store
-            → OnOk result (IsKnownTransition cache.new.store id (class_in self.now.classes byte)) }
-        ensures below { class_in self.now.classes byte < table_stride self.now }
-        ensures moved { OnOk result (IsMovedTo at cache.old.store cache.new.store) }
-        ensures left { IfErr result (IsLeftAt self.now (Some byte) at cache.old.store cache.new.store) }
+        ensures refusal { IfErr result (IsReadRefusal self.now id (Some byte) at at cache.old cache.new) }
+        ensures effect { IsReadEffect self.now id (Some byte) cache.old cache.new result }
+        ensures progress { IsReadProgress self.now (Some byte) at cache.old.store cache.new.store result }
     {
         self.see_classes();
         cache.see_ids();
@@ -202,19 +174,9 @@ impl DFA {
         requires of { IsCacheOf cache.old self.now }
         requires valid { IsValid cache.old.store.table id }
         ensures of { IsCacheOf cache.new self.now }
-        ensures counted { cache.new.count ≤ cache.old.count + 1 }
-        ensures named { IfOk result (λ n. (q : Powerset) → Names cache.old.store.table id q
-            → Leads cache.new.store.table n (successor self.now.nfa (match_kind_of self.now.config) q None)) }
-        ensures alive { (q : Powerset) → Names cache.old.store.table id q → q ≡ dead → ⊥ }
-        ensures refusal { IfErr result (λ e. (q : Powerset) → Names cache.old.store.table id q
-            → IsStepRefusal self.now cache.new.store q None at at e) }
-        ensures grown { IsGrown cache.old cache.new }
-        ensures known { IsKnownTransition cache.old.store id (eoi_class self.now.classes)
-            → (cache.new.count ≡ cache.old.count) × IfErr result IsOfInput }
-        ensures learned { ClearedNothing cache.old.store cache.new.store
-            → OnOk result (IsKnownTransition cache.new.store id (eoi_class self.now.classes)) }
-        ensures below { eoi_class self.now.classes < table_stride self.now }
-        ensures room { IfErr result (IsOfRoom at) }
+        ensures answer { IfOk result (IsReadAnswer self.now id None cache.old cache.new) }
+        ensures refusal { IfErr result (IsReadRefusal self.now id None at at cache.old cache.new) }
+        ensures effect { IsReadEffect self.now id None cache.old cache.new result }
         ensures progress { KeepsProgress cache.old.store cache.new.store }
     {
         self.see_classes();

@@ -1,31 +1,21 @@
 ghost use Rattle.std.specs.Prelude.{◌≡◌, ◌+◌, ◌-◌, ◌<◌, ◌≤◌, ◌⊎◌, IfOk, IfErr, IsBitSet, IsTrue, OnOk, Option, None};
 ghost use Rattle.std.specs.Prelude.{Some, true, false, Err, Ok};
-ghost use Rattle.automata_base.specs.Classes.{class_in, is_quit};
-ghost use Rattle.automata_base.specs.Lists.{nth};
 ghost use Rattle.automata_base.specs.Matches as matches;
 ghost use Rattle.automata_base.specs.Powerset.{Powerset, dead};
-ghost use Rattle.automata_base.specs.Steps.{successor};
 ghost use Rattle.automata_base.specs.Tapes.{Backward};
-ghost use Rattle.automata_base.specs.declared.util.search.MatchErrorKind.TheVariants.{UnsupportedAnchored as UnsupportedMode};
-ghost use Rattle.automata_hybrid.specs.Stores.{IsKnownTransition};
 ghost use Rattle.automata_hybrid.specs.Caches.{IsCacheOf};
-ghost use Rattle.automata_hybrid.specs.Costs.{IsCostOfSearch};
-ghost use Rattle.automata_hybrid.specs.Growing.{IsGrown, ClearedNothing, KeepsProgress};
+ghost use Rattle.automata_hybrid.specs.Growing.{KeepsProgress};
 ghost use Rattle.automata_hybrid.specs.Ids.{fixed_from, offset_limit};
-ghost use Rattle.automata_hybrid.specs.Knowing.{IsOfInput, KnowsItsStart, KnowsPass, Knows};
-ghost use Rattle.automata_hybrid.specs.Owing.{IsHalf, IsSearchEffect};
-ghost use Rattle.automata_hybrid.specs.Passing.{HasLearned, HasLearnedAll, IsAt, IsFollowed, IsLed, found_over};
+ghost use Rattle.automata_hybrid.specs.Owing.{IsHalf, IsSearchEffect, IsUnsupported, unsupported_error};
+ghost use Rattle.automata_hybrid.specs.Passed.{IsPassAnswer, IsPassEffect, IsRestEffect, IsUnderway};
+ghost use Rattle.automata_hybrid.specs.Passing.{HasLearned, IsAt, IsBetween, IsFollowed, IsLed, IsUntagged};
 ghost use Rattle.automata_hybrid.specs.Progressing.{started};
-ghost use Rattle.automata_hybrid.specs.Searched.{EndsAtLast, EndsProgress, HasEnded, IsLeft, IsLeftOpen};
-ghost use Rattle.automata_hybrid.specs.Searched.{LeavesProgress};
+ghost use Rattle.automata_hybrid.specs.Reading.{IsReadAnswer, IsReadEffect, IsReadRefusal};
+ghost use Rattle.automata_hybrid.specs.Searched.{EndsAtLast, IsLeftOpen};
 ghost use Rattle.automata_hybrid.specs.declared.dfa.progress.Searched.{Searched};
-ghost use Rattle.automata_hybrid.specs.Searches.{given_up_offset, IsFound, IsPassRefusal, IsRefused, IsStepRefusal};
-ghost use Rattle.automata_hybrid.specs.Searches.{MeetsNoQuit, WithoutBase, state_in, tape_in};
-ghost use Rattle.automata_hybrid.specs.Slots.{supports};
-ghost use Rattle.automata_hybrid.specs.Starting.{MayStart, quit_behind};
-ghost use Rattle.automata_hybrid.specs.Table.{IsValid, Leads, Names};
-ghost use Rattle.automata_config.specs.Options.{match_kind_of};
-ghost use Rattle.automata_hybrid.specs.Machine.{table_stride};
+ghost use Rattle.automata_hybrid.specs.Searches.{given_up_offset, IsFound, IsPassRefusal, IsRefused};
+ghost use Rattle.automata_hybrid.specs.Searches.{WithoutBase, state_in};
+ghost use Rattle.automata_hybrid.specs.Table.{IsValid, Names};
 
 use crate::dfa::DFA;
 use crate::dfa::cache::Cache;
@@ -76,18 +66,9 @@ impl DFA {
         ensures of { IsCacheOf cache.new self.now }
         ensures found { IfOk result (WithoutBase (IsFound Backward self.now input.now)) }
         ensures refusal { IfErr result (IsRefused Backward self.now cache.new.store input.now) }
-        ensures cost { IsCostOfSearch Backward self.now input.now cache.old cache.new }
-        ensures unsupported { input.now.start ≤ input.now.end → quit_behind self.now
-            (nth input.now.haystack input.now.end) ≡ None → supports self.now input.now.anchored ≡ false
-            → result ≡ Err (SearchError.Match (UnsupportedMode input.now.anchored)) }
-        ensures grown { IsGrown cache.old cache.new }
-        ensures known { Knows Backward self.now cache.old.store input.now
-            → (cache.new.count ≡ cache.old.count) × IfErr result IsOfInput }
-        ensures learned { ClearedNothing cache.old.store cache.new.store
-            → OnOk result (Knows Backward self.now cache.new.store input.now) }
-        ensures done { input.now.end < input.now.start → (result ≡ Ok None) × (cache.new ≡ cache.old) }
-        ensures ended { OnOk result (EndsProgress Backward self.now input.now cache.old.store cache.new.store) }
-        ensures left { IfErr result (LeavesProgress Backward self.now input.now cache.old.store cache.new.store) }
+        ensures effect { IsSearchEffect Backward self.now input.now cache.old cache.new result }
+        ensures unsupported { IsUnsupported Backward self.now input.now → result ≡ Err (unsupported_error input.now) }
+        ensures done { input.now.end < input.now.start → result ≡ Ok None }
     {
         let mut later = with_span(input, input.start(), input.end());
         while !later.is_done() {
@@ -117,21 +98,10 @@ impl DFA {
         requires of { IsCacheOf cache.old self.now }
         requires open { input.now.start ≤ input.now.end }
         ensures of { IsCacheOf cache.new self.now }
-        ensures found { IfOk result (λ o. o ≡ found_over Backward self.now input.now) }
-        ensures clean { OnOk result (MeetsNoQuit Backward self.now input.now) }
+        ensures answer { IfOk result (IsPassAnswer Backward self.now input.now) }
         ensures refusal { IfErr result (IsPassRefusal Backward self.now cache.new.store input.now) }
-        ensures counted { cache.new.count ≤ cache.old.count + (input.now.end - input.now.start + 2) }
-        ensures grown { IsGrown cache.old cache.new }
-        ensures known { KnowsPass Backward self.now cache.old.store input.now
-            → (cache.new.count ≡ cache.old.count) × IfErr result IsOfInput }
-        ensures learned { ClearedNothing cache.old.store cache.new.store
-            → OnOk result (HasLearnedAll Backward self.now cache.new.store input.now) }
-        ensures unsupported { quit_behind self.now (nth input.now.haystack input.now.end) ≡ None
-            → supports self.now input.now.anchored ≡ false
-            → result ≡ Err (SearchError.Match (UnsupportedMode input.now.anchored)) }
-        ensures supported { OnOk result (supports self.now input.now.anchored ≡ true) }
-        ensures ended { OnOk result (HasEnded Backward self.now input.now cache.old.store cache.new.store) }
-        ensures left { IfErr result (IsLeft Backward self.now input.now cache.old.store cache.new.store) }
+        ensures unsupported { IsUnsupported Backward self.now input.now → result ≡ Err (unsupported_error input.now) }
+        ensures effect { IsPassEffect Backward self.now input.now cache.old cache.new result }
     {
         cache.see_slots();
         let start = self.start_state_reverse(cache, input)?;
@@ -235,14 +205,11 @@ impl DFA {
         from: LazyStateID,
     ) -> Stop
         requires of { IsCacheOf cache.now self.now }
-        requires valid { IsValid cache.now.store.table from }
-        requires untagged { from < offset_limit }
+        requires untagged { IsUntagged cache.now.store.table from }
         requires from { input.now.start + 4 ≤ start }
         requires within { start ≤ input.now.end }
-        ensures from { start ≤ result.at + 4 }
-        ensures within { result.at ≤ start }
-        ensures valid { IsValid cache.now.store.table result.id }
-        ensures untagged { result.id < offset_limit }
+        ensures at { IsBetween (start - 4) start result.at }
+        ensures untagged { IsUntagged cache.now.store.table result.id }
         ensures followed { Names cache.now.store.table from (state_in Backward self.now input.now
             (input.now.end - start))
             → IsFollowed Backward self.now cache.now.store input.now
@@ -436,11 +403,9 @@ impl DFA {
     ) -> Stop
         requires of { IsCacheOf cache.now self.now }
         requires valid { IsValid cache.now.store.table from }
-        requires first { input.now.start ≤ first }
-        requires from { first ≤ start }
+        requires first { IsBetween input.now.start start first }
         requires within { start ≤ input.now.end }
-        ensures from { first ≤ result.at }
-        ensures within { result.at ≤ start }
+        ensures at { IsBetween first start result.at }
         ensures valid { IsValid cache.now.store.table result.id }
         ensures led { Names cache.now.store.table from (state_in Backward self.now input.now (input.now.end - start))
             → IsLed Backward self.now cache.now.store input.now
@@ -591,20 +556,11 @@ impl DFA {
         start: LazyStateID,
     ) -> Result<Option<HalfMatch>, SearchError>
         requires of { IsCacheOf cache.old self.now }
-        requires named { Names cache.old.store.table start (state_in Backward self.now input.now 0) }
-        requires may { MayStart self.now input.now.anchored (tape_in Backward input.now).before }
-        requires open { input.now.start ≤ input.now.end }
+        requires at { IsUnderway Backward self.now cache.old.store.table input.now 0 start None }
         ensures of { IsCacheOf cache.new self.now }
-        ensures found { IfOk result (λ o. o ≡ found_over Backward self.now input.now) }
-        ensures clean { OnOk result (MeetsNoQuit Backward self.now input.now) }
+        ensures answer { IfOk result (IsPassAnswer Backward self.now input.now) }
         ensures refusal { IfErr result (IsPassRefusal Backward self.now cache.new.store input.now) }
-        ensures counted { cache.new.count ≤ cache.old.count + (input.now.end - input.now.start + 1) }
-        ensures grown { IsGrown cache.old cache.new }
-        ensures known { KnowsPass Backward self.now cache.old.store input.now
-            → (cache.new.count ≡ cache.old.count) × IfErr result IsOfInput }
-        ensures learned { KnowsItsStart Backward self.now cache.old.store input.now
-            → ClearedNothing cache.old.store cache.new.store
-            → OnOk result (HasLearnedAll Backward self.now cache.new.store input.now) }
+        ensures effect { IsRestEffect Backward self.now input.now 0 cache.old cache.new result }
         ensures ended { (before : Searched)
             → cache.old.store.searched ≡ started before (given_up_offset Backward input.now 0)
             → OnOk result (EndsAtLast Backward self.now input.now before cache.old.store cache.new.store) }
@@ -649,22 +605,13 @@ impl DFA {
         found: Option<HalfMatch>,
     ) -> Result<Option<HalfMatch>, SearchError>
         requires of { IsCacheOf cache.old self.now }
-        requires open { input.now.start ≤ input.now.end }
-        requires may { MayStart self.now input.now.anchored (tape_in Backward input.now).before }
-        requires at { IsAt Backward self.now cache.old.store.table input.now (input.now.end - input.now.start) id
+        requires at { IsUnderway Backward self.now cache.old.store.table input.now (input.now.end - input.now.start) id
             found }
         ensures of { IsCacheOf cache.new self.now }
-        ensures found { IfOk result (λ o. o ≡ found_over Backward self.now input.now) }
-        ensures clean { OnOk result (MeetsNoQuit Backward self.now input.now) }
+        ensures answer { IfOk result (IsPassAnswer Backward self.now input.now) }
         ensures refusal { IfErr result (IsPassRefusal Backward self.now cache.new.store input.now) }
-        ensures counted { cache.new.count ≤ cache.old.count + 1 }
-        ensures grown { IsGrown cache.old cache.new }
-        ensures known { KnowsPass Backward self.now cache.old.store input.now
-            → (cache.new.count ≡ cache.old.count) × IfErr result IsOfInput }
-        ensures learned { KnowsItsStart Backward self.now cache.old.store input.now
-            → HasLearned Backward self.now cache.old.store input.now (input.now.end - input.now.start)
-            → ClearedNothing cache.old.store cache.new.store
-            → OnOk result (HasLearnedAll Backward self.now cache.new.store input.now) }
+        ensures effect { IsRestEffect Backward self.now input.now (input.now.end - input.now.start) cache.old cache.new
+            result }
         ensures alive { (q : Powerset) → Names cache.old.store.table id q → q ≡ dead → ⊥ }
         ensures progress { KeepsProgress cache.old.store cache.new.store }
     {
@@ -691,19 +638,10 @@ impl DFA {
         requires valid { IsValid cache.old.store.table id }
         requires before { 0 < start }
         ensures of { IsCacheOf cache.new self.now }
-        ensures counted { cache.new.count ≤ cache.old.count + 1 }
-        ensures named { IfOk result (λ n. (q : Powerset) → Names cache.old.store.table id q
-            → Leads cache.new.store.table n (successor self.now.nfa (match_kind_of self.now.config) q (Some byte))) }
-        ensures alive { (q : Powerset) → Names cache.old.store.table id q → q ≡ dead → ⊥ }
-        ensures clean { OnOk result (is_quit self.now.quits byte ≡ false) }
-        ensures refusal { IfErr result (λ e. (q : Powerset) → Names cache.old.store.table id q
-            → IsStepRefusal self.now cache.new.store q (Some byte) (start - 1) start e) }
-        ensures grown { IsGrown cache.old cache.new }
-        ensures known { IsKnownTransition cache.old.store id (class_in self.now.classes byte)
-            → (cache.new.count ≡ cache.old.count) × IfErr result IsOfInput }
-        ensures learned { ClearedNothing cache.old.store cache.new.store
-            → OnOk result (IsKnownTransition cache.new.store id (class_in self.now.classes byte)) }
-        ensures below { class_in self.now.classes byte < table_stride self.now }
+        ensures answer { IfOk result (IsReadAnswer self.now id (Some byte) cache.old cache.new) }
+        ensures refusal { IfErr result
+            (IsReadRefusal self.now id (Some byte) (start - 1) start cache.old cache.new) }
+        ensures effect { IsReadEffect self.now id (Some byte) cache.old cache.new result }
         ensures progress { KeepsProgress cache.old.store cache.new.store }
     {
         self.see_classes();

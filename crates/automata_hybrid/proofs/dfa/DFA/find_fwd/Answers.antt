@@ -9,10 +9,13 @@ use Rattle.automata_hybrid.specs.Passing.{HasLearned, IsAt}
 use Rattle.automata_hybrid.specs.Searched.{IsOpenAt}
 use Rattle.automata_hybrid.specs.Searches.{Reads, given_up_offset, tape_in}
 use Rattle.automata_hybrid.proofs.Growing.{grown_moved, grown_same, grown_trans, nothing_first, nothing_second}
-use Rattle.automata_hybrid.proofs.Knowing.{knows_here, knows_still, learned_ends, learned_moved, learned_none, learned_step}
+use Rattle.automata_hybrid.proofs.Knowing.{knows_here, knows_still, learned_none, learned_step}
 use Rattle.std.proofs.lemmas.Result.{IfErr-weaker, IfOk-weaker}
+use Rattle.automata_hybrid.proofs.Passed.{dead_answer, dead_stops, first_answer, first_stops, rest_read, rest_refused, rest_then}
+use Rattle.automata_hybrid.proofs.Reading.{at_err}
+use Rattle.automata_hybrid.specs.Passed.{IsRestEffect}
 use Rattle.automata_hybrid.proofs.Searched.{ended_after, last_here, left_here, stays_open}
-use Rattle.automata_hybrid.proofs.Searching.{stops_dead, stops_ends, stops_last, more_leads, more_at, more_dead, clean_dead, more_ends, clean_ends, starts_at, step_refuses, if_err, false_true, some_is, none_is}
+use Rattle.automata_hybrid.proofs.Searching.{stops_dead, stops_ends, stops_last, more_leads, more_at, step_refuses, if_err, false_true, some_is, none_is}
 use Rattle.automata_hybrid.proofs.Units.{forward_read, forward_units}
 use Rattle.automata_hybrid.proofs.dfa.DFA.find_fwd.Goals as goal
 use Rattle.automata_hybrid.proofs.dfa.DFA.find_fwd.Goals.{else-get_earliest-via-then-get_earliest+else-is_some, else-get_earliest-via-else-get_earliest}
@@ -27,15 +30,28 @@ loop-at-init c =
       idle = λ knows. refl;
       learned = λ begin nothing. (begin, subst (HasLearned Forward c.args.self.now c.args.cache.now.store c.args.input.now) z (learned_none Forward c.args.self.now c.args.cache.now.store c.args.input.now));
       from = omega (arith, c.start-at.ensures.start);
-      within = omega (arith, c.start-at.ensures.start, c.requires.open);
-      at = subst (λ k. IsAt Forward c.args.self.now c.args.cache.now.store.table c.args.input.now k c.args.start None) z (starts_at Forward c.args.self.now c.args.cache.now.store.table c.args.input.now c.args.start c.requires.named);
+      within = omega (arith, c.start-at.ensures.start, c.requires.at.undone);
+      at = subst (λ k. IsAt Forward c.args.self.now c.args.cache.now.store.table c.args.input.now k c.args.start None) z c.requires.at.at;
       progress = λ s e. (given_up_offset Forward c.args.input.now 0, (s, given_up_offset Forward c.args.input.now 0, inl (refl, refl), e));
     }
 
 pub find_end_fwd-requires-clause-at : goal.find_end_fwd-requires-clause-at
 find_end_fwd-requires-clause-at c =
     let same : c.run_fwd-run.result.at - c.args.input.now.start ≡ c.args.input.now.end - c.args.input.now.start = omega (arith, c.if-run-end.true, c.run_fwd-run.ensures.within, c.end-in-loop-at.ensures.end) in
-    subst (λ k. IsAt Forward c.args.self.now c.loop-at.cache.store.table c.args.input.now k c.run_fwd-run.result.id c.run_fwd-run.result.found) same (c.run_fwd-run.ensures.at)
+    record {
+      undone = c.requires.at.undone;
+      may = c.requires.at.may;
+      at = subst (λ k. IsAt Forward c.args.self.now c.loop-at.cache.store.table c.args.input.now k c.run_fwd-run.result.id c.run_fwd-run.result.found) same (c.run_fwd-run.ensures.at);
+    }
+
+pub find_end_fwd-requires-2-clause-at : goal.find_end_fwd-requires-2-clause-at
+find_end_fwd-requires-2-clause-at c =
+    let same : c.loop-at.at - c.args.input.now.start ≡ c.args.input.now.end - c.args.input.now.start = omega (arith, c.loop-at-test.false, c.loop-at.invariant.within, c.end.ensures.end) in
+    record {
+      undone = c.requires.at.undone;
+      may = c.requires.at.may;
+      at = subst (λ k. IsAt Forward c.args.self.now c.loop-at.cache.store.table c.args.input.now k c.loop-at.id c.loop-at.found) same c.loop-at.invariant.at;
+    }
 
 pub returns-in_err-next-clause-refusal : goal.returns-in_err-next-clause-refusal
 returns-in_err-next-clause-refusal c =
@@ -45,32 +61,35 @@ returns-in_err-next-clause-refusal c =
     let place : c.run_fwd-run.result.at ≡ c.args.input.now.start + k = omega (arith, from) in
     let at : IsAt Forward c.args.self.now c.loop-at.cache.store.table c.args.input.now k c.run_fwd-run.result.id c.run_fwd-run.result.found = c.run_fwd-run.ensures.at in
     let read : next (tape_in Forward c.args.input.now) k ≡ Some _ = forward_read c.args.input.now c.haystack.result.now c.run_fwd-run.result.at c.run_fwd-run.result.at from (omega (arith, inside)) c.end-in-loop-at.ensures.within.1 (omega (arith, inside, c.end-in-loop-at.ensures.within.1)) c.haystack.ensures.same refl in
-    let few : k ≤ length (tape_in Forward c.args.input.now).bytes = (let u : c.args.input.now.end - c.args.input.now.start ≡ length (tape_in Forward c.args.input.now).bytes = forward_units c.args.input.now c.requires.open c.end-in-loop-at.ensures.within.1 in omega (arith, u, inside)) in
+    let few : k ≤ length (tape_in Forward c.args.input.now).bytes = (let u : c.args.input.now.end - c.args.input.now.start ≡ length (tape_in Forward c.args.input.now).bytes = forward_units c.args.input.now c.requires.at.undone c.end-in-loop-at.ensures.within.1 in omega (arith, u, inside)) in
     if_err c.from_residual.result _ _ c.from_residual.ensures.1
     (step_refuses Forward c.args.self.now c.loop-at.cache.store.table c.read.new.cache.store c.args.input.now k c.run_fwd-run.result.id c.run_fwd-run.result.at c.run_fwd-run.result.at _ c.run_fwd-run.result.found c.in_err-next.field-0.0
-    at few c.in_err-next.ensures.alive read (sym place) (sym place) c.in_err-next.ensures.refusal c.requires.may.0)
+    at few c.in_err-next.ensures.effect.alive read (sym place) (sym place) c.in_err-next.ensures.refusal c.requires.at.may.0)
 
-pub returns-then-is_dead-clause-found : goal.returns-then-is_dead-clause-found
-returns-then-is_dead-clause-found c =
+pub returns-then-is_dead-clause-answer : goal.returns-then-is_dead-clause-answer
+returns-then-is_dead-clause-answer c =
     let from : c.args.input.now.start ≤ c.run_fwd-run.result.at = omega (arith, c.loop-at.invariant.from, c.run_fwd-run.ensures.from) in
     let inside : c.run_fwd-run.result.at < c.args.input.now.end = omega (arith, c.if-run-end.false, c.end-in-loop-at.ensures.end) in
     let k : ℕ = c.run_fwd-run.result.at - c.args.input.now.start in
     let place : c.run_fwd-run.result.at ≡ c.args.input.now.start + k = omega (arith, from) in
     let at : IsAt Forward c.args.self.now c.loop-at.cache.store.table c.args.input.now k c.run_fwd-run.result.id c.run_fwd-run.result.found = c.run_fwd-run.ensures.at in
     let read : next (tape_in Forward c.args.input.now) k ≡ Some _ = forward_read c.args.input.now c.haystack.result.now c.run_fwd-run.result.at c.run_fwd-run.result.at from (omega (arith, inside)) c.end-in-loop-at.ensures.within.1 (omega (arith, inside, c.end-in-loop-at.ensures.within.1)) c.haystack.ensures.same refl in
-    let few : k ≤ length (tape_in Forward c.args.input.now).bytes = (let u : c.args.input.now.end - c.args.input.now.start ≡ length (tape_in Forward c.args.input.now).bytes = forward_units c.args.input.now c.requires.open c.end-in-loop-at.ensures.within.1 in omega (arith, u, inside)) in
-    more_dead Forward c.args.self.now c.loop-at.cache.store.table c.read.new.cache.store.table c.args.input.now k c.run_fwd-run.result.id c.in_ok-next.next _ c.run_fwd-run.result.found None at read c.in_ok-next.ensures.named (λ byte e. subst (λ v. is_quit c.args.self.now.quits v ≡ false) (some_inj e) c.in_ok-next.ensures.clean) (λ l. (c.in_ok-next.ensures.dead _ l).0 (c.if-is_dead.ensures.0 refl)) few
+    let few : k ≤ length (tape_in Forward c.args.input.now).bytes = (let u : c.args.input.now.end - c.args.input.now.start ≡ length (tape_in Forward c.args.input.now).bytes = forward_units c.args.input.now c.requires.at.undone c.end-in-loop-at.ensures.within.1 in omega (arith, u, inside)) in
+    dead_answer Forward c.args.self.now c.args.input.now k c.run_fwd-run.result.id _ c.run_fwd-run.result.found c.loop-at.cache c.loop-at.cache c.read.new.cache c.end_search.new.self {s = c.loop-at.cache.store.searched} refl c.end_search.ensures.value (record { undone = c.requires.at.undone; may = c.requires.at.may; at = at }) read c.in_ok-next.next None c.in_ok-next.ensures.answer (λ l. (c.in_ok-next.ensures.dead _ l).0 (c.if-is_dead.ensures.0 refl)) few
 
-pub returns-then-is_dead-clause-clean : goal.returns-then-is_dead-clause-clean
-returns-then-is_dead-clause-clean c =
+pub returns-then-is_dead-clause-effect : goal.returns-then-is_dead-clause-effect
+returns-then-is_dead-clause-effect c =
     let from : c.args.input.now.start ≤ c.run_fwd-run.result.at = omega (arith, c.loop-at.invariant.from, c.run_fwd-run.ensures.from) in
     let inside : c.run_fwd-run.result.at < c.args.input.now.end = omega (arith, c.if-run-end.false, c.end-in-loop-at.ensures.end) in
     let k : ℕ = c.run_fwd-run.result.at - c.args.input.now.start in
     let place : c.run_fwd-run.result.at ≡ c.args.input.now.start + k = omega (arith, from) in
     let at : IsAt Forward c.args.self.now c.loop-at.cache.store.table c.args.input.now k c.run_fwd-run.result.id c.run_fwd-run.result.found = c.run_fwd-run.ensures.at in
     let read : next (tape_in Forward c.args.input.now) k ≡ Some _ = forward_read c.args.input.now c.haystack.result.now c.run_fwd-run.result.at c.run_fwd-run.result.at from (omega (arith, inside)) c.end-in-loop-at.ensures.within.1 (omega (arith, inside, c.end-in-loop-at.ensures.within.1)) c.haystack.ensures.same refl in
-    let few : k ≤ length (tape_in Forward c.args.input.now).bytes = (let u : c.args.input.now.end - c.args.input.now.start ≡ length (tape_in Forward c.args.input.now).bytes = forward_units c.args.input.now c.requires.open c.end-in-loop-at.ensures.within.1 in omega (arith, u, inside)) in
-    clean_dead Forward c.args.self.now c.loop-at.cache.store.table c.read.new.cache.store.table c.args.input.now k c.run_fwd-run.result.id c.in_ok-next.next _ c.run_fwd-run.result.found None at read c.in_ok-next.ensures.named (λ byte e. subst (λ v. is_quit c.args.self.now.quits v ≡ false) (some_inj e) c.in_ok-next.ensures.clean) (λ l. (c.in_ok-next.ensures.dead _ l).0 (c.if-is_dead.ensures.0 refl)) c.requires.may.0
+    let few : k ≤ length (tape_in Forward c.args.input.now).bytes = (let u : c.args.input.now.end - c.args.input.now.start ≡ length (tape_in Forward c.args.input.now).bytes = forward_units c.args.input.now c.requires.at.undone c.end-in-loop-at.ensures.within.1 in omega (arith, u, inside)) in
+    rest_then Forward c.args.self.now c.args.input.now k c.args.cache.now c.loop-at.cache c.loop-at.cache c.end_search.new.self {s = c.loop-at.cache.store.searched} _ refl (omega (arith, inside))
+    c.loop-at.invariant.grown (omega (arith, c.loop-at.invariant.counted, c.loop-at.invariant.from, c.run_fwd-run.ensures.from)) c.loop-at.invariant.idle (λ begin nothing. (let had = c.loop-at.invariant.learned begin nothing in (had.0, c.run_fwd-run.ensures.learned had.1)))
+    (rest_read Forward c.args.self.now c.args.input.now k c.run_fwd-run.result.id _ c.run_fwd-run.result.found c.loop-at.cache c.loop-at.cache c.read.new.cache c.end_search.new.self {s = c.loop-at.cache.store.searched} refl c.end_search.ensures.value (record { undone = c.requires.at.undone; may = c.requires.at.may; at = at }) read c.in_ok-next.next _ c.in_ok-next.ensures.effect c.in_ok-next.ensures.of (omega (arith, inside)) few
+    (dead_stops Forward c.args.self.now c.args.input.now k c.run_fwd-run.result.id _ c.run_fwd-run.result.found c.loop-at.cache c.loop-at.cache c.read.new.cache c.end_search.new.self {s = c.loop-at.cache.store.searched} refl c.end_search.ensures.value (record { undone = c.requires.at.undone; may = c.requires.at.may; at = at }) read c.in_ok-next.next None c.in_ok-next.ensures.answer (λ l. (c.in_ok-next.ensures.dead _ l).0 (c.if-is_dead.ensures.0 refl))))
 
 pub found_at-found-requires-clause-leads : goal.found_at-found-requires-clause-leads
 found_at-found-requires-clause-leads c =
@@ -80,30 +99,33 @@ found_at-found-requires-clause-leads c =
     let place : c.run_fwd-run.result.at ≡ c.args.input.now.start + k = omega (arith, from) in
     let at : IsAt Forward c.args.self.now c.loop-at.cache.store.table c.args.input.now k c.run_fwd-run.result.id c.run_fwd-run.result.found = c.run_fwd-run.ensures.at in
     let read : next (tape_in Forward c.args.input.now) k ≡ Some _ = forward_read c.args.input.now c.haystack.result.now c.run_fwd-run.result.at c.run_fwd-run.result.at from (omega (arith, inside)) c.end-in-loop-at.ensures.within.1 (omega (arith, inside, c.end-in-loop-at.ensures.within.1)) c.haystack.ensures.same refl in
-    let few : k ≤ length (tape_in Forward c.args.input.now).bytes = (let u : c.args.input.now.end - c.args.input.now.start ≡ length (tape_in Forward c.args.input.now).bytes = forward_units c.args.input.now c.requires.open c.end-in-loop-at.ensures.within.1 in omega (arith, u, inside)) in
-    (_, more_leads Forward c.args.self.now c.loop-at.cache.store.table c.read.new.cache.store.table c.args.input.now k c.run_fwd-run.result.id c.in_ok-next.next _ c.run_fwd-run.result.found None at read c.in_ok-next.ensures.named (λ byte e. subst (λ v. is_quit c.args.self.now.quits v ≡ false) (some_inj e) c.in_ok-next.ensures.clean))
+    let few : k ≤ length (tape_in Forward c.args.input.now).bytes = (let u : c.args.input.now.end - c.args.input.now.start ≡ length (tape_in Forward c.args.input.now).bytes = forward_units c.args.input.now c.requires.at.undone c.end-in-loop-at.ensures.within.1 in omega (arith, u, inside)) in
+    (_, more_leads Forward c.args.self.now c.loop-at.cache.store.table c.read.new.cache.store.table c.args.input.now k c.run_fwd-run.result.id c.in_ok-next.next _ c.run_fwd-run.result.found None at read c.in_ok-next.ensures.answer.named (λ byte e. subst (λ v. is_quit c.args.self.now.quits v ≡ false) (some_inj e) c.in_ok-next.ensures.answer.clean))
 
-pub returns-then-is_some-clause-found : goal.returns-then-is_some-clause-found
-returns-then-is_some-clause-found c =
+pub returns-then-is_some-clause-answer : goal.returns-then-is_some-clause-answer
+returns-then-is_some-clause-answer c =
     let from : c.args.input.now.start ≤ c.run_fwd-run.result.at = omega (arith, c.loop-at.invariant.from, c.run_fwd-run.ensures.from) in
     let inside : c.run_fwd-run.result.at < c.args.input.now.end = omega (arith, c.if-run-end.false, c.end-in-loop-at.ensures.end) in
     let k : ℕ = c.run_fwd-run.result.at - c.args.input.now.start in
     let place : c.run_fwd-run.result.at ≡ c.args.input.now.start + k = omega (arith, from) in
     let at : IsAt Forward c.args.self.now c.loop-at.cache.store.table c.args.input.now k c.run_fwd-run.result.id c.run_fwd-run.result.found = c.run_fwd-run.ensures.at in
     let read : next (tape_in Forward c.args.input.now) k ≡ Some _ = forward_read c.args.input.now c.haystack.result.now c.run_fwd-run.result.at c.run_fwd-run.result.at from (omega (arith, inside)) c.end-in-loop-at.ensures.within.1 (omega (arith, inside, c.end-in-loop-at.ensures.within.1)) c.haystack.ensures.same refl in
-    let few : k ≤ length (tape_in Forward c.args.input.now).bytes = (let u : c.args.input.now.end - c.args.input.now.start ≡ length (tape_in Forward c.args.input.now).bytes = forward_units c.args.input.now c.requires.open c.end-in-loop-at.ensures.within.1 in omega (arith, u, inside)) in
-    more_ends Forward c.args.self.now c.loop-at.cache.store.table c.read.new.cache.store.table c.args.input.now k c.run_fwd-run.result.id c.in_ok-next.next _ c.run_fwd-run.result.found c.found_at-found.result at read c.in_ok-next.ensures.named (λ byte e. subst (λ v. is_quit c.args.self.now.quits v ≡ false) (some_inj e) c.in_ok-next.ensures.clean) (c.run_fwd-run.result.at, place, c.found_at-found.ensures) few (sym c.get_earliest.ensures ∙ c.if-get_earliest.true) (some_is c.found_at-found.result c.if-is_some.ensures)
+    let few : k ≤ length (tape_in Forward c.args.input.now).bytes = (let u : c.args.input.now.end - c.args.input.now.start ≡ length (tape_in Forward c.args.input.now).bytes = forward_units c.args.input.now c.requires.at.undone c.end-in-loop-at.ensures.within.1 in omega (arith, u, inside)) in
+    first_answer Forward c.args.self.now c.args.input.now k c.run_fwd-run.result.id _ c.run_fwd-run.result.found c.loop-at.cache c.loop-at.cache c.read.new.cache c.end_search-then-is_some.new.self {s = c.loop-at.cache.store.searched} refl c.end_search-then-is_some.ensures.value (record { undone = c.requires.at.undone; may = c.requires.at.may; at = at }) read c.in_ok-next.next c.found_at-found.result c.in_ok-next.ensures.answer c.run_fwd-run.result.at place c.found_at-found.ensures (sym c.get_earliest.ensures ∙ c.if-get_earliest.true) (some_is c.found_at-found.result c.if-is_some.ensures) few
 
-pub returns-then-is_some-clause-clean : goal.returns-then-is_some-clause-clean
-returns-then-is_some-clause-clean c =
+pub returns-then-is_some-clause-effect : goal.returns-then-is_some-clause-effect
+returns-then-is_some-clause-effect c =
     let from : c.args.input.now.start ≤ c.run_fwd-run.result.at = omega (arith, c.loop-at.invariant.from, c.run_fwd-run.ensures.from) in
     let inside : c.run_fwd-run.result.at < c.args.input.now.end = omega (arith, c.if-run-end.false, c.end-in-loop-at.ensures.end) in
     let k : ℕ = c.run_fwd-run.result.at - c.args.input.now.start in
     let place : c.run_fwd-run.result.at ≡ c.args.input.now.start + k = omega (arith, from) in
     let at : IsAt Forward c.args.self.now c.loop-at.cache.store.table c.args.input.now k c.run_fwd-run.result.id c.run_fwd-run.result.found = c.run_fwd-run.ensures.at in
     let read : next (tape_in Forward c.args.input.now) k ≡ Some _ = forward_read c.args.input.now c.haystack.result.now c.run_fwd-run.result.at c.run_fwd-run.result.at from (omega (arith, inside)) c.end-in-loop-at.ensures.within.1 (omega (arith, inside, c.end-in-loop-at.ensures.within.1)) c.haystack.ensures.same refl in
-    let few : k ≤ length (tape_in Forward c.args.input.now).bytes = (let u : c.args.input.now.end - c.args.input.now.start ≡ length (tape_in Forward c.args.input.now).bytes = forward_units c.args.input.now c.requires.open c.end-in-loop-at.ensures.within.1 in omega (arith, u, inside)) in
-    clean_ends Forward c.args.self.now c.loop-at.cache.store.table c.read.new.cache.store.table c.args.input.now k c.run_fwd-run.result.id c.in_ok-next.next _ c.run_fwd-run.result.found c.found_at-found.result at read c.in_ok-next.ensures.named (λ byte e. subst (λ v. is_quit c.args.self.now.quits v ≡ false) (some_inj e) c.in_ok-next.ensures.clean) (c.run_fwd-run.result.at, place, c.found_at-found.ensures) (sym c.get_earliest.ensures ∙ c.if-get_earliest.true) (some_is c.found_at-found.result c.if-is_some.ensures) c.requires.may.0
+    let few : k ≤ length (tape_in Forward c.args.input.now).bytes = (let u : c.args.input.now.end - c.args.input.now.start ≡ length (tape_in Forward c.args.input.now).bytes = forward_units c.args.input.now c.requires.at.undone c.end-in-loop-at.ensures.within.1 in omega (arith, u, inside)) in
+    rest_then Forward c.args.self.now c.args.input.now k c.args.cache.now c.loop-at.cache c.loop-at.cache c.end_search-then-is_some.new.self {s = c.loop-at.cache.store.searched} _ refl (omega (arith, inside))
+    c.loop-at.invariant.grown (omega (arith, c.loop-at.invariant.counted, c.loop-at.invariant.from, c.run_fwd-run.ensures.from)) c.loop-at.invariant.idle (λ begin nothing. (let had = c.loop-at.invariant.learned begin nothing in (had.0, c.run_fwd-run.ensures.learned had.1)))
+    (rest_read Forward c.args.self.now c.args.input.now k c.run_fwd-run.result.id _ c.run_fwd-run.result.found c.loop-at.cache c.loop-at.cache c.read.new.cache c.end_search-then-is_some.new.self {s = c.loop-at.cache.store.searched} refl c.end_search-then-is_some.ensures.value (record { undone = c.requires.at.undone; may = c.requires.at.may; at = at }) read c.in_ok-next.next _ c.in_ok-next.ensures.effect c.in_ok-next.ensures.of (omega (arith, inside)) few
+    (first_stops Forward c.args.self.now c.args.input.now k c.run_fwd-run.result.id _ c.run_fwd-run.result.found c.loop-at.cache c.loop-at.cache c.read.new.cache c.end_search-then-is_some.new.self {s = c.loop-at.cache.store.searched} refl c.end_search-then-is_some.ensures.value (record { undone = c.requires.at.undone; may = c.requires.at.may; at = at }) read c.in_ok-next.next c.found_at-found.result c.in_ok-next.ensures.answer c.run_fwd-run.result.at place c.found_at-found.ensures (sym c.get_earliest.ensures ∙ c.if-get_earliest.true) (some_is c.found_at-found.result c.if-is_some.ensures)))
 
 pub loop-at-preserved : goal.loop-at-preserved
 loop-at-preserved c =
@@ -113,7 +135,7 @@ loop-at-preserved c =
     let place : c.run_fwd-run.result.at ≡ c.args.input.now.start + k = omega (arith, from) in
     let at : IsAt Forward c.args.self.now c.loop-at.cache.store.table c.args.input.now k c.run_fwd-run.result.id c.run_fwd-run.result.found = c.run_fwd-run.ensures.at in
     let read : next (tape_in Forward c.args.input.now) k ≡ Some _ = forward_read c.args.input.now c.haystack.result.now c.run_fwd-run.result.at c.run_fwd-run.result.at from (omega (arith, inside)) c.end-in-loop-at.ensures.within.1 (omega (arith, inside, c.end-in-loop-at.ensures.within.1)) c.haystack.ensures.same refl in
-    let few : k ≤ length (tape_in Forward c.args.input.now).bytes = (let u : c.args.input.now.end - c.args.input.now.start ≡ length (tape_in Forward c.args.input.now).bytes = forward_units c.args.input.now c.requires.open c.end-in-loop-at.ensures.within.1 in omega (arith, u, inside)) in
+    let few : k ≤ length (tape_in Forward c.args.input.now).bytes = (let u : c.args.input.now.end - c.args.input.now.start ≡ length (tape_in Forward c.args.input.now).bytes = forward_units c.args.input.now c.requires.at.undone c.end-in-loop-at.ensures.within.1 in omega (arith, u, inside)) in
     let first : c.args.input.now.earliest ≡ true → c.found_at-found.result ≡ None =
     elim c.else-get_earliest.branch [
       | else-get_earliest-via-then-get_earliest+else-is_some w ↦ λ e. none_is c.found_at-found.result (sym w.is_some.ensures ∙ w.if-is_some.false)
@@ -122,154 +144,63 @@ loop-at-preserved c =
     let more : suc k ≡ c.run_fwd-run.result.at + 1 - c.args.input.now.start = omega (arith, from) in
     record {
       of = c.in_ok-next.ensures.of;
-      counted = omega (arith, c.in_ok-next.ensures.counted, c.loop-at.invariant.counted, from, c.run_fwd-run.ensures.from, c.loop-at.invariant.from);
-      grown = grown_trans c.args.cache.now c.loop-at.cache c.read.new.cache c.loop-at.invariant.grown c.in_ok-next.ensures.grown;
+      counted = omega (arith, c.in_ok-next.ensures.effect.counted, c.loop-at.invariant.counted, from, c.run_fwd-run.ensures.from, c.loop-at.invariant.from);
+      grown = grown_trans c.args.cache.now c.loop-at.cache c.read.new.cache c.loop-at.invariant.grown c.in_ok-next.ensures.effect.grown;
       idle = λ knows. (
           let still : KnowsPass Forward c.args.self.now c.loop-at.cache.store c.args.input.now = knows_still Forward c.args.self.now c.args.input.now c.args.cache.now c.loop-at.cache c.loop-at.invariant.grown (c.loop-at.invariant.idle knows) knows in
-          let idle = c.in_ok-next.ensures.known (knows_here Forward c.args.self.now c.loop-at.cache.store c.args.input.now k c.run_fwd-run.result.id c.run_fwd-run.result.found (Some _) still c.requires.may at few c.in_ok-next.ensures.alive read) in
-          idle.0 ∙ c.loop-at.invariant.idle knows);
+          let idle = c.in_ok-next.ensures.effect.known (knows_here Forward c.args.self.now c.loop-at.cache.store c.args.input.now k c.run_fwd-run.result.id c.run_fwd-run.result.found (Some _) still c.requires.at.may at few c.in_ok-next.ensures.effect.alive read) in
+          idle.0.0 ∙ c.loop-at.invariant.idle knows);
       learned = λ begin nothing. (
-          let before = c.loop-at.invariant.learned begin (nothing_first c.args.cache.now c.loop-at.cache c.read.new.cache c.loop-at.invariant.grown c.in_ok-next.ensures.grown nothing) in
-          let after : ClearedNothing c.loop-at.cache.store c.read.new.cache.store = nothing_second c.args.cache.now c.loop-at.cache c.read.new.cache c.loop-at.invariant.grown c.in_ok-next.ensures.grown nothing in
-          let step = learned_step Forward c.args.self.now c.loop-at.cache c.read.new.cache c.args.input.now k c.run_fwd-run.result.id (Some _) c.in_ok-next.ensures.grown c.in_ok-next.ensures.of after before.0
-          (c.run_fwd-run.ensures.learned before.1) at.named read (c.in_ok-next.ensures.learned after) c.in_ok-next.ensures.below in
+          let before = c.loop-at.invariant.learned begin (nothing_first c.args.cache.now c.loop-at.cache c.read.new.cache c.loop-at.invariant.grown c.in_ok-next.ensures.effect.grown nothing) in
+          let after : ClearedNothing c.loop-at.cache.store c.read.new.cache.store = nothing_second c.args.cache.now c.loop-at.cache c.read.new.cache c.loop-at.invariant.grown c.in_ok-next.ensures.effect.grown nothing in
+          let step = learned_step Forward c.args.self.now c.loop-at.cache c.read.new.cache c.args.input.now k c.run_fwd-run.result.id (Some _) c.in_ok-next.ensures.effect.grown c.in_ok-next.ensures.of after before.0
+          (c.run_fwd-run.ensures.learned before.1) at.named read (c.in_ok-next.ensures.effect.learned after) c.in_ok-next.ensures.effect.below in
           (step.0, subst (HasLearned Forward c.args.self.now c.read.new.cache.store c.args.input.now) more step.1));
       from = omega (arith, from);
       within = omega (arith, inside);
-      at = subst (λ n. IsAt Forward c.args.self.now c.read.new.cache.store.table c.args.input.now n c.in_ok-next.next c.found_at-found.result) more (more_at Forward c.args.self.now c.loop-at.cache.store.table c.read.new.cache.store.table c.args.input.now k c.run_fwd-run.result.id c.in_ok-next.next _ c.run_fwd-run.result.found c.found_at-found.result at read c.in_ok-next.ensures.named (λ byte e. subst (λ v. is_quit c.args.self.now.quits v ≡ false) (some_inj e) c.in_ok-next.ensures.clean) (c.run_fwd-run.result.at, place, c.found_at-found.ensures) first (λ l. (c.in_ok-next.ensures.dead _ l).1 (λ b. false_true (c.if-is_dead.ensures.1 b))));
+      at = subst (λ n. IsAt Forward c.args.self.now c.read.new.cache.store.table c.args.input.now n c.in_ok-next.next c.found_at-found.result) more (more_at Forward c.args.self.now c.loop-at.cache.store.table c.read.new.cache.store.table c.args.input.now k c.run_fwd-run.result.id c.in_ok-next.next _ c.run_fwd-run.result.found c.found_at-found.result at read c.in_ok-next.ensures.answer.named (λ byte e. subst (λ v. is_quit c.args.self.now.quits v ≡ false) (some_inj e) c.in_ok-next.ensures.answer.clean) (c.run_fwd-run.result.at, place, c.found_at-found.ensures) first (λ l. (c.in_ok-next.ensures.dead _ l).1 (λ b. false_true (c.if-is_dead.ensures.1 b))));
       progress = λ s e.
           (let underway : (x : ℕ) × IsOpenAt c.args.input.now s (given_up_offset Forward c.args.input.now 0) x c.args.cache.now.store c.loop-at.cache.store = c.loop-at.invariant.progress s e in (
             c.run_fwd-run.result.at,
-            stays_open c.args.input.now s (given_up_offset Forward c.args.input.now 0) c.args.cache.now c.loop-at.cache c.read.new.cache c.loop-at.invariant.grown c.in_ok-next.ensures.grown
-                underway.0 c.run_fwd-run.result.at from (omega (arith, inside)) underway.1 c.in_ok-next.ensures.moved,
+            stays_open c.args.input.now s (given_up_offset Forward c.args.input.now 0) c.args.cache.now c.loop-at.cache c.read.new.cache c.loop-at.invariant.grown c.in_ok-next.ensures.effect.grown
+                underway.0 c.run_fwd-run.result.at from (omega (arith, inside)) underway.1 c.in_ok-next.ensures.progress.moved,
           ));
     }
 
-pub returns-then-is_dead-clause-grown : goal.returns-then-is_dead-clause-grown
-returns-then-is_dead-clause-grown c =
-    grown_trans c.args.cache.now c.read.new.cache c.end_search.new.self
-    (grown_trans c.args.cache.now c.loop-at.cache c.read.new.cache c.loop-at.invariant.grown c.in_ok-next.ensures.grown)
-    (grown_moved c.read.new.cache c.end_search.new.self c.end_search.ensures.value)
-
-pub returns-then-is_dead-clause-known : goal.returns-then-is_dead-clause-known
-returns-then-is_dead-clause-known c = λ knows.
+pub returns-in_err-next-clause-effect : goal.returns-in_err-next-clause-effect
+returns-in_err-next-clause-effect c =
     let from : c.args.input.now.start ≤ c.run_fwd-run.result.at = omega (arith, c.loop-at.invariant.from, c.run_fwd-run.ensures.from) in
     let inside : c.run_fwd-run.result.at < c.args.input.now.end = omega (arith, c.if-run-end.false, c.end-in-loop-at.ensures.end) in
     let k : ℕ = c.run_fwd-run.result.at - c.args.input.now.start in
     let place : c.run_fwd-run.result.at ≡ c.args.input.now.start + k = omega (arith, from) in
     let at : IsAt Forward c.args.self.now c.loop-at.cache.store.table c.args.input.now k c.run_fwd-run.result.id c.run_fwd-run.result.found = c.run_fwd-run.ensures.at in
     let read : next (tape_in Forward c.args.input.now) k ≡ Some _ = forward_read c.args.input.now c.haystack.result.now c.run_fwd-run.result.at c.run_fwd-run.result.at from (omega (arith, inside)) c.end-in-loop-at.ensures.within.1 (omega (arith, inside, c.end-in-loop-at.ensures.within.1)) c.haystack.ensures.same refl in
-    let few : k ≤ length (tape_in Forward c.args.input.now).bytes = (let u : c.args.input.now.end - c.args.input.now.start ≡ length (tape_in Forward c.args.input.now).bytes = forward_units c.args.input.now c.requires.open c.end-in-loop-at.ensures.within.1 in omega (arith, u, inside)) in
-    let still : KnowsPass Forward c.args.self.now c.loop-at.cache.store c.args.input.now = knows_still Forward c.args.self.now c.args.input.now c.args.cache.now c.loop-at.cache c.loop-at.invariant.grown (c.loop-at.invariant.idle knows) knows in
-    let idle = c.in_ok-next.ensures.known (knows_here Forward c.args.self.now c.loop-at.cache.store c.args.input.now k c.run_fwd-run.result.id c.run_fwd-run.result.found (Some _) still c.requires.may at few c.in_ok-next.ensures.alive read) in
-    (c.end_search.ensures.counted ∙ (idle.0 ∙ c.loop-at.invariant.idle knows), tt)
-
-pub returns-then-is_dead-clause-learned : goal.returns-then-is_dead-clause-learned
-returns-then-is_dead-clause-learned c = λ begin.
-    let from : c.args.input.now.start ≤ c.run_fwd-run.result.at = omega (arith, c.loop-at.invariant.from, c.run_fwd-run.ensures.from) in
-    let inside : c.run_fwd-run.result.at < c.args.input.now.end = omega (arith, c.if-run-end.false, c.end-in-loop-at.ensures.end) in
-    let k : ℕ = c.run_fwd-run.result.at - c.args.input.now.start in
-    let place : c.run_fwd-run.result.at ≡ c.args.input.now.start + k = omega (arith, from) in
-    let at : IsAt Forward c.args.self.now c.loop-at.cache.store.table c.args.input.now k c.run_fwd-run.result.id c.run_fwd-run.result.found = c.run_fwd-run.ensures.at in
-    let read : next (tape_in Forward c.args.input.now) k ≡ Some _ = forward_read c.args.input.now c.haystack.result.now c.run_fwd-run.result.at c.run_fwd-run.result.at from (omega (arith, inside)) c.end-in-loop-at.ensures.within.1 (omega (arith, inside, c.end-in-loop-at.ensures.within.1)) c.haystack.ensures.same refl in
-    let few : k ≤ length (tape_in Forward c.args.input.now).bytes = (let u : c.args.input.now.end - c.args.input.now.start ≡ length (tape_in Forward c.args.input.now).bytes = forward_units c.args.input.now c.requires.open c.end-in-loop-at.ensures.within.1 in omega (arith, u, inside)) in
-    learned_moved Forward c.args.self.now c.args.input.now c.args.cache.now c.read.new.cache c.end_search.new.self c.end_search.ensures.value (λ nothing.
-    let before = c.loop-at.invariant.learned begin (nothing_first c.args.cache.now c.loop-at.cache c.read.new.cache c.loop-at.invariant.grown c.in_ok-next.ensures.grown nothing) in
-    learned_ends Forward c.args.self.now c.loop-at.cache c.read.new.cache c.args.input.now k c.run_fwd-run.result.id (Some _) c.in_ok-next.ensures.grown c.in_ok-next.ensures.of at.named read
-    c.in_ok-next.ensures.learned c.in_ok-next.ensures.below
-    (stops_dead Forward c.args.self.now c.loop-at.cache.store.table c.read.new.cache.store.table c.args.input.now k c.run_fwd-run.result.id c.in_ok-next.next _ c.run_fwd-run.result.found None at read c.in_ok-next.ensures.named (λ byte e. subst (λ v. is_quit c.args.self.now.quits v ≡ false) (some_inj e) c.in_ok-next.ensures.clean) (λ l. (c.in_ok-next.ensures.dead _ l).0 (c.if-is_dead.ensures.0 refl)))
-    before.0 (c.run_fwd-run.ensures.learned before.1)
-    (nothing_second c.args.cache.now c.loop-at.cache c.read.new.cache c.loop-at.invariant.grown c.in_ok-next.ensures.grown nothing))
-
-pub returns-then-is_some-clause-grown : goal.returns-then-is_some-clause-grown
-returns-then-is_some-clause-grown c =
-    grown_trans c.args.cache.now c.read.new.cache c.end_search-then-is_some.new.self
-    (grown_trans c.args.cache.now c.loop-at.cache c.read.new.cache c.loop-at.invariant.grown c.in_ok-next.ensures.grown)
-    (grown_moved c.read.new.cache c.end_search-then-is_some.new.self c.end_search-then-is_some.ensures.value)
-
-pub returns-then-is_some-clause-known : goal.returns-then-is_some-clause-known
-returns-then-is_some-clause-known c = λ knows.
-    let from : c.args.input.now.start ≤ c.run_fwd-run.result.at = omega (arith, c.loop-at.invariant.from, c.run_fwd-run.ensures.from) in
-    let inside : c.run_fwd-run.result.at < c.args.input.now.end = omega (arith, c.if-run-end.false, c.end-in-loop-at.ensures.end) in
-    let k : ℕ = c.run_fwd-run.result.at - c.args.input.now.start in
-    let place : c.run_fwd-run.result.at ≡ c.args.input.now.start + k = omega (arith, from) in
-    let at : IsAt Forward c.args.self.now c.loop-at.cache.store.table c.args.input.now k c.run_fwd-run.result.id c.run_fwd-run.result.found = c.run_fwd-run.ensures.at in
-    let read : next (tape_in Forward c.args.input.now) k ≡ Some _ = forward_read c.args.input.now c.haystack.result.now c.run_fwd-run.result.at c.run_fwd-run.result.at from (omega (arith, inside)) c.end-in-loop-at.ensures.within.1 (omega (arith, inside, c.end-in-loop-at.ensures.within.1)) c.haystack.ensures.same refl in
-    let few : k ≤ length (tape_in Forward c.args.input.now).bytes = (let u : c.args.input.now.end - c.args.input.now.start ≡ length (tape_in Forward c.args.input.now).bytes = forward_units c.args.input.now c.requires.open c.end-in-loop-at.ensures.within.1 in omega (arith, u, inside)) in
-    let still : KnowsPass Forward c.args.self.now c.loop-at.cache.store c.args.input.now = knows_still Forward c.args.self.now c.args.input.now c.args.cache.now c.loop-at.cache c.loop-at.invariant.grown (c.loop-at.invariant.idle knows) knows in
-    let idle = c.in_ok-next.ensures.known (knows_here Forward c.args.self.now c.loop-at.cache.store c.args.input.now k c.run_fwd-run.result.id c.run_fwd-run.result.found (Some _) still c.requires.may at few c.in_ok-next.ensures.alive read) in
-    (c.end_search-then-is_some.ensures.counted ∙ (idle.0 ∙ c.loop-at.invariant.idle knows), tt)
-
-pub returns-then-is_some-clause-learned : goal.returns-then-is_some-clause-learned
-returns-then-is_some-clause-learned c = λ begin.
-    let from : c.args.input.now.start ≤ c.run_fwd-run.result.at = omega (arith, c.loop-at.invariant.from, c.run_fwd-run.ensures.from) in
-    let inside : c.run_fwd-run.result.at < c.args.input.now.end = omega (arith, c.if-run-end.false, c.end-in-loop-at.ensures.end) in
-    let k : ℕ = c.run_fwd-run.result.at - c.args.input.now.start in
-    let place : c.run_fwd-run.result.at ≡ c.args.input.now.start + k = omega (arith, from) in
-    let at : IsAt Forward c.args.self.now c.loop-at.cache.store.table c.args.input.now k c.run_fwd-run.result.id c.run_fwd-run.result.found = c.run_fwd-run.ensures.at in
-    let read : next (tape_in Forward c.args.input.now) k ≡ Some _ = forward_read c.args.input.now c.haystack.result.now c.run_fwd-run.result.at c.run_fwd-run.result.at from (omega (arith, inside)) c.end-in-loop-at.ensures.within.1 (omega (arith, inside, c.end-in-loop-at.ensures.within.1)) c.haystack.ensures.same refl in
-    let few : k ≤ length (tape_in Forward c.args.input.now).bytes = (let u : c.args.input.now.end - c.args.input.now.start ≡ length (tape_in Forward c.args.input.now).bytes = forward_units c.args.input.now c.requires.open c.end-in-loop-at.ensures.within.1 in omega (arith, u, inside)) in
-    learned_moved Forward c.args.self.now c.args.input.now c.args.cache.now c.read.new.cache c.end_search-then-is_some.new.self c.end_search-then-is_some.ensures.value (λ nothing.
-    let before = c.loop-at.invariant.learned begin (nothing_first c.args.cache.now c.loop-at.cache c.read.new.cache c.loop-at.invariant.grown c.in_ok-next.ensures.grown nothing) in
-    learned_ends Forward c.args.self.now c.loop-at.cache c.read.new.cache c.args.input.now k c.run_fwd-run.result.id (Some _) c.in_ok-next.ensures.grown c.in_ok-next.ensures.of at.named read
-    c.in_ok-next.ensures.learned c.in_ok-next.ensures.below
-    (stops_ends Forward c.args.self.now c.loop-at.cache.store.table c.read.new.cache.store.table c.args.input.now k c.run_fwd-run.result.id c.in_ok-next.next _ c.run_fwd-run.result.found c.found_at-found.result at read c.in_ok-next.ensures.named (λ byte e. subst (λ v. is_quit c.args.self.now.quits v ≡ false) (some_inj e) c.in_ok-next.ensures.clean) (c.run_fwd-run.result.at, place, c.found_at-found.ensures) (sym c.get_earliest.ensures ∙ c.if-get_earliest.true) (some_is c.found_at-found.result c.if-is_some.ensures))
-    before.0 (c.run_fwd-run.ensures.learned before.1)
-    (nothing_second c.args.cache.now c.loop-at.cache c.read.new.cache c.loop-at.invariant.grown c.in_ok-next.ensures.grown nothing))
-
-pub returns-in_err-next-clause-grown : goal.returns-in_err-next-clause-grown
-returns-in_err-next-clause-grown c = grown_trans c.args.cache.now c.loop-at.cache c.read.new.cache c.loop-at.invariant.grown c.in_err-next.ensures.grown
-
-pub returns-in_err-next-clause-known : goal.returns-in_err-next-clause-known
-returns-in_err-next-clause-known c = λ knows.
-    let from : c.args.input.now.start ≤ c.run_fwd-run.result.at = omega (arith, c.loop-at.invariant.from, c.run_fwd-run.ensures.from) in
-    let inside : c.run_fwd-run.result.at < c.args.input.now.end = omega (arith, c.if-run-end.false, c.end-in-loop-at.ensures.end) in
-    let k : ℕ = c.run_fwd-run.result.at - c.args.input.now.start in
-    let place : c.run_fwd-run.result.at ≡ c.args.input.now.start + k = omega (arith, from) in
-    let at : IsAt Forward c.args.self.now c.loop-at.cache.store.table c.args.input.now k c.run_fwd-run.result.id c.run_fwd-run.result.found = c.run_fwd-run.ensures.at in
-    let read : next (tape_in Forward c.args.input.now) k ≡ Some _ = forward_read c.args.input.now c.haystack.result.now c.run_fwd-run.result.at c.run_fwd-run.result.at from (omega (arith, inside)) c.end-in-loop-at.ensures.within.1 (omega (arith, inside, c.end-in-loop-at.ensures.within.1)) c.haystack.ensures.same refl in
-    let few : k ≤ length (tape_in Forward c.args.input.now).bytes = (let u : c.args.input.now.end - c.args.input.now.start ≡ length (tape_in Forward c.args.input.now).bytes = forward_units c.args.input.now c.requires.open c.end-in-loop-at.ensures.within.1 in omega (arith, u, inside)) in
-    let still : KnowsPass Forward c.args.self.now c.loop-at.cache.store c.args.input.now = knows_still Forward c.args.self.now c.args.input.now c.args.cache.now c.loop-at.cache c.loop-at.invariant.grown (c.loop-at.invariant.idle knows) knows in
-    let idle = c.in_err-next.ensures.known (knows_here Forward c.args.self.now c.loop-at.cache.store c.args.input.now k c.run_fwd-run.result.id c.run_fwd-run.result.found (Some _) still c.requires.may at few c.in_err-next.ensures.alive read) in
-    (idle.0 ∙ c.loop-at.invariant.idle knows, if_err c.from_residual.result _ _ c.from_residual.ensures.1 idle.1)
+    let few : k ≤ length (tape_in Forward c.args.input.now).bytes = (let u : c.args.input.now.end - c.args.input.now.start ≡ length (tape_in Forward c.args.input.now).bytes = forward_units c.args.input.now c.requires.at.undone c.end-in-loop-at.ensures.within.1 in omega (arith, u, inside)) in
+    rest_then Forward c.args.self.now c.args.input.now k c.args.cache.now c.loop-at.cache c.loop-at.cache c.read.new.cache {s = c.loop-at.cache.store.searched} c.from_residual.result refl (omega (arith, inside))
+    c.loop-at.invariant.grown (omega (arith, c.loop-at.invariant.counted, c.loop-at.invariant.from, c.run_fwd-run.ensures.from)) c.loop-at.invariant.idle (λ begin nothing. (let had = c.loop-at.invariant.learned begin nothing in (had.0, c.run_fwd-run.ensures.learned had.1)))
+    (at_err c.from_residual.result _ (IsRestEffect Forward c.args.self.now c.args.input.now k c.loop-at.cache c.read.new.cache) c.from_residual.ensures.1
+    (rest_refused Forward c.args.self.now c.args.input.now k c.run_fwd-run.result.id _ c.run_fwd-run.result.found c.loop-at.cache c.loop-at.cache c.read.new.cache c.read.new.cache {s = c.loop-at.cache.store.searched} {s' = c.read.new.cache.store.searched} refl refl (record { undone = c.requires.at.undone; may = c.requires.at.may; at = at }) read c.in_err-next.field-0.0 c.in_err-next.ensures.effect (omega (arith, inside)) few))
 
 pub read-requires-clause-valid : goal.read-requires-clause-valid
 read-requires-clause-valid c =
     let at : IsAt Forward c.args.self.now c.loop-at.cache.store.table c.args.input.now (c.run_fwd-run.result.at - c.args.input.now.start) c.run_fwd-run.result.id c.run_fwd-run.result.found = c.run_fwd-run.ensures.at in
     (_, at.named)
 
-pub returns-then-run-end-clause-grown : goal.returns-then-run-end-clause-grown
-returns-then-run-end-clause-grown c = grown_trans c.args.cache.now c.loop-at.cache c.find_end_fwd.new.cache c.loop-at.invariant.grown c.find_end_fwd.ensures.grown
-
-pub returns-then-run-end-clause-known : goal.returns-then-run-end-clause-known
-returns-then-run-end-clause-known c = λ knows.
-    let still : KnowsPass Forward c.args.self.now c.loop-at.cache.store c.args.input.now = knows_still Forward c.args.self.now c.args.input.now c.args.cache.now c.loop-at.cache c.loop-at.invariant.grown (c.loop-at.invariant.idle knows) knows in
-    let idle = c.find_end_fwd.ensures.known still in
-    (idle.0 ∙ c.loop-at.invariant.idle knows, idle.1)
-
-pub returns-then-run-end-clause-learned : goal.returns-then-run-end-clause-learned
-returns-then-run-end-clause-learned c = λ begin nothing.
+pub returns-then-run-end-clause-effect : goal.returns-then-run-end-clause-effect
+returns-then-run-end-clause-effect c =
     let same : c.run_fwd-run.result.at - c.args.input.now.start ≡ c.args.input.now.end - c.args.input.now.start = omega (arith, c.if-run-end.true, c.run_fwd-run.ensures.within, c.end-in-loop-at.ensures.end) in
-    let before = c.loop-at.invariant.learned begin (nothing_first c.args.cache.now c.loop-at.cache c.find_end_fwd.new.cache c.loop-at.invariant.grown c.find_end_fwd.ensures.grown nothing) in
-    c.find_end_fwd.ensures.learned before.0
-    (subst (HasLearned Forward c.args.self.now c.loop-at.cache.store c.args.input.now) same (c.run_fwd-run.ensures.learned before.1))
-    (nothing_second c.args.cache.now c.loop-at.cache c.find_end_fwd.new.cache c.loop-at.invariant.grown c.find_end_fwd.ensures.grown nothing)
+    let k : ℕ = c.args.input.now.end - c.args.input.now.start in
+    rest_then Forward c.args.self.now c.args.input.now k c.args.cache.now c.loop-at.cache c.loop-at.cache c.find_end_fwd.new.cache {s = c.loop-at.cache.store.searched} c.find_end_fwd.result refl (omega arith)
+    c.loop-at.invariant.grown (omega (arith, c.loop-at.invariant.counted, c.loop-at.invariant.from, c.loop-at.invariant.within)) c.loop-at.invariant.idle (λ begin nothing. (let had = c.loop-at.invariant.learned begin nothing in (had.0, subst (HasLearned Forward c.args.self.now c.loop-at.cache.store c.args.input.now) same (c.run_fwd-run.ensures.learned had.1))))
+    c.find_end_fwd.ensures.effect
 
-pub returns-clause-grown : goal.returns-clause-grown
-returns-clause-grown c = grown_trans c.args.cache.now c.loop-at.cache c.find_end_fwd-2.new.cache c.loop-at.invariant.grown c.find_end_fwd-2.ensures.grown
-
-pub returns-clause-known : goal.returns-clause-known
-returns-clause-known c = λ knows.
-    let still : KnowsPass Forward c.args.self.now c.loop-at.cache.store c.args.input.now = knows_still Forward c.args.self.now c.args.input.now c.args.cache.now c.loop-at.cache c.loop-at.invariant.grown (c.loop-at.invariant.idle knows) knows in
-    let idle = c.find_end_fwd-2.ensures.known still in
-    (idle.0 ∙ c.loop-at.invariant.idle knows, idle.1)
-
-pub returns-clause-learned : goal.returns-clause-learned
-returns-clause-learned c = λ begin nothing.
+pub returns-clause-effect : goal.returns-clause-effect
+returns-clause-effect c =
     let same : c.loop-at.at - c.args.input.now.start ≡ c.args.input.now.end - c.args.input.now.start = omega (arith, c.loop-at-test.false, c.loop-at.invariant.within, c.end.ensures.end) in
-    let before = c.loop-at.invariant.learned begin (nothing_first c.args.cache.now c.loop-at.cache c.find_end_fwd-2.new.cache c.loop-at.invariant.grown c.find_end_fwd-2.ensures.grown nothing) in
-    c.find_end_fwd-2.ensures.learned before.0 (subst (HasLearned Forward c.args.self.now c.loop-at.cache.store c.args.input.now) same before.1)
-    (nothing_second c.args.cache.now c.loop-at.cache c.find_end_fwd-2.new.cache c.loop-at.invariant.grown c.find_end_fwd-2.ensures.grown nothing)
+    let k : ℕ = c.args.input.now.end - c.args.input.now.start in
+    rest_then Forward c.args.self.now c.args.input.now k c.args.cache.now c.loop-at.cache c.loop-at.cache c.find_end_fwd-2.new.cache {s = c.loop-at.cache.store.searched} c.find_end_fwd-2.result refl (omega arith)
+    c.loop-at.invariant.grown (omega (arith, c.loop-at.invariant.counted, c.loop-at.invariant.from, c.loop-at.invariant.within)) c.loop-at.invariant.idle (λ begin nothing. (let had = c.loop-at.invariant.learned begin nothing in (had.0, subst (HasLearned Forward c.args.self.now c.loop-at.cache.store c.args.input.now) same had.1)))
+    c.find_end_fwd-2.ensures.effect
 
 pub returns-in_err-next-clause-left : goal.returns-in_err-next-clause-left
 returns-in_err-next-clause-left c = λ s e.
@@ -279,12 +210,12 @@ returns-in_err-next-clause-left c = λ s e.
     let place : c.run_fwd-run.result.at ≡ c.args.input.now.start + k = omega (arith, from) in
     let at : IsAt Forward c.args.self.now c.loop-at.cache.store.table c.args.input.now k c.run_fwd-run.result.id c.run_fwd-run.result.found = c.run_fwd-run.ensures.at in
     let read : next (tape_in Forward c.args.input.now) k ≡ Some _ = forward_read c.args.input.now c.haystack.result.now c.run_fwd-run.result.at c.run_fwd-run.result.at from (omega (arith, inside)) c.end-in-loop-at.ensures.within.1 (omega (arith, inside, c.end-in-loop-at.ensures.within.1)) c.haystack.ensures.same refl in
-    let few : k ≤ length (tape_in Forward c.args.input.now).bytes = (let u : c.args.input.now.end - c.args.input.now.start ≡ length (tape_in Forward c.args.input.now).bytes = forward_units c.args.input.now c.requires.open c.end-in-loop-at.ensures.within.1 in omega (arith, u, inside)) in
+    let few : k ≤ length (tape_in Forward c.args.input.now).bytes = (let u : c.args.input.now.end - c.args.input.now.start ≡ length (tape_in Forward c.args.input.now).bytes = forward_units c.args.input.now c.requires.at.undone c.end-in-loop-at.ensures.within.1 in omega (arith, u, inside)) in
     let underway : (x : ℕ) × IsOpenAt c.args.input.now s (given_up_offset Forward c.args.input.now 0) x c.args.cache.now.store c.loop-at.cache.store = c.loop-at.invariant.progress s e in
     if_err c.from_residual.result _ _ c.from_residual.ensures.1
-    (left_here Forward c.args.self.now c.args.input.now s c.args.cache.now c.loop-at.cache c.read.new.cache c.loop-at.invariant.grown c.in_err-next.ensures.grown
-    k c.run_fwd-run.result.id c.run_fwd-run.result.at underway.0 (Some _) c.run_fwd-run.result.found at few c.in_err-next.ensures.alive read (sym place) from (omega (arith, inside)) underway.1
-    c.in_err-next.field-0.0 c.in_err-next.ensures.left)
+    (left_here Forward c.args.self.now c.args.input.now s c.args.cache.now c.loop-at.cache c.read.new.cache c.loop-at.invariant.grown c.in_err-next.ensures.effect.grown
+    k c.run_fwd-run.result.id c.run_fwd-run.result.at underway.0 (Some _) c.run_fwd-run.result.found at few c.in_err-next.ensures.effect.alive read (sym place) from (omega (arith, inside)) underway.1
+    c.in_err-next.field-0.0 c.in_err-next.ensures.progress.left)
 
 pub returns-then-is_dead-clause-ended : goal.returns-then-is_dead-clause-ended
 returns-then-is_dead-clause-ended c = λ s e.
@@ -294,13 +225,13 @@ returns-then-is_dead-clause-ended c = λ s e.
     let place : c.run_fwd-run.result.at ≡ c.args.input.now.start + k = omega (arith, from) in
     let at : IsAt Forward c.args.self.now c.loop-at.cache.store.table c.args.input.now k c.run_fwd-run.result.id c.run_fwd-run.result.found = c.run_fwd-run.ensures.at in
     let read : next (tape_in Forward c.args.input.now) k ≡ Some _ = forward_read c.args.input.now c.haystack.result.now c.run_fwd-run.result.at c.run_fwd-run.result.at from (omega (arith, inside)) c.end-in-loop-at.ensures.within.1 (omega (arith, inside, c.end-in-loop-at.ensures.within.1)) c.haystack.ensures.same refl in
-    let few : k ≤ length (tape_in Forward c.args.input.now).bytes = (let u : c.args.input.now.end - c.args.input.now.start ≡ length (tape_in Forward c.args.input.now).bytes = forward_units c.args.input.now c.requires.open c.end-in-loop-at.ensures.within.1 in omega (arith, u, inside)) in
+    let few : k ≤ length (tape_in Forward c.args.input.now).bytes = (let u : c.args.input.now.end - c.args.input.now.start ≡ length (tape_in Forward c.args.input.now).bytes = forward_units c.args.input.now c.requires.at.undone c.end-in-loop-at.ensures.within.1 in omega (arith, u, inside)) in
     let underway : (x : ℕ) × IsOpenAt c.args.input.now s (given_up_offset Forward c.args.input.now 0) x c.args.cache.now.store c.loop-at.cache.store = c.loop-at.invariant.progress s e in
-    let stops : Reads Forward c.args.self.now c.args.input.now (suc k) → ⊥ = stops_dead Forward c.args.self.now c.loop-at.cache.store.table c.read.new.cache.store.table c.args.input.now k c.run_fwd-run.result.id c.in_ok-next.next _ c.run_fwd-run.result.found None at read c.in_ok-next.ensures.named (λ byte e. subst (λ v. is_quit c.args.self.now.quits v ≡ false) (some_inj e) c.in_ok-next.ensures.clean) (λ l. (c.in_ok-next.ensures.dead _ l).0 (c.if-is_dead.ensures.0 refl)) (suc k) (omega arith) in
-    let grown : IsGrown c.loop-at.cache c.end_search.new.self = grown_trans c.loop-at.cache c.read.new.cache c.end_search.new.self c.in_ok-next.ensures.grown (grown_moved c.read.new.cache c.end_search.new.self c.end_search.ensures.value) in
+    let stops : Reads Forward c.args.self.now c.args.input.now (suc k) → ⊥ = stops_dead Forward c.args.self.now c.loop-at.cache.store.table c.read.new.cache.store.table c.args.input.now k c.run_fwd-run.result.id c.in_ok-next.next _ c.run_fwd-run.result.found None at read c.in_ok-next.ensures.answer.named (λ byte e. subst (λ v. is_quit c.args.self.now.quits v ≡ false) (some_inj e) c.in_ok-next.ensures.answer.clean) (λ l. (c.in_ok-next.ensures.dead _ l).0 (c.if-is_dead.ensures.0 refl)) (suc k) (omega arith) in
+    let grown : IsGrown c.loop-at.cache c.end_search.new.self = grown_trans c.loop-at.cache c.read.new.cache c.end_search.new.self c.in_ok-next.ensures.effect.grown (grown_moved c.read.new.cache c.end_search.new.self c.end_search.ensures.value) in
     last_here Forward c.args.self.now c.args.input.now s c.args.cache.now c.loop-at.cache c.end_search.new.self c.loop-at.invariant.grown grown
-    k c.run_fwd-run.result.id c.run_fwd-run.result.at underway.0 (Some _) c.run_fwd-run.result.found at few c.in_ok-next.ensures.alive read (sym place) from (omega (arith, inside)) underway.1
-    (ended_after c.loop-at.cache c.read.new.cache c.end_search.new.self c.run_fwd-run.result.at c.in_ok-next.ensures.moved c.end_search.ensures.value) (inl stops)
+    k c.run_fwd-run.result.id c.run_fwd-run.result.at underway.0 (Some _) c.run_fwd-run.result.found at few c.in_ok-next.ensures.effect.alive read (sym place) from (omega (arith, inside)) underway.1
+    (ended_after c.loop-at.cache c.read.new.cache c.end_search.new.self c.run_fwd-run.result.at c.in_ok-next.ensures.progress.moved c.end_search.ensures.value) (inl stops)
 
 pub returns-then-is_some-clause-ended : goal.returns-then-is_some-clause-ended
 returns-then-is_some-clause-ended c = λ s e.
@@ -310,58 +241,58 @@ returns-then-is_some-clause-ended c = λ s e.
     let place : c.run_fwd-run.result.at ≡ c.args.input.now.start + k = omega (arith, from) in
     let at : IsAt Forward c.args.self.now c.loop-at.cache.store.table c.args.input.now k c.run_fwd-run.result.id c.run_fwd-run.result.found = c.run_fwd-run.ensures.at in
     let read : next (tape_in Forward c.args.input.now) k ≡ Some _ = forward_read c.args.input.now c.haystack.result.now c.run_fwd-run.result.at c.run_fwd-run.result.at from (omega (arith, inside)) c.end-in-loop-at.ensures.within.1 (omega (arith, inside, c.end-in-loop-at.ensures.within.1)) c.haystack.ensures.same refl in
-    let few : k ≤ length (tape_in Forward c.args.input.now).bytes = (let u : c.args.input.now.end - c.args.input.now.start ≡ length (tape_in Forward c.args.input.now).bytes = forward_units c.args.input.now c.requires.open c.end-in-loop-at.ensures.within.1 in omega (arith, u, inside)) in
+    let few : k ≤ length (tape_in Forward c.args.input.now).bytes = (let u : c.args.input.now.end - c.args.input.now.start ≡ length (tape_in Forward c.args.input.now).bytes = forward_units c.args.input.now c.requires.at.undone c.end-in-loop-at.ensures.within.1 in omega (arith, u, inside)) in
     let underway : (x : ℕ) × IsOpenAt c.args.input.now s (given_up_offset Forward c.args.input.now 0) x c.args.cache.now.store c.loop-at.cache.store = c.loop-at.invariant.progress s e in
-    let stops : Reads Forward c.args.self.now c.args.input.now (suc k) → ⊥ = stops_ends Forward c.args.self.now c.loop-at.cache.store.table c.read.new.cache.store.table c.args.input.now k c.run_fwd-run.result.id c.in_ok-next.next _ c.run_fwd-run.result.found c.found_at-found.result at read c.in_ok-next.ensures.named (λ byte e. subst (λ v. is_quit c.args.self.now.quits v ≡ false) (some_inj e) c.in_ok-next.ensures.clean) (c.run_fwd-run.result.at, place, c.found_at-found.ensures) (sym c.get_earliest.ensures ∙ c.if-get_earliest.true) (some_is c.found_at-found.result c.if-is_some.ensures) (suc k) (omega arith) in
-    let grown : IsGrown c.loop-at.cache c.end_search-then-is_some.new.self = grown_trans c.loop-at.cache c.read.new.cache c.end_search-then-is_some.new.self c.in_ok-next.ensures.grown (grown_moved c.read.new.cache c.end_search-then-is_some.new.self c.end_search-then-is_some.ensures.value) in
+    let stops : Reads Forward c.args.self.now c.args.input.now (suc k) → ⊥ = stops_ends Forward c.args.self.now c.loop-at.cache.store.table c.read.new.cache.store.table c.args.input.now k c.run_fwd-run.result.id c.in_ok-next.next _ c.run_fwd-run.result.found c.found_at-found.result at read c.in_ok-next.ensures.answer.named (λ byte e. subst (λ v. is_quit c.args.self.now.quits v ≡ false) (some_inj e) c.in_ok-next.ensures.answer.clean) (c.run_fwd-run.result.at, place, c.found_at-found.ensures) (sym c.get_earliest.ensures ∙ c.if-get_earliest.true) (some_is c.found_at-found.result c.if-is_some.ensures) (suc k) (omega arith) in
+    let grown : IsGrown c.loop-at.cache c.end_search-then-is_some.new.self = grown_trans c.loop-at.cache c.read.new.cache c.end_search-then-is_some.new.self c.in_ok-next.ensures.effect.grown (grown_moved c.read.new.cache c.end_search-then-is_some.new.self c.end_search-then-is_some.ensures.value) in
     last_here Forward c.args.self.now c.args.input.now s c.args.cache.now c.loop-at.cache c.end_search-then-is_some.new.self c.loop-at.invariant.grown grown
-    k c.run_fwd-run.result.id c.run_fwd-run.result.at underway.0 (Some _) c.run_fwd-run.result.found at few c.in_ok-next.ensures.alive read (sym place) from (omega (arith, inside)) underway.1
-    (ended_after c.loop-at.cache c.read.new.cache c.end_search-then-is_some.new.self c.run_fwd-run.result.at c.in_ok-next.ensures.moved c.end_search-then-is_some.ensures.value) (inl stops)
+    k c.run_fwd-run.result.id c.run_fwd-run.result.at underway.0 (Some _) c.run_fwd-run.result.found at few c.in_ok-next.ensures.effect.alive read (sym place) from (omega (arith, inside)) underway.1
+    (ended_after c.loop-at.cache c.read.new.cache c.end_search-then-is_some.new.self c.run_fwd-run.result.at c.in_ok-next.ensures.progress.moved c.end_search-then-is_some.ensures.value) (inl stops)
 
 pub returns-then-run-end-clause-ended : goal.returns-then-run-end-clause-ended
 returns-then-run-end-clause-ended c = λ s e.
     let same : c.run_fwd-run.result.at - c.args.input.now.start ≡ c.args.input.now.end - c.args.input.now.start = omega (arith, c.if-run-end.true, c.run_fwd-run.ensures.within, c.end-in-loop-at.ensures.end) in
     let k : ℕ = c.args.input.now.end - c.args.input.now.start in
     let at : IsAt Forward c.args.self.now c.loop-at.cache.store.table c.args.input.now k c.run_fwd-run.result.id c.run_fwd-run.result.found = subst (λ k. IsAt Forward c.args.self.now c.loop-at.cache.store.table c.args.input.now k c.run_fwd-run.result.id c.run_fwd-run.result.found) same c.run_fwd-run.ensures.at in
-    let units : k ≡ length (tape_in Forward c.args.input.now).bytes = forward_units c.args.input.now c.requires.open c.end-in-loop-at.ensures.within.1 in
+    let units : k ≡ length (tape_in Forward c.args.input.now).bytes = forward_units c.args.input.now c.requires.at.undone c.end-in-loop-at.ensures.within.1 in
     let underway : (x : ℕ) × IsOpenAt c.args.input.now s (given_up_offset Forward c.args.input.now 0) x c.args.cache.now.store c.loop-at.cache.store = c.loop-at.invariant.progress s e in
     IfOk-weaker c.find_end_fwd.result _ _
-    (λ _ ended. last_here Forward c.args.self.now c.args.input.now s c.args.cache.now c.loop-at.cache c.find_end_fwd.new.cache c.loop-at.invariant.grown c.find_end_fwd.ensures.grown
-    k c.run_fwd-run.result.id c.args.input.now.end underway.0 (next (tape_in Forward c.args.input.now) k) c.run_fwd-run.result.found at (omega (arith, units)) c.find_end_fwd.ensures.alive refl (omega (arith, c.requires.open)) c.requires.open (omega arith) underway.1 ended (inl (λ r. stops_last Forward c.args.self.now c.args.input.now k units (suc k) (omega arith) r)))
-    c.find_end_fwd.ensures.ended
+    (λ _ ended. last_here Forward c.args.self.now c.args.input.now s c.args.cache.now c.loop-at.cache c.find_end_fwd.new.cache c.loop-at.invariant.grown c.find_end_fwd.ensures.effect.grown
+    k c.run_fwd-run.result.id c.args.input.now.end underway.0 (next (tape_in Forward c.args.input.now) k) c.run_fwd-run.result.found at (omega (arith, units)) c.find_end_fwd.ensures.alive refl (omega (arith, c.requires.at.undone)) c.requires.at.undone (omega arith) underway.1 ended (inl (λ r. stops_last Forward c.args.self.now c.args.input.now k units (suc k) (omega arith) r)))
+    c.find_end_fwd.ensures.progress.ended
 
 pub returns-then-run-end-clause-left : goal.returns-then-run-end-clause-left
 returns-then-run-end-clause-left c = λ s e.
     let same : c.run_fwd-run.result.at - c.args.input.now.start ≡ c.args.input.now.end - c.args.input.now.start = omega (arith, c.if-run-end.true, c.run_fwd-run.ensures.within, c.end-in-loop-at.ensures.end) in
     let k : ℕ = c.args.input.now.end - c.args.input.now.start in
     let at : IsAt Forward c.args.self.now c.loop-at.cache.store.table c.args.input.now k c.run_fwd-run.result.id c.run_fwd-run.result.found = subst (λ k. IsAt Forward c.args.self.now c.loop-at.cache.store.table c.args.input.now k c.run_fwd-run.result.id c.run_fwd-run.result.found) same c.run_fwd-run.ensures.at in
-    let units : k ≡ length (tape_in Forward c.args.input.now).bytes = forward_units c.args.input.now c.requires.open c.end-in-loop-at.ensures.within.1 in
+    let units : k ≡ length (tape_in Forward c.args.input.now).bytes = forward_units c.args.input.now c.requires.at.undone c.end-in-loop-at.ensures.within.1 in
     let underway : (x : ℕ) × IsOpenAt c.args.input.now s (given_up_offset Forward c.args.input.now 0) x c.args.cache.now.store c.loop-at.cache.store = c.loop-at.invariant.progress s e in
     IfErr-weaker c.find_end_fwd.result _ _
-    (λ error left. left_here Forward c.args.self.now c.args.input.now s c.args.cache.now c.loop-at.cache c.find_end_fwd.new.cache c.loop-at.invariant.grown c.find_end_fwd.ensures.grown
-    k c.run_fwd-run.result.id c.args.input.now.end underway.0 (next (tape_in Forward c.args.input.now) k) c.run_fwd-run.result.found at (omega (arith, units)) c.find_end_fwd.ensures.alive refl (omega (arith, c.requires.open)) c.requires.open (omega arith) underway.1 error left)
-    c.find_end_fwd.ensures.left
+    (λ error left. left_here Forward c.args.self.now c.args.input.now s c.args.cache.now c.loop-at.cache c.find_end_fwd.new.cache c.loop-at.invariant.grown c.find_end_fwd.ensures.effect.grown
+    k c.run_fwd-run.result.id c.args.input.now.end underway.0 (next (tape_in Forward c.args.input.now) k) c.run_fwd-run.result.found at (omega (arith, units)) c.find_end_fwd.ensures.alive refl (omega (arith, c.requires.at.undone)) c.requires.at.undone (omega arith) underway.1 error left)
+    c.find_end_fwd.ensures.progress.left
 
 pub returns-clause-ended : goal.returns-clause-ended
 returns-clause-ended c = λ s e.
     let same : c.loop-at.at - c.args.input.now.start ≡ c.args.input.now.end - c.args.input.now.start = omega (arith, c.loop-at-test.false, c.loop-at.invariant.within, c.end.ensures.end) in
     let k : ℕ = c.args.input.now.end - c.args.input.now.start in
     let at : IsAt Forward c.args.self.now c.loop-at.cache.store.table c.args.input.now k c.loop-at.id c.loop-at.found = subst (λ k. IsAt Forward c.args.self.now c.loop-at.cache.store.table c.args.input.now k c.loop-at.id c.loop-at.found) same c.loop-at.invariant.at in
-    let units : k ≡ length (tape_in Forward c.args.input.now).bytes = forward_units c.args.input.now c.requires.open c.end.ensures.within.1 in
+    let units : k ≡ length (tape_in Forward c.args.input.now).bytes = forward_units c.args.input.now c.requires.at.undone c.end.ensures.within.1 in
     let underway : (x : ℕ) × IsOpenAt c.args.input.now s (given_up_offset Forward c.args.input.now 0) x c.args.cache.now.store c.loop-at.cache.store = c.loop-at.invariant.progress s e in
     IfOk-weaker c.find_end_fwd-2.result _ _
-    (λ _ ended. last_here Forward c.args.self.now c.args.input.now s c.args.cache.now c.loop-at.cache c.find_end_fwd-2.new.cache c.loop-at.invariant.grown c.find_end_fwd-2.ensures.grown
-    k c.loop-at.id c.args.input.now.end underway.0 (next (tape_in Forward c.args.input.now) k) c.loop-at.found at (omega (arith, units)) c.find_end_fwd-2.ensures.alive refl (omega (arith, c.requires.open)) c.requires.open (omega arith) underway.1 ended (inl (λ r. stops_last Forward c.args.self.now c.args.input.now k units (suc k) (omega arith) r)))
-    c.find_end_fwd-2.ensures.ended
+    (λ _ ended. last_here Forward c.args.self.now c.args.input.now s c.args.cache.now c.loop-at.cache c.find_end_fwd-2.new.cache c.loop-at.invariant.grown c.find_end_fwd-2.ensures.effect.grown
+    k c.loop-at.id c.args.input.now.end underway.0 (next (tape_in Forward c.args.input.now) k) c.loop-at.found at (omega (arith, units)) c.find_end_fwd-2.ensures.alive refl (omega (arith, c.requires.at.undone)) c.requires.at.undone (omega arith) underway.1 ended (inl (λ r. stops_last Forward c.args.self.now c.args.input.now k units (suc k) (omega arith) r)))
+    c.find_end_fwd-2.ensures.progress.ended
 
 pub returns-clause-left : goal.returns-clause-left
 returns-clause-left c = λ s e.
     let same : c.loop-at.at - c.args.input.now.start ≡ c.args.input.now.end - c.args.input.now.start = omega (arith, c.loop-at-test.false, c.loop-at.invariant.within, c.end.ensures.end) in
     let k : ℕ = c.args.input.now.end - c.args.input.now.start in
     let at : IsAt Forward c.args.self.now c.loop-at.cache.store.table c.args.input.now k c.loop-at.id c.loop-at.found = subst (λ k. IsAt Forward c.args.self.now c.loop-at.cache.store.table c.args.input.now k c.loop-at.id c.loop-at.found) same c.loop-at.invariant.at in
-    let units : k ≡ length (tape_in Forward c.args.input.now).bytes = forward_units c.args.input.now c.requires.open c.end.ensures.within.1 in
+    let units : k ≡ length (tape_in Forward c.args.input.now).bytes = forward_units c.args.input.now c.requires.at.undone c.end.ensures.within.1 in
     let underway : (x : ℕ) × IsOpenAt c.args.input.now s (given_up_offset Forward c.args.input.now 0) x c.args.cache.now.store c.loop-at.cache.store = c.loop-at.invariant.progress s e in
     IfErr-weaker c.find_end_fwd-2.result _ _
-    (λ error left. left_here Forward c.args.self.now c.args.input.now s c.args.cache.now c.loop-at.cache c.find_end_fwd-2.new.cache c.loop-at.invariant.grown c.find_end_fwd-2.ensures.grown
-    k c.loop-at.id c.args.input.now.end underway.0 (next (tape_in Forward c.args.input.now) k) c.loop-at.found at (omega (arith, units)) c.find_end_fwd-2.ensures.alive refl (omega (arith, c.requires.open)) c.requires.open (omega arith) underway.1 error left)
-    c.find_end_fwd-2.ensures.left
+    (λ error left. left_here Forward c.args.self.now c.args.input.now s c.args.cache.now c.loop-at.cache c.find_end_fwd-2.new.cache c.loop-at.invariant.grown c.find_end_fwd-2.ensures.effect.grown
+    k c.loop-at.id c.args.input.now.end underway.0 (next (tape_in Forward c.args.input.now) k) c.loop-at.found at (omega (arith, units)) c.find_end_fwd-2.ensures.alive refl (omega (arith, c.requires.at.undone)) c.requires.at.undone (omega arith) underway.1 error left)
+    c.find_end_fwd-2.ensures.progress.left

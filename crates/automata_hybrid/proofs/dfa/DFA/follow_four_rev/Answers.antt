@@ -18,7 +18,7 @@ pub loop-k-init : goal.loop-k-init
 loop-k-init c =
     let here : c.args.input.now.end - c.args.start ≡ c.args.input.now.end - (c.args.start - 0) = omega arith in
     record {
-      valid = c.requires.valid;
-      untagged = c.requires.untagged;
+      valid = c.requires.untagged.valid;
+      untagged = c.requires.untagged.untagged;
       followed = λ n. followed_to here (followed_none Backward c.args.self.now c.args.cache.now.store c.args.input.now (c.args.input.now.end - c.args.start) c.args.from n);
     }

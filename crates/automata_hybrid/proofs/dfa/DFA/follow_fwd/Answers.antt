@@ -7,10 +7,10 @@ use Rattle.automata_hybrid.proofs.dfa.DFA.follow_fwd.Goals as goal
 pub fours-preserved-then-not-same : goal.fours-preserved-then-not-same
 fours-preserved-then-not-same c =
     record {
-      valid = c.follow_four_fwd-four.ensures.valid;
-      untagged = c.follow_four_fwd-four.ensures.untagged;
-      from = omega (arith, c.fours.invariant.from, c.follow_four_fwd-four.ensures.from);
-      within = omega (arith, c.fours-test.true, c.follow_four_fwd-four.ensures.within);
+      valid = c.follow_four_fwd-four.ensures.untagged.valid;
+      untagged = c.follow_four_fwd-four.ensures.untagged.untagged;
+      from = omega (arith, c.fours.invariant.from, c.follow_four_fwd-four.ensures.at.from);
+      within = omega (arith, c.fours-test.true, c.follow_four_fwd-four.ensures.at.upto);
       followed = λ n. followed_on (c.fours.invariant.followed n) c.follow_four_fwd-four.ensures.followed;
     }
 
@@ -36,9 +36,9 @@ returns-clause-followed c = λ n. followed_on (c.fours.invariant.followed n) c.f
 pub fours-preserved : goal.fours-preserved
 fours-preserved c =
     record {
-      valid = c.follow_four_fwd-four.ensures.valid;
-      untagged = c.follow_four_fwd-four.ensures.untagged;
-      from = omega (arith, c.fours.invariant.from, c.follow_four_fwd-four.ensures.from, c.follow_loop_fwd-stop.ensures.from);
+      valid = c.follow_four_fwd-four.ensures.untagged.valid;
+      untagged = c.follow_four_fwd-four.ensures.untagged.untagged;
+      from = omega (arith, c.fours.invariant.from, c.follow_four_fwd-four.ensures.at.from, c.follow_loop_fwd-stop.ensures.from);
       within = omega (arith, c.end-end.ensures.end, c.follow_loop_fwd-stop.ensures.within);
       followed = λ n. followed_on (followed_on (c.fours.invariant.followed n) c.follow_four_fwd-four.ensures.followed) c.follow_loop_fwd-stop.ensures.followed;
     }
@@ -46,9 +46,9 @@ fours-preserved c =
 pub fours-preserved-then-stop-at : goal.fours-preserved-then-stop-at
 fours-preserved-then-stop-at c =
     record {
-      valid = c.follow_four_fwd-four.ensures.valid;
-      untagged = c.follow_four_fwd-four.ensures.untagged;
-      from = omega (arith, c.fours.invariant.from, c.follow_four_fwd-four.ensures.from, c.follow_loop_fwd-stop.ensures.from);
+      valid = c.follow_four_fwd-four.ensures.untagged.valid;
+      untagged = c.follow_four_fwd-four.ensures.untagged.untagged;
+      from = omega (arith, c.fours.invariant.from, c.follow_four_fwd-four.ensures.at.from, c.follow_loop_fwd-stop.ensures.from);
       within = omega (arith, c.end-end.ensures.end, c.follow_loop_fwd-stop.ensures.within);
       followed = λ n. followed_on (followed_on (c.fours.invariant.followed n) c.follow_four_fwd-four.ensures.followed) c.follow_loop_fwd-stop.ensures.followed;
     }

@@ -7,10 +7,10 @@ use Rattle.automata_hybrid.proofs.dfa.DFA.follow_rev.Goals as goal
 pub fours-preserved-then-not-same : goal.fours-preserved-then-not-same
 fours-preserved-then-not-same c =
     record {
-      valid = c.follow_four_rev-four.ensures.valid;
-      untagged = c.follow_four_rev-four.ensures.untagged;
-      from = omega (arith, c.fours-test.true, c.follow_four_rev-four.ensures.from);
-      within = omega (arith, c.fours.invariant.within, c.follow_four_rev-four.ensures.within);
+      valid = c.follow_four_rev-four.ensures.untagged.valid;
+      untagged = c.follow_four_rev-four.ensures.untagged.untagged;
+      from = omega (arith, c.fours-test.true, c.follow_four_rev-four.ensures.at.from);
+      within = omega (arith, c.fours.invariant.within, c.follow_four_rev-four.ensures.at.upto);
       followed = λ n. followed_on (c.fours.invariant.followed n) c.follow_four_rev-four.ensures.followed;
     }
 
@@ -36,19 +36,19 @@ returns-clause-followed c = λ n. followed_on (c.fours.invariant.followed n) c.f
 pub fours-preserved : goal.fours-preserved
 fours-preserved c =
     record {
-      valid = c.follow_four_rev-four.ensures.valid;
-      untagged = c.follow_four_rev-four.ensures.untagged;
+      valid = c.follow_four_rev-four.ensures.untagged.valid;
+      untagged = c.follow_four_rev-four.ensures.untagged.untagged;
       from = omega (arith, c.fours-test.true, c.follow_loop_rev-stop.ensures.from, c.start-first.ensures.start);
-      within = omega (arith, c.fours.invariant.within, c.follow_four_rev-four.ensures.within, c.follow_loop_rev-stop.ensures.within);
+      within = omega (arith, c.fours.invariant.within, c.follow_four_rev-four.ensures.at.upto, c.follow_loop_rev-stop.ensures.within);
       followed = λ n. followed_on (followed_on (c.fours.invariant.followed n) c.follow_four_rev-four.ensures.followed) c.follow_loop_rev-stop.ensures.followed;
     }
 
 pub fours-preserved-then-stop-at : goal.fours-preserved-then-stop-at
 fours-preserved-then-stop-at c =
     record {
-      valid = c.follow_four_rev-four.ensures.valid;
-      untagged = c.follow_four_rev-four.ensures.untagged;
+      valid = c.follow_four_rev-four.ensures.untagged.valid;
+      untagged = c.follow_four_rev-four.ensures.untagged.untagged;
       from = omega (arith, c.fours-test.true, c.follow_loop_rev-stop.ensures.from, c.start-first.ensures.start);
-      within = omega (arith, c.fours.invariant.within, c.follow_four_rev-four.ensures.within, c.follow_loop_rev-stop.ensures.within);
+      within = omega (arith, c.fours.invariant.within, c.follow_four_rev-four.ensures.at.upto, c.follow_loop_rev-stop.ensures.within);
       followed = λ n. followed_on (followed_on (c.fours.invariant.followed n) c.follow_four_rev-four.ensures.followed) c.follow_loop_rev-stop.ensures.followed;
     }

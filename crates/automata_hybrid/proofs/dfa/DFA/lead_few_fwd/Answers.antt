@@ -9,7 +9,7 @@ few-init c =
     record {
       valid = c.requires.valid;
       from = omega arith;
-      within = omega (arith, c.requires.within);
+      within = omega (arith, c.requires.end.from);
       led = λ n. led_none Forward c.args.self.now c.args.cache.now.store c.args.input.now (c.args.start - c.args.input.now.start) c.args.from n;
       tells = λ l. absurd (omega (arith, l));
     }

@@ -8,7 +8,7 @@ pub few-init : goal.few-init
 few-init c =
     record {
       valid = c.requires.valid;
-      from = omega (arith, c.requires.from);
+      from = omega (arith, c.requires.first.upto);
       within = omega arith;
       led = λ n. led_none Backward c.args.self.now c.args.cache.now.store c.args.input.now (c.args.input.now.end - c.args.start) c.args.from n;
       tells = λ l. absurd (omega (arith, l));

@@ -1,26 +1,46 @@
-use Rattle.std.proofs.Common.{◌-◌, refl, sym, subst}
+use Rattle.std.proofs.Common.{◌-◌, refl, sym, subst, arith}
+use Rattle.automata_hybrid.specs.Reading.{IsReadEffect}
 use Rattle.automata_hybrid.specs.Searches.{IsStepRefusal}
+use Rattle.automata_hybrid.proofs.Reading.{at_err, read_answered, read_quits, read_refused, told_refusal}
 use Rattle.automata_hybrid.proofs.Searching.{false_true, if_err}
-use Rattle.automata_hybrid.proofs.Stepping.{unquit, quits}
+use Rattle.automata_hybrid.proofs.Stepping.{quits, unquit}
 use Rattle.automata_hybrid.proofs.dfa.DFA.read_before.Goals as goal
+
+pub returns-clause-answer : goal.returns-clause-answer
+returns-clause-answer c =
+    let clean = unquit c.args.self.now c.step.new.cache.store.table c.in_ok-next.next c.args.byte c.in_ok-next.ensures.of c.see_ids-2.ensures.small
+    (λ b. false_true (c.if-is_quit.ensures.1 b)) (c.in_ok-next.ensures.answer.quit (c.see_ids.ensures.low c.args.id c.requires.valid.0 c.requires.valid.1)) in
+    record { clean = clean; named = λ q n. c.in_ok-next.ensures.answer.named clean q n }
+
+pub returns-clause-effect : goal.returns-clause-effect
+returns-clause-effect c =
+    read_answered c.args.self.now c.args.id _ c.args.cache.now c.args.cache.now c.step.new.cache {s = c.args.cache.now.store.searched} refl
+    (c.see_ids.ensures.alive c.args.id) (c.see_classes.ensures.bytes c.args.byte (omega arith)) c.in_ok-next.ensures.effect
+    c.in_ok-next.next c.in_ok-next.next (c.see_ids.ensures.low c.args.id c.requires.valid.0 c.requires.valid.1) c.in_ok-next.ensures.answer
 
 pub returns-in_err-next-clause-refusal : goal.returns-in_err-next-clause-refusal
 returns-in_err-next-clause-refusal c =
-    if_err c.from_residual.result _ _ c.from_residual.ensures.1 (λ q n. c.in_err-next.ensures.refusal q (c.args.start - 1) n)
+    if_err c.from_residual.result _ _ c.from_residual.ensures.1
+    (told_refusal c.args.self.now c.args.id _ (c.args.start - 1) c.args.start c.args.cache.now c.step.new.cache c.in_err-next.field-0.0 c.in_err-next.ensures.refusal)
+
+pub returns-in_err-next-clause-effect : goal.returns-in_err-next-clause-effect
+returns-in_err-next-clause-effect c =
+    at_err c.from_residual.result _ (IsReadEffect c.args.self.now c.args.id _ c.args.cache.now c.step.new.cache) c.from_residual.ensures.1
+    (read_refused c.args.self.now c.args.id _ c.args.cache.now c.args.cache.now c.step.new.cache {s = c.args.cache.now.store.searched} refl
+    (c.see_ids.ensures.alive c.args.id) (c.see_classes.ensures.bytes c.args.byte (omega arith)) c.in_err-next.ensures.effect
+    c.args.start c.in_err-next.field-0.0 c.in_err-next.ensures.refusal)
 
 pub returns-then-is_quit-clause-refusal : goal.returns-then-is_quit-clause-refusal
 returns-then-is_quit-clause-refusal c = λ q n.
     subst (IsStepRefusal c.args.self.now c.step.new.cache.store q _ _ c.args.start) (sym c.quit.ensures) (
       refl,
       quits c.args.self.now c.args.cache.now.store.table c.step.new.cache.store.table c.args.id c.in_ok-next.next c.args.byte q
-          c.see_ids-2.ensures.small (λ p. c.see_ids-2.ensures.low c.in_ok-next.next p) (c.if-is_quit.ensures.0 refl) c.in_ok-next.ensures.named n,
+          c.see_ids-2.ensures.small (λ p. c.see_ids-2.ensures.low c.in_ok-next.next p) (c.if-is_quit.ensures.0 refl) c.in_ok-next.ensures.answer.named n,
       refl,
     )
 
-pub returns-clause-clean : goal.returns-clause-clean
-returns-clause-clean c =
-    unquit c.args.self.now c.step.new.cache.store.table c.in_ok-next.next c.args.byte c.in_ok-next.ensures.of c.see_ids-2.ensures.small
-    (λ b. false_true (c.if-is_quit.ensures.1 b)) c.in_ok-next.ensures.quit
-
-pub returns-clause-named : goal.returns-clause-named
-returns-clause-named c = λ q n. c.in_ok-next.ensures.named (returns-clause-clean c) q n
+pub returns-then-is_quit-clause-effect : goal.returns-then-is_quit-clause-effect
+returns-then-is_quit-clause-effect c =
+    read_quits c.args.self.now c.args.id _ c.args.cache.now c.args.cache.now c.step.new.cache {s = c.args.cache.now.store.searched} refl
+    (c.see_ids.ensures.alive c.args.id) (c.see_classes.ensures.bytes c.args.byte (omega arith)) c.in_ok-next.ensures.effect
+    c.step.new.cache {s' = c.step.new.cache.store.searched} refl c.args.byte _ c.quit.result c.quit.ensures

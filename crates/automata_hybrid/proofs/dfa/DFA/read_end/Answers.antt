@@ -1,17 +1,23 @@
-use Rattle.std.proofs.Common.{sym, ap, subst}
-use Rattle.automata_hybrid.proofs.Stepping.{end_no_quit, refused}
-use Rattle.automata_hybrid.specs.Caches.{CacheView}
-use Rattle.automata_hybrid.specs.Searches.{IsStepRefusal}
+use Rattle.std.proofs.Common.{refl}
+use Rattle.automata_hybrid.proofs.Reading.{read_answered, read_refused, told_refusal}
 use Rattle.automata_hybrid.proofs.dfa.DFA.read_end.Goals as goal
 
+pub returns-in-Ok-clause-answer : goal.returns-in-Ok-clause-answer
+returns-in-Ok-clause-answer c = record { clean = refl; named = λ q n. c.in-Ok.ensures.answer.named refl q n }
+
+pub returns-in-Ok-clause-effect : goal.returns-in-Ok-clause-effect
+returns-in-Ok-clause-effect c =
+    read_answered c.args.self.now c.args.id _ c.args.cache.now c.args.cache.now c.next_eoi_state.new.cache {s = c.args.cache.now.store.searched} refl
+    (c.see_ids.ensures.alive c.args.id) c.see_classes.ensures.end c.in-Ok.ensures.effect
+    c.in-Ok.next c.in-Ok.next (c.see_ids.ensures.low c.args.id c.requires.valid.0 c.requires.valid.1) c.in-Ok.ensures.answer
+
 pub returns-in-Err-clause-refusal : goal.returns-in-Err-clause-refusal
-returns-in-Err-clause-refusal c = λ q n.
-    subst (IsStepRefusal c.args.self.now c.next_eoi_state.new.cache.store q _ c.args.at c.args.at) (sym c.refusal.ensures)
-    (refused c.args.self.now c.args.cache.now.store c.next_eoi_state.new.cache.store q _ c.args.at c.args.at c.in-Err.error (end_no_quit c.args.self.now) (ap (λ (v : CacheView). v.store) c.in-Err.ensures.refusal.unchanged) (λ e. c.in-Err.ensures.refusal.gives_up e q n))
+returns-in-Err-clause-refusal c =
+    told_refusal c.args.self.now c.args.id _ c.args.at c.args.at c.args.cache.now c.next_eoi_state.new.cache c.refusal.result
+    (record { error = c.in-Err.error; refused = c.in-Err.ensures.refusal; told = c.refusal.ensures })
 
-pub returns-in-Err-clause-alive : goal.returns-in-Err-clause-alive
-returns-in-Err-clause-alive c = λ q n. c.see_ids.ensures.alive c.args.id q n
-
-pub returns-in-Ok-clause-learned : goal.returns-in-Ok-clause-learned
-returns-in-Ok-clause-learned c = λ nothing.
-    c.in-Ok.ensures.answer.learned (c.see_ids.ensures.low c.args.id c.requires.valid.0 c.requires.valid.1) nothing
+pub returns-in-Err-clause-effect : goal.returns-in-Err-clause-effect
+returns-in-Err-clause-effect c =
+    read_refused c.args.self.now c.args.id _ c.args.cache.now c.args.cache.now c.next_eoi_state.new.cache {s = c.args.cache.now.store.searched} refl
+    (c.see_ids.ensures.alive c.args.id) c.see_classes.ensures.end c.in-Err.ensures.effect c.args.at c.refusal.result
+    (record { error = c.in-Err.error; refused = c.in-Err.ensures.refusal; told = c.refusal.ensures })

@@ -8,6 +8,7 @@ use Rattle.automata_hybrid.specs.Searches.{given_up_offset, state_in, tape_in}
 use Rattle.automata_hybrid.specs.Table.{Rows, Leads, Names}
 use Rattle.automata_hybrid.specs.Walks.{way_of}
 use Rattle.automata_hybrid.proofs.Growing.{grown_moved, grown_trans}
+use Rattle.automata_hybrid.proofs.Reading.{end_room}
 use Rattle.automata_hybrid.proofs.Searched.{moved_by, on_ok}
 use Rattle.automata_hybrid.proofs.Searching.{state_more}
 use Rattle.automata_hybrid.proofs.dfa.DFA.read_unit.Goals as goal
@@ -26,12 +27,12 @@ returns-in-None-clause-leads c =
     let unit : next (tape_in (way_of c.args.way) c.args.input.now) c.args.place ≡ None = sym c.unit_at.ensures ∙ c.in-None.is in
     let more = state_more (way_of c.args.way) c.args.self.now c.args.input.now c.args.place ∙ ap (successor c.args.self.now.nfa (match_kind_of c.args.self.now.config) (state_in (way_of c.args.way) c.args.self.now c.args.input.now c.args.place)) unit in
     IfOk-weaker c.read_end.result _ _
-    (λ n h. subst (λ q. Leads c.read_end.new.cache.store.table n q) (sym more) (h (state_in (way_of c.args.way) c.args.self.now c.args.input.now c.args.place) (subst (λ (t : Rows). Names t c.args.id (state_in (way_of c.args.way) c.args.self.now c.args.input.now c.args.place)) (sym c.move_search.ensures.table) c.requires.named)))
-    c.read_end.ensures.named
+    (λ n h. subst (λ q. Leads c.read_end.new.cache.store.table n q) (sym more) (h.named (state_in (way_of c.args.way) c.args.self.now c.args.input.now c.args.place) (subst (λ (t : Rows). Names t c.args.id (state_in (way_of c.args.way) c.args.self.now c.args.input.now c.args.place)) (sym c.move_search.ensures.table) c.requires.named)))
+    c.read_end.ensures.answer
 
 pub returns-in-None-clause-grown : goal.returns-in-None-clause-grown
 returns-in-None-clause-grown c =
-    grown_trans c.args.cache.now c.move_search.new.self c.read_end.new.cache (grown_moved c.args.cache.now c.move_search.new.self c.move_search.ensures.value) c.read_end.ensures.grown
+    grown_trans c.args.cache.now c.move_search.new.self c.read_end.new.cache (grown_moved c.args.cache.now c.move_search.new.self c.move_search.ensures.value) c.read_end.ensures.effect.grown
 
 pub returns-in-Some-clause-moved : goal.returns-in-Some-clause-moved
 returns-in-Some-clause-moved c =
@@ -52,7 +53,9 @@ returns-in-None-clause-moved c =
 
 pub returns-in-None-clause-left : goal.returns-in-None-clause-left
 returns-in-None-clause-left c =
+    let named : Names c.move_search.new.self.store.table c.args.id (state_in (way_of c.args.way) c.args.self.now c.args.input.now c.args.place) =
+    subst (λ (t : Rows). Names t c.args.id (state_in (way_of c.args.way) c.args.self.now c.args.input.now c.args.place)) (sym c.move_search.ensures.table) c.requires.named in
     subst (λ a. IfErr c.read_end.result (IsLeftAt c.args.self.now (next (tape_in (way_of c.args.way) c.args.input.now) c.args.place) a c.args.cache.now.store c.read_end.new.cache.store)) c.span_offset-at.ensures
     (IfErr-weaker c.read_end.result _ _
-    (λ e room. inr (room, moved_by c.args.cache.now c.move_search.new.self c.read_end.new.cache c.span_offset-at.result c.move_search.ensures.value c.read_end.ensures.progress))
-    c.read_end.ensures.room)
+    (λ e why. inr (end_room c.args.self.now c.args.id c.span_offset-at.result c.span_offset-at.result c.move_search.new.self c.read_end.new.cache e (_, named) why, moved_by c.args.cache.now c.move_search.new.self c.read_end.new.cache c.span_offset-at.result c.move_search.ensures.value c.read_end.ensures.progress))
+    c.read_end.ensures.refusal)

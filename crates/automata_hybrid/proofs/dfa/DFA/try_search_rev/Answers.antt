@@ -45,22 +45,9 @@ returns-clause-half c =
           s.found;
       within = lies_in m input lies haystack.within.1 Backward r s.found;
       errors = may_refuse r Backward m cache input (is_store cache m s.of c.see_bounds.ensures) s.refusal;
-      unsupported = λ u. s.unsupported u.undone u.behind u.mode;
+      unsupported = s.unsupported;
       free = λ f.
           IfErr-weaker r _ _ (λ e x. refused_memory Backward m cache input e haystack.within.1 s.of f.reach f.supported f.clears x)
           s.refusal;
-      done = λ past. (s.done past).0;
-    }
-
-pub returns-clause-effect : goal.returns-clause-effect
-returns-clause-effect c =
-    let s = c.search_rev-found.ensures in
-    record {
-      cost = s.cost;
-      grown = s.grown;
-      learned = s.learned;
-      known = λ knows. (s.grown.idle (s.known knows).0, (s.known knows).1);
-      ended = s.ended;
-      left = s.left;
-      done = λ past. (s.done past).1;
+      done = s.done;
     }

@@ -1,0 +1,135 @@
+-- Units that a search reads from an ID, from what the step on each answers and changes.
+use Rattle.std.proofs.Common.{ℕ, ◌≡◌, ◌∙◌, ◌+◌, ◌<◌, ◌≤◌, ◌⊎◌, Option, None, inl, inr, refl, sym, ap, subst, arith}
+use Rattle.std.specs.Prelude.{Result, Ok, Err}
+use Rattle.std.specs.Result.{IsErrAnd}
+use Rattle.automata_base.specs.Powerset.{Powerset, dead}
+use Rattle.automata_base.specs.declared.util.search.MatchErrorKind.TheVariants.{Quit as QuitAt, GaveUp, UnsupportedAnchored as UnsupportedMode}
+use Rattle.automata_base.proofs.Paths.Orders.{none_some}
+use Rattle.automata_config.specs.declared.error.SearchError.{SearchError}
+use Rattle.automata_config.specs.declared.error.SearchError.TheVariants as search
+use Rattle.automata_config.specs.declared.error.StepError.{StepError}
+use Rattle.automata_config.specs.declared.error.StepError.TheVariants.{Cache, OutOfMemory}
+use Rattle.automata_hybrid.specs.declared.dfa.progress.Searched.{Searched}
+use Rattle.automata_hybrid.specs.Caches.{CacheView, with_store}
+use Rattle.automata_hybrid.specs.Growing.{IsGrown}
+use Rattle.automata_hybrid.specs.Ids.{fixed_from}
+use Rattle.automata_hybrid.specs.Knowing.{IsOfInput}
+use Rattle.automata_hybrid.specs.Machine.{Machine, table_stride}
+use Rattle.automata_hybrid.specs.Passing.{step_refusal}
+use Rattle.automata_hybrid.specs.Reading.{IsReadEffect, IsReadRefusal, IsStepRefusedAt}
+use Rattle.automata_hybrid.specs.Searched.{IsOfRoom}
+use Rattle.automata_hybrid.specs.Searches.{IsStepRefusal}
+use Rattle.automata_hybrid.specs.Stepping.{IsStepAnswer, IsStepEffect, KnowsStep, unit_class}
+use Rattle.automata_hybrid.specs.Stores.{with_searched}
+use Rattle.automata_hybrid.specs.Table.{IsValid, Names}
+use Rattle.automata_hybrid.proofs.Growing.{grown_moved, grown_trans, nothing_second}
+use Rattle.automata_hybrid.proofs.Searching.{lt_or_le}
+use Rattle.automata_hybrid.proofs.StepCalls.{no_quit_unit}
+use Rattle.automata_hybrid.proofs.Stepping.{refused}
+
+-- what holds of the error that a call handed on holds of what it answers
+pub at_err : {A E : Type 0} (r : Result A E) (e : E) (P : Result A E → Type 0) → IsErrAnd r (λ x. x ≡ e) → P (Err e) → P r
+at_err (Ok a) e P h p = absurd h
+at_err (Err x) e P h p = subst (λ v. P (Err v)) (sym h) p
+
+-- a refused step is one for want of room or of memory
+pub told_room :
+    (m : Machine) (id : ℕ) (unit : Option ℕ) (at : ℕ) (old new : CacheView) (e : SearchError)
+    → IsStepRefusedAt m id unit at old new e → IsOfRoom at e
+told_room m id unit at old new e h = subst (IsOfRoom at) (sym h.told) (go h.error) where
+  go : (error : StepError) → IsOfRoom at (step_refusal error at)
+  go (Cache err) = refl
+  go OutOfMemory = tt
+
+-- and so is what reads the unit
+pub told_refusal :
+    (m : Machine) (id : ℕ) (unit : Option ℕ) (quit_at at : ℕ) (old new : CacheView) (e : SearchError)
+    → IsStepRefusedAt m id unit at old new e → IsReadRefusal m id unit quit_at at old new e
+told_refusal m id unit quit_at at old new e h q n =
+    subst (IsStepRefusal m new.store q unit quit_at at) (sym h.told)
+    (refused m old.store new.store q unit quit_at at h.error (no_quit_unit m unit h.refused.clean)
+    (ap (λ (v : CacheView). v.store) h.refused.unchanged) (λ c. h.refused.gives_up c q n))
+
+-- at the end no quit byte is met
+pub end_room :
+    (m : Machine) (id quit_at at : ℕ) (old new : CacheView) (e : SearchError)
+    → IsValid old.store.table id → IsReadRefusal m id None quit_at at old new e → IsOfRoom at e
+end_room m id quit_at at old new e valid why = go e (why valid.0 valid.1) where
+  go : (e : SearchError) → IsStepRefusal m new.store valid.0 None quit_at at e → IsOfRoom at e
+  go (search.Match (QuitAt byte offset)) why = absurd (none_some why.0)
+  go (search.Match (GaveUp offset)) why = why.2
+  go (search.Match (UnsupportedMode mode)) why = absurd why
+  go search.OutOfMemory why = tt
+  go search.NotAPair why = absurd why
+
+-- an ID that a step was made from isn't fixed
+pub low_before :
+    (m : Machine) (id : ℕ) (unit : Option ℕ) (old new : CacheView)
+    → IsStepEffect m id unit old new → IsValid old.store.table id
+    → ((q : Powerset) → Names new.store.table id q → id < fixed_from) → id < fixed_from
+low_before m id unit old new effect valid low = go (lt_or_le id fixed_from) where
+  go : (id < fixed_from) ⊎ (fixed_from ≤ id) → id < fixed_from
+  go (inl l) = l
+  go (inr h) = low valid.0 (subst (λ (v : CacheView). Names v.store.table id valid.0) (sym (effect.fixed h)) valid.1)
+
+-- a search may have moved, and then makes the step on a unit
+module _ (m : Machine) (id : ℕ) (unit : Option ℕ) (old mid next : CacheView) {s : Searched}
+    (moved : mid ≡ with_store old (with_searched old.store s))
+    (alive : (q : Powerset) → Names old.store.table id q → q ≡ dead → ⊥) (below : unit_class m unit < table_stride m)
+    (effect : IsStepEffect m id unit mid next) where
+  first : IsGrown old mid
+  first = grown_moved old mid moved
+
+  grown : IsGrown old next
+  grown = grown_trans old mid next first effect.grown
+
+  counted : next.count ≤ old.count + 1
+  counted = let e : mid.count ≡ old.count = ap (λ (v : CacheView). v.count) moved in omega (arith, e, effect.counted)
+
+  here : KnowsStep m old.store id unit → KnowsStep m mid.store id unit
+  here = subst (λ (v : CacheView). KnowsStep m v.store id unit) (sym moved)
+
+  still : KnowsStep m old.store id unit → next.count ≡ old.count
+  still known = ap (λ (v : CacheView). v.count) (effect.known (here known)) ∙ ap (λ (v : CacheView). v.count) moved
+
+  -- which is answered
+  pub read_answered :
+      {T : Type 0} (answer : T) (n : ℕ) → id < fixed_from → IsStepAnswer m id unit mid next n
+      → IsReadEffect m id unit old next (Ok answer)
+  read_answered answer n low a = record {
+    alive = alive;
+    below = below;
+    counted = counted;
+    grown = grown;
+    known = λ known. (grown.idle (still known), tt);
+    learned = λ nothing. a.learned low (nothing_second old mid next first effect.grown nothing);
+  }
+
+  -- or refused
+  pub read_refused :
+      {T : Type 0} (at : ℕ) (e : SearchError) → IsStepRefusedAt m id unit at mid next e
+      → IsReadEffect {T = T} m id unit old next (Err e)
+  read_refused at e r = record {
+    alive = alive;
+    below = below;
+    counted = counted;
+    grown = grown;
+    known = λ known. absurd (r.refused.unknown (here known));
+    learned = λ nothing. tt;
+  }
+
+  -- or met a quit byte, at which the search may have ended
+  pub read_quits :
+      {T : Type 0} (new : CacheView) {s' : Searched} → new ≡ with_store next (with_searched next.store s')
+      → (byte at : ℕ) (e : SearchError) → e ≡ search.Match (QuitAt byte at) → IsReadEffect {T = T} m id unit old new (Err e)
+  read_quits new ended byte at e told =
+      let last : IsGrown old new = grown_trans old next new grown (grown_moved next new ended) in
+      let same : new.count ≡ next.count = ap (λ (v : CacheView). v.count) ended in
+      record {
+        alive = alive;
+        below = below;
+        counted = omega (arith, counted, same);
+        grown = last;
+        known = λ known. (last.idle (same ∙ still known), subst IsOfInput (sym told) tt);
+        learned = λ nothing. tt;
+      }

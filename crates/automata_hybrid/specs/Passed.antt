@@ -1,0 +1,65 @@
+-- What a pass answers, and what it makes of its cache: the whole of it, or from some unit on.
+use Rattle.std.specs.Prelude.{ℕ, ◌≡◌, ◌+◌, ◌-◌, ◌≤◌, true, Option, Result, IfErr, OnOk}
+use Rattle.automata_base.specs.Input.{Input}
+use Rattle.automata_base.specs.Matches.{HalfMatch}
+use Rattle.automata_base.specs.Tapes.{Direction}
+use Rattle.automata_config.specs.declared.error.SearchError.{SearchError}
+use Rattle.automata_hybrid.specs.Caches.{CacheView}
+use Rattle.automata_hybrid.specs.Growing.{ClearedNothing, IsGrown, IsStill}
+use Rattle.automata_hybrid.specs.Knowing.{IsOfInput, KnowsItsStart, KnowsPass}
+use Rattle.automata_hybrid.specs.Machine.{Machine}
+use Rattle.automata_hybrid.specs.Passing.{HasLearned, HasLearnedAll, IsAt, found_over}
+use Rattle.automata_hybrid.specs.Searched.{HasEnded, IsLeft}
+use Rattle.automata_hybrid.specs.Searches.{MeetsNoQuit, tape_in}
+use Rattle.automata_hybrid.specs.Slots.{supports}
+use Rattle.automata_hybrid.specs.Starting.{MayStart}
+use Rattle.automata_hybrid.specs.Table.{Rows}
+
+-- what a pass over the span of an input answers
+pub record IsPassAnswer (way : Direction) (m : Machine) (input : Input) (half : Option HalfMatch) : Type 0 where
+  -- It is what the pass finds.
+  pub found : half ≡ found_over way m input
+  -- The pass met no quit byte.
+  pub clean : MeetsNoQuit way m input
+  -- The mode is supported.
+  pub supported : supports m input.anchored ≡ true
+
+-- what a pass over the span of an input makes of its cache, answered or refused
+pub record IsPassEffect {T : Type 0} (way : Direction) (m : Machine) (input : Input) (old new : CacheView)
+    (result : Result T SearchError) : Type 0 where
+  -- It determinised at most once for each byte of the span, for its start and at its end.
+  pub counted : new.count ≤ old.count + (input.end - input.start + 2)
+  -- The cache has grown; where the pass cleared nothing, nothing is lost.
+  pub grown : IsGrown old new
+  -- With all known that it uses it takes no memory, and nothing changes but the progress of searches.
+  pub known : KnowsPass way m old.store input → IsStill old new × IfErr result IsOfInput
+  -- Where the pass cleared nothing, all that it used is known from then on.
+  pub learned : ClearedNothing old.store new.store → OnOk result (HasLearnedAll way m new.store input)
+  -- Answered, it has ended.
+  pub ended : OnOk result (HasEnded way m input old.store new.store)
+  -- Refused, it never began, has ended, or is left open.
+  pub left : IfErr result (IsLeft way m input old.store new.store)
+
+-- a pass over the span of an input has read its first `k` units
+pub record IsUnderway (way : Direction) (m : Machine) (t : Rows) (input : Input) (k id : ℕ)
+    (found : Option HalfMatch) : Type 0 where
+  -- The span isn't done.
+  pub undone : input.start ≤ input.end
+  -- The search may start.
+  pub may : MayStart m input.anchored (tape_in way input).before
+  -- The ID names the state behind those units, and what they tell was found.
+  pub at : IsAt way m t input k id found
+
+-- what the rest of a pass, behind its first `k` units, makes of its cache, answered or refused
+pub record IsRestEffect {T : Type 0} (way : Direction) (m : Machine) (input : Input) (k : ℕ) (old new : CacheView)
+    (result : Result T SearchError) : Type 0 where
+  -- It determinised at most once for each byte that is left of the span, and at its end.
+  pub counted : new.count ≤ old.count + (input.end - input.start + 1 - k)
+  -- The cache has grown; where the pass cleared nothing, nothing is lost.
+  pub grown : IsGrown old new
+  -- With all known that the pass uses it takes no memory, and nothing changes but the progress of searches.
+  pub known : KnowsPass way m old.store input → IsStill old new × IfErr result IsOfInput
+  -- Where it cleared nothing, and what the first units used was known, all that the pass used is known from then on.
+  pub learned :
+      KnowsItsStart way m old.store input → HasLearned way m old.store input k → ClearedNothing old.store new.store
+      → OnOk result (HasLearnedAll way m new.store input)
