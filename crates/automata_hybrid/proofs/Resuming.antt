@@ -1,10 +1,10 @@
 -- Going on with a walk: what the functions under its calls answer, and what they make of their cache.
-use Rattle.std.proofs.Common.{ℕ, suc, ◌≡◌, ◌∙◌, ◌≤◌, inl, inr, true, false, length, Option, None, Some, refl, sym, ap, subst, arith}
+use Rattle.std.proofs.Common.{ℕ, suc, ◌≡◌, ◌∙◌, ◌<◌, ◌≤◌, inl, inr, true, false, length, Option, None, Some, refl, sym, ap, subst, arith}
 use Rattle.std.specs.Prelude.{Err, IfErr, IfOk, Ok, Result}
-use Rattle.std.specs.Result.{IsErrAnd}
-use Rattle.std.proofs.lemmas.Result.{IfErr-weaker, IfOk-weaker}
+use Rattle.std.proofs.lemmas.Result.{IfErr-weaker, IfOk-weaker, on_ok_weaker}
 use Rattle.automata_base.specs.Answers.{offset_in}
 use Rattle.automata_base.specs.Input.{Input}
+use Rattle.automata_base.specs.Paths.{next}
 use Rattle.automata_base.specs.Tapes.{Direction}
 use Rattle.automata_base.specs.declared.util.search.Anchored.{Anchored}
 use Rattle.automata_base.specs.declared.util.search.MatchErrorKind.TheVariants.{UnsupportedAnchored as UnsupportedMode}
@@ -13,32 +13,30 @@ use Rattle.automata_config.specs.declared.error.StartError.{StartError}
 use Rattle.automata_config.specs.declared.error.StartError.TheVariants as start
 use Rattle.automata_config.specs.declared.error.SearchError.{SearchError}
 use Rattle.automata_config.specs.declared.error.SearchError.TheVariants as search
-use Rattle.automata_hybrid.specs.Stores.{Stored}
-use Rattle.automata_hybrid.specs.Caches.{CacheView}
+use Rattle.automata_hybrid.specs.Stores.{IsKnownTransition, Stored, with_searched}
+use Rattle.automata_hybrid.specs.declared.dfa.progress.Searched.{Searched}
+use Rattle.automata_hybrid.specs.Caches.{CacheView, with_store}
 use Rattle.automata_hybrid.specs.KnowingWalks.{IsToRead, KnowsItsState}
-use Rattle.automata_hybrid.specs.Machine.{Machine, slot_count}
+use Rattle.automata_hybrid.specs.Growing.{IsGrown}
+use Rattle.automata_hybrid.specs.Machine.{Machine, slot_count, table_stride}
 use Rattle.automata_hybrid.specs.Owing.{IsUnsupported, unsupported_error}
 use Rattle.automata_hybrid.specs.OwingWalks.{IsCallEffect, ReadsNothing}
-use Rattle.automata_hybrid.specs.Resuming.{IsCallRefused, IsResumeAnswer, IsResumeEffect, ReadsOn, lost_without, resumed}
+use Rattle.automata_hybrid.specs.Reading.{IsReadEffect, IsReadProgress}
+use Rattle.automata_hybrid.specs.Resuming.{IsCallRefused, IsResumeAnswer, IsResumeEffect, IsUnitEffect, ReadsOn, lost_without, resumed}
 use Rattle.automata_hybrid.specs.SearchedWalks.{ReadsNoUnit}
-use Rattle.automata_hybrid.specs.Searches.{behind_offset, state_in, tape_in}
+use Rattle.automata_hybrid.specs.Searches.{behind_offset, given_up_offset, state_in, tape_in}
 use Rattle.automata_hybrid.specs.Slots.{supports}
 use Rattle.automata_hybrid.specs.Starting.{IsStartAnswer, IsStartEffect, IsStartRefusal, IsStartRefusalAt, IsStartRefusedAt, quit_behind, search_refusal}
-use Rattle.automata_hybrid.specs.Table.{Leads}
+use Rattle.automata_hybrid.specs.Stepping.{unit_class}
+use Rattle.automata_hybrid.specs.Table.{Leads, Names}
 use Rattle.automata_hybrid.specs.Walking.{CanGoOn, HasTold, HasToldAt, IsResumeRefusal, IsWalkOf, IsWalkRefusal, TellsNext}
 use Rattle.automata_hybrid.specs.Walks.{At, Ended, Fresh, Stage, Walk}
-use Rattle.automata_hybrid.proofs.Growing.{grown_less, grown_same}
+use Rattle.automata_hybrid.proofs.Growing.{grown_less, grown_moved, grown_same, grown_trans, nothing_second}
 use Rattle.automata_hybrid.proofs.Knowing.{start_idle}
 use Rattle.automata_hybrid.proofs.KnowingWalks.{still_same}
 use Rattle.automata_hybrid.proofs.SearchedWalks.{reads_some, start_keeps, stuck_refusal}
 use Rattle.automata_hybrid.proofs.Searching.{false_true, state_first}
 use Rattle.automata_hybrid.proofs.Starting.{refusal_at}
-
--- what holds of a refusal holds of a result that is one
-pub when_err :
-    {A E : Type 0} (r : Result A E) (e : E) (P : Result A E → Type 0) → IsErrAnd r (λ x. x ≡ e) → P (Err e) → P r
-when_err (Ok a) e P h p = absurd h
-when_err (Err x) e P h p = subst (λ y. P (Err y)) (sym h) p
 
 -- a walk that can go on hasn't lost its state, as a call resumes it
 pub kept_by : (w : Walk) (at : Option ℕ) → CanGoOn w at → (resumed w at).lost ≡ false
@@ -227,3 +225,43 @@ module _ (way : Direction) (m : Machine) (input : Input) (w : Walk) (old new : C
         start_keeps m input.anchored (tape_in way input).before (behind_offset way input) (offset_in way input 0) old new r
         refusal;
   })
+
+-- what reading a unit makes of the cache, in a walk's words: the search moved, and the unit was read from its ID
+pub unit_effect :
+    {T : Type 0} (way : Direction) (m : Machine) (input : Input) (place id : ℕ) (unit : Option ℕ)
+    (old mid new : CacheView) {s : Searched} (r : Result T SearchError)
+    → next (tape_in way input) place ≡ unit → mid ≡ with_store old (with_searched old.store s)
+    → Names old.store.table id (state_in way m input place) → new.store.table.of ≡ m
+    → IsReadEffect m id unit mid new r
+    → IsReadProgress m (next (tape_in way input) place) (given_up_offset way input place) old.store new.store r
+    → IsUnitEffect way m input place old new r
+unit_effect way m input place id unit old mid new r same moved named of e progress = record {
+  counted = omega (arith, e.counted, count);
+  grown = grown;
+  known = λ (other, names, known). (
+      let one : other ≡ id = cc in
+      let here : IsKnownTransition old.store id (unit_class m unit) =
+      subst (λ u. IsKnownTransition old.store id (unit_class m u)) same
+      (subst (λ n. IsKnownTransition old.store n (unit_class m (next (tape_in way input) place))) one known) in
+      let still = e.known (subst (λ (v : CacheView). IsKnownTransition v.store id (unit_class m unit)) (sym moved) here) in
+      (still.0.0 ∙ count, still.1));
+  learned = λ nothing.
+      on_ok_weaker r (λ known. (
+        (
+          id,
+          (grown.kept nothing).rows id _ named,
+          subst (λ u. IsKnownTransition new.store id (unit_class m u)) (sym same) known,
+        ),
+        subst (λ u. unit_class m u < table_stride new.store.table.of) (sym same)
+            (subst (λ (d : Machine). unit_class m unit < table_stride d) (sym of) e.below),
+      )) (e.learned (nothing_second old mid new first e.grown nothing));
+  progress = progress;
+} where
+  first : IsGrown old mid
+  first = grown_moved old mid moved
+
+  grown : IsGrown old new
+  grown = grown_trans old mid new first e.grown
+
+  count : mid.count ≡ old.count
+  count = ap (λ (v : CacheView). v.count) moved

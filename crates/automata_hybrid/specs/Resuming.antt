@@ -1,7 +1,8 @@
 -- Going on with a walk: what the functions under its calls ask, what they answer, and what they make of their cache.
 use Rattle.std.specs.Prelude.{ℕ, suc, ◌≡◌, ◌+◌, ◌-◌, ◌≤◌, ◌⊎◌, Bool, true, false, Option, None, Some, Result, IfOk, IfErr}
-use Rattle.std.specs.Prelude.{OnErr}
+use Rattle.std.specs.Prelude.{OnErr, OnOk}
 use Rattle.automata_base.specs.Input.{Input}
+use Rattle.automata_base.specs.Paths.{next}
 use Rattle.automata_base.specs.Tapes.{Direction}
 use Rattle.automata_config.specs.declared.error.SearchError.{SearchError}
 use Rattle.automata_hybrid.specs.declared.dfa.progress.Searched.{Searched}
@@ -9,12 +10,14 @@ use Rattle.automata_hybrid.specs.declared.search.units.Arrival.{Arrival}
 use Rattle.automata_hybrid.specs.Stores.{Stored}
 use Rattle.automata_hybrid.specs.Caches.{CacheView, counted}
 use Rattle.automata_hybrid.specs.Growing.{ClearedNothing, IsGrown, KeepsProgress}
-use Rattle.automata_hybrid.specs.Knowing.{IsOfInput}
+use Rattle.automata_hybrid.specs.Knowing.{IsOfInput, KnowsUnit}
 use Rattle.automata_hybrid.specs.KnowingWalks.{HasLearnedUnits, IsToRead, KnowsItsState, KnowsUnits}
 use Rattle.automata_hybrid.specs.Machine.{Machine}
 use Rattle.automata_hybrid.specs.Owing.{IsMemory, IsUnsupported, unsupported_error}
 use Rattle.automata_hybrid.specs.OwingWalks.{ReadsNothing}
+use Rattle.automata_hybrid.specs.Passing.{HasLearnedUnit}
 use Rattle.automata_hybrid.specs.Progressing.{started}
+use Rattle.automata_hybrid.specs.Reading.{IsReadProgress}
 use Rattle.automata_hybrid.specs.SearchedWalks.{EndsAtUnit, IsLeftAtUnit}
 use Rattle.automata_hybrid.specs.Searches.{given_up_offset, state_in, tape_in}
 use Rattle.automata_hybrid.specs.Starting.{MayStart}
@@ -123,6 +126,21 @@ pub record StandsBehind (way : Direction) (m : Machine) (t : Rows) (input : Inpu
   pub undone : input.start ≤ input.end
   pub left : units ≤ input.end - input.start
   pub named : Names t id (state_in way m input units)
+
+-- what reading that one makes of the cache
+pub record IsUnitEffect {T : Type 0} (way : Direction) (m : Machine) (input : Input) (place : ℕ) (old new : CacheView)
+    (result : Result T SearchError) : Type 0 where
+  -- it determinises at most once
+  pub counted : new.count ≤ old.count + 1
+  -- the cache has grown; where nothing was cleared, nothing is lost
+  pub grown : IsGrown old new
+  -- where its transition is known, it determinises nothing, and isn't refused for want of room
+  pub known : KnowsUnit way m old.store input place → (new.count ≡ old.count) × IfErr result IsOfInput
+  -- where nothing was cleared it is known from then on
+  pub learned : ClearedNothing old.store new.store → OnOk result (HasLearnedUnit way m new.store input place)
+  -- the search has moved to the unit
+  pub progress :
+      IsReadProgress m (next (tape_in way input) place) (given_up_offset way input place) old.store new.store result
 
 -- what going on over the units of a walk from there makes of the cache
 pub record IsAdvanceEffect (way : Direction) (m : Machine) (input : Input) (units : ℕ) (old new : CacheView)

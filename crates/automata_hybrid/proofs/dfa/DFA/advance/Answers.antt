@@ -16,7 +16,7 @@ use Rattle.automata_hybrid.specs.Walks.{way_of}
 use Rattle.automata_hybrid.proofs.Following.{followed_clean, followed_silent}
 use Rattle.automata_hybrid.proofs.Growing.{grown_moved, grown_same, grown_trans, nothing_first, nothing_second}
 use Rattle.automata_hybrid.proofs.KnowingWalks.{unit_knows, units_more, units_moved, units_none}
-use Rattle.automata_hybrid.proofs.Resuming.{when_err}
+use Rattle.automata_hybrid.proofs.Reading.{at_err}
 use Rattle.automata_hybrid.proofs.SearchedWalks.{span_ends, unit_ends, unit_left, unit_open}
 use Rattle.automata_hybrid.proofs.Searching.{false_true, if_err}
 use Rattle.automata_hybrid.proofs.Stepping.{dead_tagged}
@@ -55,29 +55,29 @@ loop-read-preserved c =
     (⊎_elim (λ s. inl s) (λ none. inr (none (state_in d c.args.self.now c.args.input.now (suc k)) named)) (c.tells.ensures.no c.if-tells.false)) in
     record {
       of = c.in_ok-next.ensures.of;
-      counted = omega (arith, c.loop-read.invariant.counted, c.in_ok-next.ensures.counted, f.more);
+      counted = omega (arith, c.loop-read.invariant.counted, c.in_ok-next.ensures.effect.counted, f.more);
       from = omega (arith, c.loop-read.invariant.from, f.more);
       within = omega (arith, c.follow-stop.ensures.within);
-      grown = grown_trans c.args.cache.now c.loop-read.cache c.read_unit.new.cache c.loop-read.invariant.grown c.in_ok-next.ensures.grown;
+      grown = grown_trans c.args.cache.now c.loop-read.cache c.read_unit.new.cache c.loop-read.invariant.grown c.in_ok-next.ensures.effect.grown;
       named = subst (λ n. Names c.read_unit.new.cache.store.table c.in_ok-next.next (state_in d c.args.self.now c.args.input.now n)) more named;
       clean = subst (HasReadNoQuit d c.args.self.now c.args.input.now) more clean;
       idle = λ n told knows. (
           let from : c.args.units ≤ k = omega (arith, c.loop-read.invariant.from, f.more) in
           let count : c.loop-read.cache.count ≡ c.args.cache.now.count = c.loop-read.invariant.idle n told knows in
-          let here = c.in_ok-next.ensures.known (unit_knows d c.args.self.now c.args.cache.now c.loop-read.cache c.args.input.now c.args.units k n c.loop-read.invariant.grown count knows from c.in_ok-next.ensures.reads (followed_clean f c.loop-read.invariant.clean) (followed_silent f c.loop-read.invariant.silent n told)) in
+          let here = c.in_ok-next.ensures.effect.known (unit_knows d c.args.self.now c.args.cache.now c.loop-read.cache c.args.input.now c.args.units k n c.loop-read.invariant.grown count knows from c.in_ok-next.ensures.reads (followed_clean f c.loop-read.invariant.clean) (followed_silent f c.loop-read.invariant.silent n told)) in
           here.0 ∙ count);
       learned = λ nothing. (
-          let second : ClearedNothing c.loop-read.cache.store c.read_unit.new.cache.store = nothing_second c.args.cache.now c.loop-read.cache c.read_unit.new.cache c.loop-read.invariant.grown c.in_ok-next.ensures.grown nothing in
-          let first : ClearedNothing c.args.cache.now.store c.loop-read.cache.store = nothing_first c.args.cache.now c.loop-read.cache c.read_unit.new.cache c.loop-read.invariant.grown c.in_ok-next.ensures.grown nothing in
+          let second : ClearedNothing c.loop-read.cache.store c.read_unit.new.cache.store = nothing_second c.args.cache.now c.loop-read.cache c.read_unit.new.cache c.loop-read.invariant.grown c.in_ok-next.ensures.effect.grown nothing in
+          let first : ClearedNothing c.args.cache.now.store c.loop-read.cache.store = nothing_first c.args.cache.now c.loop-read.cache c.read_unit.new.cache c.loop-read.invariant.grown c.in_ok-next.ensures.effect.grown nothing in
           subst (HasLearnedUnits d c.args.self.now c.read_unit.new.cache.store c.args.input.now c.args.units) more
-          (units_more d c.args.self.now c.loop-read.cache c.read_unit.new.cache c.args.input.now c.args.units c.loop-read.read k c.follow-stop.result.id c.in_ok-next.ensures.grown second
-          (c.loop-read.invariant.learned first) f (c.in_ok-next.ensures.learned second)));
+          (units_more d c.args.self.now c.loop-read.cache c.read_unit.new.cache c.args.input.now c.args.units c.loop-read.read k c.follow-stop.result.id c.in_ok-next.ensures.effect.grown second
+          (c.loop-read.invariant.learned first) f (c.in_ok-next.ensures.effect.learned second)));
       silent = subst (IsSilent d c.args.self.now c.args.input.now c.args.units) more silent;
       progress = λ s e.
           (let underway : (x : ℕ) × IsOpenAt c.args.input.now s (given_up_offset d c.args.input.now c.args.units) x c.args.cache.now.store c.loop-read.cache.store = c.loop-read.invariant.progress s e in (
             given_up_offset d c.args.input.now k,
             unit_open d c.args.self.now c.args.input.now s c.args.units k underway.0 c.args.cache.now c.loop-read.cache c.read_unit.new.cache c.requires.from.undone c.follow-stop.ensures.within
-                c.loop-read.invariant.grown c.in_ok-next.ensures.grown underway.1 c.in_ok-next.ensures.moved,
+                c.loop-read.invariant.grown c.in_ok-next.ensures.effect.grown underway.1 c.in_ok-next.ensures.effect.progress.moved,
           ));
       reads = λ less. (k, sym more, c.in_ok-next.ensures.reads);
     }
@@ -134,22 +134,22 @@ returns-in_err-next-clause-effect c =
     let k : ℕ = c.follow-stop.result.at in
     let f : IsFollowed d c.args.self.now c.loop-read.cache.store c.args.input.now c.loop-read.read k c.follow-stop.result.id = c.follow-stop.ensures.followed in
     let from : c.args.units ≤ k = omega (arith, c.loop-read.invariant.from, f.more) in
-    when_err c.from_residual.result _ (λ (r : Result Arrival SearchError). IsAdvanceEffect d c.args.self.now c.args.input.now c.args.units c.args.cache.now c.read_unit.new.cache r) c.from_residual.ensures.1
+    at_err c.from_residual.result _ (λ (r : Result Arrival SearchError). IsAdvanceEffect d c.args.self.now c.args.input.now c.args.units c.args.cache.now c.read_unit.new.cache r) c.from_residual.ensures.1
     (record {
-      grown = grown_trans c.args.cache.now c.loop-read.cache c.read_unit.new.cache c.loop-read.invariant.grown c.in_err-next.ensures.grown;
+      grown = grown_trans c.args.cache.now c.loop-read.cache c.read_unit.new.cache c.loop-read.invariant.grown c.in_err-next.ensures.effect.grown;
       cost = tt;
-      most = omega (arith, c.in_err-next.ensures.counted, c.loop-read.invariant.counted, f.more, c.follow-stop.ensures.within);
+      most = omega (arith, c.in_err-next.ensures.effect.counted, c.loop-read.invariant.counted, f.more, c.follow-stop.ensures.within);
       known = λ n told knows. (
           let count : c.loop-read.cache.count ≡ c.args.cache.now.count = c.loop-read.invariant.idle n told knows in
-          let here = c.in_err-next.ensures.known (unit_knows d c.args.self.now c.args.cache.now c.loop-read.cache c.args.input.now c.args.units k n c.loop-read.invariant.grown count knows from c.in_err-next.ensures.reads (followed_clean f c.loop-read.invariant.clean) (followed_silent f c.loop-read.invariant.silent n told)) in
+          let here = c.in_err-next.ensures.effect.known (unit_knows d c.args.self.now c.args.cache.now c.loop-read.cache c.args.input.now c.args.units k n c.loop-read.invariant.grown count knows from c.in_err-next.ensures.reads (followed_clean f c.loop-read.invariant.clean) (followed_silent f c.loop-read.invariant.silent n told)) in
           (here.0 ∙ count, here.1));
       learned = λ nothing. tt;
       ended = λ s e. tt;
       left = λ s e. (
           let underway : (x : ℕ) × IsOpenAt c.args.input.now s (given_up_offset d c.args.input.now c.args.units) x c.args.cache.now.store c.loop-read.cache.store = c.loop-read.invariant.progress s e in
           unit_left d c.args.self.now c.args.input.now s c.args.units k underway.0 c.args.cache.now c.loop-read.cache c.read_unit.new.cache c.requires.from.undone c.follow-stop.ensures.within
-          c.loop-read.invariant.grown c.in_err-next.ensures.grown underway.1 c.in_err-next.field-0.0 from c.in_err-next.ensures.reads
-          (followed_clean f c.loop-read.invariant.clean) (followed_silent f c.loop-read.invariant.silent) c.in_err-next.ensures.refusal c.in_err-next.ensures.left);
+          c.loop-read.invariant.grown c.in_err-next.ensures.effect.grown underway.1 c.in_err-next.field-0.0 from c.in_err-next.ensures.reads
+          (followed_clean f c.loop-read.invariant.clean) (followed_silent f c.loop-read.invariant.silent) c.in_err-next.ensures.refusal c.in_err-next.ensures.effect.progress.left);
     })
 
 pub returns-then-is_dead-clause-effect : goal.returns-then-is_dead-clause-effect
@@ -162,21 +162,21 @@ returns-then-is_dead-clause-effect c =
     record {
       grown =
           grown_trans c.args.cache.now c.read_unit.new.cache c.end_search.new.self
-          (grown_trans c.args.cache.now c.loop-read.cache c.read_unit.new.cache c.loop-read.invariant.grown c.in_ok-next.ensures.grown)
+          (grown_trans c.args.cache.now c.loop-read.cache c.read_unit.new.cache c.loop-read.invariant.grown c.in_ok-next.ensures.effect.grown)
           (grown_moved c.read_unit.new.cache c.end_search.new.self c.end_search.ensures.value);
-      cost = omega (arith, c.end_search.ensures.counted, c.in_ok-next.ensures.counted, c.loop-read.invariant.counted, f.more);
-      most = omega (arith, c.end_search.ensures.counted, c.in_ok-next.ensures.counted, c.loop-read.invariant.counted, f.more, c.follow-stop.ensures.within);
+      cost = omega (arith, c.end_search.ensures.counted, c.in_ok-next.ensures.effect.counted, c.loop-read.invariant.counted, f.more);
+      most = omega (arith, c.end_search.ensures.counted, c.in_ok-next.ensures.effect.counted, c.loop-read.invariant.counted, f.more, c.follow-stop.ensures.within);
       known = λ n told knows. (
           let count : c.loop-read.cache.count ≡ c.args.cache.now.count = c.loop-read.invariant.idle n told knows in
-          let here = c.in_ok-next.ensures.known (unit_knows d c.args.self.now c.args.cache.now c.loop-read.cache c.args.input.now c.args.units k n c.loop-read.invariant.grown count knows from c.in_ok-next.ensures.reads (followed_clean f c.loop-read.invariant.clean) (followed_silent f c.loop-read.invariant.silent n told)) in
+          let here = c.in_ok-next.ensures.effect.known (unit_knows d c.args.self.now c.args.cache.now c.loop-read.cache c.args.input.now c.args.units k n c.loop-read.invariant.grown count knows from c.in_ok-next.ensures.reads (followed_clean f c.loop-read.invariant.clean) (followed_silent f c.loop-read.invariant.silent n told)) in
           (c.end_search.ensures.counted ∙ (here.0 ∙ count), tt));
       learned =
           units_moved d c.args.self.now c.args.input.now c.args.cache.now c.read_unit.new.cache c.end_search.new.self c.args.units _ c.end_search.ensures.value (λ nothing.
-          let second : ClearedNothing c.loop-read.cache.store c.read_unit.new.cache.store = nothing_second c.args.cache.now c.loop-read.cache c.read_unit.new.cache c.loop-read.invariant.grown c.in_ok-next.ensures.grown nothing in
-          let first : ClearedNothing c.args.cache.now.store c.loop-read.cache.store = nothing_first c.args.cache.now c.loop-read.cache c.read_unit.new.cache c.loop-read.invariant.grown c.in_ok-next.ensures.grown nothing in
+          let second : ClearedNothing c.loop-read.cache.store c.read_unit.new.cache.store = nothing_second c.args.cache.now c.loop-read.cache c.read_unit.new.cache c.loop-read.invariant.grown c.in_ok-next.ensures.effect.grown nothing in
+          let first : ClearedNothing c.args.cache.now.store c.loop-read.cache.store = nothing_first c.args.cache.now c.loop-read.cache c.read_unit.new.cache c.loop-read.invariant.grown c.in_ok-next.ensures.effect.grown nothing in
           subst (HasLearnedUnits d c.args.self.now c.read_unit.new.cache.store c.args.input.now c.args.units) more
-          (units_more d c.args.self.now c.loop-read.cache c.read_unit.new.cache c.args.input.now c.args.units c.loop-read.read k c.follow-stop.result.id c.in_ok-next.ensures.grown second
-          (c.loop-read.invariant.learned first) f (c.in_ok-next.ensures.learned second)));
+          (units_more d c.args.self.now c.loop-read.cache c.read_unit.new.cache c.args.input.now c.args.units c.loop-read.read k c.follow-stop.result.id c.in_ok-next.ensures.effect.grown second
+          (c.loop-read.invariant.learned first) f (c.in_ok-next.ensures.effect.learned second)));
       ended = λ s e. (
           let underway : (x : ℕ) × IsOpenAt c.args.input.now s (given_up_offset d c.args.input.now c.args.units) x c.args.cache.now.store c.loop-read.cache.store = c.loop-read.invariant.progress s e in (
             k,
@@ -184,7 +184,7 @@ returns-then-is_dead-clause-effect c =
             sym more,
             c.in_ok-next.ensures.reads,
             unit_ends d c.args.self.now c.args.input.now s c.args.units k underway.0 c.args.cache.now c.loop-read.cache c.read_unit.new.cache c.requires.from.undone c.follow-stop.ensures.within
-                c.loop-read.invariant.grown c.in_ok-next.ensures.grown underway.1 c.end_search.new.self c.span_offset-at.result c.span_offset-at.ensures c.end_search.ensures.value c.in_ok-next.ensures.moved,
+                c.loop-read.invariant.grown c.in_ok-next.ensures.effect.grown underway.1 c.end_search.new.self c.span_offset-at.result c.span_offset-at.ensures c.end_search.ensures.value c.in_ok-next.ensures.effect.progress.moved,
           ));
       left = λ s e. tt;
     }
@@ -199,21 +199,21 @@ returns-then-tells-clause-effect c =
     record {
       grown =
           grown_trans c.args.cache.now c.read_unit.new.cache c.end_search-then-tells.new.self
-          (grown_trans c.args.cache.now c.loop-read.cache c.read_unit.new.cache c.loop-read.invariant.grown c.in_ok-next.ensures.grown)
+          (grown_trans c.args.cache.now c.loop-read.cache c.read_unit.new.cache c.loop-read.invariant.grown c.in_ok-next.ensures.effect.grown)
           (grown_moved c.read_unit.new.cache c.end_search-then-tells.new.self c.end_search-then-tells.ensures.value);
-      cost = omega (arith, c.end_search-then-tells.ensures.counted, c.in_ok-next.ensures.counted, c.loop-read.invariant.counted, f.more);
-      most = omega (arith, c.end_search-then-tells.ensures.counted, c.in_ok-next.ensures.counted, c.loop-read.invariant.counted, f.more, c.follow-stop.ensures.within);
+      cost = omega (arith, c.end_search-then-tells.ensures.counted, c.in_ok-next.ensures.effect.counted, c.loop-read.invariant.counted, f.more);
+      most = omega (arith, c.end_search-then-tells.ensures.counted, c.in_ok-next.ensures.effect.counted, c.loop-read.invariant.counted, f.more, c.follow-stop.ensures.within);
       known = λ n told knows. (
           let count : c.loop-read.cache.count ≡ c.args.cache.now.count = c.loop-read.invariant.idle n told knows in
-          let here = c.in_ok-next.ensures.known (unit_knows d c.args.self.now c.args.cache.now c.loop-read.cache c.args.input.now c.args.units k n c.loop-read.invariant.grown count knows from c.in_ok-next.ensures.reads (followed_clean f c.loop-read.invariant.clean) (followed_silent f c.loop-read.invariant.silent n told)) in
+          let here = c.in_ok-next.ensures.effect.known (unit_knows d c.args.self.now c.args.cache.now c.loop-read.cache c.args.input.now c.args.units k n c.loop-read.invariant.grown count knows from c.in_ok-next.ensures.reads (followed_clean f c.loop-read.invariant.clean) (followed_silent f c.loop-read.invariant.silent n told)) in
           (c.end_search-then-tells.ensures.counted ∙ (here.0 ∙ count), tt));
       learned =
           units_moved d c.args.self.now c.args.input.now c.args.cache.now c.read_unit.new.cache c.end_search-then-tells.new.self c.args.units _ c.end_search-then-tells.ensures.value (λ nothing.
-          let second : ClearedNothing c.loop-read.cache.store c.read_unit.new.cache.store = nothing_second c.args.cache.now c.loop-read.cache c.read_unit.new.cache c.loop-read.invariant.grown c.in_ok-next.ensures.grown nothing in
-          let first : ClearedNothing c.args.cache.now.store c.loop-read.cache.store = nothing_first c.args.cache.now c.loop-read.cache c.read_unit.new.cache c.loop-read.invariant.grown c.in_ok-next.ensures.grown nothing in
+          let second : ClearedNothing c.loop-read.cache.store c.read_unit.new.cache.store = nothing_second c.args.cache.now c.loop-read.cache c.read_unit.new.cache c.loop-read.invariant.grown c.in_ok-next.ensures.effect.grown nothing in
+          let first : ClearedNothing c.args.cache.now.store c.loop-read.cache.store = nothing_first c.args.cache.now c.loop-read.cache c.read_unit.new.cache c.loop-read.invariant.grown c.in_ok-next.ensures.effect.grown nothing in
           subst (HasLearnedUnits d c.args.self.now c.read_unit.new.cache.store c.args.input.now c.args.units) more
-          (units_more d c.args.self.now c.loop-read.cache c.read_unit.new.cache c.args.input.now c.args.units c.loop-read.read k c.follow-stop.result.id c.in_ok-next.ensures.grown second
-          (c.loop-read.invariant.learned first) f (c.in_ok-next.ensures.learned second)));
+          (units_more d c.args.self.now c.loop-read.cache c.read_unit.new.cache c.args.input.now c.args.units c.loop-read.read k c.follow-stop.result.id c.in_ok-next.ensures.effect.grown second
+          (c.loop-read.invariant.learned first) f (c.in_ok-next.ensures.effect.learned second)));
       ended = λ s e. (
           let underway : (x : ℕ) × IsOpenAt c.args.input.now s (given_up_offset d c.args.input.now c.args.units) x c.args.cache.now.store c.loop-read.cache.store = c.loop-read.invariant.progress s e in (
             k,
@@ -221,7 +221,7 @@ returns-then-tells-clause-effect c =
             sym more,
             c.in_ok-next.ensures.reads,
             unit_ends d c.args.self.now c.args.input.now s c.args.units k underway.0 c.args.cache.now c.loop-read.cache c.read_unit.new.cache c.requires.from.undone c.follow-stop.ensures.within
-                c.loop-read.invariant.grown c.in_ok-next.ensures.grown underway.1 c.end_search-then-tells.new.self c.span_offset-at.result c.span_offset-at.ensures c.end_search-then-tells.ensures.value c.in_ok-next.ensures.moved,
+                c.loop-read.invariant.grown c.in_ok-next.ensures.effect.grown underway.1 c.end_search-then-tells.new.self c.span_offset-at.result c.span_offset-at.ensures c.end_search-then-tells.ensures.value c.in_ok-next.ensures.effect.progress.moved,
           ));
       left = λ s e. tt;
     }

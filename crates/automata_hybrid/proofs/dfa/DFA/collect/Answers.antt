@@ -18,7 +18,8 @@ use Rattle.automata_hybrid.specs.Walking.{AreWalked}
 use Rattle.automata_hybrid.specs.Walks.{Ended, Walk}
 use Rattle.automata_hybrid.proofs.Growing.{clears_none, grown_same, grown_trans, nothing_first, nothing_second}
 use Rattle.automata_hybrid.proofs.LearningSets.{half_none, learned_call, open_stops, set_knows}
-use Rattle.automata_hybrid.proofs.Resuming.{kept_by, supported_call, when_err}
+use Rattle.automata_hybrid.proofs.Reading.{at_err}
+use Rattle.automata_hybrid.proofs.Resuming.{kept_by, supported_call}
 use Rattle.automata_hybrid.proofs.Searching.{false_true, if_err}
 use Rattle.automata_hybrid.proofs.WalkSets.{IsLacking, Joins, StandsWell, calls_more, closes, joins_all, joins_begin, joins_first, joins_full, joined_more, joins_more, lacking, on_found, open_after, patterns_turn, stands_well, steps_less, which_still, which_walk}
 use Rattle.automata_hybrid.proofs.dfa.DFA.collect.Goals as goal
@@ -32,7 +33,7 @@ returns-in_err-next-clause-refusal c =
 
 pub returns-in_err-next-clause-unsupported : goal.returns-in_err-next-clause-unsupported
 returns-in_err-next-clause-unsupported c = λ u.
-    when_err c.from_residual.result _ (λ (r : Result (Unit {0}) SearchError). r ≡ Err (unsupported_error c.args.input.now)) c.from_residual.ensures.1
+    at_err c.from_residual.result _ (λ (r : Result (Unit {0}) SearchError). r ≡ Err (unsupported_error c.args.input.now)) c.from_residual.ensures.1
     (ap Err (c.in_err-next.ensures.refusal.unsupported (c.loop-walk.invariant.begins u) u))
 
 pub returns-in_err-next-clause-effect : goal.returns-in_err-next-clause-effect
@@ -52,7 +53,7 @@ returns-in_err-next-clause-effect c =
     let stepped : IsGrown mid new = e.there v.holds in
     let grown : IsGrown old new = grown_trans old mid new v.grown stepped in
     let cost : new.count ≤ old.count + (input.end - input.start + 2) = omega (arith, e.most, v.counted, v.few) in
-    when_err c.from_residual.result _ (λ (r : Result (Unit {0}) SearchError). IsWhichEffect m input c.args.patset.now old new r) c.from_residual.ensures.1
+    at_err c.from_residual.result _ (λ (r : Result (Unit {0}) SearchError). IsWhichEffect m input c.args.patset.now old new r) c.from_residual.ensures.1
     (record {
       cost = cost;
       roomy = λ room. clears_none old new _ grown cost room;

@@ -19,7 +19,8 @@ use Rattle.automata_hybrid.specs.Walking.{Arrives, Finishes, HasItsState, HasTol
 use Rattle.automata_hybrid.specs.Walks.{Ended, Stage, Walk, ended_walk, way_of}
 use Rattle.automata_hybrid.proofs.Growing.{grown_after, grown_moved, grown_trans, nothing_second}
 use Rattle.automata_hybrid.proofs.KnowingWalks.{has_state, nothing_after, state_after, state_still, still_same, unit_knows, units_all, units_none}
-use Rattle.automata_hybrid.proofs.Resuming.{reads_nothing, refused_on, when_err}
+use Rattle.automata_hybrid.proofs.Reading.{at_err}
+use Rattle.automata_hybrid.proofs.Resuming.{reads_nothing, refused_on}
 use Rattle.automata_hybrid.proofs.SearchedWalks.{dies_at, reads_some, recounts_ended, recounts_left, unit_high, unit_low}
 use Rattle.automata_hybrid.proofs.Searching.{dead_more, if_err}
 use Rattle.automata_hybrid.proofs.Stepping.{dead_tagged}
@@ -46,7 +47,7 @@ returns-in_err-from-clause-effect c =
     let w : Walk = c.args.walk.now in
     let r = c.requires.walk.reads in
     let e = c.in_err-from.ensures.effect in
-    when_err c.from_residual.result _ (λ (x : Result (Option ℕ) SearchError). IsCallEffect d m input (resumed w c.args.at.now) w c.args.cache.now c.resume.new.cache x) c.from_residual.ensures.1
+    at_err c.from_residual.result _ (λ (x : Result (Option ℕ) SearchError). IsCallEffect d m input (resumed w c.args.at.now) w c.args.cache.now c.resume.new.cache x) c.from_residual.ensures.1
     (record {
       rises = tt;
       cost = tt;
@@ -175,7 +176,7 @@ returns-in_err-arrival-clause-effect c =
     let left : IsLeftAtUnit d m input between.store.searched w.units begun.store new.store c.in_err-arrival.field-0.0 =
     subst (λ n. IsLeftAtUnit d m input between.store.searched n begun.store new.store c.in_err-arrival.field-0.0) c.units-2.ensures
     (a.left between.store.searched begins) in
-    when_err c.from_residual-in_err-arrival.result _ (λ (x : Result (Option ℕ) SearchError). IsCallEffect d m input (resumed w c.args.at.now) w old new x) c.from_residual-in_err-arrival.ensures.1
+    at_err c.from_residual-in_err-arrival.result _ (λ (x : Result (Option ℕ) SearchError). IsCallEffect d m input (resumed w c.args.at.now) w old new x) c.from_residual-in_err-arrival.ensures.1
     (record {
       rises = tt;
       cost = tt;
