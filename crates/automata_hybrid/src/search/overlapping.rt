@@ -193,8 +193,6 @@ impl DFA {
         ensures units { walk.new.units ≡ units }
         ensures at { (q : Powerset) × (walk.new.stage ≡ At q) × Names cache.now.store.table id q }
     {
-        let _haystack = input.haystack();
-        cache.see_ids();
         let at = place_offset(input, way, units - 1);
         let half = HalfMatch::new(cache.match_pattern(id, 0), at);
         walk.go_to(cache.hold(id), units);
@@ -251,7 +249,6 @@ impl DFA {
         ensures effect { IsCallEffect (way_of way) self.now input.now (resumed walk.old at.now) walk.new
             cache.old cache.new result }
     {
-        let _haystack = input.haystack();
         walk.forget_match();
         if walk.has_ended() {
             return Ok(None);
