@@ -8,7 +8,7 @@ use Rattle.automata_base.specs.Lists.{In}
 use Rattle.automata_base.specs.Matches.{HalfMatch}
 use Rattle.automata_base.specs.PatternSet.{has, members, members_from}
 use Rattle.automata_base.specs.Selections.{Pair}
-use Rattle.automata_base.specs.Tapes.{Forward, byte_before}
+use Rattle.automata_base.specs.Tapes.{Forward}
 use Rattle.automata_base.proofs.Values.PatternsInSets.{members-few}
 use Rattle.automata_hybrid.specs.Stores.{Stored}
 use Rattle.automata_hybrid.specs.Caches.{CacheView}
@@ -19,8 +19,6 @@ use Rattle.automata_hybrid.specs.Machine.{Machine, greatest}
 use Rattle.automata_base.specs.Powerset.{Powerset, cost}
 use Rattle.automata_hybrid.specs.SearchedWalks.{HaveCalled}
 use Rattle.automata_hybrid.specs.Searches.{tape_in}
-use Rattle.automata_hybrid.specs.Slots.{supports}
-use Rattle.automata_hybrid.specs.Starting.{quit_behind}
 use Rattle.automata_hybrid.specs.Walking.{AreWalked, GoesOn, HasItsState, HasTold, HasToldAt, HasToldBy, TellsNext, half_nth, start_count}
 use Rattle.automata_hybrid.specs.Walks.{At, Ended, Fresh, Stage, Walk, fresh_walk}
 use Rattle.automata_hybrid.specs.Which.{IsJoined}
@@ -309,11 +307,6 @@ joins_begin m input walk set c fresh = (
   },
   (fresh, refl),
 )
-
--- the mode isn't supported where no quit byte stands behind the start
-abbrev pub MayNotStart : Machine → Input → Type 0
-MayNotStart m input =
-    (input.start ≤ input.end) × (quit_behind m (byte_before input.haystack input.start) ≡ None) × (supports m input.anchored ≡ false)
 
 -- how many steps a walk has left, at most: for each unit as many as a state has patterns, and one more
 abbrev pub steps_left : Machine → Input → Walk → ℕ

@@ -31,3 +31,4 @@ pub mod Which
 pub mod Within
 pub mod Owing
 pub mod OwingWalks
+pub mod Resuming

@@ -64,8 +64,8 @@ pub record IsWalkCall (way : Direction) (m : Machine) (input : Input) (old new :
   pub ready : ReadsNothing input old → IfErr result (λ e. ⊥)
 
 -- what a call of a walk makes of its cache
-pub record IsCallEffect (way : Direction) (m : Machine) (input : Input) (walk next : Walk) (old new : CacheView)
-    (result : Result (Unit {0}) SearchError) : Type 0 where
+pub record IsCallEffect {T : Type 0} (way : Direction) (m : Machine) (input : Input) (walk next : Walk)
+    (old new : CacheView) (result : Result T SearchError) : Type 0 where
   -- it makes at most one determinisation for each unit by which those read rise, and one for a start; a refused call
   -- one for each unit left
   pub rises : OnOk result (walk.units ≤ next.units)

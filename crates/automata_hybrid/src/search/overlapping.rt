@@ -1,25 +1,20 @@
 //! Overlapping walks: each call tells the next match, over whatever caches of the DFA.
-ghost use Rattle.std.specs.Prelude.{ℕ, ◌≡◌, ◌+◌, ◌-◌, ◌<◌, ◌≤◌, ◌⊎◌, ◌^◌, IfOk, IfErr, IfNone, IfSome, OnOk, OnErr};
-ghost use Rattle.std.specs.Prelude.{None, Some, Err, true, false, length, slice_index};
+ghost use Rattle.std.specs.Prelude.{ℕ, ◌≡◌, ◌+◌, ◌-◌, ◌<◌, ◌≤◌, ◌^◌, IfOk, IfErr, IfNone, IfSome, OnErr};
+ghost use Rattle.std.specs.Prelude.{None, true, false, length, slice_index};
 ghost use Rattle.automata_base.specs.Powerset.{Powerset};
 ghost use Rattle.automata_base.specs.Tapes.{Forward, Backward};
 ghost use Rattle.automata_hybrid.specs.Stores.{IsCacheError};
 ghost use Rattle.automata_hybrid.specs.Usage.{GivesUp};
-ghost use Rattle.automata_hybrid.specs.Caches.{IsCacheOf, counted};
-ghost use Rattle.automata_hybrid.specs.Growing.{ClearedNothing, IsGrown, IsStill, KeepsProgress};
-ghost use Rattle.automata_hybrid.specs.Knowing.{IsOfInput};
-ghost use Rattle.automata_hybrid.specs.KnowingWalks.{HasLearnedUnits, KnowsItsState, KnowsWalk};
+ghost use Rattle.automata_hybrid.specs.Caches.{IsCacheOf};
 ghost use Rattle.automata_hybrid.specs.OwingWalks.{IsCallEffect, IsWalkCall};
-ghost use Rattle.automata_hybrid.specs.SearchedWalks.{EndsCall, LeavesCall};
-ghost use Rattle.automata_hybrid.specs.Searches.{state_in, tape_in};
-ghost use Rattle.automata_hybrid.specs.Slots.{supports};
-ghost use Rattle.automata_hybrid.specs.Starting.{MayStart, quit_behind};
-ghost use Rattle.automata_base.specs.declared.util.search.MatchErrorKind.TheVariants.{UnsupportedAnchored as UnsupportedMode};
-ghost use Rattle.automata_hybrid.specs.Table.{Leads, Names};
-ghost use Rattle.automata_hybrid.specs.Walking.{Arrives, CanGoOn, GoesOn, HasItsState, HasTold, HasToldBy, IsNamedAt};
+ghost use Rattle.automata_hybrid.specs.Resuming.{CanResume, IsCallAnswer, IsCallRefused, IsPutBackEffect};
+ghost use Rattle.automata_hybrid.specs.Resuming.{IsResumeAnswer, IsResumeEffect, ReadsOn, resumed};
+ghost use Rattle.automata_hybrid.specs.Searches.{tape_in};
+ghost use Rattle.automata_hybrid.specs.Starting.{MayStart};
+ghost use Rattle.automata_hybrid.specs.Table.{Names};
+ghost use Rattle.automata_hybrid.specs.Walking.{Arrives, CanGoOn, HasTold, HasToldBy, IsNamedAt};
 ghost use Rattle.automata_hybrid.specs.Walking.{IsResumeRefusal, IsRowState, IsWalkOf, IsWalkRefusal, TellsNext};
-ghost use Rattle.automata_hybrid.specs.Walking.{WalkReads, start_count};
-ghost use Rattle.automata_hybrid.specs.Walks.{At, Ended, Fresh, way_of, without_match};
+ghost use Rattle.automata_hybrid.specs.Walks.{At, Fresh, way_of, without_match};
 
 use crate::dfa::DFA;
 use crate::dfa::cache::Cache;
@@ -57,11 +52,7 @@ impl DFA {
         // What it makes of the cache.
         ensures effect { IsCallEffect Forward self.now input.now state.old state.new cache.old cache.new result }
     {
-        walk_is_right(self.get_nfa());
-        let _haystack = input.haystack();
-        let told = self.call(cache, input, Way::Forward, state);
-        cache.see_bounds();
-        told
+        self.call(cache, input, Way::Forward, state)
     }
 
     /// The same of a walk from the span's end to its start. The DFA is of an automaton that reads its regular
@@ -85,11 +76,7 @@ impl DFA {
         // What it makes of the cache.
         ensures effect { IsCallEffect Backward self.now input.now state.old state.new cache.old cache.new result }
     {
-        walk_is_right(self.get_nfa());
-        let _haystack = input.haystack();
-        let told = self.call(cache, input, Way::Backward, state);
-        cache.see_bounds();
-        told
+        self.call(cache, input, Way::Backward, state)
     }
 
     /// The ID of the state that a walk holds, which is added again where the cache lacks it.
@@ -99,14 +86,10 @@ impl DFA {
         requires state { (q : Powerset) × (walk.now.stage ≡ At q) × IsRowState self.now q }
         ensures of { IsCacheOf cache.new self.now }
         ensures named { IfOk result (λ id. (q : Powerset) → walk.now.stage ≡ At q → Names cache.new.store.table id q) }
-        ensures counted { cache.new.count ≡ cache.old.count }
-        ensures grown { IsGrown cache.old (counted cache.new) }
-        ensures there { HasItsState cache.old.store.table walk.now.stage
-            → (cache.new ≡ cache.old) × IfErr result (λ e. ⊥) }
         ensures gives_up { IfErr result (λ e. IsCacheError e → (q : Powerset) → walk.now.stage ≡ At q
             → GivesUp cache.old.store q) }
         ensures err { OnErr result (cache.new ≡ cache.old) }
-        ensures progress { KeepsProgress cache.old.store cache.new.store }
+        ensures effect { IsPutBackEffect walk.now.stage cache.old cache.new result }
     {
         if let Some(id) = walk.find_in(cache) {
             return Ok(id);
@@ -127,32 +110,17 @@ impl DFA {
         at: &Option<LazyStateID>,
     ) -> Result<LazyStateID, SearchError>
         requires of { IsCacheOf cache.old self.now }
-        requires kept { CanGoOn walk.now at.now }
-        requires at { IsNamedAt cache.old.store.table walk.now.stage at.now }
-        requires walk { IsWalkOf (way_of way) self.now input.now walk.now }
-        requires goes_on { walk.now.stage ≡ Ended → ⊥ }
-        requires open { input.now.start ≤ input.now.end }
-        requires within { walk.now.units ≤ input.now.end - input.now.start }
+        requires at { CanResume cache.old.store.table walk.now at.now }
+        requires walk { ReadsOn (way_of way) self.now input.now walk.now }
         ensures of { IsCacheOf cache.new self.now }
-        ensures leads { IfOk result (λ id. Leads cache.new.store.table id
-            (state_in (way_of way) self.now input.now walk.now.units)) }
-        ensures may { OnOk result (MayStart self.now input.now.anchored (tape_in (way_of way) input.now).before) }
-        ensures refusal { IfErr result (IsResumeRefusal (way_of way) self.now cache.new.store input.now walk.now.stage
-            walk.now.units) }
-        ensures counted { cache.new.count ≤ cache.old.count + start_count walk.now.stage }
-        ensures grown { IsGrown cache.old (counted cache.new) }
-        ensures there { HasItsState cache.old.store.table walk.now.stage → IsGrown cache.old cache.new }
-        ensures unsupported { walk.now.stage ≡ Fresh → quit_behind self.now (tape_in (way_of way) input.now).before
-            ≡ None → supports self.now input.now.anchored ≡ false
-            → result ≡ Err (SearchError.Match (UnsupportedMode input.now.anchored)) }
-        ensures known { (MayStart self.now input.now.anchored (tape_in (way_of way) input.now).before
-            → KnowsItsState (way_of way) self.now cache.old.store input.now walk.now.stage)
-            → (cache.new ≡ cache.old) × IfErr result IsOfInput }
-        ensures learned { OnOk result (KnowsItsState (way_of way) self.now cache.new.store input.now walk.now.stage) }
-        ensures progress { KeepsProgress cache.old.store cache.new.store }
-        ensures kept { OnErr result (cache.new.store.searched ≡ cache.old.store.searched) }
+        ensures answer { IfOk result
+            (IsResumeAnswer (way_of way) self.now input.now walk.now cache.new.store) }
+        ensures refusal { IfErr result
+            (IsResumeRefusal (way_of way) self.now cache.new.store input.now walk.now.stage walk.now.units) }
+        ensures effect { IsResumeEffect (way_of way) self.now input.now walk.now.stage cache.old cache.new result }
     {
         if walk.is_fresh() {
+            cache.see_slots();
             return self.walk_start(cache, input, way);
         }
         if let Some(id) = at {
@@ -175,45 +143,16 @@ impl DFA {
         at: &Option<LazyStateID>,
     ) -> Result<Option<LazyStateID>, SearchError>
         requires of { IsCacheOf cache.old self.now }
-        requires kept { CanGoOn walk.old at.now }
-        requires at { IsNamedAt cache.old.store.table walk.old.stage at.now }
-        requires walk { IsWalkOf (way_of way) self.now input.now walk.old }
-        requires goes_on { walk.old.stage ≡ Ended → ⊥ }
-        requires all_told { (q : Powerset) → walk.old.stage ≡ At q → length q.patterns ≤ walk.old.told }
-        requires open { input.now.start ≤ input.now.end }
-        requires within { walk.old.units ≤ input.now.end - input.now.start }
+        requires at { CanResume cache.old.store.table walk.old at.now }
+        requires walk { ReadsOn (way_of way) self.now input.now walk.old }
         ensures of { IsCacheOf cache.new self.now }
-        ensures at { IfOk result (IsNamedAt cache.new.store.table walk.new.stage) }
-        ensures sure { IfOk result (λ next. next ≡ None → walk.new.stage ≡ Ended) }
-        ensures tells { OnOk result (TellsNext (way_of way) self.now input.now walk.old walk.new) }
+        ensures answer { IfOk result (IsCallAnswer (way_of way) self.now input.now (resumed walk.old at.now) walk.new
+            cache.old.store cache.new.store) }
         ensures err { OnErr result (walk.new ≡ walk.old) }
-        ensures refusal { (k : ℕ) → HasTold (way_of way) self.now input.now walk.old k
-            → IfErr result (IsWalkRefusal (way_of way) self.now cache.new.store input.now walk.old k) }
-        ensures rises { OnOk result (walk.old.units ≤ walk.new.units) }
-        ensures cost { OnOk result (cache.new.count + walk.old.units
-            ≤ cache.old.count + walk.new.units + start_count walk.old.stage) }
-        ensures most { cache.new.count + walk.old.units ≤ cache.old.count + (input.now.end - input.now.start + 1)
-            + start_count walk.old.stage }
-        ensures grown { IsGrown cache.old (counted cache.new) }
-        ensures there { HasItsState cache.old.store.table walk.old.stage → IsGrown cache.old cache.new }
-        ensures holds { OnOk result (HasItsState cache.new.store.table walk.new.stage) }
-        ensures goes_on { OnOk result (GoesOn walk.old walk.new) }
-        ensures unsupported { walk.old.stage ≡ Fresh → quit_behind self.now (tape_in (way_of way) input.now).before
-            ≡ None → supports self.now input.now.anchored ≡ false
-            → result ≡ Err (SearchError.Match (UnsupportedMode input.now.anchored)) }
-        ensures known { KnowsWalk (way_of way) self.now cache.old.store input.now walk.old
-            → IsStill cache.old cache.new × IfErr result IsOfInput }
-        ensures learned { ClearedNothing cache.old.store cache.new.store
-            → OnOk result (KnowsWalk (way_of way) self.now cache.new.store input.now walk.old) }
-        ensures units { ClearedNothing cache.old.store cache.new.store
-            → OnOk result (HasLearnedUnits (way_of way) self.now cache.new.store input.now walk.old.units
-            walk.new.units) }
-        ensures stops { OnOk result (walk.new.stage ≡ Ended → (j : ℕ) → walk.new.units ≤ j
-            → WalkReads (way_of way) self.now input.now j → ⊥) }
-        ensures ends { OnOk result (EndsCall (way_of way) self.now input.now walk.old walk.new cache.old.store
-            cache.new.store) }
-        ensures leaves { IfErr result (LeavesCall (way_of way) self.now input.now walk.old cache.old.store
-            cache.new.store) }
+        ensures refusal { IfErr result
+            (IsCallRefused (way_of way) self.now input.now (resumed walk.old at.now) cache.new.store) }
+        ensures effect { IsCallEffect (way_of way) self.now input.now (resumed walk.old at.now) walk.new
+            cache.old cache.new result }
     {
         self.see_skips();
         let _haystack = input.haystack();
@@ -246,20 +185,14 @@ impl DFA {
     )
         requires of { IsCacheOf cache.now self.now }
         requires open { input.now.start ≤ input.now.end }
-        requires from { walk.old.units ≤ input.now.end - input.now.start }
         requires may { MayStart self.now input.now.anchored (tape_in (way_of way) input.now).before }
         requires here { (k : ℕ) → HasTold (way_of way) self.now input.now walk.old k
             → HasToldBy (way_of way) self.now input.now walk.old.units k }
         requires arrives { Arrives (way_of way) self.now cache.now.store.table input.now walk.old.units id units }
         ensures tells { TellsNext (way_of way) self.now input.now walk.old walk.new }
         ensures units { walk.new.units ≡ units }
-        ensures more { walk.old.units < units }
-        ensures on { walk.new.stage ≡ Ended → ⊥ }
         ensures at { (q : Powerset) × (walk.new.stage ≡ At q) × Names cache.now.store.table id q }
-        ensures holds { HasItsState cache.now.store.table walk.new.stage }
     {
-        let _haystack = input.haystack();
-        cache.see_ids();
         let at = place_offset(input, way, units - 1);
         let half = HalfMatch::new(cache.match_pattern(id, 0), at);
         walk.go_to(cache.hold(id), units);
@@ -277,48 +210,20 @@ impl DFA {
         requires of { IsCacheOf cache.old self.now }
         requires walk { IsWalkOf (way_of way) self.now input.now walk.old }
         ensures of { IsCacheOf cache.new self.now }
-        ensures tells { OnOk result (TellsNext (way_of way) self.now input.now walk.old walk.new) }
-        ensures refused { OnErr result (walk.new ≡ without_match walk.old) }
+        ensures walk { IsWalkOf (way_of way) self.now input.now walk.new }
+        ensures call { IsWalkCall (way_of way) self.now input.now walk.old walk.new result }
         ensures refusal { walk.old.lost ≡ false → (k : ℕ) → HasTold (way_of way) self.now input.now walk.old k
             → IfErr result (IsWalkRefusal (way_of way) self.now cache.new.store input.now walk.old k) }
-        ensures lost { walk.old.lost ≡ true → IfErr result (λ e. e ≡ SearchError.OutOfMemory) }
-        ensures rises { OnOk result (walk.old.units ≤ walk.new.units) }
-        ensures cost { OnOk result (cache.new.count + walk.old.units
-            ≤ cache.old.count + walk.new.units + start_count walk.old.stage) }
-        ensures most { cache.new.count ≤ cache.old.count + (input.now.end - input.now.start + 1 - walk.old.units)
-            + start_count walk.old.stage }
-        ensures grown { IsGrown cache.old (counted cache.new) }
-        ensures there { HasItsState cache.old.store.table walk.old.stage → IsGrown cache.old cache.new }
-        ensures holds { HasItsState cache.old.store.table walk.old.stage
-            → OnOk result (HasItsState cache.new.store.table walk.new.stage) }
-        ensures ended { walk.old.stage ≡ Ended → IfErr result (λ e. ⊥) × (cache.new ≡ cache.old) }
-        ensures same { (q : Powerset) → walk.old.stage ≡ At q → walk.old.told < length q.patterns
-            → walk.old.lost ≡ false → IfErr result (λ e. ⊥) × (cache.new ≡ cache.old) }
-        ensures done { walk.old.lost ≡ false → input.now.end < input.now.start
-            → IfErr result (λ e. ⊥) × (cache.new ≡ cache.old) }
-        ensures goes_on { OnOk result (GoesOn walk.old walk.new) }
-        ensures unsupported { walk.old.stage ≡ Fresh → input.now.start ≤ input.now.end
-            → quit_behind self.now (tape_in (way_of way) input.now).before ≡ None
-            → supports self.now input.now.anchored ≡ false
-            → result ≡ Err (SearchError.Match (UnsupportedMode input.now.anchored)) }
-        ensures known { KnowsWalk (way_of way) self.now cache.old.store input.now walk.old
-            → IsStill cache.old cache.new × (walk.old.lost ≡ false → IfErr result IsOfInput) }
-        ensures learned { ClearedNothing cache.old.store cache.new.store
-            → OnOk result (KnowsWalk (way_of way) self.now cache.new.store input.now walk.old) }
-        ensures units { ClearedNothing cache.old.store cache.new.store
-            → OnOk result (HasLearnedUnits (way_of way) self.now cache.new.store input.now walk.old.units
-            walk.new.units) }
-        ensures stops { input.now.start ≤ input.now.end → (walk.old.stage ≡ Ended → ⊥)
-            → OnOk result (walk.new.stage ≡ Ended → (j : ℕ) → walk.new.units ≤ j
-            → WalkReads (way_of way) self.now input.now j → ⊥) }
-        ensures ends { OnOk result (EndsCall (way_of way) self.now input.now walk.old walk.new cache.old.store
-            cache.new.store) }
-        ensures leaves { IfErr result (LeavesCall (way_of way) self.now input.now walk.old cache.old.store
-            cache.new.store) }
+        ensures effect { IsCallEffect (way_of way) self.now input.now walk.old walk.new cache.old cache.new result }
     {
+        walk_is_right(self.get_nfa());
+        let _haystack = input.haystack();
         match self.go_on(cache, input, way, walk, &None) {
             Ok(_) => Ok(()),
-            Err(error) => Err(error),
+            Err(error) => {
+                cache.see_bounds();
+                Err(error)
+            }
         }
     }
 
@@ -336,47 +241,14 @@ impl DFA {
         requires at { IsNamedAt cache.old.store.table walk.old.stage at.now }
         requires walk { IsWalkOf (way_of way) self.now input.now walk.old }
         ensures of { IsCacheOf cache.new self.now }
-        ensures at { IfOk result (IsNamedAt cache.new.store.table walk.new.stage) }
-        ensures sure { IfOk result (λ next. next ≡ None → (walk.new.stage ≡ Ended) ⊎ (walk.new.lost ≡ false)) }
-        ensures tells { OnOk result (TellsNext (way_of way) self.now input.now walk.old walk.new) }
-        ensures refused { OnErr result (walk.new ≡ without_match walk.old) }
-        ensures refusal { CanGoOn walk.old at.now → (k : ℕ) → HasTold (way_of way) self.now input.now walk.old k
-            → IfErr result (IsWalkRefusal (way_of way) self.now cache.new.store input.now walk.old k) }
-        ensures lost { at.now ≡ None → walk.old.lost ≡ true → IfErr result (λ e. e ≡ SearchError.OutOfMemory) }
-        ensures rises { OnOk result (walk.old.units ≤ walk.new.units) }
-        ensures cost { OnOk result (cache.new.count + walk.old.units
-            ≤ cache.old.count + walk.new.units + start_count walk.old.stage) }
-        ensures most { cache.new.count ≤ cache.old.count + (input.now.end - input.now.start + 1 - walk.old.units)
-            + start_count walk.old.stage }
-        ensures grown { IsGrown cache.old (counted cache.new) }
-        ensures there { HasItsState cache.old.store.table walk.old.stage → IsGrown cache.old cache.new }
-        ensures holds { HasItsState cache.old.store.table walk.old.stage
-            → OnOk result (HasItsState cache.new.store.table walk.new.stage) }
-        ensures ended { walk.old.stage ≡ Ended → IfErr result (λ e. ⊥) × (cache.new ≡ cache.old) }
-        ensures same { (q : Powerset) → walk.old.stage ≡ At q → walk.old.told < length q.patterns
-            → CanGoOn walk.old at.now → IfErr result (λ e. ⊥) × (cache.new ≡ cache.old) }
-        ensures done { input.now.end < input.now.start → IfErr result (λ e. ⊥) × (cache.new ≡ cache.old) }
-        ensures goes_on { OnOk result (GoesOn walk.old walk.new) }
-        ensures unsupported { walk.old.stage ≡ Fresh → input.now.start ≤ input.now.end
-            → quit_behind self.now (tape_in (way_of way) input.now).before ≡ None
-            → supports self.now input.now.anchored ≡ false
-            → result ≡ Err (SearchError.Match (UnsupportedMode input.now.anchored)) }
-        ensures known { KnowsWalk (way_of way) self.now cache.old.store input.now walk.old
-            → IsStill cache.old cache.new × (CanGoOn walk.old at.now → IfErr result IsOfInput) }
-        ensures learned { ClearedNothing cache.old.store cache.new.store
-            → OnOk result (KnowsWalk (way_of way) self.now cache.new.store input.now walk.old) }
-        ensures units { ClearedNothing cache.old.store cache.new.store
-            → OnOk result (HasLearnedUnits (way_of way) self.now cache.new.store input.now walk.old.units
-            walk.new.units) }
-        ensures stops { input.now.start ≤ input.now.end → (walk.old.stage ≡ Ended → ⊥)
-            → OnOk result (walk.new.stage ≡ Ended → (j : ℕ) → walk.new.units ≤ j
-            → WalkReads (way_of way) self.now input.now j → ⊥) }
-        ensures ends { OnOk result (EndsCall (way_of way) self.now input.now walk.old walk.new cache.old.store
-            cache.new.store) }
-        ensures leaves { IfErr result (LeavesCall (way_of way) self.now input.now walk.old cache.old.store
-            cache.new.store) }
+        ensures answer { IfOk result (IsCallAnswer (way_of way) self.now input.now (resumed walk.old at.now) walk.new
+            cache.old.store cache.new.store) }
+        ensures err { OnErr result (walk.new ≡ without_match walk.old) }
+        ensures refusal { IfErr result
+            (IsCallRefused (way_of way) self.now input.now (resumed walk.old at.now) cache.new.store) }
+        ensures effect { IsCallEffect (way_of way) self.now input.now (resumed walk.old at.now) walk.new
+            cache.old cache.new result }
     {
-        let _haystack = input.haystack();
         walk.forget_match();
         if walk.has_ended() {
             return Ok(None);

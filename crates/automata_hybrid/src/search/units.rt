@@ -1,32 +1,22 @@
 //! The units of a walk, in either direction, and going on over them to the next state that tells patterns.
-ghost use Rattle.std.specs.Prelude.{ℕ, ◌≡◌, ◌+◌, ◌-◌, ◌<◌, ◌≤◌, ◌⊎◌, IfOk, IfErr, OnOk, OnErr, None, Some, Err, []};
+ghost use Rattle.std.specs.Prelude.{ℕ, ◌≡◌, ◌-◌, ◌<◌, ◌≤◌, ◌⊎◌, IfOk, IfErr, OnOk, Some, []};
 ghost use Rattle.std.specs.Prelude.{true, false, suc, length};
 ghost use Rattle.automata_base.specs.Answers.{offset_in};
-ghost use Rattle.automata_base.specs.Classes.{class_in, is_quit};
+ghost use Rattle.automata_base.specs.Classes.{is_quit};
 ghost use Rattle.automata_base.specs.Paths.{next};
 ghost use Rattle.automata_base.specs.Powerset.{Powerset};
-ghost use Rattle.automata_base.specs.Steps.{successor};
 ghost use Rattle.automata_base.specs.Tapes.{is_split};
-ghost use Rattle.automata_hybrid.specs.Stores.{IsKnownTransition};
-ghost use Rattle.automata_hybrid.specs.Caches.{CacheView, IsCacheOf, counted};
-ghost use Rattle.automata_hybrid.specs.Growing.{ClearedNothing, IsGrown, KeepsProgress};
-ghost use Rattle.automata_hybrid.specs.Knowing.{IsOfInput, KnowsItsStart, KnowsUnit};
-ghost use Rattle.automata_hybrid.specs.KnowingWalks.{HasLearnedUnits, KnowsUnits};
-ghost use Rattle.automata_hybrid.specs.Passing.{HasLearnedUnit, IsFollowed};
-ghost use Rattle.automata_hybrid.specs.declared.dfa.progress.Searched.{Searched};
-ghost use Rattle.automata_hybrid.specs.Searches.{HasReadNoQuit, IsStepRefusal, Skips, behind_offset, given_up_offset};
+ghost use Rattle.automata_hybrid.specs.Caches.{CacheView, IsCacheOf};
+ghost use Rattle.automata_hybrid.specs.Passing.{IsFollowed};
+ghost use Rattle.automata_hybrid.specs.Reading.{IsReadAnswer, IsReadEffect, IsReadProgress, IsReadRefusal};
+ghost use Rattle.automata_hybrid.specs.Resuming.{IsAdvanceEffect, IsUnitEffect, StandsBehind};
+ghost use Rattle.automata_hybrid.specs.Searches.{HasReadNoQuit, Skips, behind_offset, given_up_offset};
 ghost use Rattle.automata_hybrid.specs.Searches.{state_in, tape_in, unit_offset};
-ghost use Rattle.automata_hybrid.specs.Progressing.{started};
-ghost use Rattle.automata_hybrid.specs.Searched.{IsLeftAt, IsMovedTo};
-ghost use Rattle.automata_hybrid.specs.SearchedWalks.{EndsAtUnit, HasJustMoved, IsLeftAtUnit};
-ghost use Rattle.automata_hybrid.specs.Slots.{supports};
-ghost use Rattle.automata_hybrid.specs.Starting.{IsStartRefusalAt, MayStart, quit_behind};
-ghost use Rattle.automata_base.specs.declared.util.search.MatchErrorKind.TheVariants.{UnsupportedAnchored as UnsupportedMode};
+ghost use Rattle.automata_hybrid.specs.SearchedWalks.{HasJustMoved};
+ghost use Rattle.automata_hybrid.specs.Starting.{IsStartAnswer, IsStartEffect, IsStartRefusedAt};
 ghost use Rattle.automata_hybrid.specs.Table.{IsValid, Leads, Names};
-ghost use Rattle.automata_hybrid.specs.Walking.{HasToldBy, IsAdvanceRefusal, IsArrival, IsUnitRefusal, WalkReads};
+ghost use Rattle.automata_hybrid.specs.Walking.{IsAdvanceRefusal, IsArrival, IsUnitRefusal, WalkReads};
 ghost use Rattle.automata_hybrid.specs.Walks.{way_of};
-ghost use Rattle.automata_config.specs.Options.{match_kind_of};
-ghost use Rattle.automata_hybrid.specs.Machine.{table_stride};
 
 use crate::dfa::DFA;
 use crate::dfa::cache::Cache;
@@ -135,25 +125,14 @@ impl DFA {
     ) -> Result<LazyStateID, SearchError>
         requires { IsCacheOf cache.old self.now }
         ensures of { IsCacheOf cache.new self.now }
-        ensures leads { IfOk result (λ id. Leads cache.new.store.table id
-            (state_in (way_of way) self.now input.now 0)) }
-        ensures may { OnOk result (MayStart self.now input.now.anchored (tape_in (way_of way) input.now).before) }
-        ensures refusal { IfErr result (IsStartRefusalAt self.now cache.new.store input.now.anchored
-            (tape_in (way_of way) input.now).before (behind_offset (way_of way) input.now)
-            (offset_in (way_of way) input.now 0)) }
-        ensures counted { cache.new.count ≤ cache.old.count + 1 }
-        ensures grown { IsGrown cache.old cache.new }
-        ensures unsupported { quit_behind self.now (tape_in (way_of way) input.now).before ≡ None
-            → supports self.now input.now.anchored ≡ false
-            → result ≡ Err (SearchError.Match (UnsupportedMode input.now.anchored)) }
-        ensures known { (MayStart self.now input.now.anchored (tape_in (way_of way) input.now).before
-            → KnowsItsStart (way_of way) self.now cache.old.store input.now)
-            → (cache.new ≡ cache.old) × IfErr result IsOfInput }
-        ensures learned { OnOk result (KnowsItsStart (way_of way) self.now cache.new.store input.now) }
-        ensures progress { KeepsProgress cache.old.store cache.new.store }
-        ensures kept { OnErr result (cache.new.store.searched ≡ cache.old.store.searched) }
+        ensures answer { IfOk result (IsStartAnswer self.now input.now.anchored (tape_in (way_of way) input.now).before
+            cache.old cache.new) }
+        ensures refusal { IfErr result
+            (IsStartRefusedAt self.now input.now.anchored (tape_in (way_of way) input.now).before
+            (behind_offset (way_of way) input.now) (offset_in (way_of way) input.now 0) cache.old cache.new) }
+        ensures effect { IsStartEffect self.now input.now.anchored (tape_in (way_of way) input.now).before
+            cache.old cache.new }
     {
-        cache.see_slots();
         match way {
             Way::Forward => self.start_state_forward(cache, input),
             Way::Backward => self.start_state_reverse(cache, input),
@@ -172,24 +151,14 @@ impl DFA {
         requires of { IsCacheOf cache.old self.now }
         requires valid { IsValid cache.old.store.table id }
         ensures of { IsCacheOf cache.new self.now }
-        ensures counted { cache.new.count ≤ cache.old.count + 1 }
-        ensures named { IfOk result (λ n. (q : Powerset) → Names cache.old.store.table id q
-            → Leads cache.new.store.table n (successor self.now.nfa (match_kind_of self.now.config) q (Some byte))) }
-        ensures clean { OnOk result (is_quit self.now.quits byte ≡ false) }
-        ensures refusal { IfErr result (λ e. (q : Powerset) → Names cache.old.store.table id q
-            → IsStepRefusal self.now cache.new.store q (Some byte) quit_at at e) }
-        ensures grown { IsGrown cache.old cache.new }
-        ensures known { IsKnownTransition cache.old.store id (class_in self.now.classes byte)
-            → (cache.new.count ≡ cache.old.count) × IfErr result IsOfInput }
-        ensures learned { ClearedNothing cache.old.store cache.new.store
-            → OnOk result (IsKnownTransition cache.new.store id (class_in self.now.classes byte)) }
-        ensures below { class_in self.now.classes byte < table_stride self.now }
-        ensures moved { (before : CacheView) → HasJustMoved at before cache.old
-            → OnOk result (IsMovedTo at before.store cache.new.store) }
-        ensures left { (before : CacheView) → HasJustMoved at before cache.old
-            → IfErr result (IsLeftAt self.now (Some byte) at before.store cache.new.store) }
+        ensures answer { IfOk result (IsReadAnswer self.now id (Some byte) cache.old cache.new) }
+        ensures refusal { IfErr result (IsReadRefusal self.now id (Some byte) quit_at at cache.old cache.new) }
+        ensures effect { IsReadEffect self.now id (Some byte) cache.old cache.new result }
+        ensures progress { (before : CacheView) → HasJustMoved at before cache.old
+            → IsReadProgress self.now (Some byte) at before.store cache.new.store result }
     {
         self.see_classes();
+        cache.see_ids();
         let next = self.step(cache, id, byte, at)?;
         cache.see_ids();
         if next.is_quit() {
@@ -209,31 +178,19 @@ impl DFA {
         place: usize,
     ) -> Result<LazyStateID, SearchError>
         requires of { IsCacheOf cache.old self.now }
-        requires open { input.now.start ≤ input.now.end }
-        requires within { place ≤ input.now.end - input.now.start }
-        requires named { Names cache.old.store.table id (state_in (way_of way) self.now input.now place) }
+        requires at { StandsBehind (way_of way) self.now cache.old.store.table input.now place id }
         ensures of { IsCacheOf cache.new self.now }
-        ensures counted { cache.new.count ≤ cache.old.count + 1 }
         ensures leads { IfOk result (λ n. Leads cache.new.store.table n
             (state_in (way_of way) self.now input.now (suc place))) }
         ensures clean { OnOk result ((byte : ℕ) → next (tape_in (way_of way) input.now) place ≡ Some byte
             → is_quit self.now.quits byte ≡ false) }
         ensures reads { WalkReads (way_of way) self.now input.now place }
         ensures refusal { IfErr result (IsUnitRefusal (way_of way) self.now cache.new.store input.now place) }
-        ensures grown { IsGrown cache.old cache.new }
-        ensures known { KnowsUnit (way_of way) self.now cache.old.store input.now place
-            → (cache.new.count ≡ cache.old.count) × IfErr result IsOfInput }
-        ensures learned { ClearedNothing cache.old.store cache.new.store
-            → OnOk result (HasLearnedUnit (way_of way) self.now cache.new.store input.now place) }
-        ensures moved { OnOk result (IsMovedTo (given_up_offset (way_of way) input.now place) cache.old.store
-            cache.new.store) }
-        ensures left { IfErr result (IsLeftAt self.now (next (tape_in (way_of way) input.now) place)
-            (given_up_offset (way_of way) input.now place) cache.old.store cache.new.store) }
+        ensures effect { IsUnitEffect (way_of way) self.now input.now place cache.old cache.new result }
     {
         let _haystack = input.haystack();
         let at = span_offset(input, way, place);
         let quit_at = unit_offset(input, way, place);
-        cache.see_ids();
         cache.move_search(at);
         match unit_at(input, way, place) {
             Some(byte) => self.read_byte(cache, id, byte, quit_at, at),
@@ -313,29 +270,13 @@ impl DFA {
         units: usize,
     ) -> Result<Arrival, SearchError>
         requires of { IsCacheOf cache.old self.now }
-        requires open { input.now.start ≤ input.now.end }
-        requires within { units ≤ input.now.end - input.now.start }
-        requires named { Names cache.old.store.table from (state_in (way_of way) self.now input.now units) }
+        requires from { StandsBehind (way_of way) self.now cache.old.store.table input.now units from }
         requires clean { HasReadNoQuit (way_of way) self.now input.now units }
         ensures of { IsCacheOf cache.new self.now }
-        ensures grown { IsGrown cache.old cache.new }
-        ensures counted { IfOk result (λ a. cache.new.count + units ≤ cache.old.count + a.units) }
-        ensures most { cache.new.count + units ≤ cache.old.count + (input.now.end - input.now.start + 1) }
         ensures arrives { IfOk result (λ a. IsArrival (way_of way) self.now cache.new.store.table input.now units a.id
             a.units) }
         ensures refusal { IfErr result (IsAdvanceRefusal (way_of way) self.now cache.new.store input.now units) }
-        ensures known { (k : ℕ) → HasToldBy (way_of way) self.now input.now units k
-            → KnowsUnits (way_of way) self.now cache.old.store input.now units k
-            → (cache.new.count ≡ cache.old.count) × IfErr result IsOfInput }
-        ensures learned { ClearedNothing cache.old.store cache.new.store
-            → IfOk result (λ a. HasLearnedUnits (way_of way) self.now cache.new.store input.now units a.units) }
-        ensures ended { (before : Searched)
-            → cache.old.store.searched ≡ started before (given_up_offset (way_of way) input.now units)
-            → IfOk result (λ a. (k : ℕ) × (units ≤ k) × (a.units ≡ suc k) × WalkReads (way_of way) self.now input.now k
-            × EndsAtUnit (way_of way) input.now before units k cache.old.store cache.new.store) }
-        ensures left { (before : Searched)
-            → cache.old.store.searched ≡ started before (given_up_offset (way_of way) input.now units)
-            → IfErr result (IsLeftAtUnit (way_of way) self.now input.now before units cache.old.store cache.new.store) }
+        ensures effect { IsAdvanceEffect (way_of way) self.now input.now units cache.old cache.new result }
     {
         let _haystack = input.haystack();
         let last = last_place(input);

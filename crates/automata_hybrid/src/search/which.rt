@@ -1,20 +1,14 @@
 //! The set of the patterns that match, told by one walk forward.
-ghost use Rattle.std.specs.Prelude.{◌≡◌, ◌+◌, ◌-◌, ◌≤◌, IfErr, OnOk, None, Err, false, length};
+ghost use Rattle.std.specs.Prelude.{◌≡◌, IfErr, OnOk, Err, length};
 ghost use Rattle.automata_base.specs.Answers.{ArePatterns, ArePatternsFound};
 ghost use Rattle.automata_base.specs.Engines.{engine_of};
 ghost use Rattle.automata_base.specs.Nodes.{nfa_of};
 ghost use Rattle.automata_base.specs.Paths.{IsLookAcyclic};
 ghost use Rattle.automata_base.specs.PatternSet.{members};
-ghost use Rattle.automata_base.specs.Tapes.{Forward, byte_before};
+ghost use Rattle.automata_base.specs.Tapes.{Forward};
 ghost use Rattle.automata_hybrid.specs.Caches.{IsCacheOf};
-ghost use Rattle.automata_hybrid.specs.Growing.{ClearedNothing, IsGrown, IsStill};
-ghost use Rattle.automata_hybrid.specs.Knowing.{IsOfInput};
-ghost use Rattle.automata_hybrid.specs.KnowingWalks.{KnowsWhich};
+ghost use Rattle.automata_hybrid.specs.Owing.{IsUnsupported, unsupported_error};
 ghost use Rattle.automata_hybrid.specs.OwingWalks.{IsWhich, IsWhichEffect};
-ghost use Rattle.automata_hybrid.specs.SearchedWalks.{EndsSet, LeavesSet};
-ghost use Rattle.automata_hybrid.specs.Slots.{supports};
-ghost use Rattle.automata_hybrid.specs.Starting.{quit_behind};
-ghost use Rattle.automata_base.specs.declared.util.search.MatchErrorKind.TheVariants.{UnsupportedAnchored as UnsupportedMode};
 ghost use Rattle.automata_hybrid.specs.Walking.{AreWalked};
 ghost use Rattle.automata_hybrid.specs.Which.{IsWhichRefusal};
 ghost use Rattle.automata_config.specs.Options.{match_kind_of};
@@ -68,17 +62,8 @@ impl DFA {
             (length patset.old) (members patset.old) (members patset.new)) }
         ensures capacity { length patset.new ≡ length patset.old }
         ensures refusal { IfErr result (IsWhichRefusal self.now cache.new.store input.now patset.old patset.new) }
-        ensures unsupported { input.now.start ≤ input.now.end → quit_behind self.now
-            (byte_before input.now.haystack input.now.start) ≡ None → supports self.now input.now.anchored ≡ false
-            → result ≡ Err (SearchError.Match (UnsupportedMode input.now.anchored)) }
-        ensures cost { cache.new.count ≤ cache.old.count + (input.now.end - input.now.start + 2) }
-        ensures grown { IsGrown cache.old cache.new }
-        ensures known { KnowsWhich self.now cache.old.store input.now patset.old
-            → IsStill cache.old cache.new × IfErr result IsOfInput }
-        ensures learned { ClearedNothing cache.old.store cache.new.store
-            → OnOk result (KnowsWhich self.now cache.new.store input.now patset.old) }
-        ensures ends { OnOk result (EndsSet self.now input.now patset.old cache.old.store cache.new.store) }
-        ensures leaves { IfErr result (LeavesSet self.now input.now patset.old cache.old.store cache.new.store) }
+        ensures unsupported { IsUnsupported Forward self.now input.now → result ≡ Err (unsupported_error input.now) }
+        ensures effect { IsWhichEffect self.now input.now patset.old cache.old cache.new result }
     {
         walk_is_right(self.get_nfa());
         let _haystack = input.haystack();

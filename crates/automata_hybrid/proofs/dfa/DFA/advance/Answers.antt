@@ -1,9 +1,13 @@
 use Rattle.std.proofs.Common.{ℕ, suc, ◌≡◌, ◌∙◌, ◌<◌, ◌≤◌, ◌+◌, ◌-◌, inl, inr, length, refl, sym, ap, subst, arith, ⊎_elim}
+use Rattle.std.specs.Prelude.{Result}
 use Rattle.automata_base.specs.Powerset.{dead}
 use Rattle.automata_base.specs.Tapes.{Direction}
+use Rattle.automata_config.specs.declared.error.SearchError.{SearchError}
+use Rattle.automata_hybrid.specs.declared.search.units.Arrival.{Arrival}
 use Rattle.automata_hybrid.specs.Growing.{ClearedNothing}
 use Rattle.automata_hybrid.specs.KnowingWalks.{HasLearnedUnits}
 use Rattle.automata_hybrid.specs.Passing.{IsFollowed}
+use Rattle.automata_hybrid.specs.Resuming.{IsAdvanceEffect}
 use Rattle.automata_hybrid.specs.Searched.{IsOpenAt}
 use Rattle.automata_hybrid.specs.Searches.{HasReadNoQuit, given_up_offset, state_in, tape_in}
 use Rattle.automata_hybrid.specs.Table.{Names, Rows}
@@ -12,6 +16,7 @@ use Rattle.automata_hybrid.specs.Walks.{way_of}
 use Rattle.automata_hybrid.proofs.Following.{followed_clean, followed_silent}
 use Rattle.automata_hybrid.proofs.Growing.{grown_moved, grown_same, grown_trans, nothing_first, nothing_second}
 use Rattle.automata_hybrid.proofs.KnowingWalks.{unit_knows, units_more, units_moved, units_none}
+use Rattle.automata_hybrid.proofs.Reading.{at_err}
 use Rattle.automata_hybrid.proofs.SearchedWalks.{span_ends, unit_ends, unit_left, unit_open}
 use Rattle.automata_hybrid.proofs.Searching.{false_true, if_err}
 use Rattle.automata_hybrid.proofs.Stepping.{dead_tagged}
@@ -19,35 +24,23 @@ use Rattle.automata_hybrid.proofs.Walked.{clean_more, finish_dead, finish_read, 
 use Rattle.automata_hybrid.proofs.WalkUnits.{units_in}
 use Rattle.automata_hybrid.proofs.dfa.DFA.advance.Goals as goal
 
-pub returns-in_err-next-clause-grown : goal.returns-in_err-next-clause-grown
-returns-in_err-next-clause-grown c = grown_trans c.args.cache.now c.loop-read.cache c.read_unit.new.cache c.loop-read.invariant.grown c.in_err-next.ensures.grown
-
-pub returns-then-is_dead-clause-grown : goal.returns-then-is_dead-clause-grown
-returns-then-is_dead-clause-grown c =
-    grown_trans c.args.cache.now c.read_unit.new.cache c.end_search.new.self
-    (grown_trans c.args.cache.now c.loop-read.cache c.read_unit.new.cache c.loop-read.invariant.grown c.in_ok-next.ensures.grown)
-    (grown_moved c.read_unit.new.cache c.end_search.new.self c.end_search.ensures.value)
-
-pub returns-then-tells-clause-grown : goal.returns-then-tells-clause-grown
-returns-then-tells-clause-grown c =
-    grown_trans c.args.cache.now c.read_unit.new.cache c.end_search-then-tells.new.self
-    (grown_trans c.args.cache.now c.loop-read.cache c.read_unit.new.cache c.loop-read.invariant.grown c.in_ok-next.ensures.grown)
-    (grown_moved c.read_unit.new.cache c.end_search-then-tells.new.self c.end_search-then-tells.ensures.value)
-
-pub returns-clause-grown : goal.returns-clause-grown
-returns-clause-grown c =
-    grown_trans c.args.cache.now c.loop-read.cache c.end_search-2.new.self c.loop-read.invariant.grown
-    (grown_moved c.loop-read.cache c.end_search-2.new.self c.end_search-2.ensures.value)
-
-pub returns-then-is_dead-clause-arrives : goal.returns-then-is_dead-clause-arrives
-returns-then-is_dead-clause-arrives c =
+pub loop-read-init : goal.loop-read-init
+loop-read-init c =
     let d : Direction = way_of c.args.way in
-    let k : ℕ = c.follow-stop.result.at in
-    let f : IsFollowed d c.args.self.now c.loop-read.cache.store c.args.input.now c.loop-read.read k c.follow-stop.result.id = c.follow-stop.ensures.followed in
-    let units : c.args.input.now.end - c.args.input.now.start ≡ length (tape_in d c.args.input.now).bytes = units_in d c.args.input.now c.requires.«open» c.haystack-haystack.ensures.within.1 in
-    let dies : state_in d c.args.self.now c.args.input.now (suc k) ≡ dead = (dead_tagged c.read_unit.new.cache.store.table c.in_ok-next.next (c.see_ids.ensures.low c.in_ok-next.next) c.see_ids.ensures.small _ c.in_ok-next.ensures.leads).0 (c.if-is_dead.ensures.0 refl) in
-    finish_dead d c.args.self.now c.args.input.now c.args.units k _ (omega (arith, c.loop-read.invariant.from, f.more)) (omega (arith, units, c.follow-stop.ensures.within)) (omega arith)
-    (clean_more d c.args.self.now c.args.input.now k (followed_clean f c.loop-read.invariant.clean) c.in_ok-next.ensures.clean) dies (followed_silent f c.loop-read.invariant.silent)
+    record {
+      of = c.requires.of;
+      counted = omega arith;
+      from = omega arith;
+      within = omega (arith, c.requires.from.left);
+      grown = grown_same c.args.cache.now c.args.cache.now refl;
+      named = c.requires.from.named;
+      clean = c.requires.clean;
+      idle = λ n told knows. refl;
+      learned = λ nothing. units_none d c.args.self.now c.args.cache.now.store c.args.input.now c.args.units;
+      silent = silent_same d c.args.self.now c.args.input.now c.args.units;
+      progress = λ s e. (given_up_offset d c.args.input.now c.args.units, (s, given_up_offset d c.args.input.now c.args.units, inl (refl, refl), e));
+      reads = λ less. absurd (omega (arith, less));
+    }
 
 pub loop-read-preserved : goal.loop-read-preserved
 loop-read-preserved c =
@@ -62,29 +55,29 @@ loop-read-preserved c =
     (⊎_elim (λ s. inl s) (λ none. inr (none (state_in d c.args.self.now c.args.input.now (suc k)) named)) (c.tells.ensures.no c.if-tells.false)) in
     record {
       of = c.in_ok-next.ensures.of;
-      counted = omega (arith, c.loop-read.invariant.counted, c.in_ok-next.ensures.counted, f.more);
+      counted = omega (arith, c.loop-read.invariant.counted, c.in_ok-next.ensures.effect.counted, f.more);
       from = omega (arith, c.loop-read.invariant.from, f.more);
       within = omega (arith, c.follow-stop.ensures.within);
-      grown = grown_trans c.args.cache.now c.loop-read.cache c.read_unit.new.cache c.loop-read.invariant.grown c.in_ok-next.ensures.grown;
+      grown = grown_trans c.args.cache.now c.loop-read.cache c.read_unit.new.cache c.loop-read.invariant.grown c.in_ok-next.ensures.effect.grown;
       named = subst (λ n. Names c.read_unit.new.cache.store.table c.in_ok-next.next (state_in d c.args.self.now c.args.input.now n)) more named;
       clean = subst (HasReadNoQuit d c.args.self.now c.args.input.now) more clean;
       idle = λ n told knows. (
           let from : c.args.units ≤ k = omega (arith, c.loop-read.invariant.from, f.more) in
           let count : c.loop-read.cache.count ≡ c.args.cache.now.count = c.loop-read.invariant.idle n told knows in
-          let here = c.in_ok-next.ensures.known (unit_knows d c.args.self.now c.args.cache.now c.loop-read.cache c.args.input.now c.args.units k n c.loop-read.invariant.grown count knows from c.in_ok-next.ensures.reads (followed_clean f c.loop-read.invariant.clean) (followed_silent f c.loop-read.invariant.silent n told)) in
+          let here = c.in_ok-next.ensures.effect.known (unit_knows d c.args.self.now c.args.cache.now c.loop-read.cache c.args.input.now c.args.units k n c.loop-read.invariant.grown count knows from c.in_ok-next.ensures.reads (followed_clean f c.loop-read.invariant.clean) (followed_silent f c.loop-read.invariant.silent n told)) in
           here.0 ∙ count);
       learned = λ nothing. (
-          let second : ClearedNothing c.loop-read.cache.store c.read_unit.new.cache.store = nothing_second c.args.cache.now c.loop-read.cache c.read_unit.new.cache c.loop-read.invariant.grown c.in_ok-next.ensures.grown nothing in
-          let first : ClearedNothing c.args.cache.now.store c.loop-read.cache.store = nothing_first c.args.cache.now c.loop-read.cache c.read_unit.new.cache c.loop-read.invariant.grown c.in_ok-next.ensures.grown nothing in
+          let second : ClearedNothing c.loop-read.cache.store c.read_unit.new.cache.store = nothing_second c.args.cache.now c.loop-read.cache c.read_unit.new.cache c.loop-read.invariant.grown c.in_ok-next.ensures.effect.grown nothing in
+          let first : ClearedNothing c.args.cache.now.store c.loop-read.cache.store = nothing_first c.args.cache.now c.loop-read.cache c.read_unit.new.cache c.loop-read.invariant.grown c.in_ok-next.ensures.effect.grown nothing in
           subst (HasLearnedUnits d c.args.self.now c.read_unit.new.cache.store c.args.input.now c.args.units) more
-          (units_more d c.args.self.now c.loop-read.cache c.read_unit.new.cache c.args.input.now c.args.units c.loop-read.read k c.follow-stop.result.id c.in_ok-next.ensures.grown second
-          (c.loop-read.invariant.learned first) f (c.in_ok-next.ensures.learned second)));
+          (units_more d c.args.self.now c.loop-read.cache c.read_unit.new.cache c.args.input.now c.args.units c.loop-read.read k c.follow-stop.result.id c.in_ok-next.ensures.effect.grown second
+          (c.loop-read.invariant.learned first) f (c.in_ok-next.ensures.effect.learned second)));
       silent = subst (IsSilent d c.args.self.now c.args.input.now c.args.units) more silent;
       progress = λ s e.
           (let underway : (x : ℕ) × IsOpenAt c.args.input.now s (given_up_offset d c.args.input.now c.args.units) x c.args.cache.now.store c.loop-read.cache.store = c.loop-read.invariant.progress s e in (
             given_up_offset d c.args.input.now k,
-            unit_open d c.args.self.now c.args.input.now s c.args.units k underway.0 c.args.cache.now c.loop-read.cache c.read_unit.new.cache c.requires.«open» c.follow-stop.ensures.within
-                c.loop-read.invariant.grown c.in_ok-next.ensures.grown underway.1 c.in_ok-next.ensures.moved,
+            unit_open d c.args.self.now c.args.input.now s c.args.units k underway.0 c.args.cache.now c.loop-read.cache c.read_unit.new.cache c.requires.from.undone c.follow-stop.ensures.within
+                c.loop-read.invariant.grown c.in_ok-next.ensures.effect.grown underway.1 c.in_ok-next.ensures.effect.progress.moved,
           ));
       reads = λ less. (k, sym more, c.in_ok-next.ensures.reads);
     }
@@ -97,12 +90,22 @@ returns-in_err-next-clause-refusal c =
     if_err c.from_residual.result _ _ c.from_residual.ensures.1
     (k, omega (arith, c.loop-read.invariant.from, f.more), c.in_err-next.ensures.reads, followed_clean f c.loop-read.invariant.clean, followed_silent f c.loop-read.invariant.silent, c.in_err-next.ensures.refusal)
 
+pub returns-then-is_dead-clause-arrives : goal.returns-then-is_dead-clause-arrives
+returns-then-is_dead-clause-arrives c =
+    let d : Direction = way_of c.args.way in
+    let k : ℕ = c.follow-stop.result.at in
+    let f : IsFollowed d c.args.self.now c.loop-read.cache.store c.args.input.now c.loop-read.read k c.follow-stop.result.id = c.follow-stop.ensures.followed in
+    let units : c.args.input.now.end - c.args.input.now.start ≡ length (tape_in d c.args.input.now).bytes = units_in d c.args.input.now c.requires.from.undone c.haystack-haystack.ensures.within.1 in
+    let dies : state_in d c.args.self.now c.args.input.now (suc k) ≡ dead = (dead_tagged c.read_unit.new.cache.store.table c.in_ok-next.next (c.see_ids.ensures.low c.in_ok-next.next) c.see_ids.ensures.small _ c.in_ok-next.ensures.leads).0 (c.if-is_dead.ensures.0 refl) in
+    finish_dead d c.args.self.now c.args.input.now c.args.units k _ (omega (arith, c.loop-read.invariant.from, f.more)) (omega (arith, units, c.follow-stop.ensures.within)) (omega arith)
+    (clean_more d c.args.self.now c.args.input.now k (followed_clean f c.loop-read.invariant.clean) c.in_ok-next.ensures.clean) dies (followed_silent f c.loop-read.invariant.silent)
+
 pub returns-then-tells-clause-arrives : goal.returns-then-tells-clause-arrives
 returns-then-tells-clause-arrives c =
     let d : Direction = way_of c.args.way in
     let k : ℕ = c.follow-stop.result.at in
     let f : IsFollowed d c.args.self.now c.loop-read.cache.store c.args.input.now c.loop-read.read k c.follow-stop.result.id = c.follow-stop.ensures.followed in
-    let units : c.args.input.now.end - c.args.input.now.start ≡ length (tape_in d c.args.input.now).bytes = units_in d c.args.input.now c.requires.«open» c.haystack-haystack.ensures.within.1 in
+    let units : c.args.input.now.end - c.args.input.now.start ≡ length (tape_in d c.args.input.now).bytes = units_in d c.args.input.now c.requires.from.undone c.haystack-haystack.ensures.within.1 in
     let more : suc k ≡ k + 1 = omega arith in
     let named : Names c.read_unit.new.cache.store.table c.in_ok-next.next (state_in d c.args.self.now c.args.input.now (suc k)) = (dead_tagged c.read_unit.new.cache.store.table c.in_ok-next.next (c.see_ids.ensures.low c.in_ok-next.next) c.see_ids.ensures.small _ c.in_ok-next.ensures.leads).1 (λ b. false_true (c.if-is_dead.ensures.1 b)) in
     let yes = c.tells.ensures.yes c.if-tells.true in
@@ -118,143 +121,133 @@ returns-then-tells-clause-arrives c =
       silent = followed_silent f c.loop-read.invariant.silent;
     }
 
-pub returns-in_err-next-clause-known : goal.returns-in_err-next-clause-known
-returns-in_err-next-clause-known c = λ n told knows.
-    let d : Direction = way_of c.args.way in
-    let k : ℕ = c.follow-stop.result.at in
-    let f : IsFollowed d c.args.self.now c.loop-read.cache.store c.args.input.now c.loop-read.read k c.follow-stop.result.id = c.follow-stop.ensures.followed in
-    let from : c.args.units ≤ k = omega (arith, c.loop-read.invariant.from, f.more) in
-    let count : c.loop-read.cache.count ≡ c.args.cache.now.count = c.loop-read.invariant.idle n told knows in
-    let here = c.in_err-next.ensures.known (unit_knows d c.args.self.now c.args.cache.now c.loop-read.cache c.args.input.now c.args.units k n c.loop-read.invariant.grown count knows from c.in_err-next.ensures.reads (followed_clean f c.loop-read.invariant.clean) (followed_silent f c.loop-read.invariant.silent n told)) in
-    (here.0 ∙ count, if_err c.from_residual.result _ _ c.from_residual.ensures.1 here.1)
-
-pub returns-then-is_dead-clause-known : goal.returns-then-is_dead-clause-known
-returns-then-is_dead-clause-known c = λ n told knows.
-    let d : Direction = way_of c.args.way in
-    let k : ℕ = c.follow-stop.result.at in
-    let f : IsFollowed d c.args.self.now c.loop-read.cache.store c.args.input.now c.loop-read.read k c.follow-stop.result.id = c.follow-stop.ensures.followed in
-    let from : c.args.units ≤ k = omega (arith, c.loop-read.invariant.from, f.more) in
-    let count : c.loop-read.cache.count ≡ c.args.cache.now.count = c.loop-read.invariant.idle n told knows in
-    let here = c.in_ok-next.ensures.known (unit_knows d c.args.self.now c.args.cache.now c.loop-read.cache c.args.input.now c.args.units k n c.loop-read.invariant.grown count knows from c.in_ok-next.ensures.reads (followed_clean f c.loop-read.invariant.clean) (followed_silent f c.loop-read.invariant.silent n told)) in
-    (c.end_search.ensures.counted ∙ (here.0 ∙ count), tt)
-
-pub returns-then-is_dead-clause-learned : goal.returns-then-is_dead-clause-learned
-returns-then-is_dead-clause-learned c =
-    let d : Direction = way_of c.args.way in
-    let k : ℕ = c.follow-stop.result.at in
-    let f : IsFollowed d c.args.self.now c.loop-read.cache.store c.args.input.now c.loop-read.read k c.follow-stop.result.id = c.follow-stop.ensures.followed in
-    units_moved d c.args.self.now c.args.input.now c.args.cache.now c.read_unit.new.cache c.end_search.new.self c.args.units _ c.end_search.ensures.value (λ nothing.
-    let second : ClearedNothing c.loop-read.cache.store c.read_unit.new.cache.store = nothing_second c.args.cache.now c.loop-read.cache c.read_unit.new.cache c.loop-read.invariant.grown c.in_ok-next.ensures.grown nothing in
-    let first : ClearedNothing c.args.cache.now.store c.loop-read.cache.store = nothing_first c.args.cache.now c.loop-read.cache c.read_unit.new.cache c.loop-read.invariant.grown c.in_ok-next.ensures.grown nothing in
-    let more : suc k ≡ k + 1 = omega arith in
-    subst (HasLearnedUnits d c.args.self.now c.read_unit.new.cache.store c.args.input.now c.args.units) more
-    (units_more d c.args.self.now c.loop-read.cache c.read_unit.new.cache c.args.input.now c.args.units c.loop-read.read k c.follow-stop.result.id c.in_ok-next.ensures.grown second
-    (c.loop-read.invariant.learned first) f (c.in_ok-next.ensures.learned second)))
-
-pub returns-then-tells-clause-known : goal.returns-then-tells-clause-known
-returns-then-tells-clause-known c = λ n told knows.
-    let d : Direction = way_of c.args.way in
-    let k : ℕ = c.follow-stop.result.at in
-    let f : IsFollowed d c.args.self.now c.loop-read.cache.store c.args.input.now c.loop-read.read k c.follow-stop.result.id = c.follow-stop.ensures.followed in
-    let from : c.args.units ≤ k = omega (arith, c.loop-read.invariant.from, f.more) in
-    let count : c.loop-read.cache.count ≡ c.args.cache.now.count = c.loop-read.invariant.idle n told knows in
-    let here = c.in_ok-next.ensures.known (unit_knows d c.args.self.now c.args.cache.now c.loop-read.cache c.args.input.now c.args.units k n c.loop-read.invariant.grown count knows from c.in_ok-next.ensures.reads (followed_clean f c.loop-read.invariant.clean) (followed_silent f c.loop-read.invariant.silent n told)) in
-    (c.end_search-then-tells.ensures.counted ∙ (here.0 ∙ count), tt)
-
-pub returns-then-tells-clause-learned : goal.returns-then-tells-clause-learned
-returns-then-tells-clause-learned c =
-    let d : Direction = way_of c.args.way in
-    let k : ℕ = c.follow-stop.result.at in
-    let f : IsFollowed d c.args.self.now c.loop-read.cache.store c.args.input.now c.loop-read.read k c.follow-stop.result.id = c.follow-stop.ensures.followed in
-    units_moved d c.args.self.now c.args.input.now c.args.cache.now c.read_unit.new.cache c.end_search-then-tells.new.self c.args.units _ c.end_search-then-tells.ensures.value (λ nothing.
-    let second : ClearedNothing c.loop-read.cache.store c.read_unit.new.cache.store = nothing_second c.args.cache.now c.loop-read.cache c.read_unit.new.cache c.loop-read.invariant.grown c.in_ok-next.ensures.grown nothing in
-    let first : ClearedNothing c.args.cache.now.store c.loop-read.cache.store = nothing_first c.args.cache.now c.loop-read.cache c.read_unit.new.cache c.loop-read.invariant.grown c.in_ok-next.ensures.grown nothing in
-    let more : suc k ≡ k + 1 = omega arith in
-    subst (HasLearnedUnits d c.args.self.now c.read_unit.new.cache.store c.args.input.now c.args.units) more
-    (units_more d c.args.self.now c.loop-read.cache c.read_unit.new.cache c.args.input.now c.args.units c.loop-read.read k c.follow-stop.result.id c.in_ok-next.ensures.grown second
-    (c.loop-read.invariant.learned first) f (c.in_ok-next.ensures.learned second)))
-
-pub returns-clause-learned : goal.returns-clause-learned
-returns-clause-learned c =
-    units_moved (way_of c.args.way) c.args.self.now c.args.input.now c.args.cache.now c.loop-read.cache c.end_search-2.new.self c.args.units _ c.end_search-2.ensures.value c.loop-read.invariant.learned
-
-pub loop-read-init : goal.loop-read-init
-loop-read-init c =
-    let d : Direction = way_of c.args.way in
-    record {
-      of = c.requires.of;
-      counted = omega arith;
-      from = omega arith;
-      within = omega (arith, c.requires.within);
-      grown = grown_same c.args.cache.now c.args.cache.now refl;
-      named = c.requires.named;
-      clean = c.requires.clean;
-      idle = λ n told knows. refl;
-      learned = λ nothing. units_none d c.args.self.now c.args.cache.now.store c.args.input.now c.args.units;
-      silent = silent_same d c.args.self.now c.args.input.now c.args.units;
-      progress = λ s e. (given_up_offset d c.args.input.now c.args.units, (s, given_up_offset d c.args.input.now c.args.units, inl (refl, refl), e));
-      reads = λ less. absurd (omega (arith, less));
-    }
-
 pub returns-clause-arrives : goal.returns-clause-arrives
 returns-clause-arrives c =
     let d : Direction = way_of c.args.way in
-    let units : c.args.input.now.end - c.args.input.now.start ≡ length (tape_in d c.args.input.now).bytes = units_in d c.args.input.now c.requires.«open» c.haystack-haystack.ensures.within.1 in
+    let units : c.args.input.now.end - c.args.input.now.start ≡ length (tape_in d c.args.input.now).bytes = units_in d c.args.input.now c.requires.from.undone c.haystack-haystack.ensures.within.1 in
     let all : c.loop-read.read ≡ suc (length (tape_in d c.args.input.now).bytes) = omega (arith, units, c.loop-read-test.false, c.last_place-last.ensures, c.loop-read.invariant.within) in
     finish_read d c.args.self.now c.args.input.now c.args.units c.loop-read.read all c.loop-read.invariant.from c.loop-read.invariant.clean c.loop-read.invariant.silent
 
-pub returns-then-is_dead-clause-ended : goal.returns-then-is_dead-clause-ended
-returns-then-is_dead-clause-ended c = λ s e.
+pub returns-in_err-next-clause-effect : goal.returns-in_err-next-clause-effect
+returns-in_err-next-clause-effect c =
     let d : Direction = way_of c.args.way in
     let k : ℕ = c.follow-stop.result.at in
     let f : IsFollowed d c.args.self.now c.loop-read.cache.store c.args.input.now c.loop-read.read k c.follow-stop.result.id = c.follow-stop.ensures.followed in
+    let from : c.args.units ≤ k = omega (arith, c.loop-read.invariant.from, f.more) in
+    at_err c.from_residual.result _ (λ (r : Result Arrival SearchError). IsAdvanceEffect d c.args.self.now c.args.input.now c.args.units c.args.cache.now c.read_unit.new.cache r) c.from_residual.ensures.1
+    (record {
+      grown = grown_trans c.args.cache.now c.loop-read.cache c.read_unit.new.cache c.loop-read.invariant.grown c.in_err-next.ensures.effect.grown;
+      cost = tt;
+      most = omega (arith, c.in_err-next.ensures.effect.counted, c.loop-read.invariant.counted, f.more, c.follow-stop.ensures.within);
+      known = λ n told knows. (
+          let count : c.loop-read.cache.count ≡ c.args.cache.now.count = c.loop-read.invariant.idle n told knows in
+          let here = c.in_err-next.ensures.effect.known (unit_knows d c.args.self.now c.args.cache.now c.loop-read.cache c.args.input.now c.args.units k n c.loop-read.invariant.grown count knows from c.in_err-next.ensures.reads (followed_clean f c.loop-read.invariant.clean) (followed_silent f c.loop-read.invariant.silent n told)) in
+          (here.0 ∙ count, here.1));
+      learned = λ nothing. tt;
+      ended = λ s e. tt;
+      left = λ s e. (
+          let underway : (x : ℕ) × IsOpenAt c.args.input.now s (given_up_offset d c.args.input.now c.args.units) x c.args.cache.now.store c.loop-read.cache.store = c.loop-read.invariant.progress s e in
+          unit_left d c.args.self.now c.args.input.now s c.args.units k underway.0 c.args.cache.now c.loop-read.cache c.read_unit.new.cache c.requires.from.undone c.follow-stop.ensures.within
+          c.loop-read.invariant.grown c.in_err-next.ensures.effect.grown underway.1 c.in_err-next.field-0.0 from c.in_err-next.ensures.reads
+          (followed_clean f c.loop-read.invariant.clean) (followed_silent f c.loop-read.invariant.silent) c.in_err-next.ensures.refusal c.in_err-next.ensures.effect.progress.left);
+    })
+
+pub returns-then-is_dead-clause-effect : goal.returns-then-is_dead-clause-effect
+returns-then-is_dead-clause-effect c =
+    let d : Direction = way_of c.args.way in
+    let k : ℕ = c.follow-stop.result.at in
+    let f : IsFollowed d c.args.self.now c.loop-read.cache.store c.args.input.now c.loop-read.read k c.follow-stop.result.id = c.follow-stop.ensures.followed in
+    let from : c.args.units ≤ k = omega (arith, c.loop-read.invariant.from, f.more) in
     let more : suc k ≡ k + 1 = omega arith in
-    let underway : (x : ℕ) × IsOpenAt c.args.input.now s (given_up_offset d c.args.input.now c.args.units) x c.args.cache.now.store c.loop-read.cache.store = c.loop-read.invariant.progress s e in (
-      k,
-      omega (arith, c.loop-read.invariant.from, f.more),
-      sym more,
-      c.in_ok-next.ensures.reads,
-      unit_ends d c.args.self.now c.args.input.now s c.args.units k underway.0 c.args.cache.now c.loop-read.cache c.read_unit.new.cache c.requires.«open» c.follow-stop.ensures.within
-          c.loop-read.invariant.grown c.in_ok-next.ensures.grown underway.1 c.end_search.new.self c.span_offset-at.result c.span_offset-at.ensures c.end_search.ensures.value c.in_ok-next.ensures.moved,
-    )
+    record {
+      grown =
+          grown_trans c.args.cache.now c.read_unit.new.cache c.end_search.new.self
+          (grown_trans c.args.cache.now c.loop-read.cache c.read_unit.new.cache c.loop-read.invariant.grown c.in_ok-next.ensures.effect.grown)
+          (grown_moved c.read_unit.new.cache c.end_search.new.self c.end_search.ensures.value);
+      cost = omega (arith, c.end_search.ensures.counted, c.in_ok-next.ensures.effect.counted, c.loop-read.invariant.counted, f.more);
+      most = omega (arith, c.end_search.ensures.counted, c.in_ok-next.ensures.effect.counted, c.loop-read.invariant.counted, f.more, c.follow-stop.ensures.within);
+      known = λ n told knows. (
+          let count : c.loop-read.cache.count ≡ c.args.cache.now.count = c.loop-read.invariant.idle n told knows in
+          let here = c.in_ok-next.ensures.effect.known (unit_knows d c.args.self.now c.args.cache.now c.loop-read.cache c.args.input.now c.args.units k n c.loop-read.invariant.grown count knows from c.in_ok-next.ensures.reads (followed_clean f c.loop-read.invariant.clean) (followed_silent f c.loop-read.invariant.silent n told)) in
+          (c.end_search.ensures.counted ∙ (here.0 ∙ count), tt));
+      learned =
+          units_moved d c.args.self.now c.args.input.now c.args.cache.now c.read_unit.new.cache c.end_search.new.self c.args.units _ c.end_search.ensures.value (λ nothing.
+          let second : ClearedNothing c.loop-read.cache.store c.read_unit.new.cache.store = nothing_second c.args.cache.now c.loop-read.cache c.read_unit.new.cache c.loop-read.invariant.grown c.in_ok-next.ensures.effect.grown nothing in
+          let first : ClearedNothing c.args.cache.now.store c.loop-read.cache.store = nothing_first c.args.cache.now c.loop-read.cache c.read_unit.new.cache c.loop-read.invariant.grown c.in_ok-next.ensures.effect.grown nothing in
+          subst (HasLearnedUnits d c.args.self.now c.read_unit.new.cache.store c.args.input.now c.args.units) more
+          (units_more d c.args.self.now c.loop-read.cache c.read_unit.new.cache c.args.input.now c.args.units c.loop-read.read k c.follow-stop.result.id c.in_ok-next.ensures.effect.grown second
+          (c.loop-read.invariant.learned first) f (c.in_ok-next.ensures.effect.learned second)));
+      ended = λ s e. (
+          let underway : (x : ℕ) × IsOpenAt c.args.input.now s (given_up_offset d c.args.input.now c.args.units) x c.args.cache.now.store c.loop-read.cache.store = c.loop-read.invariant.progress s e in (
+            k,
+            from,
+            sym more,
+            c.in_ok-next.ensures.reads,
+            unit_ends d c.args.self.now c.args.input.now s c.args.units k underway.0 c.args.cache.now c.loop-read.cache c.read_unit.new.cache c.requires.from.undone c.follow-stop.ensures.within
+                c.loop-read.invariant.grown c.in_ok-next.ensures.effect.grown underway.1 c.end_search.new.self c.span_offset-at.result c.span_offset-at.ensures c.end_search.ensures.value c.in_ok-next.ensures.effect.progress.moved,
+          ));
+      left = λ s e. tt;
+    }
 
-pub returns-then-tells-clause-ended : goal.returns-then-tells-clause-ended
-returns-then-tells-clause-ended c = λ s e.
+pub returns-then-tells-clause-effect : goal.returns-then-tells-clause-effect
+returns-then-tells-clause-effect c =
     let d : Direction = way_of c.args.way in
     let k : ℕ = c.follow-stop.result.at in
     let f : IsFollowed d c.args.self.now c.loop-read.cache.store c.args.input.now c.loop-read.read k c.follow-stop.result.id = c.follow-stop.ensures.followed in
+    let from : c.args.units ≤ k = omega (arith, c.loop-read.invariant.from, f.more) in
     let more : suc k ≡ k + 1 = omega arith in
-    let underway : (x : ℕ) × IsOpenAt c.args.input.now s (given_up_offset d c.args.input.now c.args.units) x c.args.cache.now.store c.loop-read.cache.store = c.loop-read.invariant.progress s e in (
-      k,
-      omega (arith, c.loop-read.invariant.from, f.more),
-      sym more,
-      c.in_ok-next.ensures.reads,
-      unit_ends d c.args.self.now c.args.input.now s c.args.units k underway.0 c.args.cache.now c.loop-read.cache c.read_unit.new.cache c.requires.«open» c.follow-stop.ensures.within
-          c.loop-read.invariant.grown c.in_ok-next.ensures.grown underway.1 c.end_search-then-tells.new.self c.span_offset-at.result c.span_offset-at.ensures c.end_search-then-tells.ensures.value c.in_ok-next.ensures.moved,
-    )
+    record {
+      grown =
+          grown_trans c.args.cache.now c.read_unit.new.cache c.end_search-then-tells.new.self
+          (grown_trans c.args.cache.now c.loop-read.cache c.read_unit.new.cache c.loop-read.invariant.grown c.in_ok-next.ensures.effect.grown)
+          (grown_moved c.read_unit.new.cache c.end_search-then-tells.new.self c.end_search-then-tells.ensures.value);
+      cost = omega (arith, c.end_search-then-tells.ensures.counted, c.in_ok-next.ensures.effect.counted, c.loop-read.invariant.counted, f.more);
+      most = omega (arith, c.end_search-then-tells.ensures.counted, c.in_ok-next.ensures.effect.counted, c.loop-read.invariant.counted, f.more, c.follow-stop.ensures.within);
+      known = λ n told knows. (
+          let count : c.loop-read.cache.count ≡ c.args.cache.now.count = c.loop-read.invariant.idle n told knows in
+          let here = c.in_ok-next.ensures.effect.known (unit_knows d c.args.self.now c.args.cache.now c.loop-read.cache c.args.input.now c.args.units k n c.loop-read.invariant.grown count knows from c.in_ok-next.ensures.reads (followed_clean f c.loop-read.invariant.clean) (followed_silent f c.loop-read.invariant.silent n told)) in
+          (c.end_search-then-tells.ensures.counted ∙ (here.0 ∙ count), tt));
+      learned =
+          units_moved d c.args.self.now c.args.input.now c.args.cache.now c.read_unit.new.cache c.end_search-then-tells.new.self c.args.units _ c.end_search-then-tells.ensures.value (λ nothing.
+          let second : ClearedNothing c.loop-read.cache.store c.read_unit.new.cache.store = nothing_second c.args.cache.now c.loop-read.cache c.read_unit.new.cache c.loop-read.invariant.grown c.in_ok-next.ensures.effect.grown nothing in
+          let first : ClearedNothing c.args.cache.now.store c.loop-read.cache.store = nothing_first c.args.cache.now c.loop-read.cache c.read_unit.new.cache c.loop-read.invariant.grown c.in_ok-next.ensures.effect.grown nothing in
+          subst (HasLearnedUnits d c.args.self.now c.read_unit.new.cache.store c.args.input.now c.args.units) more
+          (units_more d c.args.self.now c.loop-read.cache c.read_unit.new.cache c.args.input.now c.args.units c.loop-read.read k c.follow-stop.result.id c.in_ok-next.ensures.effect.grown second
+          (c.loop-read.invariant.learned first) f (c.in_ok-next.ensures.effect.learned second)));
+      ended = λ s e. (
+          let underway : (x : ℕ) × IsOpenAt c.args.input.now s (given_up_offset d c.args.input.now c.args.units) x c.args.cache.now.store c.loop-read.cache.store = c.loop-read.invariant.progress s e in (
+            k,
+            from,
+            sym more,
+            c.in_ok-next.ensures.reads,
+            unit_ends d c.args.self.now c.args.input.now s c.args.units k underway.0 c.args.cache.now c.loop-read.cache c.read_unit.new.cache c.requires.from.undone c.follow-stop.ensures.within
+                c.loop-read.invariant.grown c.in_ok-next.ensures.effect.grown underway.1 c.end_search-then-tells.new.self c.span_offset-at.result c.span_offset-at.ensures c.end_search-then-tells.ensures.value c.in_ok-next.ensures.effect.progress.moved,
+          ));
+      left = λ s e. tt;
+    }
 
-pub returns-in_err-next-clause-left : goal.returns-in_err-next-clause-left
-returns-in_err-next-clause-left c = λ s e.
+pub returns-clause-effect : goal.returns-clause-effect
+returns-clause-effect c =
     let d : Direction = way_of c.args.way in
-    let k : ℕ = c.follow-stop.result.at in
-    let f : IsFollowed d c.args.self.now c.loop-read.cache.store c.args.input.now c.loop-read.read k c.follow-stop.result.id = c.follow-stop.ensures.followed in
-    let underway : (x : ℕ) × IsOpenAt c.args.input.now s (given_up_offset d c.args.input.now c.args.units) x c.args.cache.now.store c.loop-read.cache.store = c.loop-read.invariant.progress s e in
-    if_err c.from_residual.result _ _ c.from_residual.ensures.1
-    (unit_left d c.args.self.now c.args.input.now s c.args.units k underway.0 c.args.cache.now c.loop-read.cache c.read_unit.new.cache c.requires.«open» c.follow-stop.ensures.within
-    c.loop-read.invariant.grown c.in_err-next.ensures.grown underway.1 c.in_err-next.field-0.0 (omega (arith, c.loop-read.invariant.from, f.more)) c.in_err-next.ensures.reads
-    (followed_clean f c.loop-read.invariant.clean) (followed_silent f c.loop-read.invariant.silent) c.in_err-next.ensures.refusal c.in_err-next.ensures.left)
-
-pub returns-clause-ended : goal.returns-clause-ended
-returns-clause-ended c = λ s e.
-    let d : Direction = way_of c.args.way in
-    let less : c.args.units < c.loop-read.read = omega (arith, c.requires.within, c.loop-read-test.false, c.last_place-last.ensures) in
+    let less : c.args.units < c.loop-read.read = omega (arith, c.requires.from.left, c.loop-read-test.false, c.last_place-last.ensures) in
     let last : (k : ℕ) × (c.loop-read.read ≡ suc k) × WalkReads d c.args.self.now c.args.input.now k = c.loop-read.invariant.reads less in
     let here : c.last_place-last.result ≡ last.0 = omega (arith, c.last_place-last.ensures, c.loop-read-test.false, c.loop-read.invariant.within, last.1) in
-    let underway : (x : ℕ) × IsOpenAt c.args.input.now s (given_up_offset d c.args.input.now c.args.units) x c.args.cache.now.store c.loop-read.cache.store = c.loop-read.invariant.progress s e in (
-      last.0,
-      omega (arith, less, last.1),
-      last.1,
-      last.2,
-      span_ends d c.args.input.now s c.args.units last.0 underway.0 c.span_offset.result c.args.cache.now c.loop-read.cache c.end_search-2.new.self c.requires.«open» (omega (arith, here, c.last_place-last.ensures))
-          c.loop-read.invariant.grown underway.1 (c.span_offset.ensures ∙ ap (given_up_offset d c.args.input.now) here) c.end_search-2.ensures.value,
-    )
+    record {
+      grown =
+          grown_trans c.args.cache.now c.loop-read.cache c.end_search-2.new.self c.loop-read.invariant.grown
+          (grown_moved c.loop-read.cache c.end_search-2.new.self c.end_search-2.ensures.value);
+      cost = omega (arith, c.end_search-2.ensures.counted, c.loop-read.invariant.counted);
+      most = omega (arith, c.end_search-2.ensures.counted, c.loop-read.invariant.counted, c.loop-read.invariant.within);
+      known = λ n told knows. (c.end_search-2.ensures.counted ∙ c.loop-read.invariant.idle n told knows, tt);
+      learned = units_moved d c.args.self.now c.args.input.now c.args.cache.now c.loop-read.cache c.end_search-2.new.self c.args.units _ c.end_search-2.ensures.value c.loop-read.invariant.learned;
+      ended = λ s e. (
+          let underway : (x : ℕ) × IsOpenAt c.args.input.now s (given_up_offset d c.args.input.now c.args.units) x c.args.cache.now.store c.loop-read.cache.store = c.loop-read.invariant.progress s e in (
+            last.0,
+            omega (arith, less, last.1),
+            last.1,
+            last.2,
+            span_ends d c.args.input.now s c.args.units last.0 underway.0 c.span_offset.result c.args.cache.now c.loop-read.cache c.end_search-2.new.self c.requires.from.undone (omega (arith, here, c.last_place-last.ensures))
+                c.loop-read.invariant.grown underway.1 (c.span_offset.ensures ∙ ap (given_up_offset d c.args.input.now) here) c.end_search-2.ensures.value,
+          ));
+      left = λ s e. tt;
+    }

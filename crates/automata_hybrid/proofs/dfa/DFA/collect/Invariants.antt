@@ -3,13 +3,14 @@ use Rattle.automata_hybrid.specs.Caches.{IsCacheOf}
 use Rattle.automata_hybrid.specs.Growing.{ClearedNothing, IsGrown}
 use Rattle.automata_hybrid.specs.KnowingWalks.{KnowsWhich}
 use Rattle.automata_base.specs.Tapes.{Forward}
+use Rattle.automata_hybrid.specs.Owing.{IsUnsupported}
 use Rattle.automata_hybrid.specs.SearchedWalks.{HaveCalled}
 use Rattle.automata_hybrid.specs.Searches.{tape_in}
 use Rattle.automata_hybrid.specs.Starting.{MayStart}
 use Rattle.automata_hybrid.specs.Walking.{CanGoOn, HasItsState, IsNamedAt, start_count}
 use Rattle.automata_hybrid.specs.Walks.{Ended, Fresh}
 use Rattle.automata_hybrid.proofs.LearningSets.{HasLearnedWalk}
-use Rattle.automata_hybrid.proofs.WalkSets.{Joins, MayNotStart, steps_left}
+use Rattle.automata_hybrid.proofs.WalkSets.{Joins, steps_left}
 use Rattle.automata_hybrid.proofs.dfa.DFA.collect.Given as goal
 
 abbrev pub invariant-loop-walk : goal.invariant-loop-walk
@@ -19,7 +20,7 @@ invariant-loop-walk l = record {
   holds : HasItsState l.cache.store.table l.walk.stage;
   counted : l.cache.count + start_count l.walk.stage ≤ l.fn.cache.count + l.walk.units + 1;
   few : l.walk.units ≤ l.input.end - l.input.start + 1;
-  begins : MayNotStart l.self l.input → l.walk.stage ≡ Fresh;
+  begins : IsUnsupported Forward l.self l.input → l.walk.stage ≡ Fresh;
   idle : KnowsWhich l.self l.fn.cache.store l.input l.fn.patset → l.cache.count ≡ l.fn.cache.count;
   on : l.walk.stage ≡ Ended → ⊥;
   at : IsNamedAt l.cache.store.table l.walk.stage l.at;

@@ -1,198 +1,161 @@
-use Rattle.std.proofs.Common.{◌≡◌, ◌∙◌, ◌-◌, ◌<◌, ◌≤◌, inl, inr, length, refl, sym, ap, subst, arith}
-use Rattle.std.specs.Prelude.{OnOk, IfErr}
+use Rattle.std.proofs.Common.{ℕ, ◌≡◌, ◌∙◌, ◌-◌, ◌<◌, ◌≤◌, inl, inr, length, Option, None, false, refl, sym, ap, subst, arith, get_or}
+use Rattle.std.specs.Prelude.{Err, IfErr, IfOk}
 use Rattle.automata_base.specs.Answers.{offset_in}
+use Rattle.automata_base.specs.Input.{Input}
 use Rattle.automata_base.specs.Matches.{HalfMatch}
 use Rattle.automata_base.specs.Tapes.{Direction}
 use Rattle.automata_config.specs.declared.error.SearchError.TheVariants as search
-use Rattle.automata_hybrid.specs.KnowingWalks.{HasLearnedUnits, KnowsWalk}
-use Rattle.automata_hybrid.specs.SearchedWalks.{EndsCall, LeavesCall}
+use Rattle.automata_hybrid.specs.Machine.{Machine}
+use Rattle.automata_hybrid.specs.OwingWalks.{IsCallEffect}
+use Rattle.automata_hybrid.specs.Resuming.{IsCallAnswer, IsCallRefused, resumed}
 use Rattle.automata_hybrid.specs.Searches.{tape_in}
-use Rattle.automata_hybrid.specs.Walking.{HasTold, IsWalkRefusal, TellsNext}
-use Rattle.automata_hybrid.specs.Walks.{At, Ended, Fresh, Walk, way_of}
-use Rattle.automata_hybrid.proofs.KnowingWalks.{still_same}
-use Rattle.automata_hybrid.proofs.SearchedWalks.{stuck_refusal}
-use Rattle.automata_hybrid.proofs.Searching.{false_true}
+use Rattle.automata_hybrid.specs.Walking.{TellsNext}
+use Rattle.automata_hybrid.specs.Walks.{At, Ended, Walk, ended_walk, way_of, with_match, without_match}
+use Rattle.automata_hybrid.proofs.KnowingWalks.{units_none}
+use Rattle.automata_hybrid.proofs.Resuming.{effect_none, effect_stuck, refused_stuck}
 use Rattle.automata_hybrid.proofs.WalkCalls.{ended_at, next_done, next_ended, next_read, next_same, undone}
 use Rattle.automata_hybrid.proofs.WalkUnits.{units_in}
 use Rattle.automata_hybrid.proofs.dfa.DFA.go_on.Goals as goal
 
-pub returns-then-has_ended-clause-tells : goal.returns-then-has_ended-clause-tells
-returns-then-has_ended-clause-tells c =
+pub returns-then-has_ended-clause-answer : goal.returns-then-has_ended-clause-answer
+returns-then-has_ended-clause-answer c =
     let d : Direction = way_of c.args.way in
-    let ended : c.args.walk.now.stage ≡ Ended = subst (λ (w : Walk). w.stage ≡ Ended) c.forget_match.ensures (c.has_ended.ensures.yes c.if-has_ended.true) in
-    subst (TellsNext d c.args.self.now c.args.input.now c.args.walk.now) (sym c.forget_match.ensures) (next_ended d c.args.self.now c.args.input.now c.args.walk.now ended)
+    let w : Walk = c.args.walk.now in
+    let ended : w.stage ≡ Ended = subst (λ (v : Walk). v.stage ≡ Ended) c.forget_match.ensures (c.has_ended.ensures.yes c.if-has_ended.true) in
+    subst (λ (x : Walk). IsCallAnswer d c.args.self.now c.args.input.now (resumed w c.args.at.now) x c.args.cache.now.store c.args.cache.now.store None) (sym c.forget_match.ensures)
+    (record {
+      tells = next_ended d c.args.self.now c.args.input.now w ended;
+      goes_on = inl refl;
+      stops = λ undone on. absurd (on ended);
+      named = tt;
+      kept = λ none. inl ended;
+      there = λ there. there;
+      learned = λ nothing. units_none d c.args.self.now c.args.cache.now.store c.args.input.now w.units;
+    })
 
-pub returns-then-is_done-clause-tells : goal.returns-then-is_done-clause-tells
-returns-then-is_done-clause-tells c =
-    let d : Direction = way_of c.args.way in
-    subst (λ (w : Walk). TellsNext d c.args.self.now c.args.input.now w c.end.new.self) c.forget_match.ensures
-    (subst (TellsNext d c.args.self.now c.args.input.now c.forget_match.new.self) (sym c.end.ensures)
-    (next_done d c.args.self.now c.args.input.now c.forget_match.new.self c.forget_match.new.self c.units.result (c.is_done.ensures.done.0 c.if-is_done.true) (c.has_ended.ensures.no c.if-has_ended.false)))
+pub returns-then-has_ended-clause-effect : goal.returns-then-has_ended-clause-effect
+returns-then-has_ended-clause-effect c =
+    effect_none (way_of c.args.way) c.args.self.now c.args.input.now c.args.walk.now c.args.at.now c.forget_match.new.self c.args.cache.now None
+    (inl (subst (λ (v : Walk). v.stage ≡ Ended) c.forget_match.ensures (c.has_ended.ensures.yes c.if-has_ended.true)))
+    (ap (λ (v : Walk). v.units) c.forget_match.ensures)
 
-pub returns-in-Some-clause-tells : goal.returns-in-Some-clause-tells
-returns-in-Some-clause-tells c =
+pub returns-then-is_done-clause-answer : goal.returns-then-is_done-clause-answer
+returns-then-is_done-clause-answer c =
     let d : Direction = way_of c.args.way in
+    let w : Walk = c.args.walk.now in
+    let done : c.args.input.now.end < c.args.input.now.start = c.is_done.ensures.done.0 c.if-is_done.true in
+    let same : c.end.new.self ≡ ended_walk w w.units = c.end.ensures ∙ ap (ended_walk w) (c.units.ensures ∙ ap (λ (v : Walk). v.units) c.forget_match.ensures) in
+    subst (λ (x : Walk). IsCallAnswer d c.args.self.now c.args.input.now (resumed w c.args.at.now) x c.args.cache.now.store c.args.cache.now.store None) (sym same)
+    (record {
+      tells =
+          next_done d c.args.self.now c.args.input.now w w w.units done
+          (subst (λ (v : Walk). v.stage ≡ Ended → ⊥) c.forget_match.ensures (c.has_ended.ensures.no c.if-has_ended.false));
+      goes_on = inl refl;
+      stops = λ undone. absurd (omega (arith, done, undone));
+      named = tt;
+      kept = λ none. inl refl;
+      there = λ there. tt;
+      learned = λ nothing. units_none d c.args.self.now c.args.cache.now.store c.args.input.now w.units;
+    })
+
+pub returns-then-is_done-clause-effect : goal.returns-then-is_done-clause-effect
+returns-then-is_done-clause-effect c =
+    let done : c.args.input.now.end < c.args.input.now.start = c.is_done.ensures.done.0 c.if-is_done.true in
+    effect_none (way_of c.args.way) c.args.self.now c.args.input.now c.args.walk.now c.args.at.now c.end.new.self c.args.cache.now None
+    (inr (inr (omega (arith, done))))
+    (ap (λ (v : Walk). v.units) c.end.ensures ∙ (c.units.ensures ∙ ap (λ (v : Walk). v.units) c.forget_match.ensures))
+
+pub returns-then-is_stuck-clause-refusal : goal.returns-then-is_stuck-clause-refusal
+returns-then-is_stuck-clause-refusal c =
+    let stuck = c.is_stuck.ensures.yes c.if-is_stuck.true in
+    subst (λ (v : Walk). IsCallRefused (way_of c.args.way) c.args.self.now c.args.input.now (resumed v c.args.at.now) c.args.cache.now.store search.OutOfMemory) c.forget_match.ensures
+    (refused_stuck (way_of c.args.way) c.args.self.now c.args.input.now c.forget_match.new.self c.args.at.now c.args.cache.now stuck.0 stuck.1
+    (c.is_stuck.ensures.begun c.if-is_stuck.true) (c.has_ended.ensures.no c.if-has_ended.false))
+
+pub returns-then-is_stuck-clause-effect : goal.returns-then-is_stuck-clause-effect
+returns-then-is_stuck-clause-effect c =
+    let stuck = c.is_stuck.ensures.yes c.if-is_stuck.true in
+    subst (λ (v : Walk). IsCallEffect {T = Option ℕ} (way_of c.args.way) c.args.self.now c.args.input.now (resumed v c.args.at.now) c.forget_match.new.self c.args.cache.now c.args.cache.now (Err search.OutOfMemory)) c.forget_match.ensures
+    (effect_stuck (way_of c.args.way) c.args.self.now c.args.input.now c.forget_match.new.self c.args.at.now c.args.cache.now stuck.0 stuck.1
+    (c.is_stuck.ensures.begun c.if-is_stuck.true) (c.has_ended.ensures.no c.if-has_ended.false) c.forget_match.new.self)
+
+pub returns-in-Some-clause-answer : goal.returns-in-Some-clause-answer
+returns-in-Some-clause-answer c =
+    let d : Direction = way_of c.args.way in
+    let m : Machine = c.args.self.now in
+    let input : Input = c.args.input.now in
+    let w : Walk = c.args.walk.now in
     let left = c.in-Some.ensures.left in
-    subst (λ (w : Walk). TellsNext d c.args.self.now c.args.input.now w c.tell.new.self) c.forget_match.ensures
-    (subst (TellsNext d c.args.self.now c.args.input.now c.forget_match.new.self) (sym c.tell.ensures)
-    (next_same d c.args.self.now c.args.input.now c.forget_match.new.self left.0 c.new.result left.1 left.2
-    (ap (λ (h : HalfMatch). h.pattern) c.new.ensures ∙ left.3)
-    (ap (λ (h : HalfMatch). h.offset) c.new.ensures ∙ (c.place_offset-place.ensures ∙ ap (λ n. offset_in d c.args.input.now (n - 1)) c.units-in-Some.ensures))))
+    let stage : w.stage ≡ At left.0 = subst (λ (v : Walk). v.stage ≡ At left.0) c.forget_match.ensures left.1 in
+    let few : w.told < length left.0.patterns = subst (λ (v : Walk). v.told < length left.0.patterns) c.forget_match.ensures left.2 in
+    let same : c.tell.new.self ≡ with_match (without_match w) c.new.result = c.tell.ensures ∙ ap (λ (v : Walk). with_match v c.new.result) c.forget_match.ensures in
+    subst (λ (x : Walk). IsCallAnswer d m input (resumed w c.args.at.now) x c.args.cache.now.store c.args.cache.now.store c.args.at.now) (sym same)
+    (record {
+      tells =
+          next_same d m input (without_match w) left.0 c.new.result stage few
+          (subst (λ (v : Walk). c.new.result.pattern ≡ get_or left.0.patterns v.told 0) c.forget_match.ensures (ap (λ (h : HalfMatch). h.pattern) c.new.ensures ∙ left.3))
+          (ap (λ (h : HalfMatch). h.offset) c.new.ensures ∙ (c.place_offset-place.ensures ∙ ap (λ n. offset_in d input (n - 1)) (c.units-in-Some.ensures ∙ ap (λ (v : Walk). v.units) c.forget_match.ensures)));
+      goes_on = inr (λ ended. ended_at left.0 (sym ended ∙ stage), inr (refl, refl));
+      stops = λ undone on ended. absurd (ended_at left.0 (sym ended ∙ stage));
+      named = c.requires.at;
+      kept = λ none. inr (subst (λ (v : Walk). v.lost ≡ false) c.forget_match.ensures (c.is_stuck.ensures.no c.if-is_stuck.false none));
+      there = λ there. there;
+      learned = λ nothing. units_none d m c.args.cache.now.store input w.units;
+    })
 
-pub returns-then-units-last_place-clause-tells : goal.returns-then-units-last_place-clause-tells
-returns-then-units-last_place-clause-tells c =
+pub returns-in-Some-clause-effect : goal.returns-in-Some-clause-effect
+returns-in-Some-clause-effect c =
+    let left = c.in-Some.ensures.left in
+    effect_none (way_of c.args.way) c.args.self.now c.args.input.now c.args.walk.now c.args.at.now c.tell.new.self c.args.cache.now c.args.at.now
+    (inr (inl (
+      left.0,
+      subst (λ (v : Walk). v.stage ≡ At left.0) c.forget_match.ensures left.1,
+      subst (λ (v : Walk). v.told < length left.0.patterns) c.forget_match.ensures left.2,
+    )))
+    (ap (λ (v : Walk). v.units) c.tell.ensures ∙ ap (λ (v : Walk). v.units) c.forget_match.ensures)
+
+pub returns-then-units-last_place-clause-answer : goal.returns-then-units-last_place-clause-answer
+returns-then-units-last_place-clause-answer c =
     let d : Direction = way_of c.args.way in
-    let open_span : c.args.input.now.start ≤ c.args.input.now.end = undone c.is_done.result c.args.input.now.start c.args.input.now.end c.is_done.ensures.done c.if-is_done.false in
-    let units : c.args.input.now.end - c.args.input.now.start ≡ length (tape_in d c.args.input.now).bytes = units_in d c.args.input.now open_span c.haystack-haystack.ensures.within.1 in
-    subst (λ (w : Walk). TellsNext d c.args.self.now c.args.input.now w c.end-then-units-last_place.new.self) c.forget_match.ensures
-    (subst (TellsNext d c.args.self.now c.args.input.now c.forget_match.new.self) (sym c.end-then-units-last_place.ensures)
-    (next_read d c.args.self.now c.args.input.now c.forget_match.new.self c.forget_match.new.self c.units-then-units-last_place.result (c.has_ended.ensures.no c.if-has_ended.false) c.in_default.ensures.none
-    (omega (arith, units, c.units-2.ensures, c.last_place.ensures, c.if-units-last_place.true))))
+    let m : Machine = c.args.self.now in
+    let input : Input = c.args.input.now in
+    let w : Walk = c.args.walk.now in
+    let open_span : input.start ≤ input.end = undone c.is_done.result input.start input.end c.is_done.ensures.done c.if-is_done.false in
+    let units : input.end - input.start ≡ length (tape_in d input).bytes = units_in d input open_span c.is_done.ensures.within.1 in
+    let past : length (tape_in d input).bytes < c.forget_match.new.self.units = omega (arith, units, c.units-2.ensures, c.last_place.ensures, c.if-units-last_place.true) in
+    let more : length (tape_in d input).bytes < w.units = subst (λ (v : Walk). length (tape_in d input).bytes < v.units) c.forget_match.ensures past in
+    let same : c.end-then-units-last_place.new.self ≡ ended_walk w w.units = c.end-then-units-last_place.ensures ∙ ap (ended_walk w) (c.units-then-units-last_place.ensures ∙ ap (λ (v : Walk). v.units) c.forget_match.ensures) in
+    subst (λ (x : Walk). IsCallAnswer d m input (resumed w c.args.at.now) x c.args.cache.now.store c.args.cache.now.store None) (sym same)
+    (record {
+      tells =
+          subst (λ (v : Walk). TellsNext d m input v (ended_walk w w.units)) c.forget_match.ensures
+          (next_read d m input c.forget_match.new.self w w.units (c.has_ended.ensures.no c.if-has_ended.false) c.in_default.ensures.none past);
+      goes_on = inl refl;
+      stops = λ undone on ended j l reads. (let few : j ≤ length (tape_in d input).bytes = reads.0 in absurd (omega (arith, few, l, more)));
+      named = tt;
+      kept = λ none. inl refl;
+      there = λ there. tt;
+      learned = λ nothing. units_none d m c.args.cache.now.store input w.units;
+    })
 
-pub returns-clause-tells : goal.returns-clause-tells
-returns-clause-tells c =
-    subst (λ (w : Walk). OnOk c.walk_on.result (TellsNext (way_of c.args.way) c.args.self.now c.args.input.now w c.walk_on.new.walk)) c.forget_match.ensures c.walk_on.ensures.tells
+pub returns-then-units-last_place-clause-effect : goal.returns-then-units-last_place-clause-effect
+returns-then-units-last_place-clause-effect c =
+    let units : c.units-2.result ≡ c.args.walk.now.units = c.units-2.ensures ∙ ap (λ (v : Walk). v.units) c.forget_match.ensures in
+    effect_none (way_of c.args.way) c.args.self.now c.args.input.now c.args.walk.now c.args.at.now c.end-then-units-last_place.new.self c.args.cache.now None
+    (inr (inr (omega (arith, units, c.last_place.ensures, c.if-units-last_place.true))))
+    (ap (λ (v : Walk). v.units) c.end-then-units-last_place.ensures ∙ (c.units-then-units-last_place.ensures ∙ ap (λ (v : Walk). v.units) c.forget_match.ensures))
+
+pub returns-clause-answer : goal.returns-clause-answer
+returns-clause-answer c =
+    subst (λ (v : Walk). IfOk c.walk_on.result (IsCallAnswer (way_of c.args.way) c.args.self.now c.args.input.now (resumed v c.args.at.now) c.walk_on.new.walk c.args.cache.now.store c.walk_on.new.cache.store)) c.forget_match.ensures
+    c.walk_on.ensures.answer
 
 pub returns-clause-refusal : goal.returns-clause-refusal
-returns-clause-refusal c = λ kept k t.
-    subst (λ (w : Walk). IfErr c.walk_on.result (IsWalkRefusal (way_of c.args.way) c.args.self.now c.walk_on.new.cache.store c.args.input.now w k)) c.forget_match.ensures
-    (c.walk_on.ensures.refusal k (subst (λ (w : Walk). HasTold (way_of c.args.way) c.args.self.now c.args.input.now w k) (sym c.forget_match.ensures) t))
+returns-clause-refusal c =
+    subst (λ (v : Walk). IfErr c.walk_on.result (IsCallRefused (way_of c.args.way) c.args.self.now c.args.input.now (resumed v c.args.at.now) c.walk_on.new.cache.store)) c.forget_match.ensures
+    c.walk_on.ensures.refusal
 
-pub returns-then-is_stuck-clause-unsupported : goal.returns-then-is_stuck-clause-unsupported
-returns-then-is_stuck-clause-unsupported c = λ fresh undone behind mode.
-    absurd (c.is_stuck.ensures.begun c.if-is_stuck.true (subst (λ (w : Walk). w.stage ≡ Fresh) (sym c.forget_match.ensures) fresh))
-
-pub returns-then-has_ended-clause-learned : goal.returns-then-has_ended-clause-learned
-returns-then-has_ended-clause-learned c = λ nothing k told ready may.
-    absurd (ready.on (subst (λ (w : Walk). w.stage ≡ Ended) c.forget_match.ensures (c.has_ended.ensures.yes c.if-has_ended.true)))
-
-pub returns-then-is_done-clause-learned : goal.returns-then-is_done-clause-learned
-returns-then-is_done-clause-learned c = λ nothing k told ready may.
-    absurd (let done : c.args.input.now.end < c.args.input.now.start = c.is_done.ensures.done.0 c.if-is_done.true in omega (arith, done, ready.undone))
-
-pub returns-in-Some-clause-learned : goal.returns-in-Some-clause-learned
-returns-in-Some-clause-learned c = λ nothing k told ready may.
-    let left = c.in-Some.ensures.left in
-    let stage : c.args.walk.now.stage ≡ At left.0 = subst (λ (w : Walk). w.stage ≡ At left.0) c.forget_match.ensures left.1 in
-    let few : c.args.walk.now.told < length left.0.patterns = subst (λ (w : Walk). w.told < length left.0.patterns) c.forget_match.ensures left.2 in
-    absurd (let all : length left.0.patterns ≤ c.args.walk.now.told = ready.all_told left.0 stage in omega (arith, few, all))
-
-pub returns-then-units-last_place-clause-learned : goal.returns-then-units-last_place-clause-learned
-returns-then-units-last_place-clause-learned c = λ nothing k told ready may.
-    let units : c.units-2.result ≡ c.args.walk.now.units = c.units-2.ensures ∙ ap (λ (w : Walk). w.units) c.forget_match.ensures in
-    absurd (omega (arith, units, c.last_place.ensures, c.if-units-last_place.true, ready.left))
-
-pub returns-clause-learned : goal.returns-clause-learned
-returns-clause-learned c = λ nothing.
-    subst (λ (w : Walk). OnOk c.walk_on.result (KnowsWalk (way_of c.args.way) c.args.self.now c.walk_on.new.cache.store c.args.input.now w)) c.forget_match.ensures (c.walk_on.ensures.learned nothing)
-
-pub returns-clause-known : goal.returns-clause-known
-returns-clause-known c = λ knows.
-    let still = c.walk_on.ensures.known (subst (λ (w : Walk). KnowsWalk (way_of c.args.way) c.args.self.now c.args.cache.now.store c.args.input.now w) (sym c.forget_match.ensures) knows) in
-    (still.0, λ kept. still.1)
-
-pub returns-then-has_ended-clause-known : goal.returns-then-has_ended-clause-known
-returns-then-has_ended-clause-known c = λ knows. (still_same c.args.cache.now c.args.cache.now refl, λ kept. tt)
-
-pub returns-then-is_done-clause-known : goal.returns-then-is_done-clause-known
-returns-then-is_done-clause-known c = λ knows. (still_same c.args.cache.now c.args.cache.now refl, λ kept. tt)
-
-pub returns-in-Some-clause-known : goal.returns-in-Some-clause-known
-returns-in-Some-clause-known c = λ knows. (still_same c.args.cache.now c.args.cache.now refl, λ kept. tt)
-
-pub returns-then-units-last_place-clause-known : goal.returns-then-units-last_place-clause-known
-returns-then-units-last_place-clause-known c = λ knows. (still_same c.args.cache.now c.args.cache.now refl, λ kept. tt)
-
-pub returns-then-is_stuck-clause-known : goal.returns-then-is_stuck-clause-known
-returns-then-is_stuck-clause-known c = λ knows.
-    let stuck = c.is_stuck.ensures.yes c.if-is_stuck.true in (
-      still_same c.args.cache.now c.args.cache.now refl,
-      λ can. absurd (false_true (sym (can stuck.0) ∙ (sym (ap (λ (w : Walk). w.lost) c.forget_match.ensures) ∙ stuck.1))),
-    )
-
-pub returns-then-has_ended-clause-units : goal.returns-then-has_ended-clause-units
-returns-then-has_ended-clause-units c = λ nothing j l h.
-    let same : c.forget_match.new.self.units ≡ c.args.walk.now.units = ap (λ (w : Walk). w.units) c.forget_match.ensures in
-    absurd (omega (arith, same, l, h))
-
-pub returns-then-is_done-clause-units : goal.returns-then-is_done-clause-units
-returns-then-is_done-clause-units c = λ nothing j l h.
-    let same : c.end.new.self.units ≡ c.args.walk.now.units = ap (λ (w : Walk). w.units) c.end.ensures ∙ (c.units.ensures ∙ ap (λ (w : Walk). w.units) c.forget_match.ensures) in
-    absurd (omega (arith, same, l, h))
-
-pub returns-in-Some-clause-units : goal.returns-in-Some-clause-units
-returns-in-Some-clause-units c = λ nothing j l h.
-    let same : c.tell.new.self.units ≡ c.args.walk.now.units = ap (λ (w : Walk). w.units) c.tell.ensures ∙ ap (λ (w : Walk). w.units) c.forget_match.ensures in
-    absurd (omega (arith, same, l, h))
-
-pub returns-then-units-last_place-clause-units : goal.returns-then-units-last_place-clause-units
-returns-then-units-last_place-clause-units c = λ nothing j l h.
-    let same : c.end-then-units-last_place.new.self.units ≡ c.args.walk.now.units = ap (λ (w : Walk). w.units) c.end-then-units-last_place.ensures ∙ (c.units-then-units-last_place.ensures ∙ ap (λ (w : Walk). w.units) c.forget_match.ensures) in
-    absurd (omega (arith, same, l, h))
-
-pub returns-clause-units : goal.returns-clause-units
-returns-clause-units c = λ nothing.
-    subst (λ (w : Walk). OnOk c.walk_on.result (HasLearnedUnits (way_of c.args.way) c.args.self.now c.walk_on.new.cache.store c.args.input.now w.units c.walk_on.new.walk.units)) c.forget_match.ensures (c.walk_on.ensures.units nothing)
-
-pub returns-then-has_ended-clause-stops : goal.returns-then-has_ended-clause-stops
-returns-then-has_ended-clause-stops c = λ undone on. absurd (on (subst (λ (w : Walk). w.stage ≡ Ended) c.forget_match.ensures (c.has_ended.ensures.yes c.if-has_ended.true)))
-
-pub returns-then-is_done-clause-stops : goal.returns-then-is_done-clause-stops
-returns-then-is_done-clause-stops c = λ undone on.
-    absurd (let done : c.args.input.now.end < c.args.input.now.start = c.is_done.ensures.done.0 c.if-is_done.true in omega (arith, done, undone))
-
-pub returns-in-Some-clause-stops : goal.returns-in-Some-clause-stops
-returns-in-Some-clause-stops c = λ undone on ended.
-    let left = c.in-Some.ensures.left in
-    let stage : c.tell.new.self.stage ≡ At left.0 = ap (λ (w : Walk). w.stage) c.tell.ensures ∙ left.1 in
-    absurd (ended_at left.0 (sym ended ∙ stage))
-
-pub returns-then-units-last_place-clause-stops : goal.returns-then-units-last_place-clause-stops
-returns-then-units-last_place-clause-stops c = λ undone on ended j l reads.
-    let units : c.args.input.now.end - c.args.input.now.start ≡ length (tape_in (way_of c.args.way) c.args.input.now).bytes = units_in (way_of c.args.way) c.args.input.now undone c.haystack-haystack.ensures.within.1 in
-    let same : c.end-then-units-last_place.new.self.units ≡ c.forget_match.new.self.units = ap (λ (w : Walk). w.units) c.end-then-units-last_place.ensures ∙ c.units-then-units-last_place.ensures in
-    let few : j ≤ length (tape_in (way_of c.args.way) c.args.input.now).bytes = reads.0 in
-    absurd (omega (arith, units, same, few, l, c.units-2.ensures, c.last_place.ensures, c.if-units-last_place.true))
-
-pub returns-then-has_ended-clause-ends : goal.returns-then-has_ended-clause-ends
-returns-then-has_ended-clause-ends c =
-    inl (inl (subst (λ (w : Walk). w.stage ≡ Ended) c.forget_match.ensures (c.has_ended.ensures.yes c.if-has_ended.true)), refl)
-
-pub returns-then-is_done-clause-ends : goal.returns-then-is_done-clause-ends
-returns-then-is_done-clause-ends c =
-    let done : c.args.input.now.end < c.args.input.now.start = c.is_done.ensures.done.0 c.if-is_done.true in
-    inl (inr (inr (omega (arith, done))), refl)
-
-pub returns-in-Some-clause-ends : goal.returns-in-Some-clause-ends
-returns-in-Some-clause-ends c =
-    let left = c.in-Some.ensures.left in
-    inl (
-      inr (inl (
-        left.0,
-        subst (λ (w : Walk). w.stage ≡ At left.0) c.forget_match.ensures left.1,
-        subst (λ (w : Walk). w.told < length left.0.patterns) c.forget_match.ensures left.2,
-      )),
-      refl,
-    )
-
-pub returns-then-units-last_place-clause-ends : goal.returns-then-units-last_place-clause-ends
-returns-then-units-last_place-clause-ends c =
-    let units : c.units-2.result ≡ c.args.walk.now.units = c.units-2.ensures ∙ ap (λ (w : Walk). w.units) c.forget_match.ensures in
-    inl (inr (inr (omega (arith, units, c.last_place.ensures, c.if-units-last_place.true))), refl)
-
-pub returns-clause-ends : goal.returns-clause-ends
-returns-clause-ends c =
-    subst (λ (w : Walk). OnOk c.walk_on.result (EndsCall (way_of c.args.way) c.args.self.now c.args.input.now w c.walk_on.new.walk c.args.cache.now.store c.walk_on.new.cache.store)) c.forget_match.ensures c.walk_on.ensures.ends
-
-pub returns-then-is_stuck-clause-leaves : goal.returns-then-is_stuck-clause-leaves
-returns-then-is_stuck-clause-leaves c =
-    subst (λ (w : Walk). LeavesCall (way_of c.args.way) c.args.self.now c.args.input.now w c.args.cache.now.store c.args.cache.now.store search.OutOfMemory) c.forget_match.ensures
-    (inl (
-      stuck_refusal (way_of c.args.way) c.args.self.now c.args.cache.now.store c.args.input.now c.forget_match.new.self.stage c.forget_match.new.self.units
-          (c.is_stuck.ensures.begun c.if-is_stuck.true) (c.has_ended.ensures.no c.if-has_ended.false),
-      refl,
-    ))
-
-pub returns-clause-leaves : goal.returns-clause-leaves
-returns-clause-leaves c =
-    subst (λ (w : Walk). IfErr c.walk_on.result (LeavesCall (way_of c.args.way) c.args.self.now c.args.input.now w c.args.cache.now.store c.walk_on.new.cache.store)) c.forget_match.ensures c.walk_on.ensures.leaves
+pub returns-clause-effect : goal.returns-clause-effect
+returns-clause-effect c =
+    subst (λ (v : Walk). IsCallEffect (way_of c.args.way) c.args.self.now c.args.input.now (resumed v c.args.at.now) c.walk_on.new.walk c.args.cache.now c.walk_on.new.cache c.walk_on.result) c.forget_match.ensures
+    c.walk_on.ensures.effect

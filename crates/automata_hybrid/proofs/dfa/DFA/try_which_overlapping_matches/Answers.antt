@@ -1,6 +1,5 @@
 use Rattle.std.proofs.lemmas.Result.{IfErr-weaker}
 use Rattle.automata_base.specs.Tapes.{Forward}
-use Rattle.automata_hybrid.proofs.Growing.{clears_none}
 use Rattle.automata_hybrid.proofs.Owing.{is_store}
 use Rattle.automata_hybrid.proofs.OwingWalks.{may_refuse_which}
 use Rattle.automata_hybrid.proofs.WalkAnswers.{walk_memory}
@@ -20,22 +19,9 @@ returns-clause-which c =
       errors =
           may_refuse_which r m cache input c.args.patset.now c.collect-told.new.patset (is_store cache m s.of c.see_bounds.ensures)
           s.refusal;
-      unsupported = λ u. s.unsupported u.undone u.behind u.mode;
+      unsupported = s.unsupported;
       free = λ f.
           IfErr-weaker r _ _ (λ e x.
           walk_memory Forward m cache input c.haystack-haystack.ensures.within.1 s.of f.reach f.supported f.clears x.0 x.1 e x.3)
           s.refusal;
-    }
-
-pub returns-clause-effect : goal.returns-clause-effect
-returns-clause-effect c =
-    let s = c.collect-told.ensures in
-    record {
-      cost = s.cost;
-      roomy = λ room. clears_none c.args.cache.now c.collect-told.new.cache _ s.grown s.cost room;
-      grown = s.grown;
-      learned = s.learned;
-      known = s.known;
-      ended = s.ends;
-      left = s.leaves;
     }

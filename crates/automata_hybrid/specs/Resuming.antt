@@ -1,0 +1,168 @@
+-- Going on with a walk: what the functions under its calls ask, what they answer, and what they make of their cache.
+use Rattle.std.specs.Prelude.{ℕ, suc, ◌≡◌, ◌+◌, ◌-◌, ◌≤◌, ◌⊎◌, Bool, true, false, Option, None, Some, Result, IfOk, IfErr}
+use Rattle.std.specs.Prelude.{OnErr, OnOk}
+use Rattle.automata_base.specs.Input.{Input}
+use Rattle.automata_base.specs.Paths.{next}
+use Rattle.automata_base.specs.Tapes.{Direction}
+use Rattle.automata_config.specs.declared.error.SearchError.{SearchError}
+use Rattle.automata_hybrid.specs.declared.dfa.progress.Searched.{Searched}
+use Rattle.automata_hybrid.specs.declared.search.units.Arrival.{Arrival}
+use Rattle.automata_hybrid.specs.Stores.{Stored}
+use Rattle.automata_hybrid.specs.Caches.{CacheView, counted}
+use Rattle.automata_hybrid.specs.Growing.{ClearedNothing, IsGrown, KeepsProgress}
+use Rattle.automata_hybrid.specs.Knowing.{IsOfInput, KnowsUnit}
+use Rattle.automata_hybrid.specs.KnowingWalks.{HasLearnedUnits, IsToRead, KnowsItsState, KnowsUnits}
+use Rattle.automata_hybrid.specs.Machine.{Machine}
+use Rattle.automata_hybrid.specs.Owing.{IsMemory, IsUnsupported, unsupported_error}
+use Rattle.automata_hybrid.specs.OwingWalks.{ReadsNothing}
+use Rattle.automata_hybrid.specs.Passing.{HasLearnedUnit}
+use Rattle.automata_hybrid.specs.Progressing.{started}
+use Rattle.automata_hybrid.specs.Reading.{IsReadProgress}
+use Rattle.automata_hybrid.specs.SearchedWalks.{EndsAtUnit, IsLeftAtUnit}
+use Rattle.automata_hybrid.specs.Searches.{given_up_offset, state_in, tape_in}
+use Rattle.automata_hybrid.specs.Starting.{MayStart}
+use Rattle.automata_hybrid.specs.Table.{Leads, Names, Rows}
+use Rattle.automata_hybrid.specs.Walking.{CanGoOn, GoesOn, HasItsState, HasTold, HasToldBy, IsNamedAt, IsWalkOf}
+use Rattle.automata_hybrid.specs.Walking.{IsWalkRefusal, TellsNext, WalkReads, start_count}
+use Rattle.automata_hybrid.specs.Walks.{Ended, Fresh, Stage, Walk}
+
+-- a state isn't lost where its ID is given
+abbrev pub lost_without : Bool → Option ℕ → Bool
+lost_without lost None = lost
+lost_without lost (Some id) = false
+
+-- a walk as a call goes on with it: it has no match, and hasn't lost its state where the ID of that is given
+abbrev pub resumed : Walk → Option ℕ → Walk
+resumed w at = record {
+  stage = w.stage;
+  units = w.units;
+  told = w.told;
+  found = None;
+  lost = lost_without w.lost at;
+}
+
+-- a walk can go on from where it stands
+pub record CanResume (t : Rows) (w : Walk) (at : Option ℕ) : Type 0 where
+  -- an ID that is given is that of its state
+  pub named : IsNamedAt t w.stage at
+  -- where none is given it hasn't lost its state
+  pub kept : CanGoOn w at
+
+-- a walk over this input whose next call reads units
+pub record ReadsOn (way : Direction) (m : Machine) (input : Input) (w : Walk) : Type 0 where
+  pub told : IsWalkOf way m input w
+  pub reads : IsToRead input w.stage w.units w.told
+
+-- what a call of a walk answers, by the ID of the state where the walk stands then
+pub record IsCallAnswer (way : Direction) (m : Machine) (input : Input) (walk next : Walk) (old new : Stored)
+    (at : Option ℕ) : Type 0 where
+  -- the walk has told the next pair, or has ended
+  pub tells : TellsNext way m input walk next
+  -- with a match it has read more units or told one pattern more
+  pub goes_on : GoesOn walk next
+  -- where it has ended it reads no unit more
+  pub stops :
+      input.start ≤ input.end → (walk.stage ≡ Ended → ⊥) → next.stage ≡ Ended → (j : ℕ) → next.units ≤ j
+      → WalkReads way m input j → ⊥
+  -- the ID is that of its state
+  pub named : IsNamedAt new.table next.stage at
+  -- with none it has ended, or hasn't lost its state
+  pub kept : at ≡ None → (next.stage ≡ Ended) ⊎ (next.lost ≡ false)
+  -- the cache has its state, if it had the one before
+  pub there : HasItsState old.table walk.stage → HasItsState new.table next.stage
+  -- where nothing was cleared the transition is known on each unit that it read
+  pub learned : ClearedNothing old new → HasLearnedUnits way m new input walk.units next.units
+
+-- why a call of a walk is refused
+pub record IsCallRefused (way : Direction) (m : Machine) (input : Input) (walk : Walk) (new : Stored)
+    (e : SearchError) : Type 0 where
+  -- the walk isn't gone on with, or the step on a unit is refused
+  pub why : walk.lost ≡ false → (k : ℕ) → HasTold way m input walk k → IsWalkRefusal way m new input walk k e
+  -- one that lost its state is refused for want of memory
+  pub lost : walk.lost ≡ true → IsMemory e
+  -- of one that hasn't begun, a mode that isn't supported is told
+  pub unsupported : walk.stage ≡ Fresh → IsUnsupported way m input → e ≡ unsupported_error input
+  -- where nothing is read, none is refused
+  pub ready : ReadsNothing input walk → ⊥
+
+-- what the ID is that a walk goes on from
+pub record IsResumeAnswer (way : Direction) (m : Machine) (input : Input) (walk : Walk) (new : Stored) (id : ℕ) :
+    Type 0 where
+  -- it leads to the state behind the units read
+  pub leads : Leads new.table id (state_in way m input walk.units)
+  -- the walk may start, or has started
+  pub may : MayStart m input.anchored (tape_in way input).before
+  -- what it goes on from is known
+  pub learned : KnowsItsState way m new input walk.stage
+
+-- what asking for it makes of the cache
+pub record IsResumeEffect {T : Type 0} (way : Direction) (m : Machine) (input : Input) (stage : Stage)
+    (old new : CacheView) (result : Result T SearchError) : Type 0 where
+  -- it makes at most one determinisation, for a start
+  pub cost : new.count ≤ old.count + start_count stage
+  -- it grows the cache as one determinisation more would, and where the cache has the walk's state as those made do
+  pub grown : IsGrown old (counted new)
+  pub there : HasItsState old.store.table stage → IsGrown old new
+  -- where what it goes on from is known, nothing changes, and nothing is refused for want of room
+  pub known :
+      (MayStart m input.anchored (tape_in way input).before → KnowsItsState way m old.store input stage)
+      → (new ≡ old) × IfErr result IsOfInput
+  -- the progress of searches stays, but for a clear; and where it is refused
+  pub progress : KeepsProgress old.store new.store
+  pub err : OnErr result (new.store.searched ≡ old.store.searched)
+
+-- what putting the state of a walk back makes of the cache
+pub record IsPutBackEffect {T E : Type 0} (stage : Stage) (old new : CacheView) (result : Result T E) : Type 0 where
+  -- it determinises nothing, and grows the cache as one determinisation would
+  pub cost : new.count ≡ old.count
+  pub grown : IsGrown old (counted new)
+  -- a state that is there is answered, and nothing changes
+  pub there : HasItsState old.store.table stage → (new ≡ old) × IfErr result (λ e. ⊥)
+  -- the progress of searches stays, but for a clear
+  pub progress : KeepsProgress old.store new.store
+
+-- a walk has read so many units of its span, and one is left: the ID names its state there
+pub record StandsBehind (way : Direction) (m : Machine) (t : Rows) (input : Input) (units id : ℕ) : Type 0 where
+  pub undone : input.start ≤ input.end
+  pub left : units ≤ input.end - input.start
+  pub named : Names t id (state_in way m input units)
+
+-- what reading that one makes of the cache
+pub record IsUnitEffect {T : Type 0} (way : Direction) (m : Machine) (input : Input) (place : ℕ) (old new : CacheView)
+    (result : Result T SearchError) : Type 0 where
+  -- it determinises at most once
+  pub counted : new.count ≤ old.count + 1
+  -- the cache has grown; where nothing was cleared, nothing is lost
+  pub grown : IsGrown old new
+  -- where its transition is known, it determinises nothing, and isn't refused for want of room
+  pub known : KnowsUnit way m old.store input place → (new.count ≡ old.count) × IfErr result IsOfInput
+  -- where nothing was cleared it is known from then on
+  pub learned : ClearedNothing old.store new.store → OnOk result (HasLearnedUnit way m new.store input place)
+  -- the search has moved to the unit
+  pub progress :
+      IsReadProgress m (next (tape_in way input) place) (given_up_offset way input place) old.store new.store result
+
+-- what going on over the units of a walk from there makes of the cache
+pub record IsAdvanceEffect (way : Direction) (m : Machine) (input : Input) (units : ℕ) (old new : CacheView)
+    (result : Result Arrival SearchError) : Type 0 where
+  -- the cache has grown; where nothing was cleared, nothing is lost
+  pub grown : IsGrown old new
+  -- it makes at most one determinisation for each unit read; a refused one for each that was left
+  pub cost : IfOk result (λ a. new.count + units ≤ old.count + a.units)
+  pub most : new.count + units ≤ old.count + (input.end - input.start + 1)
+  -- where the transition on each unit that is read is known, it makes none, and isn't refused for want of room
+  pub known :
+      (k : ℕ) → HasToldBy way m input units k → KnowsUnits way m old.store input units k
+      → (new.count ≡ old.count) × IfErr result IsOfInput
+  -- where nothing was cleared it is known from then on
+  pub learned :
+      ClearedNothing old.store new.store → IfOk result (λ a. HasLearnedUnits way m new.store input units a.units)
+  -- a search that began there has ended at the last unit that was read
+  pub ended :
+      (before : Searched) → old.store.searched ≡ started before (given_up_offset way input units)
+      → IfOk result (λ a. (k : ℕ) × (units ≤ k) × (a.units ≡ suc k) × WalkReads way m input k
+      × EndsAtUnit way input before units k old.store new.store)
+  -- or is left at the one that was refused
+  pub left :
+      (before : Searched) → old.store.searched ≡ started before (given_up_offset way input units)
+      → IfErr result (IsLeftAtUnit way m input before units old.store new.store)
