@@ -55,7 +55,7 @@ unsupported_start :
     (m : Machine) (c : Stored) (mode : Anchored) (behind : Option ℕ) (behind_at start_at : ℕ) (e : SearchError)
     → IsStartRefusalAt m c mode behind behind_at start_at e → quit_behind m behind ≡ None → supports m mode ≡ false
     → e ≡ search.Match (UnsupportedMode mode)
-unsupported_start m c mode behind behind_at start_at e (error, why, told) clear off = told ∙ go error why where
+unsupported_start m c mode behind behind_at start_at e (error, why, told, unknown) clear off = told ∙ go error why where
   go : (error : StartError) → IsStartRefusal m c mode behind error → search_refusal error behind_at start_at ≡ search.Match (UnsupportedMode mode)
   go (start.Quit byte) why = absurd (none_some (sym clear ∙ why))
   go (start.UnsupportedAnchored asked) why = ap (λ a. search.Match (UnsupportedMode a)) why.2
