@@ -1,4 +1,5 @@
 use Rattle.std.proofs.Common.{◌≡◌, ℕ, ◌+◌, ◌*◌, ◌^◌, ◌<◌, ◌≤◌, zero, suc, List, [], ◌∷◌, ◌++◌, length, true, false, cond, Option, None, Some, get_or, take, slice_get, refl, sym, ap, ◌∙◌, subst, ◌⊎◌, inl, inr, ⊎_elim, arith, length-append}
+use Rattle.std.proofs.lemmas.List.{get_or_append_left}
 use Rattle.std.specs.Prelude.{nat_le}
 use Rattle.std.proofs.lemmas.List.{take_more}
 use Rattle.std.proofs.lemmas.Bool.Decides.{nat_tests}
@@ -7,9 +8,10 @@ use Rattle.std.proofs.lemmas.Bool.{cases_Bool}
 use Rattle.automata_base.specs.Powerset.{Powerset}
 use Rattle.automata_base.specs.Equal.{powerset_eq, powerset_eq-Decides}
 use Rattle.automata_hybrid.specs.declared.dfa.row.Row.{Row}
-use Rattle.automata_hybrid.specs.Machine.{start_of, table_stride}
+use Rattle.automata_hybrid.specs.Ids.{dead_id}
+use Rattle.automata_hybrid.specs.Machine.{Machine, start_of, table_stride}
 use Rattle.automata_hybrid.specs.Table.{Rows, id_of, Names, MayLead, with_row}
-use Rattle.automata_hybrid.specs.Clears.{AllStarts, row_of, put_if, put, or_unknown, Kept, keep_found, keep_slot, keep_slots, IsPut}
+use Rattle.automata_hybrid.specs.Clears.{AllStarts, row_of, put_if, put, or_unknown, Kept, KeepsSlot, keep_found, keep_slot, keep_slots, IsPut}
 use Rattle.automata_hybrid.proofs.Rows.{Names-more, find_id-push_other}
 
 pub keep_slots-push : (old : Rows) (k : Kept) (ids : List ℕ) (id : ℕ) → keep_slots old k (ids ++ id ∷ []) ≡ keep_slot old (keep_slots old k ids) id
@@ -106,3 +108,65 @@ absent-more old t r q had o n = ⊎_elim
     (λ (e : powerset_eq q r.state ≡ true). absurd (had (subst (λ p. id_of old p ≡ None) ((powerset_eq-Decides q r.state).0 e) o)))
     (λ (e : powerset_eq q r.state ≡ false). find_id-push_other (table_stride t.of) (3 * table_stride t.of) q t.rows r e ∙ n)
     (cases_Bool (powerset_eq q r.state))
+
+last_pushed : (xs : List ℕ) (y : ℕ) → get_or (xs ++ y ∷ []) (length xs) 0 ≡ y
+last_pushed [] y = refl
+last_pushed (x ∷ xs) y = last_pushed xs y
+
+-- a slot that names no row is kept as it is
+pub keeps_fixed :
+    (old t : Rows) (starts after : List ℕ) (id : ℕ)
+    → ((n : ℕ) (q : Powerset) → Names old n q → n < 2 ^ 29) → 2 ^ 29 ≤ id → after ≡ starts ++ id ∷ []
+    → t.of ≡ old.of → AllStarts t starts → MayLead old id (start_of old.of (length starts))
+    → KeepsSlot old id (record { table = t; starts = starts }) (record { table = t; starts = after })
+keeps_fixed old t starts after id low high push of all leads =
+    subst (λ (xs : List ℕ). KeepsSlot old id (record { table = t; starts = starts }) (record { table = t; starts = xs })) (sym push)
+    (record {
+      value = sym (ap (λ b. cond b (record { table = t; starts = starts ++ id ∷ [] }) (keep_found (row_of old id) (record { table = t; starts = starts }))) fixed);
+      named = AllStarts-push t starts id all (there leads);
+      few = omega arith;
+      slots = length-append starts (id ∷ []);
+      front = λ slot l. get_or_append_left starts (id ∷ []) 0 slot l;
+      known = λ k. subst (λ n. n < 2 ^ 31) (sym (last_pushed starts id)) k;
+      absent = λ q o n. n;
+      of = refl;
+    })
+  where
+    fixed : nat_le (2 ^ 29) id ≡ true
+    fixed = grind (arith, nat_tests)
+
+    there : MayLead old id (start_of old.of (length starts)) → MayLead t id (start_of t.of (length starts))
+    there (inl e) = inl e
+    there (inr (inl (e, d))) =
+        inr (inl (e ∙ ap (λ (m : Machine). dead_id (table_stride m)) (sym of), ap (λ (m : Machine). start_of m (length starts)) of ∙ d))
+    there (inr (inr n)) = let l : id < 2 ^ 29 = low id _ n in absurd (omega (arith, l, high))
+
+-- the row that a slot names is kept
+pub keeps_row :
+    (old before after : Rows) (starts slots : List ℕ) (id n : ℕ)
+    → id < 2 ^ 29 → ((k : ℕ) (q : Powerset) → Names after k q → k < 2 ^ 29) → slots ≡ starts ++ n ∷ []
+    → before.of ≡ old.of → AllStarts before starts → MayLead old id (start_of old.of (length starts))
+    → IsPut old before after id n → ((q : Powerset) → Names old id q → Names after n q)
+    → ((q : Powerset) → id_of old q ≡ None → id_of before q ≡ None → id_of after q ≡ None)
+    → KeepsSlot old id (record { table = before; starts = starts }) (record { table = after; starts = slots })
+keeps_row old before after starts slots id n below low push of all leads put names absent =
+    subst (λ (xs : List ℕ). KeepsSlot old id (record { table = before; starts = starts }) (record { table = after; starts = xs })) (sym push)
+    (record {
+      value = sym (kept_row old before after starts id n put below);
+      named = IsPut-AllStarts old before after starts id n put all there;
+      few = IsPut-length old before after id n put;
+      slots = length-append starts (n ∷ []);
+      front = λ slot l. get_or_append_left starts (n ∷ []) 0 slot l;
+      known = λ _. subst (λ k. k < 2 ^ 31) (sym (last_pushed starts n)) (omega (arith, small));
+      absent = absent;
+      of = IsPut-of old before after id n put;
+    })
+  where
+    named : Names after n (start_of old.of (length starts))
+    named = names _ (MayLead-row old id _ leads below)
+
+    there : Names after n (start_of after.of (length starts))
+    there = subst (λ (m : Machine). Names after n (start_of m (length starts))) (sym (IsPut-of old before after id n put ∙ of)) named
+
+    small : n < 2 ^ 29
+    small = low n _ named

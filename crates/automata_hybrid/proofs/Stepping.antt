@@ -17,11 +17,6 @@ use Rattle.automata_base.specs.Classes.{is_quit}
 use Rattle.automata_base.specs.Steps.{successor}
 use Rattle.automata_config.specs.Options.{match_kind_of}
 
--- an unknown cell stands at no quit class
-pub unknown_free : (t : Rows) (q : Powerset) (class id : ℕ) → IsCell t q class id → table_stride t.of ≤ 512 → 2 ^ 31 ≤ id → get_or (template_of t.of) class 0 ≡ 2 ^ 31
-unknown_free t q class id (inl (a, b)) s l = absurd (omega (arith, b, s, l))
-unknown_free t q class id (inr (a, b)) s l = a
-
 -- an ID that isn't fixed is that of a row
 pub HasRow-valid : (t : Rows) (id : ℕ) → HasRow t id → id < 2 ^ 29 → IsValid t id
 HasRow-valid t id (inl e) l = absurd (omega (arith, e, l))
@@ -69,9 +64,6 @@ dead_tagged t id low small q (inl (e, d)) =
     (λ b. d, λ clear. absurd (clear ((bit_of 30 (table_stride t.of) 1 id (omega (arith, small)) n).1 refl)))
 dead_tagged t id low small q (inr h) =
     (λ b. absurd (let l : id < 2 ^ 29 = low q h in low_bit 30 id (omega (arith, l)) b), λ clear. h)
-
-pub ok_one : {E : Type 0} {a b : ℕ} → ◌≡◌ {A = Result ℕ E} (Ok a) (Ok b) → a ≡ b
-ok_one e = cc
 
 -- a refused step, told at an offset
 pub refused :

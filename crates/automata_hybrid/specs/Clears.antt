@@ -1,8 +1,11 @@
 -- What a clear keeps: the start states, each with its slots.
-use Rattle.std.specs.Prelude.{◌≡◌, ℕ, ◌-◌, ◌/◌, ◌%◌, List, [], ◌∷◌, ◌++◌, cond, Option, None, Some, slice_get, nat_le}
+use Rattle.std.specs.Prelude.{◌≡◌, ℕ, ◌+◌, ◌-◌, ◌/◌, ◌%◌, ◌<◌, ◌≤◌, List, [], ◌∷◌, ◌++◌, length, cond, Option, None, Some}
+use Rattle.std.specs.Prelude.{slice_get, slice_index, nat_le}
+use Rattle.automata_base.specs.Powerset.{Powerset}
 use Rattle.automata_hybrid.specs.declared.dfa.row.Row.{Row}
 use Rattle.automata_hybrid.specs.Machine.{start_of, table_stride}
 use Rattle.automata_hybrid.specs.Table.{Rows, id_of, with_row, fresh, MayLead, Names}
+use Rattle.automata_hybrid.specs.Stores.{KeepsStarts}
 use Rattle.automata_hybrid.specs.Ids.{unknown_id, fixed_from, offset_limit}
 
 -- what each slot has: unknown, dead for the dead state, or the ID of its start state
@@ -53,7 +56,47 @@ kept old starts = keep_slots old (record { table = fresh old.of; starts = [] }) 
 
 -- the row of an ID was put into a table, where it has a new ID
 pub record IsPut (old before after : Rows) (id new : ℕ) : Type 0 where
+  -- There is a row.
   pub row : Row
+  -- The ID names it in the old table.
   pub at : row_of old id ≡ Some row
+  -- It was put into the other one, unless its state was there.
   pub put_there : after ≡ put before row
+  -- The new ID names its state there.
   pub named : Names after new row.state
+
+-- what keeping one more slot of an old table makes of the rows and the slots that are kept
+pub record KeepsSlot (old : Rows) (id : ℕ) (before after : Kept) : Type 0 where
+  -- It is kept as a clear keeps it.
+  pub value : after ≡ keep_slot old before id
+  -- Each slot has its start.
+  pub named : AllStarts after.table after.starts
+  -- There is at most one row more.
+  pub few : length after.table.rows ≤ length before.table.rows + 1
+  -- There is one slot more.
+  pub slots : length after.starts ≡ length before.starts + 1
+  -- The slots before it are as they were.
+  pub front : (slot : ℕ) → slot < length before.starts → slice_index after.starts slot ≡ slice_index before.starts slot
+  -- If its start was known, it is known.
+  pub known : id < unknown_id → slice_index after.starts (length before.starts) < unknown_id
+  -- No state is there that neither table had.
+  pub absent : (q : Powerset) → id_of old q ≡ None → id_of before.table q ≡ None → id_of after.table q ≡ None
+  -- The rows are of the same machine.
+  pub of : after.table.of ≡ before.table.of
+
+-- what keeping the slots of an old table gives
+pub record KeepsAllStarts (old : Rows) (starts : List ℕ) (k : Kept) : Type 0 where
+  -- These rows and slots are kept.
+  pub value : k ≡ kept old starts
+  -- Each slot has its start.
+  pub named : AllStarts k.table k.starts
+  -- There are no more rows than slots.
+  pub few : length k.table.rows ≤ length starts
+  -- There are as many slots as before.
+  pub slots : length k.starts ≡ length starts
+  -- Each start that was known is known.
+  pub known : KeepsStarts starts k.starts
+  -- No state is there that wasn't.
+  pub absent : (q : Powerset) → id_of old q ≡ None → id_of k.table q ≡ None
+  -- The rows are of the same machine.
+  pub of : k.table.of ≡ old.of

@@ -1,10 +1,10 @@
 -- What adding a state, a transition or a start does to a cache.
-use Rattle.std.specs.Prelude.{◌≡◌, ℕ, ◌⊎◌, false, Option, None, Some}
+use Rattle.std.specs.Prelude.{◌≡◌, ℕ, ◌⊎◌, false, Option, None, Some, length}
 use Rattle.automata_base.specs.Powerset.{Powerset, cost}
 use Rattle.automata_hybrid.specs.declared.dfa.row.Row.{Row}
-use Rattle.automata_hybrid.specs.Table.{Rows, Leads, Lacks, with_row, Names}
+use Rattle.automata_hybrid.specs.Table.{Rows, Leads, Lacks, Has, with_row, Names}
 use Rattle.automata_hybrid.specs.Clears.{put, row_of}
-use Rattle.automata_hybrid.specs.Stores.{Stored, with_next, with_start, with_table}
+use Rattle.automata_hybrid.specs.Stores.{Stored, KeepsStarts, with_next, with_start, with_table}
 use Rattle.automata_hybrid.specs.Usage.{Fits, cleared, refuses_to_clear}
 
 abbrev pub put_found : Rows → Option Row → Rows
@@ -26,6 +26,21 @@ IsAdded old from r new =
     (Fits old (cost r.state) × (new ≡ grown old r))
     ⊎ ((Fits old (cost r.state) → ⊥) × (refuses_to_clear old ≡ false) × (new ≡ grown (cleared_saving old from) r))
 
+-- what adding a state that is absent gives, stepped to from a row: the ID of that row as it is now, and the new one
+pub record AddsNext (old new : Stored) (from : ℕ) (q : Powerset) (now next : ℕ) : Type 0 where
+  -- The cache grew, or was cleared first.
+  pub effect : IsAdded old from (record { state = q; started = false }) new
+  -- The row that was stepped from is there, and has this ID now.
+  pub saved : (p : Powerset) → Names old.table from p → Names new.table now p
+  -- The new ID names the state.
+  pub named : Names new.table next q
+  -- No other state was added.
+  pub only : (p : Powerset) → Has new.table p → Has old.table p ⊎ (p ≡ q)
+  -- Each start that was known is known.
+  pub starts : KeepsStarts old.starts new.starts
+  -- The cache is of the same machine.
+  pub of : new.table.of ≡ old.table.of
+
 -- the whole effect of computing a transition from a state to a target: it is written, at the row as it is after the
 -- target was added, if no row had it
 abbrev pub IsComputed : Stored → (id class : ℕ) → (q target : Powerset) → Stored → ℕ → Type 0
@@ -41,6 +56,21 @@ abbrev pub IsAddedStart : Stored → Row → Stored → Type 0
 IsAddedStart old r new =
     (Fits old (cost r.state) × (new ≡ grown old r))
     ⊎ ((Fits old (cost r.state) → ⊥) × (refuses_to_clear old ≡ false) × (new ≡ grown (cleared old) r))
+
+-- what adding a start state that is absent gives: its ID
+pub record AddsStart (old new : Stored) (r : Row) (id : ℕ) : Type 0 where
+  -- The cache grew, or was cleared first.
+  pub effect : IsAddedStart old r new
+  -- The ID names the state.
+  pub named : Names new.table id r.state
+  -- No other state was added.
+  pub only : (p : Powerset) → Has new.table p → Has old.table p ⊎ (p ≡ r.state)
+  -- There are as many slots as before.
+  pub slots : length new.starts ≡ length old.starts
+  -- Each start that was known is known.
+  pub starts : KeepsStarts old.starts new.starts
+  -- The cache is of the same machine.
+  pub of : new.table.of ≡ old.table.of
 
 -- the whole effect of computing a start: it is written, after its row was added, if no row had the state
 abbrev pub IsStarted : Stored → (slot : ℕ) → Row → Stored → ℕ → Type 0

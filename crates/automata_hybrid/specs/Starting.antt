@@ -37,6 +37,15 @@ MayStart m mode behind = (quit_behind m behind ≡ None) × (supports m mode ≡
 abbrev pub HasSlot : Machine → Anchored → Option ℕ → Type 0
 HasSlot m mode behind = slot_behind m mode behind < slot_count m
 
+-- a search may start, and this is the slot of its start
+pub record IsStartSlot (m : Machine) (mode : Anchored) (behind : Option ℕ) (slot : ℕ) : Type 0 where
+  -- Behind it is no quit byte, and its mode is supported.
+  pub may : MayStart m mode behind
+  -- The slot is that of the mode and of what is behind.
+  pub at : slot ≡ slot_behind m mode behind
+  -- There is such a slot.
+  pub within : slot < slot_count m
+
 -- the row of a start state, which has the start tag where the settings specialize start states
 abbrev pub start_row : Machine → Anchored → Option ℕ → Row
 start_row m mode behind = record {

@@ -1,13 +1,12 @@
 -- What contracts see of a cache, its starts and its transitions, and how one of these is written.
-use Rattle.std.specs.Prelude.{◌≡◌, ℕ, ◌<◌, ◌⊎◌, List, None, slice_index, slice_set, replicate}
-use Rattle.automata_base.specs.Powerset.{Powerset}
+use Rattle.std.specs.Prelude.{ℕ, ◌<◌, List, None, slice_index, slice_set, replicate}
 use Rattle.automata_hybrid.specs.declared.dfa.progress.Searched.{Searched}
 use Rattle.automata_hybrid.specs.declared.dfa.settings.Settings.{Settings}
 use Rattle.automata_config.specs.declared.error.StepError.{StepError}
 use Rattle.automata_config.specs.declared.error.StepError.TheVariants.{Cache, OutOfMemory}
-use Rattle.automata_hybrid.specs.Ids.{quit_id, unknown_id}
-use Rattle.automata_hybrid.specs.Machine.{Machine, next_of, template_of, table_stride, slot_count}
-use Rattle.automata_hybrid.specs.Table.{Rows, Leads, with_cell, cell_at, fresh}
+use Rattle.automata_hybrid.specs.Ids.{unknown_id}
+use Rattle.automata_hybrid.specs.Machine.{Machine, slot_count}
+use Rattle.automata_hybrid.specs.Table.{Rows, with_cell, cell_at, fresh}
 use Rattle.automata_config.specs.Options.{minimum_cache_clear_count_of, minimum_bytes_per_state_of}
 use Rattle.automata_base.specs.Accounting.{fixed_cost}
 
@@ -43,12 +42,6 @@ cell_of c id class = slice_index c.table.cells (cell_at id class)
 -- the transition is known
 abbrev pub IsKnownTransition : Stored → ℕ → ℕ → Type 0
 IsKnownTransition c id class = cell_of c id class < unknown_id
-
--- what a step from a state answers: quit at quit classes, and else what names the next state
-abbrev pub IsNext : Rows → Powerset → ℕ → ℕ → Type 0
-IsNext t q class id =
-    ((slice_index (template_of t.of) class ≡ quit_id (table_stride t.of)) × (id ≡ quit_id (table_stride t.of)))
-    ⊎ ((slice_index (template_of t.of) class ≡ unknown_id) × Leads t id (next_of t.of q class))
 
 -- with a transition written
 abbrev pub with_next : Stored → ℕ → ℕ → ℕ → Stored

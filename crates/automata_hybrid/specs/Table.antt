@@ -141,6 +141,15 @@ HasState t k q = (r : Row) × (slice_get t.rows k ≡ Some r) × (r.state ≡ q)
 abbrev pub cell_at : ℕ → ℕ → ℕ
 cell_at id class = id % offset_limit + class
 
+-- a state that may be added to a table
+pub record IsNewState (t : Rows) (q : Powerset) : Type 0 where
+  -- No row has it, and it isn't dead.
+  pub lacks : Lacks t q
+  -- It costs no more than a state may.
+  pub cheap : cost q ≤ greatest t.of
+  -- Its states, its looks and its patterns are the automaton's.
+  pub own : IsOwn t.of.nfa q
+
 -- each row has a cell for each class
 abbrev pub HasCells : Rows → Type 0
 HasCells t = (id class : ℕ) → IsValid t id → class < table_stride t.of → cell_at id class < length t.cells

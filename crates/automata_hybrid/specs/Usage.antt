@@ -7,7 +7,7 @@ use Rattle.automata_hybrid.specs.declared.dfa.settings.Settings.{Settings}
 use Rattle.automata_hybrid.specs.Ids.{offset_limit}
 use Rattle.automata_hybrid.specs.Machine.{greatest, table_stride, slot_count}
 use Rattle.automata_hybrid.specs.Table.{Rows, row_cost, Lacks}
-use Rattle.automata_hybrid.specs.Clears.{AllStarts, kept}
+use Rattle.automata_hybrid.specs.Clears.{AllStarts, KeepsAllStarts, kept}
 use Rattle.automata_hybrid.specs.Progressing.{saturated, total_len, progress_cleared}
 use Rattle.automata_hybrid.specs.Stores.{Stored, settings_of}
 use Rattle.automata_config.specs.Options.{minimum_cache_clear_count_of, minimum_bytes_per_state_of}
@@ -53,6 +53,15 @@ cleared c = record {
   clears = saturated (c.clears + 1);
   searched = progress_cleared c.searched;
 }
+
+-- what a clear makes of a cache
+pub record IsCleared (old new : Stored) : Type 0 where
+  -- The clear rule allows it.
+  pub allowed : refuses_to_clear old ≡ false
+  -- The start states stay, and the progress of searches begins anew.
+  pub value : new ≡ cleared old
+  -- Each slot is kept, and no other row.
+  pub kept : KeepsAllStarts old.table old.starts (record { table = new.table; starts = new.starts })
 
 -- the slots name their states, and the accounted bytes are within the capacity; these settings are those of the machine
 pub record IsCache (c : Stored) (settings : Settings) : Type 0 where

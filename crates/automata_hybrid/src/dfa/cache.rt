@@ -6,11 +6,11 @@ ghost use Rattle.automata_hybrid.specs.Owned.{IsOwn};
 ghost use Rattle.automata_hybrid.specs.Machine.{next_of, start_of, greatest, template_of, table_stride, slot_count};
 ghost use Rattle.automata_hybrid.specs.Ids.{dead_id, unknown_id, fixed_from, offset_limit};
 ghost use Rattle.automata_hybrid.specs.Table.{id_of, Names, IsValid, Leads, MayLead, IsCell, HasCells, HasItsMatchTag};
-ghost use Rattle.automata_hybrid.specs.Table.{HasRowIds, Has};
-ghost use Rattle.automata_hybrid.specs.Stores.{IsCacheError, KeepsStarts, cell_of, with_next, with_start};
+ghost use Rattle.automata_hybrid.specs.Table.{HasRowIds, IsNewState};
+ghost use Rattle.automata_hybrid.specs.Stores.{IsCacheError, cell_of, with_next, with_start};
 ghost use Rattle.automata_hybrid.specs.Stores.{with_searched};
-ghost use Rattle.automata_hybrid.specs.Usage.{Fits, refuses_to_clear, cleared, usage, GivesUp};
-ghost use Rattle.automata_hybrid.specs.Effects.{IsAdded, IsAddedStart, grown};
+ghost use Rattle.automata_hybrid.specs.Usage.{usage, GivesUp};
+ghost use Rattle.automata_hybrid.specs.Effects.{AddsNext, AddsStart};
 ghost use Rattle.automata_hybrid.specs.Caches.{IsRow, IsCacheOf, fresh_cache, counted, with_store};
 ghost use Rattle.automata_hybrid.specs.Growing.{IsGrown, KeepsProgress};
 ghost use Rattle.automata_hybrid.specs.Owing.{IsStoreOf};
@@ -142,11 +142,7 @@ impl Cache {
     /// Adds a state again that a clear took. A refusal changes nothing.
     pub(crate) fn add_again(&mut self, dfa: &DFA, state: State) -> Result<LazyStateID, StepError>
         requires dfa { IsCacheOf self.old dfa.now }
-        requires absent { id_of self.old.store.table state ≡ None }
-        requires alive { state ≡ dead → ⊥ }
-        requires cost { cost state ≤ greatest dfa.now }
-        requires of { IsOwn dfa.now.nfa state }
-        ensures of { IsCacheOf self.new dfa.now }
+        requires new { IsNewState self.old.store.table state }
         ensures named { IfOk result (λ id. Names self.new.store.table id state) }
         ensures counted { self.new.count ≡ self.old.count }
         ensures grown { IsGrown self.old (counted self.new) }
@@ -216,22 +212,10 @@ impl Cache {
     ) -> Result<(LazyStateID, LazyStateID), StepError>
         requires dfa { IsCacheOf self.old dfa.now }
         requires valid { IsValid self.old.store.table from }
-        requires absent { id_of self.old.store.table state ≡ None }
-        requires alive { state ≡ dead → ⊥ }
-        requires cost { cost state ≤ greatest dfa.now }
-        requires of { IsOwn dfa.now.nfa state }
-        ensures effect { OnOk result (IsAdded self.old.store from (record { state = state; started = false })
-            self.new.store) }
-        ensures only { OnOk result ((p : Powerset) → Has self.new.store.table p
-            → Has self.old.store.table p ⊎ (p ≡ state)) }
-        ensures starts { OnOk result (KeepsStarts self.old.store.starts self.new.store.starts) }
-        ensures from { IfOk result (λ p. (q : Powerset) → Names self.old.store.table from q
-            → Names self.new.store.table p.0 q) }
-        ensures to { IfOk result (λ p. Names self.new.store.table p.1 state) }
-        ensures of { IsCacheOf self.new dfa.now }
+        requires new { IsNewState self.old.store.table state }
+        ensures answer { IfOk result (λ p. AddsNext self.old.store self.new.store from state p.0 p.1) }
         ensures counted { self.new.count ≡ self.old.count }
-        ensures gives_up { IfErr result (λ e. IsCacheError e
-            → (Fits self.old.store (cost state) → ⊥) × (refuses_to_clear self.old.store ≡ true)) }
+        ensures gives_up { IfErr result (λ e. IsCacheError e → GivesUp self.old.store state) }
         ensures err { OnErr result (self.new ≡ self.old) }
     {
         let added = self.store.add_next(dfa, from, state)?;
@@ -285,26 +269,11 @@ impl Cache {
         started: bool,
     ) -> Result<LazyStateID, StepError>
         requires dfa { IsCacheOf self.old dfa.now }
-        requires absent { id_of self.old.store.table state ≡ None }
-        requires alive { state ≡ dead → ⊥ }
-        requires cost { cost state ≤ greatest dfa.now }
-        requires of { IsOwn dfa.now.nfa state }
-        ensures fits { Fits self.old.store (cost state) → OnOk result
-            (self.new ≡ with_store self.old (grown self.old.store (record { state = state; started = started }))) }
-        ensures clears { (Fits self.old.store (cost state) → ⊥)
-            → OnOk result (self.new ≡ with_store self.old
-            (grown (cleared self.old.store) (record { state = state; started = started }))) }
-        ensures effect { OnOk result (IsAddedStart self.old.store (record { state = state; started = started })
-            self.new.store) }
-        ensures named { IfOk result (λ id. Names self.new.store.table id state) }
-        ensures slots { OnOk result (length self.new.store.starts ≡ length self.old.store.starts) }
-        ensures only { OnOk result ((p : Powerset) → Has self.new.store.table p
-            → Has self.old.store.table p ⊎ (p ≡ state)) }
-        ensures starts { OnOk result (KeepsStarts self.old.store.starts self.new.store.starts) }
-        ensures of { IsCacheOf self.new dfa.now }
+        requires new { IsNewState self.old.store.table state }
+        ensures answer { IfOk result (AddsStart self.old.store self.new.store
+            (record { state = state; started = started })) }
         ensures counted { self.new.count ≡ self.old.count }
-        ensures gives_up { IfErr result (λ e. IsCacheError e
-            → (Fits self.old.store (cost state) → ⊥) × (refuses_to_clear self.old.store ≡ true)) }
+        ensures gives_up { IfErr result (λ e. IsCacheError e → GivesUp self.old.store state) }
         ensures err { OnErr result (self.new ≡ self.old) }
     {
         let id = self.store.add_start(dfa, state, started)?;

@@ -13,6 +13,7 @@ ghost use Rattle.automata_hybrid.specs.Caches.{fresh_cache};
 ghost use Rattle.automata_hybrid.specs.Builds.{built};
 ghost use Rattle.automata_hybrid.specs.Stores.{fresh_store, settings_of};
 ghost use Rattle.automata_config.specs.Options.{starts_for_each_pattern_of};
+ghost use Rattle.automata_hybrid.specs.Stepping.{quits_on, unit_class};
 
 pub mod builder;
 pub mod cache;
@@ -207,6 +208,24 @@ impl DFA {
             → successor self.now.nfa (match_kind_of self.now.config) q None ≡ next_of self.now q result }
     {
         self.classes.eoi()
+    }
+
+    /// The class of a byte or of the end.
+    #[inline(always)]
+    pub(crate) fn unit_class(&self, unit: Option<u8>) -> usize
+        ensures value { result ≡ unit_class self.now unit }
+        ensures below { result < table_stride self.now }
+        ensures small { table_stride self.now ≤ 512 }
+        ensures quit { quits_on self.now unit ≡ true
+            → slice_index (template_of self.now) result ≡ quit_id (table_stride self.now) }
+        ensures free { quits_on self.now unit ≡ false → slice_index (template_of self.now) result ≡ unknown_id }
+        ensures alike { (q : Powerset) → IsOwn self.now.nfa q
+            → successor self.now.nfa (match_kind_of self.now.config) q unit ≡ next_of self.now q result }
+    {
+        match unit {
+            Some(byte) => self.class_of(byte),
+            None => self.end_class(),
+        }
     }
 
     /// Each byte and the end have a class of their own row.

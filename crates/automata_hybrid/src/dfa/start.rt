@@ -1,22 +1,15 @@
-ghost use Rattle.std.specs.Prelude.{◌≡◌, ◌+◌, ◌-◌, ◌*◌, ◌<◌, ◌≤◌, None, Some, IfOk, IfErr, IfSome, IfNone, ◌↔◌, OnOk};
-ghost use Rattle.std.specs.Prelude.{OnErr, length, slice_index, Ok, Err, false, Option, ◌⊎◌};
+ghost use Rattle.std.specs.Prelude.{◌≡◌, ◌+◌, ◌-◌, ◌*◌, ◌<◌, ◌≤◌, IfOk, IfErr, IfSome, IfNone, ◌↔◌, Err, false};
 ghost use Rattle.automata_base.specs.Alike.{behind_of};
-ghost use Rattle.automata_base.specs.Powerset.{Powerset, cost, dead};
+ghost use Rattle.automata_base.specs.Powerset.{dead};
 ghost use Rattle.automata_base.specs.Classes.{is_quit};
 ghost use Rattle.automata_base.specs.Steps.{start_state_of};
-ghost use Rattle.automata_hybrid.specs.Machine.{start_of, greatest, slot_count};
+ghost use Rattle.automata_hybrid.specs.Machine.{slot_count};
 ghost use Rattle.automata_base.specs.Tapes.{byte_before};
 ghost use Rattle.automata_base.specs.Lists.{nth};
-ghost use Rattle.automata_hybrid.specs.Starting.{quit_behind, start_refusal, search_refusal, MayStart, IsStartAnswer};
-ghost use Rattle.automata_hybrid.specs.Starting.{IsStartRefused, IsStartRefusedAt, IsStartEffect, start_row};
-ghost use Rattle.automata_hybrid.specs.Slots.{supports, slot_of, slot_behind};
-ghost use Rattle.automata_hybrid.specs.Table.{Leads, Has, HasItsMatchTag, KeepsStartTags, TagsNewStates};
-ghost use Rattle.automata_hybrid.specs.Stores.{IsCacheError, IsKnownStart, KeepsStarts};
-ghost use Rattle.automata_hybrid.specs.Usage.{GivesUp};
-ghost use Rattle.automata_hybrid.specs.Effects.{IsStarted};
-ghost use Rattle.automata_hybrid.specs.Growing.{IsGrown, KeepsProgress};
-ghost use Rattle.automata_hybrid.specs.Caches.{IsCacheOf, counted};
-ghost use Rattle.automata_config.specs.Options.{specialize_start_states_of};
+ghost use Rattle.automata_hybrid.specs.Starting.{quit_behind, start_refusal, search_refusal, KnowsStart, IsStartSlot};
+ghost use Rattle.automata_hybrid.specs.Starting.{IsStartAnswer, IsStartRefused, IsStartRefusedAt, IsStartEffect};
+ghost use Rattle.automata_hybrid.specs.Slots.{supports, slot_of};
+ghost use Rattle.automata_hybrid.specs.Caches.{IsCacheOf};
 
 use crate::dfa::DFA;
 use crate::dfa::cache::{Cache, Found};
@@ -26,52 +19,31 @@ use automata_base::util::start;
 use automata_config::error::{SearchError, StartError, StepError};
 
 impl Cache {
-    /// The start state of a slot. A known one takes no memory.
+    /// The start state of a mode's slot. A known one takes no memory.
     #[inline(always)]
-    pub(crate) fn start(
+    fn start(
         &mut self,
         dfa: &DFA,
         slot: usize,
         mode: Anchored,
         prev: Option<u8>,
-    ) -> Result<LazyStateID, StepError>
+    ) -> Result<LazyStateID, StartError>
         requires of { IsCacheOf self.old dfa.now }
-        requires slot { slot < length self.old.store.starts }
-        requires same { start_state_of dfa.now.nfa mode prev ≡ start_of dfa.now slot }
+        requires slot { IsStartSlot dfa.now mode prev slot }
         ensures of { IsCacheOf self.new dfa.now }
-        ensures known { IsKnownStart self.old.store slot → result ≡ Ok (slice_index self.old.store.starts slot) }
-        ensures unchanged { IsKnownStart self.old.store slot → self.new ≡ self.old }
-        ensures named { IfOk result (λ n. Leads self.new.store.table n (start_state_of dfa.now.nfa mode prev)) }
-        ensures tag { IfOk result (HasItsMatchTag self.new.store.table) }
-        ensures counted { self.new.count ≤ self.old.count + 1 }
-        ensures starts { KeepsStarts self.old.store.starts self.new.store.starts }
-        ensures start_tags { KeepsStartTags self.old.store.table self.new.store.table }
-        ensures added { TagsNewStates self.old.store.table self.new.store.table
-            (specialize_start_states_of dfa.now.config) }
-        ensures found { OnOk result (IsKnownStart self.new.store slot) }
-        ensures written { IfOk result (λ n. slice_index self.new.store.starts slot ≡ n) }
-        ensures effect { (IsKnownStart self.old.store slot → ⊥) → IfOk result (λ n. IsStarted self.old.store slot
-            (start_row dfa.now mode prev) self.new.store n) }
-        ensures gives_up { IfErr result (λ e. IsCacheError e
-            → GivesUp self.old.store (start_state_of dfa.now.nfa mode prev)) }
-        ensures err { OnErr result (self.new ≡ counted self.old) }
-        ensures only { (p : Powerset) → Has self.new.store.table p → Has self.old.store.table p
-            ⊎ (p ≡ start_state_of dfa.now.nfa mode prev) }
-        ensures computed { (IsKnownStart self.old.store slot → ⊥) → self.new.count ≡ self.old.count + 1 }
-        ensures refused { (IsKnownStart self.old.store slot → ⊥)
-            → GivesUp self.old.store (start_state_of dfa.now.nfa mode prev) → OnOk result ⊥ }
-        ensures grown { IsGrown self.old self.new }
-        ensures progress { KeepsProgress self.old.store self.new.store }
+        ensures answer { IfOk result (IsStartAnswer dfa.now mode prev self.old self.new) }
+        ensures refusal { IfErr result (IsStartRefused dfa.now mode prev self.old self.new) }
+        ensures effect { IsStartEffect dfa.now mode prev self.old self.new }
     {
-        self.see_cells();
-        self.see_ids();
+        self.see_slots();
         let found = self.start_slot(slot);
         if !found.is_unknown() {
             return Ok(found);
         }
-        let id = self.compute_start(dfa, slot, mode, prev)?;
-        self.see_ids();
-        Ok(id)
+        match self.compute_start(dfa, slot, mode, prev) {
+            Ok(id) => Ok(id),
+            Err(error) => Err(start_refusal(error)),
+        }
     }
 
     /// Computes a start that isn't known.
@@ -84,32 +56,27 @@ impl Cache {
         prev: Option<u8>,
     ) -> Result<LazyStateID, StepError>
         requires of { IsCacheOf self.old dfa.now }
-        requires slot { slot < length self.old.store.starts }
-        requires same { start_state_of dfa.now.nfa mode prev ≡ start_of dfa.now slot }
+        requires slot { IsStartSlot dfa.now mode prev slot }
+        requires unknown { KnowsStart dfa.now self.old.store mode prev → ⊥ }
         ensures of { IsCacheOf self.new dfa.now }
-        ensures named { IfOk result (λ n. Leads self.new.store.table n (start_state_of dfa.now.nfa mode prev)) }
-        ensures counted { self.new.count ≡ self.old.count + 1 }
-        ensures starts { OnOk result (KeepsStarts self.old.store.starts self.new.store.starts) }
-        ensures found { OnOk result (IsKnownStart self.new.store slot) }
-        ensures written { IfOk result (λ n. slice_index self.new.store.starts slot ≡ n) }
-        ensures effect { IfOk result (λ n. IsStarted self.old.store slot
-            (start_row dfa.now mode prev) self.new.store n) }
-        ensures only { OnOk result ((p : Powerset) → Has self.new.store.table p → Has self.old.store.table p
-            ⊎ (p ≡ start_state_of dfa.now.nfa mode prev)) }
-        ensures cheap { OnOk result (cost (start_state_of dfa.now.nfa mode prev) ≤ greatest dfa.now) }
-        ensures gives_up { IfErr result (λ e. IsCacheError e
-            → GivesUp self.old.store (start_state_of dfa.now.nfa mode prev)) }
-        ensures err { OnErr result (self.new ≡ counted self.old) }
+        ensures answer { IfOk result (IsStartAnswer dfa.now mode prev self.old self.new) }
+        ensures refusal { IfErr result (λ e. IsStartRefused dfa.now mode prev self.old self.new (start_refusal e)) }
+        ensures effect { IsStartEffect dfa.now mode prev self.old self.new }
     {
+        self.see_cells();
+        self.see_slots();
+        self.see_ids();
         let key = self.determinise_start(dfa, mode, prev)?;
         match self.resolve(dfa, key)? {
             Found::Known(id) => {
                 self.set_start(slot, id);
+                self.see_ids();
                 Ok(id)
             }
             Found::New(state) => {
                 let id = self.add_start(dfa, state, dfa.specializes())?;
                 self.set_start(slot, id);
+                self.see_ids();
                 Ok(id)
             }
         }
@@ -156,8 +123,6 @@ impl DFA {
     #[inline(always)]
     fn mode_slot(&self, mode: Anchored, prev: Option<u8>) -> Result<Option<usize>, StartError>
         ensures within { IfOk result (λ o. IfSome o (λ slot. slot < slot_count self.now)) }
-        ensures same { IfOk result (λ o. IfSome o
-            (λ slot. start_state_of self.now.nfa mode prev ≡ start_of self.now slot)) }
         ensures past { IfOk result (λ o. IfNone o (start_state_of self.now.nfa mode prev ≡ dead)) }
         ensures slot { IfOk result (λ o. IfSome o
             (λ slot. slot ≡ slot_of mode (behind_of self.now.nfa.flags.line_terminator prev))) }
@@ -239,41 +204,7 @@ impl DFA {
         cache.see_ids();
         match self.mode_slot(config.get_anchored(), config.get_look_behind())? {
             None => Ok(cache.dead()),
-            Some(slot) => self.start_at(
-                cache,
-                slot,
-                config.get_anchored(),
-                config.get_look_behind(),
-            ),
-        }
-    }
-
-    /// The start state of a mode's slot.
-    #[inline(always)]
-    fn start_at(
-        &self,
-        cache: &mut Cache,
-        slot: usize,
-        mode: Anchored,
-        prev: Option<u8>,
-    ) -> Result<LazyStateID, StartError>
-        requires of { IsCacheOf cache.old self.now }
-        requires may { MayStart self.now mode prev }
-        requires slot { slot < slot_count self.now }
-        requires at { slot ≡ slot_behind self.now mode prev }
-        requires same { start_state_of self.now.nfa mode prev ≡ start_of self.now slot }
-        ensures of { IsCacheOf cache.new self.now }
-        ensures answer { IfOk result (IsStartAnswer self.now mode prev cache.old cache.new) }
-        ensures refusal { IfErr result (IsStartRefused self.now mode prev cache.old cache.new) }
-        ensures effect { IsStartEffect self.now mode prev cache.old cache.new }
-    {
-        cache.see_slots();
-        match cache.start(self, slot, mode, prev) {
-            Ok(id) => {
-                cache.see_slots();
-                Ok(id)
-            }
-            Err(error) => Err(start_refusal(error)),
+            Some(slot) => cache.start(self, slot, config.get_anchored(), config.get_look_behind()),
         }
     }
 

@@ -1,19 +1,14 @@
-ghost use Rattle.std.specs.Prelude.{◌≡◌, ◌+◌, ◌<◌, ◌≤◌, None, Some, IfOk, IfErr, IsBitSet, OnOk, OnErr, length};
-ghost use Rattle.std.specs.Prelude.{slice_index, Ok, true, false, ◌⊎◌};
-ghost use Rattle.automata_base.specs.Powerset.{Powerset, cost};
+ghost use Rattle.std.specs.Prelude.{◌≡◌, ◌<◌, None, Some, IfOk, IfErr, IsBitSet, length};
+ghost use Rattle.std.specs.Prelude.{slice_index, true, false};
+ghost use Rattle.automata_base.specs.Powerset.{Powerset};
 ghost use Rattle.automata_base.specs.Steps.{successor};
-ghost use Rattle.automata_hybrid.specs.Owned.{IsOwn};
-ghost use Rattle.automata_hybrid.specs.Machine.{next_of, template_of, greatest, table_stride};
-ghost use Rattle.automata_hybrid.specs.Table.{Names, IsValid, Leads, Has, HasItsMatchTag, KeepsStartTags};
-ghost use Rattle.automata_hybrid.specs.Table.{TagsNewStates};
-ghost use Rattle.automata_hybrid.specs.Stores.{IsCacheError, IsKnownTransition, cell_of, IsNext, KeepsStarts};
-ghost use Rattle.automata_hybrid.specs.Usage.{GivesUp};
-ghost use Rattle.automata_hybrid.specs.Effects.{IsComputed};
-ghost use Rattle.automata_hybrid.specs.Growing.{IsGrown, ClearedNothing, KeepsProgress};
-ghost use Rattle.automata_hybrid.specs.Caches.{IsCacheOf, HasRow, counted};
+ghost use Rattle.automata_hybrid.specs.Machine.{table_stride};
+ghost use Rattle.automata_hybrid.specs.Table.{Names, IsValid, Leads, HasItsMatchTag};
+ghost use Rattle.automata_hybrid.specs.Stores.{cell_of};
+ghost use Rattle.automata_hybrid.specs.Caches.{IsCacheOf, HasRow};
 ghost use Rattle.automata_hybrid.specs.Ids.{quit_id, unknown_id, offset_limit};
 ghost use Rattle.automata_base.specs.Classes.{class_in, is_quit};
-ghost use Rattle.automata_hybrid.specs.Stepping.{IsStepAnswer, IsStepRefused, IsStepEffect};
+ghost use Rattle.automata_hybrid.specs.Stepping.{IsStepAnswer, IsStepRefused, IsStepEffect, KnowsStep, quits_on};
 ghost use Rattle.automata_config.specs.Options.{match_kind_of};
 
 use crate::dfa::DFA;
@@ -23,59 +18,32 @@ use automata_base::util::primitives::PatternID;
 use automata_config::error::StepError;
 
 impl Cache {
-    /// The state after a unit of this class, by its ID. A known transition takes no memory.
-    pub(crate) fn next(
+    /// The state after a unit, by its ID. Dead leads to dead, and quit to quit. A known transition takes no memory.
+    #[inline(always)]
+    fn next(
         &mut self,
         dfa: &DFA,
         id: LazyStateID,
-        class: usize,
         unit: Option<u8>,
     ) -> Result<LazyStateID, StepError>
         requires of { IsCacheOf self.old dfa.now }
-        requires valid { IsValid self.old.store.table id }
-        requires class { class < table_stride dfa.now }
-        requires alike { (q : Powerset) → IsOwn dfa.now.nfa q
-            → successor dfa.now.nfa (match_kind_of dfa.now.config) q unit ≡ next_of dfa.now q class }
+        requires row { HasRow self.old.store.table id }
         ensures of { IsCacheOf self.new dfa.now }
-        ensures known { IsKnownTransition self.old.store id class → result ≡ Ok (cell_of self.old.store id class) }
-        ensures unchanged { IsKnownTransition self.old.store id class → self.new ≡ self.old }
-        ensures quit { slice_index (template_of dfa.now) class ≡ quit_id (table_stride dfa.now)
-            → (result ≡ Ok (quit_id (table_stride dfa.now))) × (self.new ≡ self.old) }
-        ensures named { IfOk result (λ n. (q : Powerset) → Names self.old.store.table id q
-            → IsNext self.new.store.table q class n) }
-        ensures tag { IfOk result (HasItsMatchTag self.new.store.table) }
-        ensures effect { (IsKnownTransition self.old.store id class → ⊥) → IfOk result (λ n. (q : Powerset)
-            → Names self.old.store.table id q
-            → IsComputed self.old.store id class q (successor dfa.now.nfa (match_kind_of dfa.now.config) q unit)
-            self.new.store n) }
-        ensures counted { (IsKnownTransition self.old.store id class → ⊥) → self.new.count ≡ self.old.count + 1 }
-        ensures starts { KeepsStarts self.old.store.starts self.new.store.starts }
-        ensures start_tags { KeepsStartTags self.old.store.table self.new.store.table }
-        ensures added { TagsNewStates self.old.store.table self.new.store.table false }
-        ensures gives_up { IfErr result (λ e. IsCacheError e → (q : Powerset) → Names self.old.store.table id q
-            → GivesUp self.old.store (successor dfa.now.nfa (match_kind_of dfa.now.config) q unit)) }
-        ensures err { OnErr result (self.new ≡ counted self.old) }
-        ensures learned { ClearedNothing self.old.store self.new.store → IfOk result
-            (λ n. IsKnownTransition self.new.store id class) }
-        ensures written { ClearedNothing self.old.store self.new.store → IfOk result
-            (λ n. cell_of self.new.store id class ≡ n) }
-        ensures only { (q : Powerset) → Names self.old.store.table id q → (p : Powerset) → Has self.new.store.table p
-            → Has self.old.store.table p ⊎ (p ≡ successor dfa.now.nfa (match_kind_of dfa.now.config) q unit) }
-        ensures refused { (IsKnownTransition self.old.store id class → ⊥) → (q : Powerset)
-            → Names self.old.store.table id q
-            → GivesUp self.old.store (successor dfa.now.nfa (match_kind_of dfa.now.config) q unit)
-            → OnOk result ⊥ }
-        ensures grown { IsGrown self.old self.new }
-        ensures progress { KeepsProgress self.old.store self.new.store }
+        ensures answer { IfOk result (IsStepAnswer dfa.now id unit self.old self.new) }
+        ensures refusal { IfErr result (IsStepRefused dfa.now id unit self.old self.new) }
+        ensures effect { IsStepEffect dfa.now id unit self.old self.new }
     {
-        self.see_cells();
         self.see_ids();
+        if id.is_fixed() {
+            return Ok(id);
+        }
+        self.see_state(id);
+        let class = dfa.unit_class(unit);
         let cell = self.cell(id, class);
         if !cell.is_unknown() {
             return Ok(cell);
         }
-        let next = self.compute_next(dfa, id, class, unit)?;
-        self.see_ids();
+        let next = self.compute_next(dfa, id, unit)?;
         Ok(next)
     }
 
@@ -85,41 +53,31 @@ impl Cache {
         &mut self,
         dfa: &DFA,
         id: LazyStateID,
-        class: usize,
         unit: Option<u8>,
     ) -> Result<LazyStateID, StepError>
         requires of { IsCacheOf self.old dfa.now }
         requires valid { IsValid self.old.store.table id }
-        requires class { class < table_stride dfa.now }
-        requires free { slice_index (template_of dfa.now) class ≡ unknown_id }
-        requires alike { (q : Powerset) → IsOwn dfa.now.nfa q
-            → successor dfa.now.nfa (match_kind_of dfa.now.config) q unit ≡ next_of dfa.now q class }
+        requires clean { quits_on dfa.now unit ≡ false }
+        requires unknown { KnowsStep dfa.now self.old.store id unit → ⊥ }
         ensures of { IsCacheOf self.new dfa.now }
-        ensures named { IfOk result (λ n. (q : Powerset) → Names self.old.store.table id q
-            → Leads self.new.store.table n (next_of dfa.now q class)) }
-        ensures effect { IfOk result (λ n. (q : Powerset) → Names self.old.store.table id q
-            → IsComputed self.old.store id class q (successor dfa.now.nfa (match_kind_of dfa.now.config) q unit)
-            self.new.store n) }
-        ensures only { OnOk result ((q : Powerset) → Names self.old.store.table id q → (p : Powerset)
-            → Has self.new.store.table p → Has self.old.store.table p
-            ⊎ (p ≡ successor dfa.now.nfa (match_kind_of dfa.now.config) q unit)) }
-        ensures cheap { OnOk result ((q : Powerset) → Names self.old.store.table id q
-            → cost (successor dfa.now.nfa (match_kind_of dfa.now.config) q unit) ≤ greatest dfa.now) }
-        ensures counted { self.new.count ≡ self.old.count + 1 }
-        ensures starts { OnOk result (KeepsStarts self.old.store.starts self.new.store.starts) }
-        ensures gives_up { IfErr result (λ e. IsCacheError e → (q : Powerset) → Names self.old.store.table id q
-            → GivesUp self.old.store (successor dfa.now.nfa (match_kind_of dfa.now.config) q unit)) }
-        ensures err { OnErr result (self.new ≡ counted self.old) }
+        ensures answer { IfOk result (IsStepAnswer dfa.now id unit self.old self.new) }
+        ensures refusal { IfErr result (IsStepRefused dfa.now id unit self.old self.new) }
+        ensures effect { IsStepEffect dfa.now id unit self.old self.new }
     {
+        self.see_cells();
+        self.see_ids();
+        let class = dfa.unit_class(unit);
         let key = self.determinise(dfa, id, class, unit)?;
         match self.resolve(dfa, key)? {
             Found::Known(to) => {
                 self.set_next(id, class, to);
+                self.see_ids();
                 Ok(to)
             }
             Found::New(state) => {
                 let (from, to) = self.add_next(dfa, id, state)?;
                 self.set_next(from, class, to);
+                self.see_ids();
                 Ok(to)
             }
         }
@@ -143,14 +101,7 @@ impl DFA {
         ensures refusal { IfErr result (IsStepRefused self.now id (Some byte) cache.old cache.new) }
         ensures effect { IsStepEffect self.now id (Some byte) cache.old cache.new }
     {
-        cache.see_ids();
-        if id.is_fixed() {
-            return Ok(id);
-        }
-        cache.see_state(id);
-        let class = self.class_of(byte);
-        let next = cache.next(self, id, class, Some(byte))?;
-        Ok(next)
+        cache.next(self, id, Some(byte))
     }
 
     /// The state after the haystack's end, by its ID. Dead leads to dead, and quit to quit. A known transition takes no
@@ -167,14 +118,7 @@ impl DFA {
         ensures refusal { IfErr result (IsStepRefused self.now id None cache.old cache.new) }
         ensures effect { IsStepEffect self.now id None cache.old cache.new }
     {
-        cache.see_ids();
-        if id.is_fixed() {
-            return Ok(id);
-        }
-        cache.see_state(id);
-        let class = self.end_class();
-        let next = cache.next(self, id, class, None)?;
-        Ok(next)
+        cache.next(self, id, None)
     }
 
     /// The state after a byte as far as the cache knows it, and else an unknown ID. It takes no memory.

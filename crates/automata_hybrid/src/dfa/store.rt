@@ -5,12 +5,13 @@ ghost use Rattle.automata_base.specs.Accounting.{minimum_capacity};
 ghost use Rattle.automata_hybrid.specs.Owned.{IsOwn};
 ghost use Rattle.automata_hybrid.specs.Ids.{dead_id, unknown_id, fixed_from, offset_limit};
 ghost use Rattle.automata_hybrid.specs.Machine.{next_of, start_of, greatest, template_of, IsTemplate, table_stride};
-ghost use Rattle.automata_hybrid.specs.Table.{id_of, Names, IsValid, Leads, MayLead, IsCell, HasCells, HasRowIds, Has};
+ghost use Rattle.automata_hybrid.specs.Table.{id_of, Names, IsValid, Leads, MayLead, IsCell, HasCells, HasRowIds};
+ghost use Rattle.automata_hybrid.specs.Table.{IsNewState};
 ghost use Rattle.automata_hybrid.specs.Clears.{row_of};
 ghost use Rattle.automata_hybrid.specs.Stores.{with_table, IsCacheError, cell_of, with_next, fresh_store, settings_of};
-ghost use Rattle.automata_hybrid.specs.Stores.{with_start, KeepsStarts};
-ghost use Rattle.automata_hybrid.specs.Usage.{usage, Fits, refuses_to_clear, cleared};
-ghost use Rattle.automata_hybrid.specs.Effects.{grown, put_found, cleared_saving, IsAdded, IsAddedStart};
+ghost use Rattle.automata_hybrid.specs.Stores.{with_start};
+ghost use Rattle.automata_hybrid.specs.Usage.{usage, Fits, GivesUp, IsCleared, refuses_to_clear};
+ghost use Rattle.automata_hybrid.specs.Effects.{grown, put_found, AddsNext, AddsStart};
 ghost use Rattle.automata_hybrid.specs.Caches.{IsRow};
 ghost use Rattle.automata_hybrid.specs.Progressing.{started, updated, finished, total_len};
 ghost use Rattle.automata_hybrid.specs.Machine.{slot_count};
@@ -242,15 +243,8 @@ impl Store {
     /// What a clear makes of the cache, unless the clear rule refuses one. It changes nothing here.
     pub fn cleared(&self, dfa: &DFA) -> Result<Store, StepError>
         requires { dfa.now ≡ self.now.table.of }
-        ensures value { IfOk result (λ c. c ≡ cleared self.now) }
-        ensures few { IfOk result (λ c. length c.table.rows ≤ length c.starts) }
-        ensures slots { IfOk result (λ c. length c.starts ≡ length self.now.starts) }
-        ensures starts { IfOk result (λ c. KeepsStarts self.now.starts c.starts) }
-        ensures absent { IfOk result (λ c. (q : Powerset) → id_of self.now.table q ≡ None → id_of c.table q ≡ None) }
-        ensures of { IfOk result (λ c. c.table.of ≡ self.now.table.of) }
-        ensures allowed { OnOk result (refuses_to_clear self.now ≡ false) }
+        ensures cleared { IfOk result (IsCleared self.now) }
         ensures gives_up { IfErr result (λ e. IsCacheError e → refuses_to_clear self.now ≡ true) }
-        ensures refused { refuses_to_clear self.now ≡ true → IfErr result IsCacheError }
     {
         if self.refuses() {
             return Err(StepError::Cache(CacheError));
@@ -351,10 +345,7 @@ impl Store {
 
     /// Adds a row for a state that fits.
     pub fn add_row(&mut self, state: State, started: bool) -> Result<LazyStateID, AllocError>
-        requires absent { id_of self.old.table state ≡ None }
-        requires alive { state ≡ dead → ⊥ }
-        requires cost { cost state ≤ greatest self.old.table.of }
-        requires of { IsOwn self.old.table.of.nfa state }
+        requires new { IsNewState self.old.table state }
         requires fits { Fits self.old (cost state) }
         ensures ok { OnOk result (self.new ≡ grown self.old (record { state = state; started = started })) }
         ensures named { IfOk result (λ id. Names self.new.table id state) }
@@ -393,10 +384,7 @@ impl Store {
         started: bool,
     ) -> Result<LazyStateID, AllocError>
         requires few { length fresh.table.rows ≤ length fresh.starts + 1 }
-        requires absent { id_of fresh.table state ≡ None }
-        requires alive { state ≡ dead → ⊥ }
-        requires cost { cost state ≤ greatest fresh.table.of }
-        requires of { IsOwn fresh.table.of.nfa state }
+        requires new { IsNewState fresh.table state }
         ensures ok { OnOk result (self.new ≡ grown fresh (record { state = state; started = started })) }
         ensures named { IfOk result (λ id. Names self.new.table id state) }
         ensures kept { OnOk result ((id : ℕ) (q : Powerset) → Names fresh.table id q → Names self.new.table id q) }
@@ -419,24 +407,9 @@ impl Store {
     ) -> Result<(LazyStateID, LazyStateID), StepError>
         requires dfa { dfa.now ≡ self.old.table.of }
         requires valid { IsValid self.old.table from }
-        requires absent { id_of self.old.table state ≡ None }
-        requires alive { state ≡ dead → ⊥ }
-        requires cost { cost state ≤ greatest self.old.table.of }
-        requires of { IsOwn self.old.table.of.nfa state }
-        ensures fits { Fits self.old (cost state) → OnOk result
-            (self.new ≡ grown self.old (record { state = state; started = false })) }
-        ensures clears { (Fits self.old (cost state) → ⊥) → OnOk result
-            (self.new ≡ grown (cleared_saving self.old from) (record { state = state; started = false })) }
-        ensures effect { OnOk result (IsAdded self.old from (record { state = state; started = false }) self.new) }
-        ensures only { OnOk result ((p : Powerset) → Has self.new.table p → Has self.old.table p ⊎ (p ≡ state)) }
-        ensures starts { OnOk result (KeepsStarts self.old.starts self.new.starts) }
-        ensures from { IfOk result (λ p. (q : Powerset) → Names self.old.table from q → Names self.new.table p.0 q) }
-        ensures to { IfOk result (λ p. Names self.new.table p.1 state) }
-        ensures of { OnOk result (self.new.table.of ≡ self.old.table.of) }
-        ensures gives_up { IfErr result (λ e. IsCacheError e
-            → (Fits self.old (cost state) → ⊥) × (refuses_to_clear self.old ≡ true)) }
-        ensures refused { (Fits self.old (cost state) → ⊥) → refuses_to_clear self.old ≡ true
-            → IfErr result IsCacheError × (is_ok result ≡ false) }
+        requires new { IsNewState self.old.table state }
+        ensures answer { IfOk result (λ p. AddsNext self.old self.new from state p.0 p.1) }
+        ensures gives_up { IfErr result (λ e. IsCacheError e → GivesUp self.old state) }
         ensures err { OnErr result (self.new ≡ self.old) }
     {
         self.see_costs();
@@ -458,22 +431,9 @@ impl Store {
         started: bool,
     ) -> Result<LazyStateID, StepError>
         requires dfa { dfa.now ≡ self.old.table.of }
-        requires absent { id_of self.old.table state ≡ None }
-        requires alive { state ≡ dead → ⊥ }
-        requires cost { cost state ≤ greatest self.old.table.of }
-        requires of { IsOwn self.old.table.of.nfa state }
-        ensures fits { Fits self.old (cost state) → OnOk result
-            (self.new ≡ grown self.old (record { state = state; started = started })) }
-        ensures clears { (Fits self.old (cost state) → ⊥) → OnOk result
-            (self.new ≡ grown (cleared self.old) (record { state = state; started = started })) }
-        ensures effect { OnOk result (IsAddedStart self.old (record { state = state; started = started }) self.new) }
-        ensures named { IfOk result (λ id. Names self.new.table id state) }
-        ensures slots { OnOk result (length self.new.starts ≡ length self.old.starts) }
-        ensures of { OnOk result (self.new.table.of ≡ self.old.table.of) }
-        ensures only { OnOk result ((p : Powerset) → Has self.new.table p → Has self.old.table p ⊎ (p ≡ state)) }
-        ensures starts { OnOk result (KeepsStarts self.old.starts self.new.starts) }
-        ensures gives_up { IfErr result (λ e. IsCacheError e
-            → (Fits self.old (cost state) → ⊥) × (refuses_to_clear self.old ≡ true)) }
+        requires new { IsNewState self.old.table state }
+        ensures answer { IfOk result (AddsStart self.old self.new (record { state = state; started = started })) }
+        ensures gives_up { IfErr result (λ e. IsCacheError e → GivesUp self.old state) }
         ensures err { OnErr result (self.new ≡ self.old) }
     {
         self.see_costs();

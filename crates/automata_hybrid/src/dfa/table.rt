@@ -8,6 +8,7 @@ ghost use Rattle.automata_hybrid.specs.Owned.{IsOwn};
 ghost use Rattle.automata_hybrid.specs.Ids.{unknown_id, fixed_from, offset_limit};
 ghost use Rattle.automata_hybrid.specs.Machine.{next_of, greatest, template_of, IsTemplate, marked, table_stride};
 ghost use Rattle.automata_hybrid.specs.Table.{id_of, with_row, fresh, Names, Leads, row_cost, IsValid, HasState};
+ghost use Rattle.automata_hybrid.specs.Table.{IsNewState};
 ghost use Rattle.automata_hybrid.specs.Table.{IsCell, cell_at, with_cell, HasCells, HasRowIds};
 ghost use Rattle.automata_hybrid.specs.Clears.{AllStarts};
 
@@ -132,10 +133,7 @@ impl Table {
 
     /// Adds a row for a state that the table lacks. A refusal changes nothing.
     pub fn add(&mut self, state: State, started: bool) -> Result<LazyStateID, AllocError>
-        requires absent { id_of self.old state ≡ None }
-        requires alive { state ≡ dead → ⊥ }
-        requires cost { cost state ≤ greatest self.old.of }
-        requires of { IsOwn self.old.of.nfa state }
+        requires new { IsNewState self.old state }
         requires fits { length self.old.cells < offset_limit }
         requires costs { sum_by row_cost self.old.rows + cost state < 2 ^ 64 }
         ensures ok { OnOk result (self.new ≡ with_row self.old (record { state = state; started = started })) }

@@ -3,9 +3,9 @@ use Rattle.automata_base.specs.Alike.{behind_of}
 use Rattle.automata_base.specs.Powerset.{dead}
 use Rattle.automata_base.specs.Steps.{start_state_of}
 use Rattle.automata_base.specs.declared.util.search.Anchored.{Anchored}
-use Rattle.automata_hybrid.specs.Machine.{start_of, slot_count}
+use Rattle.automata_hybrid.specs.Machine.{slot_count}
 use Rattle.automata_hybrid.specs.Slots.{slot_of}
-use Rattle.automata_hybrid.proofs.SlotStarts.{start_same, past_patterns, few_slots}
+use Rattle.automata_hybrid.proofs.SlotStarts.{past_patterns, few_slots}
 use Rattle.automata_hybrid.proofs.dfa.DFA.mode_slot.Goals as goal
 use Rattle.automata_config.specs.Options.{starts_for_each_pattern_of}
 
@@ -13,22 +13,6 @@ pub returns-then-pattern-pattern_len-clause-past : goal.returns-then-pattern-pat
 returns-then-pattern-pattern_len-clause-past c =
     let l : length c.args.self.now.nfa.start_pattern ≤ c.in-Pattern.pattern = omega (arith, c.if-pattern-pattern_len.true, c.pattern_len.ensures, c.as_usize-pattern.ensures.value) in
     subst (λ (m : Anchored). start_state_of c.args.self.now.nfa m c.args.prev ≡ dead) (sym c.in-Pattern.is) (past_patterns c.args.self.now.nfa c.in-Pattern.pattern c.args.prev l)
-
-pub returns-in-No-clause-same : goal.returns-in-No-clause-same
-returns-in-No-clause-same c =
-    let k : ℕ = behind_of c.args.self.now.nfa.flags.line_terminator c.args.prev in
-    start_same c.args.self.now c.args.mode c.args.prev ∙ ap (start_of c.args.self.now) (ap (λ (m : Anchored). slot_of m k) c.in-No.is ∙ sym c.slot.ensures.value)
-
-pub returns-in-Yes-clause-same : goal.returns-in-Yes-clause-same
-returns-in-Yes-clause-same c =
-    let k : ℕ = behind_of c.args.self.now.nfa.flags.line_terminator c.args.prev in
-    start_same c.args.self.now c.args.mode c.args.prev ∙ ap (start_of c.args.self.now) (ap (λ (m : Anchored). slot_of m k) c.in-Yes.is ∙ sym c.slot-in-Yes.ensures.value)
-
-pub returns-else-pattern-pattern_len-clause-same : goal.returns-else-pattern-pattern_len-clause-same
-returns-else-pattern-pattern_len-clause-same c =
-    let k : ℕ = behind_of c.args.self.now.nfa.flags.line_terminator c.args.prev in
-    let e : suc (suc c.in-Pattern.pattern) * 6 + k ≡ c.slot-in-Pattern.result = omega (arith, c.slot-in-Pattern.ensures.value, c.as_usize-pattern.ensures.value) in
-    start_same c.args.self.now c.args.mode c.args.prev ∙ ap (start_of c.args.self.now) (ap (λ (m : Anchored). slot_of m k) c.in-Pattern.is ∙ e)
 
 pub returns-in-No-clause-slot : goal.returns-in-No-clause-slot
 returns-in-No-clause-slot c =

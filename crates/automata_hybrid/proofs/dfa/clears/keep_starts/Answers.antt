@@ -1,13 +1,13 @@
 use Rattle.std.proofs.Common.{◌≡◌, ◌∙◌, sym, ap, ℕ, [], ◌+◌, ◌*◌, ◌^◌, ◌<◌, ◌≤◌, length, take, get_or, arith, subst, refl, Some, slice_get, below_more, ⊎_elim, lit<}
 use Rattle.std.proofs.lemmas.Grind.{get_or_default_zero}
 use Rattle.std.proofs.lemmas.Option.{slice_get_read}
-use Rattle.std.proofs.lemmas.List.{get_or_past}
+use Rattle.std.proofs.lemmas.List.{get_or_past, take_all}
 use Rattle.std.proofs.lemmas.Bool.{cases_lt}
 use Rattle.std.proofs.Math.Nat.{mul-le-mul_right}
 use Rattle.std.specs.Prelude.{sum_by}
 use Rattle.automata_hybrid.specs.Machine.{Machine, start_of, greatest, table_stride}
 use Rattle.automata_hybrid.specs.Table.{Rows, fresh, MayLead, row_cost}
-use Rattle.automata_hybrid.specs.Clears.{keep_slot, keep_slots, Kept}
+use Rattle.automata_hybrid.specs.Clears.{keep_slot, keep_slots, kept, Kept}
 use Rattle.automata_hybrid.proofs.Keeping.{kept_step, AllStarts-none}
 use Rattle.automata_hybrid.proofs.dfa.clears.keep_starts.Goals as goal
 
@@ -39,28 +39,41 @@ loop-id-preserved c =
     let within : c.loop-id.id-index < length c.args.starts.now = omega arith in
     let step : keep_slot c.args.old.now (record { table = c.loop-id.table; starts = c.loop-id.slots.items }) c.id-item.result ≡ keep_slots c.args.old.now k (take (c.loop-id.id-index + 1) c.args.starts.now) = kept_step c.args.old.now k c.args.starts.now c.loop-id.id-index c.id-item.result c.loop-id.table c.loop-id.slots.items within c.id-item.is i.kept i.slots in
     let read : c.id-item.result ≡ get_or c.args.starts.now c.loop-id.id-index 0 = c.id-item.is ∙ get_or_default_zero c.args.starts.now c.loop-id.id-index c.id-item.result within in
-    let last : get_or c.args.starts.now c.loop-id.id-index 0 < 2 ^ 31 → get_or c.keep_slot.new.slots.items c.loop-id.id-index 0 < 2 ^ 31 = λ h. subst (λ m. get_or c.keep_slot.new.slots.items m 0 < 2 ^ 31) i.length (n.last (rw read h)) in
+    let last : get_or c.args.starts.now c.loop-id.id-index 0 < 2 ^ 31 → get_or c.keep_slot.new.slots.items c.loop-id.id-index 0 < 2 ^ 31 = λ h. subst (λ m. get_or c.keep_slot.new.slots.items m 0 < 2 ^ 31) i.length (n.known (rw read h)) in
     let front : (j : ℕ) → j < c.loop-id.id-index → get_or c.args.starts.now j 0 < 2 ^ 31 → get_or c.keep_slot.new.slots.items j 0 < 2 ^ 31 = λ j h k. (let f : j < length c.loop-id.slots.items = rw i.length h in rw (n.front j f) (i.known j h k)) in
     let known : (j : ℕ) → j < c.loop-id.id-index + 1 → get_or c.args.starts.now j 0 < 2 ^ 31 → get_or c.keep_slot.new.slots.items j 0 < 2 ^ 31 = below_more (λ j. get_or c.args.starts.now j 0 < 2 ^ 31 → get_or c.keep_slot.new.slots.items j 0 < 2 ^ 31) c.loop-id.id-index front last in
     record {
-      kept = n.kept ∙ ap (λ (u : Kept). u.table) step;
-      slots = n.slots ∙ ap (λ (u : Kept). u.starts) step;
+      kept = ap (λ (u : Kept). u.table) (n.value ∙ step);
+      slots = ap (λ (u : Kept). u.starts) (n.value ∙ step);
       few = omega (arith, n.few, i.few);
-      length = n.len ∙ ap (λ m. m + 1) i.length;
+      length = n.slots ∙ ap (λ m. m + 1) i.length;
       named = n.named;
       known = known;
       absent = λ q h. n.absent q h (i.absent q h);
       of = n.of ∙ i.of;
     }
 
-pub returns-clause-known : goal.returns-clause-known
-returns-clause-known c = λ slot h.
+pub returns : goal.returns
+returns c =
     let i = c.loop-id.invariant in
     let all : c.loop-id.id-index ≡ length c.args.starts.now = omega arith in
-    ⊎_elim
-    (λ (l : slot < length c.args.starts.now). i.known slot (rw all l) h)
-    (λ (g : length c.args.starts.now ≤ slot). (let past : length c.loop-id.slots.items ≤ slot = omega (arith, i.length, all, g) in rw (get_or_past c.loop-id.slots.items slot 0 past) (lit< tt)))
-    (cases_lt slot (length c.args.starts.now))
+    let whole : take c.loop-id.id-index c.args.starts.now ≡ c.args.starts.now = take_all c.loop-id.id-index c.args.starts.now (omega (arith, all)) in
+    let kept_all : keep_slots c.args.old.now (record { table = fresh c.args.old.now.of; starts = [] }) (take c.loop-id.id-index c.args.starts.now) ≡ kept c.args.old.now c.args.starts.now =
+    ap (keep_slots c.args.old.now (record { table = fresh c.args.old.now.of; starts = [] })) whole in
+    let table : c.loop-id.table ≡ (kept c.args.old.now c.args.starts.now).table = i.kept ∙ ap (λ (u : Kept). u.table) kept_all in
+    let starts : c.loop-id.slots.items ≡ (kept c.args.old.now c.args.starts.now).starts = i.slots ∙ ap (λ (u : Kept). u.starts) kept_all in
+    record {
+      value = λ j. record { table = table j; starts = starts j };
+      named = i.named;
+      few = omega (arith, i.few, all);
+      slots = i.length ∙ all;
+      known = λ slot h. ⊎_elim
+          (λ (l : slot < length c.args.starts.now). i.known slot (rw all l) h)
+          (λ (g : length c.args.starts.now ≤ slot). (let past : length c.loop-id.slots.items ≤ slot = omega (arith, i.length, all, g) in rw (get_or_past c.loop-id.slots.items slot 0 past) (lit< tt)))
+          (cases_lt slot (length c.args.starts.now));
+      absent = i.absent;
+      of = i.of;
+    }
 
 pub keep_slot-requires-clause-fits : goal.keep_slot-requires-clause-fits
 keep_slot-requires-clause-fits c =

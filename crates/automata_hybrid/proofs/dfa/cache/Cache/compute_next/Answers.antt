@@ -1,35 +1,68 @@
-use Rattle.std.proofs.Common.{◌≡◌, ◌∙◌, ap, sym, subst, inr, false, ◌⊎◌}
+use Rattle.std.proofs.Common.{◌≡◌, ◌∙◌, ap, sym, subst}
 use Rattle.automata_base.specs.Powerset.{Powerset}
 use Rattle.automata_base.specs.Steps.{successor}
-use Rattle.automata_hybrid.specs.Table.{Names, Lacks, Has}
-use Rattle.automata_hybrid.specs.Stores.{Stored}
-use Rattle.automata_hybrid.specs.Effects.{IsAdded}
+use Rattle.automata_config.specs.Options.{match_kind_of}
 use Rattle.automata_hybrid.specs.Caches.{CacheView}
 use Rattle.automata_hybrid.specs.Founds.{IsLookedUp}
-use Rattle.automata_hybrid.specs.declared.dfa.cache.Found.{Found}
-use Rattle.automata_hybrid.specs.declared.dfa.cache.Found.TheVariants.{New}
+use Rattle.automata_hybrid.specs.Machine.{Machine}
+use Rattle.automata_hybrid.specs.Table.{IsNewState, Leads}
+use Rattle.automata_hybrid.specs.declared.dfa.cache.Found.TheVariants.{Known, New}
+use Rattle.automata_hybrid.proofs.Adding.{cheap, looked_up, new_state}
+use Rattle.automata_hybrid.proofs.StepCalls.{ComputesStep, computed_answer, computed_effect, computes_known, computes_new, refused_effect}
+use Rattle.automata_hybrid.proofs.dfa.cache.Cache.compute_next.Goals.{After-see_ids-in-Known, After-see_ids-in-New}
 use Rattle.automata_hybrid.proofs.dfa.cache.Cache.compute_next.Goals as goal
-use Rattle.automata_config.specs.Options.{match_kind_of}
+
+known : (c : After-see_ids-in-Known) → ComputesStep c.args.dfa.now c.args.id c.args.unit c.args.self.now c.set_next.new.self c.unit_class-class.result c.in-Known.to
+known c =
+    let leads : Leads c.resolve.new.self.store.table c.in-Known.to c.in_ok-key.key = looked_up c.determinise.new.self c.resolve.new.self c.in_ok-key.key _ (Known c.in-Known.to) c.resolve.ensures.same c.in-Known.is c.in_ok-to.ensures.found in
+    computes_known c.args.dfa.now c.args.id c.args.unit c.args.self.now c.resolve.new.self c.set_next.new.self c.unit_class-class.result c.in-Known.to c.in_ok-key.key
+    (c.resolve.ensures.same ∙ c.determinise.ensures.counted) c.set_next.ensures leads c.in_ok-key.ensures.successor
+
+new : (c : After-see_ids-in-New) → ComputesStep c.args.dfa.now c.args.id c.args.unit c.args.self.now c.set_next-in-New.new.self c.unit_class-class.result c.in_ok-from-in-New.to
+new c =
+    let found : IsLookedUp c.resolve.new.self.store.table c.in_ok-key.key (New c.in-New.state) = looked_up c.determinise.new.self c.resolve.new.self c.in_ok-key.key _ (New c.in-New.state) c.resolve.ensures.same c.in-New.is c.in_ok-to.ensures.found in
+    computes_new c.args.dfa.now c.args.id c.args.unit c.args.self.now c.resolve.new.self c.add_next.new.self c.set_next-in-New.new.self c.unit_class-class.result c.in_ok-from-in-New.from c.in_ok-from-in-New.to c.in-New.state c.in_ok-key.key
+    (c.resolve.ensures.same ∙ c.determinise.ensures.counted) c.in_ok-from-in-New.ensures.answer c.in_ok-from-in-New.ensures.counted c.set_next-in-New.ensures found.0 found.1 c.in_ok-key.ensures.successor
+
+pub add_next-requires-clause-new : goal.add_next-requires-clause-new
+add_next-requires-clause-new c =
+    let found : IsLookedUp c.resolve.new.self.store.table c.in_ok-key.key (New c.in-New.state) = looked_up c.determinise.new.self c.resolve.new.self c.in_ok-key.key _ (New c.in-New.state) c.resolve.ensures.same c.in-New.is c.in_ok-to.ensures.found in
+    let of : c.resolve.new.self.store.table.of ≡ c.args.dfa.now = ap (λ (v : CacheView). v.store.table.of) (c.resolve.ensures.same ∙ c.determinise.ensures.counted) ∙ c.requires.of in
+    let key : IsNewState c.resolve.new.self.store.table c.in_ok-key.key = new_state c.args.dfa.now c.resolve.new.self.store.table c.in_ok-key.key of found.1 c.in_ok-key.ensures.cost c.in_ok-key.ensures.is_of in
+    subst (λ (q : Powerset). IsNewState c.resolve.new.self.store.table q) (sym found.0) key
+
+pub returns-in_err-to-clause-effect : goal.returns-in_err-to-clause-effect
+returns-in_err-to-clause-effect c =
+    refused_effect c.args.dfa.now c.args.id c.args.unit c.args.self.now c.resolve.new.self (c.see_ids.ensures.low c.args.id c.requires.valid.0 c.requires.valid.1) c.requires.clean c.requires.unknown
+    (c.resolve.ensures.same ∙ c.determinise.ensures.counted)
+
+pub returns-in_err-from-in-New-clause-effect : goal.returns-in_err-from-in-New-clause-effect
+returns-in_err-from-in-New-clause-effect c =
+    refused_effect c.args.dfa.now c.args.id c.args.unit c.args.self.now c.add_next.new.self (c.see_ids.ensures.low c.args.id c.requires.valid.0 c.requires.valid.1) c.requires.clean c.requires.unknown
+    (c.in_err-from-in-New.ensures.err ∙ (c.resolve.ensures.same ∙ c.determinise.ensures.counted))
+
+pub returns-in-Known-clause-answer : goal.returns-in-Known-clause-answer
+returns-in-Known-clause-answer c =
+    computed_answer c.args.dfa.now c.args.id c.args.unit c.args.self.now c.set_next.new.self c.unit_class-class.result c.in-Known.to (known c)
+    c.requires.of c.requires.valid (c.see_ids.ensures.low c.args.id c.requires.valid.0 c.requires.valid.1) c.requires.clean c.requires.unknown c.unit_class-class.ensures.value c.unit_class-class.ensures.below c.see_cells.ensures.cells
+    c.see_ids-in-Known.ensures.low c.see_ids-in-Known.ensures.small (c.see_ids-in-Known.ensures.tagged c.in-Known.to)
+
+pub returns-in-Known-clause-effect : goal.returns-in-Known-clause-effect
+returns-in-Known-clause-effect c =
+    computed_effect c.args.dfa.now c.args.id c.args.unit c.args.self.now c.set_next.new.self c.unit_class-class.result c.in-Known.to (known c)
+    c.requires.of c.requires.valid (c.see_ids.ensures.low c.args.id c.requires.valid.0 c.requires.valid.1) c.requires.clean c.requires.unknown c.unit_class-class.ensures.value c.unit_class-class.ensures.below c.see_cells.ensures.cells
+    c.see_cells.ensures.wide c.see_cells.ensures.clears (cheap c.args.dfa.now c.args.self.now.store.table.of c.in_ok-key.key (successor c.args.dfa.now.nfa (match_kind_of c.args.dfa.now.config) c.requires.valid.0 c.args.unit) c.requires.of (c.in_ok-key.ensures.successor c.requires.valid.0 c.requires.valid.1) c.in_ok-key.ensures.cost)
+    c.see_ids.ensures.ids c.see_ids-in-Known.ensures.ids
+
+pub returns-in_ok-from-in-New-clause-answer : goal.returns-in_ok-from-in-New-clause-answer
+returns-in_ok-from-in-New-clause-answer c =
+    computed_answer c.args.dfa.now c.args.id c.args.unit c.args.self.now c.set_next-in-New.new.self c.unit_class-class.result c.in_ok-from-in-New.to (new c)
+    c.requires.of c.requires.valid (c.see_ids.ensures.low c.args.id c.requires.valid.0 c.requires.valid.1) c.requires.clean c.requires.unknown c.unit_class-class.ensures.value c.unit_class-class.ensures.below c.see_cells.ensures.cells
+    c.see_ids-in-New.ensures.low c.see_ids-in-New.ensures.small (c.see_ids-in-New.ensures.tagged c.in_ok-from-in-New.to)
 
 pub returns-in_ok-from-in-New-clause-effect : goal.returns-in_ok-from-in-New-clause-effect
-returns-in_ok-from-in-New-clause-effect c = λ q n.
-    let old : Stored = c.args.self.now.store in
-    let target : Powerset = successor c.args.dfa.now.nfa (match_kind_of c.args.dfa.now.config) q c.args.unit in
-    let s : c.resolve.new.self.store ≡ old = ap (λ (v : CacheView). v.store) (c.resolve.ensures.same ∙ c.determinise.ensures.counted) in
-    let d : c.determinise.new.self.store ≡ old = ap (λ (v : CacheView). v.store) c.determinise.ensures.counted in
-    let found : IsLookedUp c.determinise.new.self.store.table c.in_ok-key.key (New c.in-New.state) = subst (λ (f : Found). IsLookedUp c.determinise.new.self.store.table c.in_ok-key.key f) c.in-New.is c.in_ok-to.ensures.found in
-    let key : c.in_ok-key.key ≡ target = c.in_ok-key.ensures.successor q n in
-    let lacks : Lacks old.table target = subst (λ (v : Stored). Lacks v.table target) d (subst (λ (p : Powerset). Lacks c.determinise.new.self.store.table p) key found.1) in
-    let before : IsAdded old c.args.id (record { state = c.in-New.state; started = false }) c.add_next.new.self.store = subst (λ (v : Stored). IsAdded v c.args.id (record { state = c.in-New.state; started = false }) c.add_next.new.self.store) s c.in_ok-from-in-New.ensures.effect in
-    let added : IsAdded old c.args.id (record { state = target; started = false }) c.add_next.new.self.store = subst (λ (p : Powerset). IsAdded old c.args.id (record { state = p; started = false }) c.add_next.new.self.store) (found.0 ∙ key) before in
-    let named : Names c.add_next.new.self.store.table c.in_ok-from-in-New.from q = c.in_ok-from-in-New.ensures.from q (subst (λ (v : Stored). Names v.table c.args.id q) (sym s) n) in
-    inr (lacks, c.in_ok-from-in-New.from, c.add_next.new.self.store, added, named, ap (λ (v : CacheView). v.store) c.set_next-in-New.ensures)
-
-pub returns-in_ok-from-in-New-clause-only : goal.returns-in_ok-from-in-New-clause-only
-returns-in_ok-from-in-New-clause-only c = λ q n p has.
-    let target : Powerset = successor c.args.dfa.now.nfa (match_kind_of c.args.dfa.now.config) q c.args.unit in
-    let s : c.resolve.new.self.store ≡ c.args.self.now.store = ap (λ (v : CacheView). v.store) (c.resolve.ensures.same ∙ c.determinise.ensures.counted) in
-    let found : IsLookedUp c.determinise.new.self.store.table c.in_ok-key.key (New c.in-New.state) = subst (λ (f : Found). IsLookedUp c.determinise.new.self.store.table c.in_ok-key.key f) c.in-New.is c.in_ok-to.ensures.found in
-    let written = subst (λ (v : CacheView). Has v.store.table p) c.set_next-in-New.ensures has in
-    let before = c.in_ok-from-in-New.ensures.only p (record { id = written.id; named = written.named }) in
-    subst (λ (v : Stored). Has v.table p ⊎ (p ≡ target)) s (subst (λ (x : Powerset). Has c.resolve.new.self.store.table p ⊎ (p ≡ x)) (found.0 ∙ c.in_ok-key.ensures.successor q n) before)
+returns-in_ok-from-in-New-clause-effect c =
+    computed_effect c.args.dfa.now c.args.id c.args.unit c.args.self.now c.set_next-in-New.new.self c.unit_class-class.result c.in_ok-from-in-New.to (new c)
+    c.requires.of c.requires.valid (c.see_ids.ensures.low c.args.id c.requires.valid.0 c.requires.valid.1) c.requires.clean c.requires.unknown c.unit_class-class.ensures.value c.unit_class-class.ensures.below c.see_cells.ensures.cells
+    c.see_cells.ensures.wide c.see_cells.ensures.clears (cheap c.args.dfa.now c.args.self.now.store.table.of c.in_ok-key.key (successor c.args.dfa.now.nfa (match_kind_of c.args.dfa.now.config) c.requires.valid.0 c.args.unit) c.requires.of (c.in_ok-key.ensures.successor c.requires.valid.0 c.requires.valid.1) c.in_ok-key.ensures.cost)
+    c.see_ids.ensures.ids c.see_ids-in-New.ensures.ids

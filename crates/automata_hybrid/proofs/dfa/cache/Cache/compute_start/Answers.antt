@@ -1,35 +1,85 @@
-use Rattle.std.proofs.Common.{◌≡◌, ◌∙◌, ap, subst, inr, Bool, ◌⊎◌}
-use Rattle.automata_base.specs.Powerset.{Powerset}
+use Rattle.std.proofs.Common.{◌≡◌, ◌∙◌, ap, inr, sym, subst}
+use Rattle.automata_base.specs.Powerset.{Powerset, cost}
 use Rattle.automata_base.specs.Steps.{start_state_of}
-use Rattle.automata_hybrid.specs.Table.{Lacks, Has}
-use Rattle.automata_hybrid.specs.Stores.{Stored}
-use Rattle.automata_hybrid.specs.Effects.{IsAddedStart}
+use Rattle.automata_config.specs.declared.error.StepError.{StepError}
 use Rattle.automata_hybrid.specs.Caches.{CacheView}
 use Rattle.automata_hybrid.specs.Founds.{IsLookedUp}
-use Rattle.automata_hybrid.specs.declared.dfa.cache.Found.{Found}
-use Rattle.automata_hybrid.specs.declared.dfa.cache.Found.TheVariants.{New}
+use Rattle.automata_hybrid.specs.Machine.{Machine, greatest, slot_count}
+use Rattle.automata_hybrid.specs.Table.{IsNewState, Leads}
+use Rattle.automata_hybrid.specs.declared.dfa.cache.Found.TheVariants.{Known, New}
+use Rattle.automata_hybrid.proofs.Adding.{cheap, looked_up, new_state}
+use Rattle.automata_hybrid.proofs.Starting.{ComputesStart, computed_answer, computed_effect, computes_known, computes_new, refused_effect, slot_leads}
+use Rattle.automata_hybrid.proofs.dfa.cache.Cache.compute_start.Goals.{After-see_ids-in-Known, After-see_ids-in-New}
 use Rattle.automata_hybrid.proofs.dfa.cache.Cache.compute_start.Goals as goal
-use Rattle.automata_config.specs.Options.{specialize_start_states_of}
+
+known : (c : After-see_ids-in-Known) → ComputesStart c.args.dfa.now c.args.mode c.args.prev c.args.self.now c.set_start.new.self c.args.slot c.in-Known.id
+known c =
+    let leads : Leads c.resolve.new.self.store.table c.in-Known.id c.in_ok-key.key = looked_up c.determinise_start.new.self c.resolve.new.self c.in_ok-key.key _ (Known c.in-Known.id) c.resolve.ensures.same c.in-Known.is c.in_ok-id.ensures.found in
+    computes_known c.args.dfa.now c.args.mode c.args.prev c.args.self.now c.resolve.new.self c.set_start.new.self c.args.slot c.in-Known.id c.in_ok-key.key
+    (c.resolve.ensures.same ∙ c.determinise_start.ensures.counted) c.set_start.ensures.value leads c.in_ok-key.ensures.value c.set_start.ensures.written c.set_start.ensures.found
+
+new : (c : After-see_ids-in-New) → ComputesStart c.args.dfa.now c.args.mode c.args.prev c.args.self.now c.set_start-in-New.new.self c.args.slot c.in_ok-id-in-New.id
+new c =
+    let found : IsLookedUp c.resolve.new.self.store.table c.in_ok-key.key (New c.in-New.state) = looked_up c.determinise_start.new.self c.resolve.new.self c.in_ok-key.key _ (New c.in-New.state) c.resolve.ensures.same c.in-New.is c.in_ok-id.ensures.found in
+    computes_new c.args.dfa.now c.args.mode c.args.prev c.args.self.now c.resolve.new.self c.add_start.new.self c.set_start-in-New.new.self c.args.slot c.in_ok-id-in-New.id c.in-New.state c.in_ok-key.key c.specializes.result
+    (c.resolve.ensures.same ∙ c.determinise_start.ensures.counted) c.in_ok-id-in-New.ensures.answer c.in_ok-id-in-New.ensures.counted c.set_start-in-New.ensures.value found.0 found.1 c.in_ok-key.ensures.value c.specializes.ensures
+    c.set_start-in-New.ensures.written c.set_start-in-New.ensures.found
+
+pub set_start-requires-clause-leads : goal.set_start-requires-clause-leads
+set_start-requires-clause-leads c =
+    let leads : Leads c.resolve.new.self.store.table c.in-Known.id c.in_ok-key.key = looked_up c.determinise_start.new.self c.resolve.new.self c.in_ok-key.key _ (Known c.in-Known.id) c.resolve.ensures.same c.in-Known.is c.in_ok-id.ensures.found in
+    let of : c.resolve.new.self.store.table.of ≡ c.args.dfa.now = ap (λ (v : CacheView). v.store.table.of) (c.resolve.ensures.same ∙ c.determinise_start.ensures.counted) ∙ c.requires.of in
+    slot_leads c.args.dfa.now c.args.mode c.args.prev c.args.slot c.resolve.new.self.store.table c.in-Known.id c.in_ok-key.key c.requires.slot of c.in_ok-key.ensures.value leads
+
+pub set_start-requires-in-New-clause-leads : goal.set_start-requires-in-New-clause-leads
+set_start-requires-in-New-clause-leads c =
+    let found : IsLookedUp c.resolve.new.self.store.table c.in_ok-key.key (New c.in-New.state) = looked_up c.determinise_start.new.self c.resolve.new.self c.in_ok-key.key _ (New c.in-New.state) c.resolve.ensures.same c.in-New.is c.in_ok-id.ensures.found in
+    let of : c.resolve.new.self.store.table.of ≡ c.args.dfa.now = ap (λ (v : CacheView). v.store.table.of) (c.resolve.ensures.same ∙ c.determinise_start.ensures.counted) ∙ c.requires.of in
+    slot_leads c.args.dfa.now c.args.mode c.args.prev c.args.slot c.add_start.new.self.store.table c.in_ok-id-in-New.id c.in-New.state c.requires.slot (c.in_ok-id-in-New.ensures.answer.of ∙ of) (found.0 ∙ c.in_ok-key.ensures.value)
+    (inr c.in_ok-id-in-New.ensures.answer.named)
+
+pub add_start-requires-clause-new : goal.add_start-requires-clause-new
+add_start-requires-clause-new c =
+    let found : IsLookedUp c.resolve.new.self.store.table c.in_ok-key.key (New c.in-New.state) = looked_up c.determinise_start.new.self c.resolve.new.self c.in_ok-key.key _ (New c.in-New.state) c.resolve.ensures.same c.in-New.is c.in_ok-id.ensures.found in
+    let of : c.resolve.new.self.store.table.of ≡ c.args.dfa.now = ap (λ (v : CacheView). v.store.table.of) (c.resolve.ensures.same ∙ c.determinise_start.ensures.counted) ∙ c.requires.of in
+    let key : IsNewState c.resolve.new.self.store.table c.in_ok-key.key = new_state c.args.dfa.now c.resolve.new.self.store.table c.in_ok-key.key of found.1 c.in_ok-key.ensures.cost c.in_ok-key.ensures.is_of in
+    subst (λ (q : Powerset). IsNewState c.resolve.new.self.store.table q) (sym found.0) key
+
+pub returns-in-Known-clause-answer : goal.returns-in-Known-clause-answer
+returns-in-Known-clause-answer c =
+    computed_answer c.args.dfa.now c.args.mode c.args.prev c.args.self.now c.set_start.new.self c.args.slot c.in-Known.id (known c)
+    c.requires.slot c.requires.unknown (c.see_slots.ensures ∙ ap (λ (m : Machine). slot_count m) c.requires.of)
+    (c.see_ids-in-Known.ensures.tagged c.in-Known.id)
+
+pub returns-in-Known-clause-effect : goal.returns-in-Known-clause-effect
+returns-in-Known-clause-effect c =
+    computed_effect c.args.dfa.now c.args.mode c.args.prev c.args.self.now c.set_start.new.self c.args.slot c.in-Known.id (known c)
+    c.requires.slot c.requires.unknown (c.see_slots.ensures ∙ ap (λ (m : Machine). slot_count m) c.requires.of)
+    c.see_cells.ensures.cells c.see_cells.ensures.wide c.see_cells.ensures.clears (cheap c.args.dfa.now c.args.self.now.store.table.of c.in_ok-key.key (start_state_of c.args.dfa.now.nfa c.args.mode c.args.prev) c.requires.of c.in_ok-key.ensures.value c.in_ok-key.ensures.cost)
+    c.see_ids.ensures.ids c.see_ids-in-Known.ensures.ids
+
+pub returns-in_ok-id-in-New-clause-answer : goal.returns-in_ok-id-in-New-clause-answer
+returns-in_ok-id-in-New-clause-answer c =
+    computed_answer c.args.dfa.now c.args.mode c.args.prev c.args.self.now c.set_start-in-New.new.self c.args.slot c.in_ok-id-in-New.id (new c)
+    c.requires.slot c.requires.unknown (c.see_slots.ensures ∙ ap (λ (m : Machine). slot_count m) c.requires.of)
+    (c.see_ids-in-New.ensures.tagged c.in_ok-id-in-New.id)
 
 pub returns-in_ok-id-in-New-clause-effect : goal.returns-in_ok-id-in-New-clause-effect
 returns-in_ok-id-in-New-clause-effect c =
-    let old : Stored = c.args.self.now.store in
-    let target : Powerset = start_state_of c.args.dfa.now.nfa c.args.mode c.args.prev in
-    let s : c.resolve.new.self.store ≡ old = ap (λ (v : CacheView). v.store) (c.resolve.ensures.same ∙ c.determinise_start.ensures.counted) in
-    let d : c.determinise_start.new.self.store ≡ old = ap (λ (v : CacheView). v.store) c.determinise_start.ensures.counted in
-    let found : IsLookedUp c.determinise_start.new.self.store.table c.in_ok-key.key (New c.in-New.state) = subst (λ (f : Found). IsLookedUp c.determinise_start.new.self.store.table c.in_ok-key.key f) c.in-New.is c.in_ok-id.ensures.found in
-    let key : c.in_ok-key.key ≡ target = c.in_ok-key.ensures.value in
-    let lacks : Lacks old.table target = subst (λ (v : Stored). Lacks v.table target) d (subst (λ (p : Powerset). Lacks c.determinise_start.new.self.store.table p) key found.1) in
-    let before : IsAddedStart old (record { state = c.in-New.state; started = c.specializes.result }) c.add_start.new.self.store = subst (λ (v : Stored). IsAddedStart v (record { state = c.in-New.state; started = c.specializes.result }) c.add_start.new.self.store) s c.in_ok-id-in-New.ensures.effect in
-    let marked : IsAddedStart old (record { state = c.in-New.state; started = specialize_start_states_of c.args.dfa.now.config }) c.add_start.new.self.store = subst (λ (b : Bool). IsAddedStart old (record { state = c.in-New.state; started = b }) c.add_start.new.self.store) c.specializes.ensures before in
-    let added : IsAddedStart old (record { state = target; started = specialize_start_states_of c.args.dfa.now.config }) c.add_start.new.self.store = subst (λ (p : Powerset). IsAddedStart old (record { state = p; started = specialize_start_states_of c.args.dfa.now.config }) c.add_start.new.self.store) (found.0 ∙ key) marked in
-    inr (lacks, c.add_start.new.self.store, added, ap (λ (v : CacheView). v.store) c.set_start-in-New.ensures.value)
+    computed_effect c.args.dfa.now c.args.mode c.args.prev c.args.self.now c.set_start-in-New.new.self c.args.slot c.in_ok-id-in-New.id (new c)
+    c.requires.slot c.requires.unknown (c.see_slots.ensures ∙ ap (λ (m : Machine). slot_count m) c.requires.of)
+    c.see_cells.ensures.cells c.see_cells.ensures.wide c.see_cells.ensures.clears (cheap c.args.dfa.now c.args.self.now.store.table.of c.in_ok-key.key (start_state_of c.args.dfa.now.nfa c.args.mode c.args.prev) c.requires.of c.in_ok-key.ensures.value c.in_ok-key.ensures.cost)
+    c.see_ids.ensures.ids c.see_ids-in-New.ensures.ids
 
-pub returns-in_ok-id-in-New-clause-only : goal.returns-in_ok-id-in-New-clause-only
-returns-in_ok-id-in-New-clause-only c = λ p has.
-    let target : Powerset = start_state_of c.args.dfa.now.nfa c.args.mode c.args.prev in
-    let s : c.resolve.new.self.store ≡ c.args.self.now.store = ap (λ (v : CacheView). v.store) (c.resolve.ensures.same ∙ c.determinise_start.ensures.counted) in
-    let found : IsLookedUp c.determinise_start.new.self.store.table c.in_ok-key.key (New c.in-New.state) = subst (λ (f : Found). IsLookedUp c.determinise_start.new.self.store.table c.in_ok-key.key f) c.in-New.is c.in_ok-id.ensures.found in
-    let written = subst (λ (v : CacheView). Has v.store.table p) c.set_start-in-New.ensures.value has in
-    let before = c.in_ok-id-in-New.ensures.only p (record { id = written.id; named = written.named }) in
-    subst (λ (v : Stored). Has v.table p ⊎ (p ≡ target)) s (subst (λ (x : Powerset). Has c.resolve.new.self.store.table p ⊎ (p ≡ x)) (found.0 ∙ c.in_ok-key.ensures.value) before)
+pub returns-in_err-key-clause-effect : goal.returns-in_err-key-clause-effect
+returns-in_err-key-clause-effect c =
+    refused_effect c.args.dfa.now c.args.mode c.args.prev c.args.self.now c.determinise_start.new.self c.args.slot c.requires.slot c.requires.unknown c.determinise_start.ensures.counted
+
+pub returns-in_err-id-clause-effect : goal.returns-in_err-id-clause-effect
+returns-in_err-id-clause-effect c =
+    refused_effect c.args.dfa.now c.args.mode c.args.prev c.args.self.now c.resolve.new.self c.args.slot c.requires.slot c.requires.unknown (c.resolve.ensures.same ∙ c.determinise_start.ensures.counted)
+
+pub returns-in_err-id-in-New-clause-effect : goal.returns-in_err-id-in-New-clause-effect
+returns-in_err-id-in-New-clause-effect c =
+    refused_effect c.args.dfa.now c.args.mode c.args.prev c.args.self.now c.add_start.new.self c.args.slot c.requires.slot c.requires.unknown
+    (c.in_err-id-in-New.ensures.err ∙ (c.resolve.ensures.same ∙ c.determinise_start.ensures.counted))

@@ -1,33 +1,25 @@
-use Rattle.std.proofs.Common.{◌≡◌, ◌∙◌, ap, sym, subst, inr, ◌⊎◌}
-use Rattle.automata_base.specs.Powerset.{Powerset}
-use Rattle.automata_hybrid.specs.Stores.{Stored}
+use Rattle.std.proofs.Common.{sym, subst, rules}
+use Rattle.automata_base.specs.Powerset.{cost}
 use Rattle.automata_hybrid.specs.Usage.{Fits}
-use Rattle.automata_hybrid.specs.Effects.{grown}
-use Rattle.automata_hybrid.specs.Table.{Has}
 use Rattle.automata_hybrid.specs.declared.dfa.row.Row.{Row}
-use Rattle.automata_hybrid.proofs.Effects.{only-grown}
+use Rattle.automata_hybrid.proofs.Adding.{new_there, start_clears, start_fits}
 use Rattle.automata_hybrid.proofs.Searching.{false_true}
-use Rattle.automata_hybrid.specs.Owned.{IsOwn}
-use Rattle.automata_hybrid.specs.Machine.{Machine}
 use Rattle.automata_hybrid.proofs.dfa.store.Store.add_start.Goals as goal
 
-pub replace-requires-clause-of : goal.replace-requires-clause-of
-replace-requires-clause-of c = subst (λ (m : Machine). IsOwn m.nfa c.args.state) (sym c.in_ok-fresh.ensures.of) c.requires.of
+pub replace-requires-clause-new : goal.replace-requires-clause-new
+replace-requires-clause-new c =
+    new_there c.args.self.now.table c.in_ok-fresh.fresh.table c.args.state c.in_ok-fresh.ensures.cleared.kept.of
+    (c.in_ok-fresh.ensures.cleared.kept.absent c.args.state c.requires.new.lacks.0) c.requires.new
 
-pub replace-requires-clause-absent : goal.replace-requires-clause-absent
-replace-requires-clause-absent c = c.in_ok-fresh.ensures.absent c.args.state c.requires.absent
-
-pub returns-clause-effect : goal.returns-clause-effect
-returns-clause-effect c =
+pub returns-then-fits-clause-answer : goal.returns-then-fits-clause-answer
+returns-then-fits-clause-answer c =
     let r : Row = record { state = c.args.state; started = c.args.started } in
-    inr (λ fits. false_true (c.if-fits.ensures.1 (subst (λ n. Fits c.args.self.now n) (sym c.cost.ensures) fits)), c.in_ok-fresh.ensures.allowed, c.in_ok-id-2.ensures.ok ∙ ap (λ (v : Stored). grown v r) c.in_ok-fresh.ensures.value)
+    let fits : Fits c.args.self.now (cost c.args.state) = search rules in
+    start_fits c.args.self.now c.add_row.new.self r c.in_ok-id.id fits c.in_ok-id.ensures.ok c.in_ok-id.ensures.named
 
-pub returns-then-fits-clause-only : goal.returns-then-fits-clause-only
-returns-then-fits-clause-only c =
+pub returns-clause-answer : goal.returns-clause-answer
+returns-clause-answer c =
     let r : Row = record { state = c.args.state; started = c.args.started } in
-    subst (λ (v : Stored). (p : Powerset) → Has v.table p → Has c.args.self.now.table p ⊎ (p ≡ c.args.state)) (sym c.in_ok-id.ensures.ok) (only-grown c.args.self.now.table c.args.self.now.table r (λ q none. none))
-
-pub returns-clause-only : goal.returns-clause-only
-returns-clause-only c =
-    let r : Row = record { state = c.args.state; started = c.args.started } in
-    subst (λ (v : Stored). (p : Powerset) → Has v.table p → Has c.args.self.now.table p ⊎ (p ≡ c.args.state)) (sym (c.in_ok-id-2.ensures.ok)) (only-grown c.args.self.now.table c.in_ok-fresh.fresh.table r c.in_ok-fresh.ensures.absent)
+    start_clears c.args.self.now c.in_ok-fresh.fresh c.replace.new.self r c.in_ok-id-2.id
+    (λ fits. false_true (c.if-fits.ensures.1 (subst (λ n. Fits c.args.self.now n) (sym c.cost.ensures) fits)))
+    c.in_ok-fresh.ensures.cleared c.in_ok-id-2.ensures.ok c.in_ok-id-2.ensures.named

@@ -36,13 +36,13 @@ invariant_of-self-2 c =
     let r : Row = record { state = c.args.state; started = c.args.started } in
     let cells : c.extend_from_slice-grown.new.self.items ≡ c.self.inside.cells.items ++ template_of c.self.inside.of.value = grind (arith, common_steps, c.self.invariant.template) in
     let rows : c.push-pushed.new.self.items ≡ c.self.inside.rows.items ++ r ∷ [] = grind (arith, common_steps) in
-    let absent : id_of (record { of = c.self.inside.of.value; cells = c.self.inside.cells.items; rows = c.self.inside.rows.items }) q ≡ None = rw (← c.self.view_is) at c.requires.absent in
+    let absent : id_of (record { of = c.self.inside.of.value; cells = c.self.inside.cells.items; rows = c.self.inside.rows.items }) q ≡ None = rw (← c.self.view_is) at c.requires.new.lacks.0 in
     let fits : length c.self.inside.cells.items < 2 ^ 27 = rw (← c.self.view_is) at c.requires.fits in
     let map : (p : Powerset) → get powerset_eq c.insert-inserted.new.self p ≡ cond (powerset_eq q p) (Some (row_id (length c.self.inside.cells.items) r)) (get powerset_eq c.self.inside.map p) = λ p. grind (arith, common_steps, c.in_ok-reserve-3.ensures.entries.2 p) in
-    let cheap : cost q ≤ greatest c.self.inside.of.value = rw (← c.self.view_is) at c.requires.cost in
-    let of : IsOwn c.self.inside.of.value.nfa q = rw (← c.self.view_is) at c.requires.of in
+    let cheap : cost q ≤ greatest c.self.inside.of.value = rw (← c.self.view_is) at c.requires.new.cheap in
+    let of : IsOwn c.self.inside.of.value.nfa q = rw (← c.self.view_is) at c.requires.new.own in
     record {
-      table = rw (cells, rows, c.cost-cost.ensures) (IsTable-with_row _ r c.self.inside.map c.insert-inserted.new.self c.self.inside.costs c.self.invariant.table absent c.requires.alive cheap of fits map);
+      table = rw (cells, rows, c.cost-cost.ensures) (IsTable-with_row _ r c.self.inside.map c.insert-inserted.new.self c.self.inside.costs c.self.invariant.table absent c.requires.new.lacks.1 cheap of fits map);
       stride = c.self.invariant.stride;
       template = c.self.invariant.template;
     }
@@ -53,7 +53,7 @@ returns-clause-named c =
     let r : Row = record { state = c.args.state; started = c.args.started } in
     let cells : c.extend_from_slice-grown.new.self.items ≡ c.self.inside.cells.items ++ template_of c.self.inside.of.value = grind (arith, common_steps, c.self.invariant.template) in
     let rows : c.push-pushed.new.self.items ≡ c.self.inside.rows.items ++ r ∷ [] = grind (arith, common_steps) in
-    let absent : id_of (record { of = c.self.inside.of.value; cells = c.self.inside.cells.items; rows = c.self.inside.rows.items }) q ≡ None = rw (← c.self.view_is) at c.requires.absent in
+    let absent : id_of (record { of = c.self.inside.of.value; cells = c.self.inside.cells.items; rows = c.self.inside.rows.items }) q ≡ None = rw (← c.self.view_is) at c.requires.new.lacks.0 in
     let id : c.of_row-id.result ≡ row_id (length c.self.inside.cells.items) r = grind (arith, common_steps) in
     let t : Rows = record { of = c.self.inside.of.value; cells = c.extend_from_slice-grown.new.self.items; rows = c.push-pushed.new.self.items } in
     let named : Names t c.of_row-id.result q = rw (rows, id) (Names-new (record { of = c.self.inside.of.value; cells = c.self.inside.cells.items; rows = c.self.inside.rows.items }) r c.self.invariant.table.whole absent) in
