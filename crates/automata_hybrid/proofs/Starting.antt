@@ -1,15 +1,10 @@
 -- Starts: what a call answers and changes, from what its parts do.
-use Rattle.std.proofs.Common.{ℕ, ◌≡◌, ◌+◌, ◌<◌, ◌≤◌, ◌⊎◌, length, false, Option, None, Ok, Err, Result, sym, ap, ◌∙◌, subst, arith, inl, inr}
-use Rattle.std.specs.Prelude.{IfErr, IfOk, OnOk}
+use Rattle.std.proofs.Common.{ℕ, ◌≡◌, ◌+◌, ◌<◌, ◌≤◌, ◌⊎◌, length, Option, Ok, Err, Result, sym, ap, subst, arith, inl, inr}
+use Rattle.std.specs.Prelude.{IfOk, OnOk}
 use Rattle.automata_base.specs.Powerset.{Powerset}
 use Rattle.automata_base.specs.Steps.{start_state_of}
 use Rattle.automata_base.specs.declared.util.search.Anchored.{Anchored}
-use Rattle.automata_base.specs.declared.util.search.MatchErrorKind.TheVariants.{UnsupportedAnchored as UnsupportedMode}
-use Rattle.automata_base.proofs.Paths.Orders.{none_some}
-use Rattle.automata_config.specs.declared.error.StartError.{StartError}
-use Rattle.automata_config.specs.declared.error.StartError.TheVariants as start
 use Rattle.automata_config.specs.declared.error.SearchError.{SearchError}
-use Rattle.automata_config.specs.declared.error.SearchError.TheVariants as search
 use Rattle.automata_config.specs.declared.error.StepError.{StepError}
 use Rattle.automata_config.specs.declared.error.StepError.TheVariants as step
 use Rattle.automata_hybrid.specs.Machine.{Machine, slot_count}
@@ -18,9 +13,8 @@ use Rattle.automata_hybrid.specs.Stores.{Stored, IsCacheError, IsKnownStart}
 use Rattle.automata_hybrid.specs.Usage.{GivesUp}
 use Rattle.automata_hybrid.specs.Caches.{CacheView, HasRow, counted}
 use Rattle.automata_hybrid.specs.Growing.{IsGrown, KeepsProgress}
-use Rattle.automata_hybrid.specs.Slots.{slot_behind, supports}
-use Rattle.automata_hybrid.specs.Starting.{IsStartAnswer, IsStartEffect, IsStartRefusal, IsStartRefusalAt, IsStartRefusedAt, KnowsStart, MayStart, quit_behind, search_refusal, start_refusal}
-use Rattle.automata_hybrid.proofs.Searching.{false_true}
+use Rattle.automata_hybrid.specs.Slots.{slot_behind}
+use Rattle.automata_hybrid.specs.Starting.{IsStartAnswer, IsStartEffect, IsStartRefusal, IsStartRefusalAt, IsStartRefusedAt, KnowsStart, MayStart, start_refusal}
 use Rattle.automata_config.specs.Options.{specialize_start_states_of}
 
 -- the start of a mode's slot is known
@@ -79,20 +73,6 @@ refusal_at m mode behind behind_at start_at old new e h =
       same : (new ≡ old) ⊎ (new ≡ counted old) → new.store ≡ old.store
       same (inl u) = ap (λ (v : CacheView). v.store) u
       same (inr u) = ap (λ (v : CacheView). v.store) u
-
--- behind no quit byte, a mode that isn't supported is refused for that
-pub unsupported_at :
-    (m : Machine) (mode : Anchored) (behind : Option ℕ) (behind_at start_at : ℕ) (old new : CacheView) (r : Result ℕ SearchError)
-    → IfOk r (IsStartAnswer m mode behind old new) → IfErr r (IsStartRefusedAt m mode behind behind_at start_at old new)
-    → quit_behind m behind ≡ None → supports m mode ≡ false → r ≡ Err (search.Match (UnsupportedMode mode))
-unsupported_at m mode behind behind_at start_at old new (Ok n) answer refusal clear off = absurd (false_true (sym off ∙ answer.may.1))
-unsupported_at m mode behind behind_at start_at old new (Err e) answer refusal clear off =
-    ap Err (refusal.told ∙ told refusal.error refusal.refused.why) where
-      told : (error : StartError) → IsStartRefusal m old.store mode behind error → search_refusal error behind_at start_at ≡ search.Match (UnsupportedMode mode)
-      told (start.Quit byte) why = absurd (none_some (sym clear ∙ why))
-      told (start.UnsupportedAnchored asked) why = ap (λ a. search.Match (UnsupportedMode a)) why.2
-      told (start.Cache err) why = absurd (false_true (sym off ∙ why.0.1))
-      told start.OutOfMemory why = absurd (false_true (sym off ∙ why.1))
 
 -- a start that was answered was allowed
 pub may_start :

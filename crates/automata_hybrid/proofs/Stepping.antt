@@ -1,4 +1,4 @@
-use Rattle.std.proofs.Common.{◌≡◌, ℕ, List, ◌∷◌, length, Bool, true, false, None, Some, [], ◌+◌, ◌*◌, ◌^◌, ◌<◌, ◌≤◌, inl, inr, refl, sym, ap, subst, arith, get_or, Option}
+use Rattle.std.proofs.Common.{◌≡◌, ℕ, List, ◌∷◌, length, Bool, true, false, Some, [], ◌+◌, ◌*◌, ◌^◌, ◌<◌, ◌≤◌, inl, inr, refl, sym, ap, subst, arith, get_or, Option}
 use Rattle.automata_base.specs.Lists.{In}
 use Rattle.automata_base.specs.Powerset.{Powerset}
 use Rattle.automata_hybrid.specs.Machine.{Machine, template_of, table_stride}
@@ -14,7 +14,6 @@ use Rattle.automata_config.specs.declared.error.StepError.TheVariants.{Cache, Ou
 use Rattle.std.specs.Prelude.{IsBitSet, ◌↔◌, Result, Ok}
 use Rattle.automata_hybrid.proofs.Places.{Names-silent, no_patterns, bit_of, zero_one}
 use Rattle.automata_base.specs.Classes.{is_quit}
-use Rattle.automata_base.proofs.Paths.Orders.{none_some}
 use Rattle.automata_base.specs.Steps.{successor}
 use Rattle.automata_config.specs.Options.{match_kind_of}
 
