@@ -1,6 +1,6 @@
 -- Searches whose start and transitions are all known.
 use Rattle.std.proofs.Common.{ℕ, suc, ◌≡◌, ◌∙◌, ◌+◌, ◌^◌, ◌<◌, ◌≤◌, ◌⊎◌, inl, inr, Bool, true, false, length, Option, Some, None, refl, sym, subst, arith}
-use Rattle.std.specs.Prelude.{Result, Ok, Err, IfErr, IfOk, OnOk}
+use Rattle.std.specs.Prelude.{Result, IfErr}
 use Rattle.std.proofs.lemmas.Result.{IfErr-weaker}
 use Rattle.automata_base.specs.Answers.{Tries, later}
 use Rattle.automata_base.specs.Input.{Input}
@@ -23,7 +23,7 @@ use Rattle.automata_hybrid.specs.Machine.{Machine, table_stride, slot_count}
 use Rattle.automata_hybrid.specs.Passing.{HasLearned, HasLearnedAll, HasLearnedUnit, IsAt}
 use Rattle.automata_hybrid.specs.Searches.{Finds, Reads, Skips, state_in, tape_in}
 use Rattle.automata_hybrid.specs.Slots.{slot_behind, supports}
-use Rattle.automata_hybrid.specs.Starting.{HasSlot, IsStartAnswer, IsStartEffect, IsStartRefusal, IsStartRefusedAt, KnowsStart, MayStart, quit_behind, search_refusal}
+use Rattle.automata_hybrid.specs.Starting.{HasSlot, IsStartEffect, IsStartRefusal, IsStartRefusedAt, KnowsStart, MayStart, quit_behind, search_refusal}
 use Rattle.automata_hybrid.specs.Table.{Names, Rows}
 use Rattle.automata_hybrid.proofs.Searching.{at_reads, false_true, lt_or_le}
 
@@ -178,14 +178,6 @@ module _ (m : Machine) (old new : CacheView) (mode : Anchored) (behind : Option 
 
   pub start_idle : (new ≡ old) × IfErr r IsOfInput
   start_idle = (same, IfErr-weaker r _ _ of_input refusal)
-
--- a start that was found is known
-pub learned_start :
-    {E : Type 0} (m : Machine) (old new : CacheView) (mode : Anchored) (behind : Option ℕ) (r : Result ℕ E)
-    → IfOk r (IsStartAnswer m mode behind old new)
-    → OnOk r (HasSlot m mode behind → IsKnownStart new.store (slot_behind m mode behind))
-learned_start m old new mode behind (Ok n) answer = λ l. (answer.learned l).1.1
-learned_start m old new mode behind (Err e) answer = tt
 
 -- what a search has learned over the spans that it tried so far
 abbrev pub LearnedSpans : Direction → Machine → Stored → Input → ℕ → Type 0

@@ -1,5 +1,5 @@
 -- Units that a search reads from an ID, from what the step on each answers and changes.
-use Rattle.std.proofs.Common.{ℕ, ◌≡◌, ◌∙◌, ◌+◌, ◌<◌, ◌≤◌, ◌⊎◌, Option, None, inl, inr, refl, sym, ap, subst, arith}
+use Rattle.std.proofs.Common.{ℕ, ◌≡◌, ◌∙◌, ◌+◌, ◌<◌, ◌≤◌, Option, None, refl, sym, ap, subst, arith}
 use Rattle.std.specs.Prelude.{Result, Ok, Err}
 use Rattle.std.specs.Result.{IsErrAnd}
 use Rattle.automata_base.specs.Powerset.{Powerset, dead}
@@ -23,7 +23,6 @@ use Rattle.automata_hybrid.specs.Stepping.{IsStepAnswer, IsStepEffect, KnowsStep
 use Rattle.automata_hybrid.specs.Stores.{with_searched}
 use Rattle.automata_hybrid.specs.Table.{IsValid, Names}
 use Rattle.automata_hybrid.proofs.Growing.{grown_moved, grown_trans, nothing_second}
-use Rattle.automata_hybrid.proofs.Searching.{lt_or_le}
 use Rattle.automata_hybrid.proofs.StepCalls.{no_quit_unit}
 use Rattle.automata_hybrid.proofs.Stepping.{refused}
 
@@ -61,16 +60,6 @@ end_room m id quit_at at old new e valid why = go e (why valid.0 valid.1) where
   go (search.Match (UnsupportedMode mode)) why = absurd why
   go search.OutOfMemory why = tt
   go search.NotAPair why = absurd why
-
--- an ID that a step was made from isn't fixed
-pub low_before :
-    (m : Machine) (id : ℕ) (unit : Option ℕ) (old new : CacheView)
-    → IsStepEffect m id unit old new → IsValid old.store.table id
-    → ((q : Powerset) → Names new.store.table id q → id < fixed_from) → id < fixed_from
-low_before m id unit old new effect valid low = go (lt_or_le id fixed_from) where
-  go : (id < fixed_from) ⊎ (fixed_from ≤ id) → id < fixed_from
-  go (inl l) = l
-  go (inr h) = low valid.0 (subst (λ (v : CacheView). Names v.store.table id valid.0) (sym (effect.fixed h)) valid.1)
 
 -- a search may have moved, and then makes the step on a unit
 module _ (m : Machine) (id : ℕ) (unit : Option ℕ) (old mid next : CacheView) {s : Searched}

@@ -258,14 +258,6 @@ walk_clears_none old new Fresh n g there few room = clears_none old new (n + 1) 
 walk_clears_none old new (At q) n g there few room = clears_none_back old new n g (omega (arith, few)) room
 walk_clears_none old new Ended n g there few room = clears_none_back old new n g (omega (arith, few)) room
 
--- the pair told is that of each list that ordered paths define
-pub paths_next :
-    (way : Direction) (m : Machine) (input : Input) (w : Walk) (R : Type 0) (r : Result (Unit {0}) R) (next : Walk)
-    → OnOk r (TellsNext way m input w next) → (k : ℕ) (pairs : List Pair) → HasTold way m input w k → AreWalked way m input pairs
-    → OnOk r (next.found ≡ half_nth pairs k)
-paths_next way m input w R (Ok u) next tells k pairs told walked = ((tells k told).1 pairs walked).0
-paths_next way m input w R (Err e) next tells k pairs told walked = tt
-
 -- it stays a walk over its input
 pub still_walk :
     (way : Direction) (m : Machine) (input : Input) (w : Walk) (R : Type 0) (r : Result (Unit {0}) R) (next : Walk)
