@@ -22,7 +22,7 @@ use Rattle.automata_hybrid.specs.Usage.{GivesUp}
 use Rattle.automata_hybrid.specs.Effects.{AddsStart, IsStarted}
 use Rattle.automata_hybrid.specs.Caches.{CacheView, HasRow, IsCacheOf, counted, with_store}
 use Rattle.automata_hybrid.specs.Progressing.{saturated}
-use Rattle.automata_hybrid.specs.Slots.{slot_behind, supports}
+use Rattle.automata_hybrid.specs.Slots.{supports}
 use Rattle.automata_hybrid.specs.Starting.{IsStartAnswer, IsStartEffect, IsStartRefusal, IsStartRefusalAt, IsStartRefused, IsStartRefusedAt, IsStartSlot, KnowsStart, MayStart, known_start, quit_behind, search_refusal, start_refusal, start_row}
 use Rattle.automata_hybrid.proofs.Effects.{Keeps-started, roomy-started}
 use Rattle.automata_hybrid.proofs.Growing.{grown_counted, grown_one, grown_same}

@@ -1,4 +1,4 @@
-use Rattle.std.proofs.Common.{false, ◌≡◌, ◌≤◌, ◌+◌, ◌-◌}
+use Rattle.std.proofs.Common.{false, ◌≡◌, ◌≤◌, ◌-◌}
 use Rattle.automata_base.specs.Answers.{Tries}
 use Rattle.automata_base.specs.Tapes.{Backward}
 use Rattle.automata_hybrid.specs.Caches.{IsCacheOf}
