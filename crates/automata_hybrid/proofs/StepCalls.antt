@@ -5,17 +5,16 @@ use Rattle.automata_base.specs.Classes.{is_quit}
 use Rattle.automata_base.specs.Powerset.{Powerset, cost}
 use Rattle.automata_base.specs.Steps.{successor}
 use Rattle.automata_base.proofs.Paths.Orders.{none_some, some_inj}
-use Rattle.automata_hybrid.specs.Stores.{IsCacheError, IsKnownTransition, KeepsStarts, Stored, cell_of, with_next}
+use Rattle.automata_hybrid.specs.Stores.{IsKnownTransition, KeepsStarts, Stored, cell_of, with_next}
 use Rattle.automata_hybrid.specs.Usage.{GivesUp}
 use Rattle.automata_hybrid.specs.Effects.{AddsNext, IsAdded, IsComputed}
 use Rattle.automata_hybrid.specs.Caches.{CacheView, HasRow, IsCacheOf, counted, with_store}
 use Rattle.automata_hybrid.specs.Growing.{ClearedNothing}
 use Rattle.automata_hybrid.specs.Ids.{fixed_from, quit_id, unknown_id}
 use Rattle.automata_hybrid.specs.Machine.{Machine, greatest, next_of, template_of, table_stride}
-use Rattle.automata_hybrid.specs.Owned.{IsOwn}
 use Rattle.automata_hybrid.specs.Progressing.{saturated}
 use Rattle.automata_hybrid.specs.Searches.{IsNoQuit}
-use Rattle.automata_hybrid.specs.Stepping.{IsStepAnswer, IsStepEffect, IsStepRefused, KnowsStep, quits_on, unit_class}
+use Rattle.automata_hybrid.specs.Stepping.{IsStepAnswer, IsStepEffect, KnowsStep, quits_on, unit_class}
 use Rattle.automata_hybrid.specs.Table.{Has, HasCells, HasItsMatchTag, HasRowIds, IsCell, IsValid, Lacks, Leads, Names, Rows}
 use Rattle.automata_hybrid.proofs.Bounding.{Leads-known}
 use Rattle.automata_hybrid.proofs.Effects.{Keeps-computed, roomy-computed, written-computed}
@@ -25,7 +24,6 @@ use Rattle.automata_hybrid.proofs.Searching.{false_true}
 use Rattle.automata_hybrid.proofs.StartTags.{computed_adds, computed_keeps, same_adds, same_keeps}
 use Rattle.automata_hybrid.proofs.Starting.{leads_row}
 use Rattle.automata_config.specs.Options.{match_kind_of}
-use Rattle.automata_config.specs.declared.error.StepError.{StepError}
 
 -- a step that takes no memory changes nothing
 pub same_effect :

@@ -1,8 +1,8 @@
 use Rattle.std.proofs.Common.{◌≡◌, ℕ, List, ◌∷◌, length, Bool, true, false, None, Some, [], ◌+◌, ◌*◌, ◌^◌, ◌<◌, ◌≤◌, inl, inr, refl, sym, ap, subst, arith, get_or, Option}
 use Rattle.automata_base.specs.Lists.{In}
 use Rattle.automata_base.specs.Powerset.{Powerset}
-use Rattle.automata_hybrid.specs.Machine.{Machine, template_of, table_stride}
-use Rattle.automata_hybrid.specs.Table.{Rows, IsCell, IsValid, Leads, Names}
+use Rattle.automata_hybrid.specs.Machine.{Machine, table_stride}
+use Rattle.automata_hybrid.specs.Table.{Rows, IsValid, Leads, Names}
 use Rattle.automata_hybrid.specs.Ids.{quit_id}
 use Rattle.automata_hybrid.specs.Caches.{HasRow}
 use Rattle.automata_hybrid.specs.Stores.{Stored, IsCacheError}
@@ -11,7 +11,7 @@ use Rattle.automata_hybrid.specs.Passing.{IsDeadTagged, step_refusal}
 use Rattle.automata_hybrid.specs.Searches.{IsNoQuit, IsStepRefusal}
 use Rattle.automata_config.specs.declared.error.StepError.{StepError}
 use Rattle.automata_config.specs.declared.error.StepError.TheVariants.{Cache, OutOfMemory}
-use Rattle.std.specs.Prelude.{IsBitSet, ◌↔◌, Result, Ok}
+use Rattle.std.specs.Prelude.{IsBitSet, ◌↔◌}
 use Rattle.automata_hybrid.proofs.Places.{Names-silent, no_patterns, bit_of, zero_one}
 use Rattle.automata_base.specs.Classes.{is_quit}
 use Rattle.automata_base.proofs.Paths.Orders.{none_some}

@@ -1,10 +1,9 @@
 use Rattle.std.proofs.Common.{◌≡◌, ◌∙◌, ap, inr, sym, subst}
-use Rattle.automata_base.specs.Powerset.{Powerset, cost}
+use Rattle.automata_base.specs.Powerset.{Powerset}
 use Rattle.automata_base.specs.Steps.{start_state_of}
-use Rattle.automata_config.specs.declared.error.StepError.{StepError}
 use Rattle.automata_hybrid.specs.Caches.{CacheView}
 use Rattle.automata_hybrid.specs.Founds.{IsLookedUp}
-use Rattle.automata_hybrid.specs.Machine.{Machine, greatest, slot_count}
+use Rattle.automata_hybrid.specs.Machine.{Machine, slot_count}
 use Rattle.automata_hybrid.specs.Table.{IsNewState, Leads}
 use Rattle.automata_hybrid.specs.declared.dfa.cache.Found.TheVariants.{Known, New}
 use Rattle.automata_hybrid.proofs.Adding.{cheap, looked_up, new_state}
