@@ -1,5 +1,5 @@
-ghost use Rattle.std.specs.Prelude.{ℕ, ◌≡◌, ◌+◌, ◌-◌, ◌*◌, ◌/◌, ◌^◌, ◌<◌, ◌≤◌, ◌↔◌, ◌⊎◌, None, Some, IfOk, OnOk, OnErr};
-ghost use Rattle.std.specs.Prelude.{length, slice_index, IsTrue, IfErr, is_ok, is_some, true, false, IsBitSet};
+ghost use Rattle.std.specs.Prelude.{ℕ, ◌≡◌, ◌+◌, ◌-◌, ◌*◌, ◌/◌, ◌^◌, ◌<◌, ◌≤◌, ◌↔◌, None, IfOk, OnOk, OnErr};
+ghost use Rattle.std.specs.Prelude.{length, slice_index, IsTrue, IfErr, is_some, true, IsBitSet};
 ghost use Rattle.automata_base.specs.Powerset.{Powerset, cost, dead};
 ghost use Rattle.automata_base.specs.Accounting.{minimum_capacity};
 ghost use Rattle.automata_hybrid.specs.Owned.{IsOwn};
