@@ -11,7 +11,8 @@ use Rattle.regex_automata.specs.Costs.{AreCostsOf, IsPassCost}
 use Rattle.regex_automata.specs.Iterating.{AreCostsTwice, KnowsNext, LearnsItem}
 use Rattle.regex_automata.specs.Matching.{EndsMatch, IsMatchCost, KnowsMatch, LeavesMatch}
 use Rattle.regex_automata.specs.RegexCaches.{AreGrown, AreStill, KnowsBack, KnowsBoth, NothingCleared}
-use Rattle.regex_automata.specs.RegexProgress.{EndsBack, EndsNext, EndsSpan, LeavesBack, LeavesItem, LeavesNext, LeavesSpan}
+use Rattle.regex_automata.specs.RegexProgress.{EndsBack, EndsNext, EndsSpan}
+use Rattle.regex_automata.specs.RegexProgress.{LeavesBack, LeavesItem, LeavesNext, LeavesSpan}
 use Rattle.regex_automata.specs.RegexRefusals.{IsOfGiven}
 use Rattle.regex_automata.specs.declared.hybrid.regex.Regex.{Regex}
 use Rattle.regex_automata.specs.declared.hybrid.regex.caches.Cache.{Cache}
