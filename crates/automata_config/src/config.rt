@@ -76,7 +76,7 @@ impl Config {
         Config::default()
     }
 
-    /// Which matches a search tells.
+    /// Which matches a search tells. By default `MatchKind::LeftmostFirst`: that of the path that goes first.
     pub fn match_kind(self, kind: MatchKind) -> Config
         ensures { result ≡ record self { match_kind = Some kind } }
     {
@@ -86,7 +86,8 @@ impl Config {
         }
     }
 
-    /// Whether each pattern has start states of its own, so that it can be searched for alone.
+    /// Whether each pattern has start states of its own, so that it can be searched for alone, by `Anchored::Pattern`.
+    /// By default it hasn't, and such a search is refused.
     pub fn starts_for_each_pattern(self, yes: bool) -> Config
         ensures { result ≡ record self { starts_for_each_pattern = Some yes } }
     {
@@ -96,7 +97,8 @@ impl Config {
         }
     }
 
-    /// Whether bytes that lead alike share a class. Without, each byte is a class of its own.
+    /// Whether bytes that lead alike share a class, which makes rows shorter. By default they do; without, each byte is
+    /// a class of its own.
     pub fn byte_classes(self, yes: bool) -> Config
         ensures { result ≡ record self { byte_classes = Some yes } }
     {
@@ -106,7 +108,8 @@ impl Config {
         }
     }
 
-    /// Whether Unicode word boundaries are tried, the bytes from 0x80 on being quit bytes where one occurs.
+    /// Whether Unicode word boundaries are tried, the bytes from 0x80 on being quit bytes where one occurs. By default
+    /// they aren't: an automaton with one is refused, unless all these bytes are quit bytes.
     pub fn unicode_word_boundary(self, yes: bool) -> Config
         ensures { result ≡ record self { unicode_word_boundary = Some yes } }
     {
@@ -123,7 +126,8 @@ impl Config {
         !(self.get_unicode_word_boundary() && byte >= 0x80 && !yes)
     }
 
-    /// Puts a byte into the set of bytes at which a search quits, or takes it out.
+    /// Puts a byte into the set of bytes at which a search quits, or takes it out. By default the set is empty. With
+    /// `unicode_word_boundary` no byte from 0x80 on may be taken out: `allows_quit` is the test.
     pub fn quit(self, byte: u8, yes: bool) -> Config
         requires { IsTrue (options.allows_quit self byte yes) }
         ensures { result ≡ record self { quits = Some (slice_set (options.quits_of self) byte yes) } }
@@ -136,7 +140,7 @@ impl Config {
         }
     }
 
-    /// Whether the IDs of start states are tagged.
+    /// Whether the IDs of start states are tagged, so that `LazyStateID::is_start` tells them. By default they aren't.
     pub fn specialize_start_states(self, yes: bool) -> Config
         ensures { result ≡ record self { specialize_start_states = Some yes } }
     {
@@ -146,7 +150,8 @@ impl Config {
         }
     }
 
-    /// How many accounted bytes a cache may have.
+    /// How many accounted bytes a cache may have. By default 2 MiB. A capacity below `get_minimum_cache_capacity` is
+    /// refused when a DFA is built, unless `skip_cache_capacity_check` is set.
     pub fn cache_capacity(self, bytes: usize) -> Config
         ensures { result ≡ record self { cache_capacity = Some bytes } }
     {
@@ -156,7 +161,7 @@ impl Config {
         }
     }
 
-    /// Whether the minimum is taken in place of a capacity below it, which is refused otherwise.
+    /// Whether the minimum is taken in place of a capacity below it. By default such a capacity is refused.
     pub fn skip_cache_capacity_check(self, yes: bool) -> Config
         ensures { result ≡ record self { skip_cache_capacity_check = Some yes } }
     {
@@ -166,7 +171,8 @@ impl Config {
         }
     }
 
-    /// After how many clears a search may give up.
+    /// After how many clears of its cache a search may give up, where it wants one more. By default, `None`, it never
+    /// gives up.
     pub fn minimum_cache_clear_count(self, min: Option<usize>) -> Config
         ensures { result ≡ record self { minimum_cache_clear_count = Some min } }
     {
@@ -176,7 +182,8 @@ impl Config {
         }
     }
 
-    /// How many bytes searched for each state keep a search from giving up.
+    /// How many bytes, searched since the last clear for each state of the cache, keep a search from giving up. By
+    /// default, `None`, no number does. It counts only where `minimum_cache_clear_count` is set.
     pub fn minimum_bytes_per_state(self, min: Option<usize>) -> Config
         ensures { result ≡ record self { minimum_bytes_per_state = Some min } }
     {

@@ -1,12 +1,12 @@
 -- What the passes of a search cost.
-use Rattle.std.proofs.Common.{ℕ, zero, suc, ◌≡◌, ◌<◌, ◌≤◌, ◌+◌, ◌*◌, ◌-◌, ◌⊎◌, inl, inr, Option, refl, sym, subst, arith, eq-or-lt_of_le}
+use Rattle.std.proofs.Common.{ℕ, zero, suc, ◌≡◌, ◌<◌, ◌≤◌, ◌+◌, ◌*◌, ◌-◌, ◌⊎◌, inl, inr, Option, refl, sym, ap, subst, arith, eq-or-lt_of_le}
 use Rattle.automata_base.specs.Answers.{Tries, later}
 use Rattle.automata_base.specs.declared.util.search.Anchored.TheVariants.{No}
 use Rattle.automata_base.specs.Input.{Input}
 use Rattle.automata_base.specs.Selections.{Pair}
-use Rattle.automata_base.specs.Tapes.{Direction}
+use Rattle.automata_base.specs.Tapes.{Direction, Forward, Backward}
 use Rattle.automata_hybrid.specs.Caches.{CacheView}
-use Rattle.automata_hybrid.specs.Costs.{IsCostOfPasses, IsCostOfSearch, passes_most}
+use Rattle.automata_hybrid.specs.Costs.{IsCostOfPasses, IsCostOfSearch, SearchesCostFew, passes_most}
 use Rattle.automata_hybrid.specs.Growing.{IsGrown}
 use Rattle.automata_hybrid.specs.Knowing.{KnowsItsStart}
 use Rattle.automata_hybrid.specs.Machine.{Machine}
@@ -54,6 +54,13 @@ tries_before T S way input j k l tries = (first tries.0, λ i less. tries.1 i (o
   first : (k ≡ 0) ⊎ (S × (input.anchored ≡ No)) → (j ≡ 0) ⊎ (S × (input.anchored ≡ No))
   first (inl e) = inl (omega (arith, e, l))
   first (inr free) = inr free
+
+-- the first span that is tried is the input's
+later_none : (way : Direction) (input : Input) → later way 0 input ≡ input
+later_none Forward input =
+    let same : input.start + 0 ≡ input.start = omega arith in ap (λ n. record input { start = n }) same
+later_none Backward input =
+    let same : input.end - 0 ≡ input.end = omega arith in ap (λ n. record input { end = n }) same
 
 -- how often so many passes of a search determinised, and how often where their starts were known
 pub record AreCounted (way : Direction) (m : Machine) (input : Input) (passes : ℕ) (old new : CacheView) : Type 0 where
@@ -126,6 +133,29 @@ module _ (way : Direction) (m : Machine) (input : Input) (old new : CacheView) w
       second (inl e) = omega (arith, e)
       second (inr free) = whole free
 
+  -- whose start, where it is known, isn't determinised again
+  pub cost_known :
+      IsCostOfSearch way m input old new → (Skips m × (input.anchored ≡ No) → ⊥) → KnowsItsStart way m old.store input
+      → new.count ≤ old.count + (input.end - input.start + 1)
+  cost_known (passes, cost) whole begins = go passes cost where
+    first : (k : ℕ) → k < 1 → KnowsItsStart way m old.store (later way k input)
+    first k l =
+        let none : k ≡ 0 = omega (arith, l) in
+        subst (λ i. KnowsItsStart way m old.store (later way i input)) (sym none)
+        (subst (KnowsItsStart way m old.store) (sym (later_none way input)) begins)
+
+    go : (passes : ℕ) → IsCostOfPasses way m input passes old new → new.count ≤ old.count + (input.end - input.start + 1)
+    go zero cost =
+        let counted : new.count ≤ old.count + 0 = cost.counted in
+        omega (arith, counted)
+    go (suc zero) cost =
+        let counted : new.count + 1 ≤ old.count + (0 + (input.end - input.start - 0 + 2)) = cost.started first in
+        omega (arith, counted)
+    go (suc (suc k)) cost = absurd (second (cost.tried (suc k) (omega arith)).0.0) where
+      second : (suc k ≡ 0) ⊎ (Skips m × (input.anchored ≡ No)) → ⊥
+      second (inl e) = omega (arith, e)
+      second (inr free) = whole free
+
   -- and a pass over each span at most
   pub passes_few : (passes : ℕ) → IsCostOfPasses way m input passes old new → passes ≤ input.end - input.start + 1
   passes_few zero cost = omega arith
@@ -142,6 +172,7 @@ module _ (way : Direction) (m : Machine) (input : Input) (old new : CacheView) w
       most_fewer passes (input.end - input.start + 1) (input.end - input.start) (passes_few passes cost) in
       omega (arith, counted, most)
 
+  -- so one for each place, and one more, times as many as one pass may make
   pub cost_all :
       IsCostOfSearch way m input old new
       → new.count ≤ old.count + (input.end - input.start + 1) * (input.end - input.start + 2)
@@ -150,3 +181,7 @@ module _ (way : Direction) (m : Machine) (input : Input) (old new : CacheView) w
       let times : passes_most (input.end - input.start + 1) (input.end - input.start) ≤ (input.end - input.start + 1) * (input.end - input.start + 2) =
       most_times (input.end - input.start + 1) (input.end - input.start) in
       omega (arith, spans, times)
+
+-- by the bytes of its span alone
+pub costs_are_few : SearchesCostFew
+costs_are_few way m input old new cost = (cost_once way m input old new cost, cost_all way m input old new cost)

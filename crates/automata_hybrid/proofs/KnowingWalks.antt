@@ -24,13 +24,6 @@ use Rattle.automata_hybrid.proofs.Walked.{told_rises}
 pub units_none : (way : Direction) (m : Machine) (c : Stored) (input : Input) (from : ℕ) → HasLearnedUnits way m c input from from
 units_none way m c input from = λ j l h. absurd (omega (arith, l, h))
 
--- where nothing is lost, what was learned is known
-pub units_still :
-    (way : Direction) (m : Machine) (old new : CacheView) (input : Input) (from to : ℕ)
-    → IsGrown old new → ClearedNothing old.store new.store → HasLearnedUnits way m old.store input from to → HasLearnedUnits way m new.store input from to
-units_still way m old new input from to g nothing learned = λ j l h.
-    unit_still way m old.store new.store input g.of (g.kept nothing) j (learned j l h)
-
 -- one unit more, behind those that were followed
 pub units_more :
     (way : Direction) (m : Machine) (old new : CacheView) (input : Input) (from read k id : ℕ)

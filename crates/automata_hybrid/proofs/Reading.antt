@@ -47,6 +47,7 @@ pub told_refusal :
 told_refusal m id unit quit_at at old new e h q n =
     subst (IsStepRefusal m new.store q unit quit_at at) (sym h.told)
     (refused m old.store new.store q unit quit_at at h.error (no_quit_unit m unit h.refused.clean)
+    (λ other names known. (let one : other ≡ id = cc in h.refused.unknown (subst (λ k. KnowsStep m old.store k unit) one known)))
     (ap (λ (v : CacheView). v.store) h.refused.unchanged) (λ c. h.refused.gives_up c q n))
 
 -- at the end no quit byte is met

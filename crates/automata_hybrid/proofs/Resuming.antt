@@ -1,5 +1,5 @@
 -- Going on with a walk: what the functions under its calls answer, and what they make of their cache.
-use Rattle.std.proofs.Common.{ℕ, suc, ◌≡◌, ◌∙◌, ◌<◌, ◌≤◌, inl, inr, true, false, length, Option, None, Some, refl, sym, ap, subst, arith}
+use Rattle.std.proofs.Common.{ℕ, suc, ⊎_elim, ◌≡◌, ◌∙◌, ◌<◌, inl, inr, true, false, length, Option, None, Some, refl, sym, ap, subst, arith}
 use Rattle.std.specs.Prelude.{Err, IfErr, IfOk, Ok, Result}
 use Rattle.std.proofs.lemmas.Result.{IfErr-weaker, IfOk-weaker, on_ok_weaker}
 use Rattle.automata_base.specs.Answers.{offset_in}
@@ -16,11 +16,11 @@ use Rattle.automata_config.specs.declared.error.SearchError.TheVariants as searc
 use Rattle.automata_hybrid.specs.Stores.{IsKnownTransition, Stored, with_searched}
 use Rattle.automata_hybrid.specs.declared.dfa.progress.Searched.{Searched}
 use Rattle.automata_hybrid.specs.Caches.{CacheView, with_store}
-use Rattle.automata_hybrid.specs.KnowingWalks.{IsToRead, KnowsItsState}
+use Rattle.automata_hybrid.specs.KnowingWalks.{KnowsItsState}
 use Rattle.automata_hybrid.specs.Growing.{IsGrown}
 use Rattle.automata_hybrid.specs.Machine.{Machine, slot_count, table_stride}
 use Rattle.automata_hybrid.specs.Owing.{IsUnsupported, unsupported_error}
-use Rattle.automata_hybrid.specs.OwingWalks.{IsCallEffect, ReadsNothing}
+use Rattle.automata_hybrid.specs.OwingWalks.{IsCallEffect}
 use Rattle.automata_hybrid.specs.Reading.{IsReadEffect, IsReadProgress}
 use Rattle.automata_hybrid.specs.Resuming.{IsCallRefused, IsResumeAnswer, IsResumeEffect, IsUnitEffect, ReadsOn, lost_without, resumed}
 use Rattle.automata_hybrid.specs.SearchedWalks.{ReadsNoUnit}
@@ -42,13 +42,6 @@ use Rattle.automata_hybrid.proofs.Starting.{refusal_at}
 pub kept_by : (w : Walk) (at : Option ℕ) → CanGoOn w at → (resumed w at).lost ≡ false
 kept_by w None can = can refl
 kept_by w (Some id) can = refl
-
--- one that reads units doesn't read nothing
-pub reads_nothing : (input : Input) (w : Walk) → IsToRead input w.stage w.units w.told → ReadsNothing input w → ⊥
-reads_nothing input w r (inl ended) = r.on ended
-reads_nothing input w r (inr (kept, inl (q, at, few))) =
-    (let all : length q.patterns ≤ w.told = r.all_told q at in omega (arith, all, few))
-reads_nothing input w r (inr (kept, inr past)) = omega (arith, r.undone, past)
 
 -- a start in a mode that isn't supported is refused for that, behind no quit byte
 unsupported_start :
@@ -94,7 +87,7 @@ refused_on way m input w at new e on can why = record {
   why = λ kept k told. why k told;
   lost = λ lost. absurd (false_true (sym (kept_by w at can) ∙ lost));
   unsupported = λ fresh u. unsupported_call way m new input w on.told.0 e fresh u (why on.told.0 on.told.1);
-  ready = reads_nothing input (resumed w at) on.reads;
+  ready = λ none _. reads_some input w on.reads none;
 }
 
 -- a walk that lost its state, and is given no ID of it
@@ -108,17 +101,15 @@ module _ (way : Direction) (m : Machine) (input : Input) (w : Walk) (at : Option
     why = λ kept. absurd (false_true (sym kept ∙ stuck));
     lost = λ _. refl;
     unsupported = λ fresh. absurd (begun fresh);
-    ready = reads;
-  } where
-    reads : ReadsNothing input (resumed w at) → ⊥
-    reads (inl ended) = on ended
-    reads (inr (kept, r)) = false_true (sym kept ∙ stuck)
+    ready = λ none. ⊎_elim on (λ kept. false_true (sym kept ∙ stuck));
+  }
 
   pub effect_stuck : (next : Walk) → IsCallEffect {T = Option ℕ} way m input (resumed w at) next c c (Err search.OutOfMemory)
   effect_stuck next = record {
     rises = tt;
     cost = tt;
     most = omega arith;
+    started = λ _. (omega arith, tt);
     roomy = λ _. refl;
     grown = grown_less c c (grown_same c c refl);
     there = λ _. grown_same c c refl;
@@ -138,10 +129,11 @@ effect_none way m input w at next c id none same = record {
   rises = omega (arith, same);
   cost = omega (arith, same);
   most = omega arith;
+  started = λ _. (omega arith, omega (arith, same));
   roomy = λ _. refl;
   grown = grown_less c c (grown_same c c refl);
   there = λ _. grown_same c c refl;
-  learned = λ nothing k told r may. absurd (reads_some input w r.undone r.on r.all_told r.left none);
+  learned = λ nothing k told r may. absurd (reads_some input w r none);
   known = λ _. (still_same c c refl, λ _. tt);
   ended = inl (none, refl);
   left = tt;
@@ -162,6 +154,7 @@ call_effect way m input w next old new (Ok t) u e = record {
   rises = e.rises;
   cost = e.cost;
   most = e.most;
+  started = e.started;
   roomy = e.roomy;
   grown = e.grown;
   there = e.there;
@@ -175,6 +168,7 @@ call_effect way m input w next old new (Err x) u e = record {
   rises = e.rises;
   cost = e.cost;
   most = e.most;
+  started = e.started;
   roomy = e.roomy;
   grown = e.grown;
   there = e.there;

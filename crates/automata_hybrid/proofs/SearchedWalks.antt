@@ -3,7 +3,6 @@ use Rattle.std.proofs.Common.{ℕ, ◌≡◌, ◌∙◌, ◌-◌, ◌≤◌, ◌
 use Rattle.std.specs.Prelude.{Err, IfErr, Ok, OnErr, Result}
 use Rattle.automata_base.specs.Input.{Input}
 use Rattle.automata_base.specs.Paths.{next}
-use Rattle.automata_base.specs.Powerset.{Powerset}
 use Rattle.automata_base.specs.Tapes.{Direction, Forward, Backward}
 use Rattle.automata_base.specs.declared.util.search.Anchored.{Anchored}
 use Rattle.automata_config.specs.declared.error.SearchError.{SearchError}
@@ -12,6 +11,7 @@ use Rattle.automata_hybrid.specs.declared.dfa.progress.Searched.{Searched}
 use Rattle.automata_hybrid.specs.Stores.{Stored, with_searched}
 use Rattle.automata_hybrid.specs.Caches.{CacheView, counted, with_store}
 use Rattle.automata_hybrid.specs.Growing.{IsGrown, KeepsProgress}
+use Rattle.automata_hybrid.specs.KnowingWalks.{IsToRead}
 use Rattle.automata_hybrid.specs.Machine.{Machine}
 use Rattle.automata_hybrid.specs.Progressing.{finished, started, updated}
 use Rattle.automata_hybrid.specs.Searched.{CountsFrom, IsEndedAt, IsLeftAt, IsMovedTo, IsOpenAt, none_searched}
@@ -142,15 +142,12 @@ module _ (input : Input) (first : ℕ) (low : input.start ≤ first) (high : fir
   pub dies_at : new.searched ≡ finished (started begun.searched first) first → IsEndedAt input old.searched first first old new
   dies_at e = recounts_ended first (begun.searched, first, inl (refl, refl), e)
 
--- a walk goes on over units
-pub reads_some :
-    (input : Input) (w : Walk) → input.start ≤ input.end → (w.stage ≡ Ended → ⊥)
-    → ((q : Powerset) → w.stage ≡ At q → length q.patterns ≤ w.told) → w.units ≤ input.end - input.start
-    → ReadsNoUnit input w → ⊥
-reads_some input w undone on told within (inl ended) = on ended
-reads_some input w undone on told within (inr (inl (q, at, few))) =
-    (let all : length q.patterns ≤ w.told = told q at in omega (arith, all, few))
-reads_some input w undone on told within (inr (inr past)) = omega (arith, undone, within, past)
+-- a call that is to read units reads some
+pub reads_some : (input : Input) (w : Walk) → IsToRead input w.stage w.units w.told → ReadsNoUnit input w → ⊥
+reads_some input w r (inl ended) = r.on ended
+reads_some input w r (inr (inl (q, at, few))) =
+    (let all : length q.patterns ≤ w.told = r.all_told q at in omega (arith, all, few))
+reads_some input w r (inr (inr past)) = omega (arith, r.undone, r.left, past)
 
 -- a walk that lost its state isn't gone on with
 pub stuck_refusal :

@@ -37,9 +37,6 @@ some_eq : {A : Type 0} {a b : A} → ◌≡◌ {A = Option A} (Some a) (Some b) 
 some_eq e = cc
 
 module _ (T : Input → Option Pair → Type 0) (S : Type 0) (way : Direction) (input : Input) where
-  pub tries_first : Tries T S way input 0
-  tries_first = (inl refl, λ j l. absurd (omega (arith, l)))
-
   pub tries_more :
       (k : ℕ) → Tries T S way input k → S → input.anchored ≡ No → input.start + k ≤ input.end
       → IsSplit T way (later way k input) → Tries T S way input (suc k)

@@ -11,19 +11,17 @@ use Rattle.automata_config.specs.declared.error.StartError.{StartError}
 use Rattle.automata_config.specs.declared.error.StartError.TheVariants as start
 use Rattle.automata_config.specs.declared.error.SearchError.{SearchError}
 use Rattle.automata_config.specs.declared.error.SearchError.TheVariants as search
-use Rattle.automata_config.specs.declared.error.StepError.{StepError}
-use Rattle.automata_config.specs.declared.error.StepError.TheVariants as step
 use Rattle.automata_hybrid.specs.declared.dfa.row.Row.{Row}
 use Rattle.automata_hybrid.specs.Ids.{unknown_id}
 use Rattle.automata_hybrid.specs.Machine.{Machine, greatest, slot_count, start_of, table_stride, template_of}
 use Rattle.automata_hybrid.specs.Table.{Has, HasCells, HasItsMatchTag, HasRowIds, Lacks, Leads, MayLead, Names, Rows}
-use Rattle.automata_hybrid.specs.Stores.{Stored, IsCacheError, IsKnownStart, KeepsStarts, with_start}
+use Rattle.automata_hybrid.specs.Stores.{Stored, IsKnownStart, KeepsStarts, with_start}
 use Rattle.automata_hybrid.specs.Usage.{GivesUp}
 use Rattle.automata_hybrid.specs.Effects.{AddsStart, IsStarted}
 use Rattle.automata_hybrid.specs.Caches.{CacheView, HasRow, IsCacheOf, counted, with_store}
 use Rattle.automata_hybrid.specs.Progressing.{saturated}
 use Rattle.automata_hybrid.specs.Slots.{supports}
-use Rattle.automata_hybrid.specs.Starting.{IsStartAnswer, IsStartEffect, IsStartRefusal, IsStartRefusalAt, IsStartRefused, IsStartRefusedAt, IsStartSlot, KnowsStart, MayStart, known_start, quit_behind, search_refusal, start_refusal, start_row}
+use Rattle.automata_hybrid.specs.Starting.{IsStartAnswer, IsStartEffect, IsStartRefusal, IsStartRefusalAt, IsStartRefusedAt, IsStartSlot, KnowsStart, MayStart, known_start, quit_behind, search_refusal, start_row}
 use Rattle.automata_hybrid.proofs.Effects.{Keeps-started, roomy-started}
 use Rattle.automata_hybrid.proofs.Growing.{grown_counted, grown_one, grown_same}
 use Rattle.automata_hybrid.proofs.Searched.{started_progress}
@@ -101,24 +99,7 @@ known_answer m mode behind c slot id of at knows value low may tag = record {
       subst (λ (q : Powerset). Leads c.store.table id q)
       (ap (λ (d : Machine). start_of d slot) of ∙ sym (slot_state m mode behind slot at)) h
 
--- a refused start
-pub refused_start :
-    (m : Machine) (mode : Anchored) (behind : Option ℕ) (old new : CacheView) (slot : ℕ) (error : StepError)
-    → IsStartSlot m mode behind slot → (KnowsStart m old.store mode behind → ⊥) → new ≡ counted old
-    → (IsCacheError error → GivesUp old.store (start_state_of m.nfa mode behind))
-    → IsStartRefused m mode behind old new (start_refusal error)
-refused_start m mode behind old new slot error at unknown e gives_up = record {
-  why = why error gives_up;
-  unknown = unknown;
-  slot = λ _. subst (λ n. n < slot_count m) at.at at.within;
-  unchanged = inr e;
-} where
-  why :
-      (error : StepError) → (IsCacheError error → GivesUp old.store (start_state_of m.nfa mode behind))
-      → IsStartRefusal m old.store mode behind (start_refusal error)
-  why (step.Cache err) gives_up = (at.may, gives_up tt)
-  why step.OutOfMemory gives_up = at.may
-
+-- what a refused start makes of its cache
 pub refused_effect :
     (m : Machine) (mode : Anchored) (behind : Option ℕ) (old new : CacheView) (slot : ℕ)
     → IsStartSlot m mode behind slot → (KnowsStart m old.store mode behind → ⊥) → new ≡ counted old

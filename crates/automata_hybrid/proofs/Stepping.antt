@@ -8,7 +8,7 @@ use Rattle.automata_hybrid.specs.Caches.{HasRow}
 use Rattle.automata_hybrid.specs.Stores.{Stored, IsCacheError}
 use Rattle.automata_hybrid.specs.Usage.{GivesUp}
 use Rattle.automata_hybrid.specs.Passing.{IsDeadTagged, step_refusal}
-use Rattle.automata_hybrid.specs.Searches.{IsNoQuit, IsStepRefusal}
+use Rattle.automata_hybrid.specs.Searches.{IsNoQuit, IsStepRefusal, LacksStep}
 use Rattle.automata_config.specs.declared.error.StepError.{StepError}
 use Rattle.automata_config.specs.declared.error.StepError.TheVariants.{Cache, OutOfMemory}
 use Rattle.std.specs.Prelude.{IsBitSet, ◌↔◌}
@@ -68,11 +68,12 @@ dead_tagged t id low small q (inr h) =
 -- a refused step, told at an offset
 pub refused :
     (m : Machine) (c c' : Stored) (q : Powerset) (unit : Option ℕ) (quit_at at : ℕ) (e : StepError)
-    → IsNoQuit m unit → c' ≡ c → (IsCacheError e → GivesUp c (successor m.nfa (match_kind_of m.config) q unit))
+    → IsNoQuit m unit → LacksStep m c q unit → c' ≡ c → (IsCacheError e → GivesUp c (successor m.nfa (match_kind_of m.config) q unit))
     → IsStepRefusal m c' q unit quit_at at (step_refusal e at)
-refused m c c' q unit quit_at at (Cache err) other same gives =
+refused m c c' q unit quit_at at (Cache err) other lacks same gives =
     (other, subst (λ (s : Stored). GivesUp s (successor m.nfa (match_kind_of m.config) q unit)) (sym same) (gives tt), refl)
-refused m c c' q unit quit_at at OutOfMemory other same gives = other
+refused m c c' q unit quit_at at OutOfMemory other lacks same gives =
+    (other, subst (λ (s : Stored). LacksStep m s q unit) (sym same) lacks)
 
 pub quit_bit : (s : ℕ) → s ≤ 512 → IsBitSet (quit_id s) 29
 quit_bit s l =

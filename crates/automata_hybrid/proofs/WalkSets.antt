@@ -2,13 +2,18 @@
 use Rattle.std.proofs.Common.{ℕ, zero, suc, ◌≡◌, ◌<◌, ◌≤◌, ◌+◌, ◌-◌, ◌*◌, ◌⊎◌, ◌↔◌, inl, inr, Bool, true, false, List, [], ◌∷◌, length, take, set, Option, Some, None, refl, sym, ap, ap₂, ◌∙◌, ◌++◌, subst, arith, length-set}
 use Rattle.std.proofs.lemmas.Bool.{cases_eq}
 use Rattle.std.proofs.lemmas.List.{get_or-set_other, get_or-set_same}
-use Rattle.automata_base.specs.Answers.{ArePatterns, HasPattern, first_alone}
+use Rattle.automata_base.specs.Answers.{ArePatterns, ArePatternsFound, HasPattern, IsInput, first_alone}
+use Rattle.automata_base.specs.Engines.{engine_of}
 use Rattle.automata_base.specs.Input.{Input}
 use Rattle.automata_base.specs.Lists.{In}
 use Rattle.automata_base.specs.Matches.{HalfMatch}
+use Rattle.automata_base.specs.Nodes.{nfa_of}
+use Rattle.automata_base.specs.Paths.{IsLookAcyclic}
 use Rattle.automata_base.specs.PatternSet.{has, members, members_from}
 use Rattle.automata_base.specs.Selections.{Pair}
 use Rattle.automata_base.specs.Tapes.{Forward}
+use Rattle.automata_base.specs.WalkLaws.{WalkIsRight}
+use Rattle.automata_config.specs.Options.{match_kind_of}
 use Rattle.automata_base.proofs.Values.PatternsInSets.{members-few}
 use Rattle.automata_hybrid.specs.Stores.{Stored}
 use Rattle.automata_hybrid.specs.Caches.{CacheView}
@@ -175,10 +180,6 @@ joined_none xs p = (λ h. inl h, λ h. go h) where
   go (inr (l, h)) = absurd h
 
 module _ (m : Machine) (input : Input) (old : List Bool) where
-  pub joins_start : (walk : Walk) → HasTold Forward m input walk 0 → Joins m input walk old old
-  joins_start walk told =
-      record { k = 0; told = told; first = λ e. refl; joined = λ pairs walked. joined_none old; capacity = refl; open_at = inl refl }
-
   module _ (walk next : Walk) (new : List Bool) (j : Joins m input walk old new) (tells : TellsNext Forward m input walk next)
       (list : (pairs : List Pair) × AreWalked Forward m input pairs) where
     abbrev pairs : List Pair
@@ -350,11 +351,13 @@ module _ (m : Machine) (input : Input) (inside : input.end ≤ length input.hays
       let times : (input.end - input.start + 2 - new.units) * (greatest m + 1) ≡ (input.end - input.start + 2 - old.units) * (greatest m + 1) = ap (λ n. n * (greatest m + 1)) units in
       omega (arith, times, more, s.told)
 
--- what the walk tells may be what the ordered paths do
-pub patterns_turn :
-    (T U : List Pair → Type 0) (input : Input) (capacity : ℕ) (given after : List ℕ)
-    → ((pairs : List Pair) → T pairs → U pairs) → ArePatterns T input capacity given after → ArePatterns U input capacity given after
-patterns_turn T U input capacity given after turn h = (h.0, turn h.0 h.1, h.2)
+-- what the walk tells is what the ordered paths do, where no cycle passes a look
+pub patterns_of :
+    (m : Machine) (input : Input) → WalkIsRight m.nfa → IsInput input → (old new : List Bool)
+    → IsLookAcyclic (nfa_of m.nfa)
+    → ArePatterns (AreWalked Forward m input) input (length old) (members old) (members new)
+    → ArePatternsFound (engine_of m.nfa (match_kind_of m.config)) input (length old) (members old) (members new)
+patterns_of m input law good old new free h = (h.0, law Forward (match_kind_of m.config) input h.0 free good h.1, h.2)
 
 none_half : (half : HalfMatch) → ◌≡◌ {A = Option HalfMatch} None (Some half) → ⊥
 none_half half e = cc
@@ -427,6 +430,25 @@ module _ (m : Machine) (c : Stored) (input : Input) (walk : Walk) (old new : Lis
       state Fresh holds begins = begins
       state (At q) holds begins = holds
       state Ended holds begins = tt
+
+-- what its walk goes on from is known, where its start was
+pub begun_state :
+    (m : Machine) (input : Input) (stage : Stage) (old mid : CacheView)
+    → IsGrown old mid → HasItsState mid.store.table stage → KnowsItsStart Forward m old.store input
+    → KnowsItsState Forward m mid.store input stage
+begun_state m input Fresh old mid grown holds begins = λ slot. grown.starts _ (begins slot)
+begun_state m input (At q) old mid grown holds begins = holds
+begun_state m input Ended old mid grown holds begins = tt
+
+-- a walk that has told a pair has a span that isn't done
+pub told_undone :
+    (m : Machine) (input : Input) (w : Walk) (k : ℕ)
+    → HasTold Forward m input w (suc k) → (w.stage ≡ Ended → ⊥) → input.start ≤ input.end
+told_undone m input w k t on = go w.stage t on where
+  go : (s : Stage) → HasToldAt Forward m input s w.units w.told (suc k) → (s ≡ Ended → ⊥) → input.start ≤ input.end
+  go Fresh (none, first) on = absurd (omega (arith, none))
+  go (At q) s on = s.undone
+  go Ended t on = absurd (on refl)
 
 pub which_still :
     (m : Machine) (input : Input) (set : List Bool) (old new : CacheView)

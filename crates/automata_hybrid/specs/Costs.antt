@@ -1,8 +1,9 @@
 -- How often searches determinise, and when they clear nothing.
-use Rattle.std.specs.Prelude.{ℕ, zero, suc, ◌≡◌, ◌+◌, ◌-◌, ◌<◌, ◌≤◌}
+use Rattle.std.specs.Prelude.{ℕ, zero, suc, ◌≡◌, ◌+◌, ◌-◌, ◌*◌, ◌<◌, ◌≤◌}
 use Rattle.automata_base.specs.Answers.{Tries, later}
 use Rattle.automata_base.specs.Input.{Input}
 use Rattle.automata_base.specs.Tapes.{Direction, Forward}
+use Rattle.automata_base.specs.declared.util.search.Anchored.TheVariants.{No}
 use Rattle.automata_hybrid.specs.Caches.{CacheView}
 use Rattle.automata_hybrid.specs.Growing.{HasRoom}
 use Rattle.automata_hybrid.specs.Knowing.{KnowsItsStart}
@@ -31,6 +32,14 @@ pub record IsCostOfPasses (way : Direction) (m : Machine) (input : Input) (passe
 -- a search costs what its passes do: one, where no place is skipped or it is anchored
 abbrev pub IsCostOfSearch : Direction → Machine → Input → CacheView → CacheView → Type 0
 IsCostOfSearch way m input old new = (passes : ℕ) × IsCostOfPasses way m input passes old new
+
+-- How often a search determinises by the bytes of its span alone: as one pass may, where no place is skipped or the
+-- search is anchored; and else no more than a pass over the whole span for each of its places.
+abbrev pub SearchesCostFew : Type 0
+SearchesCostFew =
+    (way : Direction) (m : Machine) (input : Input) (old new : CacheView) → IsCostOfSearch way m input old new
+    → ((Skips m × (input.anchored ≡ No) → ⊥) → new.count ≤ old.count + (input.end - input.start + 2))
+    × (new.count ≤ old.count + (input.end - input.start + 1) * (input.end - input.start + 2))
 
 -- a forward search with an answer costs its passes up to the span that gave it, which begins at a base
 abbrev pub IsCostUpto : Machine → Input → (base : ℕ) → (old new : CacheView) → Type 0

@@ -1,38 +1,30 @@
 -- What a call of a walk and a set answer by their DFA and their input alone, whatever the cache, and what they make of
 -- their cache.
-use Rattle.std.specs.Prelude.{ℕ, ◌≡◌, ◌<◌, ◌≤◌, ◌+◌, ◌-◌, ◌⊎◌, Bool, true, false, List, length, Result, Err, IfErr}
-use Rattle.std.specs.Prelude.{IfSome, OnOk, OnErr}
+use Rattle.std.specs.Prelude.{ℕ, ◌≡◌, ◌<◌, ◌≤◌, ◌+◌, ◌-◌, ◌⊎◌, Bool, true, false, List, length, Result, Err}
+use Rattle.std.specs.Prelude.{IfErr, IfSome, IsOk, OnOk, OnErr}
 use Rattle.automata_base.specs.Answers.{ArePatterns, ArePatternsFound, IsOverlapping}
 use Rattle.automata_base.specs.Engines.{engine_of}
 use Rattle.automata_base.specs.Input.{Input}
 use Rattle.automata_base.specs.Nodes.{nfa_of}
 use Rattle.automata_base.specs.Paths.{IsLookAcyclic}
 use Rattle.automata_base.specs.PatternSet.{members}
-use Rattle.automata_base.specs.Powerset.{Powerset}
 use Rattle.automata_base.specs.Selections.{Pair}
 use Rattle.automata_base.specs.Tapes.{Direction, Forward}
 use Rattle.automata_config.specs.declared.error.SearchError.{SearchError}
 use Rattle.automata_hybrid.specs.Stores.{Stored}
 use Rattle.automata_hybrid.specs.Caches.{CacheView, counted}
 use Rattle.automata_hybrid.specs.Growing.{ClearedNothing, HasRoom, IsGrown, IsStill}
-use Rattle.automata_hybrid.specs.Knowing.{IsOfInput}
-use Rattle.automata_hybrid.specs.KnowingWalks.{KnowsWalk, KnowsWhich}
+use Rattle.automata_hybrid.specs.Knowing.{IsOfInput, KnowsItsStart}
+use Rattle.automata_hybrid.specs.KnowingWalks.{KnowsItsState, KnowsWalk, KnowsWhich}
 use Rattle.automata_hybrid.specs.Machine.{Machine}
 use Rattle.automata_hybrid.specs.Owing.{IsMemory, IsStoreOf, IsUnhindered, IsUnsupported, unsupported_error}
-use Rattle.automata_hybrid.specs.SearchedWalks.{EndsCall, EndsSet, LeavesCall, LeavesSet}
+use Rattle.automata_hybrid.specs.SearchedWalks.{EndsCall, EndsSet, LeavesCall, LeavesSet, ReadsNoUnit}
 use Rattle.automata_hybrid.specs.Walking.{AreWalked, HasItsState, HasTold, IsWalkRefusal, TellsNext, half_nth}
 use Rattle.automata_hybrid.specs.Walking.{start_count}
-use Rattle.automata_hybrid.specs.Walks.{At, Ended, Fresh, Walk, without_match}
+use Rattle.automata_hybrid.specs.Walks.{Ended, Fresh, Walk, without_match}
 use Rattle.automata_hybrid.specs.Which.{IsWhichRefusal}
 use Rattle.automata_hybrid.specs.Within.{LiesIn}
 use Rattle.automata_config.specs.Options.{match_kind_of}
-
--- the next call of a walk reads nothing: the walk has ended, is at the next pattern of one place, or its span is done
-abbrev pub ReadsNothing : Input → Walk → Type 0
-ReadsNothing input w =
-    (w.stage ≡ Ended)
-    ⊎ ((w.lost ≡ false)
-    × (((q : Powerset) × (w.stage ≡ At q) × (w.told < length q.patterns)) ⊎ (input.end < input.start)))
 
 -- some cache of the DFA, within its settings, refuses so a call of this walk, which has told so many pairs
 abbrev pub MayRefuseCall : Direction → Machine → Input → Walk → (told : ℕ) → SearchError → Type 0
@@ -60,8 +52,8 @@ pub record IsWalkCall (way : Direction) (m : Machine) (input : Input) (old new :
   pub unsupported : old.stage ≡ Fresh → IsUnsupported way m input → result ≡ Err (unsupported_error input)
   -- where nothing stands in the way, only want of memory is a refusal
   pub free : IsUnhindered m input → IfErr result IsMemory
-  -- where nothing is read, nothing is
-  pub ready : ReadsNothing input old → IfErr result (λ e. ⊥)
+  -- one that reads no unit is never refused, of a walk that has ended or has its state
+  pub ready : ReadsNoUnit input old → (old.stage ≡ Ended) ⊎ (old.lost ≡ false) → IfErr result (λ e. ⊥)
 
 -- what a call of a walk makes of its cache
 pub record IsCallEffect {T : Type 0} (way : Direction) (m : Machine) (input : Input) (walk next : Walk)
@@ -71,6 +63,11 @@ pub record IsCallEffect {T : Type 0} (way : Direction) (m : Machine) (input : In
   pub rises : OnOk result (walk.units ≤ next.units)
   pub cost : OnOk result (new.count + walk.units ≤ old.count + next.units + start_count walk.stage)
   pub most : new.count ≤ old.count + (input.end - input.start + 1 - walk.units) + start_count walk.stage
+  -- a start that is known isn't determinised again
+  pub started :
+      KnowsItsState way m old.store input walk.stage
+      → (new.count ≤ old.count + (input.end - input.start + 1 - walk.units))
+      × OnOk result (new.count + walk.units ≤ old.count + next.units)
   -- nothing is cleared where there is room for as many states, and for the walk's own
   pub roomy : HasRoom old.store (input.end - input.start + 1 - walk.units + 1) → new.store.clears ≡ old.store.clears
   -- it grows the cache as one determinisation more would, and where the cache has the walk's state as those made do
@@ -83,12 +80,29 @@ pub record IsCallEffect {T : Type 0} (way : Direction) (m : Machine) (input : In
   -- the searched bytes, and the search that is open
   pub ended : OnOk result (EndsCall way m input walk next old.store new.store)
   pub left : IfErr result (LeavesCall way m input walk old.store new.store)
-  -- where nothing is read, nothing at all
-  pub ready : ReadsNothing input walk → new ≡ old
+  -- one that reads no unit changes nothing at all
+  pub ready : ReadsNoUnit input walk → new ≡ old
 
 -- some cache of the DFA, within its settings, refuses a walk so, whose patterns the set was joined with
 abbrev pub MayRefuseWhich : Machine → Input → (old new : List Bool) → SearchError → Type 0
 MayRefuseWhich m input old new e = (c : Stored) × IsStoreOf c m × IsWhichRefusal m c input old new e
+
+-- what a set is joined with by its walk alone
+pub record IsSetTold (m : Machine) (input : Input) (old new : List Bool)
+    (result : Result (Unit {0}) SearchError) : Type 0 where
+  -- for every automaton, the patterns below its capacity that the walk tells
+  pub found :
+      OnOk result (ArePatterns (AreWalked Forward m input) input (length old) (members old) (members new))
+  -- where no cycle passes a look, those of the ordered paths
+  pub paths :
+      IsLookAcyclic (nfa_of m.nfa)
+      → OnOk result (ArePatternsFound (engine_of m.nfa (match_kind_of m.config)) input (length old) (members old)
+      (members new))
+  pub capacity : length new ≡ length old
+  -- a mode that isn't supported is told, and the set is as it was
+  pub unsupported : IsUnsupported Forward m input → (result ≡ Err (unsupported_error input)) × (new ≡ old)
+  -- so it is with a span that is done, which is no refusal
+  pub done : input.end < input.start → IsOk result × (new ≡ old)
 
 -- what a set is joined with
 pub record IsWhich (m : Machine) (input : Input) (old new : List Bool)
@@ -104,10 +118,12 @@ pub record IsWhich (m : Machine) (input : Input) (old new : List Bool)
   pub capacity : length new ≡ length old
   -- a refusal is one that some cache may give
   pub errors : IfErr result (MayRefuseWhich m input old new)
-  -- a mode that isn't supported is told
-  pub unsupported : IsUnsupported Forward m input → result ≡ Err (unsupported_error input)
+  -- a mode that isn't supported is told, and the set is as it was
+  pub unsupported : IsUnsupported Forward m input → (result ≡ Err (unsupported_error input)) × (new ≡ old)
   -- where nothing stands in the way, only want of memory is a refusal
   pub free : IsUnhindered m input → IfErr result IsMemory
+  -- so it is with a span that is done, which is no refusal
+  pub done : input.end < input.start → IsOk result × (new ≡ old)
 
 -- what the walk that joins a set makes of its cache
 pub record IsWhichEffect (m : Machine) (input : Input) (set : List Bool) (old new : CacheView)
@@ -116,6 +132,8 @@ pub record IsWhichEffect (m : Machine) (input : Input) (set : List Bool) (old ne
   -- states
   pub cost : new.count ≤ old.count + (input.end - input.start + 2)
   pub roomy : HasRoom old.store (input.end - input.start + 2) → new.store.clears ≡ old.store.clears
+  -- a start that is known isn't determinised again
+  pub started : KnowsItsStart Forward m old.store input → new.count ≤ old.count + (input.end - input.start + 1)
   -- until the next clear nothing is lost
   pub grown : IsGrown old new
   -- and what it used is known
@@ -125,3 +143,5 @@ pub record IsWhichEffect (m : Machine) (input : Input) (set : List Bool) (old ne
   -- the searched bytes, and the search that is open: what the calls of its walk leave one after another
   pub ended : OnOk result (EndsSet m input set old.store new.store)
   pub left : IfErr result (LeavesSet m input set old.store new.store)
+  -- with a span that is done, nothing at all
+  pub done : input.end < input.start → new ≡ old

@@ -14,11 +14,10 @@ use Rattle.automata_hybrid.specs.Knowing.{IsOfInput, KnowsUnit}
 use Rattle.automata_hybrid.specs.KnowingWalks.{HasLearnedUnits, IsToRead, KnowsItsState, KnowsUnits}
 use Rattle.automata_hybrid.specs.Machine.{Machine}
 use Rattle.automata_hybrid.specs.Owing.{IsMemory, IsUnsupported, unsupported_error}
-use Rattle.automata_hybrid.specs.OwingWalks.{ReadsNothing}
 use Rattle.automata_hybrid.specs.Passing.{HasLearnedUnit}
 use Rattle.automata_hybrid.specs.Progressing.{started}
 use Rattle.automata_hybrid.specs.Reading.{IsReadProgress}
-use Rattle.automata_hybrid.specs.SearchedWalks.{EndsAtUnit, IsLeftAtUnit}
+use Rattle.automata_hybrid.specs.SearchedWalks.{EndsAtUnit, IsLeftAtUnit, ReadsNoUnit}
 use Rattle.automata_hybrid.specs.Searches.{given_up_offset, state_in, tape_in}
 use Rattle.automata_hybrid.specs.Starting.{MayStart}
 use Rattle.automata_hybrid.specs.Table.{Leads, Names, Rows}
@@ -82,8 +81,8 @@ pub record IsCallRefused (way : Direction) (m : Machine) (input : Input) (walk :
   pub lost : walk.lost ≡ true → IsMemory e
   -- of one that hasn't begun, a mode that isn't supported is told
   pub unsupported : walk.stage ≡ Fresh → IsUnsupported way m input → e ≡ unsupported_error input
-  -- where nothing is read, none is refused
-  pub ready : ReadsNothing input walk → ⊥
+  -- one that reads no unit isn't, of a walk that has ended or has its state
+  pub ready : ReadsNoUnit input walk → (walk.stage ≡ Ended) ⊎ (walk.lost ≡ false) → ⊥
 
 -- what the ID is that a walk goes on from
 pub record IsResumeAnswer (way : Direction) (m : Machine) (input : Input) (walk : Walk) (new : Stored) (id : ℕ) :

@@ -21,6 +21,8 @@ use Rattle.automata_hybrid.specs.Stores.{Stored}
 use Rattle.automata_hybrid.specs.Usage.{GivesUp}
 use Rattle.automata_hybrid.specs.Machine.{Machine}
 use Rattle.automata_hybrid.specs.Starting.{IsStartRefusalAt, quit_behind}
+use Rattle.automata_hybrid.specs.Stepping.{KnowsStep}
+use Rattle.automata_hybrid.specs.Table.{Names}
 use Rattle.automata_config.specs.Options.{match_kind_of}
 
 -- the tape that the span of an input is in a direction
@@ -56,16 +58,20 @@ MeetsNoQuit way m input =
 abbrev pub IsNoQuit : Machine → Option ℕ → Type 0
 IsNoQuit m unit = (byte : ℕ) → unit ≡ Some byte → is_quit m.quits byte ≡ false
 
--- why a step from a state on a unit is refused: at a quit byte for that alone, and at another unit where the state that
--- it leads to isn't there, doesn't fit, and the clear rule refuses, or where memory is wanting; each is told at an
--- offset
+-- the transition from a state on a unit isn't known
+abbrev pub LacksStep : Machine → Stored → Powerset → (unit : Option ℕ) → Type 0
+LacksStep m c q unit = (id : ℕ) → Names c.table id q → KnowsStep m c id unit → ⊥
+
+-- why a step from a state on a unit is refused: at a quit byte for that alone; at another unit where the state that it
+-- leads to isn't there, doesn't fit, and the clear rule refuses, or where the transition isn't known and memory is
+-- wanting; each is told at an offset
 abbrev pub IsStepRefusal : Machine → Stored → Powerset → Option ℕ → (quit_at given_up_at : ℕ) → SearchError → Type 0
 IsStepRefusal m c q unit quit_at given_up_at (search.Match (QuitAt byte offset)) =
     (unit ≡ Some byte) × (is_quit m.quits byte ≡ true) × (offset ≡ quit_at)
 IsStepRefusal m c q unit quit_at given_up_at (search.Match (GaveUp offset)) =
     IsNoQuit m unit × GivesUp c (successor m.nfa (match_kind_of m.config) q unit) × (offset ≡ given_up_at)
 IsStepRefusal m c q unit quit_at given_up_at (search.Match (UnsupportedMode mode)) = ⊥
-IsStepRefusal m c q unit quit_at given_up_at search.OutOfMemory = IsNoQuit m unit
+IsStepRefusal m c q unit quit_at given_up_at search.OutOfMemory = IsNoQuit m unit × LacksStep m c q unit
 IsStepRefusal m c q unit quit_at given_up_at search.NotAPair = ⊥
 
 -- the offset of the unit at a place of a pass, and the one in the span that the giving up there is told at

@@ -5,6 +5,9 @@ use std::marker::Model;
 
 /// A state of a lazy DFA, by the offset of its row in the transition table. The five high bits are tags: unknown, dead,
 /// quit, start and match. An ID is of one cache, and a clear of that cache can end it.
+///
+/// The default, 0, stands at the offset of the unknown row without its tag: no cache has a row of this ID, and
+/// `is_unknown` is false of it.
 #[derive(Clone, Copy, Debug, Default, PartialEq, Eq, PartialOrd, Ord, Hash)]
 pub struct LazyStateID {
     id: u32,

@@ -1,5 +1,6 @@
 //! Laws that searches and walks stand on. The contract of each function is the law; what it does is to cite others.
 ghost use Rattle.automata_hybrid.specs.Agreeing.{AnswersAgree, WalksAgree};
+ghost use Rattle.automata_hybrid.specs.Costs.{SearchesCostFew};
 ghost use Rattle.automata_hybrid.specs.Knowing.{KnownStays};
 
 use crate::dfa::DFA;
@@ -19,6 +20,12 @@ pub fn walks_agree(dfa: &DFA)
 {
     walk_is_right(dfa.get_nfa());
 }
+
+/// Over m bytes a search determinises at most m + 2 times where no place is skipped or it is anchored, and never more
+/// than (m + 1)(m + 2) times.
+pub fn costs_are_few()
+    ensures { SearchesCostFew }
+{}
 
 /// What a search knows of its start and transitions it still knows where no row, start or transition was lost.
 pub fn known_stays(dfa: &DFA)

@@ -14,9 +14,6 @@ Completes m h end start ts place =
     (more : List Match) (error : Option TokenError) → AreGiven m h end place more error
     → AreGiven m h end start (ts ++ more) error
 
-pub completes_start : (m : Machine) (h : List ℕ) (end start : ℕ) → Completes m h end start [] start
-completes_start m h end start more error given = given
-
 -- one more
 pub completes_on :
     (m : Machine) (h : List ℕ) (end start : ℕ) (ts more : List Match) (place place' : ℕ) (t : Match)

@@ -13,11 +13,11 @@ use Rattle.automata_hybrid.specs.Agreeing.{AnswersAgree}
 use Rattle.automata_hybrid.specs.Caches.{CacheView}
 use Rattle.automata_hybrid.specs.Costs.{IsCostOfSearch}
 use Rattle.automata_hybrid.specs.Growing.{IsGrown}
-use Rattle.automata_hybrid.specs.Knowing.{Knows}
+use Rattle.automata_hybrid.specs.Knowing.{Knows, KnowsItsStart}
 use Rattle.automata_hybrid.specs.Machine.{Machine}
-use Rattle.automata_hybrid.specs.Searches.{IsFound, NoQuitInReach, WithoutBase, with_base}
+use Rattle.automata_hybrid.specs.Searches.{IsFound, NoQuitInReach, Skips, WithoutBase, with_base}
 use Rattle.automata_hybrid.specs.Within.{LiesPast}
-use Rattle.automata_hybrid.proofs.Costing.{cost_once}
+use Rattle.automata_hybrid.proofs.Costing.{cost_known, cost_once}
 use Rattle.automata_hybrid.proofs.Growing.{clears_none}
 use Rattle.automata_hybrid.proofs.Within.{found_within}
 use Rattle.regex_automata.specs.Costs.{IsPassCost}
@@ -28,20 +28,26 @@ use Rattle.regex_automata.specs.declared.hybrid.regex.caches.Cache.{Cache}
 use Rattle.regex_automata.proofs.Results.{none_some, same_some, some_none}
 
 -- no search costs nothing
-pub pass_none : (bytes : ℕ) (c : CacheView) → IsPassCost bytes c c
-pass_none bytes c = record { once = omega arith; room = λ r. refl }
+pub pass_none : (bytes : ℕ) (K : Type 0) (c : CacheView) → IsPassCost bytes K c c
+pass_none bytes K c = record { once = omega arith; started = λ k. omega arith; room = λ r. refl }
+
+-- a start is known that is known on a condition
+pub pass_when :
+    (bytes : ℕ) (K L : Type 0) (old new : CacheView) → (L → K) → IsPassCost bytes K old new → IsPassCost bytes L old new
+pass_when bytes K L old new turn cost = record { once = cost.once; started = λ l. cost.started (turn l); room = cost.room }
 
 -- what a pass over fewer bytes costs
 pub pass_fewer :
-    (few bytes : ℕ) (old new : CacheView) → few ≤ bytes → new.count ≤ old.count + (few + 2) → IsGrown old new → IsPassCost bytes old new
-pass_fewer few bytes old new l one grown =
+    (few bytes : ℕ) (K : Type 0) (old new : CacheView)
+    → few ≤ bytes → new.count ≤ old.count + (few + 2) → (K → new.count ≤ old.count + (few + 1)) → IsGrown old new
+    → IsPassCost bytes K old new
+pass_fewer few bytes K old new l one begun grown =
     let once : new.count ≤ old.count + (bytes + 2) = omega (arith, l, one) in
-    record { once = once; room = λ r. clears_none old new (bytes + 2) grown once r }
-
--- no pass costs nothing
-pub cost_none : (m : Machine) (input : Input) (c : CacheView) → IsCostOfSearch Forward m input c c
-cost_none m input c =
-    (0, record { tried = λ k l. absurd (omega (arith, l)); counted = omega arith; started = λ begins. omega arith; room = λ r. refl })
+    record {
+      once = once;
+      started = λ k. (let less = begun k in omega (arith, l, less));
+      room = λ r. clears_none old new (bytes + 2) grown once r;
+    }
 
 yes_no : ◌≡◌ {A = Anchored} Yes No → ⊥
 yes_no e = cc
@@ -49,10 +55,12 @@ yes_no e = cc
 -- an anchored search is one pass
 pub cost_anchored :
     (m : Machine) (input : Input) (old new : CacheView) → input.anchored ≡ Yes
-    → IsCostOfSearch Forward m input old new → IsGrown old new → IsPassCost (input.end - input.start) old new
+    → IsCostOfSearch Forward m input old new → IsGrown old new
+    → IsPassCost (input.end - input.start) (KnowsItsStart Forward m old.store input) old new
 cost_anchored m input old new anchored passes grown =
-    pass_fewer (input.end - input.start) (input.end - input.start) old new (omega arith)
-    (cost_once Forward m input old new passes (λ s. yes_no (sym anchored ∙ s.1))) grown
+    let whole : Skips m × (input.anchored ≡ No) → ⊥ = (λ s. yes_no (sym anchored ∙ s.1)) in
+    pass_fewer (input.end - input.start) (input.end - input.start) (KnowsItsStart Forward m old.store input) old new (omega arith)
+    (cost_once Forward m input old new passes whole) (cost_known Forward m input old new passes whole) grown
 
 -- in reach of the search back is nothing that was not in reach before
 pub back_reach :
@@ -64,12 +72,15 @@ back_reach m input half from within reach = λ at byte s e n. reach at byte (ome
 pub cost_back :
     (m : Machine) (input rest : Input) (half : Half) (old new : CacheView) → rest ≡ back input half
     → input.start ≤ half.base → half.offset ≤ input.end
-    → IsCostOfSearch Backward m rest old new → IsGrown old new → IsPassCost (input.end - input.start) old new
+    → IsCostOfSearch Backward m rest old new → IsGrown old new
+    → IsPassCost (input.end - input.start) (KnowsItsStart Backward m old.store (back input half)) old new
 cost_back m input rest half old new same from within passes grown =
+    let whole : Skips m × (rest.anchored ≡ No) → ⊥ = (λ s. yes_no (sym (ap (λ (i : Input). i.anchored) same) ∙ s.1)) in
     let start : rest.start ≡ half.base = ap (λ (i : Input). i.start) same in
     let end : rest.end ≡ half.offset = ap (λ (i : Input). i.end) same in
-    pass_fewer (rest.end - rest.start) (input.end - input.start) old new (omega (arith, start, end, from, within))
-    (cost_once Backward m rest old new passes (λ s. yes_no (sym (ap (λ (i : Input). i.anchored) same) ∙ s.1))) grown
+    pass_fewer (rest.end - rest.start) (input.end - input.start) (KnowsItsStart Backward m old.store (back input half)) old new
+    (omega (arith, start, end, from, within)) (cost_once Backward m rest old new passes whole)
+    (λ begins. cost_known Backward m rest old new passes whole (subst (KnowsItsStart Backward m old.store) (sym same) begins)) grown
 
 -- what the search back found, as a half with its base
 pub back_some :

@@ -1,5 +1,6 @@
 -- The list of the patterns of a set, and what walks owe it.
 use Rattle.std.proofs.Common.{◌≡◌, ◌∙◌, ◌≤◌, ℕ, suc, Bool, true, false, List, [], ◌∷◌, Some, None, Result, Ok, Err, IfErr, OnOk, IfSome, arith, inl, inr, length, refl, subst, sym, ap}
+use Rattle.std.specs.Prelude.{IsOk}
 use Rattle.std.proofs.lemmas.List.{length-replicate}
 use Rattle.std.specs.Result.{result_err}
 use Rattle.automata_base.specs.Answers.{ArePatterns}
@@ -11,6 +12,7 @@ use Rattle.automata_config.specs.declared.error.SearchError.TheVariants as searc
 use Rattle.automata_hybrid.specs.Machine.{Machine}
 use Rattle.automata_hybrid.specs.Owing.{IsMemory}
 use Rattle.automata_hybrid.specs.OwingWalks.{MayRefuseWhich}
+use Rattle.automata_hybrid.proofs.Searching.{false_true}
 use Rattle.regex_automata.proofs.Results.{some_none}
 use Rattle.regex_automata.specs.Owing.{AreRising, ArePatternsUpto, MayRefusePatterns, empty_set}
 
@@ -55,6 +57,11 @@ pub memory_where : (r : Result (Unit {0}) SearchError) → IfErr r IsMemory → 
 memory_where (Ok x) h = h
 memory_where (Err e) h = h
 
+-- a call that answered gave no refusal
+pub none_where : (r : Result (Unit {0}) SearchError) → IsOk r → IfSome (result_err r) IsMemory
+none_where (Ok x) ok = tt
+none_where (Err e) ok = absurd (false_true ok)
+
 -- where memory is wanting for the set or the list
 pub no_patterns :
     (m : Machine) (input : Input) (capacity : ℕ) (found : List ℕ) → found ≡ []
@@ -64,6 +71,7 @@ no_patterns m input capacity found none = record {
   told = λ e. absurd (some_none e);
   paths = λ acyclic e. absurd (some_none e);
   errors = inl (refl, none);
-  unsupported = λ u. inl (none, refl);
+  unsupported = λ u. (none, inr refl);
   free = λ f. refl;
+  done = λ past. (none, refl);
 }

@@ -5,11 +5,12 @@ use Rattle.automata_base.specs.Matches.{HalfMatch, Match}
 use Rattle.automata_base.specs.Tapes.{Forward}
 use Rattle.automata_config.specs.declared.error.SearchError.{SearchError}
 use Rattle.automata_hybrid.specs.Stores.{Stored}
+use Rattle.automata_hybrid.specs.Knowing.{IsOfInput, Knows}
 use Rattle.automata_hybrid.specs.Machine.{Machine}
 use Rattle.automata_hybrid.specs.Owing.{IsHalf}
 use Rattle.automata_hybrid.specs.Searched.{EndsProgress, LeavesProgress}
 use Rattle.automata_hybrid.specs.Searches.{IsRefused}
-use Rattle.regex_automata.specs.Tokens.{IsGivenAt, LeavesAt, asked, item_of}
+use Rattle.regex_automata.specs.Tokens.{HasLearnedAt, IsGivenAt, IsTokenOfInput, LeavesAt, asked, item_of}
 use Rattle.regex_automata.specs.declared.tokens.error.TokenError.{TokenError}
 use Rattle.regex_automata.specs.declared.tokens.error.TokenError.TheVariants.{NoToken, Search}
 use Rattle.regex_automata.specs.declared.tokens.token.Token.{Token}
@@ -66,3 +67,32 @@ module _ (m : Machine) (h : List ℕ) (end place : ℕ) (old new : Stored) where
       → LeavesAt m h end place old new (Ok t)
   token_leaves (Ok o) t found ended is = ended
   token_leaves (Err d) t found ended is = absurd (err_ok (sym is))
+
+-- what the search at a place has learned, by what its answer makes
+module _ (m : Machine) (c : Stored) (h : List ℕ) (end place : ℕ) where
+  pub error_learns :
+      (answer : Result (Option HalfMatch) SearchError) (e : TokenError)
+      → OnOk answer (Knows Forward m c (asked h end place))
+      → ◌≡◌ {A = Result Match TokenError} (Err e) (item_of place answer)
+      → HasLearnedAt m c h end place (Err e)
+  error_learns (Ok o) (NoToken at) learned is = learned
+  error_learns (Ok o) (Search e) learned is = tt
+  error_learns (Err d) (NoToken at) learned is = absurd (no_search at d (same_err is))
+  error_learns (Err d) (Search e) learned is = tt
+
+  pub token_learns :
+      (answer : Result (Option HalfMatch) SearchError) (t : Token) (found : Match)
+      → OnOk answer (Knows Forward m c (asked h end place))
+      → ◌≡◌ {A = Result Match TokenError} (Ok found) (item_of place answer)
+      → HasLearnedAt m c h end place (Ok t)
+  token_learns (Ok o) t found learned is = learned
+  token_learns (Err d) t found learned is = absurd (err_ok (sym is))
+
+-- a search that is refused for what it was given makes an error of that
+pub error_of_input :
+    (place : ℕ) (answer : Result (Option HalfMatch) SearchError) (e : TokenError) → IfErr answer IsOfInput
+    → ◌≡◌ {A = Result Match TokenError} (Err e) (item_of place answer) → IsTokenOfInput e
+error_of_input place (Ok o) (NoToken at) given is = tt
+error_of_input place (Ok o) (Search e) given is = absurd (answer_is_no_refusal place o e is)
+error_of_input place (Err d) (NoToken at) given is = tt
+error_of_input place (Err d) (Search e) given is = subst IsOfInput (sym (same_search e d (same_err is))) given

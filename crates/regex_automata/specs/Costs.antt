@@ -1,21 +1,36 @@
 -- How often a search determinises, and when it clears nothing.
-use Rattle.std.specs.Prelude.{ℕ, ◌≡◌, ◌+◌, ◌-◌, ◌≤◌}
+use Rattle.std.specs.Prelude.{ℕ, ◌≡◌, ◌+◌, ◌-◌, ◌≤◌, Some}
+use Rattle.automata_base.specs.Answers.{Half}
 use Rattle.automata_base.specs.Input.{Input}
-use Rattle.automata_base.specs.Tapes.{Forward}
+use Rattle.automata_base.specs.Spans.{back}
+use Rattle.automata_base.specs.Tapes.{Backward, Forward}
 use Rattle.automata_hybrid.specs.Caches.{CacheView}
 use Rattle.automata_hybrid.specs.Costs.{IsCostOfSearch}
 use Rattle.automata_hybrid.specs.Growing.{HasRoom}
+use Rattle.automata_hybrid.specs.Knowing.{KnowsItsStart}
+use Rattle.automata_hybrid.specs.Searches.{IsFound}
+use Rattle.automata_hybrid.specs.Stores.{Stored}
 use Rattle.regex_automata.specs.declared.hybrid.regex.Regex.{Regex}
 use Rattle.regex_automata.specs.declared.hybrid.regex.caches.Cache.{Cache}
 
--- what one pass costs, over a span of so many bytes, or of fewer
-pub record IsPassCost (bytes : ℕ) (old new : CacheView) : Type 0 where
+-- what one pass costs, or none, over a span of so many bytes, or of fewer
+pub record IsPassCost (bytes : ℕ) (KnowsStart : Type 0) (old new : CacheView) : Type 0 where
   pub once : new.count ≤ old.count + (bytes + 2)
+  -- where its start is known, that isn't determinised again
+  pub started : KnowsStart → new.count ≤ old.count + (bytes + 1)
   -- where there is room for as many states, nothing is cleared
   pub room : HasRoom old.store (bytes + 2) → new.store.clears ≡ old.store.clears
+
+-- the start of the search back from a forward answer is known
+abbrev pub KnowsBackStart : Regex → Stored → Input → Half → Type 0
+KnowsBackStart p c input half = KnowsItsStart Backward p.reverse c (back input half)
+
+-- whatever that answer is
+abbrev pub KnowsBackStarts : Regex → Stored → Input → Type 0
+KnowsBackStarts p c input = (half : Half) → IsFound Forward p.forward input (Some half) → KnowsBackStart p c input half
 
 -- what a search costs the two caches of a regex: the forward one its passes, and the one back is one pass
 abbrev pub AreCostsOf : Regex → Input → Cache → Cache → Type 0
 AreCostsOf p input old new =
     IsCostOfSearch Forward p.forward input old.forward new.forward
-    × IsPassCost (input.end - input.start) old.reverse new.reverse
+    × IsPassCost (input.end - input.start) (KnowsBackStarts p old.reverse.store input) old.reverse new.reverse

@@ -191,9 +191,11 @@ pub record ArePatternsUpto (m : Machine) (input : Input) (capacity : ℕ) (found
       → ArePatternsFound (engine_of m.nfa (match_kind_of m.config)) input capacity [] found
   -- a refusal is one that some cache may give
   pub errors : IfSome error (MayRefusePatterns m input capacity found)
-  -- a mode that isn't supported is told, unless memory is wanting for the set or the list
+  -- in a mode that isn't supported there is none, and that is told, unless memory is wanting for the set or the list
   pub unsupported :
       IsUnsupported Forward m input
-      → ((found ≡ []) × (error ≡ Some search.OutOfMemory)) ⊎ (error ≡ Some (unsupported_error input))
+      → (found ≡ []) × ((error ≡ Some (unsupported_error input)) ⊎ (error ≡ Some search.OutOfMemory))
+  -- in a span that is done there is none
+  pub done : input.end < input.start → (found ≡ []) × IfSome error IsMemory
   -- where nothing stands in the way, only want of memory is a refusal
   pub free : IsUnhindered m input → IfSome error IsMemory

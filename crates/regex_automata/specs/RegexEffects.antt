@@ -7,7 +7,7 @@ use Rattle.automata_config.specs.declared.error.SearchError.{SearchError}
 use Rattle.automata_hybrid.specs.Caches.{CacheView}
 use Rattle.automata_hybrid.specs.Growing.{ClearedNothing, IsGrown, IsStill}
 use Rattle.automata_hybrid.specs.Knowing.{IsOfInput}
-use Rattle.regex_automata.specs.Costs.{AreCostsOf, IsPassCost}
+use Rattle.regex_automata.specs.Costs.{AreCostsOf, IsPassCost, KnowsBackStart}
 use Rattle.regex_automata.specs.Iterating.{AreCostsTwice, KnowsNext, LearnsItem}
 use Rattle.regex_automata.specs.Matching.{EndsMatch, IsMatchCost, KnowsMatch, LeavesMatch}
 use Rattle.regex_automata.specs.RegexCaches.{AreGrown, AreStill, KnowsBack, KnowsBoth, NothingCleared}
@@ -38,7 +38,7 @@ pub record IsSpanEffect (p : Regex) (input : Input) (old new : Cache)
 pub record IsBackEffect (p : Regex) (input : Input) (half : Half) (old new : CacheView)
     (result : Result (Option ℕ) SearchError) : Type 0 where
   -- it is one pass
-  pub cost : IsPassCost (input.end - input.start) old new
+  pub cost : IsPassCost (input.end - input.start) (KnowsBackStart p old.store input half) old new
   -- until the next clear nothing is lost
   pub grown : IsGrown old new
   -- and what it used is known

@@ -1,6 +1,6 @@
 -- The tokens of an input, one behind another.
 use Rattle.std.specs.Prelude.{ℕ, ◌≡◌, ◌<◌, ◌≤◌, ◌⊎◌, ◌-◌, ◌++◌, Bool, true, false, if◌then◌else◌, nat_lt, List, [], ◌∷◌}
-use Rattle.std.specs.Prelude.{length, Option, None, Some, Result, Ok, Err, IfSome, slice_range}
+use Rattle.std.specs.Prelude.{length, Option, None, Some, Result, Ok, Err, IfErr, IfSome, slice_range}
 use Rattle.automata_base.specs.Answers.{IsAnswer}
 use Rattle.automata_base.specs.Engines.{engine_of}
 use Rattle.automata_base.specs.Input.{Input}
@@ -12,7 +12,8 @@ use Rattle.automata_base.specs.declared.util.search.Anchored.TheVariants.{Yes}
 use Rattle.automata_config.specs.declared.error.SearchError.{SearchError}
 use Rattle.automata_config.specs.declared.error.SearchError.TheVariants as search
 use Rattle.automata_hybrid.specs.Caches.{CacheView}
-use Rattle.automata_hybrid.specs.Growing.{IsGrown}
+use Rattle.automata_hybrid.specs.Growing.{ClearedNothing, IsGrown, IsStill}
+use Rattle.automata_hybrid.specs.Knowing.{IsOfInput, Knows, KnowsItsStart}
 use Rattle.automata_hybrid.specs.Stores.{Stored}
 use Rattle.automata_hybrid.specs.Machine.{Machine}
 use Rattle.automata_hybrid.specs.Owing.{IsHalf, IsMemory, IsUnhindered}
@@ -101,11 +102,31 @@ abbrev pub LeavesToken :
 LeavesToken m h end place old new None = new ≡ old
 LeavesToken m h end place old new (Some r) = LeavesAt m h end place old.store new.store r
 
--- what an item makes of the forward cache: it is one pass at most
+-- no token, or a search that is refused for what it was given, and not for want of room
+abbrev pub IsTokenOfInput : TokenError → Type 0
+IsTokenOfInput (NoToken at) = Unit {0}
+IsTokenOfInput (Search e) = IsOfInput e
+
+-- all that the search at a place uses is known, unless it was refused
+abbrev pub HasLearnedAt : Machine → Stored → List ℕ → (end place : ℕ) → Result Token TokenError → Type 0
+HasLearnedAt m c h end place (Ok t) = Knows Forward m c (asked h end place)
+HasLearnedAt m c h end place (Err (NoToken at)) = Knows Forward m c (asked h end place)
+HasLearnedAt m c h end place (Err (Search e)) = Unit {0}
+
+-- what an item makes of the forward cache
 pub record IsTokenEffect (m : Machine) (h : List ℕ) (end place : ℕ) (old new : CacheView)
     (item : Option (Result Token TokenError)) : Type 0 where
-  pub cost : IsPassCost (end - place) old new
+  -- it is one pass at most
+  pub cost : IsPassCost (end - place) (KnowsItsStart Forward m old.store (asked h end place)) old new
+  -- until the next clear nothing is lost
   pub grown : IsGrown old new
+  -- and what it used is known
+  pub learned : ClearedNothing old.store new.store → IfSome item (HasLearnedAt m new.store h end place)
+  -- with all that known it takes no memory, and changes nothing but the progress
+  pub known :
+      Knows Forward m old.store (asked h end place)
+      → IsStill old new × IfSome item (λ r. IfErr r IsTokenOfInput)
+  -- the searched bytes, and the search that is open: what its pass leaves
   pub progress : LeavesToken m h end place old new item
 
 -- how many items may come

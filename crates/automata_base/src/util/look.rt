@@ -75,7 +75,7 @@ impl Look {
         }
     }
 
-    /// The look of this number.
+    /// The look of this number, which is below 18.
     pub fn from_index(index: u32) -> Look
         requires { index < 18 }
         ensures { result ≡ nth_look index }

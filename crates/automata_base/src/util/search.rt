@@ -324,7 +324,7 @@ impl<'h> Input<'h> {
         end <= self.haystack.len() && start <= end + 1
     }
 
-    /// With this span of the haystack. By default it is the whole one.
+    /// With this span of the haystack. By default it is the whole one. `allows` tells whether a span may be given.
     pub fn span(self, span: Span) -> Input<'h>
         requires { Allows self.haystack span.start span.end }
         ensures { result ≡ record self.entry { start = span.start; end = span.end } }
@@ -337,7 +337,7 @@ impl<'h> Input<'h> {
         }
     }
 
-    /// With the span of this range.
+    /// With the span of this range, if `allows` takes it.
     pub fn range(self, range: Range<usize>) -> Input<'h>
         requires { Allows self.haystack range.start range.end }
         ensures { result ≡ record self.entry { start = range.start; end = range.end } }
@@ -381,7 +381,7 @@ impl<'h> Input<'h> {
         self.span = span;
     }
 
-    /// The same by a range.
+    /// The same by a range, which `allows` has to take too.
     pub fn set_range(&mut self, range: Range<usize>)
         requires { Allows self.old.haystack range.start range.end }
         ensures { self.new ≡ record self.old { start = range.start; end = range.end } }
@@ -392,7 +392,7 @@ impl<'h> Input<'h> {
         };
     }
 
-    /// Moves the span's start; at most one behind its end.
+    /// Moves the span's start; at most one behind its end, as `allows` tells.
     pub fn set_start(&mut self, start: usize)
         requires { Allows self.old.haystack start self.old.end }
         ensures { self.new ≡ record self.old { start = start } }
@@ -400,7 +400,7 @@ impl<'h> Input<'h> {
         self.span.start = start;
     }
 
-    /// Moves the span's end; at most one before its start.
+    /// Moves the span's end; at most one before its start, and within the haystack, as `allows` tells.
     pub fn set_end(&mut self, end: usize)
         requires { Allows self.old.haystack self.old.start end }
         ensures { self.new ≡ record self.old { end = end } }

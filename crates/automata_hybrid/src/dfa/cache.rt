@@ -320,7 +320,7 @@ impl Cache {
         requires { IsValid self.now.store.table id }
         ensures { (q : Powerset) → Names self.now.store.table id q → IsOwn self.now.store.table.of.nfa q }
     {
-        self.store.see_own();
+        self.store.see_cells();
     }
 
     /// The number of patterns of a row's state.
@@ -371,7 +371,7 @@ impl Cache {
         self.store.search_start(at);
     }
 
-    /// The open search has come to an offset.
+    /// The open search has come to an offset. There has to be one: `in_progress` is the test.
     pub fn search_update(&mut self, at: usize)
         requires { IsSome self.old.store.searched.running }
         ensures { self.new ≡ with_store self.old (with_searched self.old.store (updated self.old.store.searched at)) }
@@ -379,7 +379,7 @@ impl Cache {
         self.move_search(at);
     }
 
-    /// The open search ends at an offset.
+    /// The open search ends at an offset. There has to be one: `in_progress` is the test.
     pub fn search_finish(&mut self, at: usize)
         requires { IsSome self.old.store.searched.running }
         ensures { self.new ≡ with_store self.old (with_searched self.old.store (finished self.old.store.searched at)) }

@@ -85,9 +85,10 @@ impl Cache {
 }
 
 impl DFA {
-    /// The state after a byte, by its ID. Dead leads to dead, and quit to quit; a quit byte leads to quit. A known
-    /// transition takes no memory. Refused where the state finds no room and the settings allow no clear, and where
-    /// memory is out.
+    /// The state after a byte, by its ID, which is of a row that is there and isn't unknown: `Cache::is_valid` and
+    /// `LazyStateID::is_unknown` are the tests. Dead leads to dead, and quit to quit; a quit byte leads to quit. A
+    /// known transition takes no memory. Refused where the state finds no room and the settings allow no clear, and
+    /// where memory is out; then nothing has changed.
     pub fn next_state(
         &self,
         cache: &mut Cache,
@@ -104,8 +105,9 @@ impl DFA {
         cache.next(self, id, Some(byte))
     }
 
-    /// The state after the haystack's end, by its ID. Dead leads to dead, and quit to quit. A known transition takes no
-    /// memory. Refused where the state finds no room and the settings allow no clear, and where memory is out.
+    /// The state after the haystack's end, by its ID, on the same condition. Dead leads to dead, and quit to quit. A
+    /// known transition takes no memory. Refused where the state finds no room and the settings allow no clear, and
+    /// where memory is out; then nothing has changed.
     pub fn next_eoi_state(
         &self,
         cache: &mut Cache,
@@ -121,7 +123,8 @@ impl DFA {
         cache.next(self, id, None)
     }
 
-    /// The state after a byte as far as the cache knows it, and else an unknown ID. It takes no memory.
+    /// The state after a byte as far as the cache knows it, and else an unknown ID. It takes no memory. The ID is of a
+    /// row that is there, and has no tag: `Cache::is_valid` and `LazyStateID::is_tagged` are the tests.
     #[inline(always)]
     pub fn next_state_untagged(&self, cache: &Cache, id: LazyStateID, byte: u8) -> LazyStateID
         requires of { IsCacheOf cache.now self.now }
@@ -157,7 +160,8 @@ impl DFA {
         cache.cell(id, self.class_of(byte))
     }
 
-    /// How many patterns match at a match state: at least one. The ID is of a row that is there, and `is_match` of it.
+    /// How many patterns match at a match state: at least one. The ID is of a row that is there, with the match tag:
+    /// `Cache::is_valid` and `LazyStateID::is_match` are the tests.
     pub fn match_len(&self, cache: &Cache, id: LazyStateID) -> usize
         requires of { IsCacheOf cache.now self.now }
         requires row { HasRow cache.now.store.table id }
@@ -169,8 +173,8 @@ impl DFA {
         cache.match_len(id)
     }
 
-    /// A pattern that matches at a match state. The index is below `match_len`; the patterns stand in the order in
-    /// which the automaton's paths prefer them.
+    /// A pattern that matches at a match state, as `match_len` asks for it. The index is below `match_len`; the
+    /// patterns stand in the order in which the automaton's paths prefer them.
     pub fn match_pattern(&self, cache: &Cache, id: LazyStateID, index: usize) -> PatternID
         requires of { IsCacheOf cache.now self.now }
         requires row { HasRow cache.now.store.table id }

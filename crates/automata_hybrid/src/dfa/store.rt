@@ -199,17 +199,12 @@ impl Store {
         self.table.see_rows();
     }
 
-    /// The states of rows are the automaton's own.
-    pub fn see_own(&self)
-        ensures { (id : ℕ) (q : Powerset) → Names self.now.table id q → IsOwn self.now.table.of.nfa q }
-    {
-        self.table.see_own();
-    }
-
-    /// Rows are of one width, and each has a cell for each class; the count of clears is a number of 64 bits.
+    /// Rows are of one width, each has a cell for each class, and their states are the automaton's own; the count of
+    /// clears is a number of 64 bits.
     pub fn see_cells(&self)
         ensures wide { length (template_of self.now.table.of) ≡ table_stride self.now.table.of }
         ensures cells { HasCells self.now.table }
+        ensures own { (id : ℕ) (q : Powerset) → Names self.now.table id q → IsOwn self.now.table.of.nfa q }
         ensures clears { self.now.clears < 2 ^ 64 }
     {
         let _clears = self.clears;

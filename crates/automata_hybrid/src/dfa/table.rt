@@ -83,17 +83,11 @@ impl Table {
         let _rows = &self.rows;
     }
 
-    /// The states of rows are the automaton's own.
-    pub fn see_own(&self)
-        ensures { (id : ℕ) (q : Powerset) → Names self.now id q → IsOwn self.now.of.nfa q }
-    {
-        let _rows = &self.rows;
-    }
-
-    /// Rows are of one width, and each has a cell for each class.
+    /// Rows are of one width, each has a cell for each class, and their states are the automaton's own.
     pub fn see_cells(&self)
         ensures wide { length (template_of self.now.of) ≡ table_stride self.now.of }
         ensures cells { HasCells self.now }
+        ensures own { (id : ℕ) (q : Powerset) → Names self.now id q → IsOwn self.now.of.nfa q }
     {
         let _ = self.rows.len();
     }

@@ -1,17 +1,8 @@
 //! The set of the patterns that match, told by one walk forward.
-ghost use Rattle.std.specs.Prelude.{◌≡◌, IfErr, OnOk, Err, length};
-ghost use Rattle.automata_base.specs.Answers.{ArePatterns, ArePatternsFound};
-ghost use Rattle.automata_base.specs.Engines.{engine_of};
-ghost use Rattle.automata_base.specs.Nodes.{nfa_of};
-ghost use Rattle.automata_base.specs.Paths.{IsLookAcyclic};
-ghost use Rattle.automata_base.specs.PatternSet.{members};
-ghost use Rattle.automata_base.specs.Tapes.{Forward};
+ghost use Rattle.std.specs.Prelude.{IfErr};
 ghost use Rattle.automata_hybrid.specs.Caches.{IsCacheOf};
-ghost use Rattle.automata_hybrid.specs.Owing.{IsUnsupported, unsupported_error};
-ghost use Rattle.automata_hybrid.specs.OwingWalks.{IsWhich, IsWhichEffect};
-ghost use Rattle.automata_hybrid.specs.Walking.{AreWalked};
+ghost use Rattle.automata_hybrid.specs.OwingWalks.{IsSetTold, IsWhich, IsWhichEffect};
 ghost use Rattle.automata_hybrid.specs.Which.{IsWhichRefusal};
-ghost use Rattle.automata_config.specs.Options.{match_kind_of};
 
 use crate::dfa::DFA;
 use crate::dfa::cache::Cache;
@@ -55,14 +46,8 @@ impl DFA {
     ) -> Result<(), SearchError>
         requires { IsCacheOf cache.old self.now }
         ensures of { IsCacheOf cache.new self.now }
-        ensures found { OnOk result (ArePatterns (AreWalked Forward self.now input.now) input.now (length patset.old)
-            (members patset.old) (members patset.new)) }
-        ensures paths { IsLookAcyclic (nfa_of self.now.nfa)
-            → OnOk result (ArePatternsFound (engine_of self.now.nfa (match_kind_of self.now.config)) input.now
-            (length patset.old) (members patset.old) (members patset.new)) }
-        ensures capacity { length patset.new ≡ length patset.old }
+        ensures told { IsSetTold self.now input.now patset.old patset.new result }
         ensures refusal { IfErr result (IsWhichRefusal self.now cache.new.store input.now patset.old patset.new) }
-        ensures unsupported { IsUnsupported Forward self.now input.now → result ≡ Err (unsupported_error input.now) }
         ensures effect { IsWhichEffect self.now input.now patset.old cache.old cache.new result }
     {
         walk_is_right(self.get_nfa());

@@ -66,8 +66,8 @@ impl Regex {
     /// The tokens of an input's span, one behind another, whatever the input's mode and earliest flag. It takes no
     /// memory.
     ///
-    /// Each is the anchored match of the forward DFA at the place where the one before ended, by the DFA's kind. A token
-    /// borrows from the haystack alone, so it may be kept when the cache is gone:
+    /// Each is the anchored match of the forward DFA at the place where the one before ended, by the DFA's kind. A
+    /// token borrows from the haystack alone, so it may be kept when the cache is gone:
     ///
     /// ```rust
     /// for item in regex.tokens(&mut cache, Input::new(source)) {

@@ -285,7 +285,7 @@ impl NFA {
         self.data.states.as_slice()
     }
 
-    /// The state of this number.
+    /// The state of this number, which is below the number of `states`.
     pub fn state(&self, id: StateID) -> &State
         requires { id < length self.now.states }
         ensures same { result.now ≡ slice_index_or self.now.states id result.now }

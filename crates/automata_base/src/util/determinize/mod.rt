@@ -44,8 +44,9 @@ pub fn start(
     Ok(state)
 }
 
-/// The powerset state that a state leads to on a byte, or on the end of the haystack. Its patterns are the
-/// automaton's. It is refused for want of memory alone, and counts one in either case.
+/// The powerset state that a state of the automaton leads to on a byte, or on the end of the haystack; `State::is_of`
+/// is the test. Its patterns are the automaton's. It is refused for want of memory alone, and counts one in either
+/// case.
 pub fn next(
     nfa: &NFA,
     scratch: &mut Scratch,

@@ -123,7 +123,8 @@ impl Clone for State {
 impl State {
     ghost use Rattle.automata_base.specs.Parts.{powerset_of};
 
-    /// The state of these parts. It is refused for want of memory alone.
+    /// The state of these parts, in which no pattern stands twice: `Parts::is_without_repeats` is the test. It is
+    /// refused for want of memory alone.
     pub fn encode(alloc: Global, parts: &Parts) -> Result<State, AllocError>
         requires { IsDistinct nat_eq parts.now.patterns.items }
         ensures { IfOk result (λ s. s ≡ powerset_of parts.now) }
@@ -174,7 +175,7 @@ impl State {
         pattern_count(self.bytes.as_slice())
     }
 
-    /// The pattern at an index.
+    /// The pattern at an index below `match_len`.
     pub fn match_pattern(&self, index: usize) -> PatternID
         requires { index < length self.now.patterns }
         ensures { result ≡ slice_index self.now.patterns index }

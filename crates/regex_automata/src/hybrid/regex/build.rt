@@ -57,7 +57,7 @@ impl Builder {
         self
     }
 
-    /// The regex of two lazy DFAs, which are for the same patterns.
+    /// The regex of two lazy DFAs, which are for the same patterns: they have as many, as `DFA::pattern_len` tells.
     pub fn build_from_dfas(&self, forward: DFA, reverse: DFA) -> Regex
         requires { length forward.nfa.start_pattern ≡ length reverse.nfa.start_pattern }
         ensures { result ≡ record { forward = forward; reverse = reverse } }

@@ -40,7 +40,7 @@ returns-in-Ok-clause-call c =
       lost = λ lost. tt;
       unsupported = λ fresh u. absurd (supported_call d m input c.args.walk.now c.go_on.new.walk c.requires.walk tells u);
       free = λ f. tt;
-      ready = λ ready. tt;
+      ready = λ none kept. tt;
     }
 
 pub returns-in-Ok-clause-effect : goal.returns-in-Ok-clause-effect

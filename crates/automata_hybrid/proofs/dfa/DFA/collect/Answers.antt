@@ -1,7 +1,6 @@
 use Rattle.std.proofs.Common.{suc, ⊎_elim, inl, inr, length-set, ◌≡◌, ◌∙◌, ◌≤◌, ◌+◌, ◌-◌, List, Bool, true, length, set, Some, rules, refl, sym, ap, subst, arith}
 use Rattle.std.specs.Prelude.{Err, IsTrue, Result}
-use Rattle.automata_base.specs.Answers.{ArePatterns, IsOverlapping}
-use Rattle.automata_base.specs.Engines.{engine_of}
+use Rattle.automata_base.specs.Answers.{ArePatterns}
 use Rattle.automata_base.specs.Input.{Input}
 use Rattle.automata_base.specs.PatternSet.{members}
 use Rattle.automata_base.specs.Selections.{Pair}
@@ -11,8 +10,7 @@ use Rattle.automata_config.specs.declared.error.SearchError.{SearchError}
 use Rattle.automata_hybrid.specs.Caches.{CacheView}
 use Rattle.automata_hybrid.specs.Growing.{ClearedNothing, IsGrown}
 use Rattle.automata_hybrid.specs.Machine.{Machine}
-use Rattle.automata_hybrid.specs.Owing.{unsupported_error}
-use Rattle.automata_hybrid.specs.OwingWalks.{IsWhichEffect}
+use Rattle.automata_hybrid.specs.OwingWalks.{IsSetTold, IsWhichEffect}
 use Rattle.automata_hybrid.specs.SearchedWalks.{HaveCalled}
 use Rattle.automata_hybrid.specs.Walking.{AreWalked}
 use Rattle.automata_hybrid.specs.Walks.{Ended, Walk}
@@ -21,7 +19,7 @@ use Rattle.automata_hybrid.proofs.LearningSets.{half_none, learned_call, open_st
 use Rattle.automata_hybrid.proofs.Reading.{at_err}
 use Rattle.automata_hybrid.proofs.Resuming.{kept_by, supported_call}
 use Rattle.automata_hybrid.proofs.Searching.{false_true, if_err}
-use Rattle.automata_hybrid.proofs.WalkSets.{IsLacking, Joins, StandsWell, calls_more, closes, joins_all, joins_begin, joins_first, joins_full, joined_more, joins_more, lacking, on_found, open_after, patterns_turn, stands_well, steps_less, which_still, which_walk}
+use Rattle.automata_hybrid.proofs.WalkSets.{IsLacking, Joins, StandsWell, begun_state, calls_more, closes, joins_all, joins_begin, joins_first, joins_full, joined_more, joins_more, lacking, on_found, open_after, patterns_of, stands_well, steps_less, told_undone, which_still, which_walk}
 use Rattle.automata_hybrid.proofs.dfa.DFA.collect.Goals as goal
 use Rattle.automata_config.specs.Options.{match_kind_of}
 
@@ -31,10 +29,21 @@ returns-in_err-next-clause-refusal c =
     if_err c.from_residual.result _ _ c.from_residual.ensures.1
     (c.loop-walk.walk, j.k, j.told, c.in_err-next.ensures.refusal.why (kept_by c.loop-walk.walk c.loop-walk.at c.loop-walk.invariant.can) j.k j.told, j.joined)
 
-pub returns-in_err-next-clause-unsupported : goal.returns-in_err-next-clause-unsupported
-returns-in_err-next-clause-unsupported c = λ u.
-    at_err c.from_residual.result _ (λ (r : Result (Unit {0}) SearchError). r ≡ Err (unsupported_error c.args.input.now)) c.from_residual.ensures.1
-    (ap Err (c.in_err-next.ensures.refusal.unsupported (c.loop-walk.invariant.begins u) u))
+pub returns-in_err-next-clause-told : goal.returns-in_err-next-clause-told
+returns-in_err-next-clause-told c =
+    let m : Machine = c.args.self.now in
+    let input : Input = c.args.input.now in
+    let walk : Walk = c.loop-walk.walk in
+    let v = c.loop-walk.invariant in
+    let r = c.in_err-next.ensures.refusal in
+    at_err c.from_residual.result _ (λ (x : Result (Unit {0}) SearchError). IsSetTold m input c.args.patset.now c.loop-walk.patset x) c.from_residual.ensures.1
+    (record {
+      found = tt;
+      paths = λ free. tt;
+      capacity = v.joins.0.capacity;
+      unsupported = λ u. (ap Err (r.unsupported (v.begins u).0 u), (v.begins u).1);
+      done = λ past. absurd (r.ready (inr (inr (omega (arith, past)))) (inr (kept_by walk c.loop-walk.at v.can)));
+    })
 
 pub returns-in_err-next-clause-effect : goal.returns-in_err-next-clause-effect
 returns-in_err-next-clause-effect c =
@@ -56,6 +65,9 @@ returns-in_err-next-clause-effect c =
     at_err c.from_residual.result _ (λ (r : Result (Unit {0}) SearchError). IsWhichEffect m input c.args.patset.now old new r) c.from_residual.ensures.1
     (record {
       cost = cost;
+      started = λ knows. (
+          let less = (e.started (begun_state m input walk.stage old mid v.grown v.holds knows)).0 in
+          omega (arith, less, v.started knows, v.few));
       roomy = λ room. clears_none old new _ grown cost room;
       grown = grown;
       learned = λ nothing. tt;
@@ -66,24 +78,29 @@ returns-in_err-next-clause-effect c =
           (grown.idle (here.0.0 ∙ count), here.1 (kept_by walk c.loop-walk.at v.can)));
       ended = tt;
       left = (j.k, walk, mid.store, v.joins.1, open_after m input walk c.args.patset.now c.loop-walk.patset j, e.left, stepped.clears);
+      done = λ past. e.ready (inr (inr (omega (arith, past)))) ∙ (v.done past).0;
     })
 
-pub returns-in_default-clause-found : goal.returns-in_default-clause-found
-returns-in_default-clause-found c =
-    let told : WalksAreTold c.args.self.now.nfa = subst WalksAreTold c.get_nfa.ensures c.walk_is_right.ensures.told in
-    let list : (pairs : List Pair) × AreWalked Forward c.args.self.now c.args.input.now pairs = told Forward (match_kind_of c.args.self.now.config) c.args.input.now in
-    joins_all c.args.self.now c.args.input.now c.args.patset.now c.loop-walk.walk c.go_on.new.walk c.loop-walk.patset c.loop-walk.invariant.joins.0 c.in_ok-next.ensures.answer.tells list (sym c.get_match.ensures ∙ c.in_default.«is»)
-
-pub returns-in_default-clause-paths : goal.returns-in_default-clause-paths
-returns-in_default-clause-paths c = λ free.
-    let law : WalkIsRight c.args.self.now.nfa = subst WalkIsRight c.get_nfa.ensures c.walk_is_right.ensures.right in
-    patterns_turn (AreWalked Forward c.args.self.now c.args.input.now) (IsOverlapping Forward (engine_of c.args.self.now.nfa (match_kind_of c.args.self.now.config)) c.args.input.now) c.args.input.now (length c.args.patset.now) (members c.args.patset.now) (members c.loop-walk.patset)
-    (λ pairs walked. law Forward (match_kind_of c.args.self.now.config) c.args.input.now pairs free (c.haystack-haystack.ensures.bytes, c.haystack-haystack.ensures.within.1) walked)
-    (returns-in_default-clause-found c)
-
-pub returns-in_default-clause-unsupported : goal.returns-in_default-clause-unsupported
-returns-in_default-clause-unsupported c = λ u.
-    absurd (supported_call Forward c.args.self.now c.args.input.now c.loop-walk.walk c.go_on.new.walk (c.loop-walk.invariant.joins.0.k, c.loop-walk.invariant.joins.0.told) c.in_ok-next.ensures.answer.tells u)
+pub returns-in_default-clause-told : goal.returns-in_default-clause-told
+returns-in_default-clause-told c =
+    let m : Machine = c.args.self.now in
+    let input : Input = c.args.input.now in
+    let old : List Bool = c.args.patset.now in
+    let set : List Bool = c.loop-walk.patset in
+    let v = c.loop-walk.invariant in
+    let j = v.joins.0 in
+    let tells = c.in_ok-next.ensures.answer.tells in
+    let told : WalksAreTold m.nfa = subst WalksAreTold c.get_nfa.ensures c.walk_is_right.ensures.told in
+    let list : (pairs : List Pair) × AreWalked Forward m input pairs = told Forward (match_kind_of m.config) input in
+    let found = joins_all m input old c.loop-walk.walk c.go_on.new.walk set j tells list (sym c.get_match.ensures ∙ c.in_default.«is») in
+    record {
+      found = found;
+      paths = λ free. patterns_of m input (subst WalkIsRight c.get_nfa.ensures c.walk_is_right.ensures.right)
+          (c.haystack-haystack.ensures.bytes, c.haystack-haystack.ensures.within.1) old set free found;
+      capacity = j.capacity;
+      unsupported = λ u. absurd (supported_call Forward m input c.loop-walk.walk c.go_on.new.walk (j.k, j.told) tells u);
+      done = λ past. (refl, (v.done past).1);
+    }
 
 pub returns-in_default-clause-effect : goal.returns-in_default-clause-effect
 returns-in_default-clause-effect c =
@@ -107,6 +124,9 @@ returns-in_default-clause-effect c =
     let last : next.stage ≡ Ended = after.1 (half_none list.0 j.k (sym after.0 ∙ (sym c.get_match.ensures ∙ c.in_default.«is»))) in
     record {
       cost = cost;
+      started = λ knows. (
+          let less = (e.started (begun_state m input walk.stage old mid v.grown v.holds knows)).0 in
+          omega (arith, less, v.started knows, v.few));
       roomy = λ room. clears_none old new _ grown cost room;
       grown = grown;
       learned = λ nothing undone may. (
@@ -127,28 +147,37 @@ returns-in_default-clause-effect c =
         inl last,
       );
       left = tt;
+      done = λ past. e.ready (inr (inr (omega (arith, past)))) ∙ (v.done past).0;
     }
 
-pub returns-then-is_full-clause-found : goal.returns-then-is_full-clause-found
-returns-then-is_full-clause-found c =
-    let told : WalksAreTold c.args.self.now.nfa = subst WalksAreTold c.get_nfa.ensures c.walk_is_right.ensures.told in
-    let list : (pairs : List Pair) × AreWalked Forward c.args.self.now c.args.input.now pairs = told Forward (match_kind_of c.args.self.now.config) c.args.input.now in
-    let found : c.go_on.new.walk.found ≡ Some c.in-Some.half = sym c.get_match.ensures ∙ c.in-Some.«is» in
-    let put : c.try_insert.new.self ≡ set c.loop-walk.patset c.in-Some.half.pattern true = c.try_insert.ensures.inserted ∙ ap (λ n. set c.loop-walk.patset n true) c.pattern.ensures in
-    subst (λ (s : List Bool). ArePatterns (AreWalked Forward c.args.self.now c.args.input.now) c.args.input.now (length c.args.patset.now) (members c.args.patset.now) (members s)) (sym put)
-    (joins_full c.args.self.now c.args.input.now c.args.patset.now c.loop-walk.walk c.go_on.new.walk c.loop-walk.patset c.loop-walk.invariant.joins.0 c.in_ok-next.ensures.answer.tells list c.in-Some.half found
-    (subst (λ (s : List Bool). length (members s) ≡ length s) put (c.is_full.ensures.0 c.if-is_full.true)))
-
-pub returns-then-is_full-clause-paths : goal.returns-then-is_full-clause-paths
-returns-then-is_full-clause-paths c = λ free.
-    let law : WalkIsRight c.args.self.now.nfa = subst WalkIsRight c.get_nfa.ensures c.walk_is_right.ensures.right in
-    patterns_turn (AreWalked Forward c.args.self.now c.args.input.now) (IsOverlapping Forward (engine_of c.args.self.now.nfa (match_kind_of c.args.self.now.config)) c.args.input.now) c.args.input.now (length c.args.patset.now) (members c.args.patset.now) (members c.try_insert.new.self)
-    (λ pairs walked. law Forward (match_kind_of c.args.self.now.config) c.args.input.now pairs free (c.haystack-haystack.ensures.bytes, c.haystack-haystack.ensures.within.1) walked)
-    (returns-then-is_full-clause-found c)
-
-pub returns-then-is_full-clause-unsupported : goal.returns-then-is_full-clause-unsupported
-returns-then-is_full-clause-unsupported c = λ u.
-    absurd (supported_call Forward c.args.self.now c.args.input.now c.loop-walk.walk c.go_on.new.walk (c.loop-walk.invariant.joins.0.k, c.loop-walk.invariant.joins.0.told) c.in_ok-next.ensures.answer.tells u)
+pub returns-then-is_full-clause-told : goal.returns-then-is_full-clause-told
+returns-then-is_full-clause-told c =
+    let m : Machine = c.args.self.now in
+    let input : Input = c.args.input.now in
+    let old : List Bool = c.args.patset.now in
+    let before : List Bool = c.loop-walk.patset in
+    let half = c.in-Some.half in
+    let walk : Walk = c.loop-walk.walk in
+    let next : Walk = c.go_on.new.walk in
+    let j = c.loop-walk.invariant.joins.0 in
+    let a = c.in_ok-next.ensures.answer in
+    let told : WalksAreTold m.nfa = subst WalksAreTold c.get_nfa.ensures c.walk_is_right.ensures.told in
+    let list : (pairs : List Pair) × AreWalked Forward m input pairs = told Forward (match_kind_of m.config) input in
+    let seen : next.found ≡ Some half = sym c.get_match.ensures ∙ c.in-Some.«is» in
+    let put : c.try_insert.new.self ≡ set before half.pattern true = c.try_insert.ensures.inserted ∙ ap (λ n. set before n true) c.pattern.ensures in
+    let on = on_found walk next half a.goes_on seen in
+    let found : ArePatterns (AreWalked Forward m input) input (length old) (members old) (members c.try_insert.new.self) =
+    subst (λ (s : List Bool). ArePatterns (AreWalked Forward m input) input (length old) (members old) (members s)) (sym put)
+    (joins_full m input old walk next before j a.tells list half seen
+    (subst (λ (s : List Bool). length (members s) ≡ length s) put (c.is_full.ensures.0 c.if-is_full.true))) in
+    record {
+      found = found;
+      paths = λ free. patterns_of m input (subst WalkIsRight c.get_nfa.ensures c.walk_is_right.ensures.right)
+          (c.haystack-haystack.ensures.bytes, c.haystack-haystack.ensures.within.1) old c.try_insert.new.self free found;
+      capacity = ap length put ∙ (length-set before half.pattern true ∙ j.capacity);
+      unsupported = λ u. absurd (supported_call Forward m input walk next (j.k, j.told) a.tells u);
+      done = λ past. (let undone = told_undone m input next j.k (a.tells j.k j.told).0 on.0 in absurd (omega (arith, past, undone)));
+    }
 
 pub returns-then-is_full-clause-effect : goal.returns-then-is_full-clause-effect
 returns-then-is_full-clause-effect c =
@@ -174,6 +203,9 @@ returns-then-is_full-clause-effect c =
     let capacity = length-set c.loop-walk.patset c.in-Some.half.pattern true ∙ j.capacity in
     record {
       cost = cost;
+      started = λ knows. (
+          let less = (e.started (begun_state m input walk.stage old mid v.grown v.holds knows)).0 in
+          omega (arith, less, v.started knows, v.few));
       roomy = λ room. clears_none old new _ grown cost room;
       grown = grown;
       learned = λ nothing undone may. (
@@ -200,27 +232,36 @@ returns-then-is_full-clause-effect c =
             (inr (subst (λ (s : List Bool). length (members s) ≡ length s) put (c.is_full.ensures.0 c.if-is_full.true)))),
       );
       left = tt;
+      done = λ past. e.ready (inr (inr (omega (arith, past)))) ∙ (v.done past).0;
     }
 
-pub returns-then-get_earliest-clause-found : goal.returns-then-get_earliest-clause-found
-returns-then-get_earliest-clause-found c =
-    let told : WalksAreTold c.args.self.now.nfa = subst WalksAreTold c.get_nfa.ensures c.walk_is_right.ensures.told in
-    let list : (pairs : List Pair) × AreWalked Forward c.args.self.now c.args.input.now pairs = told Forward (match_kind_of c.args.self.now.config) c.args.input.now in
-    let found : c.go_on.new.walk.found ≡ Some c.in-Some.half = sym c.get_match.ensures ∙ c.in-Some.«is» in
-    let put : c.try_insert.new.self ≡ set c.loop-walk.patset c.in-Some.half.pattern true = c.try_insert.ensures.inserted ∙ ap (λ n. set c.loop-walk.patset n true) c.pattern.ensures in
-    subst (λ (s : List Bool). ArePatterns (AreWalked Forward c.args.self.now c.args.input.now) c.args.input.now (length c.args.patset.now) (members c.args.patset.now) (members s)) (sym put)
-    (joins_first c.args.self.now c.args.input.now c.args.patset.now c.loop-walk.walk c.go_on.new.walk c.loop-walk.patset c.loop-walk.invariant.joins.0 c.in_ok-next.ensures.answer.tells list c.in-Some.half found (sym c.get_earliest.ensures ∙ c.if-get_earliest.true))
-
-pub returns-then-get_earliest-clause-paths : goal.returns-then-get_earliest-clause-paths
-returns-then-get_earliest-clause-paths c = λ free.
-    let law : WalkIsRight c.args.self.now.nfa = subst WalkIsRight c.get_nfa.ensures c.walk_is_right.ensures.right in
-    patterns_turn (AreWalked Forward c.args.self.now c.args.input.now) (IsOverlapping Forward (engine_of c.args.self.now.nfa (match_kind_of c.args.self.now.config)) c.args.input.now) c.args.input.now (length c.args.patset.now) (members c.args.patset.now) (members c.try_insert.new.self)
-    (λ pairs walked. law Forward (match_kind_of c.args.self.now.config) c.args.input.now pairs free (c.haystack-haystack.ensures.bytes, c.haystack-haystack.ensures.within.1) walked)
-    (returns-then-get_earliest-clause-found c)
-
-pub returns-then-get_earliest-clause-unsupported : goal.returns-then-get_earliest-clause-unsupported
-returns-then-get_earliest-clause-unsupported c = λ u.
-    absurd (supported_call Forward c.args.self.now c.args.input.now c.loop-walk.walk c.go_on.new.walk (c.loop-walk.invariant.joins.0.k, c.loop-walk.invariant.joins.0.told) c.in_ok-next.ensures.answer.tells u)
+pub returns-then-get_earliest-clause-told : goal.returns-then-get_earliest-clause-told
+returns-then-get_earliest-clause-told c =
+    let m : Machine = c.args.self.now in
+    let input : Input = c.args.input.now in
+    let old : List Bool = c.args.patset.now in
+    let before : List Bool = c.loop-walk.patset in
+    let half = c.in-Some.half in
+    let walk : Walk = c.loop-walk.walk in
+    let next : Walk = c.go_on.new.walk in
+    let j = c.loop-walk.invariant.joins.0 in
+    let a = c.in_ok-next.ensures.answer in
+    let told : WalksAreTold m.nfa = subst WalksAreTold c.get_nfa.ensures c.walk_is_right.ensures.told in
+    let list : (pairs : List Pair) × AreWalked Forward m input pairs = told Forward (match_kind_of m.config) input in
+    let seen : next.found ≡ Some half = sym c.get_match.ensures ∙ c.in-Some.«is» in
+    let put : c.try_insert.new.self ≡ set before half.pattern true = c.try_insert.ensures.inserted ∙ ap (λ n. set before n true) c.pattern.ensures in
+    let on = on_found walk next half a.goes_on seen in
+    let found : ArePatterns (AreWalked Forward m input) input (length old) (members old) (members c.try_insert.new.self) =
+    subst (λ (s : List Bool). ArePatterns (AreWalked Forward m input) input (length old) (members old) (members s)) (sym put)
+    (joins_first m input old walk next before j a.tells list half seen (sym c.get_earliest.ensures ∙ c.if-get_earliest.true)) in
+    record {
+      found = found;
+      paths = λ free. patterns_of m input (subst WalkIsRight c.get_nfa.ensures c.walk_is_right.ensures.right)
+          (c.haystack-haystack.ensures.bytes, c.haystack-haystack.ensures.within.1) old c.try_insert.new.self free found;
+      capacity = ap length put ∙ (length-set before half.pattern true ∙ j.capacity);
+      unsupported = λ u. absurd (supported_call Forward m input walk next (j.k, j.told) a.tells u);
+      done = λ past. (let undone = told_undone m input next j.k (a.tells j.k j.told).0 on.0 in absurd (omega (arith, past, undone)));
+    }
 
 pub returns-then-get_earliest-clause-effect : goal.returns-then-get_earliest-clause-effect
 returns-then-get_earliest-clause-effect c =
@@ -246,6 +287,9 @@ returns-then-get_earliest-clause-effect c =
     let capacity = length-set c.loop-walk.patset c.in-Some.half.pattern true ∙ j.capacity in
     record {
       cost = cost;
+      started = λ knows. (
+          let less = (e.started (begun_state m input walk.stage old mid v.grown v.holds knows)).0 in
+          omega (arith, less, v.started knows, v.few));
       roomy = λ room. clears_none old new _ grown cost room;
       grown = grown;
       learned = λ nothing undone may. (
@@ -272,6 +316,7 @@ returns-then-get_earliest-clause-effect c =
             (inl (sym c.get_earliest.ensures ∙ c.if-get_earliest.true))),
       );
       left = tt;
+      done = λ past. e.ready (inr (inr (omega (arith, past)))) ∙ (v.done past).0;
     }
 
 pub loop-walk-smaller : goal.loop-walk-smaller
@@ -290,7 +335,9 @@ loop-walk-init c = record {
   holds = search rules;
   counted = search rules;
   few = search rules;
-  begins = search rules;
+  started = λ knows. omega arith;
+  begins = λ u. (ap (λ (w : Walk). w.stage) c.start-walk.ensures, refl);
+  done = λ past. (refl, refl);
   idle = λ knows. refl;
   on = search rules;
   at = search rules;
@@ -334,6 +381,12 @@ loop-walk-preserved c =
           let second : ClearedNothing c.loop-walk.cache.store c.go_on.new.cache.store = nothing_second c.args.cache.now c.loop-walk.cache c.go_on.new.cache c.loop-walk.invariant.grown stepped nothing in
           let all = learned_call c.args.self.now c.args.input.now c.loop-walk.cache c.go_on.new.cache c.loop-walk.walk c.go_on.new.walk j.k stepped second j.told undone may (c.loop-walk.invariant.learned first undone may) (c.in_ok-next.ensures.effect.learned second) (c.in_ok-next.ensures.answer.learned second) in
           inr all);
+      started = λ knows. (
+          let less = (c.in_ok-next.ensures.effect.started (begun_state c.args.self.now c.args.input.now c.loop-walk.walk.stage c.args.cache.now c.loop-walk.cache c.loop-walk.invariant.grown c.loop-walk.invariant.holds knows)).1 in
+          omega (arith, less, c.loop-walk.invariant.started knows));
+      done = λ past. (
+          let undone = told_undone c.args.self.now c.args.input.now c.go_on.new.walk j.k (c.in_ok-next.ensures.answer.tells j.k j.told).0 on.0 in
+          absurd (omega (arith, past, undone)));
       begins = λ u. absurd (supported_call Forward c.args.self.now c.args.input.now c.loop-walk.walk c.go_on.new.walk (j.k, j.told) c.in_ok-next.ensures.answer.tells u);
       joins =
           subst (λ (s : List Bool). (i : Joins c.args.self.now c.args.input.now c.go_on.new.walk c.args.patset.now s) × HaveCalled c.args.self.now c.args.input.now c.args.patset.now i.k c.args.cache.now.store c.go_on.new.walk c.go_on.new.cache.store) (sym put) (

@@ -1,6 +1,7 @@
-use Rattle.std.proofs.Common.{◌≡◌, ◌≤◌, ◌+◌, ◌-◌}
+use Rattle.std.proofs.Common.{◌≡◌, ◌<◌, ◌≤◌, ◌+◌, ◌-◌}
 use Rattle.automata_hybrid.specs.Caches.{IsCacheOf}
 use Rattle.automata_hybrid.specs.Growing.{ClearedNothing, IsGrown}
+use Rattle.automata_hybrid.specs.Knowing.{KnowsItsStart}
 use Rattle.automata_hybrid.specs.KnowingWalks.{KnowsWhich}
 use Rattle.automata_base.specs.Tapes.{Forward}
 use Rattle.automata_hybrid.specs.Owing.{IsUnsupported}
@@ -20,7 +21,9 @@ invariant-loop-walk l = record {
   holds : HasItsState l.cache.store.table l.walk.stage;
   counted : l.cache.count + start_count l.walk.stage ≤ l.fn.cache.count + l.walk.units + 1;
   few : l.walk.units ≤ l.input.end - l.input.start + 1;
-  begins : IsUnsupported Forward l.self l.input → l.walk.stage ≡ Fresh;
+  started : KnowsItsStart Forward l.self l.fn.cache.store l.input → l.cache.count ≤ l.fn.cache.count + l.walk.units;
+  begins : IsUnsupported Forward l.self l.input → (l.walk.stage ≡ Fresh) × (l.patset ≡ l.fn.patset);
+  done : l.input.end < l.input.start → (l.cache ≡ l.fn.cache) × (l.patset ≡ l.fn.patset);
   idle : KnowsWhich l.self l.fn.cache.store l.input l.fn.patset → l.cache.count ≡ l.fn.cache.count;
   on : l.walk.stage ≡ Ended → ⊥;
   at : IsNamedAt l.cache.store.table l.walk.stage l.at;

@@ -20,7 +20,7 @@ use Rattle.automata_hybrid.specs.Walks.{Ended, Stage, Walk, ended_walk, way_of}
 use Rattle.automata_hybrid.proofs.Growing.{grown_after, grown_moved, grown_trans, nothing_second}
 use Rattle.automata_hybrid.proofs.KnowingWalks.{has_state, nothing_after, state_after, state_still, still_same, unit_knows, units_all, units_none}
 use Rattle.automata_hybrid.proofs.Reading.{at_err}
-use Rattle.automata_hybrid.proofs.Resuming.{reads_nothing, refused_on}
+use Rattle.automata_hybrid.proofs.Resuming.{refused_on}
 use Rattle.automata_hybrid.proofs.SearchedWalks.{dies_at, reads_some, recounts_ended, recounts_left, unit_high, unit_low}
 use Rattle.automata_hybrid.proofs.Searching.{dead_more, if_err}
 use Rattle.automata_hybrid.proofs.Stepping.{dead_tagged}
@@ -52,6 +52,9 @@ returns-in_err-from-clause-effect c =
       rises = tt;
       cost = tt;
       most = omega (arith, e.cost, r.left);
+      started = λ knows. (
+          let count : c.resume.new.cache.count ≡ c.args.cache.now.count = ap (λ (v : CacheView). v.count) (e.known (λ may. knows)).0 in
+          (omega (arith, count), tt));
       roomy = λ room. walk_clears_none c.args.cache.now c.resume.new.cache w.stage _ e.grown e.there (omega (arith, e.cost, r.left)) room;
       grown = e.grown;
       there = e.there;
@@ -59,7 +62,7 @@ returns-in_err-from-clause-effect c =
       known = λ knows. (let same = e.known (λ may. (knows c.requires.walk.told.0 c.requires.walk.told.1 r may).0) in (still_same c.args.cache.now c.resume.new.cache same.0, λ kept. same.1));
       ended = tt;
       left = inl (c.in_err-from.ensures.refusal, e.err);
-      ready = λ ready. absurd (reads_nothing input (resumed w c.args.at.now) r ready);
+      ready = λ none. absurd (reads_some input w r none);
     })
 
 pub returns-then-is_dead-clause-answer : goal.returns-then-is_dead-clause-answer
@@ -118,6 +121,9 @@ returns-then-is_dead-clause-effect c =
       rises = omega arith;
       cost = omega (arith, e.cost, count);
       most = omega (arith, e.cost, count);
+      started = λ knows. (
+          let still : between.count ≡ old.count = ap (λ (v : CacheView). v.count) (e.known (λ may. knows)).0 in
+          (omega (arith, still, count), omega (arith, still, count)));
       roomy = λ room. walk_clears_none old new w.stage _ grown there (omega (arith, e.cost, count)) room;
       grown = grown;
       there = there;
@@ -130,7 +136,7 @@ returns-then-is_dead-clause-effect c =
           let still = e.known (λ may. all.0) in
           ((there (has_state d m old.store input w.stage all.0)).idle (count ∙ ap (λ (v : CacheView). v.count) still.0), λ kept. tt));
       ended = inr (
-        reads_some input w r.undone r.on r.all_told r.left,
+        reads_some input w r,
         w.units,
         inl (refl, refl, dies),
         dies_at input (given_up_offset d input w.units) (unit_low d input w.units r.undone) (unit_high d input w.units r.undone r.left)
@@ -139,7 +145,7 @@ returns-then-is_dead-clause-effect c =
             (subst (λ a. new.store.searched ≡ finished (started between.store.searched a) a) first here),
       );
       left = tt;
-      ready = λ ready. absurd (reads_nothing input (resumed w c.args.at.now) r ready);
+      ready = λ none. absurd (reads_some input w r none);
     })
 
 pub returns-in_err-arrival-clause-refusal : goal.returns-in_err-arrival-clause-refusal
@@ -181,6 +187,9 @@ returns-in_err-arrival-clause-effect c =
       rises = tt;
       cost = tt;
       most = omega (arith, a.most, e.cost, c.search_start.ensures.counted, c.units-2.ensures, r.left);
+      started = λ knows. (
+          let still : between.count ≡ old.count = ap (λ (v : CacheView). v.count) (e.known (λ may. knows)).0 in
+          (omega (arith, still, a.most, c.search_start.ensures.counted, c.units-2.ensures, r.left), tt));
       roomy = λ room. walk_clears_none old new w.stage _ grown there (omega (arith, a.most, e.cost, c.search_start.ensures.counted, c.units-2.ensures, r.left)) room;
       grown = grown;
       there = there;
@@ -199,7 +208,7 @@ returns-in_err-arrival-clause-effect c =
       left =
           inr (recounts_left d m input old.store between.store begun.store new.store w.units r.undone r.left
           e.grown.clears cleared a.grown.clears e.progress c.in_err-arrival.field-0.0 left);
-      ready = λ ready. absurd (reads_nothing input (resumed w c.args.at.now) r ready);
+      ready = λ none. absurd (reads_some input w r none);
     })
 
 pub stand-requires-clause-here : goal.stand-requires-clause-here
@@ -286,7 +295,7 @@ returns-clause-effect c =
     let ended : EndsAtUnit d input old.store.searched w.units last.0 old.store new.store =
     recounts_ended input (given_up_offset d input w.units) (unit_low d input w.units r.undone) (unit_high d input w.units r.undone r.left)
     old.store between.store begun.store new.store e.grown.clears cleared a.grown.clears e.progress (given_up_offset d input last.0) last.4 in
-    let some = reads_some input w r.undone r.on r.all_told r.left in
+    let some = reads_some input w r in
     let same : c.match-arrival.walk.units ≡ n = elim c.match-arrival.branch [
       | in-None v ↦ ap (λ (x : Walk). x.units) (v.walk-is ∙ v.end-in-None.ensures)
       | in-Some v ↦ ap (λ (x : Walk). x.units) v.walk-is ∙ v.stand.ensures.units
@@ -296,6 +305,11 @@ returns-clause-effect c =
       rises = omega (arith, same, last.1, last.2);
       cost = omega (arith, same, a.cost, e.cost, c.search_start.ensures.counted, c.units-2.ensures);
       most = omega (arith, most, r.left);
+      started = λ knows. (
+          let still : between.count ≡ old.count = ap (λ (v : CacheView). v.count) (e.known (λ may. knows)).0 in (
+            omega (arith, still, a.most, c.search_start.ensures.counted, c.units-2.ensures, r.left),
+            omega (arith, same, still, a.cost, c.search_start.ensures.counted, c.units-2.ensures),
+          ));
       roomy = λ room. walk_clears_none old new w.stage _ grown there (omega (arith, most, r.left)) room;
       grown = grown;
       there = there;
@@ -327,5 +341,5 @@ returns-clause-effect c =
             (inr (some, last.0, inr (last.1, v.stand.ensures.units ∙ last.2, last.3, λ e. absurd (ended_at v.stand.ensures.at.0 (sym e ∙ v.stand.ensures.at.1))), ended))
       ];
       left = tt;
-      ready = λ ready. absurd (reads_nothing input (resumed w c.args.at.now) r ready);
+      ready = λ none. absurd (reads_some input w r none);
     }

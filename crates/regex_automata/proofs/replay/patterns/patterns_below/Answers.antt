@@ -1,14 +1,15 @@
-use Rattle.std.proofs.Common.{◌≡◌, ◌∙◌, Option, ap, inr, subst, sym, IfSome}
+use Rattle.std.proofs.Common.{◌≡◌, ◌∙◌, Option, [], ap, inl, subst, sym, IfSome}
 use Rattle.std.specs.Result.{result_err}
 use Rattle.automata_base.specs.Answers.{ArePatterns, ArePatternsFound}
 use Rattle.automata_base.specs.Engines.{engine_of}
 use Rattle.automata_base.specs.Answers.{IsOverlapping}
+use Rattle.automata_base.specs.PatternSet.{members}
 use Rattle.automata_base.specs.Tapes.{Forward}
 use Rattle.automata_config.specs.declared.error.SearchError.{SearchError}
 use Rattle.automata_hybrid.specs.Owing.{IsMemory}
 use Rattle.automata_hybrid.specs.Walking.{AreWalked}
 use Rattle.regex_automata.specs.Owing.{MayRefusePatterns}
-use Rattle.regex_automata.proofs.SetLists.{members_rise, memory_where, no_patterns, patterns_told, refused_where, told_where}
+use Rattle.regex_automata.proofs.SetLists.{members_rise, memory_where, no_patterns, none_where, patterns_told, refused_where, told_where}
 use Rattle.regex_automata.proofs.replay.patterns.patterns_below.Goals as goal
 use Rattle.automata_config.specs.Options.{match_kind_of}
 
@@ -25,6 +26,7 @@ returns-in-Ok-list_members-clause-owed c =
     let new = c.try_which_overlapping_matches-told.new.patset in
     let found = c.in-Ok-list_members.found.items in
     let error : c.err.result ≡ result_err told = c.err.ensures.value in
+    let still : new ≡ old → found ≡ [] = (λ same. c.in-Ok-list_members.ensures ∙ (ap members same ∙ c.in-Ok.ensures.empty)) in
     record {
       rise = members_rise new found c.in-Ok-list_members.ensures;
       told = λ none. patterns_told (AreWalked Forward m input) input c.args.capacity old new found c.in-Ok.ensures.capacity c.in-Ok.ensures.empty c.in-Ok-list_members.ensures
@@ -33,8 +35,11 @@ returns-in-Ok-list_members-clause-owed c =
           (told_where told (ArePatternsFound (engine_of m.nfa (match_kind_of m.config)) input _ _ _) (s.paths acyclic) (sym error ∙ none));
       errors = subst (λ (e : Option SearchError). IfSome e (MayRefusePatterns m input c.args.capacity found)) (sym error)
           (refused_where told m input c.args.capacity old new found c.in-Ok.ensures.capacity c.in-Ok-list_members.ensures s.errors);
-      unsupported = λ u. inr (error ∙ ap result_err (s.unsupported u));
+      unsupported = λ u. (let told = s.unsupported u in (still told.1, inl (error ∙ ap result_err told.0)));
       free = λ f. subst (λ (e : Option SearchError). IfSome e IsMemory) (sym error) (memory_where told (s.free f));
+      done = λ past. (
+          let none = s.done past in
+          (still none.1, subst (λ (e : Option SearchError). IfSome e IsMemory) (sym error) (none_where told none.0)));
     }
 
 pub returns-clause-owed : goal.returns-clause-owed

@@ -7,11 +7,12 @@ use Rattle.automata_hybrid.specs.Caches.{CacheView}
 use Rattle.automata_hybrid.specs.Machine.{Machine}
 use Rattle.automata_hybrid.specs.Owing.{IsHalf, IsSearchEffect}
 use Rattle.automata_hybrid.specs.Searches.{IsRefused}
-use Rattle.regex_automata.specs.Tokens.{IsGivenAt, LeavesAt, asked, match_of}
+use Rattle.regex_automata.specs.Tokens.{HasLearnedAt, IsGivenAt, LeavesAt, asked, match_of}
+use Rattle.automata_hybrid.proofs.Searching.{if_err}
 use Rattle.regex_automata.proofs.Finding.{cost_anchored}
 use Rattle.regex_automata.proofs.Results.{is_err}
 use Rattle.regex_automata.proofs.Tiling.{token_is_given}
-use Rattle.regex_automata.proofs.Tokenising.{error_is_given, error_leaves, token_leaves}
+use Rattle.regex_automata.proofs.Tokenising.{error_is_given, error_learns, error_leaves, error_of_input, token_learns, token_leaves}
 use Rattle.regex_automata.proofs.tokens.iterate.token_at.Goals as goal
 
 -- matches with equal parts are equal
@@ -63,6 +64,17 @@ returns-in_err-token-clause-effect c =
     record {
       cost = cost_anchored c.args.regex.now.forward (asked c.args.haystack.now c.args.end c.args.place) c.args.cache.now.forward new refl s.cost s.grown;
       grown = s.grown;
+      learned = λ nothing.
+          subst (HasLearnedAt c.args.regex.now.forward new.store c.args.haystack.now c.args.end c.args.place)
+          (sym (is_err c.from_residual.result _ c.from_residual.ensures.1))
+          (error_learns c.args.regex.now.forward new.store c.args.haystack.now c.args.end c.args.place found c.in_err-token.field-0.0
+          (s.learned nothing) (sym c.in_err-token.was ∙ c.item.ensures));
+      known = λ knows. (
+          let still = s.known knows in (
+            still.0,
+            if_err c.from_residual.result _ _ c.from_residual.ensures.1
+                (error_of_input c.args.place found c.in_err-token.field-0.0 still.1 (sym c.in_err-token.was ∙ c.item.ensures)),
+          ));
       progress = subst (LeavesAt c.args.regex.now.forward c.args.haystack.now c.args.end c.args.place c.args.cache.now.forward.store new.store)
           (sym (is_err c.from_residual.result _ c.from_residual.ensures.1))
           (error_leaves c.args.regex.now.forward c.args.haystack.now c.args.end c.args.place c.args.cache.now.forward.store new.store found c.in_err-token.field-0.0
@@ -80,6 +92,10 @@ returns-clause-effect c =
     record {
       cost = cost_anchored c.args.regex.now.forward (asked c.args.haystack.now c.args.end c.args.place) c.args.cache.now.forward new refl s.cost s.grown;
       grown = s.grown;
+      learned = λ nothing.
+          token_learns c.args.regex.now.forward new.store c.args.haystack.now c.args.end c.args.place found c.new.result c.in_ok-token.token
+          (s.learned nothing) (sym c.in_ok-token.was ∙ c.item.ensures);
+      known = λ knows. ((s.known knows).0, tt);
       progress = token_leaves c.args.regex.now.forward c.args.haystack.now c.args.end c.args.place c.args.cache.now.forward.store new.store found c.new.result c.in_ok-token.token
           s.ended (sym c.in_ok-token.was ∙ c.item.ensures);
     }

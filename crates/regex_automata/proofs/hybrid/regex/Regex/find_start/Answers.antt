@@ -24,7 +24,7 @@ returns-then-short-clause-within c = (omega arith, c.requires.past.past)
 
 pub returns-then-short-clause-effect : goal.returns-then-short-clause-effect
 returns-then-short-clause-effect c = record {
-  cost = pass_none _ c.args.cache.now;
+  cost = pass_none _ _ c.args.cache.now;
   grown = grown_same c.args.cache.now c.args.cache.now refl;
   learned = λ nothing long. absurd (long (c.is_short-short.ensures.yes c.if-short.true));
   known = λ knows. ((refl, refl), tt);
