@@ -1,16 +1,12 @@
 -- Starts: what a call answers and changes, from what its parts do.
-use Rattle.std.proofs.Common.{ℕ, ◌≡◌, ◌+◌, ◌^◌, ◌<◌, ◌≤◌, ◌⊎◌, List, length, length-set, get_or, set, Bool, false, Option, None, Ok, Err, Result, refl, sym, ap, ◌∙◌, subst, arith, inl, inr}
+use Rattle.std.proofs.Common.{ℕ, ◌≡◌, ◌+◌, ◌^◌, ◌<◌, ◌≤◌, ◌⊎◌, List, length, length-set, get_or, set, Bool, Option, refl, sym, ap, ◌∙◌, subst, arith, inl, inr}
 use Rattle.std.proofs.lemmas.List.{get_or-set_other}
-use Rattle.std.specs.Prelude.{IfErr, IfOk, OnOk, slice_index}
+use Rattle.std.specs.Prelude.{slice_index}
 use Rattle.automata_base.specs.Powerset.{Powerset, cost}
 use Rattle.automata_base.specs.Steps.{start_state_of}
 use Rattle.automata_base.specs.declared.util.search.Anchored.{Anchored}
-use Rattle.automata_base.specs.declared.util.search.MatchErrorKind.TheVariants.{UnsupportedAnchored as UnsupportedMode}
 use Rattle.automata_base.proofs.Paths.Orders.{none_some}
-use Rattle.automata_config.specs.declared.error.StartError.{StartError}
-use Rattle.automata_config.specs.declared.error.StartError.TheVariants as start
 use Rattle.automata_config.specs.declared.error.SearchError.{SearchError}
-use Rattle.automata_config.specs.declared.error.SearchError.TheVariants as search
 use Rattle.automata_hybrid.specs.declared.dfa.row.Row.{Row}
 use Rattle.automata_hybrid.specs.Ids.{unknown_id}
 use Rattle.automata_hybrid.specs.Machine.{Machine, greatest, slot_count, start_of, table_stride, template_of}
@@ -20,8 +16,7 @@ use Rattle.automata_hybrid.specs.Usage.{GivesUp}
 use Rattle.automata_hybrid.specs.Effects.{AddsStart, IsStarted}
 use Rattle.automata_hybrid.specs.Caches.{CacheView, HasRow, IsCacheOf, counted, with_store}
 use Rattle.automata_hybrid.specs.Progressing.{saturated}
-use Rattle.automata_hybrid.specs.Slots.{supports}
-use Rattle.automata_hybrid.specs.Starting.{IsStartAnswer, IsStartEffect, IsStartRefusal, IsStartRefusalAt, IsStartRefusedAt, IsStartSlot, KnowsStart, MayStart, known_start, quit_behind, search_refusal, start_row}
+use Rattle.automata_hybrid.specs.Starting.{IsStartAnswer, IsStartEffect, IsStartRefusal, IsStartRefusalAt, IsStartRefusedAt, IsStartSlot, KnowsStart, known_start, start_row}
 use Rattle.automata_hybrid.proofs.Effects.{Keeps-started, roomy-started}
 use Rattle.automata_hybrid.proofs.Growing.{grown_counted, grown_one, grown_same}
 use Rattle.automata_hybrid.proofs.Searched.{started_progress}
@@ -291,24 +286,3 @@ refusal_at m mode behind behind_at start_at old new e h = (
   same : (new ≡ old) ⊎ (new ≡ counted old) → new.store ≡ old.store
   same (inl u) = ap (λ (v : CacheView). v.store) u
   same (inr u) = ap (λ (v : CacheView). v.store) u
-
--- behind no quit byte, a mode that isn't supported is refused for that
-pub unsupported_at :
-    (m : Machine) (mode : Anchored) (behind : Option ℕ) (behind_at start_at : ℕ) (old new : CacheView) (r : Result ℕ SearchError)
-    → IfOk r (IsStartAnswer m mode behind old new) → IfErr r (IsStartRefusedAt m mode behind behind_at start_at old new)
-    → quit_behind m behind ≡ None → supports m mode ≡ false → r ≡ Err (search.Match (UnsupportedMode mode))
-unsupported_at m mode behind behind_at start_at old new (Ok n) answer refusal clear off = absurd (false_true (sym off ∙ answer.may.1))
-unsupported_at m mode behind behind_at start_at old new (Err e) answer refusal clear off =
-    ap Err (refusal.told ∙ told refusal.error refusal.refused.why) where
-      told : (error : StartError) → IsStartRefusal m old.store mode behind error → search_refusal error behind_at start_at ≡ search.Match (UnsupportedMode mode)
-      told (start.Quit byte) why = absurd (none_some (sym clear ∙ why))
-      told (start.UnsupportedAnchored asked) why = ap (λ a. search.Match (UnsupportedMode a)) why.2
-      told (start.Cache err) why = absurd (false_true (sym off ∙ why.0.1))
-      told start.OutOfMemory why = absurd (false_true (sym off ∙ why.1))
-
--- a start that was answered was allowed
-pub may_start :
-    {E : Type 0} (m : Machine) (mode : Anchored) (behind : Option ℕ) (old new : CacheView) (r : Result ℕ E)
-    → IfOk r (IsStartAnswer m mode behind old new) → OnOk r (MayStart m mode behind)
-may_start m mode behind old new (Ok n) answer = answer.may
-may_start m mode behind old new (Err e) answer = tt

@@ -1,6 +1,6 @@
 -- The matches that a loop over an iteration collects.
 use Rattle.std.proofs.Common.{ℕ, suc, ◌≡◌, ◌∙◌, inl, inr, Bool, true, false, List, [], ◌∷◌, ◌++◌, Option, Some, None, refl, sym, ap, subst}
-use Rattle.std.specs.Prelude.{Ok, Err, MatchOption}
+use Rattle.std.specs.Prelude.{Ok, Err}
 use Rattle.automata_base.specs.Input.{Input}
 use Rattle.automata_base.specs.Matches.{Match}
 use Rattle.automata_base.specs.Spans.{AreMatches, IsEmptyAt, IsNextItem, from}
@@ -110,16 +110,6 @@ pub input_turn : (input now next : Input) (k : ℕ) → now ≡ from now.start i
 input_turn input now next k same e =
     let f : next ≡ from k input = e ∙ ap (λ (i : Input). from k i) same in
     f ∙ ap (λ n. from n input) (sym (ap (λ (i : Input). i.start) f))
-
-pub still_going :
-    (error : Option SearchError) (a b : Bool) → MatchOption error (a ≡ false) (λ _. a ≡ true) → a ≡ false → b ≡ false
-    → MatchOption error (b ≡ false) (λ _. b ≡ true)
-still_going None a b m f g = g
-still_going (Some e) a b m f g = cc
-
-pub going_none : (error : Option SearchError) (a : Bool) → MatchOption error (a ≡ false) (λ _. a ≡ true) → error ≡ None → a ≡ false
-going_none None a m e = m
-going_none (Some x) a m e = absurd (none_some (sym e))
 
 -- what finds one answer finds one next match
 abbrev pub FindsOnce : (Input → Option Match → Type 0) → Type 0
