@@ -87,7 +87,7 @@ pub record IsCallEffect {T : Type 0} (way : Direction) (m : Machine) (input : In
 abbrev pub MayRefuseWhich : Machine → Input → (old new : List Bool) → SearchError → Type 0
 MayRefuseWhich m input old new e = (c : Stored) × IsStoreOf c m × IsWhichRefusal m c input old new e
 
--- what a set is joined with by its walk alone
+-- what a set is joined with
 pub record IsSetTold (m : Machine) (input : Input) (old new : List Bool)
     (result : Result (Unit {0}) SearchError) : Type 0 where
   -- for every automaton, the patterns below its capacity that the walk tells
@@ -104,26 +104,15 @@ pub record IsSetTold (m : Machine) (input : Input) (old new : List Bool)
   -- so it is with a span that is done, which is no refusal
   pub done : input.end < input.start → IsOk result × (new ≡ old)
 
--- what a set is joined with
+-- what a call that joins a set owes
 pub record IsWhich (m : Machine) (input : Input) (old new : List Bool)
     (result : Result (Unit {0}) SearchError) : Type 0 where
-  -- for every automaton, the patterns below its capacity that the walk tells
-  pub found :
-      OnOk result (ArePatterns (AreWalked Forward m input) input (length old) (members old) (members new))
-  -- where no cycle passes a look, those of the ordered paths
-  pub paths :
-      IsLookAcyclic (nfa_of m.nfa)
-      → OnOk result (ArePatternsFound (engine_of m.nfa (match_kind_of m.config)) input (length old) (members old)
-      (members new))
-  pub capacity : length new ≡ length old
+  -- the set is joined with what the walk tells
+  pub told : IsSetTold m input old new result
   -- a refusal is one that some cache may give
   pub errors : IfErr result (MayRefuseWhich m input old new)
-  -- a mode that isn't supported is told, and the set is as it was
-  pub unsupported : IsUnsupported Forward m input → (result ≡ Err (unsupported_error input)) × (new ≡ old)
   -- where nothing stands in the way, only want of memory is a refusal
   pub free : IsUnhindered m input → IfErr result IsMemory
-  -- so it is with a span that is done, which is no refusal
-  pub done : input.end < input.start → IsOk result × (new ≡ old)
 
 -- what the walk that joins a set makes of its cache
 pub record IsWhichEffect (m : Machine) (input : Input) (set : List Bool) (old new : CacheView)

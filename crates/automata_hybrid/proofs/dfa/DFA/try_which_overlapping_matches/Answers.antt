@@ -13,16 +13,12 @@ returns-clause-which c =
     let r = c.collect-told.result in
     let cache = c.collect-told.new.cache.store in
     record {
-      found = s.told.found;
-      paths = s.told.paths;
-      capacity = s.told.capacity;
+      told = s.told;
       errors =
           may_refuse_which r m cache input c.args.patset.now c.collect-told.new.patset (is_store cache m s.of c.see_bounds.ensures)
           s.refusal;
-      unsupported = s.told.unsupported;
       free = λ f.
           IfErr-weaker r _ _ (λ e x.
           walk_memory Forward m cache input c.haystack-haystack.ensures.within.1 s.of f.reach f.supported f.clears x.0 x.1 e x.3)
           s.refusal;
-      done = s.told.done;
     }

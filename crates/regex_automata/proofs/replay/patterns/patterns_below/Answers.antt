@@ -30,15 +30,15 @@ returns-in-Ok-list_members-clause-owed c =
     record {
       rise = members_rise new found c.in-Ok-list_members.ensures;
       told = λ none. patterns_told (AreWalked Forward m input) input c.args.capacity old new found c.in-Ok.ensures.capacity c.in-Ok.ensures.empty c.in-Ok-list_members.ensures
-          (told_where told (ArePatterns (AreWalked Forward m input) input _ _ _) s.found (sym error ∙ none));
+          (told_where told (ArePatterns (AreWalked Forward m input) input _ _ _) s.told.found (sym error ∙ none));
       paths = λ acyclic none. patterns_told (IsOverlapping Forward (engine_of m.nfa (match_kind_of m.config)) input) input c.args.capacity old new found c.in-Ok.ensures.capacity c.in-Ok.ensures.empty c.in-Ok-list_members.ensures
-          (told_where told (ArePatternsFound (engine_of m.nfa (match_kind_of m.config)) input _ _ _) (s.paths acyclic) (sym error ∙ none));
+          (told_where told (ArePatternsFound (engine_of m.nfa (match_kind_of m.config)) input _ _ _) (s.told.paths acyclic) (sym error ∙ none));
       errors = subst (λ (e : Option SearchError). IfSome e (MayRefusePatterns m input c.args.capacity found)) (sym error)
           (refused_where told m input c.args.capacity old new found c.in-Ok.ensures.capacity c.in-Ok-list_members.ensures s.errors);
-      unsupported = λ u. (let told = s.unsupported u in (still told.1, inl (error ∙ ap result_err told.0)));
+      unsupported = λ u. (let told = s.told.unsupported u in (still told.1, inl (error ∙ ap result_err told.0)));
       free = λ f. subst (λ (e : Option SearchError). IfSome e IsMemory) (sym error) (memory_where told (s.free f));
       done = λ past. (
-          let none = s.done past in
+          let none = s.told.done past in
           (still none.1, subst (λ (e : Option SearchError). IfSome e IsMemory) (sym error) (none_where told none.0)));
     }
 
