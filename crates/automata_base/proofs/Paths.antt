@@ -2,7 +2,6 @@ pub mod Checked
 pub mod Checks
 pub mod Compose
 pub mod Cuts
-pub mod Dead
 pub mod Decisions
 pub mod Finals
 pub mod FirstVisits
@@ -25,7 +24,6 @@ pub mod Selecting
 pub mod Sets
 pub mod Sift
 pub mod Steps
-pub mod Tapes_right
 pub mod Truths
 pub mod Unfree
 pub mod Unique

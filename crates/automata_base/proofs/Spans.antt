@@ -15,4 +15,5 @@ pub mod Text
 pub mod Total
 pub mod Tried
 pub mod TruePairs
+pub mod Turning
 pub mod Units

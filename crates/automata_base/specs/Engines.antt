@@ -23,8 +23,11 @@ first_state d Yes = Some d.anchored
 first_state d (Pattern k) = nth d.starts k
 
 -- A match is reached by edges that read nothing from some pattern's start, looks taken as true.
+abbrev pub MatchesEmpty : Nfa → (starts : List ℕ) → Type 0
+MatchesEmpty n starts = (start q p : ℕ) × In start starts × HasEpsilonPath n start q × (accepts n q ≡ Some p)
+
 abbrev pub HasEmptyMatch : Engine → Type 0
-HasEmptyMatch d = (start q p : ℕ) × In start d.starts × HasEpsilonPath d.nfa start q × (accepts d.nfa q ≡ Some p)
+HasEmptyMatch d = MatchesEmpty d.nfa d.starts
 
 -- Split places are skipped where the NFA has the empty match and is in UTF-8 mode.
 abbrev pub IsSkipping : Engine → Type 0

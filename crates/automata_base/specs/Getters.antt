@@ -1,16 +1,12 @@
 -- What an NFA tells of itself.
 use Rattle.std.specs.Prelude.{ℕ, ◌≡◌, ◌⊎◌, [], ◌∷◌, Some, slice_get}
 use Rattle.automata_base.specs.declared.nfa.thompson.State.TheVariants.{ByteRange}
-use Rattle.automata_base.specs.Engines.{Reaches}
-use Rattle.automata_base.specs.Lists.{In}
-use Rattle.automata_base.specs.Nfa.{Split, node, accepts}
+use Rattle.automata_base.specs.Engines.{MatchesEmpty, Reaches}
+use Rattle.automata_base.specs.Nfa.{Split, node}
 use Rattle.automata_base.specs.Nodes.{Automaton, nfa_of}
-use Rattle.automata_base.specs.Paths.{HasEpsilonPath}
 
--- A match is reached by edges that read nothing from some pattern's start, looks taken as true.
 abbrev pub HasEmpty : Automaton → Type 0
-HasEmpty a =
-    (start q p : ℕ) × In start a.start_pattern × HasEpsilonPath (nfa_of a) start q × (accepts (nfa_of a) q ≡ Some p)
+HasEmpty a = MatchesEmpty (nfa_of a) a.start_pattern
 
 abbrev pub IsAlwaysStartAnchored : Automaton → Type 0
 IsAlwaysStartAnchored a = a.start_unanchored ≡ a.start_anchored

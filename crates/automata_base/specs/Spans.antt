@@ -9,6 +9,7 @@ use Rattle.automata_base.specs.Engines.{Engine, Anchored, No, Yes, Pattern, firs
 use Rattle.automata_base.specs.Answers.{Half, IsAnswer}
 use Rattle.automata_base.specs.Input.{Input}
 use Rattle.automata_base.specs.Matches.{Match}
+use Rattle.automata_base.specs.Told.{IsFarthestAnswer}
 
 -- Where the match of a path begins: the place where it first stands on the anchored start; for an anchored mode its
 -- first place.
@@ -54,25 +55,36 @@ abbrev pub back : Input → Half → Input
 back input half =
     record { haystack = input.haystack; start = half.base; end = half.offset; anchored = Yes; earliest = false }
 
--- The start that the two searches find for the forward answer; none if the reverse search has no answer.
-abbrev pub FindsStart : Engine → Engine → Input → Half → Option ℕ → Type 0
-FindsStart f r input half None = (IsShort f input half → ⊥) × IsAnswer Backward r (back input half) None
-FindsStart f r input half (Some start) =
+-- The start of the match that a forward answer ends: where its span began, or what the search back finds; none if that
+-- finds nothing. `Backs` says what the search back finds.
+abbrev pub FindsStartBy : (Backs : Input → Option Half → Type 0) → Engine → Input → Half → Option ℕ → Type 0
+FindsStartBy Backs f input half None = (IsShort f input half → ⊥) × Backs (back input half) None
+FindsStartBy Backs f input half (Some start) =
     (IsShort f input half × (start ≡ half.base))
-    ⊎ ((IsShort f input half → ⊥)
-    × ((found : Half) × IsAnswer Backward r (back input half) (Some found) × (start ≡ found.offset)))
+    ⊎ ((IsShort f input half → ⊥) × ((found : Half) × Backs (back input half) (Some found) × (start ≡ found.offset)))
 
 pub data Outcome : Type 0 where
   Found : Option Match → Outcome
   NotAPair : Outcome
 
--- What a search over a forward and a reverse DFA tells.
-abbrev pub IsTrySearch : Engine → Engine → Input → Outcome → Type 0
-IsTrySearch f r input (Found None) = IsAnswer Forward f input None
-IsTrySearch f r input (Found (Some m)) =
-    (half : Half) × IsAnswer Forward f input (Some half) × FindsStart f r input half (Some m.start)
+-- What a search over a forward and a reverse DFA tells, by what the search on and the one back find.
+abbrev pub TellsBy : (Fronts Backs : Input → Option Half → Type 0) → Engine → Input → Outcome → Type 0
+TellsBy Fronts Backs f input (Found None) = Fronts input None
+TellsBy Fronts Backs f input (Found (Some m)) =
+    (half : Half) × Fronts input (Some half) × FindsStartBy Backs f input half (Some m.start)
     × (m.pattern ≡ half.pattern) × (m.end ≡ half.offset)
-IsTrySearch f r input NotAPair = (half : Half) × IsAnswer Forward f input (Some half) × FindsStart f r input half None
+TellsBy Fronts Backs f input NotAPair = (half : Half) × Fronts input (Some half) × FindsStartBy Backs f input half None
+
+-- Where both answer by the ordered paths.
+abbrev pub FindsStart : Engine → Engine → Input → Half → Option ℕ → Type 0
+FindsStart f r input half start = FindsStartBy (IsAnswer Backward r) f input half start
+
+abbrev pub IsTrySearch : Engine → Engine → Input → Outcome → Type 0
+IsTrySearch f r input outcome = TellsBy (IsAnswer Forward f) (IsAnswer Backward r) f input outcome
+
+-- Where the one back finds the farthest place alone, whatever the order of its paths.
+abbrev pub IsFarSearch : Engine → Engine → Input → Outcome → Type 0
+IsFarSearch f r input outcome = TellsBy (IsAnswer Forward f) (IsFarthestAnswer Backward r) f input outcome
 
 abbrev pub from : ℕ → Input → Input
 from start input = record input { start = start }

@@ -5,15 +5,22 @@ use Rattle.automata_base.specs.Engines.{Engine, IsSkipping}
 use Rattle.automata_base.specs.Answers.{Half, IsAnswer, IsInput, IsSound}
 use Rattle.automata_base.specs.Input.{Input}
 use Rattle.automata_base.specs.TruePairs.{IsTruePair, KeepsUtf8}
-use Rattle.automata_base.specs.Spans.{IsSpan, IsMatch, Outcome, Found, IsTrySearch, FindsSpan, AreSpans, AreFound, Rise}
+use Rattle.automata_base.specs.Spans.{IsSpan, IsMatch, Outcome, Found, IsTrySearch, IsFarSearch, FindsSpan}
+use Rattle.automata_base.specs.Spans.{AreSpans, AreFound, Rise}
 use Rattle.automata_base.specs.Matches.{Match}
 
 -- Over a true pair under the UTF-8 promise a search tells the match of the path that the forward search chose, and
 -- never that the two are no pair.
-abbrev pub StartsAreRight : Type 0
-StartsAreRight =
+abbrev pub TellSpans : (Tells : Engine → Engine → Input → Outcome → Type 0) → Type 0
+TellSpans Tells =
     (f r : Engine) (input : Input) (outcome : Outcome)
-    → IsTruePair f r → KeepsUtf8 Forward f → IsInput input → IsTrySearch f r input outcome → FindsSpan f input outcome
+    → IsTruePair f r → KeepsUtf8 Forward f → IsInput input → Tells f r input outcome → FindsSpan f input outcome
+
+-- One that answers both ways by the ordered paths does so, and one whose search back finds the farthest place alone,
+-- as a pass of any reverse NFA does.
+pub record StartsAreRight : Type 0 where
+  pub paths : TellSpans IsTrySearch
+  pub farthest : TellSpans IsFarSearch
 
 -- It has an outcome, and each input one match.
 abbrev pub SpansAreFound : Type 0

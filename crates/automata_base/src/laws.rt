@@ -23,7 +23,8 @@ pub fn late_is_right()
     ensures pairs { PairsAreRight }
 {}
 
-/// The start is the right one: over a true pair the reverse pass finds where the chosen path began.
+/// The start is the right one: over a true pair the reverse pass finds where the chosen path began, also where it is
+/// known to find the farthest place alone, as it does whatever cycles of its automaton pass a look.
 pub fn start_is_right()
     ensures starts { StartsAreRight }
     ensures found { SpansAreFound }

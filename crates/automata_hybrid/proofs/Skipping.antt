@@ -7,7 +7,7 @@ use Rattle.automata_base.specs.Matches.{HalfMatch}
 use Rattle.automata_base.specs.Selections.{Pair}
 use Rattle.automata_base.specs.Tapes.{Direction, Forward, Backward, is_split}
 use Rattle.automata_base.specs.Told.{TellsOver, IsTold, told_over}
-use Rattle.automata_base.proofs.Determinizing.Told.{turn_answers}
+use Rattle.automata_base.proofs.Spans.Turning.{turn_answers}
 use Rattle.automata_config.specs.declared.error.SearchError.{SearchError}
 use Rattle.automata_hybrid.specs.Stores.{Stored}
 use Rattle.automata_hybrid.specs.Machine.{Machine}

@@ -6,7 +6,7 @@ use Rattle.automata_base.specs.Engines.{Engine, engine_of}
 use Rattle.automata_base.specs.Input.{Input}
 use Rattle.automata_base.specs.Matches.{Match}
 use Rattle.automata_base.specs.Nodes.{Automaton}
-use Rattle.automata_base.specs.Spans.{back, in_full}
+use Rattle.automata_base.specs.Spans.{FindsStartBy, back, in_full}
 use Rattle.automata_base.specs.Tapes.{Backward, Forward}
 use Rattle.automata_base.specs.Told.{IsTold, ToldIsOne}
 use Rattle.automata_base.specs.declared.util.search.MatchKind.{MatchKind}
@@ -16,7 +16,7 @@ use Rattle.automata_hybrid.specs.Searches.{IsFound, Skips}
 use Rattle.automata_hybrid.proofs.Skipping.{found_told}
 use Rattle.regex_automata.specs.Agreeing.{AreAlike, MatchesAgree, TruthIffFound, TruthsAgree}
 use Rattle.regex_automata.specs.Matching.{IsMatchTold}
-use Rattle.regex_automata.specs.Outcomes.{FindsMatch, FindsStartBy, IsStartFound}
+use Rattle.regex_automata.specs.Outcomes.{FindsMatch, IsStartFound}
 use Rattle.regex_automata.specs.SoundPairs.{forward_engine}
 use Rattle.regex_automata.specs.declared.hybrid.regex.Regex.{Regex}
 use Rattle.regex_automata.proofs.Matching.{match_told}

@@ -1,5 +1,5 @@
 -- Whether there is a match: where nothing is skipped, the first one seen tells as much as the whole search.
-use Rattle.std.proofs.Common.{ℕ, zero, suc, ◌≡◌, ◌∙◌, ◌<◌, ◌≤◌, ◌+◌, ◌⊎◌, inl, inr, Bool, List, [], ◌∷◌, length, Option, Some, None, refl, sym, ap, subst, arith}
+use Rattle.std.proofs.Common.{ℕ, zero, suc, ◌≡◌, ◌∙◌, ◌<◌, ◌≤◌, ◌+◌, ◌⊎◌, inl, inr, Bool, true, List, [], ◌∷◌, length, Option, Some, None, refl, sym, ap, subst, arith}
 use Rattle.std.specs.Prelude.{is_some}
 use Rattle.std.specs.Option.{option_map}
 use Rattle.automata_base.specs.Answers.{Half, IsInput, IsSplit, Tries, later, offset_in}
@@ -13,7 +13,7 @@ use Rattle.automata_base.specs.Selections.{Pair}
 use Rattle.automata_base.specs.Spans.{IsMatch, in_full}
 use Rattle.automata_base.specs.Tapes.{Forward, forward_tape}
 use Rattle.automata_base.specs.Telling.{first_told, last_told, told_at}
-use Rattle.automata_base.specs.Told.{IsTold, TellsOver, ToldIsRight, told_over}
+use Rattle.automata_base.specs.Told.{IsNearestAnswer, IsTold, TellsOver, ToldIsRight, told_over}
 use Rattle.automata_base.specs.declared.util.search.Anchored.{Anchored}
 use Rattle.automata_base.specs.declared.util.search.Anchored.TheVariants.{No}
 use Rattle.automata_base.specs.declared.util.search.MatchKind.{MatchKind}
@@ -21,7 +21,7 @@ use Rattle.automata_hybrid.specs.Machine.{Machine}
 use Rattle.automata_hybrid.specs.Searches.{IsFound, Skips, WithoutBase, without_base}
 use Rattle.automata_hybrid.proofs.Searching.{lt_or_le}
 use Rattle.automata_hybrid.proofs.Skipping.{found_told}
-use Rattle.regex_automata.specs.Matching.{IsAsked, IsMatchTold, in_part}
+use Rattle.regex_automata.specs.Matching.{IsAsked, IsMatchTold, IsNearestThere, in_part}
 use Rattle.automata_config.specs.Options.{match_kind_of}
 
 -- the first match is there where the last one is
@@ -126,3 +126,16 @@ pub match_right :
     (m : Machine) → ToldIsRight m.nfa → (input : Input) (truth : Bool) → IsLookAcyclic (nfa_of m.nfa) → IsInput input
     → IsMatchTold m input truth → IsMatch (engine_of m.nfa (match_kind_of m.config)) input truth
 match_right m law input truth acyclic given f = (f.0, law Forward (match_kind_of m.config) (in_full input) f.0 acyclic given f.1, f.2)
+
+-- where nothing is skipped it is the nearest end that is searched
+pub truth_nearest :
+    (m : Machine) (input asked : Input) → IsAsked m input asked → (found : Option HalfMatch) (truth : Bool)
+    → (asked.earliest ≡ true → WithoutBase (IsNearestAnswer Forward (engine_of m.nfa (match_kind_of m.config)) asked) found)
+    → truth ≡ is_some found → (Skips m → ⊥) → IsNearestThere m input truth
+truth_nearest m input asked (inl a) found truth f e whole = absurd (whole a.0)
+truth_nearest m input asked (inr a) found truth f e whole =
+    let g = f (ap (λ (i : Input). i.earliest) a.1) in (
+      g.0,
+      subst (λ (i : Input). IsNearestAnswer Forward (engine_of m.nfa (match_kind_of m.config)) i g.0) a.1 g.1,
+      e ∙ same_some found g.0 g.2,
+    )

@@ -1,5 +1,5 @@
 -- What calls owe whatever the cache, from their clauses.
-use Rattle.std.proofs.Common.{◌≡◌, ◌<◌, ◌≤◌, Option, None, Result, Ok, Err, IfErr, IfOk, IfSome, Bool, true, false, inl, inr, ap}
+use Rattle.std.proofs.Common.{◌≡◌, ◌<◌, ◌≤◌, Option, None, Result, Ok, Err, IfErr, IfOk, Bool, true, false, inl, inr, ap}
 use Rattle.automata_base.specs.Input.{Input}
 use Rattle.automata_base.specs.Matches.{Match}
 use Rattle.automata_base.specs.Nodes.{nfa_of}
@@ -9,14 +9,13 @@ use Rattle.automata_base.specs.Tapes.{Forward}
 use Rattle.automata_config.specs.declared.error.SearchError.{SearchError}
 use Rattle.automata_hybrid.specs.Caches.{CacheView}
 use Rattle.automata_hybrid.specs.Machine.{Machine}
-use Rattle.automata_hybrid.specs.Owing.{IsMemory, IsStoreOf, IsUnsupported, MayRefuse, unsupported_error}
-use Rattle.automata_hybrid.specs.Searches.{NoQuitInReach, tape_in}
+use Rattle.automata_hybrid.specs.Owing.{IsMemory, IsStoreOf, MayRefuse, unsupported_error}
+use Rattle.automata_hybrid.specs.Searches.{NoQuitInReach, Skips, tape_in}
 use Rattle.automata_hybrid.specs.Slots.{supports}
 use Rattle.automata_hybrid.specs.Starting.{quit_behind}
 use Rattle.automata_hybrid.proofs.Owing.{is_store}
-use Rattle.regex_automata.specs.Matching.{IsAsked, IsMatchTold}
-use Rattle.regex_automata.specs.Outcomes.{FindsMatch, MatchLiesIn}
-use Rattle.regex_automata.specs.Owing.{AreStoresOf, IsSpanOf, IsTruthOf, MayRefuseSpan, MayRefuseTruth}
+use Rattle.regex_automata.specs.Matching.{IsAsked, IsMatchTold, IsNearestThere}
+use Rattle.regex_automata.specs.Owing.{AreStoresOf, IsSpanOf, IsSpanTold, IsTruthOf, MayRefuseSpan, MayRefuseTruth}
 use Rattle.regex_automata.specs.RegexCaches.{AreCachesOf, AreFresh}
 use Rattle.regex_automata.specs.RegexRefusals.{IsFree, IsOfMemory, IsRegexRefusal}
 use Rattle.regex_automata.specs.SoundPairs.{AreLookAcyclic, IsSoundPair, forward_engine, reverse_engine}
@@ -66,23 +65,17 @@ refused_sound (Err e) p c input sound free h = memory_of_sound p c input e sound
 -- a search for a span
 pub span_owed :
     (p : Regex) (input : Input) (r : Result (Option Match) SearchError) (c : Cache) → AreStoresOf c p
-    → IfOk r (FindsMatch p input)
+    → IsSpanTold p input r
     → (AreLookAcyclic p → IfOk r (TryFinds (forward_engine p) (reverse_engine p) input))
-    → (IsSoundPair p → IfOk r (IsSpan (forward_engine p) input)) → IfOk r (λ o. IfSome o (MatchLiesIn p input))
+    → (IsSoundPair p → IfOk r (IsSpan (forward_engine p) input))
     → IfErr r (IsRegexRefusal p c input)
-    → (IsUnsupported Forward p.forward input → r ≡ Err (unsupported_error input))
-    → (input.end < input.start → r ≡ Ok None)
     → IsSpanOf p input r
-span_owed p input r c of found answer span within errors unsupported done = record {
-  found = found;
+span_owed p input r c of told answer span errors = record {
+  told = told;
   answer = answer;
   span = span;
-  within = within;
   errors = may_refuse_span r p c input of errors;
-  unsupported = unsupported;
-  free = λ free. refused_free r p c input free errors;
-  free_sound = λ sound free. refused_sound r p c input sound free errors;
-  done = done;
+  free = λ sound free. refused_sound r p c input sound free errors;
 }
 
 -- a search for whether there is a match
@@ -90,6 +83,7 @@ pub truth_owed :
     (p : Regex) (input : Input) (r : Result Bool SearchError)
     → IfOk r (IsMatchTold p.forward input)
     → (IsLookAcyclic (nfa_of p.forward.nfa) → IfOk r (IsMatch (forward_engine p) input))
+    → ((Skips p.forward → ⊥) → IfOk r (IsNearestThere p.forward input))
     → IfErr r (MayRefuseTruth p.forward input)
     → (input.start ≤ input.end → quit_behind p.forward (tape_in Forward input).before ≡ None
     → supports p.forward input.anchored ≡ false → r ≡ Err (unsupported_error input))
@@ -97,9 +91,10 @@ pub truth_owed :
     → IfErr r IsMemory)
     → (input.end < input.start → r ≡ Ok false)
     → IsTruthOf p input r
-truth_owed p input r told answer errors unsupported answers done = record {
+truth_owed p input r told answer nearest errors unsupported answers done = record {
   told = told;
   answer = answer;
+  nearest = nearest;
   errors = errors;
   unsupported = λ u. unsupported u.undone u.behind u.mode;
   free = λ f. answers f.reach f.supported f.clears;

@@ -1,10 +1,11 @@
 -- Whether there is a match.
 use Rattle.std.specs.Prelude.{◌≡◌, ◌⊎◌, Bool, true, Option, is_some}
 use Rattle.automata_base.specs.Answers.{Half}
+use Rattle.automata_base.specs.Engines.{engine_of}
 use Rattle.automata_base.specs.Input.{Input}
 use Rattle.automata_base.specs.Spans.{in_full}
 use Rattle.automata_base.specs.Tapes.{Forward}
-use Rattle.automata_base.specs.Told.{IsTold}
+use Rattle.automata_base.specs.Told.{IsNearestAnswer, IsTold}
 use Rattle.automata_config.specs.declared.error.SearchError.{SearchError}
 use Rattle.automata_hybrid.specs.Caches.{CacheView}
 use Rattle.automata_hybrid.specs.Costs.{IsCostOfSearch}
@@ -26,6 +27,12 @@ IsAsked m input asked = (Skips m × (asked ≡ in_full input)) ⊎ ((Skips m →
 abbrev pub IsMatchTold : Machine → Input → Bool → Type 0
 IsMatchTold m input truth =
     (o : Option Half) × IsTold Forward m.nfa (match_kind_of m.config) (in_full input) o × (truth ≡ is_some o)
+
+-- and by the nearest end of a path that accepts, which an earliest search finds
+abbrev pub IsNearestThere : Machine → Input → Bool → Type 0
+IsNearestThere m input truth =
+    (o : Option Half) × IsNearestAnswer Forward (engine_of m.nfa (match_kind_of m.config)) (in_part input) o
+    × (truth ≡ is_some o)
 
 -- why it is refused, and what it uses
 abbrev pub IsMatchRefused : Machine → Stored → Input → SearchError → Type 0

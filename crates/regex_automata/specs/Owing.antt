@@ -21,7 +21,8 @@ use Rattle.automata_hybrid.specs.Walking.{AreWalked, HasTold, half_nth}
 use Rattle.automata_hybrid.specs.Walks.{Walk}
 use Rattle.automata_hybrid.specs.Within.{LiesIn}
 use Rattle.regex_automata.specs.Iterating.{AreCollected, IsBeginning, IsNextRefusal}
-use Rattle.regex_automata.specs.Matching.{IsMatchRefused, IsMatchTold}
+use Rattle.automata_hybrid.specs.Searches.{Skips}
+use Rattle.regex_automata.specs.Matching.{IsMatchRefused, IsMatchTold, IsNearestThere}
 use Rattle.regex_automata.specs.Outcomes.{FindsMatch, MatchLiesIn}
 use Rattle.regex_automata.specs.RegexRefusals.{IsFree, IsOfMemory, IsRegexRefusal}
 use Rattle.regex_automata.specs.SoundPairs.{AreLookAcyclic, IsSoundPair, forward_engine, reverse_engine}
@@ -66,7 +67,7 @@ pub record IsStep (way : Direction) (m : Machine) (input : Input) (told : ℕ)
 abbrev pub MayRefuseSpan : Regex → Input → SearchError → Type 0
 MayRefuseSpan p input e = (c : Cache) × AreStoresOf c p × IsRegexRefusal p c input e
 
--- what a search for a span answers by the passes of its two DFAs alone
+-- what a search for a span answers by the passes of its two DFAs
 pub record IsSpanTold (p : Regex) (input : Input) (result : Result (Option Match) SearchError) : Type 0 where
   -- what the passes of both tell
   pub found : IfOk result (FindsMatch p input)
@@ -82,23 +83,15 @@ pub record IsSpanTold (p : Regex) (input : Input) (result : Result (Option Match
 -- what a search for a span answers
 pub record IsSpanOf (p : Regex) (input : Input) (result : Result (Option Match) SearchError) : Type 0 where
   -- for every two automata, what the passes of both tell
-  pub found : IfOk result (FindsMatch p input)
+  pub told : IsSpanTold p input result
   -- where no cycle passes a look, what the ordered paths through both define
   pub answer : AreLookAcyclic p → IfOk result (TryFinds (forward_engine p) (reverse_engine p) input)
   -- over a sound pair, the span of the path that the forward search chose
   pub span : IsSoundPair p → IfOk result (IsSpan (forward_engine p) input)
-  -- it lies in the input's span, and its pattern is one of the automata's
-  pub within : IfOk result (λ o. IfSome o (MatchLiesIn p input))
   -- a refusal is one that some caches may give
   pub errors : IfErr result (MayRefuseSpan p input)
-  -- a mode that isn't supported is told
-  pub unsupported : IsUnsupported Forward p.forward input → result ≡ Err (unsupported_error input)
-  -- where nothing stands in the way of either DFA, only want of memory is a refusal, or that the two are no pair; and
-  -- of a sound pair the first alone
-  pub free : IsFree p input → IfErr result IsOfMemory
-  pub free_sound : IsSoundPair p → IsFree p input → IfErr result IsMemory
-  -- in a span that is done there is none
-  pub done : input.end < input.start → result ≡ Ok None
+  -- and where nothing stands in the way of either DFA of a sound pair, only want of memory is one
+  pub free : IsSoundPair p → IsFree p input → IfErr result IsMemory
 
 -- some cache of the forward DFA refuses the search for whether there is a match
 abbrev pub MayRefuseTruth : Machine → Input → SearchError → Type 0
@@ -110,6 +103,8 @@ pub record IsTruthOf (p : Regex) (input : Input) (result : Result Bool SearchErr
   pub told : IfOk result (IsMatchTold p.forward input)
   -- where no cycle passes a look, whether the ordered paths have an answer
   pub answer : IsLookAcyclic (nfa_of p.forward.nfa) → IfOk result (IsMatch (forward_engine p) input)
+  -- for every automaton too, where no place is skipped: whether an earliest search has a nearest end
+  pub nearest : (Skips p.forward → ⊥) → IfOk result (IsNearestThere p.forward input)
   -- a refusal is one that some cache may give
   pub errors : IfErr result (MayRefuseTruth p.forward input)
   -- a mode that isn't supported is told

@@ -17,8 +17,9 @@ reverse_engine p = engine_of p.reverse.nfa (match_kind_of p.reverse.config)
 abbrev pub AreLookAcyclic : Regex → Type 0
 AreLookAcyclic p = IsLookAcyclic (nfa_of p.forward.nfa) × IsLookAcyclic (nfa_of p.reverse.nfa)
 
--- they are of one regular expression, which keeps the promise on UTF-8
+-- they are of one regular expression, which keeps the promise on UTF-8, and in the forward one no such cycle passes a
+-- look
 pub record IsSoundPair (p : Regex) : Type 0 where
-  pub acyclic : AreLookAcyclic p
+  pub acyclic : IsLookAcyclic (nfa_of p.forward.nfa)
   pub pair : IsTruePair (forward_engine p) (reverse_engine p)
   pub utf8 : KeepsUtf8 Forward (forward_engine p)

@@ -1,7 +1,7 @@
 -- What the passes of a search tell is the answer of the ordered paths.
-use Rattle.std.proofs.Common.{ℕ, zero, suc, ◌≡◌, ◌<◌, ◌≤◌, ◌+◌, ◌⊎◌, inl, inr, Bool, true, false, List, [], ◌∷◌, length, Option, Some, None, refl, sym, ap, ◌∙◌, subst, arith}
+use Rattle.std.proofs.Common.{ℕ, zero, suc, ◌≡◌, ◌<◌, ◌≤◌, Bool, true, false, List, [], ◌∷◌, length, Option, Some, None, refl, sym, ap, ◌∙◌, subst, arith}
 use Rattle.std.specs.Prelude.{slice_get, All}
-use Rattle.automata_base.specs.Answers.{Half, SelectsFrom, SelectsOver, later, IsSplit, Tries, Answers, IsInput}
+use Rattle.automata_base.specs.Answers.{Half, SelectsFrom, SelectsOver, later, Answers, IsInput}
 use Rattle.automata_base.specs.Computed.{IsInRange, pair_at, earlier_or}
 use Rattle.automata_base.specs.Cuts.{MatchKind, All as KindAll}
 use Rattle.automata_base.specs.Door.{IsDoor}
@@ -22,6 +22,7 @@ use Rattle.automata_base.specs.Told.{EndsFrom, EndsOver, IsFarthestAnswer, IsTol
 use Rattle.automata_base.proofs.Determinizing.Alike.{dead_stays}
 use Rattle.automata_base.proofs.Determinizing.Telling.{told_farthest, told_nearest, told_selects}
 use Rattle.automata_base.proofs.Spans.Total.{tape_units, later_input}
+use Rattle.automata_base.proofs.Spans.Turning.{turn_answers}
 use Rattle.automata_base.proofs.Paths.Orders.{some_inj}
 use Rattle.std.proofs.lemmas.Option.{slice_get_within, get_or_from_slice_get}
 
@@ -107,36 +108,6 @@ told_over_selects a kind way input o d free i l e =
     subst (λ (p : Option Pair). SelectsOver way (engine_of a kind) input p) (sym e)
     (subst (λ (q : Option ℕ). SelectsFrom (engine_of a kind) input.earliest t q (told_by kind input.earliest a input.anchored t))
     (sym (first_is a kind input.anchored)) s)
-
--- what is told over the spans may be replaced by what it stands for
-module _ (T U : Input → Option Pair → Type 0) (S : Type 0) (way : Direction) (input : Input)
-    (turn : (k : ℕ) (o : Option Pair) → input.start + k ≤ input.end → T (later way k input) o → U (later way k input) o) where
-  turn_tries : (k : ℕ) → Tries T S way input k → Tries U S way input k
-  turn_tries k (first, before) = (
-    first,
-    λ j l.
-        let b : (input.start + j ≤ input.end) × IsSplit T way (later way j input) = before j l in
-        (b.0, (b.1.0, turn j (Some b.1.0) b.0 b.1.1, b.1.2)),
-  )
-
-  turn_end :
-      (k : ℕ) (more : (input.end < input.start + k) ⊎ (input.start + k ≤ input.end))
-      → (input.end < input.start + k)
-      ⊎ (T (later way k input) None ⊎ (S × (input.anchored ≡ No → ⊥) × IsSplit T way (later way k input)))
-      → (input.end < input.start + k)
-      ⊎ (U (later way k input) None ⊎ (S × (input.anchored ≡ No → ⊥) × IsSplit U way (later way k input)))
-  turn_end k (inl l) h = inl l
-  turn_end k (inr l) (inl h) = inl h
-  turn_end k (inr l) (inr (inl h)) = inr (inl (turn k None l h))
-  turn_end k (inr l) (inr (inr (s, a, b))) = inr (inr (s, a, (b.0, turn k (Some b.0) l b.1, b.2)))
-
-  within_or_past : (k : ℕ) → (input.end < input.start + k) ⊎ (input.start + k ≤ input.end)
-  within_or_past k = grind arith
-
-  pub turn_answers : (o : Option Half) → Answers T S way input o → Answers U S way input o
-  turn_answers None (k, tries, h) = (k, turn_tries k tries, turn_end k (within_or_past k) h)
-  turn_answers (Some half) (k, pair, tries, l, h, unsplit, p, o, b) =
-      (k, pair, turn_tries k tries, l, turn k (Some pair) l h, unsplit, p, o, b)
 
 pub told_right : (a : Automaton) → IsDoor a → ToldIsRight a
 told_right a d way kind input answer free i =

@@ -121,7 +121,3 @@ upto_before xs ys zs (inr h) k = before_trans xs ys zs h k
 pub before_upto : (xs ys zs : List ℕ) → Before xs ys → Upto ys zs → Before xs zs
 before_upto xs ys zs k (inl e) = subst (λ w. Before xs w) e k
 before_upto xs ys zs k (inr h) = before_trans xs ys zs k h
-
-pub upto_trans : (xs ys zs : List ℕ) → Upto xs ys → Upto ys zs → Upto xs zs
-upto_trans xs ys zs (inl e) k = subst (λ w. Upto w zs) (sym e) k
-upto_trans xs ys zs (inr h) k = inr (before_upto xs ys zs h k)

@@ -1,5 +1,5 @@
--- One answer, one list, one state.
-use Rattle.std.proofs.Common.{ℕ, zero, suc, ◌≡◌, Bool, true, false, List, [], ◌∷◌, ◌++◌, length, Option, Some, None, inl, inr, refl, sym, ap, ap₂, ◌∙◌, subst, arith, true≢false}
+-- One list, one state.
+use Rattle.std.proofs.Common.{ℕ, zero, suc, ◌≡◌, Bool, true, false, List, [], ◌∷◌, ◌++◌, length, Option, inl, inr, refl, sym, ap, ap₂, ◌∙◌, subst, true≢false}
 use Rattle.automata_base.specs.Order.{Upto}
 use Rattle.automata_base.specs.Lists.{pick, From}
 use Rattle.automata_base.specs.Looks.{Look}
@@ -8,7 +8,7 @@ use Rattle.automata_base.specs.Paths.{IsPathAt, Tape, next}
 use Rattle.automata_base.specs.Cuts.{MatchKind, All, LeftmostFirst, cut_for, IsOnce, targets}
 use Rattle.automata_base.specs.Passes.{IsMake, IsNeeded, IsClosureOf, IsDecided, true_looks, IsSuccessor, IsPass}
 use Rattle.automata_base.specs.Powerset.{Powerset}
-use Rattle.automata_base.specs.Selections.{Accepts, Pair, IsChosen, Selects, ArePatternsAt, IsFirstAt, Pairs, at_place, IsOverlappingOn}
+use Rattle.automata_base.specs.Selections.{Accepts, Pair, ArePatternsAt, IsFirstAt, Pairs, at_place, IsOverlappingOn}
 use Rattle.automata_base.proofs.Paths.Orders.{some_inj, before_irrefl, before_trans}
 use Rattle.automata_base.proofs.Paths.Places.{path_end}
 use Rattle.automata_base.proofs.Paths.Readings.{list_one}
@@ -28,35 +28,6 @@ accepting_one :
 accepting_one n t start i a j b path h k =
     let e = path_end n t 0 [] start path i h.0 j k.0 h.1 k.1 in
     (e.0, some_inj (sym h.2 ∙ (ap (λ v. accepts n v) e.1 ∙ k.2)))
-
-chosen_both :
-    (kind : MatchKind) (earliest : Bool) (i : ℕ) (p : List ℕ) (j : ℕ) (q : List ℕ)
-    → IsChosen kind earliest i p j q → IsChosen kind earliest j q i p → p ≡ q
-chosen_both kind true i p j q (inl a) (inl b) = absurd (omega (arith, a, b))
-chosen_both kind true i p j q (inl a) (inr b) = absurd (omega (arith, a, b.0))
-chosen_both kind true i p j q (inr a) (inl b) = absurd (omega (arith, a.0, b))
-chosen_both kind true i p j q (inr a) (inr b) = upto_both p q a.1 b.1
-chosen_both LeftmostFirst false i p j q a b = upto_both p q a b
-chosen_both All false i p j q (inl a) (inl b) = absurd (omega (arith, a, b))
-chosen_both All false i p j q (inl a) (inr b) = absurd (omega (arith, a, b.0))
-chosen_both All false i p j q (inr a) (inl b) = absurd (omega (arith, a.0, b))
-chosen_both All false i p j q (inr a) (inr b) = upto_both p q a.1 b.1
-
-pub sel_one :
-    (kind : MatchKind) (earliest : Bool) (n : Nfa) (t : Tape) (start : ℕ) (a b : Option Pair)
-    → Selects kind earliest n t start a → Selects kind earliest n t start b → a ≡ b
-sel_one kind earliest n t start None None h k = refl
-sel_one kind earliest n t start None (Some b) h k = absurd (h b.place b.pattern k.0 k.1)
-sel_one kind earliest n t start (Some a) None h k = absurd (k a.place a.pattern h.0 h.1)
-sel_one kind earliest n t start (Some a) (Some b) h k =
-    ap₂ (λ p i. Some (record { pattern = p; place = i })) e.1 e.0
-  where
-    same_path : h.0 ≡ k.0
-    same_path =
-        chosen_both kind earliest a.place h.0 b.place k.0 (h.2 b.place b.pattern k.0 k.1) (k.2 a.place a.pattern h.0 h.1)
-
-    e : (a.place ≡ b.place) × (a.pattern ≡ b.pattern)
-    e = accepting_one n t start a.place a.pattern b.place b.pattern k.0 (subst (λ v. Accepts n t start a.place a.pattern v) same_path h.1) k.1
 
 first_one :
     (n : Nfa) (t : Tape) (start i : ℕ) (a b : List ℕ) → IsFirstAt n t start i a → IsFirstAt n t start i b → a ≡ b

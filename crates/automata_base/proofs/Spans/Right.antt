@@ -1,18 +1,21 @@
 -- The start is the right one.
-use Rattle.std.proofs.Common.{ℕ, ◌≡◌, ◌≤◌, ◌+◌, ◌-◌, List, [], ◌⊎◌, length, Option, Some, None, inl, inr, refl, sym, ap, ◌∙◌, subst, arith}
+use Rattle.std.proofs.Common.{ℕ, ◌≡◌, ◌≤◌, ◌+◌, ◌-◌, false, List, [], ◌⊎◌, length, Option, Some, None, inl, inr, refl, sym, ap, ◌∙◌, subst, arith}
 use Rattle.automata_base.specs.Paths.{Tape}
 use Rattle.automata_base.proofs.Paths.Searches.{accepting_inside}
 use Rattle.automata_base.proofs.Paths.Places.{path_grows}
 use Rattle.automata_base.specs.Tapes.{IsHaystack, Forward, Backward, forward_tape, reverse_tape, is_split}
-use Rattle.automata_base.specs.Selections.{Pair, IsFarthest}
-use Rattle.automata_base.specs.Engines.{Engine, Anchored, No, Yes, Pattern, BeginsAnchored, LoopsLazily, BeginsLazily}
-use Rattle.automata_base.specs.Answers.{Half, IsAnswer}
+use Rattle.automata_base.specs.Selections.{IsFarthest, Selects}
+use Rattle.automata_base.specs.Cuts.{All}
+use Rattle.automata_base.specs.Engines.{Engine, Anchored, No, Yes, Pattern, BeginsAnchored, IsSkipping, LoopsLazily, BeginsLazily}
+use Rattle.automata_base.specs.Answers.{Half, IsAnswer, SelectsOver}
 use Rattle.automata_base.specs.Input.{Input}
 use Rattle.automata_base.specs.TruePairs.{IsTruePair, KeepsUtf8}
-use Rattle.automata_base.specs.Spans.{IsPathStart, Chooses, IsSpan, IsShort, back, FindsStart, Outcome, Found, NotAPair, IsTrySearch, FindsSpan}
-use Rattle.automata_base.proofs.Spans.Chosen.{StartsAt, starts_at, lazy_start, same_start}
+use Rattle.automata_base.specs.Spans.{IsPathStart, Chooses, IsSpan, IsShort, back, FindsStartBy, Outcome, Found, NotAPair, IsTrySearch, IsFarSearch, FindsSpan}
+use Rattle.automata_base.specs.Told.{EndsOver, IsFarthestAnswer}
+use Rattle.automata_base.proofs.Spans.Chosen.{StartsAt, starts_at, all_farthest, lazy_start, same_start}
 use Rattle.automata_base.proofs.Spans.Backs.{end_inside, forward_bytes}
-use Rattle.automata_base.proofs.Spans.Starts.{mode_cases, Answered, answered, unanchored, back_answer, goes_to_start, start_unsplit, anchored_back, IsGreatest, farthest_greatest}
+use Rattle.automata_base.proofs.Spans.Starts.{mode_cases, Answered, answered, unanchored, back_answer, goes_to_start, start_unsplit, anchored_back}
+use Rattle.automata_base.proofs.Spans.Turning.{turn_answers, turn_outcome}
 
 no_half : {x : Half} → ◌≡◌ {A = Option Half} None (Some x) → ⊥
 no_half e = cc
@@ -82,7 +85,7 @@ abbrev pub StartFound : Engine → Engine → Input → Half → List ℕ → Ty
 StartFound f r input half path =
     (place : ℕ) × IsPathStart f input.anchored (forward_tape input.haystack half.base input.end) path place
     × (half.base + place ≤ half.offset)
-    × ((answer : Option Half) → IsAnswer Backward r (back input half) answer
+    × ((answer : Option Half) → IsFarthestAnswer Backward r (back input half) answer
     → (found : Half) × (answer ≡ Some found) × (found.offset ≡ half.base + place))
 
 pub start_found :
@@ -109,7 +112,7 @@ start_found f r input half q i path pair keeps bytes w a long = go (mode_cases i
         inside = end_inside f h half.base input.end f.unanchored i half.pattern path a.4 w chosen.0
 
         finds :
-            (answer : Option Half) → IsAnswer Backward r (back input half) answer
+            (answer : Option Half) → IsFarthestAnswer Backward r (back input half) answer
             → (found : Half) × (answer ≡ Some found) × (found.offset ≡ half.base + c.0)
         finds answer b =
             let g =
@@ -119,26 +122,26 @@ start_found f r input half q i path pair keeps bytes w a long = go (mode_cases i
             start_unsplit f r h half.base input.end i c.0 half.pattern c.2.1.0 c.1 pair keeps bytes inside w c.3
             c.2.1.1 c.2.1.2 (λ s. ap (λ v. is_split h v) (sym a.1) ∙ a.5 s) in
             let o =
-            back_answer r h half.base (half.base + i) (i - c.0) answer pair.0 (omega arith) g.1
+            back_answer r h half.base (half.base + i) (i - c.0) answer (omega arith) g.1
             (λ s. ap (λ v. is_split h v) (omega (arith, c.3)) ∙ u s)
-            (subst (λ v. IsAnswer Backward r (anchored_back h half.base v) answer) a.1 b) in
+            (subst (λ v. IsFarthestAnswer Backward r (anchored_back h half.base v) answer) a.1 b) in
             (o.0, o.1, o.2 ∙ omega (arith, c.3))
 
 -- Over a true pair under the UTF-8 promise a search tells the span of the chosen path, and never that the two are no
--- pair.
-pub span_right :
+-- pair, also where its search back finds the farthest place alone.
+pub far_right :
     (f r : Engine) (input : Input) (outcome : Outcome)
     → IsTruePair f r → KeepsUtf8 Forward f → IsHaystack input.haystack → input.end ≤ length input.haystack
-    → IsTrySearch f r input outcome → FindsSpan f input outcome
-span_right f r input (Found None) pair keeps bytes w s = (None, refl, s)
-span_right f r input NotAPair pair keeps bytes w s =
+    → IsFarSearch f r input outcome → FindsSpan f input outcome
+far_right f r input (Found None) pair keeps bytes w s = (None, refl, s)
+far_right f r input NotAPair pair keeps bytes w s =
     let a = answered f input s.0 s.1 in
     let b = start_found f r input s.0 a.0 a.1 a.2 pair keeps bytes w a.3 s.2.0 in
     absurd (none_found (b.3 None s.2.1))
   where
     none_found : {P : Half → Type 0} → (found : Half) × (◌≡◌ {A = Option Half} None (Some found)) × P found → ⊥
     none_found h = no_half h.1
-span_right f r input (Found (Some m)) pair keeps bytes w s = (Some m, refl, go s.2)
+far_right f r input (Found (Some m)) pair keeps bytes w s = (Some m, refl, go s.2)
   where
     half : Half
     half = s.0
@@ -146,7 +149,7 @@ span_right f r input (Found (Some m)) pair keeps bytes w s = (Some m, refl, go s
     a : (q i : ℕ) × (path : List ℕ) × Answered f input half q i path
     a = answered f input half s.1
 
-    go : FindsStart f r input half (Some m.start) → IsSpan f input (Some m)
+    go : FindsStartBy (IsFarthestAnswer Backward r) f input half (Some m.start) → IsSpan f input (Some m)
     go (inl e) = (
       half,
       a.0,
@@ -184,46 +187,22 @@ span_right f r input (Found (Some m)) pair keeps bytes w s = (Some m, refl, go s
         offset_of None = 0
         offset_of (Some v) = v.offset
 
--- The farthest place that a reverse search finds is that start, whatever the order of its paths, so also where a cycle
--- of the reverse NFA passes a look; and with no promise on UTF-8.
-pub far_start :
-    (f r : Engine) (input : Input) (half : Half) (q i : ℕ) (path : List ℕ) (answer : Option Pair)
-    → IsTruePair f r → IsHaystack input.haystack → input.end ≤ length input.haystack
-    → Answered f input half q i path → (IsShort f input half → ⊥)
-    → IsFarthest r.nfa (reverse_tape input.haystack half.base half.offset) r.anchored answer
-    → (pair : Pair) × (answer ≡ Some pair)
-    × IsPathStart f input.anchored (forward_tape input.haystack half.base input.end) path (half.offset - pair.place - half.base)
-    × (half.base ≤ half.offset - pair.place)
-far_start f r input half q i path answer pair bytes w a long far = go (mode_cases input.anchored) pair.4
-  where
-    h : List ℕ
-    h = input.haystack
+-- Under kind all a search back that answers by the ordered paths finds the farthest place.
+back_far :
+    (r : Engine) (input : Input) (half : Half) (o : Option Half) → r.kind ≡ All → IsAnswer Backward r (back input half) o
+    → IsFarthestAnswer Backward r (back input half) o
+back_far r input half o all a =
+    turn_answers (SelectsOver Backward r) (EndsOver IsFarthest Backward r) (IsSkipping r) Backward (back input half)
+    (λ k told inside s.
+    all_farthest r.nfa (reverse_tape input.haystack half.base (half.offset - k)) r.anchored told
+    (subst (λ v. Selects v false r.nfa (reverse_tape input.haystack half.base (half.offset - k)) r.anchored told) all s))
+    o a
 
-    goal : Type 0
-    goal =
-        (pair : Pair) × (answer ≡ Some pair)
-        × IsPathStart f input.anchored (forward_tape h half.base input.end) path (half.offset - pair.place - half.base)
-        × (half.base ≤ half.offset - pair.place)
-
-    go : (input.anchored ≡ No) ⊎ (input.anchored ≡ No → ⊥) → BeginsLazily f → goal
-    go (inr g) lazy = absurd (long (inr (inl g)))
-    go (inl m) (inl e) = absurd (long (inr (inr e)))
-    go (inl m) (inr loop) = (
-      p.0,
-      p.1,
-      subst (λ v. IsPathStart f input.anchored (forward_tape h half.base input.end) path v) (omega (arith, p.2, c.3, a.1)) c.4,
-      omega (arith, p.2, c.3, a.1),
-    )
-      where
-        c : Looped f input half i path
-        c = looped f loop.0 input half q i path loop.1 bytes w m a
-
-        g : (c.0 ≤ i) × IsGreatest r.nfa (reverse_tape h half.base (half.base + i)) r.anchored (i - c.0)
-        g =
-            goes_to_start f r loop.0 h half.base input.end input.earliest i c.0 half.pattern path c.1 pair bytes a.4 w
-            loop.1 (unanchored f input half q i path m a) c.2
-
-        p : (pair : Pair) × (answer ≡ Some pair) × (pair.place ≡ i - c.0)
-        p =
-            farthest_greatest r.nfa (reverse_tape h half.base (half.base + i)) r.anchored (i - c.0) answer g.1
-            (subst (λ v. IsFarthest r.nfa (reverse_tape h half.base v) r.anchored answer) a.1 far)
+pub span_right :
+    (f r : Engine) (input : Input) (outcome : Outcome)
+    → IsTruePair f r → KeepsUtf8 Forward f → IsHaystack input.haystack → input.end ≤ length input.haystack
+    → IsTrySearch f r input outcome → FindsSpan f input outcome
+span_right f r input outcome pair keeps bytes w s =
+    far_right f r input outcome pair keeps bytes w
+    (turn_outcome (IsAnswer Forward f) (IsAnswer Forward f) (IsAnswer Backward r) (IsFarthestAnswer Backward r) f input
+    (λ o a. a) (λ half o a b. back_far r input half o pair.0 b) outcome s)

@@ -5,8 +5,8 @@ use Rattle.automata_base.proofs.Paths.Orders.{some_inj}
 use Rattle.automata_base.proofs.Paths.Places.{path_grows, resume}
 use Rattle.automata_base.proofs.Paths.Searches.{accepting_inside}
 use Rattle.automata_base.specs.Tapes.{IsHaystack, Forward, Backward, forward_tape, reverse_tape}
-use Rattle.automata_base.specs.Engines.{Engine, Anchored, No, Yes, Pattern, first_state}
-use Rattle.automata_base.specs.Answers.{Half, IsAnswer}
+use Rattle.automata_base.specs.Engines.{Engine, Anchored, No, Yes, Pattern, IsSkipping, first_state}
+use Rattle.automata_base.specs.Answers.{Half, IsAnswer, SelectsOver}
 use Rattle.automata_base.specs.Input.{Input}
 use Rattle.automata_base.specs.TruePairs.{IsTruePair, KeepsUtf8}
 use Rattle.automata_base.specs.Spans.{IsPathStart, Chooses, IsSpan, FindsStart, Outcome, Found, IsTrySearch, from, IsNextItem, AreMatches, AreSpans, TryFinds, AreFound, Rise}
@@ -50,7 +50,7 @@ back_inside :
     (r : Engine) (h : List ℕ) (b e : ℕ) (found : Half) → e ≤ length h → IsAnswer Backward r (anchored_back h b e) (Some found)
     → (b ≤ found.offset) × (found.offset ≤ e)
 back_inside r h b e found w a =
-    let z = only_once r h b e a.0 a.2 in
+    let z = only_once (SelectsOver Backward r) (IsSkipping r) h b e a.0 a.2 in
     let g = accepting_inside r.nfa (reverse_tape h b (e - a.0)) r.anchored a.1.place a.1.pattern a.4.0 a.4.1 in
     let n = tape_length h b (e - a.0) (omega (arith, z, a.3)) (omega (arith, w)) in
     (omega (arith, a.7, z, g, n, a.3), omega (arith, a.7))

@@ -2,20 +2,19 @@
 use Rattle.std.proofs.Common.{ℕ, ◌≡◌, ◌<◌, ◌≤◌, ◌+◌, ◌-◌, Bool, false, List, [], ◌⊎◌, length, Option, Some, None, inl, inr, refl, sym, ap, ap₂, ◌∙◌, subst, arith, ⊎_elim, eq-or-lt_of_le, true≢false}
 use Rattle.automata_base.specs.Nfa.{Nfa, accepts}
 use Rattle.automata_base.specs.Paths.{Tape, IsPathFrom}
-use Rattle.automata_base.specs.Cuts.{All}
-use Rattle.automata_base.specs.Selections.{Accepts, Pair, Selects, IsFarthest}
+use Rattle.automata_base.specs.Selections.{Accepts, Pair, IsFarthest}
 use Rattle.automata_base.proofs.Paths.Orders.{some_inj}
 use Rattle.automata_base.proofs.Paths.Places.{path_grows}
 use Rattle.automata_base.specs.Tapes.{IsHaystack, Forward, Backward, forward_tape, reverse_tape, is_split}
 use Rattle.automata_base.specs.Engines.{Engine, Anchored, No, Yes, Pattern, first_state, LoopsLazily, IsSkipping}
-use Rattle.automata_base.specs.Answers.{Half, SelectsFrom, later, IsAnswer}
+use Rattle.automata_base.specs.Answers.{Half, SelectsFrom, later, IsAnswer, IsSplit, Tries}
 use Rattle.automata_base.specs.Input.{Input}
 use Rattle.automata_base.specs.TruePairs.{Joins, IsTruePair, KeepsUtf8}
 use Rattle.automata_base.specs.Spans.{Chooses}
-use Rattle.automata_base.proofs.Spans.Chosen.{StartsAt, least_start, all_farthest}
+use Rattle.automata_base.specs.Told.{EndsOver, IsFarthestAnswer}
+use Rattle.automata_base.proofs.Spans.Chosen.{StartsAt, least_start}
 use Rattle.automata_base.proofs.Spans.Text.{unsplit}
 use Rattle.automata_base.proofs.Spans.Backs.{end_inside, forward_bytes, narrow, goes_back, comes_forth}
-use Rattle.automata_base.proofs.Spans.Tried.{ComesTo, IsSplitAnswer}
 
 pub no_pair : {x : Pair} → ◌≡◌ {A = Option Pair} (Some x) None → ⊥
 no_pair e = cc
@@ -72,20 +71,14 @@ unanchored d input half q i path m a =
     subst (λ v. Chooses d input.earliest (forward_tape input.haystack half.base input.end) v i half.pattern path)
     (some_inj (sym a.0 ∙ ap (λ v. first_state d v) m)) a.2
 
--- An anchored search of kind all is made once; its answer is the farthest end.
+-- An anchored search is made once.
 abbrev pub anchored_back : List ℕ → ℕ → ℕ → Input
 anchored_back h b e = record { haystack = h; start = b; end = e; anchored = Yes; earliest = false }
 
-pub only_once : (d : Engine) (h : List ℕ) (b e k : ℕ) → ComesTo Backward d (anchored_back h b e) k → k ≡ 0
-only_once d h b e k c = ⊎_elim (λ (z : k ≡ 0). z) (λ (z : IsSkipping d × (Yes ≡ No)). absurd (yes_no z.1)) c.0
-
-farthest_end :
-    (r : Engine) (h : List ℕ) (b e e' : ℕ) (answer : Option Pair) → r.kind ≡ All → e' ≡ e
-    → Selects r.kind false r.nfa (reverse_tape h b e') r.anchored answer → IsFarthest r.nfa (reverse_tape h b e) r.anchored answer
-farthest_end r h b e e' answer all same s =
-    all_farthest r.nfa (reverse_tape h b e) r.anchored answer
-    (subst (λ v. Selects All false r.nfa (reverse_tape h b v) r.anchored answer) same
-    (subst (λ v. Selects v false r.nfa (reverse_tape h b e') r.anchored answer) all s))
+pub only_once :
+    (T : Input → Option Pair → Type 0) (S : Type 0) (h : List ℕ) (b e k : ℕ) → Tries T S Backward (anchored_back h b e) k
+    → k ≡ 0
+only_once T S h b e k c = ⊎_elim (λ (z : k ≡ 0). z) (λ (z : S × (Yes ≡ No)). absurd (yes_no z.1)) c.0
 
 -- The greatest place where a path accepts.
 abbrev pub IsGreatest : Nfa → Tape → ℕ → ℕ → Type 0
@@ -103,50 +96,57 @@ farthest_greatest n t start m (Some pair) g f = (pair, refl, place (eq-or-lt_of_
     place (inl e) = e
     place (inr l) = absurd (f.1 m g.0.0 g.0.1 l g.0.2)
 
+-- Where it finds the farthest place, it answers the greatest one.
 pub back_answer :
-    (r : Engine) (h : List ℕ) (b e m : ℕ) (answer : Option Half) → r.kind ≡ All → b ≤ e
+    (r : Engine) (h : List ℕ) (b e m : ℕ) (answer : Option Half) → b ≤ e
     → IsGreatest r.nfa (reverse_tape h b e) r.anchored m
     → (IsSkipping r → is_split h (e - m) ≡ false)
-    → IsAnswer Backward r (anchored_back h b e) answer
+    → IsFarthestAnswer Backward r (anchored_back h b e) answer
     → (found : Half) × (answer ≡ Some found) × (found.offset ≡ e - m)
-back_answer r h b e m None all l g u a = ⊎_elim
-    (λ (c : e < b + a.0). absurd (omega (arith, l, c, only_once r h b e a.0 a.1)))
-    (λ (c :
-    Selects r.kind false r.nfa (reverse_tape h b (e - a.0)) r.anchored None
-    ⊎ (IsSkipping r × (Yes ≡ No → ⊥) × IsSplitAnswer Backward r (later Backward a.0 (anchored_back h b e)))). ⊎_elim
-    (λ (s : Selects r.kind false r.nfa (reverse_tape h b (e - a.0)) r.anchored None).
-    absurd (farthest_end r h b e (e - a.0) None all same s m g.0.0 g.0.1 g.0.2))
-    (λ (s : IsSkipping r × (Yes ≡ No → ⊥) × IsSplitAnswer Backward r (later Backward a.0 (anchored_back h b e))).
-    absurd (split s))
-    c)
-    a.2
+back_answer r h b e m answer l g u = go answer
   where
-    same : e - a.0 ≡ e
-    same = omega (arith, only_once r h b e a.0 a.1)
+    Far : Input → Option Pair → Type 0
+    Far = EndsOver IsFarthest Backward r
 
-    split : IsSkipping r × (Yes ≡ No → ⊥) × IsSplitAnswer Backward r (later Backward a.0 (anchored_back h b e)) → ⊥
-    split s =
+    first : (k : ℕ) → Tries Far (IsSkipping r) Backward (anchored_back h b e) k → k ≡ 0
+    first k c = only_once Far (IsSkipping r) h b e k c
+
+    once : (k : ℕ) → Tries Far (IsSkipping r) Backward (anchored_back h b e) k → e - k ≡ e
+    once k c = let z = first k c in omega (arith, z)
+
+    greatest :
+        (k : ℕ) (o : Option Pair) → e - k ≡ e → IsFarthest r.nfa (reverse_tape h b (e - k)) r.anchored o
+        → (pair : Pair) × (o ≡ Some pair) × (e - k - pair.place ≡ e - m)
+    greatest k o same s =
         let p =
-        farthest_greatest r.nfa (reverse_tape h b e) r.anchored m (Some s.2.0) g
-        (farthest_end r h b e (e - a.0) (Some s.2.0) all same s.2.1) in
-        true≢false (sym s.2.2 ∙ (ap (λ v. is_split h v) (ap₂ (λ v w. v - w) same (ap (λ v. place_of v) p.1 ∙ p.2)) ∙ u s.0))
-      where
-        place_of : Option Pair → ℕ
-        place_of None = 0
-        place_of (Some v) = v.place
-back_answer r h b e m (Some found) all l g u a = (found, refl, a.7 ∙ ap₂ (λ v w. v - w) same (ap (λ v. place_of v) p.1 ∙ p.2))
-  where
-    same : e - a.0 ≡ e
-    same = omega (arith, only_once r h b e a.0 a.2)
+        farthest_greatest r.nfa (reverse_tape h b e) r.anchored m o g
+        (subst (λ v. IsFarthest r.nfa (reverse_tape h b v) r.anchored o) same s) in
+        (p.0, p.1, ap₂ (λ v w. v - w) same p.2)
 
     place_of : Option Pair → ℕ
     place_of None = 0
     place_of (Some v) = v.place
 
-    p : (pair : Pair) × (◌≡◌ {A = Option Pair} (Some a.1) (Some pair)) × (pair.place ≡ m)
-    p =
-        farthest_greatest r.nfa (reverse_tape h b e) r.anchored m (Some a.1) g
-        (farthest_end r h b e (e - a.0) (Some a.1) all same a.4)
+    same_place : {x y : Pair} → ◌≡◌ {A = Option Pair} (Some x) (Some y) → x.place ≡ y.place
+    same_place f = ap (λ v. place_of v) f
+
+    none : (k : ℕ) → e - k ≡ e → IsFarthest r.nfa (reverse_tape h b (e - k)) r.anchored None → ⊥
+    none k same s = let p = greatest k None same s in no_pair (sym p.1)
+
+    split : (k : ℕ) → e - k ≡ e → IsSkipping r → IsSplit Far Backward (later Backward k (anchored_back h b e)) → ⊥
+    split k same skipping s =
+        let p = greatest k (Some s.0) same s.1 in
+        true≢false (sym s.2 ∙ (ap (λ v. is_split h v) (ap (λ w. e - k - w) (same_place p.1) ∙ p.2) ∙ u skipping))
+
+    go :
+        (o : Option Half) → IsFarthestAnswer Backward r (anchored_back h b e) o
+        → (found : Half) × (o ≡ Some found) × (found.offset ≡ e - m)
+    go None (k, tries, inl c) = let z = first k tries in absurd (omega (arith, l, c, z))
+    go None (k, tries, inr (inl s)) = absurd (none k (once k tries) s)
+    go None (k, tries, inr (inr (skipping, f, s))) = absurd (split k (once k tries) skipping s)
+    go (Some found) (k, pair, tries, n, s, whole, same_pattern, at, base) =
+        let p = greatest k (Some pair) (once k tries) s in
+        (found, refl, at ∙ (ap (λ w. e - k - w) (same_place p.1) ∙ p.2))
 
 -- Over the span that the forward search left, the reverse paths from its end go back to the chosen path's start and no
 -- farther, and that place splits no character where split places are skipped.

@@ -1,5 +1,5 @@
 -- The theorems are lemmas.
-use Rattle.automata_base.proofs.Spans.Right.{span_right}
+use Rattle.automata_base.proofs.Spans.Right.{far_right, span_right}
 use Rattle.automata_base.proofs.Spans.Total.{span_found}
 use Rattle.automata_base.proofs.Spans.Once.{span_once, answer_once, spans_once, match_iff_find}
 use Rattle.automata_base.proofs.Spans.Rising.{spans_right, spans_rise, found_rise}
@@ -7,7 +7,10 @@ use Rattle.automata_base.proofs.Spans.Units.{back_meets_none}
 use Rattle.automata_base.proofs.laws.start_is_right.Goals as goal
 
 pub returns-clause-starts : goal.returns-clause-starts
-returns-clause-starts c = λ f r input outcome pair keeps b s. span_right f r input outcome pair keeps b.0 b.1 s
+returns-clause-starts c = record {
+  paths = λ f r input outcome pair keeps b s. span_right f r input outcome pair keeps b.0 b.1 s;
+  farthest = λ f r input outcome pair keeps b s. far_right f r input outcome pair keeps b.0 b.1 s;
+}
 
 pub returns-clause-found : goal.returns-clause-found
 returns-clause-found c = span_found

@@ -1,7 +1,7 @@
 use Rattle.std.proofs.Common.{◌∙◌, ap, subst}
 use Rattle.automata_base.specs.Nodes.{Automaton}
 use Rattle.automata_base.specs.Spans.{Found, IsSpan, TryFinds, from}
-use Rattle.automata_base.specs.Told.{ToldIsRight}
+use Rattle.automata_base.specs.Told.{ToldEndsAreRight, ToldIsRight}
 use Rattle.automata_hybrid.specs.Machine.{Machine}
 use Rattle.regex_automata.specs.Outcomes.{FindsMatch}
 use Rattle.regex_automata.specs.SoundPairs.{IsSoundPair, forward_engine, reverse_engine}
@@ -26,8 +26,9 @@ returns-clause-owed c =
     let within = c.haystack-haystack.ensures.within.1 in
     let front = subst (λ (a : Automaton). ToldIsRight a) (c.get_nfa.ensures ∙ ap (λ (m : Machine). m.nfa) c.forward.ensures) c.told_is_right.ensures.answer in
     let rear = subst (λ (a : Automaton). ToldIsRight a) (c.get_nfa-2.ensures ∙ ap (λ (m : Machine). m.nfa) c.reverse.ensures) c.told_is_right-2.ensures.answer in
+    let ends = subst (λ (a : Automaton). ToldEndsAreRight a) (c.get_nfa-2.ensures ∙ ap (λ (m : Machine). m.nfa) c.reverse.ensures) c.told_is_right-2.ensures.ends in
     let right = λ (sound : IsSoundPair p). collected_right (FindsMatch p) (IsSpan (forward_engine p)) input
-    (λ start o f. match_right p front rear c.start_is_right.ensures.starts sound (from start input) (c.haystack-haystack.ensures.bytes, within) o f)
+    (λ start o f. match_right p front ends c.start_is_right.ensures.starts sound (from start input) (c.haystack-haystack.ensures.bytes, within) o f)
     ms error s.found in
     let first = collected_first p input within ms error s.found in
     let of = are_stores cache p (s.forward, s.reverse) c.see_bounds.ensures.forward c.see_bounds.ensures.reverse in

@@ -15,7 +15,7 @@ use Rattle.automata_hybrid.specs.Starting.{quit_behind}
 use Rattle.automata_hybrid.proofs.Growing.{grown_same}
 use Rattle.automata_hybrid.proofs.Searching.{if_err}
 use Rattle.regex_automata.proofs.Finding.{cache_of}
-use Rattle.regex_automata.proofs.Matching.{asked_from, asked_to, match_right, same_asked, truth_told}
+use Rattle.regex_automata.proofs.Matching.{asked_from, asked_to, match_right, same_asked, truth_nearest, truth_told}
 use Rattle.regex_automata.proofs.Owed.{may_refuse_truth, truth_owed}
 use Rattle.regex_automata.proofs.Results.{err_ok, if_ok, is_err, ok_err, on_ok, same_err, same_ok}
 use Rattle.regex_automata.proofs.hybrid.regex.Regex.is_match.Goals as goal
@@ -33,6 +33,7 @@ returns-in_err-found-clause-owed c =
     truth_owed c.args.self.now c.args.input.now c.from_residual.result
     (if_ok c.from_residual.result _ _ c.from_residual.ensures.1)
     (λ acyclic. if_ok c.from_residual.result _ _ c.from_residual.ensures.1)
+    (λ whole. if_ok c.from_residual.result _ _ c.from_residual.ensures.1)
     (if_err c.from_residual.result _ _ c.from_residual.ensures.1
     (may_refuse_truth c.args.self.now.forward c.args.input.now c.asked-asked.result _ c.asked-asked.ensures c.in_err-found.ensures.half.errors))
     (λ ahead behind mode. is_err c.from_residual.result _ c.from_residual.ensures.1 ∙ ap (λ (e : SearchError). Err e) (same_err
@@ -69,6 +70,7 @@ returns-clause-owed c =
     truth_owed c.args.self.now c.args.input.now (Ok c.is_some.result)
     told
     (λ acyclic. match_right c.args.self.now.forward (subst (λ (a : Automaton). ToldIsRight a) c.get_nfa.ensures c.told_is_right.ensures.answer) c.args.input.now c.is_some.result acyclic (c.haystack-haystack.ensures.bytes, c.haystack-haystack.ensures.within.1) (truth_told c.args.self.now.forward c.args.input.now c.asked-asked.result c.asked-asked.ensures c.in_ok-found.found c.is_some.result c.in_ok-found.ensures.half.found c.is_some.ensures))
+    (truth_nearest c.args.self.now.forward c.args.input.now c.asked-asked.result c.asked-asked.ensures c.in_ok-found.found c.is_some.result c.in_ok-found.ensures.half.nearest c.is_some.ensures)
     tt
     (λ ahead behind mode. absurd (ok_err
     (asked_to (λ (i : Input). i.start ≤ i.end → quit_behind c.args.self.now.forward (byte_before i.haystack i.start) ≡ None → supports c.args.self.now.forward i.anchored ≡ false → ◌≡◌ {A = Result (Option HalfMatch) SearchError} (Ok c.in_ok-found.found) (Err (search.Match (UnsupportedMode i.anchored))))

@@ -26,7 +26,7 @@ pub returns-in_err-found-clause-ahead : goal.returns-in_err-found-clause-ahead
 returns-in_err-found-clause-ahead c =
     on_err c.from_residual.result _
     (ahead_of c.try_search.result c.in_err-found.field-0.0 None c.args.input.now.start c.args.input.now.end
-    c.try_search.ensures.owed.done c.in_err-found.was)
+    c.try_search.ensures.owed.told.done c.in_err-found.was)
 
 pub returns-in_err-found-clause-effect : goal.returns-in_err-found-clause-effect
 returns-in_err-found-clause-effect c = record {
@@ -40,14 +40,14 @@ returns-in_err-found-clause-effect c = record {
 
 pub returns-in_default-clause-next : goal.returns-in_default-clause-next
 returns-in_default-clause-next c =
-    inl (subst (FindsMatch c.args.self.now c.args.input.now) c.in_default.is c.in_ok-found.ensures.owed.found)
+    inl (subst (FindsMatch c.args.self.now c.args.input.now) c.in_default.is c.in_ok-found.ensures.owed.told.found)
 
 pub returns-in_default-clause-effect : goal.returns-in_default-clause-effect
 returns-in_default-clause-effect c = record {
   cost = inl c.try_search.ensures.effect.cost;
   grown = search rules;
   learned = λ nothing. alone_none c.matches_agree.ensures c.args.self.now c.args.input.now c.args.last c.try_search.new.cache (c.in_ok-found.ensures.effect.learned nothing)
-      (subst (FindsMatch c.args.self.now c.args.input.now) c.in_default.is c.in_ok-found.ensures.owed.found);
+      (subst (FindsMatch c.args.self.now c.args.input.now) c.in_default.is c.in_ok-found.ensures.owed.told.found);
   known = λ knows. ((c.in_ok-found.ensures.effect.known knows.0).0, tt);
   ended = inl (subst (EndsSpan c.args.self.now c.args.input.now c.args.cache.now c.try_search.new.cache) c.in_default.is c.in_ok-found.ensures.effect.ended);
   left = search rules;
@@ -55,19 +55,19 @@ returns-in_default-clause-effect c = record {
 
 pub returns-then-not-is_empty_at-clause-next : goal.returns-then-not-is_empty_at-clause-next
 returns-then-not-is_empty_at-clause-next c =
-    inl (subst (FindsMatch c.args.self.now c.args.input.now) c.in-Some.is c.in_ok-found.ensures.owed.found, c.if-not-is_empty_at.ensures.no refl)
+    inl (subst (FindsMatch c.args.self.now c.args.input.now) c.in-Some.is c.in_ok-found.ensures.owed.told.found, c.if-not-is_empty_at.ensures.no refl)
 
 pub returns-then-not-is_empty_at-clause-goes_on : goal.returns-then-not-is_empty_at-clause-goes_on
 returns-then-not-is_empty_at-clause-goes_on c =
     goes_first c.args.self.now c.args.input.now c.args.last c.in-Some.found
-    (some_of c.in_ok-found.field-0 c.in-Some.found (MatchLiesIn c.args.self.now c.args.input.now) c.in_ok-found.ensures.owed.within c.in-Some.is) (c.if-not-is_empty_at.ensures.no refl)
+    (some_of c.in_ok-found.field-0 c.in-Some.found (MatchLiesIn c.args.self.now c.args.input.now) c.in_ok-found.ensures.owed.told.within c.in-Some.is) (c.if-not-is_empty_at.ensures.no refl)
 
 pub returns-then-not-is_empty_at-clause-effect : goal.returns-then-not-is_empty_at-clause-effect
 returns-then-not-is_empty_at-clause-effect c = record {
   cost = inl c.try_search.ensures.effect.cost;
   grown = search rules;
   learned = λ nothing. alone_some c.matches_agree.ensures c.args.self.now c.args.input.now c.args.last c.try_search.new.cache (c.in_ok-found.ensures.effect.learned nothing)
-      c.in-Some.found (subst (FindsMatch c.args.self.now c.args.input.now) c.in-Some.is c.in_ok-found.ensures.owed.found) (c.if-not-is_empty_at.ensures.no refl);
+      c.in-Some.found (subst (FindsMatch c.args.self.now c.args.input.now) c.in-Some.is c.in_ok-found.ensures.owed.told.found) (c.if-not-is_empty_at.ensures.no refl);
   known = λ knows. ((c.in_ok-found.ensures.effect.known knows.0).0, tt);
   ended = inl (subst (EndsSpan c.args.self.now c.args.input.now c.args.cache.now c.try_search.new.cache) c.in-Some.is c.in_ok-found.ensures.effect.ended);
   left = search rules;
@@ -75,34 +75,34 @@ returns-then-not-is_empty_at-clause-effect c = record {
 
 pub overflow_add-start : goal.overflow_add-start
 overflow_add-start c =
-    let lies = some_of c.in_ok-found.field-0 c.in-Some.found (MatchLiesIn c.args.self.now c.args.input.now) c.in_ok-found.ensures.owed.within c.in-Some.is in
+    let lies = some_of c.in_ok-found.field-0 c.in-Some.found (MatchLiesIn c.args.self.now c.args.input.now) c.in_ok-found.ensures.owed.told.within c.in-Some.is in
     let few = c.haystack-haystack.ensures.within.1 in
     omega (arith, lies.0, lies.1, lies.2, few, c.haystack-haystack.ensures.bound, c.start.ensures.start)
 
 pub from-rest-requires : goal.from-rest-requires
 from-rest-requires c =
-    let lies = some_of c.in_ok-found.field-0 c.in-Some.found (MatchLiesIn c.args.self.now c.args.input.now) c.in_ok-found.ensures.owed.within c.in-Some.is in
+    let lies = some_of c.in_ok-found.field-0 c.in-Some.found (MatchLiesIn c.args.self.now c.args.input.now) c.in_ok-found.ensures.owed.told.within c.in-Some.is in
     let few = c.haystack-haystack.ensures.within.1 in
     (omega (arith, lies.0, lies.1, lies.2, c.start.ensures.start), few)
 
 pub returns-clause-next : goal.returns-clause-next
 returns-clause-next c =
-    let found = subst (FindsMatch c.args.self.now c.args.input.now) c.in-Some.is c.in_ok-found.ensures.owed.found in
+    let found = subst (FindsMatch c.args.self.now c.args.input.now) c.in-Some.is c.in_ok-found.ensures.owed.told.found in
     let place : c.start.result + 1 ≡ suc c.args.input.now.start = omega (arith, c.start.ensures.start) in
     let rest : c.from-rest.result ≡ from (suc c.args.input.now.start) c.args.input.now = c.from-rest.ensures ∙ ap (λ n. from n c.args.input.now) place in
     next_later c.args.self.now c.args.input.now c.args.last c.in-Some.found found (c.if-not-is_empty_at.ensures.yes refl) c.try_search-2.result
-    (subst (λ (i : Input). IfOk c.try_search-2.result (FindsMatch c.args.self.now i)) rest c.try_search-2.ensures.owed.found)
+    (subst (λ (i : Input). IfOk c.try_search-2.result (FindsMatch c.args.self.now i)) rest c.try_search-2.ensures.owed.told.found)
 
 pub returns-clause-goes_on : goal.returns-clause-goes_on
 returns-clause-goes_on c =
     let place : c.start.result + 1 ≡ suc c.args.input.now.start = omega (arith, c.start.ensures.start) in
     let rest : c.from-rest.result ≡ from (suc c.args.input.now.start) c.args.input.now = c.from-rest.ensures ∙ ap (λ n. from n c.args.input.now) place in
     goes_later c.args.self.now c.args.input.now c.args.last c.try_search-2.result
-    (subst (λ (i : Input). IfOk c.try_search-2.result (λ o. IfSome o (MatchLiesIn c.args.self.now i))) rest c.try_search-2.ensures.owed.within)
+    (subst (λ (i : Input). IfOk c.try_search-2.result (λ o. IfSome o (MatchLiesIn c.args.self.now i))) rest c.try_search-2.ensures.owed.told.within)
 
 pub returns-clause-refusal : goal.returns-clause-refusal
 returns-clause-refusal c =
-    let found = subst (FindsMatch c.args.self.now c.args.input.now) c.in-Some.is c.in_ok-found.ensures.owed.found in
+    let found = subst (FindsMatch c.args.self.now c.args.input.now) c.in-Some.is c.in_ok-found.ensures.owed.told.found in
     let place : c.start.result + 1 ≡ suc c.args.input.now.start = omega (arith, c.start.ensures.start) in
     let rest : c.from-rest.result ≡ from (suc c.args.input.now.start) c.args.input.now = c.from-rest.ensures ∙ ap (λ n. from n c.args.input.now) place in
     refused_later c.args.self.now c.args.input.now c.args.last c.in-Some.found found (c.if-not-is_empty_at.ensures.yes refl) c.try_search-2.new.cache c.try_search-2.result
@@ -110,7 +110,7 @@ returns-clause-refusal c =
 
 pub returns-clause-ahead : goal.returns-clause-ahead
 returns-clause-ahead c =
-    let lies = some_of c.in_ok-found.field-0 c.in-Some.found (MatchLiesIn c.args.self.now c.args.input.now) c.in_ok-found.ensures.owed.within c.in-Some.is in
+    let lies = some_of c.in_ok-found.field-0 c.in-Some.found (MatchLiesIn c.args.self.now c.args.input.now) c.in_ok-found.ensures.owed.told.within c.in-Some.is in
     on_err c.try_search-2.result _ (omega (arith, lies.0, lies.1, lies.2))
 
 pub returns-clause-effect : goal.returns-clause-effect
@@ -131,7 +131,7 @@ returns-clause-effect c = record {
       (c.try_search-2.ensures.effect.learned second));
   known = let place : c.start.result + 1 ≡ suc c.args.input.now.start = omega (arith, c.start.ensures.start) in
       let rest : c.from-rest.result ≡ from (suc c.args.input.now.start) c.args.input.now = c.from-rest.ensures ∙ ap (λ n. from n c.args.input.now) place in
-      let found = subst (FindsMatch c.args.self.now c.args.input.now) c.in-Some.is c.in_ok-found.ensures.owed.found in
+      let found = subst (FindsMatch c.args.self.now c.args.input.now) c.in-Some.is c.in_ok-found.ensures.owed.told.found in
       λ knows. next_known c.args.self.now c.args.input.now c.from-rest.result c.args.last c.args.cache.now c.try_search.new.cache c.try_search-2.new.cache c.try_search-2.result
       c.in-Some.found rest found (c.if-not-is_empty_at.ensures.yes refl) knows (c.in_ok-found.ensures.effect.known knows.0).0 c.try_search-2.ensures.effect.known;
   ended = let place : c.start.result + 1 ≡ suc c.args.input.now.start = omega (arith, c.start.ensures.start) in
@@ -149,13 +149,13 @@ returns-clause-effect c = record {
 pub returns-in_err-found-clause-unsupported : goal.returns-in_err-found-clause-unsupported
 returns-in_err-found-clause-unsupported c =
     λ u. is_err c.from_residual.result _ c.from_residual.ensures.1
-    ∙ ap (λ (e : SearchError). Err e) (same_err (c.in_err-found.ensures.owed.unsupported u))
+    ∙ ap (λ (e : SearchError). Err e) (same_err (c.in_err-found.ensures.owed.told.unsupported u))
 
 pub returns-in_default-clause-unsupported : goal.returns-in_default-clause-unsupported
-returns-in_default-clause-unsupported c = λ u. absurd (ok_err (c.in_ok-found.ensures.owed.unsupported u))
+returns-in_default-clause-unsupported c = λ u. absurd (ok_err (c.in_ok-found.ensures.owed.told.unsupported u))
 
 pub returns-then-not-is_empty_at-clause-unsupported : goal.returns-then-not-is_empty_at-clause-unsupported
-returns-then-not-is_empty_at-clause-unsupported c = λ u. absurd (ok_err (c.in_ok-found.ensures.owed.unsupported u))
+returns-then-not-is_empty_at-clause-unsupported c = λ u. absurd (ok_err (c.in_ok-found.ensures.owed.told.unsupported u))
 
 pub returns-clause-unsupported : goal.returns-clause-unsupported
-returns-clause-unsupported c = λ u. absurd (ok_err (c.in_ok-found.ensures.owed.unsupported u))
+returns-clause-unsupported c = λ u. absurd (ok_err (c.in_ok-found.ensures.owed.told.unsupported u))

@@ -2,7 +2,7 @@ use Rattle.std.proofs.Common.{subst}
 use Rattle.std.proofs.lemmas.Result.{IfOk-weaker}
 use Rattle.automata_base.specs.Nodes.{Automaton}
 use Rattle.automata_base.specs.Spans.{Found}
-use Rattle.automata_base.specs.Told.{ToldIsRight}
+use Rattle.automata_base.specs.Told.{ToldEndsAreRight, ToldIsRight}
 use Rattle.regex_automata.proofs.Owed.{are_stores, span_owed}
 use Rattle.regex_automata.proofs.Right.{match_right, outcome_right, refusals}
 use Rattle.regex_automata.proofs.hybrid.regex.Regex.try_search.Goals as goal
@@ -14,7 +14,8 @@ pub returns-clause-refusal : goal.returns-clause-refusal
 returns-clause-refusal c =
     let front = subst (λ (a : Automaton). ToldIsRight a) c.get_nfa.ensures c.told_is_right.ensures.answer in
     let rear = subst (λ (a : Automaton). ToldIsRight a) c.get_nfa-2.ensures c.told_is_right-2.ensures.answer in
-    refusals c.args.self.now front rear c.start_is_right.ensures.starts c.start_is_right.ensures.quits c.search-found.new.cache c.args.input.now
+    let ends = subst (λ (a : Automaton). ToldEndsAreRight a) c.get_nfa-2.ensures c.told_is_right-2.ensures.ends in
+    refusals c.args.self.now front rear ends c.start_is_right.ensures.starts c.start_is_right.ensures.quits c.search-found.new.cache c.args.input.now
     (c.haystack-haystack.ensures.bytes, c.haystack-haystack.ensures.within.1) c.search-found.result c.search-found.ensures.refusal c.search-found.ensures.told.free
 
 pub returns-clause-owed : goal.returns-clause-owed
@@ -22,13 +23,14 @@ returns-clause-owed c =
     let s = c.search-found.ensures in
     let front = subst (λ (a : Automaton). ToldIsRight a) c.get_nfa.ensures c.told_is_right.ensures.answer in
     let rear = subst (λ (a : Automaton). ToldIsRight a) c.get_nfa-2.ensures c.told_is_right-2.ensures.answer in
+    let ends = subst (λ (a : Automaton). ToldEndsAreRight a) c.get_nfa-2.ensures c.told_is_right-2.ensures.ends in
     span_owed c.args.self.now c.args.input.now c.search-found.result c.search-found.new.cache
     (are_stores c.search-found.new.cache c.args.self.now s.of c.see_bounds.ensures.forward c.see_bounds.ensures.reverse)
-    s.told.found
+    s.told
     (λ acyclic. IfOk-weaker c.search-found.result _ _
     (λ o found. outcome_right c.args.self.now front rear c.args.input.now (Found o) acyclic (c.haystack-haystack.ensures.bytes, c.haystack-haystack.ensures.within.1) found)
     s.told.found)
     (λ sound. IfOk-weaker c.search-found.result _ _
-    (match_right c.args.self.now front rear c.start_is_right.ensures.starts sound c.args.input.now (c.haystack-haystack.ensures.bytes, c.haystack-haystack.ensures.within.1))
+    (match_right c.args.self.now front ends c.start_is_right.ensures.starts sound c.args.input.now (c.haystack-haystack.ensures.bytes, c.haystack-haystack.ensures.within.1))
     s.told.found)
-    s.told.within (returns-clause-refusal c) s.told.unsupported s.told.done
+    (returns-clause-refusal c)
