@@ -23,7 +23,7 @@ use Rattle.automata_hybrid.specs.Owing.{IsUnsupported, unsupported_error}
 use Rattle.automata_hybrid.specs.OwingWalks.{IsCallEffect}
 use Rattle.automata_hybrid.specs.Reading.{IsReadEffect, IsReadProgress}
 use Rattle.automata_hybrid.specs.Resuming.{IsCallRefused, IsResumeAnswer, IsResumeEffect, IsUnitEffect, ReadsOn, lost_without, resumed}
-use Rattle.automata_hybrid.specs.SearchedWalks.{ReadsNoUnit}
+use Rattle.automata_hybrid.specs.SearchedWalks.{LeavesCall, ReadsNoUnit}
 use Rattle.automata_hybrid.specs.Searches.{behind_offset, given_up_offset, state_in, tape_in}
 use Rattle.automata_hybrid.specs.Slots.{supports}
 use Rattle.automata_hybrid.specs.Starting.{IsStartAnswer, IsStartEffect, IsStartRefusal, IsStartRefusalAt, IsStartRefusedAt, quit_behind, search_refusal}
@@ -34,7 +34,7 @@ use Rattle.automata_hybrid.specs.Walks.{At, Ended, Fresh, Stage, Walk}
 use Rattle.automata_hybrid.proofs.Growing.{grown_less, grown_moved, grown_same, grown_trans, nothing_second}
 use Rattle.automata_hybrid.proofs.Knowing.{start_idle}
 use Rattle.automata_hybrid.proofs.KnowingWalks.{still_same}
-use Rattle.automata_hybrid.proofs.SearchedWalks.{reads_some, start_keeps, stuck_refusal}
+use Rattle.automata_hybrid.proofs.SearchedWalks.{reads_some, start_keeps}
 use Rattle.automata_hybrid.proofs.Searching.{false_true, state_first}
 use Rattle.automata_hybrid.proofs.Starting.{refusal_at}
 
@@ -42,6 +42,15 @@ use Rattle.automata_hybrid.proofs.Starting.{refusal_at}
 pub kept_by : (w : Walk) (at : Option ℕ) → CanGoOn w at → (resumed w at).lost ≡ false
 kept_by w None can = can refl
 kept_by w (Some id) can = refl
+
+-- and what a refused call left it also left with the walk as it was
+pub leaves_before :
+    (way : Direction) (m : Machine) (input : Input) (w : Walk) (at : Option ℕ) (old new : Stored) (e : SearchError)
+    → LeavesCall way m input (resumed w at) old new e → LeavesCall way m input w old new e
+leaves_before way m input w None old new e left = left
+leaves_before way m input w (Some id) old new e (inl (inl stuck, same)) = absurd (false_true stuck.0)
+leaves_before way m input w (Some id) old new e (inl (inr refused, same)) = inl (inr refused, same)
+leaves_before way m input w (Some id) old new e (inr left) = inr left
 
 -- a start in a mode that isn't supported is refused for that, behind no quit byte
 unsupported_start :
@@ -116,7 +125,7 @@ module _ (way : Direction) (m : Machine) (input : Input) (w : Walk) (at : Option
     learned = λ _. tt;
     known = λ _. (still_same c c refl, λ kept. absurd (false_true (sym kept ∙ stuck)));
     ended = tt;
-    left = inl (stuck_refusal way m c.store input w.stage w.units begun on, refl);
+    left = inl (inl (stuck, refl), refl);
     ready = λ _. refl;
   }
 

@@ -6,7 +6,6 @@ use Rattle.automata_base.specs.Paths.{next}
 use Rattle.automata_base.specs.Tapes.{Direction, Forward, Backward}
 use Rattle.automata_base.specs.declared.util.search.Anchored.{Anchored}
 use Rattle.automata_config.specs.declared.error.SearchError.{SearchError}
-use Rattle.automata_config.specs.declared.error.SearchError.TheVariants as search
 use Rattle.automata_hybrid.specs.declared.dfa.progress.Searched.{Searched}
 use Rattle.automata_hybrid.specs.Stores.{Stored, with_searched}
 use Rattle.automata_hybrid.specs.Caches.{CacheView, counted, with_store}
@@ -18,8 +17,8 @@ use Rattle.automata_hybrid.specs.Searched.{CountsFrom, IsEndedAt, IsLeftAt, IsMo
 use Rattle.automata_hybrid.specs.SearchedWalks.{EndsAtUnit, IsLeftAtUnit, ReadsNoUnit}
 use Rattle.automata_hybrid.specs.Searches.{HasReadNoQuit, given_up_offset, tape_in}
 use Rattle.automata_hybrid.specs.Starting.{IsStartRefusedAt}
-use Rattle.automata_hybrid.specs.Walking.{IsResumeRefusal, IsSilent, IsUnitRefusal, WalkReads}
-use Rattle.automata_hybrid.specs.Walks.{At, Ended, Fresh, Stage, Walk}
+use Rattle.automata_hybrid.specs.Walking.{IsSilent, IsUnitRefusal, WalkReads}
+use Rattle.automata_hybrid.specs.Walks.{Walk}
 use Rattle.automata_hybrid.proofs.Growing.{grown_moved, grown_same, grown_trans}
 use Rattle.automata_hybrid.proofs.Searched.{ended_after, ends_kept, ends_open, started_cleared, stays_open}
 
@@ -148,14 +147,6 @@ reads_some input w r (inl ended) = r.on ended
 reads_some input w r (inr (inl (q, at, few))) =
     (let all : length q.patterns ≤ w.told = r.all_told q at in omega (arith, all, few))
 reads_some input w r (inr (inr past)) = omega (arith, r.undone, r.left, past)
-
--- a walk that lost its state isn't gone on with
-pub stuck_refusal :
-    (way : Direction) (m : Machine) (c : Stored) (input : Input) (stage : Stage) (units : ℕ)
-    → (stage ≡ Fresh → ⊥) → (stage ≡ Ended → ⊥) → IsResumeRefusal way m c input stage units search.OutOfMemory
-stuck_refusal way m c input Fresh units begun on = absurd (begun refl)
-stuck_refusal way m c input (At q) units begun on = inl refl
-stuck_refusal way m c input Ended units begun on = absurd (on refl)
 
 -- a step that was refused after that
 pub recounts_left :

@@ -51,7 +51,7 @@ module _ (way : Direction) (m : Machine) (c : Stored) (input : Input)
   resume_memory :
       (s : Stage) (units : ℕ) (e : SearchError) → input.start ≤ input.end → IsResumeRefusal way m c input s units e → e ≡ search.OutOfMemory
   resume_memory Fresh units e l r = start_memory _ _ e l r
-  resume_memory (At q) units e l (inl r) = r
+  resume_memory (At q) units e l (inl r) = r.1
   resume_memory (At q) units e l (inr r) = absurd (no_limit m c q same free r.0)
   resume_memory Ended units e l r = absurd r
 

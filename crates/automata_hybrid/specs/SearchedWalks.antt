@@ -1,11 +1,12 @@
 -- What the calls of a walk leave of the progress: the searched bytes, and the search that is open.
-use Rattle.std.specs.Prelude.{ℕ, zero, suc, ◌≡◌, ◌<◌, ◌≤◌, ◌+◌, ◌⊎◌, Bool, List, length, take, None}
+use Rattle.std.specs.Prelude.{ℕ, zero, suc, ◌≡◌, ◌<◌, ◌≤◌, ◌+◌, ◌⊎◌, Bool, true, List, length, take, None}
 use Rattle.automata_base.specs.Input.{Input}
 use Rattle.automata_base.specs.Paths.{next}
 use Rattle.automata_base.specs.Powerset.{Powerset, dead}
 use Rattle.automata_base.specs.Selections.{Pair}
 use Rattle.automata_base.specs.Tapes.{Direction, Forward}
 use Rattle.automata_config.specs.declared.error.SearchError.{SearchError}
+use Rattle.automata_config.specs.declared.error.SearchError.TheVariants as search
 use Rattle.automata_hybrid.specs.declared.dfa.progress.Searched.{Searched}
 use Rattle.automata_hybrid.specs.Caches.{CacheView, with_store}
 use Rattle.automata_hybrid.specs.Stores.{Stored, with_searched}
@@ -59,10 +60,15 @@ EndsCall way m input walk next old new =
     ⊎ ((ReadsNoUnit input walk → ⊥) × (k : ℕ) × IsLastUnit way m input walk next k
     × EndsAtUnit way input old.searched walk.units k old new)
 
+-- a call was refused before it began: the walk lost its state, or it isn't gone on with
+abbrev pub IsRefusedAtOnce : Direction → Machine → Stored → Input → Walk → SearchError → Type 0
+IsRefusedAtOnce way m c input walk e =
+    ((walk.lost ≡ true) × (e ≡ search.OutOfMemory)) ⊎ IsResumeRefusal way m c input walk.stage walk.units e
+
 -- a call was refused: before it began, which changed nothing, or at a unit
 abbrev pub LeavesCall : Direction → Machine → Input → Walk → (old new : Stored) → SearchError → Type 0
 LeavesCall way m input walk old new e =
-    (IsResumeRefusal way m new input walk.stage walk.units e × (new.searched ≡ old.searched))
+    (IsRefusedAtOnce way m new input walk e × (new.searched ≡ old.searched))
     ⊎ IsLeftAtUnit way m input old.searched walk.units old new e
 
 -- a set is gone on with when its walk has told its first pairs

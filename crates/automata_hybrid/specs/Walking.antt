@@ -106,9 +106,11 @@ TellsNext way m input old new =
     × ((pairs : List Pair) → AreWalked way m input pairs
     → (new.found ≡ half_nth pairs k) × (length pairs ≤ k → new.stage ≡ Ended))
 
--- why its state isn't put back: the cache hasn't it, has no room for it, and may not be cleared
+-- why its state isn't put back, which the cache hasn't: memory is wanting, or there is no room for it, and the cache may
+-- not be cleared
 abbrev pub IsPutBackRefusal : Stored → Powerset → (given_up_at : ℕ) → SearchError → Type 0
-IsPutBackRefusal c q at e = (e ≡ search.OutOfMemory) ⊎ (GivesUp c q × (e ≡ search.Match (GaveUp at)))
+IsPutBackRefusal c q at e =
+    ((Has c.table q → ⊥) × (e ≡ search.OutOfMemory)) ⊎ (GivesUp c q × (e ≡ search.Match (GaveUp at)))
 
 -- why a walk isn't gone on with: it hasn't begun and its start is refused, or it has and its state isn't put back
 abbrev pub IsResumeRefusal : Direction → Machine → Stored → Input → Stage → (units : ℕ) → SearchError → Type 0

@@ -17,7 +17,7 @@ use Rattle.automata_hybrid.specs.Walks.{Ended, Walk}
 use Rattle.automata_hybrid.proofs.Growing.{clears_none, grown_same, grown_trans, nothing_first, nothing_second}
 use Rattle.automata_hybrid.proofs.LearningSets.{half_none, learned_call, open_stops, set_knows}
 use Rattle.automata_hybrid.proofs.Reading.{at_err}
-use Rattle.automata_hybrid.proofs.Resuming.{kept_by, supported_call}
+use Rattle.automata_hybrid.proofs.Resuming.{kept_by, leaves_before, supported_call}
 use Rattle.automata_hybrid.proofs.Searching.{false_true, if_err}
 use Rattle.automata_hybrid.proofs.WalkSets.{IsLacking, Joins, StandsWell, begun_state, calls_more, closes, joins_all, joins_begin, joins_first, joins_full, joined_more, joins_more, lacking, on_found, open_after, patterns_of, stands_well, steps_less, told_undone, which_still, which_walk}
 use Rattle.automata_hybrid.proofs.dfa.DFA.collect.Goals as goal
@@ -77,7 +77,7 @@ returns-in_err-next-clause-effect c =
           (which_still m input c.args.patset.now old mid v.grown count knows)) in
           (grown.idle (here.0.0 ∙ count), here.1 (kept_by walk c.loop-walk.at v.can)));
       ended = tt;
-      left = (j.k, walk, mid.store, v.joins.1, open_after m input walk c.args.patset.now c.loop-walk.patset j, e.left, stepped.clears);
+      left = (j.k, walk, mid.store, v.joins.1, open_after m input walk c.args.patset.now c.loop-walk.patset j, leaves_before Forward m input walk c.loop-walk.at mid.store new.store c.in_err-next.field-0.0 e.left, stepped.clears);
       done = λ past. e.ready (inr (inr (omega (arith, past)))) ∙ (v.done past).0;
     })
 

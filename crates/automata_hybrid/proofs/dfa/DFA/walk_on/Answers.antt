@@ -61,7 +61,7 @@ returns-in_err-from-clause-effect c =
       learned = λ nothing. tt;
       known = λ knows. (let same = e.known (λ may. (knows c.requires.walk.told.0 c.requires.walk.told.1 r may).0) in (still_same c.args.cache.now c.resume.new.cache same.0, λ kept. same.1));
       ended = tt;
-      left = inl (c.in_err-from.ensures.refusal, e.err);
+      left = inl (inr c.in_err-from.ensures.refusal, e.err);
       ready = λ none. absurd (reads_some input w r none);
     })
 
