@@ -17,15 +17,23 @@ entry_size = 20
 
 -- The states of the three rows that every table begins with, each of no lists.
 abbrev pub fixed_rows_cost : ℕ
-fixed_rows_cost = 39
+fixed_rows_cost = 3 * head_cost
 
 -- The greatest cost of a powerset state.
 abbrev pub max_cost : Automaton → ℕ
 max_cost a = head_cost + pattern_cost * length a.start_pattern + id_cost * length a.states
 
+-- Two sets of NFA states, each of two numbers for each state.
+abbrev pub sets_cost : ℕ
+sets_cost = 16
+
+-- A place on the stack of a closure.
+abbrev pub place_cost : ℕ
+place_cost = 4
+
 -- The room for determinisation: two sets of states, the stack of a closure, and one powerset state.
 abbrev pub fixed_cost : Automaton → ℕ
-fixed_cost a = 16 * length a.states + 4 * stack_room a.states + max_cost a
+fixed_cost a = sets_cost * length a.states + place_cost * stack_room a.states + max_cost a
 
 -- The start slots: one for each of the six kinds of byte before, for unanchored and for anchored searches, and for
 -- each pattern where patterns have starts of their own.

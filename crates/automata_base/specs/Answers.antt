@@ -9,6 +9,7 @@ use Rattle.automata_base.specs.Tapes.{IsHaystack, Direction, Forward, Backward, 
 use Rattle.automata_base.specs.Engines.{Engine, Anchored, No, first_state, IsSkipping}
 use Rattle.automata_base.specs.Input.{Input}
 
+-- What the paths from a first state select on a tape; without a first state nothing.
 abbrev pub SelectsFrom : Engine → Bool → Tape → Option ℕ → Option Pair → Type 0
 SelectsFrom d earliest t None answer = answer ≡ None
 SelectsFrom d earliest t (Some q) answer = Selects d.kind earliest d.nfa t q answer
@@ -77,6 +78,7 @@ abbrev pub without_split : List ℕ → List Pair → List Pair
 without_split h [] = []
 without_split h (pair ∷ pairs) = cond (is_split h pair.place) (without_split h pairs) (pair ∷ without_split h pairs)
 
+-- The pairs of the walk from a first state on a tape; without a first state none.
 abbrev pub IsOverlappingFrom : Engine → Tape → Option ℕ → List Pair → Type 0
 IsOverlappingFrom d t None pairs = pairs ≡ []
 IsOverlappingFrom d t (Some q) pairs = IsOverlappingOn d.kind d.nfa t q pairs
@@ -103,6 +105,7 @@ OverlapsOver way d input pairs =
 abbrev pub IsOverlapping : Direction → Engine → Input → List Pair → Type 0
 IsOverlapping way d input found = Walks (OverlapsOver way d) (IsSkipping d) way input found
 
+-- The first pair alone, where the walk is an earliest one.
 abbrev pub first_alone : Bool → List Pair → List Pair
 first_alone earliest [] = []
 first_alone earliest (pair ∷ pairs) = pair ∷ cond earliest [] pairs

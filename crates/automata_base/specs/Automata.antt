@@ -8,6 +8,7 @@ use Rattle.automata_base.specs.Paths.{IsLookAcyclic}
 use Rattle.automata_base.specs.Door.{IsDoor, IsLooks}
 use Rattle.automata_base.specs.Getters.{HasEmpty, SkipsLazily}
 
+-- What contracts see of an NFA, by its parts, and by its data.
 abbrev pub automaton : List State → (anchored unanchored : ℕ) → (starts : List ℕ) → Flags → Automaton
 automaton states anchored unanchored starts flags = record {
   states = states;
@@ -26,6 +27,7 @@ automaton_of d = record {
   flags = d.flags;
 }
 
+-- The data of an NFA of the door: what it tells of itself was found when it was made.
 pub record IsConsistent (d : Data) : Type 0 where
   pub door : IsDoor (automaton_of d)
   pub looks : IsLooks (automaton_of d) d.looks

@@ -86,6 +86,7 @@ stride_for length =
 abbrev pub stride_of : List ℕ → ℕ
 stride_of classes = stride_for (alphabet_length classes)
 
+-- Classes of the 256 bytes: they rise by at most one from byte to byte.
 pub record AreClasses (classes : List ℕ) : Type 0 where
   pub whole : length classes ≡ 256
   pub rising : (byte : ℕ) → byte < 255

@@ -14,6 +14,7 @@ abbrev pub cut : Nfa → List ℕ → List ℕ
 cut n [] = []
 cut n (q ∷ xs) = cut_behind (accepts n q) q (cut n xs)
 
+-- What counts of a list of states: under kind all the whole, under leftmost-first up to the first match state.
 abbrev pub cut_for : MatchKind → Nfa → List ℕ → List ℕ
 cut_for All n xs = xs
 cut_for LeftmostFirst n xs = cut n xs

@@ -8,6 +8,7 @@ use Rattle.automata_base.specs.Nodes.{Automaton, nfa_of}
 pub use Rattle.automata_base.specs.declared.util.search.Anchored.{Anchored}
 pub use Rattle.automata_base.specs.declared.util.search.Anchored.TheVariants.{No, Yes, Pattern}
 
+-- The starts are those of an anchored search, of an unanchored one, and of each pattern.
 pub record Engine : Type 0 where
   pub nfa : Nfa
   pub anchored : ℕ
@@ -42,9 +43,11 @@ abbrev pub Road : Nfa → ℕ → List ℕ → ℕ → Type 0
 Road n q [] z = q ≡ z
 Road n q (r ∷ rs) z = HasEdge n q r × Road n r rs z
 
+-- Some states lie on the way.
 abbrev pub Reaches : Nfa → ℕ → ℕ → Type 0
 Reaches n q z = (rs : List ℕ) × Road n q rs z
 
+-- Every search of it begins anchored: it has one start for both modes.
 abbrev pub BeginsAnchored : Engine → Type 0
 BeginsAnchored d = d.unanchored ≡ d.anchored
 
@@ -59,6 +62,7 @@ LoopsLazily d skip =
     (node d.nfa d.unanchored ≡ Split (d.anchored ∷ skip ∷ [])) × (node d.nfa skip ≡ any_byte d.unanchored)
     × (Reaches d.nfa d.anchored d.unanchored → ⊥)
 
+-- Unanchored searches begin anchored, or behind any bytes, the fewest first.
 abbrev pub BeginsLazily : Engine → Type 0
 BeginsLazily d = BeginsAnchored d ⊎ ((skip : ℕ) × LoopsLazily d skip)
 

@@ -5,9 +5,11 @@ use Rattle.automata_base.specs.Engines.{MatchesEmpty, Reaches}
 use Rattle.automata_base.specs.Nfa.{Split, node}
 use Rattle.automata_base.specs.Nodes.{Automaton, nfa_of}
 
+-- The empty match is reached from some pattern's start.
 abbrev pub HasEmpty : Automaton → Type 0
 HasEmpty a = MatchesEmpty (nfa_of a) a.start_pattern
 
+-- One start serves both modes.
 abbrev pub IsAlwaysStartAnchored : Automaton → Type 0
 IsAlwaysStartAnchored a = a.start_unanchored ≡ a.start_anchored
 
@@ -19,5 +21,6 @@ IsLazyLoop a skip =
     × (slice_get a.states skip ≡ Some (ByteRange 0 255 a.start_unanchored))
     × (Reaches (nfa_of a) a.start_anchored a.start_unanchored → ⊥)
 
+-- Unanchored searches begin anchored, or behind any bytes, the fewest first.
 abbrev pub SkipsLazily : Automaton → Type 0
 SkipsLazily a = IsAlwaysStartAnchored a ⊎ ((skip : ℕ) × IsLazyLoop a skip)

@@ -6,6 +6,7 @@ abbrev pub In : ℕ → List ℕ → Type 0
 In x [] = ⊥
 In x (y ∷ ys) = (x ≡ y) ⊎ In x ys
 
+-- The element at a place, if there is one.
 abbrev pub nth : {A : Type 0} → List A → ℕ → Option A
 nth [] k = None
 nth (x ∷ xs) zero = Some x

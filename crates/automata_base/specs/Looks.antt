@@ -11,6 +11,7 @@ pub use Rattle.automata_base.specs.declared.util.look.Look.TheVariants.{WordStar
 abbrev pub within : ℕ → ℕ → ℕ → Bool
 within lo hi u = leb lo u && leb u hi
 
+-- A digit, a letter or an underscore, of ASCII.
 abbrev pub is_word_byte : ℕ → Bool
 is_word_byte u = within 48 57 u || within 65 90 u || eqb u 95 || within 97 122 u
 
@@ -27,6 +28,7 @@ abbrev pub is_word : Option ℕ → Bool
 is_word None = false
 is_word (Some u) = is_word_byte u
 
+-- One of the two, and not both.
 abbrev pub differ : Bool → Bool → Bool
 differ true b = not b
 differ false b = b
@@ -40,6 +42,7 @@ abbrev pub second_half : Bool → ℕ
 second_half false = 10
 second_half true = 13
 
+-- Where each look holds, between the byte before a place and the one behind it.
 abbrev pub holds : (terminator : ℕ) (reverse : Bool) → Look → (prev next : Option ℕ) → Bool
 holds t r Start prev next = is_absent prev
 holds t r End prev next = is_absent next

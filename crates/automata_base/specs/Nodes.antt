@@ -19,6 +19,7 @@ dense_from u [] = []
 dense_from u (zero ∷ rest) = dense_from (suc u) rest
 dense_from u (suc k ∷ rest) = record { lo = u; hi = u; next = suc k } ∷ dense_from (suc u) rest
 
+-- Each kind of state by what paths see of it.
 abbrev pub node_of : State → Node
 node_of (is.ByteRange lo hi next) = Read (record { lo = lo; hi = hi; next = next } ∷ [])
 node_of (is.Sparse ts) = Read (ranges_of ts.items)
@@ -42,6 +43,7 @@ pub record Automaton : Type 0 where
   pub start_pattern : List ℕ
   pub flags : Flags
 
+-- What paths see of an automaton.
 abbrev pub nfa_of : Automaton → Nfa
 nfa_of a = record { nodes = nodes_of a.states; terminator = a.flags.line_terminator; reverse = a.flags.reverse }
 

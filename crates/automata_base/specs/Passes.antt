@@ -23,6 +23,7 @@ IsUnit (Some u) = u < 256
 abbrev pub IsTape : Tape → Type 0
 IsTape t = (i : ℕ) → IsUnit (next t i)
 
+-- The look is a state of the NFA.
 abbrev pub Occurs : Nfa → Look → Type 0
 Occurs n look = (q next : ℕ) × (node n q ≡ Assert look next)
 
@@ -49,6 +50,9 @@ is_crlf_look look = false
 abbrev pub IsNeeded : Nfa → List ℕ → Look → Type 0
 IsNeeded n xs look = (q next : ℕ) × In q xs × (node n q ≡ Assert look next)
 
+-- The powerset state that is made of a closure behind a unit: its byte, look and match states in order, these patterns,
+-- the looks that they need, those that are known behind the unit, and the two flags about the unit, each kept only
+-- where some look of the NFA needs it.
 abbrev pub IsMake : Nfa → List ℕ → List ℕ → Option ℕ → Powerset → Type 0
 IsMake n patterns C prev Q =
     (Q.nfa ≡ pick (keep n) C) × (Q.patterns ≡ patterns)
@@ -83,6 +87,7 @@ decided t r w h WordEndHalfAscii u = not (is_word u)
 decided t r w h WordStartHalfUnicode u = not w
 decided t r w h WordEndHalfUnicode u = not (is_word u)
 
+-- The looks that are true where a powerset state reads a unit: known before, or decided by it.
 abbrev pub true_looks : Nfa → Powerset → Option ℕ → Truth
 true_looks n Q u look = truth_of Q.known look || decided n.terminator n.reverse Q.word Q.half look u
 
@@ -102,9 +107,13 @@ IsClosureOf n patterns roots prev Q =
     (K : Truth) × (C : List ℕ) × ((look : Look) → (K look ≡ true) ↔ IsKnownLook n prev look)
     × IsClosure n K roots C × IsMake n patterns C prev Q
 
+-- The powerset state that a search begins with.
 abbrev pub IsStart : Nfa → ℕ → Option ℕ → Powerset → Type 0
 IsStart n start prev Q = IsClosureOf n [] (start ∷ []) prev Q
 
+-- The powerset state that another leads to on a unit: its looks are decided by the unit, the patterns are those of the
+-- match states of the list, which under leftmost-first is cut behind the first of these, and the new list is the
+-- closure of where its byte states lead.
 abbrev pub IsSuccessor : Nfa → MatchKind → Powerset → Option ℕ → Powerset → Type 0
 IsSuccessor n kind Q u Q' =
     (L patterns : List ℕ) × IsDecided n Q u L × IsOnce (pick (accepts n) (cut_for kind n L)) patterns

@@ -19,6 +19,7 @@ next_in [] after i = after
 next_in (u ∷ us) after zero = Some u
 next_in (u ∷ us) after (suc i) = next_in us after i
 
+-- The byte before a place of the walk, and the one behind it.
 abbrev pub prev : Tape → ℕ → Option ℕ
 prev t i = prev_in t.before t.bytes i
 
@@ -63,6 +64,7 @@ Run n q (e ∷ path) z = (r : ℕ) × (hop n all_true q e ≡ Some r) × Run n r
 abbrev pub HasEpsilonPath : Nfa → ℕ → ℕ → Type 0
 HasEpsilonPath n q z = (path : List ℕ) × Run n q path z
 
+-- By at least one such edge.
 abbrev pub LeadsOn : Nfa → ℕ → ℕ → Type 0
 LeadsOn n q z = (e r : ℕ) × (hop n all_true q e ≡ Some r) × HasEpsilonPath n r z
 

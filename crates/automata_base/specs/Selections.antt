@@ -38,6 +38,7 @@ pub record Pair : Type 0 where
   pub pattern : ℕ
   pub place : ℕ
 
+-- These patterns, each at the place.
 abbrev pub at_place : ℕ → List ℕ → List Pair
 at_place i [] = []
 at_place i (p ∷ ps) = record { pattern = p; place = i } ∷ at_place i ps

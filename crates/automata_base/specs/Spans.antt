@@ -63,6 +63,7 @@ FindsStartBy Backs f input half (Some start) =
     (IsShort f input half × (start ≡ half.base))
     ⊎ ((IsShort f input half → ⊥) × ((found : Half) × Backs (back input half) (Some found) × (start ≡ found.offset)))
 
+-- A match or none; or the two are no pair, since the search back finds no start.
 pub data Outcome : Type 0 where
   Found : Option Match → Outcome
   NotAPair : Outcome
@@ -89,6 +90,7 @@ IsFarSearch f r input outcome = TellsBy (IsAnswer Forward f) (IsFarthestAnswer B
 abbrev pub from : ℕ → Input → Input
 from start input = record input { start = start }
 
+-- An empty match where the last one ended.
 abbrev pub IsEmptyAt : Option ℕ → Match → Type 0
 IsEmptyAt last m = (m.start ≡ m.end) × (last ≡ Some m.end)
 

@@ -29,19 +29,21 @@ SpansAreFound =
     → IsTruePair f r → KeepsUtf8 Forward f → IsSound f → IsSound r → IsInput input
     → (answer : Option Match) × IsTrySearch f r input (Found answer) × IsSpan f input answer
 
+-- Each input has one match by paths.
 abbrev pub SpansAreOne : Type 0
 SpansAreOne = (d : Engine) (input : Input) (a b : Option Match) → IsSpan d input a → IsSpan d input b → a ≡ b
 
+-- One answer of a plain search.
 abbrev pub AnswersAreOne : Type 0
 AnswersAreOne =
     (way : Direction) (d : Engine) (input : Input) (a b : Option Half) → IsAnswer way d input a → IsAnswer way d input b
     → a ≡ b
 
+-- One list of matches.
 abbrev pub IterationsAreOne : Type 0
 IterationsAreOne =
     (d : Engine) (input : Input) (ms ms' : List Match) → AreSpans d input ms → AreSpans d input ms' → ms ≡ ms'
 
--- Each input has one match, one answer of a plain search, and one list of matches.
 pub record AreOne : Type 0 where
   pub span : SpansAreOne
   pub answer : AnswersAreOne

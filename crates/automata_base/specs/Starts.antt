@@ -14,6 +14,7 @@ mode_start a No = Some a.start_unanchored
 mode_start a Yes = Some a.start_anchored
 mode_start a (Pattern p) = slice_get a.start_pattern p
 
+-- The start of a first state; without one the dead state.
 abbrev pub IsStartAt : Nfa → Option ℕ → Option ℕ → Powerset → Type 0
 IsStartAt n None prev Q = Q ≡ dead
 IsStartAt n (Some start) prev Q = IsStart n start prev Q

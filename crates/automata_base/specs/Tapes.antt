@@ -5,6 +5,7 @@ use Rattle.automata_base.specs.Lists.{nth}
 use Rattle.automata_base.specs.Looks.{within}
 use Rattle.automata_base.specs.Paths.{Tape, prev, next}
 
+-- Each number is a byte.
 abbrev pub IsHaystack : List ℕ → Type 0
 IsHaystack h = (o u : ℕ) → nth h o ≡ Some u → u < 256
 
@@ -25,6 +26,7 @@ forward_tape h s e = record { before = byte_before h s; bytes = between h s e; a
 abbrev pub reverse_tape : List ℕ → ℕ → ℕ → Tape
 reverse_tape h s e = record { before = nth h e; bytes = reverse (between h s e); after = byte_before h s }
 
+-- A search reads its span to the right or to the left.
 pub data Direction : Type 0 where
   Forward : Direction
   Backward : Direction
@@ -33,10 +35,12 @@ abbrev pub tape_of : Direction → List ℕ → ℕ → ℕ → Tape
 tape_of Forward h s e = forward_tape h s e
 tape_of Backward h s e = reverse_tape h s e
 
+-- The offset of a place of the walk.
 abbrev pub offset : Direction → (s e place : ℕ) → ℕ
 offset Forward s e i = s + i
 offset Backward s e i = e - i
 
+-- A byte that continues a character of UTF-8.
 abbrev pub is_continuation : Option ℕ → Bool
 is_continuation None = false
 is_continuation (Some u) = within 128 191 u

@@ -4,6 +4,7 @@ use Rattle.std.specs.Option.{option_or}
 use Rattle.automata_base.specs.declared.util.search.MatchKind.{MatchKind}
 use Rattle.automata_base.specs.declared.util.search.MatchKind.TheVariants.{LeftmostFirst}
 
+-- An option that wasn't set has its default.
 pub record Options : Type 0 where
   pub match_kind : Option MatchKind
   pub starts_for_each_pattern : Option Bool
@@ -46,6 +47,7 @@ overwritten old new = record {
   minimum_bytes_per_state = option_or new.minimum_bytes_per_state old.minimum_bytes_per_state;
 }
 
+-- What is set, or the default.
 abbrev pub match_kind_of : Options → MatchKind
 match_kind_of o = unwrap_or o.match_kind LeftmostFirst
 
@@ -68,6 +70,7 @@ quits_of o = unwrap_or o.quits no_quits
 abbrev pub specialize_start_states_of : Options → Bool
 specialize_start_states_of o = unwrap_or o.specialize_start_states false
 
+-- Two mebibytes by default.
 abbrev pub cache_capacity_of : Options → ℕ
 cache_capacity_of o = unwrap_or o.cache_capacity 2097152
 

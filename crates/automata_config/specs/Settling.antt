@@ -58,10 +58,15 @@ settled_slots o a = start_slots a (starts_for_each_pattern_of o)
 unfoldable pub settled_minimum : Options → Automaton → ℕ
 settled_minimum o a = minimum_capacity (settled_stride o a) (settled_slots o a) (max_cost a) (fixed_cost a)
 
+-- The greatest offset that the ID of a row has room for.
+abbrev pub max_offset : ℕ
+max_offset = 134217727
+
 -- The greatest offset of a row that the minimum has room for.
 unfoldable pub greatest_offset : Options → Automaton → ℕ
 greatest_offset o a = (4 + settled_slots o a) * settled_stride o a
 
+-- The capacity is below the minimum, and that is checked.
 abbrev pub is_too_small : Options → Automaton → Bool
 is_too_small o a = not (skip_cache_capacity_check_of o) && nat_lt (cache_capacity_of o) (settled_minimum o a)
 
@@ -70,11 +75,12 @@ abbrev pub settling_refusal : Options → Automaton → Option BuildError
 settling_refusal o a =
     if is_unsupported o a then Some Unsupported
     else (if is_too_small o a then Some (InsufficientCacheCapacity (settled_minimum o a) (cache_capacity_of o))
-    else (if nat_lt 134217727 (greatest_offset o a) then Some (InsufficientStateIDCapacity (greatest_offset o a))
+    else (if nat_lt max_offset (greatest_offset o a) then Some (InsufficientStateIDCapacity (greatest_offset o a))
     else None))
 
+-- What is settled: the quit set, the classes of bytes, and the capacity, which is at least the minimum.
 pub record IsSettled (o : Options) (a : Automaton) (s : Settled) : Type 0 where
   pub quits : s.quits ≡ settled_quits o a
   pub classes : (byte : ℕ) → byte < 256 → class_in s.classes byte ≡ class_of a s.quits (byte_classes_of o) byte
   pub capacity : s.capacity ≡ effective_capacity (cache_capacity_of o) (settled_minimum o a)
-  pub offsets : greatest_offset o a ≤ 134217727
+  pub offsets : greatest_offset o a ≤ max_offset

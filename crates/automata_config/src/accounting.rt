@@ -3,12 +3,39 @@ ghost use Rattle.automata_base.specs.Accounting as bytes;
 
 use automata_base::nfa::thompson::NFA;
 
+/// What a powerset state costs beside its lists, in accounted bytes.
+pub const HEAD_COST: usize = 13;
+
+/// What each of its patterns costs.
+pub const PATTERN_COST: usize = 4;
+
+/// What each of its NFA states costs.
+pub const ID_COST: usize = 5;
+
+/// What a cell of the table takes, or a start slot: an ID.
+pub const CELL_SIZE: usize = 4;
+
+/// What a row takes in the list beside its cells.
+pub const ROW_SIZE: usize = 16;
+
+/// What a row takes in the map.
+pub const ENTRY_SIZE: usize = 20;
+
+/// What the states of the three rows cost that every table begins with.
+pub const FIXED_ROWS_COST: usize = 39;
+
+/// What the two sets of NFA states take that a determinisation works in, for each state of the NFA.
+const SETS_COST: usize = 16;
+
+/// What a place on the stack of a closure takes.
+const PLACE_COST: usize = 4;
+
 /// The greatest cost of a powerset state of the NFA, in accounted bytes.
 pub fn max_cost(nfa: &NFA) -> usize
     ensures cost { result ≡ bytes.max_cost nfa.now }
     ensures few { result ≤ 2 ^ 31 }
 {
-    13 + 4 * pattern_count(nfa) + 5 * nfa.states().len()
+    HEAD_COST + PATTERN_COST * pattern_count(nfa) + ID_COST * nfa.states().len()
 }
 
 /// What every cache takes for determinisation, in accounted bytes.
@@ -16,7 +43,7 @@ pub fn fixed_cost(nfa: &NFA) -> usize
     ensures cost { result ≡ bytes.fixed_cost nfa.now }
     ensures few { result ≤ 2 ^ 34 }
 {
-    16 * nfa.states().len() + 4 * nfa.room() + max_cost(nfa)
+    SETS_COST * nfa.states().len() + PLACE_COST * nfa.room() + max_cost(nfa)
 }
 
 /// The number of start slots of a cache.
@@ -48,7 +75,13 @@ pub(crate) fn minimum_capacity(stride: usize, slots: usize, greatest: usize, fix
 {
     let cells = product(5 + slots, stride);
     let costs = product(2 + slots, greatest);
-    4 * cells + 4 * slots + 16 * (5 + slots) + 20 * (3 + slots) + 39 + costs + fixed
+    CELL_SIZE * cells
+        + CELL_SIZE * slots
+        + ROW_SIZE * (5 + slots)
+        + ENTRY_SIZE * (3 + slots)
+        + FIXED_ROWS_COST
+        + costs
+        + fixed
 }
 
 /// The greatest offset of a row in a table of that capacity.

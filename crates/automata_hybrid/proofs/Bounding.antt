@@ -30,7 +30,7 @@ few_within n cells most stride slots sum fixed capacity few whole cheap enough =
 
 -- and a new state fits
 pub few_fits : (n cells most stride slots sum fixed capacity extra : ℕ) → n ≤ slots + 1 → cells ≡ (n + 3) * stride → sum ≤ n * most → minimum_capacity stride slots most fixed ≤ capacity → extra ≤ most
-    → (4 * cells + 4 * slots + 16 * (n + 3) + 20 * (n + 1) + 39 + sum + fixed) + 4 * stride + 36 + extra ≤ capacity
+    → (4 * cells + 4 * slots + 16 * (n + 3) + 20 * (n + 1) + 39 + sum + fixed) + (4 * stride + 36) + extra ≤ capacity
 few_fits n cells most stride slots sum fixed capacity extra few whole cheap enough little =
     let more : n + 3 ≤ slots + 4 = omega (arith, few) in
     let le : (n + 3) * stride ≤ (slots + 4) * stride = mul-le-mul_right stride more in

@@ -8,7 +8,7 @@ use Rattle.automata_hybrid.specs.declared.dfa.row.Row.{Row}
 use Rattle.automata_hybrid.specs.Machine.{Machine, greatest, template_of, table_stride}
 use Rattle.automata_hybrid.specs.Table.{id_of, Rows, Names, HasCells, row_cost, cell_at, with_row, Has}
 use Rattle.automata_hybrid.specs.Stores.{Stored, cell_of, with_next, with_start, IsKnownTransition, IsKnownStart}
-use Rattle.automata_hybrid.specs.Usage.{usage, Fits}
+use Rattle.automata_hybrid.specs.Usage.{row_usage, usage, Fits}
 use Rattle.automata_hybrid.specs.Effects.{grown, IsComputed, IsStarted}
 use Rattle.automata_hybrid.specs.Growing.{Keeps, ClearedNothing, HasRoom}
 use Rattle.automata_hybrid.specs.Progressing.{saturated}
@@ -93,15 +93,15 @@ module _ (old new : Stored) (id class next : ℕ) (q target : Powerset) (has : H
 more_room : (used n each capacity : ℕ) → used + (n + 1) * each ≤ capacity → used + n * each ≤ capacity
 more_room used n each capacity l = let e : (n + 1) * each ≡ n * each + each = omega arith in omega (arith, l, e)
 
-one_room : (used n stride most extra capacity : ℕ) → extra ≤ most → used + (n + 1) * (4 * stride + 36 + most) ≤ capacity → used + 4 * stride + 36 + extra ≤ capacity
+one_room : (used n stride most extra capacity : ℕ) → extra ≤ most → used + (n + 1) * (4 * stride + 36 + most) ≤ capacity → used + (4 * stride + 36) + extra ≤ capacity
 one_room used n stride most extra capacity little l = let e : (n + 1) * (4 * stride + 36 + most) ≡ n * (4 * stride + 36 + most) + (4 * stride + 36 + most) = omega arith in omega (arith, l, e, little)
 
-rest_room : (used n stride most extra capacity : ℕ) → extra ≤ most → used + (n + 1) * (4 * stride + 36 + most) ≤ capacity → used + 4 * stride + 36 + extra + n * (4 * stride + 36 + most) ≤ capacity
+rest_room : (used n stride most extra capacity : ℕ) → extra ≤ most → used + (n + 1) * (4 * stride + 36 + most) ≤ capacity → used + (4 * stride + 36) + extra + n * (4 * stride + 36 + most) ≤ capacity
 rest_room used n stride most extra capacity little l = let e : (n + 1) * (4 * stride + 36 + most) ≡ n * (4 * stride + 36 + most) + (4 * stride + 36 + most) = omega arith in omega (arith, l, e, little)
 
 pub HasRoom-less : (c : Stored) (states : ℕ) → HasRoom c (states + 1) → HasRoom c states
 HasRoom-less c states room = record {
-  capacity = more_room (usage c) states (4 * table_stride c.table.of + 36 + greatest c.table.of) c.table.of.capacity room.capacity;
+  capacity = more_room (usage c) states (row_usage c.table.of + greatest c.table.of) c.table.of.capacity room.capacity;
   offsets = λ k l. room.offsets k (omega (arith, l));
 }
 
@@ -115,7 +115,7 @@ HasRoom-grown c r states wide little room =
     let cells : length (c.table.cells ++ template_of c.table.of) ≡ length c.table.cells + table_stride c.table.of = length-append c.table.cells (template_of c.table.of) ∙ ap (λ n. length c.table.cells + n) wide in
     let rows : length (c.table.rows ++ r ∷ []) ≡ length c.table.rows + 1 = length-append c.table.rows (r ∷ []) in
     let costs : sum_by row_cost (c.table.rows ++ r ∷ []) ≡ sum_by row_cost c.table.rows + cost r.state = sum_by_push row_cost c.table.rows r in
-    let used : usage (grown c r) ≡ usage c + 4 * table_stride c.table.of + 36 + cost r.state = omega (arith, cells, rows, costs) in
+    let used : usage (grown c r) ≡ usage c + row_usage c.table.of + cost r.state = omega (arith, cells, rows, costs) in
     record {
       capacity = rw used (rest_room (usage c) states (table_stride c.table.of) (greatest c.table.of) (cost r.state) c.table.of.capacity little room.capacity);
       offsets = λ k l. (let e : (k + 1) * table_stride c.table.of ≡ k * table_stride c.table.of + table_stride c.table.of = omega arith in omega (arith, cells, e, room.offsets (k + 1) (omega (arith, l))));

@@ -3,7 +3,7 @@ use Rattle.std.proofs.Common.{ℕ, ◌≡◌, ◌∙◌, ◌+◌, ◌-◌, ◌*�
 use Rattle.std.proofs.Math.Nat.{mul-le-mul_right}
 use Rattle.automata_hybrid.specs.declared.dfa.progress.Searched.{Searched}
 use Rattle.automata_hybrid.specs.Stores.{Stored, KeepsStarts, with_searched}
-use Rattle.automata_hybrid.specs.Usage.{usage}
+use Rattle.automata_hybrid.specs.Usage.{row_usage, usage}
 use Rattle.automata_hybrid.specs.Effects.{IsAddedStart}
 use Rattle.automata_hybrid.specs.Caches.{CacheView, counted, with_store}
 use Rattle.automata_hybrid.specs.Growing.{IsGrown, Keeps, ClearedNothing, HasRoom}
@@ -19,8 +19,8 @@ pub room_less : (c : Stored) (n k : ℕ) → k ≤ n → HasRoom c n → HasRoom
 room_less c n k l r =
     record {
       capacity =
-          (let times : k * (4 * table_stride c.table.of + 36 + greatest c.table.of) ≤ n * (4 * table_stride c.table.of + 36 + greatest c.table.of) =
-          mul-le-mul_right (4 * table_stride c.table.of + 36 + greatest c.table.of) l in
+          (let times : k * (row_usage c.table.of + greatest c.table.of) ≤ n * (row_usage c.table.of + greatest c.table.of) =
+          mul-le-mul_right (row_usage c.table.of + greatest c.table.of) l in
           below (usage c) _ _ c.table.of.capacity times r.capacity);
       offsets = λ i h. r.offsets i (omega (arith, l, h));
     } where

@@ -46,6 +46,7 @@ keep_slot old k id =
     cond (nat_le fixed_from id) (record { table = k.table; starts = k.starts ++ id ∷ [] })
     (keep_found (row_of old id) k)
 
+-- the same of each slot in turn
 unfoldable pub keep_slots : Rows → Kept → List ℕ → Kept
 keep_slots old k [] = k
 keep_slots old k (id ∷ ids) = keep_slots old (keep_slot old k id) ids

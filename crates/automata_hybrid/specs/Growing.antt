@@ -2,7 +2,7 @@
 use Rattle.std.specs.Prelude.{◌≡◌, ℕ, ◌+◌, ◌-◌, ◌*◌, ◌^◌, ◌<◌, ◌≤◌, ◌⊎◌, length, slice_index}
 use Rattle.automata_base.specs.Powerset.{Powerset}
 use Rattle.automata_hybrid.specs.Stores.{Stored, IsKnownStart, IsKnownTransition, KeepsStarts, cell_of, with_searched}
-use Rattle.automata_hybrid.specs.Usage.{usage}
+use Rattle.automata_hybrid.specs.Usage.{row_usage, usage}
 use Rattle.automata_hybrid.specs.Caches.{CacheView}
 use Rattle.automata_hybrid.specs.Ids.{offset_limit}
 use Rattle.automata_hybrid.specs.Machine.{greatest, table_stride}
@@ -33,7 +33,7 @@ KeepsProgress old new = IsKeptOrCleared old new old.searched new.searched
 
 -- there is room for so many more states, whatever they cost
 pub record HasRoom (c : Stored) (states : ℕ) : Type 0 where
-  pub capacity : usage c + states * (4 * table_stride c.table.of + 36 + greatest c.table.of) ≤ c.table.of.capacity
+  pub capacity : usage c + states * (row_usage c.table.of + greatest c.table.of) ≤ c.table.of.capacity
   pub offsets : (k : ℕ) → k < states → length c.table.cells + k * table_stride c.table.of < offset_limit
 
 -- nothing has changed but the progress of searches

@@ -13,9 +13,11 @@ offset_limit = 2 ^ 27
 abbrev pub fixed_from : ℕ
 fixed_from = 2 ^ 29
 
+-- what stands where nothing is known
 abbrev pub unknown_id : ℕ
 unknown_id = 2 ^ 31
 
+-- the dead row is the second, the quit row the third, each with its tag
 abbrev pub dead_id : ℕ → ℕ
 dead_id stride = stride + 2 ^ 30
 

@@ -72,6 +72,7 @@ marked classes quits stride (suc byte) =
 unfoldable pub template_of : Machine → List ℕ
 template_of m = marked m.classes m.quits (table_stride m) 256
 
+-- a row of a stride that is positive and at most 512, each cell quit or unknown
 pub record IsTemplate (stride : ℕ) (template : List ℕ) : Type 0 where
   pub positive : 0 < stride
   pub small : stride ≤ 512

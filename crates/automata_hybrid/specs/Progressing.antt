@@ -3,19 +3,24 @@ use Rattle.std.specs.Prelude.{ℕ, ◌+◌, ◌-◌, ◌^◌, Option, None, Some
 use Rattle.automata_hybrid.specs.declared.dfa.progress.Progress.{Progress}
 use Rattle.automata_hybrid.specs.declared.dfa.progress.Searched.{Searched}
 
+-- how many bytes an open search has come, to either side
 abbrev pub distance : Progress → ℕ
 distance p = (p.place - p.start) + (p.start - p.place)
 
+-- a count stops at the greatest number
 abbrev pub saturated : ℕ → ℕ
 saturated n = min n (2 ^ 64 - 1)
 
+-- so many bytes, with those of the open search
 abbrev pub with_open : Option Progress → ℕ → ℕ
 with_open None n = n
 with_open (Some p) n = saturated (n + distance p)
 
+-- the bytes searched, those of the open search among them
 abbrev pub total_len : Searched → ℕ
 total_len s = with_open s.running s.bytes
 
+-- a search is begun at an offset; one that was open has ended where it was
 abbrev pub started : Searched → ℕ → Searched
 started s at = record { bytes = total_len s; running = Some (record { start = at; place = at }) }
 
@@ -23,9 +28,11 @@ abbrev pub moved_to : Option Progress → ℕ → Option Progress
 moved_to None at = None
 moved_to (Some p) at = Some (record { start = p.start; place = at })
 
+-- the open search, if there is one, has come to an offset
 abbrev pub updated : Searched → ℕ → Searched
 updated s at = record { bytes = s.bytes; running = moved_to s.running at }
 
+-- it has come to an offset and ended
 abbrev pub finished : Searched → ℕ → Searched
 finished s at = record { bytes = total_len (updated s at); running = None }
 
@@ -33,5 +40,6 @@ abbrev pub from_place : Option Progress → Option Progress
 from_place None = None
 from_place (Some p) = Some (record { start = p.place; place = p.place })
 
+-- what a clear makes of it: nothing was searched, and an open search begins where it is
 abbrev pub progress_cleared : Searched → Searched
 progress_cleared s = record { bytes = 0; running = from_place s.running }

@@ -92,6 +92,7 @@ fresh m = record { of = m; cells = fixed_rows (table_stride m); rows = [] }
 abbrev pub with_row : Rows → Row → Rows
 with_row t r = record { of = t.of; cells = t.cells ++ template_of t.of; rows = t.rows ++ r ∷ [] }
 
+-- the map from states to IDs
 abbrev pub StateMap : Type 0
 StateMap = HashMap Powerset ℕ (BuildHasherDefault FoldHasher)
 
@@ -112,6 +113,7 @@ HasRowIds t =
     (k : ℕ) (r : Row) → slice_get t.rows k ≡ Some r
     → Names t (row_id ((k + 3) * table_stride t.of) r) r.state × ((k + 3) * table_stride t.of < offset_limit)
 
+-- no row has the dead state; each costs no more than a state may, and is of the automaton
 abbrev pub IsAlive : Rows → Type 0
 IsAlive t =
     (k : ℕ) (r : Row) → slice_get t.rows k ≡ Some r
@@ -154,6 +156,7 @@ pub record IsNewState (t : Rows) (q : Powerset) : Type 0 where
 abbrev pub HasCells : Rows → Type 0
 HasCells t = (id class : ℕ) → IsValid t id → class < table_stride t.of → cell_at id class < length t.cells
 
+-- with a cell written
 abbrev pub with_cell : Rows → ℕ → ℕ → ℕ → Rows
 with_cell t id class next = record { of = t.of; cells = slice_set t.cells (cell_at id class) next; rows = t.rows }
 

@@ -2,32 +2,36 @@
 use Rattle.std.specs.Prelude.{◌≡◌, ℕ, ◌+◌, ◌*◌, ◌^◌, ◌<◌, ◌≤◌, length, Bool, true, false, cond, Option, None, Some}
 use Rattle.std.specs.Prelude.{sum_by, nat_lt}
 use Rattle.automata_base.specs.Powerset.{Powerset, cost}
-use Rattle.automata_base.specs.Accounting.{minimum_capacity, fixed_cost}
+use Rattle.automata_base.specs.Accounting.{cell_size, entry_size, fixed_cost, fixed_rows_cost, minimum_capacity}
+use Rattle.automata_base.specs.Accounting.{row_size}
 use Rattle.automata_hybrid.specs.declared.dfa.settings.Settings.{Settings}
 use Rattle.automata_hybrid.specs.Ids.{offset_limit}
-use Rattle.automata_hybrid.specs.Machine.{greatest, table_stride, slot_count}
+use Rattle.automata_hybrid.specs.Machine.{Machine, greatest, table_stride, slot_count}
 use Rattle.automata_hybrid.specs.Table.{Rows, row_cost, Lacks}
 use Rattle.automata_hybrid.specs.Clears.{AllStarts, KeepsAllStarts, kept}
 use Rattle.automata_hybrid.specs.Progressing.{saturated, total_len, progress_cleared}
 use Rattle.automata_hybrid.specs.Stores.{Stored, settings_of}
 use Rattle.automata_config.specs.Options.{minimum_cache_clear_count_of, minimum_bytes_per_state_of}
 
--- the accounted bytes: 4 for each cell and each slot, 16 for each row, 20 for each place in the map, 13 for each of the
--- three states of fixed rows, of which one is in the map, the costs of all others, and the room for determinisation
+-- the accounted bytes: those of the cells and of the slots, of the rows with the three fixed ones, and of their places
+-- in the map, which has one of these three; the costs of all states, and the room for determinisation
 abbrev pub usage_by : Rows → ℕ → ℕ → ℕ
 usage_by t slots fixed =
-    4 * length t.cells + 4 * slots + 16 * (length t.rows + 3) + 20 * (length t.rows + 1) + 39 + sum_by row_cost t.rows
-    + fixed
+    cell_size * length t.cells + cell_size * slots + row_size * (length t.rows + 3) + entry_size * (length t.rows + 1)
+    + fixed_rows_cost + sum_by row_cost t.rows + fixed
 
 -- those of a cache
 abbrev pub usage : Stored → ℕ
 usage c = usage_by c.table (length c.starts) (fixed_cost c.table.of.nfa)
 
--- a new state of this cost fits: a row of cells, its place among the rows and in the map, and its cost; and so does its
--- row's offset
+-- what a new row takes beside the cost of its state: its cells, and its places in the list and in the map
+abbrev pub row_usage : Machine → ℕ
+row_usage m = cell_size * table_stride m + (row_size + entry_size)
+
+-- a new state of this cost fits, and so does its row's offset
 abbrev pub Fits : Stored → ℕ → Type 0
 Fits c extra =
-    (usage c + 4 * table_stride c.table.of + 36 + extra ≤ c.table.of.capacity) × (length c.table.cells < offset_limit)
+    (usage c + row_usage c.table.of + extra ≤ c.table.of.capacity) × (length c.table.cells < offset_limit)
 
 -- too few bytes were searched for so many states, where a number for each is set
 abbrev pub short_of : Option ℕ → ℕ → ℕ → Bool

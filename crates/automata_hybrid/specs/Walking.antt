@@ -106,8 +106,8 @@ TellsNext way m input old new =
     × ((pairs : List Pair) → AreWalked way m input pairs
     → (new.found ≡ half_nth pairs k) × (length pairs ≤ k → new.stage ≡ Ended))
 
--- why its state isn't put back, which the cache hasn't: memory is wanting, or there is no room for it, and the cache may
--- not be cleared
+-- why its state isn't put back, which the cache hasn't: memory is wanting, or there is no room for it, and the cache
+-- may not be cleared
 abbrev pub IsPutBackRefusal : Stored → Powerset → (given_up_at : ℕ) → SearchError → Type 0
 IsPutBackRefusal c q at e =
     ((Has c.table q → ⊥) × (e ≡ search.OutOfMemory)) ⊎ (GivesUp c q × (e ≡ search.Match (GaveUp at)))
@@ -159,6 +159,7 @@ pub record Finishes (way : Direction) (m : Machine) (input : Input) (from units 
   pub silent : IsSilent way m input from (suc (length (tape_in way input).bytes))
   pub stops : (j : ℕ) → units ≤ j → WalkReads way m input j → ⊥
 
+-- to a state that tells patterns, if there is an ID, and else to its end
 abbrev pub IsArrival : Direction → Machine → Rows → Input → (from : ℕ) → Option ℕ → (units : ℕ) → Type 0
 IsArrival way m t input from None units = Finishes way m input from units
 IsArrival way m t input from (Some id) units = Arrives way m t input from id units

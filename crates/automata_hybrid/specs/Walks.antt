@@ -42,6 +42,7 @@ with_match w half = record { stage = w.stage; units = w.units; told = suc w.told
 abbrev pub ended_walk : Walk → ℕ → Walk
 ended_walk w units = record { stage = Ended; units = units; told = 0; found = None; lost = false }
 
+-- a direction as contracts name it
 abbrev pub way_of : Way → Direction
 way_of way.Forward = tapes.Forward
 way_of way.Backward = tapes.Backward
@@ -60,6 +61,7 @@ abbrev pub HasKey : Held → Type 0
 HasKey (held.Kept state key) = key ≡ state
 HasKey (held.Lost was) = Unit {0}
 
+-- what contracts see of a stage: where it is, whether its state was lost, and that its key is the state's
 abbrev pub stage_of : AStage → Stage
 stage_of stage.Fresh = Fresh
 stage_of (stage.At h) = At (state_held h)
@@ -75,6 +77,7 @@ stage_has_key stage.Fresh = Unit {0}
 stage_has_key (stage.At h) = HasKey h
 stage_has_key stage.Ended = Unit {0}
 
+-- and of a walk
 abbrev pub walk_of : Inside → Walk
 walk_of s = record {
   stage = stage_of s.stage;

@@ -16,6 +16,7 @@ use Rattle.automata_hybrid.specs.Searched.{EndsProgress, LeavesProgress}
 use Rattle.automata_hybrid.specs.Searches.{IsRefused, Skips}
 use Rattle.automata_config.specs.Options.{match_kind_of}
 
+-- the input searched up to its first match
 abbrev pub in_part : Input → Input
 in_part input = record input { earliest = true }
 
@@ -34,10 +35,11 @@ IsNearestThere m input truth =
     (o : Option Half) × IsNearestAnswer Forward (engine_of m.nfa (match_kind_of m.config)) (in_part input) o
     × (truth ≡ is_some o)
 
--- why it is refused, and what it uses
+-- why it is refused
 abbrev pub IsMatchRefused : Machine → Stored → Input → SearchError → Type 0
 IsMatchRefused m c input e = (asked : Input) × IsAsked m input asked × IsRefused Forward m c asked e
 
+-- all that it uses is known
 abbrev pub KnowsMatch : Machine → Stored → Input → Type 0
 KnowsMatch m c input = (asked : Input) → IsAsked m input asked → Knows Forward m c asked
 

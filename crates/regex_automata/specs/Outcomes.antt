@@ -17,6 +17,7 @@ abbrev pub IsOutcome : Regex → Input → Outcome → Type 0
 IsOutcome p input outcome =
     TellsBy (IsFound Forward p.forward) (IsFound Backward p.reverse) (forward_engine p) input outcome
 
+-- it tells this match, or none
 abbrev pub FindsMatch : Regex → Input → Option Match → Type 0
 FindsMatch p input answer = IsOutcome p input (Found answer)
 

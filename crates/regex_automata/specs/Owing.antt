@@ -162,6 +162,7 @@ abbrev pub AreRising : (low : ℕ) → List ℕ → Type 0
 AreRising low [] = Unit {0}
 AreRising low (k ∷ ks) = (low ≤ k) × AreRising (suc k) ks
 
+-- a set for so many patterns, with none in it
 abbrev pub empty_set : (capacity : ℕ) → List Bool
 empty_set capacity = replicate capacity false
 

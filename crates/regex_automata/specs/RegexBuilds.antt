@@ -18,6 +18,7 @@ backward o = record o { match_kind = Some All; specialize_start_states = Some fa
 abbrev pub BuildsPair : Options → Automaton → Automaton → Regex → Type 0
 BuildsPair o forward reverse p = dfa.Builds o forward p.forward × dfa.Builds (backward o) reverse p.reverse
 
+-- how many patterns an automaton has
 abbrev pub pattern_count : Automaton → ℕ
 pattern_count a = length a.start_pattern
 

@@ -126,6 +126,7 @@ AreRepliesAfter regexes h [] (r ∷ rs) = ⊥
 AreRepliesAfter regexes h (q ∷ qs) [] = ⊥
 AreRepliesAfter regexes h (q ∷ qs) (r ∷ rs) = IsReply regexes h q r × AreRepliesAfter regexes (after h q r) qs rs
 
+-- from the beginning on
 abbrev pub AreReplies : List Regex → List Request → List Reply → Type 0
 AreReplies regexes script replies = AreRepliesAfter regexes start script replies
 

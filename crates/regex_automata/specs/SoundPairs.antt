@@ -7,6 +7,7 @@ use Rattle.automata_base.specs.TruePairs.{IsTruePair, KeepsUtf8}
 use Rattle.regex_automata.specs.declared.hybrid.regex.Regex.{Regex}
 use Rattle.automata_config.specs.Options.{match_kind_of}
 
+-- what each of the two answers by: its automaton and its kind
 abbrev pub forward_engine : Regex → Engine
 forward_engine p = engine_of p.forward.nfa (match_kind_of p.forward.config)
 

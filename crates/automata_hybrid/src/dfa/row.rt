@@ -6,6 +6,7 @@ ghost use Rattle.automata_hybrid.specs.Ids.{offset_limit};
 
 use crate::id::LazyStateID;
 use automata_base::util::determinize::State;
+use automata_config::accounting::{HEAD_COST, ID_COST, PATTERN_COST};
 
 /// A row's state, and whether it was added as a start with its tag.
 #[derive(Drop)]
@@ -32,7 +33,7 @@ pub fn cost(state: &State) -> usize
     requires { cost state.now < 2 ^ 64 }
     ensures { result ≡ cost state.now }
 {
-    13 + 4 * state.match_len() + 5 * state.nfa().count()
+    HEAD_COST + PATTERN_COST * state.match_len() + ID_COST * state.nfa().count()
 }
 
 /// Whether nothing can match behind a state.

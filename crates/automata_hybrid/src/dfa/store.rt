@@ -23,9 +23,13 @@ use crate::dfa::table::Table;
 use crate::dfa::{DFA, row};
 use crate::id::LazyStateID;
 use automata_base::util::determinize::{Key, State};
+use automata_config::accounting::{CELL_SIZE, ENTRY_SIZE, FIXED_ROWS_COST, ROW_SIZE};
 use automata_config::error::{CacheError, StepError};
 use std::alloc::AllocError;
 use std::marker::Model;
+
+/// Offsets of rows are below it.
+const OFFSET_LIMIT: usize = 134217728;
 
 /// A lazy DFA's cache, whose accounted bytes never pass its capacity.
 #[derive(Drop)]
@@ -153,11 +157,11 @@ impl Store {
     {
         self.table.see_rows();
         let states = self.table.len();
-        4 * self.table.cell_count()
-            + 4 * self.starts.len()
-            + 16 * (states + 3)
-            + 20 * (states + 1)
-            + 39
+        CELL_SIZE * self.table.cell_count()
+            + CELL_SIZE * self.starts.len()
+            + ROW_SIZE * (states + 3)
+            + ENTRY_SIZE * (states + 1)
+            + FIXED_ROWS_COST
             + self.table.costs()
             + self.settings.fixed
     }
@@ -170,7 +174,8 @@ impl Store {
         self.table.see_rows();
         let used = self.memory_usage();
         let room = self.settings.capacity - used;
-        4 * self.table.stride() + 36 + extra <= room && self.table.cell_count() < 134217728
+        let row = CELL_SIZE * self.table.stride() + ROW_SIZE + ENTRY_SIZE;
+        row + extra <= room && self.table.cell_count() < OFFSET_LIMIT
     }
 
     /// The accounted bytes are within the capacity.
