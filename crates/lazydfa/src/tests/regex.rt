@@ -3,6 +3,7 @@
 ghost use Rattle.regex_automata.specs.RegexCaches.{AreCachesOf};
 
 use super::dfa::dates;
+use super::plans::{Plan, Shape};
 use super::regex_bench::{Ask, Pair, RegexBench};
 use super::tells::{Automaton, built};
 use super::{same_of, same_text};
@@ -11,10 +12,11 @@ use Ask::{
     Counts, Find, Forward, Is, Items, Memory, Patterns, ReplaceForward, ReplaceReverse, Reset,
     ResetForward, ResetReverse, Reverse,
 };
-use Pair::{Barren, Mixed, Of};
+use Pair::{Barren, Mixed, Of, Planned};
 use regex_automata::hybrid::dfa::DFA;
 use regex_automata::hybrid::regex::{Builder, Cache, Regex};
 use regex_automata::hybrid::{BuildError, SearchError};
+use regex_automata::util::look::Look;
 use regex_automata::util::primitives::PatternID;
 use regex_automata::util::search::{HalfMatch, Input};
 use std::alloc::Global;
@@ -65,8 +67,36 @@ fn serves_calls_by_both_parts(rt: HostRuntime) -> Result<(), Fail> {
     tells_all(&rt, PARTS)
 }
 
+/// `a+`.
+const RUN: Plan = Plan {
+    states: &[
+        Shape::Range(b'a', b'a', 1),
+        Shape::Either(0, 2),
+        Shape::Accept(0),
+        Shape::Range(0, 255, 4),
+        Shape::Either(0, 3),
+    ],
+    starts: (0, 4),
+    patterns: &[0],
+};
+
+/// The same read backward, by an automaton in which a cycle passes a look.
+const RUN_BACK_LOOPED: Plan = Plan {
+    states: &[
+        Shape::Either(1, 2),
+        Shape::Assert(Look::WordAsciiNegate, 0),
+        Shape::Range(b'a', b'a', 3),
+        Shape::Either(0, 4),
+        Shape::Accept(0),
+    ],
+    starts: (0, 0),
+    patterns: &[0],
+};
+
 #[rattlefmt::skip]
 const STARTS: &[Row] = &[
+    ("a cycle of the reverse automaton passes a look", Planned(&RUN, &RUN_BACK_LOOPED), "",
+        &[Find("xaa a"), Items("xaa a")], "match 0 1..3, match 0 1..3; match 0 4..5; -; -"),
     ("the search back finds no start", Barren(Entry::Date), "", &[Find(DATES), Is(DATES), Items(DATES)],
         "notapair, true, notapair; -; -; -"),
     ("there is no search back where all are anchored", Barren(Entry::Ab), "", &[Find("ab"), Items("abab"), Counts],

@@ -4,7 +4,7 @@ ghost use Rattle.std.specs.Prelude.{◌≡◌};
 ghost use Rattle.regex_automata.specs.RegexCaches.{AreCachesOf};
 
 use super::exhaust;
-use super::plans::ids_of;
+use super::plans::{Plan, ids_of};
 use super::tells::config;
 use crate::catalogue::Entry;
 use crate::reply::Line;
@@ -29,12 +29,15 @@ pub enum Pair {
     Mixed(Entry, Entry),
     /// The forward one of an entry, and a reverse one of one pattern that it never matches.
     Barren(Entry),
+    /// Two that are in no catalogue, the forward one first.
+    Planned(&'static Plan, &'static Plan),
 }
 
 impl Pair {
     pub fn forward(self, alloc: Global) -> Result<NFA, NfaError> {
         match self {
             Pair::Of(entry) | Pair::Mixed(entry, _) | Pair::Barren(entry) => entry.forward(alloc),
+            Pair::Planned(plan, _) => plan.build(alloc),
         }
     }
 
@@ -42,6 +45,7 @@ impl Pair {
         match self {
             Pair::Of(entry) | Pair::Mixed(_, entry) => entry.reverse(alloc),
             Pair::Barren(_) => barren(alloc),
+            Pair::Planned(_, plan) => plan.build(alloc),
         }
     }
 
