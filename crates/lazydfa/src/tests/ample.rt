@@ -5,12 +5,11 @@ ghost use Rattle.regex_automata.specs.RegexCaches.{AreCachesOf};
 
 use super::bench::Call;
 use super::copies::{coded, parts};
-use super::memory::check;
 use super::plans::{Plan, Shape, pattern_id};
 use super::regex_bench::{Ask, Pair, RegexBench};
-use super::tells::{Automaton, built, text_of};
+use super::tells::{Automaton, lazy, text_of};
 use super::walker::{Over, Turn};
-use super::{powersets, prints, regex, tells, walks};
+use super::{check, powersets, prints, regex, same_of, same_text, tells, walks};
 use crate::catalogue::Entry;
 use Automaton::{Forward, Reverse};
 use Call::{Counts, End, Find, Matched, Start, StartOn, State, Steps};
@@ -19,13 +18,10 @@ use Pair::Of;
 use Run::{Lazy, Made, Powersets, Regexes, Script, Walk};
 use Turn::{Next, Which};
 use regex_automata::hybrid::dfa::{Cache, DFA, OverlappingState};
-use regex_automata::hybrid::regex::Regex;
 use regex_automata::hybrid::{BuildError, regex as front};
 use regex_automata::replay::{Reply, Request, replay};
 use regex_automata::util::search::{HalfMatch, Input, Match, PatternSet, Span};
-use std::alloc::Global;
 use std::process::Abort;
-use std::test::Fail;
 
 /// What is run, with what it tells.
 #[derive(Clone, Copy)]
@@ -102,40 +98,40 @@ const ROWS: &[Run] = &[
 ];
 
 #[test]
-fn ample_memory_answers(rt: HostRuntime) -> Result<(), Fail> {
-    for row in ROWS.iter().copied() {
-        answers(&rt, row)?;
+fn ample_memory_answers(rt: HostRuntime) {
+    for row in ROWS {
+        let row = *row;
+        answers(&rt, row);
     }
-    Ok(())
 }
 
-fn answers<R: Abort + AllocGlobal>(rt: &R, run: Run) -> Result<(), Fail> {
+fn answers<R: Abort + AllocGlobal>(rt: &R, run: Run) {
     match run {
         Lazy(row) => tells::tells(rt, row),
         Walk(row) => walks::tells(rt, row),
         Regexes(row) => regex::tells(rt, row),
         Powersets(row) => powersets::leads(rt, row),
         Script(lines, want) => prints(rt, lines, want, lines),
-        Made(call) => check(is_right(rt.alloc(), call)?),
+        Made(call) => make(rt, call),
     }
 }
 
-fn is_right(alloc: Global, call: New) -> Result<bool, Fail> {
+fn make<R: Abort + AllocGlobal>(rt: &R, call: New) {
     match call {
-        New::Door => door(alloc),
-        New::Set => set(alloc),
-        New::Encode => encodes(alloc),
-        New::Decode => decodes(alloc),
-        New::Always => tells_as(alloc, DFA::always_match(alloc), "half 0 0"),
-        New::Never => tells_as(alloc, DFA::never_match(alloc), "none"),
-        New::Cache => cache(alloc),
-        New::CacheReset => cache_reset(alloc),
-        New::BasedSearch => based_search(alloc),
-        New::RegexCache => regex_cache(alloc),
-        New::RegexCacheReset => regex_cache_reset(alloc),
-        New::Search => search(alloc),
-        New::Replay => replays(alloc),
-        New::Copies => copies(alloc),
+        New::Door => door(rt),
+        New::Set => set(rt),
+        New::Encode => encode(rt),
+        New::Decode => decode(rt),
+        New::Always => tell(rt, DFA::always_match(rt.alloc()), "half 0 0"),
+        New::Never => tell(rt, DFA::never_match(rt.alloc()), "none"),
+        New::Cache => cache(rt),
+        New::CacheReset => cache_reset(rt),
+        New::BasedSearch => based_search(rt),
+        New::RegexCache => regex_cache(rt),
+        New::RegexCacheReset => regex_cache_reset(rt),
+        New::Search => search(rt),
+        New::Replay => replays(rt),
+        New::Copies => copies(rt),
     }
 }
 
@@ -145,103 +141,108 @@ const LETTER: Plan = Plan {
     patterns: &[0],
 };
 
-fn door(alloc: Global) -> Result<bool, Fail> {
-    let nfa = LETTER.build(alloc)?;
-    Ok(nfa.states().len() == 2 && nfa.pattern_len() == 1)
+fn door<R: Abort + AllocGlobal>(rt: &R) {
+    let nfa = LETTER.build(rt);
+    check(rt, nfa.states().len() == 2 && nfa.pattern_len() == 1);
 }
 
-fn set(alloc: Global) -> Result<bool, Fail> {
-    let set = PatternSet::new(alloc, 3)?;
-    Ok(set.capacity() == 3 && set.len() == 0)
+fn set<R: Abort + AllocGlobal>(rt: &R) {
+    let set = PatternSet::new(rt.alloc(), 3).expect(rt, "memory");
+    check(rt, set.capacity() == 3 && set.len() == 0);
 }
 
 /// Three NFA states and two patterns.
-fn encodes(alloc: Global) -> Result<bool, Fail> {
-    let state = coded(alloc, &parts(alloc)?)?;
-    let code = [
-        3, 0, 0, 0, 0, 0, 0, 0, 0, 2, 0, 0, 0, 0, 0, 0, 0, 1, 0, 0, 0, 6, 2, 5,
-    ];
-    Ok(state.as_bytes() == &code[..])
+const CODE: &[u8] = &[
+    3, 0, 0, 0, 0, 0, 0, 0, 0, 2, 0, 0, 0, 0, 0, 0, 0, 1, 0, 0, 0, 6, 2, 5,
+];
+
+fn encode<R: Abort + AllocGlobal>(rt: &R) {
+    let state = coded(rt, &parts(rt));
+    same_of(rt, &state.as_bytes(), &CODE, &"the code of a state");
 }
 
-fn decodes(alloc: Global) -> Result<bool, Fail> {
-    let parts = parts(alloc)?;
-    let decoded = coded(alloc, &parts)?.decode(alloc)?;
-    Ok(decoded.nfa == parts.nfa && decoded.patterns == parts.patterns)
+fn decode<R: Abort + AllocGlobal>(rt: &R) {
+    let parts = parts(rt);
+    let decoded = coded(rt, &parts).decode(rt.alloc()).expect(rt, "memory");
+    same_of(rt, &decoded.nfa, &parts.nfa, &"the states");
+    same_of(rt, &decoded.patterns, &parts.patterns, &"the patterns");
 }
 
-fn tells_as(alloc: Global, dfa: Result<DFA, BuildError>, want: &str) -> Result<bool, Fail> {
-    let text = text_of(alloc, dfa, &[Find("a")])?;
-    Ok(text.as_str() == want)
+fn tell<R: Abort + AllocGlobal>(rt: &R, dfa: Result<DFA, BuildError>, want: &str) {
+    let text = text_of(rt, dfa, &[Find("a")]);
+    same_text(rt, text.as_str(), want, want);
 }
 
-fn cache(alloc: Global) -> Result<bool, Fail> {
-    let dfa = built(alloc, AB, "")??;
-    let cache = Cache::new(&dfa)?;
-    Ok(cache.memory_usage() == 335)
+fn cache<R: Abort + AllocGlobal>(rt: &R) {
+    let dfa = lazy(rt, AB, "");
+    let cache = Cache::new(&dfa).expect(rt, "memory");
+    check(rt, cache.memory_usage() == 335);
 }
 
-fn cache_reset(alloc: Global) -> Result<bool, Fail> {
-    let dfa = built(alloc, AB, "")??;
-    let mut cache = Cache::new(&dfa)?;
+fn cache_reset<R: Abort + AllocGlobal>(rt: &R) {
+    let dfa = lazy(rt, AB, "");
+    let mut cache = Cache::new(&dfa).expect(rt, "memory");
     let found = dfa.try_search_fwd(&mut cache, &Input::new(b"ab"));
-    let used = cache.memory_usage();
-    cache.reset(&dfa)?;
-    Ok(found.is_ok() && (used, cache.memory_usage()) == (678, 335))
+    check(rt, found.is_ok() && cache.memory_usage() == 678);
+    cache.reset(&dfa).expect(rt, "memory");
+    check(rt, cache.memory_usage() == 335);
 }
 
 /// Two places split the character, so the third one gives the match.
-fn based_search(alloc: Global) -> Result<bool, Fail> {
-    let dfa = built(alloc, Forward(Entry::Empty), "")??;
-    let mut cache = dfa.create_cache()?;
+fn based_search<R: Abort + AllocGlobal>(rt: &R) {
+    let dfa = lazy(rt, Forward(Entry::Empty), "");
+    let mut cache = dfa.create_cache().expect(rt, "memory");
     let input = Input::new(b"\xE2\x98\x83").range(1..3);
     let found = dfa.try_search_fwd_base(&mut cache, &input);
-    Ok(found == Ok(Some((HalfMatch::new(pattern_id(0), 3), 3))))
-}
-
-fn ab(alloc: Global) -> Result<Regex, Fail> {
-    Ok(Of(Entry::Ab).build(alloc, "")??)
+    check(rt, found == Ok(Some((HalfMatch::new(pattern_id(0), 3), 3))));
 }
 
 fn first() -> Match {
     Match::new(pattern_id(0), Span { start: 0, end: 2 })
 }
 
-fn regex_cache(alloc: Global) -> Result<bool, Fail> {
-    let regex = ab(alloc)?;
-    let cache = front::Cache::new(&regex)?;
-    Ok(cache.memory_usage() == 670)
+fn regex_cache<R: Abort + AllocGlobal>(rt: &R) {
+    let regex = Of(Entry::Ab).regex(rt, "");
+    let cache = front::Cache::new(&regex).expect(rt, "memory");
+    check(rt, cache.memory_usage() == 670);
 }
 
-fn regex_cache_reset(alloc: Global) -> Result<bool, Fail> {
-    let regex = ab(alloc)?;
-    let mut cache = front::Cache::new(&regex)?;
+fn regex_cache_reset<R: Abort + AllocGlobal>(rt: &R) {
+    let regex = Of(Entry::Ab).regex(rt, "");
+    let mut cache = front::Cache::new(&regex).expect(rt, "memory");
     let found = regex.find(&mut cache, &Input::new(b"ab"));
-    let used = cache.memory_usage();
-    cache.reset(&regex)?;
-    Ok(found == Ok(Some(first())) && (used, cache.memory_usage()) == (1013, 670))
+    check(
+        rt,
+        found == Ok(Some(first())) && cache.memory_usage() == 1013,
+    );
+    cache.reset(&regex).expect(rt, "memory");
+    check(rt, cache.memory_usage() == 670);
 }
 
-fn search(alloc: Global) -> Result<bool, Fail> {
-    let mut bench = RegexBench::new(ab(alloc)?)?;
-    Ok(bench.search(&Input::new(b"ab")) == Ok(Some(first())))
+fn search<R: Abort + AllocGlobal>(rt: &R) {
+    let mut bench = RegexBench::new(rt, Of(Entry::Ab).regex(rt, ""));
+    let found = bench.search(&Input::new(b"ab"));
+    check(rt, found == Ok(Some(first())));
 }
 
-fn replays(alloc: Global) -> Result<bool, Fail> {
-    let regexes = [ab(alloc)?];
+fn replays<R: Abort + AllocGlobal>(rt: &R) {
+    let regexes = [Of(Entry::Ab).regex(rt, "")];
     let requests = [Request::Find(Input::new(b"ab")), Request::StepWalk(0)];
-    let replies = replay(alloc, &regexes, &requests)?;
-    Ok(replies.first() == Some(&Reply::Span(Ok(Some(first())))) && replies.len() == 2)
+    let replies = replay(rt.alloc(), &regexes, &requests).expect(rt, "memory");
+    check(
+        rt,
+        replies.first() == Some(&Reply::Span(Ok(Some(first())))) && replies.len() == 2,
+    );
 }
 
-fn copies(alloc: Global) -> Result<bool, Fail> {
-    let dfa = built(alloc, AB, "")??;
-    let state = coded(alloc, &parts(alloc)?)?;
-    let walk = OverlappingState::start().clone()?;
-    Ok(
-        dfa.clone()?.pattern_len() == 1
-            && dfa.get_nfa().clone()?.pattern_len() == 1
-            && state.clone()? == state
-            && walk.get_match().is_none(),
-    )
+fn copies<R: Abort + AllocGlobal>(rt: &R) {
+    let dfa = lazy(rt, AB, "");
+    let copy = dfa.clone().expect(rt, "memory");
+    check(rt, copy.pattern_len() == 1);
+    let copy = dfa.get_nfa().clone().expect(rt, "memory");
+    check(rt, copy.pattern_len() == 1);
+    let state = coded(rt, &parts(rt));
+    check(rt, state.clone().expect(rt, "memory") == state);
+    let walk = OverlappingState::start().clone().expect(rt, "memory");
+    check(rt, walk.get_match().is_none());
 }

@@ -15,7 +15,7 @@ use regex_automata::util::start;
 use std::alloc::{AllocError, Global};
 use std::fmt;
 use std::fmt::Write;
-use std::test::Fail;
+use std::process::Abort;
 
 /// A call.
 #[derive(Clone, Copy)]
@@ -64,39 +64,37 @@ pub enum Call {
 /// What a call tells.
 #[derive(Drop)]
 enum Told {
-    Nothing,
+    Word(&'static str),
     Found(Reply),
     NoStart(StartError),
     NoStep(StepError),
-    NoMemory,
     Refused(BuildError),
-    /// The number of a state among those that were told, and its ID.
-    State(usize, LazyStateID),
-    Patterns(usize, Option<PatternID>),
-    Counts(usize, usize, usize, bool),
-    Brief(usize, LazyStateID),
-    Number(usize),
-    Flag(bool),
+    /// A number, with what stands before it and behind it.
+    Number(&'static str, usize, &'static str),
+    /// How many patterns, and the last one.
+    Patterns(usize, PatternID),
+    Counts(usize, usize, usize, &'static str),
 }
 
 impl Told {
+    fn of_flag(yes: bool) -> Told {
+        Told::Word(if yes { "true" } else { "false" })
+    }
+
     fn of_start(started: Result<(), StartError>) -> Told {
         match started {
-            Ok(()) => Told::Nothing,
+            Ok(()) => Told::Word("-"),
             Err(error) => Told::NoStart(error),
         }
     }
 
     fn of_growth(grown: Result<(), AllocError>) -> Told {
-        match grown {
-            Ok(()) => Told::Nothing,
-            Err(AllocError) => Told::NoMemory,
-        }
+        Told::Word(if grown.is_ok() { "-" } else { "out of memory" })
     }
 
     fn of_step(stepped: Result<(), StepError>) -> Told {
         match stepped {
-            Ok(()) => Told::Nothing,
+            Ok(()) => Told::Word("-"),
             Err(error) => Told::NoStep(error),
         }
     }
@@ -105,30 +103,17 @@ impl Told {
 impl fmt::Display for Told {
     fn fmt<W: fmt::Write>(&self, f: &mut fmt::Formatter<W>) -> fmt::Result {
         match self {
-            Told::Nothing => write!(f, "-"),
+            Told::Word(word) => write!(f, "{word}"),
             Told::Found(reply) => write!(f, "{}", Line(reply)),
             Told::NoStart(error) => write!(f, "{error}"),
             Told::NoStep(error) => write!(f, "{error}"),
-            Told::NoMemory => write!(f, "out of memory"),
             Told::Refused(error) => write!(f, "{error}"),
-            Told::State(number, id) => write!(f, "state {number}{}", letter(*id)),
-            Told::Patterns(count, None) => write!(f, "patterns {count}"),
-            Told::Patterns(count, Some(last)) => write!(
+            Told::Number(before, number, behind) => write!(f, "{before}{number}{behind}"),
+            Told::Patterns(count, last) => write!(f, "patterns {count} last {}", last.as_usize()),
+            Told::Counts(clears, memory, searched, behind) => write!(
                 f,
-                "patterns {count} last {}",
-                last.as_usize()
+                "{clears} {memory} {searched}{behind}"
             ),
-            Told::Counts(clears, memory, searched, true) => write!(
-                f,
-                "{clears} {memory} {searched} open"
-            ),
-            Told::Counts(clears, memory, searched, false) => write!(
-                f,
-                "{clears} {memory} {searched}"
-            ),
-            Told::Brief(memory, id) => write!(f, "{memory}{}", letter(*id)),
-            Told::Number(number) => write!(f, "{number}"),
-            Told::Flag(yes) => write!(f, "{yes}"),
         }
     }
 }
@@ -163,10 +148,9 @@ pub struct Bench {
 
 impl Bench {
     /// Before any start.
-    pub fn new(dfa: DFA) -> Result<Bench, Fail> {
-        let cache = dfa.create_cache()?;
-        let bench = Bench::over(dfa, cache);
-        Ok(bench)
+    pub fn new<R: Abort>(rt: &R, dfa: DFA) -> Bench {
+        let cache = dfa.create_cache().expect(rt, "a cache");
+        Bench::over(dfa, cache)
     }
 
     /// Over a cache that is there.
@@ -187,40 +171,33 @@ impl Bench {
     }
 
     /// Writes what the calls tell.
-    pub fn tell_all(
-        &mut self,
-        alloc: Global,
-        calls: &[Call],
-        text: &mut String,
-    ) -> Result<(), Fail> {
+    pub fn tell_all<R: Abort + AllocGlobal>(&mut self, rt: &R, calls: &[Call], text: &mut String) {
         for call in calls {
             if let Call::Walk(bytes) = call {
-                self.walk(alloc, *bytes, text)?;
+                self.walk(rt, *bytes, text);
             } else {
-                self.tell(alloc, *call, text)?;
+                self.tell(rt, *call, text);
             }
         }
-        Ok(())
     }
 
-    fn walk(&mut self, alloc: Global, bytes: &str, text: &mut String) -> Result<(), Fail> {
-        self.answer(alloc, Call::Start(None));
-        self.tell(alloc, Call::Brief, text)?;
+    fn walk<R: Abort + AllocGlobal>(&mut self, rt: &R, bytes: &str, text: &mut String) {
+        self.answer(rt.alloc(), Call::Start(None));
+        self.tell(rt, Call::Brief, text);
         for byte in bytes.as_bytes() {
-            self.answer(alloc, Call::Step(*byte));
-            self.tell(alloc, Call::Brief, text)?;
+            self.answer(rt.alloc(), Call::Step(*byte));
+            self.tell(rt, Call::Brief, text);
         }
-        self.answer(alloc, Call::End);
-        self.tell(alloc, Call::Brief, text)
+        self.answer(rt.alloc(), Call::End);
+        self.tell(rt, Call::Brief, text);
     }
 
-    fn tell(&mut self, alloc: Global, call: Call, text: &mut String) -> Result<(), Fail> {
+    fn tell<R: Abort + AllocGlobal>(&mut self, rt: &R, call: Call, text: &mut String) {
         if !text.is_empty() {
-            text.push_str(", ")?;
+            text.push_str(", ").expect(rt, "memory");
         }
-        let told = self.answer(alloc, call);
-        write!(text, "{told}")?;
-        Ok(())
+        let told = self.answer(rt.alloc(), call);
+        write!(text, "{told}").expect(rt, "memory");
     }
 
     fn answer(&mut self, alloc: Global, call: Call) -> Told {
@@ -245,17 +222,19 @@ impl Bench {
             Call::State => self.state(self.at),
             Call::Matched => self.matched(),
             Call::Counts => self.counts(),
-            Call::Brief | Call::Walk(_) => Told::Brief(self.cache.memory_usage(), self.at),
+            Call::Brief | Call::Walk(_) => {
+                Told::Number("", self.cache.memory_usage(), letter(self.at))
+            }
             Call::Reset => Told::of_growth(self.reset()),
-            Call::Patterns => Told::Number(self.dfa.pattern_len()),
-            Call::Memory => Told::Number(self.dfa.memory_usage()),
-            Call::Classes => Told::Number(self.dfa.byte_classes().alphabet_len()),
+            Call::Patterns => Told::Number("", self.dfa.pattern_len(), ""),
+            Call::Memory => Told::Number("", self.dfa.memory_usage(), ""),
+            Call::Classes => Told::Number("", self.dfa.byte_classes().alphabet_len(), ""),
             Call::Minimum => self.minimum(),
             Call::Exhaust => {
                 exhaust(alloc);
-                Told::Nothing
+                Told::Word("-")
             }
-            Call::Room => Told::Flag(Vec::<u8>::with_capacity(alloc, 1).is_ok()),
+            Call::Room => Told::of_flag(Vec::<u8>::with_capacity(alloc, 1).is_ok()),
         }
     }
 
@@ -279,7 +258,7 @@ impl Bench {
             self.dfa.start_state_forward(&mut self.cache, input)
         };
         match started {
-            Ok(id) => Told::Flag(id.is_tagged()),
+            Ok(id) => Told::of_flag(id.is_tagged()),
             Err(error) => Told::Found(Reply::Half(Err(error))),
         }
     }
@@ -324,7 +303,7 @@ impl Bench {
     /// What is known of the step on a byte, from a state that is there and has no tag.
     fn known(&mut self, byte: u8) -> Told {
         if self.at.is_tagged() || !self.has_state() {
-            return Told::Nothing;
+            return Told::Word("-");
         }
         let id = self.dfa.next_state_untagged(&self.cache, self.at, byte);
         self.state(id)
@@ -342,20 +321,20 @@ impl Bench {
             self.told[number] = id;
             self.count = number + 1;
         }
-        Told::State(number, id)
+        Told::Number("state ", number, letter(id))
     }
 
     /// How many patterns match, and the last of them.
     fn matched(&self) -> Told {
         if self.at.is_dead() || self.at.is_quit() || !self.has_state() {
-            return Told::Nothing;
+            return Told::Word("-");
         }
         if !self.at.is_match() {
-            return Told::Patterns(0, None);
+            return Told::Word("patterns 0");
         }
         let count = self.dfa.match_len(&self.cache, self.at);
         let last = self.dfa.match_pattern(&self.cache, self.at, count - 1);
-        Told::Patterns(count, Some(last))
+        Told::Patterns(count, last)
     }
 
     fn counts(&self) -> Told {
@@ -363,7 +342,11 @@ impl Bench {
             self.cache.clear_count(),
             self.cache.memory_usage(),
             self.cache.search_total_len(),
-            self.cache.in_progress(),
+            if self.cache.in_progress() {
+                " open"
+            } else {
+                ""
+            },
         )
     }
 
@@ -433,11 +416,11 @@ impl Bench {
     }
 
     /// The same cache, reset to another automaton.
-    pub fn reset_to(self, dfa: DFA) -> Result<Bench, AllocError> {
+    pub fn reset_to<R: Abort>(self, rt: &R, dfa: DFA) -> Bench {
         let Bench { cache, .. } = self;
         let mut cache = cache;
-        dfa.reset_cache(&mut cache)?;
-        Ok(Bench::over(dfa, cache))
+        dfa.reset_cache(&mut cache).expect(rt, "memory");
+        Bench::over(dfa, cache)
     }
 
     fn minimum(&self) -> Told {
@@ -446,7 +429,7 @@ impl Bench {
             .get_config()
             .get_minimum_cache_capacity(self.dfa.get_nfa())
         {
-            Ok(minimum) => Told::Number(minimum),
+            Ok(minimum) => Told::Number("", minimum, ""),
             Err(error) => Told::Refused(error),
         }
     }

@@ -3,7 +3,6 @@
 use super::same_of;
 use crate::catalogue::Entry;
 use regex_automata::hybrid::dfa::Config;
-use std::test::Fail;
 
 /// An option set in the new settings wins, one that is unset keeps the old; the quit set is one
 /// option.
@@ -37,10 +36,10 @@ fn allows_quit_bytes(rt: HostRuntime) {
 }
 
 #[test]
-fn settles_settings(rt: HostRuntime) -> Result<(), Fail> {
-    let nfa = Entry::Bound.forward(rt.alloc())?;
+fn settles_settings(rt: HostRuntime) {
+    let nfa = Entry::Bound.forward(rt.alloc()).expect(&rt, "an entry");
     let heuristic = Config::new().unicode_word_boundary(true);
-    let settled = heuristic.settle(&nfa)?;
+    let settled = heuristic.settle(&nfa).expect(&rt, "settings");
     let quits = (
         settled.quits(0xB2),
         settled.quits(b'a'),
@@ -54,7 +53,6 @@ fn settles_settings(rt: HostRuntime) -> Result<(), Fail> {
         &"as it is",
     );
     let skipping = heuristic.cache_capacity(0).skip_cache_capacity_check(true);
-    let settled = skipping.settle(&nfa)?;
+    let settled = skipping.settle(&nfa).expect(&rt, "settings");
     same_of(&rt, &settled.capacity(), &2374, &"with no check");
-    Ok(())
 }

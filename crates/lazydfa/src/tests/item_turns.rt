@@ -1,14 +1,14 @@
 //! Iterations whose growths are refused in turn. Each test is a process of its own, so it may use up all memory for
 //! good.
 
-use super::memory::{Turns, check};
+use super::check;
+use super::memory::Turns;
 use super::plans::pattern_id;
 use super::regex_bench::{Item, Pair, RegexBench};
 use crate::catalogue::Entry;
 use regex_automata::hybrid::SearchError;
 use regex_automata::util::search::{Input, Match, Span};
-use std::alloc::Global;
-use std::test::Fail;
+use std::process::Abort;
 
 /// Each item of its iteration takes a new state, and so does the end.
 const HAYSTACK: &[u8] = b"\xE2xaaa\xE2 a";
@@ -36,67 +36,61 @@ fn owed(refused: Option<usize>) -> [Item; 8] {
     items
 }
 
-fn bench(alloc: Global) -> Result<RegexBench, Fail> {
-    let regex = Pair::Of(Entry::Snowx).build(alloc, "")??;
-    Ok(RegexBench::new(regex)?)
-}
-
 /// Makes the searches of some first items known.
-fn learn(bench: &mut RegexBench, starts: usize) -> Result<(), SearchError> {
+fn learn<R: Abort>(rt: &R, bench: &mut RegexBench, starts: usize) {
     for start in 0..starts.min(HAYSTACK.len()) {
-        bench.search(&Input::new(HAYSTACK).range(start..HAYSTACK.len()))?;
+        let rest = Input::new(HAYSTACK).range(start..HAYSTACK.len());
+        bench.search(&rest).expect(rt, "a search");
     }
-    Ok(())
 }
 
 /// One turn, over a regex and a cache of its own that knows some first items. It tells which call was refused.
-fn iterate_short(alloc: Global, turns: &mut Turns, known: usize) -> Result<Option<usize>, Fail> {
+fn iterate_short<R: Abort + AllocGlobal>(rt: &R, turns: &mut Turns, known: usize) -> Option<usize> {
     turns.release();
-    let mut bench = bench(alloc)?;
-    iterate_over(alloc, &mut bench, turns, known)
+    let mut bench = RegexBench::new(rt, Pair::Of(Entry::Snowx).regex(rt, ""));
+    iterate_over(rt, &mut bench, turns, known)
 }
 
 /// The items before a refusal are those that are owed, and behind it there is none. With memory the same cache serves
 /// all.
-fn iterate_over(
-    alloc: Global,
+fn iterate_over<R: Abort + AllocGlobal>(
+    rt: &R,
     bench: &mut RegexBench,
     turns: &mut Turns,
     known: usize,
-) -> Result<Option<usize>, Fail> {
-    learn(bench, known)?;
-    turns.lend(alloc)?;
+) -> Option<usize> {
+    learn(rt, bench, known);
+    turns.lend(rt);
     let items = bench.first_items(Input::new(HAYSTACK));
     let refused = items
         .iter()
         .position(|item| *item == Some(Err(SearchError::OutOfMemory)));
-    check(items == owed(refused))?;
+    check(rt, items == owed(refused));
     turns.release();
-    check(bench.first_items(Input::new(HAYSTACK)) == owed(None))?;
-    Ok(refused)
+    check(rt, bench.first_items(Input::new(HAYSTACK)) == owed(None));
+    refused
 }
 
 /// Iterates turn by turn until nothing is refused, and looks whether this call was, and none before it.
-fn refuse_from(alloc: Global, turns: &mut Turns, call: usize, known: usize) -> Result<(), Fail> {
+fn refuse_from<R: Abort + AllocGlobal>(rt: &R, turns: &mut Turns, call: usize, known: usize) {
     let mut is_refused = false;
     for _ in 0..4096u32 {
-        let Some(at) = iterate_short(alloc, turns, known)? else {
-            return check(is_refused);
+        let Some(at) = iterate_short(rt, turns, known) else {
+            return check(rt, is_refused);
         };
-        check(at >= call)?;
+        check(rt, at >= call);
         is_refused = is_refused || at == call;
         turns.lend_more();
     }
-    Err(Fail::from("each turn was refused"))
+    check(rt, false);
 }
 
 /// Memory is wanting for the first item, for each later one, and for the end.
 #[test]
-fn iterates_after_each_refused_growth(rt: HostRuntime) -> Result<(), Fail> {
-    let mut turns = Turns::new(rt.alloc())?;
+fn iterates_after_each_refused_growth(rt: HostRuntime) {
+    let mut turns = Turns::new(&rt);
     for (call, known) in STARTS.iter().copied().enumerate() {
         turns.lend_from(16);
-        refuse_from(rt.alloc(), &mut turns, call, known)?;
+        refuse_from(&rt, &mut turns, call, known);
     }
-    Ok(())
 }

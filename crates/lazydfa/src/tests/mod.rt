@@ -6,7 +6,6 @@ use std::alloc::Global;
 use std::fmt::Debug;
 use std::io::{Read, Write};
 use std::process::Abort;
-use std::test::Fail;
 use std::{io, mem};
 
 mod ample;
@@ -20,7 +19,6 @@ mod copies;
 mod dfa;
 mod dice;
 mod exits;
-mod forward;
 mod item_turns;
 mod long_runs;
 mod memory;
@@ -35,13 +33,9 @@ mod regex_bench;
 mod regex_memory;
 mod regex_turns;
 mod replay_turns;
-mod replays;
-mod reverse;
-mod rows;
 mod scripts;
 mod sets;
 mod span_paths;
-mod spans;
 mod start_turns;
 mod states;
 mod steps;
@@ -137,6 +131,11 @@ fn same_text<R: Abort>(rt: &R, found: &str, want: &str, of: &str) {
     assert_eq!(rt; found, want, "{of}");
 }
 
+/// Stops the test unless this holds.
+fn check<R: Abort>(rt: &R, is_right: bool) {
+    assert!(rt; is_right, "another answer");
+}
+
 /// Takes all memory that is left, and keeps it: from here on each growth is refused.
 fn exhaust(alloc: Global) {
     let mut size = 1usize << 46;
@@ -152,25 +151,19 @@ fn exhaust(alloc: Global) {
 }
 
 /// What a script prints, and its fault.
-fn printed(alloc: Global, script: &str) -> Result<(String, Option<RunError>), Fail> {
-    let mut output = Sink::new(alloc);
+fn printed<R: Abort + AllocGlobal>(rt: &R, script: &str) -> (String, Option<RunError>) {
+    let mut output = Sink::new(rt.alloc());
     output.most = 1 << 16;
     let mut input = Source::new(script.as_bytes());
     input.most = 1 << 16;
-    let result = run(alloc, &mut input, &mut output);
-    let text = String::from_utf8(output.bytes)?;
-    Ok((text, result.err()))
+    let result = run(rt.alloc(), &mut input, &mut output);
+    let text = String::from_utf8(output.bytes).expect(rt, "a text");
+    (text, result.err())
 }
 
 /// Runs a script that has no fault.
-fn prints<R: Abort + AllocGlobal>(
-    rt: &R,
-    script: &str,
-    want: &str,
-    shows: &str,
-) -> Result<(), Fail> {
-    let (text, fault) = printed(rt.alloc(), script)?;
+fn prints<R: Abort + AllocGlobal>(rt: &R, script: &str, want: &str, shows: &str) {
+    let (text, fault) = printed(rt, script);
     same_of(rt, &fault, &None, &shows);
     same_text(rt, text.as_str(), want, shows);
-    Ok(())
 }

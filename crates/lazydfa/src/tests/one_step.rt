@@ -4,13 +4,11 @@
 use super::bench::Bench;
 use super::same_of;
 use super::span_paths::MODES;
-use super::tells::{Automaton, built};
+use super::tells::{Automaton, lazy};
 use crate::catalogue::Entry;
 use regex_automata::hybrid::{SearchError, StepError};
 use regex_automata::util::search::{Anchored, HalfMatch, Input, MatchError};
-use std::alloc::{AllocError, Global};
 use std::process::Abort;
-use std::test::Fail;
 
 /// A refused step, at an offset.
 fn refused(error: StepError, at: usize) -> SearchError {
@@ -241,15 +239,15 @@ struct Pair {
 }
 
 impl Pair {
-    fn new(alloc: Global, automaton: Automaton, options: &str) -> Result<Pair, Fail> {
-        let search = Bench::new(built(alloc, automaton, options)??)?;
-        let steps = Bench::new(built(alloc, automaton, options)??)?;
-        Ok(Pair { search, steps })
+    fn new<R: Abort + AllocGlobal>(rt: &R, automaton: Automaton, options: &str) -> Pair {
+        let search = Bench::new(rt, lazy(rt, automaton, options));
+        let steps = Bench::new(rt, lazy(rt, automaton, options));
+        Pair { search, steps }
     }
 
-    fn reset(&mut self) -> Result<(), AllocError> {
-        self.search.reset()?;
-        self.steps.reset()
+    fn reset<R: Abort>(&mut self, rt: &R) {
+        self.search.reset().expect(rt, "a reset");
+        self.steps.reset().expect(rt, "a reset");
     }
 
     fn compare<R: Abort>(&mut self, rt: &R, input: &Input<'_>, of: &(Entry, Run)) {
@@ -261,92 +259,67 @@ impl Pair {
     }
 
     /// A search behind what its history has.
-    fn compare_behind<R: Abort>(
-        &mut self,
-        rt: &R,
-        input: &Input<'_>,
-        of: &(Entry, Run),
-    ) -> Result<(), AllocError> {
+    fn compare_behind<R: Abort>(&mut self, rt: &R, input: &Input<'_>, of: &(Entry, Run)) {
         let (_, (_, history)) = of;
         if *history == History::Fresh {
-            self.reset()?;
+            self.reset(rt);
             self.compare(rt, input, of);
         }
         self.compare(rt, input, of);
-        Ok(())
     }
 
     /// Each span of a haystack.
-    fn compare_spans<R: Abort>(
-        &mut self,
-        rt: &R,
-        haystack: &[u8],
-        of: &(Entry, Run),
-    ) -> Result<(), AllocError> {
+    fn compare_spans<R: Abort>(&mut self, rt: &R, haystack: &[u8], of: &(Entry, Run)) {
         let (_, (_, history)) = of;
         if *history == History::Haystack {
-            self.reset()?;
+            self.reset(rt);
         }
         for end in 0..haystack.len() + 1 {
             for start in 0..end + 1 {
                 let input = Input::new(haystack).range(start..end);
-                self.compare_behind(rt, &input, of)?;
+                self.compare_behind(rt, &input, of);
             }
         }
-        Ok(())
     }
 
     /// Each haystack of two letters.
-    fn compare_haystacks<R: Abort>(
-        &mut self,
-        rt: &R,
-        letters: [u8; 2],
-        of: &(Entry, Run),
-    ) -> Result<(), AllocError> {
+    fn compare_haystacks<R: Abort>(&mut self, rt: &R, letters: [u8; 2], of: &(Entry, Run)) {
         let mut count = 1usize;
         for length in 0..LONGEST + 1 {
             for number in 0..count {
                 let haystack = spell(number, letters);
-                self.compare_spans(rt, &haystack[..length], of)?;
+                self.compare_spans(rt, &haystack[..length], of);
             }
             count = count.saturating_mul(2);
         }
-        Ok(())
     }
 
     /// Each long haystack that has the second letter from a place to a place, and the first around it.
-    fn compare_long<R: Abort>(
-        &mut self,
-        rt: &R,
-        letters: [u8; 2],
-        of: &(Entry, Run),
-    ) -> Result<(), AllocError> {
-        let [around, within] = letters;
+    fn compare_long<R: Abort>(&mut self, rt: &R, letters: [u8; 2], of: &(Entry, Run)) {
         for end in 0..LONG + 1 {
             for start in 0..end + 1 {
-                let mut haystack = [around; LONG];
-                for place in start..end {
-                    haystack[place] = within;
-                }
-                self.compare_modes(rt, &haystack, of)?;
+                let haystack = long(letters, start, end);
+                self.compare_modes(rt, &haystack, of);
             }
         }
-        Ok(())
     }
 
     /// The whole of a haystack in each mode.
-    fn compare_modes<R: Abort>(
-        &mut self,
-        rt: &R,
-        haystack: &[u8],
-        of: &(Entry, Run),
-    ) -> Result<(), AllocError> {
+    fn compare_modes<R: Abort>(&mut self, rt: &R, haystack: &[u8], of: &(Entry, Run)) {
         for (mode, earliest) in MODES {
             let input = Input::new(haystack).anchored(mode).earliest(earliest);
-            self.compare_behind(rt, &input, of)?;
+            self.compare_behind(rt, &input, of);
         }
-        Ok(())
     }
+}
+
+/// The second letter from a place to a place, and the first around it.
+fn long([around, within]: [u8; 2], start: usize, end: usize) -> [u8; LONG] {
+    let mut haystack = [around; LONG];
+    for place in start..end.min(LONG) {
+        haystack[place] = within;
+    }
+    haystack
 }
 
 /// The letters that the binary digits of a number choose, the lowest first.
@@ -434,31 +407,21 @@ const KINDS: &[Run] = &[
 ];
 
 /// Which haystacks are searched.
-#[derive(Clone, Copy, PartialEq, Eq)]
+#[derive(Clone, Copy)]
 enum Texts {
     Short,
     Long,
 }
 
-/// Each entry, by its automaton of one direction.
-fn compare_all<R: Abort + AllocGlobal>(
-    rt: &R,
-    is_reverse: bool,
-    entries: &[Letters],
-    texts: Texts,
-    runs: &[Run],
-) -> Result<(), Fail> {
+/// Each entry, by its automata of both directions.
+fn compare_all<R: Abort + AllocGlobal>(rt: &R, entries: &[Letters], texts: Texts, runs: &[Run]) {
     for (entry, letters) in entries {
-        let automaton = if is_reverse {
-            Automaton::Reverse(*entry)
-        } else {
-            Automaton::Forward(*entry)
-        };
         for run in runs {
-            compare_entry(rt, automaton, *letters, texts, &(*entry, *run))?;
+            let of = (*entry, *run);
+            compare_entry(rt, Automaton::Forward(*entry), *letters, texts, &of);
+            compare_entry(rt, Automaton::Reverse(*entry), *letters, texts, &of);
         }
     }
-    Ok(())
 }
 
 fn compare_entry<R: Abort + AllocGlobal>(
@@ -467,11 +430,10 @@ fn compare_entry<R: Abort + AllocGlobal>(
     letters: [u8; 2],
     texts: Texts,
     of: &(Entry, Run),
-) -> Result<(), Fail> {
+) {
     let (_, (options, _)) = of;
-    let mut pair = Pair::new(rt.alloc(), automaton, *options)?;
-    compare_texts(rt, &mut pair, letters, texts, of)?;
-    Ok(())
+    let mut pair = Pair::new(rt, automaton, *options);
+    compare_texts(rt, &mut pair, letters, texts, of);
 }
 
 fn compare_texts<R: Abort>(
@@ -480,131 +442,41 @@ fn compare_texts<R: Abort>(
     letters: [u8; 2],
     texts: Texts,
     of: &(Entry, Run),
-) -> Result<(), AllocError> {
-    if texts == Texts::Short {
-        return pair.compare_haystacks(rt, letters, of);
+) {
+    match texts {
+        Texts::Short => pair.compare_haystacks(rt, letters, of),
+        Texts::Long => {
+            let [first, second] = letters;
+            pair.compare_long(rt, letters, of);
+            pair.compare_long(rt, [second, first], of);
+        }
     }
-    let [first, second] = letters;
-    pair.compare_long(rt, letters, of)?;
-    pair.compare_long(rt, [second, first], of)
 }
 
 #[test]
-fn steps_over_a_fresh_cache(rt: HostRuntime) -> Result<(), Fail> {
-    compare_all(&rt, false, PLAIN, Texts::Short, AMPLE)
+fn steps_over_a_fresh_cache(rt: HostRuntime) {
+    compare_all(&rt, PLAIN, Texts::Short, AMPLE);
+    compare_all(&rt, LOOKING, Texts::Short, AMPLE);
+    compare_all(&rt, SPLITTING, Texts::Short, AMPLE);
 }
 
 #[test]
-fn steps_back_over_a_fresh_cache(rt: HostRuntime) -> Result<(), Fail> {
-    compare_all(&rt, true, PLAIN, Texts::Short, AMPLE)
+fn steps_over_a_fresh_tight_cache(rt: HostRuntime) {
+    compare_all(&rt, PLAIN, Texts::Short, TIGHT);
+    compare_all(&rt, LOOKING, Texts::Short, TIGHT);
+    compare_all(&rt, SPLITTING, Texts::Short, TIGHT);
 }
 
 #[test]
-fn steps_over_a_fresh_cache_with_looks(rt: HostRuntime) -> Result<(), Fail> {
-    compare_all(&rt, false, LOOKING, Texts::Short, AMPLE)
+fn steps_over_a_used_cache(rt: HostRuntime) {
+    compare_all(&rt, PLAIN, Texts::Short, USED);
+    compare_all(&rt, LOOKING, Texts::Short, USED);
+    compare_all(&rt, SPLITTING, Texts::Short, USED);
 }
 
 #[test]
-fn steps_back_over_a_fresh_cache_with_looks(rt: HostRuntime) -> Result<(), Fail> {
-    compare_all(&rt, true, LOOKING, Texts::Short, AMPLE)
-}
-
-#[test]
-fn steps_over_a_fresh_cache_around_characters(rt: HostRuntime) -> Result<(), Fail> {
-    compare_all(&rt, false, SPLITTING, Texts::Short, AMPLE)
-}
-
-#[test]
-fn steps_back_over_a_fresh_cache_around_characters(rt: HostRuntime) -> Result<(), Fail> {
-    compare_all(&rt, true, SPLITTING, Texts::Short, AMPLE)
-}
-
-#[test]
-fn steps_over_a_fresh_tight_cache(rt: HostRuntime) -> Result<(), Fail> {
-    compare_all(&rt, false, PLAIN, Texts::Short, TIGHT)
-}
-
-#[test]
-fn steps_back_over_a_fresh_tight_cache(rt: HostRuntime) -> Result<(), Fail> {
-    compare_all(&rt, true, PLAIN, Texts::Short, TIGHT)
-}
-
-#[test]
-fn steps_over_a_fresh_tight_cache_with_looks(rt: HostRuntime) -> Result<(), Fail> {
-    compare_all(&rt, false, LOOKING, Texts::Short, TIGHT)
-}
-
-#[test]
-fn steps_back_over_a_fresh_tight_cache_with_looks(rt: HostRuntime) -> Result<(), Fail> {
-    compare_all(&rt, true, LOOKING, Texts::Short, TIGHT)
-}
-
-#[test]
-fn steps_over_a_fresh_tight_cache_around_characters(rt: HostRuntime) -> Result<(), Fail> {
-    compare_all(&rt, false, SPLITTING, Texts::Short, TIGHT)
-}
-
-#[test]
-fn steps_back_over_a_fresh_tight_cache_around_characters(rt: HostRuntime) -> Result<(), Fail> {
-    compare_all(&rt, true, SPLITTING, Texts::Short, TIGHT)
-}
-
-#[test]
-fn steps_over_a_used_cache(rt: HostRuntime) -> Result<(), Fail> {
-    compare_all(&rt, false, PLAIN, Texts::Short, USED)
-}
-
-#[test]
-fn steps_back_over_a_used_cache(rt: HostRuntime) -> Result<(), Fail> {
-    compare_all(&rt, true, PLAIN, Texts::Short, USED)
-}
-
-#[test]
-fn steps_over_a_used_cache_with_looks(rt: HostRuntime) -> Result<(), Fail> {
-    compare_all(&rt, false, LOOKING, Texts::Short, USED)
-}
-
-#[test]
-fn steps_back_over_a_used_cache_with_looks(rt: HostRuntime) -> Result<(), Fail> {
-    compare_all(&rt, true, LOOKING, Texts::Short, USED)
-}
-
-#[test]
-fn steps_over_a_used_cache_around_characters(rt: HostRuntime) -> Result<(), Fail> {
-    compare_all(&rt, false, SPLITTING, Texts::Short, USED)
-}
-
-#[test]
-fn steps_back_over_a_used_cache_around_characters(rt: HostRuntime) -> Result<(), Fail> {
-    compare_all(&rt, true, SPLITTING, Texts::Short, USED)
-}
-
-#[test]
-fn steps_over_long_runs(rt: HostRuntime) -> Result<(), Fail> {
-    compare_all(&rt, false, PLAIN, Texts::Long, KINDS)
-}
-
-#[test]
-fn steps_back_over_long_runs(rt: HostRuntime) -> Result<(), Fail> {
-    compare_all(&rt, true, PLAIN, Texts::Long, KINDS)
-}
-
-#[test]
-fn steps_over_long_runs_with_looks(rt: HostRuntime) -> Result<(), Fail> {
-    compare_all(&rt, false, LOOKING, Texts::Long, KINDS)
-}
-
-#[test]
-fn steps_back_over_long_runs_with_looks(rt: HostRuntime) -> Result<(), Fail> {
-    compare_all(&rt, true, LOOKING, Texts::Long, KINDS)
-}
-
-#[test]
-fn steps_over_long_runs_around_characters(rt: HostRuntime) -> Result<(), Fail> {
-    compare_all(&rt, false, SPLITTING, Texts::Long, KINDS)
-}
-
-#[test]
-fn steps_back_over_long_runs_around_characters(rt: HostRuntime) -> Result<(), Fail> {
-    compare_all(&rt, true, SPLITTING, Texts::Long, KINDS)
+fn steps_over_long_runs(rt: HostRuntime) {
+    compare_all(&rt, PLAIN, Texts::Long, KINDS);
+    compare_all(&rt, LOOKING, Texts::Long, KINDS);
+    compare_all(&rt, SPLITTING, Texts::Long, KINDS);
 }

@@ -3,7 +3,7 @@
 use regex_automata::nfa::thompson::{Flags, NFA, NfaError, State, Transition};
 use regex_automata::util::look::Look;
 use regex_automata::util::primitives::{PatternID, StateID};
-use std::alloc::{AllocError, Global};
+use std::process::Abort;
 
 /// A state. The last number names the state that comes next; of `Accept` it is the pattern.
 #[derive(Clone, Copy)]
@@ -32,55 +32,72 @@ pub struct Plan {
 }
 
 impl Plan {
-    pub fn build(&self, alloc: Global) -> Result<NFA, NfaError> {
-        let states = states_of(alloc, self.states)?;
-        let patterns = ids_of(alloc, self.patterns)?;
+    /// The automaton, if the door lets it in.
+    pub fn door<R: Abort + AllocGlobal>(&self, rt: &R) -> Result<NFA, NfaError> {
+        let patterns = ids_of(rt, self.patterns);
+        let states = states_of(rt, self.states);
         let (anchored, unanchored) = self.starts;
         let flags = Flags::default();
-        NFA::from_states(alloc, states, id(anchored), id(unanchored), patterns, flags)
+        NFA::from_states(
+            rt.alloc(),
+            states,
+            id(anchored),
+            id(unanchored),
+            patterns,
+            flags,
+        )
+    }
+
+    pub fn build<R: Abort + AllocGlobal>(&self, rt: &R) -> NFA {
+        self.door(rt).expect(rt, "an automaton")
     }
 }
 
 /// A state, and behind it nineteen bytes `a` to the one match. All starts are at the first.
-pub fn chain(alloc: Global, first: Shape) -> Result<NFA, NfaError> {
-    let states = chained(alloc, first)?;
-    let starts = ids_of(alloc, &[0])?;
-    NFA::from_states(alloc, states, id(0), id(0), starts, Flags::default())
+pub fn chain<R: Abort + AllocGlobal>(rt: &R, first: Shape) -> NFA {
+    let starts = ids_of(rt, &[0]);
+    let states = chained(rt, first);
+    let flags = Flags::default();
+    NFA::from_states(rt.alloc(), states, id(0), id(0), starts, flags).expect(rt, "a chain")
 }
 
-fn chained(alloc: Global, first: Shape) -> Result<Vec<State>, AllocError> {
-    let mut states = Vec::with_capacity(alloc, 21)?;
-    states.push(state_of(alloc, first)?)?;
+fn chained<R: Abort + AllocGlobal>(rt: &R, first: Shape) -> Vec<State> {
+    let mut states = Vec::new(rt.alloc());
+    push(rt, &mut states, first);
     for next in 2..21u8 {
-        states.push(state_of(alloc, Shape::Range(b'a', b'a', next))?)?;
+        push(rt, &mut states, Shape::Range(b'a', b'a', next));
     }
-    states.push(state_of(alloc, Shape::Accept(0))?)?;
-    Ok(states)
+    push(rt, &mut states, Shape::Accept(0));
+    states
 }
 
-fn states_of(alloc: Global, shapes: &[Shape]) -> Result<Vec<State>, AllocError> {
-    let mut states = Vec::with_capacity(alloc, shapes.len())?;
+fn states_of<R: Abort + AllocGlobal>(rt: &R, shapes: &[Shape]) -> Vec<State> {
+    let mut states = Vec::new(rt.alloc());
     for shape in shapes {
-        states.push(state_of(alloc, *shape)?)?;
+        push(rt, &mut states, *shape);
     }
-    Ok(states)
+    states
 }
 
-fn state_of(alloc: Global, shape: Shape) -> Result<State, AllocError> {
-    Ok(match shape {
+fn push<R: Abort + AllocGlobal>(rt: &R, states: &mut Vec<State>, shape: Shape) {
+    states.push(state_of(rt, shape)).expect(rt, "memory");
+}
+
+fn state_of<R: Abort + AllocGlobal>(rt: &R, shape: Shape) -> State {
+    match shape {
         Shape::Range(lo, hi, next) => State::ByteRange {
             lo,
             hi,
             next: id(next),
         },
-        Shape::Sparse(ranges) => State::Sparse(transitions(alloc, ranges)?),
+        Shape::Sparse(ranges) => State::Sparse(transitions(rt, ranges)),
         Shape::Dense(bytes) => State::Dense(targets(bytes)),
         Shape::Either(alt1, alt2) => State::BinaryUnion {
             alt1: id(alt1),
             alt2: id(alt2),
         },
         Shape::Union => State::Union {
-            alternates: Vec::new(alloc),
+            alternates: Vec::new(rt.alloc()),
         },
         Shape::Assert(look, next) => State::Look {
             look,
@@ -95,32 +112,36 @@ fn state_of(alloc: Global, shape: Shape) -> Result<State, AllocError> {
         Shape::Accept(pattern) => State::Match {
             pattern: pattern_id(pattern),
         },
-    })
+    }
 }
 
-fn transitions(alloc: Global, ranges: &[(u8, u8, u8)]) -> Result<Vec<Transition>, AllocError> {
-    let mut transitions = Vec::with_capacity(alloc, ranges.len())?;
-    for (lo, hi, next) in ranges.iter().copied() {
+fn transitions<R: Abort + AllocGlobal>(rt: &R, ranges: &[(u8, u8, u8)]) -> Vec<Transition> {
+    let mut transitions = Vec::new(rt.alloc());
+    for row in ranges {
+        let (lo, hi, next) = *row;
         let next = id(next);
-        transitions.push(Transition { lo, hi, next })?;
+        transitions
+            .push(Transition { lo, hi, next })
+            .expect(rt, "memory");
     }
-    Ok(transitions)
+    transitions
 }
 
 fn targets(bytes: &[(u8, u8)]) -> [StateID; 256] {
     let mut targets = [StateID::ZERO; 256];
-    for (byte, next) in bytes.iter().copied() {
+    for row in bytes {
+        let (byte, next) = *row;
         targets[usize::from(byte)] = id(next);
     }
     targets
 }
 
-pub fn ids_of(alloc: Global, numbers: &[u8]) -> Result<Vec<StateID>, AllocError> {
-    let mut ids = Vec::with_capacity(alloc, numbers.len())?;
+pub fn ids_of<R: Abort + AllocGlobal>(rt: &R, numbers: &[u8]) -> Vec<StateID> {
+    let mut ids = Vec::new(rt.alloc());
     for number in numbers {
-        ids.push(id(*number))?;
+        ids.push(id(*number)).expect(rt, "memory");
     }
-    Ok(ids)
+    ids
 }
 
 pub fn id(number: u8) -> StateID {

@@ -12,9 +12,7 @@ use regex_automata::nfa::thompson::{Flags, NFA, State, Transition};
 use regex_automata::util::look::Look;
 use regex_automata::util::primitives::{PatternID, StateID};
 use regex_automata::util::search::{HalfMatch, Input, MatchKind};
-use std::alloc::{AllocError, Global};
 use std::process::Abort;
-use std::test::Fail;
 
 /// Three bytes, in order, the looks of automata over them, and what these say of themselves.
 #[derive(Clone, Copy)]
@@ -25,41 +23,20 @@ struct Alphabet {
     line_terminator: u8,
 }
 
+#[rattlefmt::skip]
 const LOOKS: &[Look] = &[
-    Look::Start,
-    Look::End,
-    Look::StartLF,
-    Look::EndLF,
-    Look::StartCRLF,
-    Look::EndCRLF,
-    Look::WordAscii,
-    Look::WordAsciiNegate,
-    Look::WordUnicode,
-    Look::WordUnicodeNegate,
-    Look::WordStartAscii,
-    Look::WordEndAscii,
-    Look::WordStartUnicode,
-    Look::WordEndUnicode,
-    Look::WordStartHalfAscii,
-    Look::WordEndHalfAscii,
-    Look::WordStartHalfUnicode,
-    Look::WordEndHalfUnicode,
+    Look::Start, Look::End, Look::StartLF, Look::EndLF, Look::StartCRLF, Look::EndCRLF, Look::WordAscii,
+        Look::WordAsciiNegate, Look::WordUnicode, Look::WordUnicodeNegate, Look::WordStartAscii, Look::WordEndAscii,
+        Look::WordStartUnicode, Look::WordEndUnicode, Look::WordStartHalfAscii, Look::WordEndHalfAscii,
+        Look::WordStartHalfUnicode, Look::WordEndHalfUnicode,
 ];
 
 /// Those that no byte beside ASCII is refused for.
+#[rattlefmt::skip]
 const ASCII_LOOKS: &[Look] = &[
-    Look::Start,
-    Look::End,
-    Look::StartLF,
-    Look::EndLF,
-    Look::StartCRLF,
-    Look::EndCRLF,
-    Look::WordAscii,
-    Look::WordAsciiNegate,
-    Look::WordStartAscii,
-    Look::WordEndAscii,
-    Look::WordStartHalfAscii,
-    Look::WordEndHalfAscii,
+    Look::Start, Look::End, Look::StartLF, Look::EndLF, Look::StartCRLF, Look::EndCRLF, Look::WordAscii,
+        Look::WordAsciiNegate, Look::WordStartAscii, Look::WordEndAscii, Look::WordStartHalfAscii,
+        Look::WordEndHalfAscii,
 ];
 
 const LINES: Alphabet = Alphabet {
@@ -152,17 +129,17 @@ impl Maker {
         self.roll(4) == 0
     }
 
-    fn state(&mut self, alloc: Global) -> Result<State, AllocError> {
-        Ok(match self.roll(16) {
+    fn state<R: Abort + AllocGlobal>(&mut self, rt: &R) -> State {
+        match self.roll(16) {
             0..=4 => self.range(),
-            5..=6 => State::Sparse(self.transitions(alloc)?),
+            5..=6 => State::Sparse(self.transitions(rt)),
             7 => State::Dense(self.targets()),
             8..=9 => State::Look {
                 look: self.look(),
                 next: self.target(),
             },
             10 => State::Union {
-                alternates: self.alternates(alloc)?,
+                alternates: self.alternates(rt),
             },
             11..=12 => State::BinaryUnion {
                 alt1: self.target(),
@@ -178,7 +155,7 @@ impl Maker {
             _ => State::Match {
                 pattern: self.pattern(),
             },
-        })
+        }
     }
 
     fn range(&mut self) -> State {
@@ -191,16 +168,18 @@ impl Maker {
     }
 
     /// One for each letter, the first and the last with all bytes beside it, and rarely one is left out.
-    fn transitions(&mut self, alloc: Global) -> Result<Vec<Transition>, AllocError> {
+    fn transitions<R: Abort + AllocGlobal>(&mut self, rt: &R) -> Vec<Transition> {
         let [first, second, third] = self.alphabet.letters;
-        let mut transitions = Vec::with_capacity(alloc, 3)?;
+        let mut transitions = Vec::new(rt.alloc());
         for (lo, hi) in [(0, first), (second, second), (third, 255)] {
             let next = self.target();
             if !self.is_rare() {
-                transitions.push(Transition { lo, hi, next })?;
+                transitions
+                    .push(Transition { lo, hi, next })
+                    .expect(rt, "memory");
             }
         }
-        Ok(transitions)
+        transitions
     }
 
     fn targets(&mut self) -> [StateID; 256] {
@@ -211,67 +190,67 @@ impl Maker {
         targets
     }
 
-    fn alternates(&mut self, alloc: Global) -> Result<Vec<StateID>, AllocError> {
+    fn alternates<R: Abort + AllocGlobal>(&mut self, rt: &R) -> Vec<StateID> {
         let count = self.roll(4);
-        self.ids(alloc, count)
+        self.ids(rt, count)
     }
 
-    fn ids(&mut self, alloc: Global, count: u8) -> Result<Vec<StateID>, AllocError> {
-        let mut ids = Vec::new(alloc);
+    fn ids<R: Abort + AllocGlobal>(&mut self, rt: &R, count: u8) -> Vec<StateID> {
+        let mut ids = Vec::new(rt.alloc());
         for _ in 0..count {
-            ids.push(self.target())?;
+            ids.push(self.target()).expect(rt, "memory");
         }
-        Ok(ids)
+        ids
     }
 
     /// The last is a match.
-    fn states(&mut self, alloc: Global) -> Result<Vec<State>, AllocError> {
-        let mut states = Vec::with_capacity(alloc, 8)?;
+    fn states<R: Abort + AllocGlobal>(&mut self, rt: &R) -> Vec<State> {
+        let mut states = Vec::new(rt.alloc());
         for _ in 1..self.states {
-            states.push(self.state(alloc)?)?;
+            states.push(self.state(rt)).expect(rt, "memory");
         }
         let pattern = self.pattern();
-        states.push(State::Match { pattern })?;
-        Ok(states)
+        states.push(State::Match { pattern }).expect(rt, "memory");
+        states
     }
 
     /// Where searches start that aren't anchored: at the anchored start, anywhere, or where bytes are skipped.
-    fn unanchored(
+    fn unanchored<R: Abort>(
         &mut self,
+        rt: &R,
         anchored: StateID,
         states: &mut Vec<State>,
-    ) -> Result<StateID, AllocError> {
-        let start = id(self.states);
+    ) -> StateID {
         match self.roll(4) {
-            0 => Ok(anchored),
-            1 => Ok(self.target()),
+            0 => anchored,
+            1 => self.target(),
             _ => {
-                let skip = id(self.states.saturating_add(1));
-                states.push(State::BinaryUnion {
-                    alt1: anchored,
-                    alt2: skip,
-                })?;
-                states.push(State::ByteRange {
-                    lo: 0,
-                    hi: 255,
-                    next: start,
-                })?;
-                Ok(start)
+                let (start, skip) = (id(self.states), id(self.states.saturating_add(1)));
+                let (alt1, alt2) = (anchored, skip);
+                let either = State::BinaryUnion { alt1, alt2 };
+                states.push(either).expect(rt, "memory");
+                let (lo, hi, next) = (0, 255, start);
+                let any = State::ByteRange { lo, hi, next };
+                states.push(any).expect(rt, "memory");
+                start
             }
         }
     }
 
-    fn nfa(&mut self, alloc: Global, is_reverse: bool) -> Result<NFA, Fail> {
-        let mut states = self.states(alloc)?;
+    fn nfa<R: Abort + AllocGlobal>(&mut self, rt: &R, is_reverse: bool) -> NFA {
+        let mut states = self.states(rt);
         let anchored = self.target();
-        let patterns = self.ids(alloc, self.patterns)?;
-        let unanchored = self.unanchored(anchored, &mut states)?;
+        let patterns = self.ids(rt, self.patterns);
+        let unanchored = self.unanchored(rt, anchored, &mut states);
         let flags = Flags {
             utf8: self.alphabet.utf8,
             reverse: is_reverse,
             line_terminator: self.alphabet.line_terminator,
         };
-        Ok(NFA::from_states(alloc, states, anchored, unanchored, patterns, flags)?)
+        NFA::from_states(rt.alloc(), states, anchored, unanchored, patterns, flags).expect(
+            rt,
+            "an automaton",
+        )
     }
 }
 
@@ -286,12 +265,12 @@ const HAYSTACKS: [&[usize]; 7] = [
     &[0, 1, 1, 2, 0, 2],
 ];
 
-fn spell(alloc: Global, letters: [u8; 3], places: &[usize]) -> Result<Vec<u8>, AllocError> {
-    let mut haystack = Vec::with_capacity(alloc, places.len())?;
+fn spell<R: Abort + AllocGlobal>(rt: &R, letters: [u8; 3], places: &[usize]) -> Vec<u8> {
+    let mut haystack = Vec::new(rt.alloc());
     for place in places {
-        haystack.push(letters[(*place).min(2)])?;
+        haystack.push(letters[(*place).min(2)]).expect(rt, "memory");
     }
-    Ok(haystack)
+    haystack
 }
 
 /// How many searches have an answer, the sum of their ends, and how many pairs walks have.
@@ -321,7 +300,7 @@ fn compare_haystack<R: Abort + AllocGlobal>(
     listed: &mut Listed,
     haystack: &[u8],
     tally: &mut Tally,
-) -> Result<(), Fail> {
+) {
     for (start, behind) in [(0usize, 0usize), (1, 0), (0, 1), (1, 1)] {
         let end = haystack.len().saturating_sub(behind);
         let whole = Input::new(haystack);
@@ -331,11 +310,10 @@ fn compare_haystack<R: Abort + AllocGlobal>(
                     .range(start..end)
                     .anchored(mode)
                     .earliest(earliest);
-                compare(rt, listed, &input, tally)?;
+                compare(rt, listed, &input, tally);
             }
         }
     }
-    Ok(())
 }
 
 /// Searches, walks and sets over caches of the least and of an ample capacity.
@@ -344,50 +322,32 @@ fn compare<R: Abort + AllocGlobal>(
     listed: &mut Listed,
     input: &Input<'_>,
     tally: &mut Tally,
-) -> Result<(), Fail> {
-    let nfa = listed.ample.dfa().get_nfa();
-    let kind = listed.ample.dfa().get_config().get_match_kind();
-    let is_look_acyclic = nfa.is_look_acyclic();
-    let want = half(nfa, kind, input)?;
-    tally.count_answer(&want);
-    if is_look_acyclic {
-        compare_halves(rt, listed, input, &want)?;
-        listed.compare(rt, input)?;
+) {
+    if listed.ample.dfa().get_nfa().is_look_acyclic() {
+        tally.count_answer(&listed.compare_halves(rt, input));
+        listed.compare(rt, input);
     } else {
-        compare_ends(rt, listed, input, &want)?;
-        compare_members(rt, listed, input)?;
+        tally.count_answer(&compare_ends(rt, listed, input));
+        compare_members(rt, listed, input);
     }
     tally.count_pairs(listed.want.len());
-    Ok(())
 }
 
-fn compare_halves<R: Abort>(
+/// What is said of ends where a cycle of edges that read nothing passes a look. It tells the answer by the paths.
+fn compare_ends<R: Abort + AllocGlobal>(
     rt: &R,
     listed: &mut Listed,
     input: &Input<'_>,
-    want: &Option<HalfMatch>,
-) -> Result<(), Fail> {
+) -> Option<HalfMatch> {
+    let dfa = listed.ample.dfa();
+    let kind = dfa.get_config().get_match_kind();
+    let want = half(rt, dfa.get_nfa(), kind, input);
     let of = (listed.name, input);
-    let found = listed.tight.find(input)?;
-    same_of(rt, &found, want, &of);
-    let found = listed.ample.find(input)?;
-    same_of(rt, &found, want, &of);
-    Ok(())
-}
-
-/// What is said of ends where a cycle of edges that read nothing passes a look.
-fn compare_ends<R: Abort>(
-    rt: &R,
-    listed: &mut Listed,
-    input: &Input<'_>,
-    want: &Option<HalfMatch>,
-) -> Result<(), Fail> {
-    let of = (listed.name, input);
-    let found = listed.tight.find(input)?;
-    same_end(rt, listed.tight.dfa(), &of, &found, want);
-    let found = listed.ample.find(input)?;
-    same_end(rt, listed.ample.dfa(), &of, &found, want);
-    Ok(())
+    let found = listed.tight.find(input).expect(rt, "a search");
+    same_end(rt, listed.tight.dfa(), &of, &found, &want);
+    let found = listed.ample.find(input).expect(rt, "a search");
+    same_end(rt, listed.ample.dfa(), &of, &found, &want);
+    want
 }
 
 /// The nearest end, the farthest end, or whether there is a match.
@@ -415,17 +375,16 @@ fn end_of(half: &Option<HalfMatch>) -> Option<usize> {
 }
 
 /// What is said of walks there: under kind all, the pairs of all paths.
-fn compare_members<R: Abort>(rt: &R, listed: &mut Listed, input: &Input<'_>) -> Result<(), Fail> {
+fn compare_members<R: Abort + AllocGlobal>(rt: &R, listed: &mut Listed, input: &Input<'_>) {
     let dfa = listed.ample.dfa();
     let kind = dfa.get_config().get_match_kind();
-    list(dfa.get_nfa(), kind, input, &mut listed.want)?;
+    list(rt, dfa.get_nfa(), kind, input, &mut listed.want);
     if kind == MatchKind::All {
-        listed.tight.walk(input, &mut listed.found)?;
+        listed.tight.walk(rt, input, &mut listed.found);
         same_members(rt, listed, input);
-        listed.ample.walk(input, &mut listed.found)?;
+        listed.ample.walk(rt, input, &mut listed.found);
         same_members(rt, listed, input);
     }
-    Ok(())
 }
 
 /// The same pairs, whatever their order.
@@ -438,12 +397,7 @@ fn same_members<R: Abort>(rt: &R, listed: &Listed, input: &Input<'_>) {
 }
 
 /// Forty automata from this number on, in both directions and of both kinds, and what is counted of their paths.
-fn agree<R: Abort + AllocGlobal>(
-    rt: &R,
-    first: u8,
-    alphabet: Alphabet,
-    counted: Tally,
-) -> Result<(), Fail> {
+fn agree<R: Abort + AllocGlobal>(rt: &R, first: u8, alphabet: Alphabet, counted: Tally) {
     let mut tally = Tally {
         answers: 0,
         ends: 0,
@@ -452,76 +406,82 @@ fn agree<R: Abort + AllocGlobal>(
     for number in first..first.saturating_add(40) {
         for kind in [MatchKind::LeftmostFirst, MatchKind::All] {
             for is_reverse in [false, true] {
-                let nfa = Maker::new(number, alphabet).nfa(rt.alloc(), is_reverse)?;
-                compare_all(rt, nfa, (number, kind), alphabet.letters, &mut tally)?;
+                compare_all(rt, (number, kind, is_reverse), alphabet, &mut tally);
             }
         }
     }
     same_of(rt, &tally, &counted, &alphabet.letters);
-    Ok(())
 }
 
 fn compare_all<R: Abort + AllocGlobal>(
     rt: &R,
-    nfa: NFA,
-    (number, kind): (u8, MatchKind),
+    (number, kind, is_reverse): (u8, MatchKind, bool),
+    alphabet: Alphabet,
+    tally: &mut Tally,
+) {
+    let nfa = Maker::new(number, alphabet).nfa(rt, is_reverse);
+    let mut listed = prepare(rt, Name::Numbered(number), nfa, kind);
+    compare_haystacks(rt, &mut listed, alphabet.letters, tally);
+}
+
+fn compare_haystacks<R: Abort + AllocGlobal>(
+    rt: &R,
+    listed: &mut Listed,
     letters: [u8; 3],
     tally: &mut Tally,
-) -> Result<(), Fail> {
-    let mut listed = prepare(rt.alloc(), Name::Numbered(number), nfa, kind)?;
+) {
     for places in HAYSTACKS {
-        let haystack = spell(rt.alloc(), letters, places)?;
-        compare_haystack(rt, &mut listed, haystack.as_slice(), tally)?;
+        let haystack = spell(rt, letters, places);
+        compare_haystack(rt, listed, haystack.as_slice(), tally);
     }
-    Ok(())
 }
 
 #[test]
-fn automata_over_lines_find_their_paths(rt: HostRuntime) -> Result<(), Fail> {
+fn automata_over_lines_find_their_paths(rt: HostRuntime) {
     let counted = Tally {
         answers: 10824,
         ends: 18494,
         pairs: 13376,
     };
-    agree(&rt, 0, LINES, counted)
+    agree(&rt, 0, LINES, counted);
 }
 
 #[test]
-fn automata_over_crlf_find_their_paths(rt: HostRuntime) -> Result<(), Fail> {
+fn automata_over_crlf_find_their_paths(rt: HostRuntime) {
     let counted = Tally {
         answers: 9856,
         ends: 17562,
         pairs: 11772,
     };
-    agree(&rt, 40, CRLF, counted)
+    agree(&rt, 40, CRLF, counted);
 }
 
 #[test]
-fn automata_over_other_lines_find_their_paths(rt: HostRuntime) -> Result<(), Fail> {
+fn automata_over_other_lines_find_their_paths(rt: HostRuntime) {
     let counted = Tally {
         answers: 7924,
         ends: 13923,
         pairs: 10254,
     };
-    agree(&rt, 80, SEMICOLONS, counted)
+    agree(&rt, 80, SEMICOLONS, counted);
 }
 
 #[test]
-fn automata_over_words_find_their_paths(rt: HostRuntime) -> Result<(), Fail> {
+fn automata_over_words_find_their_paths(rt: HostRuntime) {
     let counted = Tally {
         answers: 10402,
         ends: 18052,
         pairs: 12852,
     };
-    agree(&rt, 120, WORDS, counted)
+    agree(&rt, 120, WORDS, counted);
 }
 
 #[test]
-fn automata_over_characters_find_their_paths(rt: HostRuntime) -> Result<(), Fail> {
+fn automata_over_characters_find_their_paths(rt: HostRuntime) {
     let counted = Tally {
         answers: 7704,
         ends: 13990,
         pairs: 8634,
     };
-    agree(&rt, 160, CHARACTERS, counted)
+    agree(&rt, 160, CHARACTERS, counted);
 }

@@ -3,9 +3,9 @@
 ghost use Rattle.regex_automata.specs.RegexCaches.{AreCachesOf};
 
 use super::dfa::dates;
-use super::plans::{Plan, Shape};
+use super::plans::{Plan, Shape, pattern_id};
 use super::regex_bench::{Ask, Pair, RegexBench};
-use super::tells::{Automaton, built};
+use super::tells::{Automaton, lazy};
 use super::{same_of, same_text};
 use crate::catalogue::Entry;
 use Ask::{
@@ -13,16 +13,13 @@ use Ask::{
     ResetForward, ResetReverse, Reverse,
 };
 use Pair::{Barren, Mixed, Of, Planned};
-use regex_automata::hybrid::dfa::DFA;
 use regex_automata::hybrid::regex::{Builder, Cache, Regex};
 use regex_automata::hybrid::{BuildError, SearchError};
 use regex_automata::util::look::Look;
 use regex_automata::util::primitives::PatternID;
 use regex_automata::util::search::{HalfMatch, Input};
-use std::alloc::Global;
 use std::fmt::Write;
 use std::process::Abort;
-use std::test::Fail;
 
 /// What the row shows, the automata, their options as a script has them, the calls, and what they tell, or why the
 /// regex is refused.
@@ -62,35 +59,18 @@ const PARTS: &[Row] = &[
         "match 0 0..16; gaveup 24; -; -, (1, 36104, 12) (0, 6677, 0)"),
 ];
 
-#[test]
-fn serves_calls_by_both_parts(rt: HostRuntime) -> Result<(), Fail> {
-    tells_all(&rt, PARTS)
-}
-
 /// `a+`.
+#[rattlefmt::skip]
 const RUN: Plan = Plan {
-    states: &[
-        Shape::Range(b'a', b'a', 1),
-        Shape::Either(0, 2),
-        Shape::Accept(0),
-        Shape::Range(0, 255, 4),
-        Shape::Either(0, 3),
-    ],
-    starts: (0, 4),
-    patterns: &[0],
+    states: &[Shape::Range(b'a', b'a', 1), Shape::Either(0, 2), Shape::Accept(0), Shape::Range(0, 255, 4),
+        Shape::Either(0, 3)], starts: (0, 4), patterns: &[0],
 };
 
 /// The same read backward, by an automaton in which a cycle passes a look.
+#[rattlefmt::skip]
 const RUN_BACK_LOOPED: Plan = Plan {
-    states: &[
-        Shape::Either(1, 2),
-        Shape::Assert(Look::WordAsciiNegate, 0),
-        Shape::Range(b'a', b'a', 3),
-        Shape::Either(0, 4),
-        Shape::Accept(0),
-    ],
-    starts: (0, 0),
-    patterns: &[0],
+    states: &[Shape::Either(1, 2), Shape::Assert(Look::WordAsciiNegate, 0), Shape::Range(b'a', b'a', 3),
+        Shape::Either(0, 4), Shape::Accept(0)], starts: (0, 0), patterns: &[0],
 };
 
 #[rattlefmt::skip]
@@ -107,11 +87,6 @@ const STARTS: &[Row] = &[
         "true, (0, 965, 1) (0, 577, 0)"),
 ];
 
-#[test]
-fn searches_back_for_starts(rt: HostRuntime) -> Result<(), Fail> {
-    tells_all(&rt, STARTS)
-}
-
 #[rattlefmt::skip]
 const ENDS: &[Row] = &[
     ("behind the last match", Of(Entry::Runs), "", &[Items("ab 1")], "match 0 0..2; match 1 3..4; -; -"),
@@ -121,11 +96,6 @@ const ENDS: &[Row] = &[
     ("two patterns", Of(Entry::Runs), "", &[Patterns], "2"),
     ("no pattern", Of(Entry::Never), "", &[Patterns, Items("ab")], "0, -; -; -; -"),
 ];
-
-#[test]
-fn ends_for_good(rt: HostRuntime) -> Result<(), Fail> {
-    tells_all(&rt, ENDS)
-}
 
 const UNSUPPORTED: &str =
     "unsupported regex feature for DFAs: cannot build lazy DFAs for regexes with Unicode word boundaries; switch to ASCII word boundaries, or heuristically enable Unicode word boundaries or use a different regex engine";
@@ -145,101 +115,86 @@ const REFUSED: &[Row] = &[
 ];
 
 #[test]
-fn refuses_in_order(rt: HostRuntime) -> Result<(), Fail> {
-    tells_all(&rt, REFUSED)
-}
-
-fn tells_all<R: Abort + AllocGlobal>(rt: &R, rows: &[Row]) -> Result<(), Fail> {
-    for row in rows {
-        tells(rt, *row)?;
+fn regexes_tell_their_rows(rt: HostRuntime) {
+    for table in [PARTS, STARTS, ENDS, REFUSED] {
+        for row in table {
+            tells(&rt, *row);
+        }
     }
-    Ok(())
 }
 
 /// Makes the calls of a row.
-pub fn tells<R: Abort + AllocGlobal>(rt: &R, row: Row) -> Result<(), Fail> {
+pub fn tells<R: Abort + AllocGlobal>(rt: &R, row: Row) {
     let (shows, pair, options, asks, told) = row;
-    let regex = pair.build(rt.alloc(), options)?;
-    let text = text_of(rt.alloc(), regex, asks)?;
+    let text = text_of(rt, pair.build(rt, options), asks);
     same_text(rt, text.as_str(), told, shows);
-    Ok(())
 }
 
 /// What the calls tell, or why the regex is refused.
-fn text_of(alloc: Global, regex: Result<Regex, BuildError>, asks: &[Ask]) -> Result<String, Fail> {
-    let mut text = String::with_capacity(alloc, 1 << 10)?;
-    tell_into(alloc, regex, asks, &mut text)?;
-    Ok(text)
-}
-
-fn tell_into(
-    alloc: Global,
+fn text_of<R: Abort + AllocGlobal>(
+    rt: &R,
     regex: Result<Regex, BuildError>,
     asks: &[Ask],
-    text: &mut String,
-) -> Result<(), Fail> {
+) -> String {
+    let mut text = String::with_capacity(rt.alloc(), 1 << 10).expect(rt, "memory");
     match regex {
-        Ok(regex) => {
-            let mut bench = RegexBench::new(regex)?;
-            bench.tell_all(alloc, asks, text)
-        }
-        Err(error) => Ok(write!(text, "{error}")?),
+        Ok(regex) => tell_into(rt, regex, asks, &mut text),
+        Err(error) => write!(text, "{error}").expect(rt, "memory"),
     }
+    text
+}
+
+fn tell_into<R: Abort + AllocGlobal>(rt: &R, regex: Regex, asks: &[Ask], text: &mut String) {
+    RegexBench::new(rt, regex).tell_all(rt, asks, text);
 }
 
 /// A cache of one regex serves another once it is reset to it.
 #[test]
-fn resets_to_another(rt: HostRuntime) -> Result<(), Fail> {
+fn resets_to_another(rt: HostRuntime) {
     let mut text = String::new(rt.alloc());
-    reset_from_dates(rt.alloc(), &mut text)?;
+    reset_dates(&rt, &mut text);
     let want = "match 0 0..10, (0, 335, 0) (0, 335, 0), match 0 0..2, (0, 678, 2) (0, 335, 0)";
     same_text(&rt, text.as_str(), want, "a reset");
-    Ok(())
 }
 
-fn reset_from_dates(alloc: Global, text: &mut String) -> Result<(), Fail> {
-    let dates = Of(Entry::Date).build(alloc, "")??;
-    let mut bench = RegexBench::new(dates)?;
-    bench.tell_all(alloc, &[Find(DATES)], text)?;
-    reset_to_ab(alloc, bench, text)
+fn reset_dates<R: Abort + AllocGlobal>(rt: &R, text: &mut String) {
+    let mut bench = RegexBench::new(rt, Of(Entry::Date).regex(rt, ""));
+    bench.tell_all(rt, &[Find(DATES)], text);
+    reset_to_ab(rt, bench, text);
 }
 
-fn reset_to_ab(alloc: Global, bench: RegexBench, text: &mut String) -> Result<(), Fail> {
-    let ab = Of(Entry::Ab).build(alloc, "")??;
-    let mut bench = bench.reset_to(ab)?;
-    bench.tell_all(alloc, &[Counts, Find("ab"), Counts], text)
+fn reset_to_ab<R: Abort + AllocGlobal>(rt: &R, bench: RegexBench, text: &mut String) {
+    let mut bench = bench.reset_to(rt, Of(Entry::Ab).regex(rt, ""));
+    bench.tell_all(rt, &[Counts, Find("ab"), Counts], text);
 }
 
 /// A regex of two lazy automata that are there.
 #[test]
-fn joins_automata(rt: HostRuntime) -> Result<(), Fail> {
-    let forward = built(rt.alloc(), Automaton::Forward(Entry::Words), "")??;
-    let regex = joined(rt.alloc(), forward)?;
-    let text = text_of(rt.alloc(), Ok(regex), &[Items(WORDS)])?;
+fn joins_automata(rt: HostRuntime) {
+    let forward = lazy(&rt, Automaton::Forward(Entry::Words), "");
+    let reverse = lazy(&rt, Automaton::Reverse(Entry::Words), "all");
+    assert!(rt; forward.pattern_len() == reverse.pattern_len());
+    let regex = Builder::default().build_from_dfas(forward, reverse);
+    let text = text_of(&rt, Ok(regex), &[Items(WORDS)]);
     let want = "match 1 0..4; match 0 5..8; -; -";
     same_text(&rt, text.as_str(), want, "a regex of two automata");
-    Ok(())
-}
-
-fn joined(alloc: Global, forward: DFA) -> Result<Regex, Fail> {
-    let reverse = built(alloc, Automaton::Reverse(Entry::Words), "all")??;
-    if forward.pattern_len() != reverse.pattern_len() {
-        return Err(Fail::from("unequal counts of patterns"));
-    }
-    Ok(Builder::default().build_from_dfas(forward, reverse))
 }
 
 /// Both parts of a cache, lent for writing at once.
 #[test]
-fn lends_both_parts(rt: HostRuntime) -> Result<(), Fail> {
-    let regex = Of(Entry::Words).build(rt.alloc(), "")??;
-    let mut cache = regex.create_cache()?;
-    let found = halves(&regex, &mut cache, &Input::new(WORDS.as_bytes()));
-    let pattern = PatternID::new(1).ok_or("a pattern")?;
-    let want = [4, 0].map(|offset| Ok(Some(HalfMatch::new(pattern, offset))));
-    same_of(&rt, &found, &want, &"both parts");
-    same_of(&rt, &usage(&mut cache), &(1082, 1383), &"their memory");
-    Ok(())
+fn lends_both_parts(rt: HostRuntime) {
+    let regex = Of(Entry::Words).regex(&rt, "");
+    let mut cache = regex.create_cache().expect(&rt, "a cache");
+    lend_both_parts(&rt, &regex, &mut cache);
+}
+
+fn lend_both_parts<R: Abort>(rt: &R, regex: &Regex, cache: &mut Cache)
+    requires { AreCachesOf cache.old regex.now }
+{
+    let found = halves(regex, cache, &Input::new(WORDS.as_bytes()));
+    let want = [4, 0].map(|offset| Ok(Some(HalfMatch::new(pattern_id(1), offset))));
+    same_of(rt, &found, &want, &"both parts");
+    same_of(rt, &usage(cache), &(1082, 1383), &"their memory");
 }
 
 fn usage(cache: &mut Cache) -> (usize, usize) {
@@ -264,17 +219,16 @@ fn halves(
 
 /// Ten thousand dates, one after another.
 #[test]
-fn iterates_over_ten_thousand_dates(rt: HostRuntime) -> Result<(), Fail> {
-    let haystack = dates(rt.alloc())?;
-    let found = finds_dates(rt.alloc(), haystack.as_slice())?;
+fn iterates_over_ten_thousand_dates(rt: HostRuntime) {
+    let haystack = dates(&rt);
+    let found = finds_dates(&rt, haystack.as_slice());
     same_of(&rt, &found, &Ok(10_000), &"dates");
-    Ok(())
 }
 
-fn finds_dates(alloc: Global, haystack: &[u8]) -> Result<Result<usize, SearchError>, Fail> {
-    let regex = Of(Entry::Date).build(alloc, "")??;
-    let mut cache = regex.create_cache()?;
-    Ok(count_dates(&regex, &mut cache, haystack))
+fn finds_dates<R: Abort + AllocGlobal>(rt: &R, haystack: &[u8]) -> Result<usize, SearchError> {
+    let regex = Of(Entry::Date).regex(rt, "");
+    let mut cache = regex.create_cache().expect(rt, "a cache");
+    count_dates(&regex, &mut cache, haystack)
 }
 
 /// How many dates are found, each eleven bytes behind the one before. Another match isn't counted.

@@ -10,7 +10,7 @@ use crate::catalogue::Entry;
 use crate::reply::Line;
 use regex_automata::hybrid::regex::{Cache, Regex};
 use regex_automata::hybrid::{BuildError, SearchError};
-use regex_automata::nfa::thompson::{Flags, NFA, NfaError, State};
+use regex_automata::nfa::thompson::{Flags, NFA, State};
 use regex_automata::replay::Reply;
 use regex_automata::tokens::{TokenError, Tokens};
 use regex_automata::util::primitives::{PatternID, StateID};
@@ -18,7 +18,7 @@ use regex_automata::util::search::{Input, Match, Span};
 use std::alloc::{AllocError, Global};
 use std::fmt;
 use std::fmt::Write;
-use std::test::Fail;
+use std::process::Abort;
 
 /// Two automata for a regex.
 #[derive(Clone, Copy)]
@@ -34,47 +34,58 @@ pub enum Pair {
 }
 
 impl Pair {
-    pub fn forward(self, alloc: Global) -> Result<NFA, NfaError> {
+    pub fn forward<R: Abort + AllocGlobal>(self, rt: &R) -> NFA {
         match self {
-            Pair::Of(entry) | Pair::Mixed(entry, _) | Pair::Barren(entry) => entry.forward(alloc),
-            Pair::Planned(plan, _) => plan.build(alloc),
+            Pair::Of(entry) | Pair::Mixed(entry, _) | Pair::Barren(entry) => {
+                entry.forward(rt.alloc()).expect(rt, "an entry")
+            }
+            Pair::Planned(plan, _) => plan.build(rt),
         }
     }
 
-    pub fn reverse(self, alloc: Global) -> Result<NFA, NfaError> {
+    pub fn reverse<R: Abort + AllocGlobal>(self, rt: &R) -> NFA {
         match self {
-            Pair::Of(entry) | Pair::Mixed(_, entry) => entry.reverse(alloc),
-            Pair::Barren(_) => barren(alloc),
-            Pair::Planned(_, plan) => plan.build(alloc),
+            Pair::Of(entry) | Pair::Mixed(_, entry) => {
+                entry.reverse(rt.alloc()).expect(rt, "an entry")
+            }
+            Pair::Barren(_) => barren(rt),
+            Pair::Planned(_, plan) => plan.build(rt),
         }
     }
 
     /// The regex with these options, or why it is refused.
-    pub fn build(self, alloc: Global, options: &str) -> Result<Result<Regex, BuildError>, Fail> {
-        let config = config(alloc, options)?;
-        let forward = self.forward(alloc)?;
-        let reverse = self.reverse(alloc)?;
-        Ok(
-            Regex::builder()
-                .dfa(config)
-                .build_from_nfas(forward, reverse),
-        )
+    pub fn build<R: Abort + AllocGlobal>(self, rt: &R, options: &str) -> Result<Regex, BuildError> {
+        let config = config(rt, options);
+        let forward = self.forward(rt);
+        let reverse = self.reverse(rt);
+        Regex::builder()
+            .dfa(config)
+            .build_from_nfas(forward, reverse)
+    }
+
+    /// The regex, which isn't refused.
+    pub fn regex<R: Abort + AllocGlobal>(self, rt: &R, options: &str) -> Regex {
+        self.build(rt, options).expect(rt, "a regex")
     }
 }
 
 /// One state, which fails.
-fn barren(alloc: Global) -> Result<NFA, NfaError> {
+fn barren<R: Abort + AllocGlobal>(rt: &R) -> NFA {
     let flags = Flags {
         reverse: true,
         ..Flags::default()
     };
-    let states = failing(alloc)?;
-    let starts = ids_of(alloc, &[0])?;
-    NFA::from_states(alloc, states, StateID::ZERO, StateID::ZERO, starts, flags)
-}
-
-fn failing(alloc: Global) -> Result<Vec<State>, AllocError> {
-    Ok(vec![in alloc; State::Fail]?)
+    let starts = ids_of(rt, &[0]);
+    let states = vec![in rt.alloc(); State::Fail].expect(rt, "memory");
+    NFA::from_states(
+        rt.alloc(),
+        states,
+        StateID::ZERO,
+        StateID::ZERO,
+        starts,
+        flags,
+    )
+    .expect(rt, "an automaton")
 }
 
 /// A call.
@@ -109,10 +120,9 @@ pub enum Ask {
 /// What a call tells.
 #[derive(Drop)]
 enum Told {
-    Nothing,
+    Word(&'static str),
     Replied(Reply),
     Items([Item; 4]),
-    NoMemory,
     Number(usize),
     Memory(usize, usize, usize),
     Counts(Counts),
@@ -129,30 +139,30 @@ pub type Counts = [(usize, usize, usize); 2];
 
 impl Told {
     fn of_growth(grown: Result<(), AllocError>) -> Told {
-        match grown {
-            Ok(()) => Told::Nothing,
-            Err(AllocError) => Told::NoMemory,
-        }
+        Told::Word(if grown.is_ok() { "-" } else { "out of memory" })
     }
 }
 
 impl fmt::Display for Told {
     fn fmt<W: fmt::Write>(&self, f: &mut fmt::Formatter<W>) -> fmt::Result {
         match self {
-            Told::Nothing => write!(f, "-"),
+            Told::Word(word) => write!(f, "{word}"),
             Told::Replied(reply) => write!(f, "{}", Line(reply)),
-            Told::Items([first, second, third, fourth]) => {
-                write_item(f, "", *first)?;
-                write_item(f, "; ", *second)?;
-                write_item(f, "; ", *third)?;
-                write_item(f, "; ", *fourth)
-            }
-            Told::NoMemory => write!(f, "out of memory"),
+            Told::Items(items) => write_items(f, items),
             Told::Number(number) => write!(f, "{number}"),
             Told::Memory(both, forward, reverse) => write!(f, "{both} {forward} {reverse}"),
             Told::Counts([forward, reverse]) => write!(f, "{forward:?} {reverse:?}"),
         }
     }
+}
+
+fn write_items<W: fmt::Write>(f: &mut fmt::Formatter<W>, items: &[Item; 4]) -> fmt::Result {
+    let mut before = "";
+    for item in items {
+        write_item(f, before, *item)?;
+        before = "; ";
+    }
+    Ok(())
 }
 
 fn next_token(tokens: &mut Tokens<'_, '_, '_>) -> TokenItem
@@ -182,21 +192,20 @@ pub struct RegexBench {
 }
 
 impl RegexBench {
-    pub fn new(regex: Regex) -> Result<RegexBench, AllocError> {
-        let cache = regex.create_cache()?;
-        Ok(RegexBench { regex, cache })
+    pub fn new<R: Abort>(rt: &R, regex: Regex) -> RegexBench {
+        let cache = regex.create_cache().expect(rt, "a cache");
+        RegexBench { regex, cache }
     }
 
     /// Writes what the calls tell.
-    pub fn tell_all(&mut self, alloc: Global, asks: &[Ask], text: &mut String) -> Result<(), Fail> {
+    pub fn tell_all<R: Abort + AllocGlobal>(&mut self, rt: &R, asks: &[Ask], text: &mut String) {
         for ask in asks {
             if !text.is_empty() {
-                text.push_str(", ")?;
+                text.push_str(", ").expect(rt, "memory");
             }
-            let told = self.answer(alloc, *ask);
-            write!(text, "{told}")?;
+            let told = self.answer(rt.alloc(), *ask);
+            write!(text, "{told}").expect(rt, "memory");
         }
-        Ok(())
     }
 
     fn answer(&mut self, alloc: Global, ask: Ask) -> Told {
@@ -219,7 +228,7 @@ impl RegexBench {
             Ask::Patterns => Told::Number(self.regex.pattern_len()),
             Ask::Exhaust => {
                 exhaust(alloc);
-                Told::Nothing
+                Told::Word("-")
             }
         }
     }
@@ -316,11 +325,11 @@ impl RegexBench {
     }
 
     /// The same cache, reset to another regex.
-    pub fn reset_to(self, regex: Regex) -> Result<RegexBench, AllocError> {
+    pub fn reset_to<R: Abort>(self, rt: &R, regex: Regex) -> RegexBench {
         let RegexBench { cache, .. } = self;
         let mut cache = cache;
-        regex.reset_cache(&mut cache)?;
-        Ok(RegexBench { regex, cache })
+        regex.reset_cache(&mut cache).expect(rt, "memory");
+        RegexBench { regex, cache }
     }
 
     fn memory(&self) -> Told {

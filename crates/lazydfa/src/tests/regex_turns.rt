@@ -1,15 +1,15 @@
 //! Calls of a regex while what is left of memory rises, so that each growth is the refused one in some turn. Each test
 //! is a process of its own, so it may use up all memory for good.
 
-use super::memory::{Part, Turns, check};
+use super::check;
+use super::memory::{Part, Turns};
 use super::plans::pattern_id;
 use super::regex_bench::{Counts, Pair, RegexBench};
 use crate::catalogue::Entry;
 use regex_automata::hybrid::SearchError;
 use regex_automata::hybrid::regex::Regex;
 use regex_automata::util::search::{Input, Match, Span};
-use std::alloc::Global;
-use std::test::Fail;
+use std::process::Abort;
 
 /// Its first match is found with 5 bytes read forward and 3 backward.
 const HAYSTACK: &[u8] = b"@foo bar";
@@ -33,30 +33,22 @@ enum Work {
 
 impl Work {
     /// One turn, over a regex of its own.
-    fn run(self, alloc: Global, turns: &mut Turns) -> Result<(), Fail> {
+    fn run<R: Abort + AllocGlobal>(self, rt: &R, turns: &mut Turns) {
         turns.release();
-        let mut bench = bench(alloc)?;
-        self.run_over(alloc, &mut bench, turns)
+        let regex = Pair::Of(Entry::Words).regex(rt, "noclasses");
+        let mut bench = RegexBench::new(rt, regex);
+        self.run_over(rt, &mut bench, turns);
     }
 
-    fn run_over(
-        self,
-        alloc: Global,
-        bench: &mut RegexBench,
-        turns: &mut Turns,
-    ) -> Result<(), Fail> {
+    fn run_over<R: Abort + AllocGlobal>(self, rt: &R, bench: &mut RegexBench, turns: &mut Turns) {
+        turns.lend(rt);
         match self {
-            Work::Create => create_short(alloc, bench.regex(), turns),
-            Work::Reset => reset_short(alloc, bench, turns),
-            Work::Find => find_short(alloc, bench, turns),
-            Work::Ask => ask_short(alloc, bench, turns),
+            Work::Create => create_short(rt, bench.regex(), turns),
+            Work::Reset => reset_short(rt, bench, turns),
+            Work::Find => find_short(rt, bench, turns),
+            Work::Ask => ask_short(rt, bench, turns),
         }
     }
-}
-
-fn bench(alloc: Global) -> Result<RegexBench, Fail> {
-    let regex = Pair::Of(Entry::Words).build(alloc, "noclasses")??;
-    Ok(RegexBench::new(regex)?)
 }
 
 /// The part whose growth is refused, the first or, where that one could grow, the second.
@@ -69,30 +61,30 @@ fn refused_part(regex: &Regex) -> Part {
 }
 
 /// Caches. Where they are refused, they are made once there is memory.
-fn create_short(alloc: Global, regex: &Regex, turns: &mut Turns) -> Result<(), Fail> {
-    turns.lend(alloc)?;
+fn create_short<R: Abort>(rt: &R, regex: &Regex, turns: &mut Turns) {
     if regex.create_cache().is_err() {
-        turns.refuse(refused_part(regex))?;
+        turns.refuse(refused_part(regex));
     }
     turns.release();
-    let mut cache = regex.create_cache()?;
+    let mut cache = regex.create_cache().expect(rt, "caches");
     let found = regex.find(&mut cache, &Input::new(HAYSTACK));
-    check(found == Ok(Some(first())))
+    check(rt, found == Ok(Some(first())));
 }
 
 /// A reset. Where it is refused, neither part has changed, what is known is still found, and it is answered once there
 /// is memory.
-fn reset_short(alloc: Global, bench: &mut RegexBench, turns: &mut Turns) -> Result<(), Fail> {
-    check(finds(bench) && bench.counts() == KNOWN)?;
-    turns.lend(alloc)?;
-    if bench.reset().is_err() {
-        check(bench.counts() == KNOWN && finds(bench))?;
-        turns.refuse(refused_part(bench.regex()))?;
-        bench.reset()?;
-    }
-    check(bench.counts() == FRESH)?;
+fn reset_short<R: Abort + AllocGlobal>(rt: &R, bench: &mut RegexBench, turns: &mut Turns) {
     turns.release();
-    check(finds(bench) && bench.counts() == KNOWN)
+    check(rt, finds(bench) && bench.counts() == KNOWN);
+    turns.lend(rt);
+    if bench.reset().is_err() {
+        check(rt, bench.counts() == KNOWN && finds(bench));
+        turns.refuse(refused_part(bench.regex()));
+        bench.reset().expect(rt, "a reset");
+    }
+    check(rt, bench.counts() == FRESH);
+    turns.release();
+    check(rt, finds(bench) && bench.counts() == KNOWN);
 }
 
 fn finds(bench: &mut RegexBench) -> bool {
@@ -101,59 +93,57 @@ fn finds(bench: &mut RegexBench) -> bool {
 
 /// A search. Where it is refused, it is answered over the same caches once there is memory. The forward part has all
 /// its states where the reverse one's growth is refused.
-fn find_short(alloc: Global, bench: &mut RegexBench, turns: &mut Turns) -> Result<(), Fail> {
-    turns.lend(alloc)?;
-    let found = bench.search(&Input::new(HAYSTACK));
+fn find_short<R: Abort>(rt: &R, bench: &mut RegexBench, turns: &mut Turns) {
+    let mut found = bench.search(&Input::new(HAYSTACK));
     if found == Err(SearchError::OutOfMemory) {
         let is_forward = bench.counts()[0].1 < KNOWN[0].1;
         turns.refuse(if is_forward {
             Part::Search
         } else {
             Part::Second
-        })?;
-        return check(finds(bench));
+        });
+        found = bench.search(&Input::new(HAYSTACK));
     }
-    check(found == Ok(Some(first())))
+    check(rt, found == Ok(Some(first())));
 }
 
 /// Whether there is a match. Where that is refused, it is answered over the same caches once there is memory.
-fn ask_short(alloc: Global, bench: &mut RegexBench, turns: &mut Turns) -> Result<(), Fail> {
-    turns.lend(alloc)?;
+fn ask_short<R: Abort>(rt: &R, bench: &mut RegexBench, turns: &mut Turns) {
     let input = Input::new(HAYSTACK);
     let mut found = bench.holds(&input);
     if found == Err(SearchError::OutOfMemory) {
-        turns.refuse(Part::Search)?;
+        turns.refuse(Part::Search);
         found = bench.holds(&input);
     }
-    check(found == Ok(true))
+    check(rt, found == Ok(true));
 }
 
 /// Works turn by turn, and looks whether all of these calls were refused.
-fn refuse_in_turn(alloc: Global, work: Work, calls: &[Part]) -> Result<(), Fail> {
-    let mut turns = Turns::new(alloc)?;
+fn refuse_in_turn<R: Abort + AllocGlobal>(rt: &R, work: Work, calls: &[Part]) {
+    let mut turns = Turns::new(rt);
     for _ in 0..4096u32 {
-        work.run(alloc, &mut turns)?;
+        work.run(rt, &mut turns);
         turns.lend_more();
     }
-    turns.have_refused(calls)
+    turns.have_refused(rt, calls);
 }
 
 #[test]
-fn creates_caches_after_each_refused_growth(rt: HostRuntime) -> Result<(), Fail> {
-    refuse_in_turn(rt.alloc(), Work::Create, &[Part::Create, Part::Second])
+fn creates_caches_after_each_refused_growth(rt: HostRuntime) {
+    refuse_in_turn(&rt, Work::Create, &[Part::Create, Part::Second]);
 }
 
 #[test]
-fn resets_caches_after_each_refused_growth(rt: HostRuntime) -> Result<(), Fail> {
-    refuse_in_turn(rt.alloc(), Work::Reset, &[Part::Create, Part::Second])
+fn resets_caches_after_each_refused_growth(rt: HostRuntime) {
+    refuse_in_turn(&rt, Work::Reset, &[Part::Create, Part::Second]);
 }
 
 #[test]
-fn finds_after_each_refused_growth(rt: HostRuntime) -> Result<(), Fail> {
-    refuse_in_turn(rt.alloc(), Work::Find, &[Part::Search, Part::Second])
+fn finds_after_each_refused_growth(rt: HostRuntime) {
+    refuse_in_turn(&rt, Work::Find, &[Part::Search, Part::Second]);
 }
 
 #[test]
-fn asks_after_each_refused_growth(rt: HostRuntime) -> Result<(), Fail> {
-    refuse_in_turn(rt.alloc(), Work::Ask, &[Part::Search])
+fn asks_after_each_refused_growth(rt: HostRuntime) {
+    refuse_in_turn(&rt, Work::Ask, &[Part::Search]);
 }

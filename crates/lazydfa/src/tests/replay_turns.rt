@@ -1,16 +1,16 @@
 //! A long script whose growths are refused in turn. Each test is a process of its own, so it may use up all memory for
 //! good.
 
-use super::memory::{Turns, check};
+use super::memory::Turns;
 use super::regex_bench::Pair;
+use super::{check, same_of};
 use crate::catalogue::Entry;
 use crate::reply::Line;
 use crate::script::Script;
 use regex_automata::hybrid::regex::Regex;
 use regex_automata::replay::{Reply, Request, replay};
-use std::alloc::Global;
 use std::fmt::Write;
-use std::test::Fail;
+use std::process::Abort;
 
 /// A request, and what it owes where regex 0 is current and where regex 1 is: a walk the replies to its steps before
 /// `none`, a step or a reset nothing of its own, and another request its reply.
@@ -19,9 +19,8 @@ type Row = (&'static str, [&'static [&'static str]; 2]);
 /// Requests of every kind that need a few states. They end over caches of regex 0 which know the ways of `20`.
 #[rattlefmt::skip]
 const BEFORE: &[Row] = &[
-    ("walk fwd 323031382D31322D3234",
-        [&["half 0 10"],
-            &["half 1 1", "half 1 2", "half 1 3", "half 1 4", "half 1 6", "half 1 7", "half 1 9", "half 1 10"]]),
+    ("walk fwd 323031382D31322D3234", [&["half 0 10"],
+        &["half 1 1", "half 1 2", "half 1 3", "half 1 4", "half 1 6", "half 1 7", "half 1 9", "half 1 10"]]),
     ("walk fwd 32302061", [&[], &["half 1 1", "half 1 2", "half 0 4"]]),
     ("walk rev 3230", [&[], &["half 1 1", "half 1 0"]]),
     ("fwd 3230", [&["none"], &["half 1 2"]]),
@@ -94,22 +93,17 @@ impl History {
 
     /// Whether a reply is a refusal, behind a beginning of what is owed; no bad request is refused. Else it is the one
     /// that is owed.
-    fn hear(&mut self, request: &Request<'_>, row: Row, reply: &str) -> Result<bool, Fail> {
+    fn hear<R: Abort>(&mut self, rt: &R, request: &Request<'_>, row: Row, reply: &str) -> bool {
         let own = row.1[self.current.min(1)];
         let owed = self.owed(request, own);
-        let told = reply.strip_suffix("memory");
-        let is_owed = match told {
-            Some(told) => owed.starts_with(told.trim_end()) && !owed.starts_with("bad"),
-            None => reply == owed,
-        };
-        if !is_owed {
-            return Err(Fail::new(format_args!("{}: {reply} in place of {owed}", row.0)));
+        if let Some(told) = reply.strip_suffix("memory") {
+            let is_owed = owed.starts_with(told.trim_end()) && !owed.starts_with("bad");
+            same_of(rt, &is_owed, &true, &(row.0, reply, owed));
+            return true;
         }
-        if told.is_some() {
-            return Ok(true);
-        }
+        same_of(rt, &reply, &owed, &row.0);
         self.go_on(request, own);
-        Ok(false)
+        false
     }
 
     fn owed(&self, request: &Request<'_>, own: &'static [&'static str]) -> &'static str {
@@ -182,78 +176,70 @@ impl Refused {
 }
 
 /// The rows of a script with this one in its middle.
-fn rows_around(alloc: Global, middle: Row) -> Result<Vec<Row>, Fail> {
-    let mut rows = Vec::with_capacity(alloc, 32)?;
-    rows.extend_from_slice(BEFORE)?;
-    rows.push(middle)?;
-    rows.extend_from_slice(BEHIND)?;
-    Ok(rows)
-}
-
-fn script_of(alloc: Global, rows: &[Row]) -> Result<Script, Fail> {
-    let mut text = String::new(alloc);
-    write_all(rows, &mut text)?;
-    Ok(Script::parse(alloc, text.as_bytes())?)
-}
-
-fn write_all(rows: &[Row], text: &mut String) -> Result<(), Fail> {
-    for (line, _) in rows {
-        writeln!(text, "{line}")?;
+fn rows_around(middle: Row) -> [Row; 32] {
+    let mut rows = [middle; 32];
+    for (at, row) in BEFORE.iter().copied().enumerate() {
+        rows[at.min(31)] = row;
     }
-    Ok(())
+    for (at, row) in BEHIND.iter().copied().enumerate() {
+        rows[at.saturating_add(BEFORE.len() + 1).min(31)] = row;
+    }
+    rows
+}
+
+fn script_of<R: Abort + AllocGlobal>(rt: &R, rows: &[Row]) -> Script {
+    let mut text = String::new(rt.alloc());
+    for (line, _) in rows {
+        writeln!(text, "{line}").expect(rt, "memory");
+    }
+    Script::parse(rt.alloc(), text.as_bytes()).expect(rt, "a script")
 }
 
 /// Whether each reply is the one that is owed after those before, or want of memory. It marks the refused requests.
-fn compare(
-    alloc: Global,
+fn compare<R: Abort + AllocGlobal>(
+    rt: &R,
     requests: &[Request<'_>],
-    rows: &[Row],
+    rows: &[Row; 32],
     replies: &[Reply],
     marks: &mut [bool; 32],
-) -> Result<Refused, Fail> {
-    check(replies.len() == requests.len() && requests.len() == rows.len())?;
-    let mut text = String::with_capacity(alloc, 1 << 10)?;
+) -> Refused {
+    same_of(
+        rt,
+        &(requests.len(), replies.len()),
+        &(32, 32),
+        &"the replies",
+    );
+    let mut text = String::with_capacity(rt.alloc(), 1 << 10).expect(rt, "memory");
     let mut history = History::new();
     let mut refused = Refused::Nothing;
-    for at in 0..rows.len().min(32) {
-        let (Some(request), Some(reply)) = (requests.get(at), replies.get(at)) else {
-            return Err(Fail::from("a reply"));
-        };
-        if is_refusal(&mut history, request, rows[at], reply, &mut text)? {
-            marks[at] = true;
-            refused = refused.and(at);
+    for at in 0..32usize {
+        if let (Some(request), Some(reply)) = (requests.get(at), replies.get(at)) {
+            text.clear();
+            write!(text, "{}", Line(reply)).expect(rt, "memory");
+            if history.hear(rt, request, rows[at], text.as_str()) {
+                marks[at] = true;
+                refused = refused.and(at);
+            }
         }
     }
-    Ok(refused)
-}
-
-fn is_refusal(
-    history: &mut History,
-    request: &Request<'_>,
-    row: Row,
-    reply: &Reply,
-    text: &mut String,
-) -> Result<bool, Fail> {
-    text.clear();
-    write!(text, "{}", Line(reply))?;
-    history.hear(request, row, text.as_str())
+    refused
 }
 
 /// One turn.
-fn replay_short(
-    alloc: Global,
+fn replay_short<R: Abort + AllocGlobal>(
+    rt: &R,
     regexes: &[Regex],
     requests: &[Request<'_>],
-    rows: &[Row],
+    rows: &[Row; 32],
     turns: &mut Turns,
     marks: &mut [bool; 32],
-) -> Result<Refused, Fail> {
-    turns.lend(alloc)?;
-    let replies = replay(alloc, regexes, requests);
+) -> Refused {
+    turns.lend(rt);
+    let replies = replay(rt.alloc(), regexes, requests);
     turns.release();
     match replies {
-        Ok(replies) => compare(alloc, requests, rows, replies.as_slice(), marks),
-        Err(_) => Ok(Refused::Script),
+        Ok(replies) => compare(rt, requests, rows, replies.as_slice(), marks),
+        Err(_) => Refused::Script,
     }
 }
 
@@ -279,85 +265,72 @@ impl Seen {
 }
 
 /// Replays turn by turn, each with so many bytes more, until nothing is refused.
-fn refuse_in_turn(
-    alloc: Global,
+fn refuse_in_turn<R: Abort + AllocGlobal>(
+    rt: &R,
     regexes: &[Regex],
     requests: &[Request<'_>],
-    rows: &[Row],
+    rows: &[Row; 32],
     turns: &mut Turns,
     step: usize,
-) -> Result<Seen, Fail> {
+) -> Seen {
     let mut seen = Seen {
         turns: [false; 4],
         requests: [false; 32],
     };
     for turn in 1..4096usize {
         turns.lend_from(step.saturating_mul(turn));
-        let refused = replay_short(alloc, regexes, requests, rows, turns, &mut seen.requests)?;
+        let refused = replay_short(rt, regexes, requests, rows, turns, &mut seen.requests);
         seen.turns[refused as usize] = true;
         if refused == Refused::Nothing {
-            return Ok(seen);
+            return seen;
         }
     }
-    Err(Fail::from("each turn was refused"))
+    check(rt, false);
+    seen
 }
 
 /// The same, with this request in the middle.
-fn refuse_around(
-    alloc: Global,
+fn refuse_around<R: Abort + AllocGlobal>(
+    rt: &R,
     regexes: &[Regex],
     middle: Row,
     turns: &mut Turns,
     step: usize,
-) -> Result<Seen, Fail> {
+) -> Seen {
     turns.release();
-    let rows = rows_around(alloc, middle)?;
-    let script = script_of(alloc, rows.as_slice())?;
-    let requests = script.requests(alloc)?;
-    refuse_in_turn(
-        alloc,
-        regexes,
-        requests.as_slice(),
-        rows.as_slice(),
-        turns,
-        step,
-    )
-}
-
-fn regexes(alloc: Global, options: &str) -> Result<[Regex; 2], Fail> {
-    let dates = Pair::Of(Entry::Date).build(alloc, options)??;
-    let runs = Pair::Of(Entry::Runs).build(alloc, options)??;
-    Ok([dates, runs])
+    let rows = rows_around(middle);
+    let script = script_of(rt, &rows);
+    let requests = script.requests(rt.alloc()).expect(rt, "memory");
+    refuse_in_turn(rt, regexes, requests.as_slice(), &rows, turns, step)
 }
 
 /// Replays around each request of `NEEDS`, and counts those that are refused alone in some turn. Each is refused in
 /// some turn, and so are at least so many requests of its script.
-fn refuse_each(alloc: Global, options: &str, step: usize, least: usize) -> Result<usize, Fail> {
-    let regexes = regexes(alloc, options)?;
-    let mut turns = Turns::new(alloc)?;
+fn refuse_each<R: Abort + AllocGlobal>(rt: &R, options: &str, step: usize, least: usize) -> usize {
+    let dates = Pair::Of(Entry::Date).regex(rt, options);
+    let runs = Pair::Of(Entry::Runs).regex(rt, options);
+    let regexes = [dates, runs];
+    let mut turns = Turns::new(rt);
     let mut alone = 0usize;
     for middle in NEEDS.iter().copied() {
-        let seen = refuse_around(alloc, &regexes, middle, &mut turns, step)?;
-        if !seen.has_refused(least) {
-            return Err(Fail::new(format_args!("around {}", middle.0)));
-        }
+        let seen = refuse_around(rt, &regexes, middle, &mut turns, step);
+        same_of(rt, &seen.has_refused(least), &true, &middle.0);
         if seen.turns[Refused::Middle as usize] {
             alone = alone.saturating_add(1);
         }
     }
-    Ok(alone)
+    alone
 }
 
 /// Rows are large, so in some turns a table's growth is refused alone, and all replies behind it are as owed.
 #[test]
-fn replays_around_a_refused_request(rt: HostRuntime) -> Result<(), Fail> {
-    let alone = refuse_each(rt.alloc(), "all noclasses", 512, 16)?;
-    check(alone >= 3)
+fn replays_around_a_refused_request(rt: HostRuntime) {
+    let alone = refuse_each(&rt, "all noclasses", 512, 16);
+    check(&rt, alone >= 3);
 }
 
 /// Rows are small, and what is lent rises by sixteen bytes a turn.
 #[test]
-fn replays_in_ever_more_memory(rt: HostRuntime) -> Result<(), Fail> {
-    let _alone = refuse_each(rt.alloc(), "all", 16, 4)?;
-    Ok(())
+fn replays_in_ever_more_memory(rt: HostRuntime) {
+    refuse_each(&rt, "all", 16, 4);
 }

@@ -3,7 +3,6 @@
 use super::same_of;
 use regex_automata::util::primitives::PatternID;
 use regex_automata::util::search::PatternSet;
-use std::test::Fail;
 
 /// A pattern, and whether it is new to the set, if it is below the capacity.
 const INSERTED: &[(usize, Option<bool>)] = &[
@@ -14,10 +13,11 @@ const INSERTED: &[(usize, Option<bool>)] = &[
 ];
 
 #[test]
-fn fills_a_set_of_patterns(rt: HostRuntime) -> Result<(), Fail> {
-    let mut set = PatternSet::new(rt.alloc(), 3)?;
-    for (number, is_new) in INSERTED.iter().copied() {
-        let pattern = PatternID::new(number).ok_or("a pattern")?;
+fn fills_a_set_of_patterns(rt: HostRuntime) {
+    let mut set = PatternSet::new(rt.alloc(), 3).expect(&rt, "a set");
+    for row in INSERTED {
+        let (number, is_new) = *row;
+        let pattern = PatternID::new(number).expect(&rt, "a pattern");
         same_of(&rt, &set.try_insert(pattern).ok(), &is_new, &number);
     }
     let size = (set.len(), set.capacity(), set.is_full());
@@ -34,5 +34,4 @@ fn fills_a_set_of_patterns(rt: HostRuntime) -> Result<(), Fail> {
         &(Some(PatternID::ZERO), Some(2), None),
         &"the list",
     );
-    Ok(())
 }

@@ -4,9 +4,10 @@
 ghost use Rattle.regex_automata.specs.Caches.{IsCacheOf};
 
 use super::bench::Bench;
-use super::memory::{Turns, check};
+use super::check;
+use super::memory::Turns;
 use super::plans::{Shape, pattern_id};
-use super::tells::{Automaton, built};
+use super::tells::{Automaton, lazy};
 use crate::catalogue::Entry;
 use Automaton::{Chain, Forward, Reverse};
 use Call::{Config, First, Last};
@@ -15,8 +16,7 @@ use regex_automata::hybrid::{LazyStateID, SearchError, StartError};
 use regex_automata::util::look::Look;
 use regex_automata::util::search::{Anchored, Input};
 use regex_automata::util::start;
-use std::alloc::{AllocError, Global};
-use std::test::Fail;
+use std::process::Abort;
 
 /// A call that asks for a start.
 #[derive(Clone, Copy)]
@@ -38,58 +38,53 @@ struct Starter {
 }
 
 impl Starter {
-    fn new(dfa: DFA) -> Result<Starter, AllocError> {
-        let cache = dfa.create_cache()?;
-        Ok(Starter { dfa, cache })
+    fn new<R: Abort>(rt: &R, dfa: DFA) -> Starter {
+        let cache = dfa.create_cache().expect(rt, "a cache");
+        Starter { dfa, cache }
     }
 
     /// The start of a mode, if it isn't refused memory.
-    fn start(&mut self, call: Call, mode: Anchored) -> Result<Option<LazyStateID>, Fail> {
+    fn start<R: Abort>(&mut self, rt: &R, call: Call, mode: Anchored) -> Option<LazyStateID> {
         match call {
-            Config => self.by_config(&start::Config::new().anchored(mode)),
-            First => self.by_input(&Input::new(b"@").anchored(mode), false),
-            Last => self.by_input(&Input::new(b"@").anchored(mode), true),
+            Config => self.by_config(rt, &start::Config::new().anchored(mode)),
+            First => self.by_input(rt, &Input::new(b"@").anchored(mode), false),
+            Last => self.by_input(rt, &Input::new(b"@").anchored(mode), true),
         }
     }
 
-    fn by_config(&mut self, config: &start::Config) -> Result<Option<LazyStateID>, Fail> {
+    fn by_config<R: Abort>(&mut self, rt: &R, config: &start::Config) -> Option<LazyStateID> {
         match self.dfa.start_state(&mut self.cache, config) {
-            Err(StartError::OutOfMemory) => Ok(None),
-            started => Ok(Some(started?)),
+            Err(StartError::OutOfMemory) => None,
+            started => Some(started.expect(rt, "a start")),
         }
     }
 
-    fn by_input(
+    fn by_input<R: Abort>(
         &mut self,
+        rt: &R,
         input: &Input<'_>,
         is_reverse: bool,
-    ) -> Result<Option<LazyStateID>, Fail> {
+    ) -> Option<LazyStateID> {
         let started = if is_reverse {
             self.dfa.start_state_reverse(&mut self.cache, input)
         } else {
             self.dfa.start_state_forward(&mut self.cache, input)
         };
-        told(started)
+        match started {
+            Err(SearchError::OutOfMemory) => None,
+            started => Some(started.expect(rt, "a start")),
+        }
     }
 
     /// Whether the step on `@` from a start is dead.
-    fn fails(&mut self, start: LazyStateID) -> Result<bool, Fail> {
-        if start.is_unknown() || !self.cache.is_valid(start) {
-            return Err(Fail::from("no state"));
-        }
-        let id = self.dfa.next_state(&mut self.cache, start, b'@')?;
-        Ok(id.is_dead())
+    fn fails<R: Abort>(&mut self, rt: &R, start: LazyStateID) -> bool {
+        assert!(rt; !start.is_unknown() && self.cache.is_valid(start));
+        let id = self.dfa.next_state(&mut self.cache, start, b'@');
+        id.expect(rt, "a step").is_dead()
     }
 
     fn clears_and_memory(&self) -> (usize, usize) {
         (self.cache.clear_count(), self.cache.memory_usage())
-    }
-}
-
-fn told(started: Result<LazyStateID, SearchError>) -> Result<Option<LazyStateID>, Fail> {
-    match started {
-        Err(SearchError::OutOfMemory) => Ok(None),
-        started => Ok(Some(started?)),
     }
 }
 
@@ -108,57 +103,59 @@ fn rows() -> [Row; 5] {
 
 /// One turn, over an automaton and a cache of its own. A refused start has changed nothing, and it is answered once
 /// there is memory. It tells whether it was refused.
-fn start_short(alloc: Global, call: Call, row: Row, turns: &mut Turns) -> Result<bool, Fail> {
+fn start_short<R: Abort + AllocGlobal>(rt: &R, call: Call, row: &Row, turns: &mut Turns) -> bool {
     turns.release();
     let automaton = match call {
         Config | First => Forward(Entry::Words),
         Last => Reverse(Entry::Words),
     };
-    let mut starter = Starter::new(built(alloc, automaton, "starts")??)?;
-    start_over(alloc, &mut starter, call, row, turns)
+    let mut starter = Starter::new(rt, lazy(rt, automaton, "starts"));
+    start_over(rt, &mut starter, call, row, turns)
 }
 
-fn start_over(
-    alloc: Global,
+fn start_over<R: Abort + AllocGlobal>(
+    rt: &R,
     starter: &mut Starter,
     call: Call,
-    (mode, started, stepped, fails): Row,
+    row: &Row,
     turns: &mut Turns,
-) -> Result<bool, Fail> {
-    turns.lend(alloc)?;
-    let first = starter.start(call, mode)?;
-    if first.is_none() {
-        check(starter.clears_and_memory() == (0, 625))?;
-    }
+) -> bool {
+    let (mode, started, stepped, fails) = *row;
+    turns.lend(rt);
+    let first = starter.start(rt, call, mode);
+    check(
+        rt,
+        first.is_some() || starter.clears_and_memory() == (0, 625),
+    );
     turns.release();
-    let start = starter.start(call, mode)?.ok_or("a start")?;
-    check(starter.clears_and_memory() == (0, started))?;
-    check(starter.fails(start)? == fails && starter.clears_and_memory() == (0, stepped))?;
-    Ok(first.is_none())
+    let start = starter.start(rt, call, mode).expect(rt, "a start");
+    check(rt, starter.clears_and_memory() == (0, started));
+    check(rt, starter.fails(rt, start) == fails);
+    check(rt, starter.clears_and_memory() == (0, stepped));
+    first.is_none()
 }
 
 /// Asks turn by turn until it is answered, and looks whether it was refused before. Past the last pattern it never is.
-fn ask_in_turn(alloc: Global, call: Call, row: Row, turns: &mut Turns) -> Result<(), Fail> {
+fn ask_in_turn<R: Abort + AllocGlobal>(rt: &R, call: Call, row: &Row, turns: &mut Turns) {
+    let (_, started, ..) = *row;
     turns.lend_from(0);
     for turn in 0..4096u32 {
-        if !start_short(alloc, call, row, turns)? {
-            let is_free = row.1 == 625;
-            return check((turn == 0) == is_free);
+        if !start_short(rt, call, row, turns) {
+            return check(rt, (turn == 0) == (started == 625));
         }
         turns.lend_more();
     }
-    Err(Fail::from("each turn was refused"))
+    check(rt, false);
 }
 
 #[test]
-fn starts_after_each_refused_growth(rt: HostRuntime) -> Result<(), Fail> {
-    let mut turns = Turns::new(rt.alloc())?;
+fn starts_after_each_refused_growth(rt: HostRuntime) {
+    let mut turns = Turns::new(&rt);
     for call in [Config, First, Last] {
         for row in rows() {
-            ask_in_turn(rt.alloc(), call, row, &mut turns)?;
+            ask_in_turn(&rt, call, &row, &mut turns);
         }
     }
-    Ok(())
 }
 
 /// Twenty bytes `a` from a word boundary on, so that the starts differ by the byte behind.
@@ -166,38 +163,38 @@ const WORD: Automaton = Chain(Shape::Assert(Look::WordAscii, 1));
 
 /// One turn, over a cache that is full, so that a start behind a word byte clears it. A refused start has changed
 /// nothing, and it is answered once there is memory. It tells whether it was refused.
-fn clear_short(alloc: Global, turns: &mut Turns) -> Result<bool, Fail> {
+fn clear_short<R: Abort + AllocGlobal>(rt: &R, turns: &mut Turns) -> bool {
     turns.release();
-    let mut bench = Bench::new(built(alloc, WORD, "noclasses capacity=37645")??)?;
-    clear_over(alloc, &mut bench, turns)
+    let mut bench = Bench::new(rt, lazy(rt, WORD, "noclasses capacity=37645"));
+    clear_over(rt, &mut bench, turns)
 }
 
-fn clear_over(alloc: Global, bench: &mut Bench, turns: &mut Turns) -> Result<bool, Fail> {
-    bench.start(Anchored::No, None)?;
+fn clear_over<R: Abort + AllocGlobal>(rt: &R, bench: &mut Bench, turns: &mut Turns) -> bool {
+    bench.start(Anchored::No, None).expect(rt, "a start");
     for _ in 0..13u32 {
-        bench.step(b'a')?;
+        bench.step(b'a').expect(rt, "a step");
     }
-    turns.lend(alloc)?;
+    turns.lend(rt);
     let started = bench.start(Anchored::No, Some(b'a'));
     let is_refused = started == Err(StartError::OutOfMemory);
     if is_refused {
-        check(bench.clears_and_memory() == (0, 36189))?;
+        check(rt, bench.clears_and_memory() == (0, 36189));
         turns.release();
-        bench.start(Anchored::No, Some(b'a'))?;
+        bench.start(Anchored::No, Some(b'a')).expect(rt, "a start");
     }
-    check(bench.clears_and_memory() == (1, 10965))?;
-    Ok(is_refused)
+    check(rt, bench.clears_and_memory() == (1, 10965));
+    is_refused
 }
 
 #[test]
-fn starts_across_a_clear_after_each_refused_growth(rt: HostRuntime) -> Result<(), Fail> {
-    let mut turns = Turns::new(rt.alloc())?;
+fn starts_across_a_clear_after_each_refused_growth(rt: HostRuntime) {
+    let mut turns = Turns::new(&rt);
     turns.lend_from(0);
     for turn in 0..8192u32 {
-        if !clear_short(rt.alloc(), &mut turns)? {
-            return check(turn > 0);
+        if !clear_short(&rt, &mut turns) {
+            return check(&rt, turn > 0);
         }
         turns.lend_more();
     }
-    Err(Fail::from("each turn was refused"))
+    check(&rt, false);
 }

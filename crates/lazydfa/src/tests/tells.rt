@@ -2,16 +2,14 @@
 
 use super::bench::{Bench, Call};
 use super::plans::{Plan, Shape, chain};
-use super::same_text;
+use super::{automata, clears, dfa, exits, same_text, steps};
 use crate::catalogue::Entry;
 use crate::script::Script;
 use regex_automata::hybrid::BuildError;
 use regex_automata::hybrid::dfa::{Config, DFA};
-use regex_automata::nfa::thompson::{NFA, NfaError};
-use std::alloc::Global;
+use regex_automata::nfa::thompson::NFA;
 use std::fmt::Write;
 use std::process::Abort;
-use std::test::Fail;
 
 /// An automaton.
 #[derive(Clone, Copy)]
@@ -26,12 +24,12 @@ pub enum Automaton {
 use Automaton::{Chain, Forward, Planned, Reverse};
 
 impl Automaton {
-    pub fn nfa(self, alloc: Global) -> Result<NFA, NfaError> {
+    pub fn nfa<R: Abort + AllocGlobal>(self, rt: &R) -> NFA {
         match self {
-            Forward(entry) => entry.forward(alloc),
-            Reverse(entry) => entry.reverse(alloc),
-            Planned(plan) => plan.build(alloc),
-            Chain(first) => chain(alloc, first),
+            Forward(entry) => entry.forward(rt.alloc()).expect(rt, "an entry"),
+            Reverse(entry) => entry.reverse(rt.alloc()).expect(rt, "an entry"),
+            Planned(plan) => plan.build(rt),
+            Chain(first) => chain(rt, first),
         }
     }
 }
@@ -46,71 +44,94 @@ pub type Row = (
     &'static str,
 );
 
+#[test]
+fn searches_tell_their_rows(rt: HostRuntime) {
+    tells_all(&rt, dfa::SEARCHED);
+    tells_all(&rt, dfa::SEARCHED_BACK);
+    tells_all(&rt, exits::FORWARD);
+    tells_all(&rt, exits::REVERSE);
+    tells_all(&rt, automata::SEARCHED);
+}
+
+#[test]
+fn settings_tell_their_rows(rt: HostRuntime) {
+    tells_all(&rt, dfa::SETTLED);
+    tells_all(&rt, dfa::REFUSED);
+}
+
+#[test]
+fn steps_tell_their_rows(rt: HostRuntime) {
+    tells_all(&rt, steps::STEPPED);
+    tells_all(&rt, steps::WALKED);
+    tells_all(&rt, steps::STARTED);
+}
+
+#[test]
+fn clears_tell_their_rows(rt: HostRuntime) {
+    tells_all(&rt, clears::COUNTS);
+    tells_all(&rt, clears::STARTS);
+}
+
 /// Makes the calls of each row.
-pub fn tells_all<R: Abort + AllocGlobal>(rt: &R, rows: &[Row]) -> Result<(), Fail> {
+fn tells_all<R: Abort + AllocGlobal>(rt: &R, rows: &[Row]) {
     for row in rows {
-        tells(rt, *row)?;
+        tells(rt, *row);
     }
-    Ok(())
 }
 
 /// Makes the calls of a row.
-pub fn tells<R: Abort + AllocGlobal>(rt: &R, row: Row) -> Result<(), Fail> {
+pub fn tells<R: Abort + AllocGlobal>(rt: &R, row: Row) {
     let (shows, automaton, options, calls, told) = row;
-    let text = told_by(rt.alloc(), automaton, options, calls)?;
+    let text = told_by(rt, automaton, options, calls);
     same_text(rt, text.as_str(), told, shows);
-    Ok(())
 }
 
-pub fn told_by(
-    alloc: Global,
+pub fn told_by<R: Abort + AllocGlobal>(
+    rt: &R,
     automaton: Automaton,
     options: &str,
     calls: &[Call],
-) -> Result<String, Fail> {
-    text_of(alloc, built(alloc, automaton, options)?, calls)
+) -> String {
+    text_of(rt, built(rt, automaton, options), calls)
 }
 
 /// What the calls tell, or why the automaton is refused.
-pub fn text_of(
-    alloc: Global,
+pub fn text_of<R: Abort + AllocGlobal>(
+    rt: &R,
     dfa: Result<DFA, BuildError>,
     calls: &[Call],
-) -> Result<String, Fail> {
-    let mut text = String::with_capacity(alloc, 1 << 10)?;
-    tell_into(alloc, dfa, calls, &mut text)?;
-    Ok(text)
-}
-
-fn tell_into(
-    alloc: Global,
-    dfa: Result<DFA, BuildError>,
-    calls: &[Call],
-    text: &mut String,
-) -> Result<(), Fail> {
+) -> String {
+    let mut text = String::with_capacity(rt.alloc(), 1 << 10).expect(rt, "memory");
     match dfa {
-        Ok(dfa) => {
-            let mut bench = Bench::new(dfa)?;
-            bench.tell_all(alloc, calls, text)
-        }
-        Err(error) => Ok(write!(text, "{error}")?),
+        Ok(dfa) => tell_into(rt, dfa, calls, &mut text),
+        Err(error) => write!(text, "{error}").expect(rt, "memory"),
     }
+    text
 }
 
-pub fn built(
-    alloc: Global,
+fn tell_into<R: Abort + AllocGlobal>(rt: &R, dfa: DFA, calls: &[Call], text: &mut String) {
+    Bench::new(rt, dfa).tell_all(rt, calls, text);
+}
+
+pub fn built<R: Abort + AllocGlobal>(
+    rt: &R,
     automaton: Automaton,
     options: &str,
-) -> Result<Result<DFA, BuildError>, Fail> {
-    let config = config(alloc, options)?;
-    let nfa = automaton.nfa(alloc)?;
-    Ok(DFA::builder().configure(config).build_from_nfa(nfa))
+) -> Result<DFA, BuildError> {
+    let config = config(rt, options);
+    DFA::builder()
+        .configure(config)
+        .build_from_nfa(automaton.nfa(rt))
+}
+
+/// An automaton that isn't refused.
+pub fn lazy<R: Abort + AllocGlobal>(rt: &R, automaton: Automaton, options: &str) -> DFA {
+    built(rt, automaton, options).expect(rt, "an automaton")
 }
 
 /// The settings of these options.
-pub fn config(alloc: Global, options: &str) -> Result<Config, Fail> {
-    let line = format!(in alloc; "regex ab {options}")?;
-    let script = Script::parse(alloc, line.trim_end().as_bytes())?;
-    let definition = script.definitions.first().ok_or("a regex")?;
-    Ok(definition.config)
+pub fn config<R: Abort + AllocGlobal>(rt: &R, options: &str) -> Config {
+    let line = format!(in rt.alloc(); "regex ab {options}").expect(rt, "memory");
+    let script = Script::parse(rt.alloc(), line.trim_end().as_bytes()).expect(rt, "a line");
+    script.definitions.first().expect(rt, "a regex").config
 }

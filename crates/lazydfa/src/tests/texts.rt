@@ -8,13 +8,12 @@ use regex_automata::util::primitives::PatternID;
 use regex_automata::util::search::{Anchored, MatchError};
 use std::fmt::Display;
 use std::process::Abort;
-use std::test::Fail;
 
 const UNSUPPORTED: &str =
     "unsupported regex feature for DFAs: cannot build lazy DFAs for regexes with Unicode word boundaries; switch to ASCII word boundaries, or heuristically enable Unicode word boundaries or use a different regex engine";
 
 #[test]
-fn prints_refused_builds(rt: HostRuntime) -> Result<(), Fail> {
+fn prints_refused_builds(rt: HostRuntime) {
     let capacity = BuildError::InsufficientCacheCapacity {
         minimum: 1735,
         given: 1734,
@@ -39,9 +38,8 @@ fn prints_refused_builds(rt: HostRuntime) -> Result<(), Fail> {
         (BuildError::OutOfMemory, "out of memory"),
         (patterns, "forward DFA has 2 patterns and reverse DFA has 1"),
     ] {
-        prints(&rt, &error, text)?;
+        prints(&rt, &error, text);
     }
-    Ok(())
 }
 
 /// The byte of a quit start, as its text shows it.
@@ -67,19 +65,20 @@ const SHOWN: &[(u8, &str)] = &[
 ];
 
 #[test]
-fn prints_quit_starts(rt: HostRuntime) -> Result<(), Fail> {
-    for (byte, shown) in SHOWN.iter().copied() {
+fn prints_quit_starts(rt: HostRuntime) {
+    for row in SHOWN {
+        let (byte, shown) = *row;
         let text = format!(in rt.alloc();
             "error computing start state because the look-behind byte {shown} triggered a quit state"
-        )?;
-        prints(&rt, &StartError::Quit { byte }, text.as_str())?;
+        );
+        let text = text.expect(&rt, "memory");
+        prints(&rt, &StartError::Quit { byte }, text.as_str());
     }
-    Ok(())
 }
 
 #[test]
-fn prints_refused_starts(rt: HostRuntime) -> Result<(), Fail> {
-    let pattern = PatternID::new(5).ok_or("a pattern")?;
+fn prints_refused_starts(rt: HostRuntime) {
+    let pattern = PatternID::new(5).expect(&rt, "a pattern");
     for (mode, shown) in [
         (Anchored::No, "unanchored searches"),
         (Anchored::Yes, "anchored searches"),
@@ -90,49 +89,49 @@ fn prints_refused_starts(rt: HostRuntime) -> Result<(), Fail> {
     ] {
         let text = format!(in rt.alloc();
             "error computing start state because {shown} are not supported or enabled"
-        )?;
+        );
+        let text = text.expect(&rt, "memory");
         prints(
             &rt,
             &StartError::UnsupportedAnchored { mode },
             text.as_str(),
-        )?;
+        );
     }
     let inefficient = "error computing start state because of cache inefficiency";
     let err = CacheError;
-    prints(&rt, &StartError::Cache { err }, inefficient)?;
-    prints(&rt, &StartError::OutOfMemory, "out of memory")
+    prints(&rt, &StartError::Cache { err }, inefficient);
+    prints(&rt, &StartError::OutOfMemory, "out of memory");
 }
 
 #[test]
-fn prints_refused_steps_and_searches(rt: HostRuntime) -> Result<(), Fail> {
+fn prints_refused_steps_and_searches(rt: HostRuntime) {
     let cleared = "lazy DFA cache has been cleared too many times";
-    prints(&rt, &CacheError, cleared)?;
-    prints(&rt, &StepError::Cache(CacheError), cleared)?;
-    prints(&rt, &StepError::OutOfMemory, "out of memory")?;
-    prints(&rt, &SearchError::OutOfMemory, "out of memory")?;
+    prints(&rt, &CacheError, cleared);
+    prints(&rt, &StepError::Cache(CacheError), cleared);
+    prints(&rt, &StepError::OutOfMemory, "out of memory");
+    prints(&rt, &SearchError::OutOfMemory, "out of memory");
     let no_start = "reverse DFA finds no start for the match of the forward DFA";
-    prints(&rt, &SearchError::NotAPair, no_start)
+    prints(&rt, &SearchError::NotAPair, no_start);
 }
 
 #[test]
-fn prints_missing_tokens(rt: HostRuntime) -> Result<(), Fail> {
-    prints(&rt, &TokenError::NoToken(7), "no token at 7")?;
+fn prints_missing_tokens(rt: HostRuntime) {
+    prints(&rt, &TokenError::NoToken(7), "no token at 7");
     let refused = TokenError::Search(SearchError::OutOfMemory);
-    prints(&rt, &refused, "out of memory")?;
+    prints(&rt, &refused, "out of memory");
     let quit = SearchError::Match(MatchError::quit(0x78, 4));
     let text = "quit search after observing byte 0x78 at offset 4";
-    prints(&rt, &TokenError::Search(quit), text)
+    prints(&rt, &TokenError::Search(quit), text);
 }
 
 #[test]
-fn prints_faults_of_a_run(rt: HostRuntime) -> Result<(), Fail> {
-    prints(&rt, &RunError::BadLine(17), "line 17: bad line")?;
-    prints(&rt, &RunError::Failed, "input or output failed")?;
-    prints(&rt, &RunError::OutOfMemory, "out of memory")
+fn prints_faults_of_a_run(rt: HostRuntime) {
+    prints(&rt, &RunError::BadLine(17), "line 17: bad line");
+    prints(&rt, &RunError::Failed, "input or output failed");
+    prints(&rt, &RunError::OutOfMemory, "out of memory");
 }
 
-fn prints<R: Abort + AllocGlobal, E: Display>(rt: &R, error: &E, text: &str) -> Result<(), Fail> {
-    let printed = error.to_string(rt.alloc())?;
+fn prints<R: Abort + AllocGlobal, E: Display>(rt: &R, error: &E, text: &str) {
+    let printed = error.to_string(rt.alloc()).expect(rt, "memory");
     same_text(rt, printed.as_str(), text, "an error");
-    Ok(())
 }

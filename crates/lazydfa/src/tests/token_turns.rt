@@ -1,15 +1,15 @@
 //! Tokenisations whose growths are refused in turn. Each test is a process of its own, so it may use up all memory for
 //! good.
 
-use super::memory::{Turns, check};
+use super::check;
+use super::memory::Turns;
 use super::plans::pattern_id;
 use super::regex_bench::{Pair, RegexBench, TokenItem};
 use crate::catalogue::Entry;
 use regex_automata::hybrid::SearchError;
 use regex_automata::tokens::TokenError;
 use regex_automata::util::search::{Anchored, Input, Span};
-use std::alloc::Global;
-use std::test::Fail;
+use std::process::Abort;
 
 /// Each token of it takes a new state. The last place has none.
 const HAYSTACK: &[u8] = b"1a23bc!";
@@ -38,66 +38,65 @@ fn owed(refused: Option<usize>) -> [TokenItem; 8] {
     items
 }
 
-fn bench(alloc: Global) -> Result<RegexBench, Fail> {
-    let regex = Pair::Of(Entry::Runs).build(alloc, "")??;
-    Ok(RegexBench::new(regex)?)
-}
-
 /// Makes the searches for some first tokens known.
-fn learn(bench: &mut RegexBench, tokens: usize) -> Result<(), SearchError> {
+fn learn<R: Abort>(rt: &R, bench: &mut RegexBench, tokens: usize) {
     for start in PLACES.iter().copied().take(tokens) {
-        let rest = Input::new(HAYSTACK).range(start.min(7)..7);
-        bench.search(&rest.anchored(Anchored::Yes))?;
+        let rest = Input::new(HAYSTACK)
+            .range(start.min(7)..7)
+            .anchored(Anchored::Yes);
+        bench.search(&rest).expect(rt, "a search");
     }
-    Ok(())
 }
 
 /// One turn, over a regex and a cache of its own that knows some first tokens. It tells which call was refused.
-fn tokenise_short(alloc: Global, turns: &mut Turns, known: usize) -> Result<Option<usize>, Fail> {
+fn tokenise_short<R: Abort + AllocGlobal>(
+    rt: &R,
+    turns: &mut Turns,
+    known: usize,
+) -> Option<usize> {
     turns.release();
-    let mut bench = bench(alloc)?;
-    tokenise_over(alloc, &mut bench, turns, known)
+    let mut bench = RegexBench::new(rt, Pair::Of(Entry::Runs).regex(rt, ""));
+    tokenise_over(rt, &mut bench, turns, known)
 }
 
 /// The tokens before a refusal are those that are owed, and behind it there is none. With memory the same cache serves
 /// all.
-fn tokenise_over(
-    alloc: Global,
+fn tokenise_over<R: Abort + AllocGlobal>(
+    rt: &R,
     bench: &mut RegexBench,
     turns: &mut Turns,
     known: usize,
-) -> Result<Option<usize>, Fail> {
-    learn(bench, known)?;
-    turns.lend(alloc)?;
+) -> Option<usize> {
+    learn(rt, bench, known);
+    turns.lend(rt);
     let items = bench.first_tokens(Input::new(HAYSTACK));
     let refused = items.iter().position(|item| *item == Some(Err(REFUSED)));
-    check(items == owed(refused))?;
+    check(rt, items == owed(refused));
     turns.release();
-    check(bench.first_tokens(Input::new(HAYSTACK)) == owed(None))?;
-    Ok(refused)
+    check(rt, bench.first_tokens(Input::new(HAYSTACK)) == owed(None));
+    refused
 }
 
 /// Tokenises turn by turn until nothing is refused, and looks whether this call was, and none before it.
-fn refuse_from(alloc: Global, turns: &mut Turns, call: usize) -> Result<(), Fail> {
+fn refuse_from<R: Abort + AllocGlobal>(rt: &R, turns: &mut Turns, call: usize) {
     let mut is_refused = false;
     for _ in 0..4096u32 {
-        let Some(at) = tokenise_short(alloc, turns, call)? else {
-            return check(is_refused);
+        let Some(at) = tokenise_short(rt, turns, call) else {
+            return check(rt, is_refused);
         };
-        check(at >= call)?;
+        check(rt, at >= call);
         is_refused = is_refused || at == call;
         turns.lend_more();
     }
-    Err(Fail::from("each turn was refused"))
+    check(rt, false);
 }
 
 /// Memory is wanting for the first token, and for each later one.
 #[test]
-fn tokenises_after_each_refused_growth(rt: HostRuntime) -> Result<(), Fail> {
-    let mut turns = Turns::new(rt.alloc())?;
+fn tokenises_after_each_refused_growth(rt: HostRuntime) {
+    let mut turns = Turns::new(&rt);
     for call in 0..TOKENS.len() {
         turns.lend_from(16);
-        refuse_from(rt.alloc(), &mut turns, call)?;
+        refuse_from(&rt, &mut turns, call);
     }
-    Ok(())
 }

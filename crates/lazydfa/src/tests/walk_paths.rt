@@ -1,29 +1,29 @@
-//! Walks and sets of the lazy automaton beside the paths of the automaton, listed one by one. Each
+//! Searches, walks and sets of the lazy automaton beside the paths of the automaton, listed one by one. Each
 //! call of a walk is made over another cache, with a search of the same input between.
 
-use super::paths::{CHARACTERS, Pieces, accepting, modes, spell, splits};
+use super::paths::{CHARACTERS, Pieces, accepting, half, modes, spell, splits};
 use super::same_of;
+use super::tells::Automaton;
 use super::walker::Walker;
 use crate::catalogue::Entry;
 use regex_automata::hybrid::dfa::{Config, DFA};
 use regex_automata::nfa::thompson::NFA;
 use regex_automata::util::search::{HalfMatch, Input, MatchKind};
-use std::alloc::{AllocError, Global};
 use std::process::Abort;
-use std::test::Fail;
 
 /// Under kind all the pairs of pattern and end of the accepting paths, each once, by place and then
 /// by its first path. Leftmost first, at each place the first path that ends there, where it comes
 /// before every path that ends at a place before. Then without the places that split a character,
 /// where those are passed.
-pub fn list(
+pub fn list<R: Abort + AllocGlobal>(
+    rt: &R,
     nfa: &NFA,
     kind: MatchKind,
     input: &Input<'_>,
     pairs: &mut Vec<HalfMatch>,
-) -> Result<(), AllocError> {
+) {
     pairs.clear();
-    let paths = accepting(nfa, input)?;
+    let paths = accepting(rt, nfa, input);
     let haystack = input.haystack();
     let mut least = paths.len();
     for step in 0..haystack.len() + 1 {
@@ -33,35 +33,34 @@ pub fn list(
             step
         };
         let is_passed = nfa.is_utf8() && nfa.has_empty() && splits(haystack, place);
-        least = list_at(paths.as_slice(), kind, (place, is_passed), least, pairs)?;
+        least = list_at(rt, paths.as_slice(), kind, (place, is_passed), least, pairs);
     }
-    Ok(())
 }
 
 /// The pairs of one place, unless it is passed. The least number of a path that ends before goes
 /// in, and comes out with those that end here.
-fn list_at(
+fn list_at<R: Abort>(
+    rt: &R,
     paths: &[HalfMatch],
     kind: MatchKind,
     (place, is_passed): (usize, bool),
     before: usize,
     pairs: &mut Vec<HalfMatch>,
-) -> Result<usize, AllocError> {
+) -> usize {
     let mut least = before;
     for (number, path) in paths.iter().enumerate() {
-        if path.offset() != place {
-            continue;
+        if path.offset() == place {
+            let is_told = match kind {
+                MatchKind::All => !pairs.contains(path),
+                MatchKind::LeftmostFirst => number < least,
+            };
+            if is_told && !is_passed {
+                pairs.push(*path).expect(rt, "memory");
+            }
+            least = least.min(number);
         }
-        let is_told = match kind {
-            MatchKind::All => !pairs.contains(path),
-            MatchKind::LeftmostFirst => number < least,
-        };
-        if is_told && !is_passed {
-            pairs.push(*path)?;
-        }
-        least = least.min(number);
     }
-    Ok(least)
+    least
 }
 
 /// Which of the first patterns the pairs have, or the first pair alone, below a capacity.
@@ -99,109 +98,114 @@ pub struct Listed {
 impl Listed {
     /// All haystacks of up to six of the first two pieces, and of up to four of all three, that have
     /// no more than eight bytes.
-    fn compare_all<R: Abort + AllocGlobal>(&mut self, rt: &R, pieces: Pieces) -> Result<(), Fail> {
+    fn compare_all<R: Abort + AllocGlobal>(&mut self, rt: &R, pieces: Pieces) {
         for (choices, lengths) in [(2usize, 7usize), (3, 5)] {
             let mut count = 1usize;
             for length in 0..lengths {
                 for number in 0..count {
-                    let haystack = spell(rt.alloc(), number, length, &pieces[..choices])?;
+                    let haystack = spell(rt, number, length, &pieces[..choices]);
                     if haystack.len() <= 8 {
-                        self.compare_haystack(rt, haystack.as_slice())?;
+                        self.compare_haystack(rt, haystack.as_slice());
                     }
                 }
                 count = count.saturating_mul(choices);
             }
         }
-        Ok(())
     }
 
     /// Every span of a haystack, and the whole of it in each other mode.
-    fn compare_haystack<R: Abort + AllocGlobal>(
-        &mut self,
-        rt: &R,
-        haystack: &[u8],
-    ) -> Result<(), Fail> {
+    fn compare_haystack<R: Abort + AllocGlobal>(&mut self, rt: &R, haystack: &[u8]) {
         for end in 0..haystack.len() + 1 {
             for start in 0..end + 1 {
-                self.compare(rt, &Input::new(haystack).range(start..end))?;
-                self.compare(rt, &Input::new(haystack).range(start..end).earliest(true))?;
+                self.compare_both(rt, &Input::new(haystack).range(start..end));
+                self.compare_both(rt, &Input::new(haystack).range(start..end).earliest(true));
             }
         }
         for input in modes(haystack) {
-            self.compare(rt, &input)?;
+            self.compare_both(rt, &input);
         }
-        Ok(())
+    }
+
+    /// Searches, and what walks and sets tell.
+    fn compare_both<R: Abort + AllocGlobal>(&mut self, rt: &R, input: &Input<'_>) {
+        self.compare_halves(rt, input);
+        self.compare(rt, input);
+    }
+
+    /// Plain searches. It tells their answer.
+    pub fn compare_halves<R: Abort + AllocGlobal>(
+        &mut self,
+        rt: &R,
+        input: &Input<'_>,
+    ) -> Option<HalfMatch> {
+        let dfa = self.ample.dfa();
+        let kind = dfa.get_config().get_match_kind();
+        let want = half(rt, dfa.get_nfa(), kind, input);
+        let of = (self.name, kind, input);
+        let found = self.tight.find(input).expect(rt, "a search");
+        same_of(rt, &found, &want, &of);
+        let found = self.ample.find(input).expect(rt, "a search");
+        same_of(rt, &found, &want, &of);
+        want
     }
 
     /// Walks, and forward the sets of their patterns.
-    pub fn compare<R: Abort + AllocGlobal>(
-        &mut self,
-        rt: &R,
-        input: &Input<'_>,
-    ) -> Result<(), Fail> {
+    pub fn compare<R: Abort + AllocGlobal>(&mut self, rt: &R, input: &Input<'_>) {
         let dfa = self.ample.dfa();
         let kind = dfa.get_config().get_match_kind();
         let is_reverse = dfa.get_nfa().is_reverse();
-        list(dfa.get_nfa(), kind, input, &mut self.want)?;
+        list(rt, dfa.get_nfa(), kind, input, &mut self.want);
         let of = (self.name, kind, input);
-        self.ample.walk(input, &mut self.found)?;
+        self.ample.walk(rt, input, &mut self.found);
         same_of(rt, &self.found.as_slice(), &self.want.as_slice(), &of);
-        self.tight.walk(input, &mut self.found)?;
+        self.tight.walk(rt, input, &mut self.found);
         same_of(rt, &self.found.as_slice(), &self.want.as_slice(), &of);
-        if is_reverse {
-            return Ok(());
+        if !is_reverse {
+            self.compare_sets(rt, input);
         }
-        self.compare_sets(rt, input)
     }
 
-    fn compare_sets<R: Abort + AllocGlobal>(
-        &mut self,
-        rt: &R,
-        input: &Input<'_>,
-    ) -> Result<(), Fail> {
+    fn compare_sets<R: Abort + AllocGlobal>(&mut self, rt: &R, input: &Input<'_>) {
         for capacity in 1..4usize {
             let want = patterns_of(self.want.as_slice(), input.get_earliest(), capacity);
             let of = (self.name, capacity, input);
-            let found = self.ample.patterns(rt.alloc(), input, capacity)?;
-            same_of(rt, &found, &want, &of);
-            let found = self.tight.patterns(rt.alloc(), input, capacity)?;
-            same_of(rt, &found, &want, &of);
+            same_of(rt, &self.ample.patterns(rt, input, capacity), &want, &of);
+            same_of(rt, &self.tight.patterns(rt, input, capacity), &want, &of);
         }
-        Ok(())
     }
 }
 
-pub fn prepare(alloc: Global, name: Name, nfa: NFA, kind: MatchKind) -> Result<Listed, Fail> {
+pub fn prepare<R: Abort + AllocGlobal>(rt: &R, name: Name, nfa: NFA, kind: MatchKind) -> Listed {
     let config = Config::new()
         .match_kind(kind)
         .unicode_word_boundary(true)
         .starts_for_each_pattern(true);
     let least = config.cache_capacity(0).skip_cache_capacity_check(true);
-    let tight = walker(nfa.clone()?, least)?;
-    let ample = walker(nfa, config)?;
-    Ok(Listed {
+    let tight = walker(rt, nfa.clone().expect(rt, "a copy"), least);
+    let ample = walker(rt, nfa, config);
+    Listed {
         name,
         tight,
         ample,
-        want: Vec::new(alloc),
-        found: Vec::new(alloc),
-    })
+        want: Vec::new(rt.alloc()),
+        found: Vec::new(rt.alloc()),
+    }
 }
 
-fn walker(nfa: NFA, config: Config) -> Result<Walker, Fail> {
-    let dfa = DFA::builder().configure(config).build_from_nfa(nfa)?;
-    Ok(Walker::new(dfa)?)
+fn walker<R: Abort>(rt: &R, nfa: NFA, config: Config) -> Walker {
+    let built = DFA::builder().configure(config).build_from_nfa(nfa);
+    Walker::new(rt, built.expect(rt, "an automaton"))
 }
 
-/// Walks of both kinds in both directions tell what the listed paths of each entry say.
-fn agree<R: Abort + AllocGlobal>(rt: &R, entries: &[(Entry, Pieces)]) -> Result<(), Fail> {
-    for (entry, pieces) in entries.iter().copied() {
+/// Searches, walks and sets of both kinds in both directions tell what the listed paths of each entry say.
+fn agree<R: Abort + AllocGlobal>(rt: &R, entries: &[(Entry, Pieces)]) {
+    for row in entries {
+        let (entry, pieces) = *row;
         for kind in [MatchKind::LeftmostFirst, MatchKind::All] {
-            compare(rt, entry, entry.forward(rt.alloc())?, kind, pieces)?;
-            compare(rt, entry, entry.reverse(rt.alloc())?, kind, pieces)?;
+            compare(rt, entry, Automaton::Forward(entry).nfa(rt), kind, pieces);
+            compare(rt, entry, Automaton::Reverse(entry).nfa(rt), kind, pieces);
         }
     }
-    Ok(())
 }
 
 fn compare<R: Abort + AllocGlobal>(
@@ -210,9 +214,9 @@ fn compare<R: Abort + AllocGlobal>(
     nfa: NFA,
     kind: MatchKind,
     pieces: Pieces,
-) -> Result<(), Fail> {
-    let mut listed = prepare(rt.alloc(), Name::Of(entry), nfa, kind)?;
-    listed.compare_all(rt, pieces)
+) {
+    let mut listed = prepare(rt, Name::Of(entry), nfa, kind);
+    listed.compare_all(rt, pieces);
 }
 
 const LITERALS: &[(Entry, Pieces)] = &[
@@ -249,36 +253,20 @@ const SPLIT: &[(Entry, Pieces)] = &[
 ];
 
 #[test]
-fn literals_walk_their_paths(rt: HostRuntime) -> Result<(), Fail> {
-    agree(&rt, LITERALS)
+fn literals_walk_their_paths(rt: HostRuntime) {
+    agree(&rt, LITERALS);
+    agree(&rt, EMPTY);
 }
 
 #[test]
-fn empty_matches_walk_their_paths(rt: HostRuntime) -> Result<(), Fail> {
-    agree(&rt, EMPTY)
+fn repetitions_and_looks_walk_their_paths(rt: HostRuntime) {
+    agree(&rt, REPEATED);
+    agree(&rt, WORDS);
+    agree(&rt, LOOKS);
 }
 
 #[test]
-fn repetitions_walk_their_paths(rt: HostRuntime) -> Result<(), Fail> {
-    agree(&rt, REPEATED)
-}
-
-#[test]
-fn words_walk_their_paths(rt: HostRuntime) -> Result<(), Fail> {
-    agree(&rt, WORDS)
-}
-
-#[test]
-fn looks_walk_their_paths(rt: HostRuntime) -> Result<(), Fail> {
-    agree(&rt, LOOKS)
-}
-
-#[test]
-fn characters_walk_their_paths(rt: HostRuntime) -> Result<(), Fail> {
-    agree(&rt, SPLIT)
-}
-
-#[test]
-fn whole_characters_walk_their_paths(rt: HostRuntime) -> Result<(), Fail> {
-    agree(&rt, CHARACTERS)
+fn characters_walk_their_paths(rt: HostRuntime) {
+    agree(&rt, SPLIT);
+    agree(&rt, CHARACTERS);
 }

@@ -4,16 +4,16 @@ ghost use Rattle.std.specs.Prelude.{◌≡◌};
 ghost use Rattle.lazydfa.specs.Walks.{IsWalkOver};
 ghost use Rattle.regex_automata.specs.Caches.{IsCacheOf};
 
-use super::exhaust;
 use super::plans::pattern_id;
+use super::{check, exhaust};
 use crate::reply::Line;
 use regex_automata::hybrid::SearchError;
 use regex_automata::hybrid::dfa::{Cache, DFA, OverlappingState};
 use regex_automata::replay::Reply;
 use regex_automata::util::search::{Anchored, HalfMatch, Input, PatternSet};
-use std::alloc::{AllocError, Global};
+use std::alloc::Global;
 use std::fmt::Write;
-use std::test::Fail;
+use std::process::Abort;
 use std::{fmt, mem};
 
 /// What is walked over.
@@ -77,27 +77,26 @@ pub enum Turn {
 /// What a call tells.
 #[derive(Drop)]
 enum Told {
-    Nothing,
-    NoMemory,
+    Word(&'static str),
     Found(Reply),
-    /// Which of the first four patterns a set has, and why it has no more, if that was refused.
-    Set([bool; 4], Result<(), SearchError>),
+    /// Why a set has no more, and which of the first patterns it has.
+    Refused(Reply, &'static str),
     Counts(usize, usize, usize),
-    Flag(bool),
+}
+
+impl Told {
+    fn of_flag(yes: bool) -> Told {
+        Told::Word(if yes { "true" } else { "false" })
+    }
 }
 
 impl fmt::Display for Told {
     fn fmt<W: fmt::Write>(&self, f: &mut fmt::Formatter<W>) -> fmt::Result {
         match self {
-            Told::Nothing => write!(f, "-"),
-            Told::NoMemory => write!(f, "out of memory"),
+            Told::Word(word) => write!(f, "{word}"),
             Told::Found(reply) => write!(f, "{}", Line(reply)),
-            Told::Set(has, Ok(())) => write!(f, "{}", names(*has)),
-            Told::Set(has, Err(error)) => {
-                write!(f, "{} {}", Line(&Reply::Half(Err(*error))), names(*has))
-            }
+            Told::Refused(reply, names) => write!(f, "{} {names}", Line(reply)),
             Told::Counts(clears, memory, searched) => write!(f, "{clears} {memory} {searched}"),
-            Told::Flag(yes) => write!(f, "{yes}"),
         }
     }
 }
@@ -139,15 +138,15 @@ pub struct Walker {
 }
 
 impl Walker {
-    pub fn new(dfa: DFA) -> Result<Walker, AllocError> {
-        match (dfa.create_cache(), dfa.create_cache(), dfa.create_cache()) {
-            (Ok(first), Ok(second), Ok(third)) => Ok(Walker {
-                dfa,
-                first,
-                second,
-                third,
-            }),
-            _ => Err(AllocError),
+    pub fn new<R: Abort>(rt: &R, dfa: DFA) -> Walker {
+        let first = dfa.create_cache().expect(rt, "a cache");
+        let second = dfa.create_cache().expect(rt, "a cache");
+        let third = dfa.create_cache().expect(rt, "a cache");
+        Walker {
+            dfa,
+            first,
+            second,
+            third,
         }
     }
 
@@ -155,101 +154,62 @@ impl Walker {
         &self.dfa
     }
 
-    /// Writes what three walks over one input tell that are called in turn, the third over another
-    /// cache.
-    pub fn tell_three(&mut self, input: &Input<'_>, text: &mut String) -> Result<(), Fail> {
-        let mut first = OverlappingState::start();
-        let mut second = OverlappingState::start();
-        let mut third = OverlappingState::start();
-        self.tell_in_turn(input, &mut first, &mut second, &mut third, text)
-    }
-
-    fn tell_in_turn(
-        &mut self,
-        input: &Input<'_>,
-        first: &mut OverlappingState,
-        second: &mut OverlappingState,
-        third: &mut OverlappingState,
-        text: &mut String,
-    ) -> Result<(), Fail>
-        requires first { IsWalkOver self.old.dfa input.now first.old }
-        requires second { IsWalkOver self.old.dfa input.now second.old }
-        requires third { IsWalkOver self.old.dfa input.now third.old }
-    {
-        for call in 0..5u32 {
-            let one = Reply::Half(self.next(input, first));
-            let two = Reply::Half(self.next(input, second));
-            self.switch();
-            let three = Reply::Half(self.next(input, third));
-            self.switch();
-            self.switch();
-            write!(
-                text,
-                "{call}: {}, {}, {}; ",
-                Line(&one),
-                Line(&two),
-                Line(&three)
-            )?;
-        }
-        Ok(())
-    }
-
     /// All matches of a walk. Each call is made over another cache, after a search of the same input.
-    pub fn walk(&mut self, input: &Input<'_>, found: &mut Vec<HalfMatch>) -> Result<(), Fail> {
+    pub fn walk<R: Abort>(&mut self, rt: &R, input: &Input<'_>, found: &mut Vec<HalfMatch>) {
         found.clear();
         let mut walk = OverlappingState::start();
-        self.walk_on(input, &mut walk, found)
+        self.walk_on(rt, input, &mut walk, found);
     }
 
-    fn walk_on(
+    fn walk_on<R: Abort>(
         &mut self,
+        rt: &R,
         input: &Input<'_>,
         walk: &mut OverlappingState,
         found: &mut Vec<HalfMatch>,
-    ) -> Result<(), Fail>
+    )
         requires { IsWalkOver self.old.dfa input.now walk.old }
     {
         for _call in 0..1000u32 {
-            self.find(input)?;
-            let Some(half) = self.next(input, walk)? else {
-                return Ok(());
+            self.find(input).expect(rt, "a search");
+            let Some(half) = self.next(input, walk).expect(rt, "a call") else {
+                return;
             };
-            found.push(half)?;
+            found.push(half).expect(rt, "memory");
             self.switch();
         }
-        Err(Fail::from("a walk without end"))
+        check(rt, false);
     }
 
     /// Writes what the calls of a walk over this input tell, and those between them.
-    pub fn tell_all(
+    pub fn tell_all<R: Abort + AllocGlobal>(
         &mut self,
-        alloc: Global,
+        rt: &R,
         input: &Input<'_>,
         turns: &[Turn],
         text: &mut String,
-    ) -> Result<(), Fail> {
+    ) {
         let mut walk = OverlappingState::start();
-        self.tell_turns(alloc, input, turns, &mut walk, text)
+        self.tell_turns(rt, input, turns, &mut walk, text);
     }
 
-    fn tell_turns(
+    fn tell_turns<R: Abort + AllocGlobal>(
         &mut self,
-        alloc: Global,
+        rt: &R,
         input: &Input<'_>,
         turns: &[Turn],
         walk: &mut OverlappingState,
         text: &mut String,
-    ) -> Result<(), Fail>
+    )
         requires { IsWalkOver self.old.dfa input.now walk.old }
     {
         for turn in turns {
-            let told = self.answer(alloc, input, *turn, walk);
+            let told = self.answer(rt.alloc(), input, *turn, walk);
             if !text.is_empty() {
-                text.push_str(", ")?;
+                text.push_str(", ").expect(rt, "memory");
             }
-            write!(text, "{told}")?;
+            write!(text, "{told}").expect(rt, "memory");
         }
-        Ok(())
     }
 
     fn answer(
@@ -266,7 +226,7 @@ impl Walker {
             Turn::Next => Told::Found(Reply::Half(self.next(input, walk))),
             Turn::Begin => {
                 *walk = OverlappingState::start();
-                Told::Nothing
+                Told::Word("-")
             }
             Turn::Match => Told::Found(Reply::Half(Ok(walk.get_match()))),
             Turn::Which(capacity) => self.which(alloc, input, capacity, None),
@@ -276,15 +236,15 @@ impl Walker {
             }
             Turn::Switch => {
                 self.switch();
-                Told::Nothing
+                Told::Word("-")
             }
             Turn::Reset => self.reset(),
             Turn::Counts => self.counts(),
             Turn::Exhaust => {
                 exhaust(alloc);
-                Told::Nothing
+                Told::Word("-")
             }
-            Turn::Room => Told::Flag(Vec::<u8>::with_capacity(alloc, 1).is_ok()),
+            Turn::Room => Told::of_flag(Vec::<u8>::with_capacity(alloc, 1).is_ok()),
         }
     }
 
@@ -338,7 +298,7 @@ impl Walker {
         ensures { self.new.dfa ≡ self.old.dfa }
     {
         let Ok(mut set) = PatternSet::new(alloc, capacity) else {
-            return Told::NoMemory;
+            return Told::Word("out of memory");
         };
         if let Some(pattern) = given {
             let _ = set.try_insert(pattern_id(pattern));
@@ -350,19 +310,23 @@ impl Walker {
         ensures { self.new.dfa ≡ self.old.dfa }
     {
         let filled = self.collect(input, set);
-        Told::Set(firsts_of(set), filled)
+        let names = names(firsts_of(set));
+        match filled {
+            Ok(()) => Told::Word(names),
+            Err(error) => Told::Refused(Reply::Half(Err(error)), names),
+        }
     }
 
     /// Which of the first patterns all matches have, as far as they are below a capacity.
-    pub fn patterns(
+    pub fn patterns<R: Abort + AllocGlobal>(
         &mut self,
-        alloc: Global,
+        rt: &R,
         input: &Input<'_>,
         capacity: usize,
-    ) -> Result<[bool; 4], Fail> {
-        let mut set = PatternSet::new(alloc, capacity)?;
-        self.collect(input, &mut set)?;
-        Ok(firsts_of(&set))
+    ) -> [bool; 4] {
+        let mut set = PatternSet::new(rt.alloc(), capacity).expect(rt, "memory");
+        self.collect(input, &mut set).expect(rt, "a set");
+        firsts_of(&set)
     }
 
     /// Adds the patterns of all matches to a set.
@@ -384,10 +348,8 @@ impl Walker {
     fn reset(&mut self) -> Told
         ensures { self.new.dfa ≡ self.old.dfa }
     {
-        match self.dfa.reset_cache(&mut self.first) {
-            Ok(()) => Told::Nothing,
-            Err(AllocError) => Told::NoMemory,
-        }
+        let is_done = self.dfa.reset_cache(&mut self.first).is_ok();
+        Told::Word(if is_done { "-" } else { "out of memory" })
     }
 
     fn counts(&self) -> Told {

@@ -2,4 +2,4 @@ use Rattle.lazydfa.specs.Walks.{IsWalkOver}
 use Rattle.lazydfa.proofs.tests.walker.Walker.tell_turns.Given as goal
 
 abbrev pub invariant-loop-turn : goal.invariant-loop-turn
-invariant-loop-turn l = IsWalkOver l.self.dfa l.input l.walk
+invariant-loop-turn g l = IsWalkOver l.self.dfa l.input l.walk
