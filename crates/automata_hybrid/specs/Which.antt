@@ -9,6 +9,7 @@ use Rattle.automata_base.specs.Tapes.{Forward}
 use Rattle.automata_config.specs.declared.error.SearchError.{SearchError}
 use Rattle.automata_hybrid.specs.Stores.{Stored}
 use Rattle.automata_hybrid.specs.Machine.{Machine}
+use Rattle.automata_hybrid.specs.SearchedWalks.{IsOpenAfter}
 use Rattle.automata_hybrid.specs.Walking.{AreWalked, HasTold, IsWalkRefusal}
 use Rattle.automata_hybrid.specs.Walks.{Walk}
 
@@ -17,9 +18,11 @@ abbrev pub IsJoined : List Pair → (old new : List Bool) → Type 0
 IsJoined pairs old new =
     (p : ℕ) → In p (members new) ↔ (In p (members old) ⊎ ((p < length old) × HasPattern p pairs))
 
--- a call was refused that was to tell the pair behind the first `k`, and the set has the patterns of these
+-- a call was refused that was to tell the pair behind the first `k`, and the set has the patterns of these, with which it
+-- was gone on with
 abbrev pub IsWhichRefusal : Machine → Stored → Input → (old new : List Bool) → SearchError → Type 0
 IsWhichRefusal m c input old new e =
     (walk : Walk) × (k : ℕ) × HasTold Forward m input walk k
     × IsWalkRefusal Forward m c input walk k e
     × ((pairs : List Pair) → AreWalked Forward m input pairs → IsJoined (take k pairs) old new)
+    × IsOpenAfter m input old k

@@ -1,11 +1,11 @@
 -- What the search back costs, and what it is given.
 use Rattle.std.specs.Prelude.{IfSome}
-use Rattle.std.proofs.Common.{ℕ, ◌≡◌, ◌∙◌, ◌+◌, ◌-◌, ◌≤◌, length, Option, Some, None, refl, sym, ap, subst, arith}
+use Rattle.std.proofs.Common.{ℕ, ◌≡◌, ◌∙◌, ◌+◌, ◌-◌, ◌≤◌, inr, length, Option, Some, None, refl, sym, ap, subst, arith}
 use Rattle.std.specs.Option.{option_map}
 use Rattle.automata_base.specs.Answers.{Half}
 use Rattle.automata_base.specs.Input.{Input}
 use Rattle.automata_base.specs.Matches.{HalfMatch, Match}
-use Rattle.automata_base.specs.Spans.{back}
+use Rattle.automata_base.specs.Spans.{IsShort, back}
 use Rattle.automata_base.specs.Tapes.{Backward, Forward}
 use Rattle.automata_base.specs.declared.util.search.Anchored.{Anchored}
 use Rattle.automata_base.specs.declared.util.search.Anchored.TheVariants.{No, Yes}
@@ -20,34 +20,21 @@ use Rattle.automata_hybrid.specs.Within.{LiesPast}
 use Rattle.automata_hybrid.proofs.Costing.{cost_known, cost_once}
 use Rattle.automata_hybrid.proofs.Growing.{clears_none}
 use Rattle.automata_hybrid.proofs.Within.{found_within}
-use Rattle.regex_automata.specs.Costs.{IsPassCost}
+use Rattle.regex_automata.specs.Costs.{IsBackCost, IsPassCost, KnowsBackStart}
 use Rattle.regex_automata.specs.Outcomes.{FindsMatch, IsStartFound, MatchLiesIn}
 use Rattle.regex_automata.specs.RegexCaches.{KnowsBack, KnowsBoth}
+use Rattle.regex_automata.specs.SoundPairs.{forward_engine}
 use Rattle.regex_automata.specs.declared.hybrid.regex.Regex.{Regex}
 use Rattle.regex_automata.specs.declared.hybrid.regex.caches.Cache.{Cache}
 use Rattle.regex_automata.proofs.Results.{none_some, same_some, some_none}
 
--- no search costs nothing
-pub pass_none : (bytes : ℕ) (K : Type 0) (c : CacheView) → IsPassCost bytes K c c
-pass_none bytes K c = record { once = omega arith; started = λ k. omega arith; room = λ r. refl }
-
--- a start is known that is known on a condition
-pub pass_when :
-    (bytes : ℕ) (K L : Type 0) (old new : CacheView) → (L → K) → IsPassCost bytes K old new → IsPassCost bytes L old new
-pass_when bytes K L old new turn cost = record { once = cost.once; started = λ l. cost.started (turn l); room = cost.room }
-
--- what a pass over fewer bytes costs
-pub pass_fewer :
-    (few bytes : ℕ) (K : Type 0) (old new : CacheView)
-    → few ≤ bytes → new.count ≤ old.count + (few + 2) → (K → new.count ≤ old.count + (few + 1)) → IsGrown old new
+-- what a pass costs
+pass_once :
+    (bytes : ℕ) (K : Type 0) (old new : CacheView)
+    → new.count ≤ old.count + (bytes + 2) → (K → new.count ≤ old.count + (bytes + 1)) → IsGrown old new
     → IsPassCost bytes K old new
-pass_fewer few bytes K old new l one begun grown =
-    let once : new.count ≤ old.count + (bytes + 2) = omega (arith, l, one) in
-    record {
-      once = once;
-      started = λ k. (let less = begun k in omega (arith, l, less));
-      room = λ r. clears_none old new (bytes + 2) grown once r;
-    }
+pass_once bytes K old new once begun grown =
+    record { once = once; started = begun; room = λ r. clears_none old new (bytes + 2) grown once r }
 
 yes_no : ◌≡◌ {A = Anchored} Yes No → ⊥
 yes_no e = cc
@@ -59,7 +46,7 @@ pub cost_anchored :
     → IsPassCost (input.end - input.start) (KnowsItsStart Forward m old.store input) old new
 cost_anchored m input old new anchored passes grown =
     let whole : Skips m × (input.anchored ≡ No) → ⊥ = (λ s. yes_no (sym anchored ∙ s.1)) in
-    pass_fewer (input.end - input.start) (input.end - input.start) (KnowsItsStart Forward m old.store input) old new (omega arith)
+    pass_once (input.end - input.start) (KnowsItsStart Forward m old.store input) old new
     (cost_once Forward m input old new passes whole) (cost_known Forward m input old new passes whole) grown
 
 -- in reach of the search back is nothing that was not in reach before
@@ -68,19 +55,24 @@ pub back_reach :
     → NoQuitInReach m input → NoQuitInReach m (back input half)
 back_reach m input half from within reach = λ at byte s e n. reach at byte (omega (arith, from, s)) (omega (arith, within, e)) n
 
--- the search back costs what a pass over the whole span costs
+-- the search back is one pass, from the answer's end to its base
 pub cost_back :
-    (m : Machine) (input rest : Input) (half : Half) (old new : CacheView) → rest ≡ back input half
-    → input.start ≤ half.base → half.offset ≤ input.end
-    → IsCostOfSearch Backward m rest old new → IsGrown old new
-    → IsPassCost (input.end - input.start) (KnowsItsStart Backward m old.store (back input half)) old new
-cost_back m input rest half old new same from within passes grown =
-    let whole : Skips m × (rest.anchored ≡ No) → ⊥ = (λ s. yes_no (sym (ap (λ (i : Input). i.anchored) same) ∙ s.1)) in
-    let start : rest.start ≡ half.base = ap (λ (i : Input). i.start) same in
-    let end : rest.end ≡ half.offset = ap (λ (i : Input). i.end) same in
-    pass_fewer (rest.end - rest.start) (input.end - input.start) (KnowsItsStart Backward m old.store (back input half)) old new
-    (omega (arith, start, end, from, within)) (cost_once Backward m rest old new passes whole)
-    (λ begins. cost_known Backward m rest old new passes whole (subst (KnowsItsStart Backward m old.store) (sym same) begins)) grown
+    (p : Regex) (input rest : Input) (half : Half) (old new : CacheView) → rest ≡ back input half
+    → (IsShort (forward_engine p) input half → ⊥)
+    → IsCostOfSearch Backward p.reverse rest old new → IsGrown old new → IsBackCost p input half old new
+cost_back p input rest half old new same long passes grown =
+    inr (
+      long,
+      pass_once (half.offset - half.base) (KnowsBackStart p old.store input half) old new
+          (cost_once Backward p.reverse (back input half) old new here whole)
+          (cost_known Backward p.reverse (back input half) old new here whole) grown,
+    )
+  where
+    here : IsCostOfSearch Backward p.reverse (back input half) old new
+    here = subst (λ (i : Input). IsCostOfSearch Backward p.reverse i old new) same passes
+
+    whole : Skips p.reverse × ((back input half).anchored ≡ No) → ⊥
+    whole s = yes_no s.1
 
 -- what the search back found, as a half with its base
 pub back_some :

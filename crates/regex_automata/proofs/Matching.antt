@@ -21,7 +21,7 @@ use Rattle.automata_hybrid.specs.Machine.{Machine}
 use Rattle.automata_hybrid.specs.Searches.{IsFound, Skips, WithoutBase, without_base}
 use Rattle.automata_hybrid.proofs.Searching.{lt_or_le}
 use Rattle.automata_hybrid.proofs.Skipping.{found_told}
-use Rattle.regex_automata.specs.Matching.{IsAsked, IsMatchTold, IsNearestThere, in_part}
+use Rattle.regex_automata.specs.Matching.{IsAsked, IsMatchTold, IsNearestThere, IsTruthFound, in_part}
 use Rattle.automata_config.specs.Options.{match_kind_of}
 
 -- the first match is there where the last one is
@@ -112,7 +112,13 @@ same_some : (o : Option HalfMatch) (answer : Option Half) → o ≡ option_map w
 same_some o None e = ap (λ (v : Option HalfMatch). is_some v) e
 same_some o (Some half) e = ap (λ (v : Option HalfMatch). is_some v) e
 
--- what it tells
+-- what it finds
+pub truth_found :
+    (m : Machine) (input asked : Input) → IsAsked m input asked → (found : Option HalfMatch) (truth : Bool)
+    → WithoutBase (IsFound Forward m asked) found → truth ≡ is_some found → IsTruthFound m input truth
+truth_found m input asked is found truth f e = (asked, f.0, is, f.1, e ∙ same_some found f.0 f.2)
+
+-- and tells
 pub truth_told :
     (m : Machine) (input asked : Input) → IsAsked m input asked → (found : Option HalfMatch) (truth : Bool)
     → WithoutBase (IsFound Forward m asked) found → truth ≡ is_some found → IsMatchTold m input truth

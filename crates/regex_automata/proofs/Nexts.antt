@@ -8,7 +8,7 @@ use Rattle.automata_config.specs.declared.error.SearchError.{SearchError}
 use Rattle.automata_hybrid.proofs.Growing.{grown_trans}
 use Rattle.automata_hybrid.proofs.Searching.{lt_or_le}
 use Rattle.regex_automata.specs.Costs.{AreCostsOf}
-use Rattle.regex_automata.specs.Iterating.{AreCostsTwice, GoesPast, IsNextMatch, IsNextRefusal}
+use Rattle.regex_automata.specs.Iterating.{AreCostsTwice, FindsEmptyAt, GoesPast, IsNextMatch, IsNextRefusal}
 use Rattle.regex_automata.specs.Outcomes.{FindsMatch, MatchLiesIn}
 use Rattle.regex_automata.specs.RegexCaches.{AreGrown}
 use Rattle.regex_automata.specs.RegexRefusals.{IsRegexRefusal}
@@ -74,10 +74,11 @@ goes_later p input last (Err e) h = tt
 
 -- what two searches cost
 pub costs_twice :
-    (p : Regex) (input rest : Input) (old between new : Cache) → rest ≡ from (suc input.start) input
-    → AreCostsOf p input old between → AreCostsOf p rest between new → AreCostsTwice p input old new
-costs_twice p input rest old between new same first second =
-    inr (between, first, subst (λ (i : Input). AreCostsOf p i between new) same second)
+    (p : Regex) (input rest : Input) (last : Option ℕ) (old between new : Cache) → rest ≡ from (suc input.start) input
+    → FindsEmptyAt p input last → AreCostsOf p input old between → AreCostsOf p rest between new
+    → AreCostsTwice p input last old new
+costs_twice p input rest last old between new same empty first second =
+    inr (empty, (between, first, subst (λ (i : Input). AreCostsOf p i between new) same second))
 
 pub grown_twice : (a b c : Cache) → AreGrown a b → AreGrown b c → AreGrown a c
 grown_twice a b c f g = (grown_trans a.forward b.forward c.forward f.0 g.0, grown_trans a.reverse b.reverse c.reverse f.1 g.1)

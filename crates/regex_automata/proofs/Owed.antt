@@ -14,7 +14,7 @@ use Rattle.automata_hybrid.specs.Searches.{NoQuitInReach, Skips, tape_in}
 use Rattle.automata_hybrid.specs.Slots.{supports}
 use Rattle.automata_hybrid.specs.Starting.{quit_behind}
 use Rattle.automata_hybrid.proofs.Owing.{is_store}
-use Rattle.regex_automata.specs.Matching.{IsAsked, IsMatchTold, IsNearestThere}
+use Rattle.regex_automata.specs.Matching.{IsAsked, IsMatchTold, IsNearestThere, IsTruthFound}
 use Rattle.regex_automata.specs.Owing.{AreStoresOf, IsSpanOf, IsSpanTold, IsTruthOf, MayRefuseSpan, MayRefuseTruth}
 use Rattle.regex_automata.specs.RegexCaches.{AreCachesOf, AreFresh}
 use Rattle.regex_automata.specs.RegexRefusals.{IsFree, IsOfMemory, IsRegexRefusal}
@@ -81,6 +81,7 @@ span_owed p input r c of told answer span errors = record {
 -- a search for whether there is a match
 pub truth_owed :
     (p : Regex) (input : Input) (r : Result Bool SearchError)
+    → IfOk r (IsTruthFound p.forward input)
     → IfOk r (IsMatchTold p.forward input)
     → (IsLookAcyclic (nfa_of p.forward.nfa) → IfOk r (IsMatch (forward_engine p) input))
     → ((Skips p.forward → ⊥) → IfOk r (IsNearestThere p.forward input))
@@ -91,7 +92,8 @@ pub truth_owed :
     → IfErr r IsMemory)
     → (input.end < input.start → r ≡ Ok false)
     → IsTruthOf p input r
-truth_owed p input r told answer nearest errors unsupported answers done = record {
+truth_owed p input r found told answer nearest errors unsupported answers done = record {
+  found = found;
   told = told;
   answer = answer;
   nearest = nearest;

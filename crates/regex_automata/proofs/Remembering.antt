@@ -15,7 +15,7 @@ use Rattle.automata_hybrid.specs.Searches.{IsFound}
 use Rattle.automata_hybrid.proofs.Growing.{nothing_first, nothing_second}
 use Rattle.automata_hybrid.proofs.Within.{found_within}
 use Rattle.regex_automata.specs.Agreeing.{AreAlike, MatchesAgree}
-use Rattle.regex_automata.specs.Iterating.{KnowsNext}
+use Rattle.regex_automata.specs.Iterating.{FindsEmptyAt, KnowsNext}
 use Rattle.regex_automata.specs.Outcomes.{FindsMatch}
 use Rattle.regex_automata.specs.RegexCaches.{AreCachesOf, AreGrown, AreStill, KnowsBack, KnowsBoth, NothingCleared}
 use Rattle.regex_automata.specs.RegexRefusals.{IsOfGiven}
@@ -68,18 +68,24 @@ both_stays p front rear a b input given was is grown nothing knows = (
       let few = given.1 in
       omega (arith, to, few)
 
--- what a search that is the only one learned
-module _ (agree : MatchesAgree) (p : Regex) (input : Input) (last : Option ℕ) (c : Cache) (knows : KnowsBoth p c input) where
-  alone : (o : Option Match) → FindsMatch p input o → ((m : Match) → o ≡ Some m → IsEmptyAt last m → ⊥) → KnowsNext p c input last
-  alone o found stands = (knows, λ m f empty. absurd (stands m (agree p p input o (Some m) same found f) empty)) where
+-- a search that finds no empty match at the last end is the only one
+module _ (agree : MatchesAgree) (p : Regex) (input : Input) (last : Option ℕ) where
+  stands : (o : Option Match) → FindsMatch p input o → ((m : Match) → o ≡ Some m → IsEmptyAt last m → ⊥) → FindsEmptyAt p input last → ⊥
+  stands o found full (m, other, empty) = full m (agree p p input o (Some m) same found other) empty where
     same : AreAlike p p
     same = record { forward = refl; forward_kind = refl; reverse = refl; reverse_kind = refl }
 
-  pub alone_none : FindsMatch p input None → KnowsNext p c input last
-  alone_none found = alone None found (λ m e empty. none_some e)
+  pub stands_none : FindsMatch p input None → FindsEmptyAt p input last → ⊥
+  stands_none found = stands None found (λ m e empty. none_some e)
 
-  pub alone_some : (m : Match) → FindsMatch p input (Some m) → (IsEmptyAt last m → ⊥) → KnowsNext p c input last
-  alone_some m found full = alone (Some m) found (λ n e empty. full (subst (λ (v : Match). IsEmptyAt last v) (sym (same_some e)) empty))
+  pub stands_some : (m : Match) → FindsMatch p input (Some m) → (IsEmptyAt last m → ⊥) → FindsEmptyAt p input last → ⊥
+  stands_some m found full = stands (Some m) found (λ n e empty. full (subst (λ (v : Match). IsEmptyAt last v) (sym (same_some e)) empty))
+
+-- what it learned
+pub alone :
+    (p : Regex) (input : Input) (last : Option ℕ) (c : Cache) → KnowsBoth p c input → (FindsEmptyAt p input last → ⊥)
+    → KnowsNext p c input last
+alone p input last c knows only = (knows, λ m found empty. absurd (only (m, found, empty)))
 
 -- and what two searches did
 pub next_learned :

@@ -1,5 +1,5 @@
 -- The list of the patterns of a set, and what walks owe it.
-use Rattle.std.proofs.Common.{◌≡◌, ◌∙◌, ◌≤◌, ℕ, suc, Bool, true, false, List, [], ◌∷◌, Some, None, Result, Ok, Err, IfErr, OnOk, IfSome, arith, inl, inr, length, refl, subst, sym, ap}
+use Rattle.std.proofs.Common.{◌≡◌, ◌∙◌, ◌<◌, ◌≤◌, ◌⊎◌, ℕ, zero, suc, Bool, true, false, List, [], ◌∷◌, Some, None, Result, Ok, Err, IfErr, OnOk, IfSome, arith, inl, inr, length, refl, subst, sym, ap}
 use Rattle.std.specs.Prelude.{IsOk}
 use Rattle.std.proofs.lemmas.List.{length-replicate}
 use Rattle.std.specs.Result.{result_err}
@@ -7,14 +7,19 @@ use Rattle.automata_base.specs.Answers.{ArePatterns}
 use Rattle.automata_base.specs.Input.{Input}
 use Rattle.automata_base.specs.PatternSet.{members, members_from}
 use Rattle.automata_base.specs.Selections.{Pair}
+use Rattle.automata_base.specs.Tapes.{Forward}
 use Rattle.automata_config.specs.declared.error.SearchError.{SearchError}
 use Rattle.automata_config.specs.declared.error.SearchError.TheVariants as search
 use Rattle.automata_hybrid.specs.Machine.{Machine}
 use Rattle.automata_hybrid.specs.Owing.{IsMemory}
 use Rattle.automata_hybrid.specs.OwingWalks.{MayRefuseWhich}
-use Rattle.automata_hybrid.proofs.Searching.{false_true}
+use Rattle.automata_hybrid.specs.SearchedWalks.{EndsSet, HaveCalled, IsOpenAfter}
+use Rattle.automata_hybrid.specs.Stores.{Stored}
+use Rattle.automata_hybrid.specs.Walking.{HasTold}
+use Rattle.automata_hybrid.specs.Walks.{Walk}
+use Rattle.automata_hybrid.proofs.Searching.{false_true, lt_or_le}
 use Rattle.regex_automata.proofs.Results.{some_none}
-use Rattle.regex_automata.specs.Owing.{AreRising, ArePatternsUpto, MayRefusePatterns, empty_set}
+use Rattle.regex_automata.specs.Owing.{AreRising, ArePatternsUpto, HasToldSet, MayRefusePatterns, empty_set}
 
 -- what rises from a number rises from a lower one
 rising_from : (low k : ℕ) (ks : List ℕ) → low ≤ k → AreRising k ks → AreRising low ks
@@ -57,6 +62,30 @@ pub memory_where : (r : Result (Unit {0}) SearchError) → IfErr r IsMemory → 
 memory_where (Ok x) h = h
 memory_where (Err e) h = h
 
+-- what holds below a number and at it
+up_to : (P : ℕ → Type 0) (n : ℕ) → ((k : ℕ) → k < n → P k) → P n → (k : ℕ) → k < suc n → P k
+up_to P n below here k l = go (lt_or_le k n) where
+  go : (k < n) ⊎ (n ≤ k) → P k
+  go (inl less) = below k less
+  go (inr most) = let same : n ≡ k = omega (arith, l, most) in subst P same here
+
+-- the calls that the walk of a set has made, one after another, have told as many pairs, each where it was gone on with
+called_told :
+    (m : Machine) (input : Input) (set : List Bool) (calls : ℕ) (old : Stored) (walk : Walk) (new : Stored)
+    → HaveCalled m input set calls old walk new
+    → HasTold Forward m input walk calls × ((k : ℕ) → k < calls → IsOpenAfter m input set k)
+called_told m input set zero old walk new (fresh, same) =
+    (subst (λ (w : Walk). HasTold Forward m input w 0) (sym fresh) (refl, refl), λ k l. absurd (omega (arith, l)))
+called_told m input set (suc calls) old walk new (before, mid, called, is_open, tells, ended, rising) =
+    let told = called_told m input set calls old before mid called in
+    ((tells calls told.0).0, up_to (IsOpenAfter m input set) calls told.1 is_open)
+
+pub told_set :
+    (m : Machine) (input : Input) (set : List Bool) (old new : Stored) → EndsSet m input set old new → HasToldSet m input set
+told_set m input set old new (calls, walk, called, last) =
+    let told = called_told m input set calls old walk new called in
+    (calls, walk, told.0, told.1, last)
+
 -- a call that answered gave no refusal
 pub none_where : (r : Result (Unit {0}) SearchError) → IsOk r → IfSome (result_err r) IsMemory
 none_where (Ok x) ok = tt
@@ -70,6 +99,7 @@ no_patterns m input capacity found none = record {
   rise = subst (λ (ks : List ℕ). AreRising 0 ks) (sym none) tt;
   told = λ e. absurd (some_none e);
   paths = λ acyclic e. absurd (some_none e);
+  clean = λ e. absurd (some_none e);
   errors = inl (refl, none);
   unsupported = λ u. (none, inr refl);
   free = λ f. refl;

@@ -45,6 +45,7 @@ module _ (way : Direction) (m : Machine) (input : Input) (old : Walk) (k : ℕ) 
   step_answers new found is tells paths within supported = record {
     pair = λ pairs all. is ∙ ((tells k h.told).1 pairs all).0;
     paths = λ acyclic pairs all. is ∙ paths acyclic k pairs h.told all;
+    clean = (new, (tells k h.told).0);
     within = subst (λ (o : Option HalfMatch). IfSome o (LiesIn m input)) (sym is) within;
     errors = tt;
     ended = λ pairs all lt. tt;
@@ -79,6 +80,7 @@ module _ (way : Direction) (m : Machine) (input : Input) (old : Walk) (k : ℕ) 
   step_refused e errors lost goes_on unsupported free = record {
     pair = tt;
     paths = λ acyclic. tt;
+    clean = tt;
     within = tt;
     errors = step_error old.lost refl e errors lost;
     ended = λ pairs all lt. goes_on (h.ended pairs all lt);

@@ -1,8 +1,8 @@
 -- How often a search determinises, and when it clears nothing.
-use Rattle.std.specs.Prelude.{ℕ, ◌≡◌, ◌+◌, ◌-◌, ◌≤◌, Some}
+use Rattle.std.specs.Prelude.{ℕ, ◌≡◌, ◌+◌, ◌-◌, ◌≤◌, ◌⊎◌, Some}
 use Rattle.automata_base.specs.Answers.{Half}
 use Rattle.automata_base.specs.Input.{Input}
-use Rattle.automata_base.specs.Spans.{back}
+use Rattle.automata_base.specs.Spans.{IsShort, back}
 use Rattle.automata_base.specs.Tapes.{Backward, Forward}
 use Rattle.automata_hybrid.specs.Caches.{CacheView}
 use Rattle.automata_hybrid.specs.Costs.{IsCostOfSearch}
@@ -10,10 +10,11 @@ use Rattle.automata_hybrid.specs.Growing.{HasRoom}
 use Rattle.automata_hybrid.specs.Knowing.{KnowsItsStart}
 use Rattle.automata_hybrid.specs.Searches.{IsFound}
 use Rattle.automata_hybrid.specs.Stores.{Stored}
+use Rattle.regex_automata.specs.SoundPairs.{forward_engine}
 use Rattle.regex_automata.specs.declared.hybrid.regex.Regex.{Regex}
 use Rattle.regex_automata.specs.declared.hybrid.regex.caches.Cache.{Cache}
 
--- what one pass costs, or none, over a span of so many bytes, or of fewer
+-- what one pass costs, or none, over a span of so many bytes
 pub record IsPassCost (bytes : ℕ) (KnowsStart : Type 0) (old new : CacheView) : Type 0 where
   pub once : new.count ≤ old.count + (bytes + 2)
   -- where its start is known, that isn't determinised again
@@ -25,12 +26,17 @@ pub record IsPassCost (bytes : ℕ) (KnowsStart : Type 0) (old new : CacheView) 
 abbrev pub KnowsBackStart : Regex → Stored → Input → Half → Type 0
 KnowsBackStart p c input half = KnowsItsStart Backward p.reverse c (back input half)
 
--- whatever that answer is
-abbrev pub KnowsBackStarts : Regex → Stored → Input → Type 0
-KnowsBackStarts p c input = (half : Half) → IsFound Forward p.forward input (Some half) → KnowsBackStart p c input half
+-- what that search costs: where it is made, one pass from the answer's end to its base, and else nothing
+abbrev pub IsBackCost : Regex → Input → Half → (old new : CacheView) → Type 0
+IsBackCost p input half old new =
+    (IsShort (forward_engine p) input half × (new ≡ old))
+    ⊎ ((IsShort (forward_engine p) input half → ⊥)
+    × IsPassCost (half.offset - half.base) (KnowsBackStart p old.store input half) old new)
 
--- what a search costs the two caches of a regex: the forward one its passes, and the one back is one pass
+-- what a search costs the two caches of a regex: the forward one its passes, and the other one the search back, where
+-- there is a forward answer
 abbrev pub AreCostsOf : Regex → Input → Cache → Cache → Type 0
 AreCostsOf p input old new =
     IsCostOfSearch Forward p.forward input old.forward new.forward
-    × IsPassCost (input.end - input.start) (KnowsBackStarts p old.reverse.store input) old.reverse new.reverse
+    × ((new.reverse ≡ old.reverse)
+    ⊎ ((half : Half) × IsFound Forward p.forward input (Some half) × IsBackCost p input half old.reverse new.reverse))

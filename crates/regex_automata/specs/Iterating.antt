@@ -13,6 +13,10 @@ use Rattle.regex_automata.specs.RegexRefusals.{IsOfGiven, IsRegexRefusal}
 use Rattle.regex_automata.specs.declared.hybrid.regex.Regex.{Regex}
 use Rattle.regex_automata.specs.declared.hybrid.regex.caches.Cache.{Cache}
 
+-- the search finds an empty match at the last end, so that it is made again from a place later
+abbrev pub FindsEmptyAt : Regex → Input → Option ℕ → Type 0
+FindsEmptyAt p input last = (m : Match) × FindsMatch p input (Some m) × IsEmptyAt last m
+
 -- the match after one that ended at `last`: none that is empty there
 abbrev pub IsNextMatch : Regex → Input → Option ℕ → Option Match → Type 0
 IsNextMatch p input last answer = IsNextItem (FindsMatch p) input input.start last answer
@@ -28,11 +32,12 @@ IsNextRefusal p c input last e =
 abbrev pub GoesPast : Regex → Input → Option ℕ → Match → Type 0
 GoesPast p input last m = MatchLiesIn p input m × (last ≡ Some input.start → input.start < m.end)
 
--- what one search costs, or that and the one from a place later
-abbrev pub AreCostsTwice : Regex → Input → Cache → Cache → Type 0
-AreCostsTwice p input old new =
+-- what one search costs; or, where it finds an empty match at the last end, that and the one from a place later
+abbrev pub AreCostsTwice : Regex → Input → Option ℕ → Cache → Cache → Type 0
+AreCostsTwice p input last old new =
     AreCostsOf p input old new
-    ⊎ ((between : Cache) × AreCostsOf p input old between × AreCostsOf p (from (suc input.start) input) between new)
+    ⊎ (FindsEmptyAt p input last
+    × ((between : Cache) × AreCostsOf p input old between × AreCostsOf p (from (suc input.start) input) between new))
 
 -- all that the next match uses is known: what a search uses, and where that finds an empty match at the last end, what
 -- the one from a place later uses

@@ -1,9 +1,15 @@
--- The parts of a regex's cache, lent for writing.
-use Rattle.std.specs.Borrow.{Lends, LendsBoth, MutBor, Fml}
+-- The parts of a regex's cache, lent to be read and for writing.
+use Rattle.std.specs.Prelude.{◌≡◌, ⊤}
+use Rattle.std.specs.Borrow.{Lends, LendsBoth, MutBor, Fml, follows_so}
+use mathlib.Core.Option.{none}
 use Rattle.automata_hybrid.specs.Caches.{CacheView}
 use Rattle.automata_hybrid.specs.contracts.dfa.cache.Cache.{the_row as part}
 use Rattle.regex_automata.specs.declared.hybrid.regex.caches.Cache.{Cache}
 use Rattle.regex_automata.specs.contracts.hybrid.regex.caches.Cache.{the_row}
+
+-- the cache ends as it was, whatever is read behind a shared reference
+abbrev pub StaysSame : MutBor Cache → Fml
+StaysSame s = follows_so the_row the_row s.ghost_name none (λ _ _. ⊤) (λ last. last ≡ s.now)
 
 -- the cache ends with the last value behind the reference as its forward part
 abbrev pub LendsForward : MutBor Cache → MutBor CacheView → Fml

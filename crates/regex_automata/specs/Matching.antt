@@ -13,7 +13,7 @@ use Rattle.automata_hybrid.specs.Stores.{Stored}
 use Rattle.automata_hybrid.specs.Knowing.{Knows}
 use Rattle.automata_hybrid.specs.Machine.{Machine}
 use Rattle.automata_hybrid.specs.Searched.{EndsProgress, LeavesProgress}
-use Rattle.automata_hybrid.specs.Searches.{IsRefused, Skips}
+use Rattle.automata_hybrid.specs.Searches.{IsFound, IsRefused, Skips}
 use Rattle.automata_config.specs.Options.{match_kind_of}
 
 -- the input searched up to its first match
@@ -24,7 +24,12 @@ in_part input = record input { earliest = true }
 abbrev pub IsAsked : Machine → Input → Input → Type 0
 IsAsked m input asked = (Skips m × (asked ≡ in_full input)) ⊎ ((Skips m → ⊥) × (asked ≡ in_part input))
 
--- whether there is a match, by what passes tell of the input in full
+-- whether there is a match, by what a search finds, no pass of which met a quit byte
+abbrev pub IsTruthFound : Machine → Input → Bool → Type 0
+IsTruthFound m input truth =
+    (asked : Input) × (o : Option Half) × IsAsked m input asked × IsFound Forward m asked o × (truth ≡ is_some o)
+
+-- by what passes tell of the input in full
 abbrev pub IsMatchTold : Machine → Input → Bool → Type 0
 IsMatchTold m input truth =
     (o : Option Half) × IsTold Forward m.nfa (match_kind_of m.config) (in_full input) o × (truth ≡ is_some o)

@@ -1,6 +1,6 @@
 -- What the answer to a call owes by its DFA or its regex and its input alone, whatever the cache.
 use Rattle.std.specs.Prelude.{ℕ, suc, ◌≡◌, ◌<◌, ◌≤◌, ◌+◌, ◌-◌, ◌⊎◌, Bool, false, List, [], ◌∷◌, length, replicate}
-use Rattle.std.specs.Prelude.{Option, Some, None, Result, Ok, Err, IfOk, IfErr, IfSome}
+use Rattle.std.specs.Prelude.{Option, Some, None, Result, Ok, Err, IfOk, IfErr, IfSome, take}
 use Rattle.automata_base.specs.Answers.{IsOverlapping, ArePatterns, ArePatternsFound}
 use Rattle.automata_base.specs.Engines.{engine_of}
 use Rattle.automata_base.specs.Input.{Input}
@@ -13,16 +13,18 @@ use Rattle.automata_base.specs.Spans.{AreSpans, IsMatch, IsSpan, Rise, TryFinds,
 use Rattle.automata_base.specs.Tapes.{Direction, Forward}
 use Rattle.automata_config.specs.declared.error.SearchError.{SearchError}
 use Rattle.automata_config.specs.declared.error.SearchError.TheVariants as search
+use Rattle.automata_hybrid.specs.KnowingWalks.{IsOpen}
 use Rattle.automata_hybrid.specs.Stores.{Stored}
 use Rattle.automata_hybrid.specs.Machine.{Machine}
 use Rattle.automata_hybrid.specs.Owing.{IsMemory, IsStoreOf, IsUnhindered, IsUnsupported, unsupported_error}
 use Rattle.automata_hybrid.specs.OwingWalks.{MayRefuseCall, MayRefuseWhich}
+use Rattle.automata_hybrid.specs.SearchedWalks.{IsOpenAfter}
 use Rattle.automata_hybrid.specs.Walking.{AreWalked, HasTold, half_nth}
-use Rattle.automata_hybrid.specs.Walks.{Walk}
+use Rattle.automata_hybrid.specs.Walks.{Ended, Walk}
 use Rattle.automata_hybrid.specs.Within.{LiesIn}
 use Rattle.regex_automata.specs.Iterating.{AreCollected, IsBeginning, IsNextRefusal}
 use Rattle.automata_hybrid.specs.Searches.{Skips}
-use Rattle.regex_automata.specs.Matching.{IsMatchRefused, IsMatchTold, IsNearestThere}
+use Rattle.regex_automata.specs.Matching.{IsMatchRefused, IsMatchTold, IsNearestThere, IsTruthFound}
 use Rattle.regex_automata.specs.Outcomes.{FindsMatch, MatchLiesIn}
 use Rattle.regex_automata.specs.RegexRefusals.{IsFree, IsOfMemory, IsRegexRefusal}
 use Rattle.regex_automata.specs.SoundPairs.{AreLookAcyclic, IsSoundPair, forward_engine, reverse_engine}
@@ -52,6 +54,8 @@ pub record IsStep (way : Direction) (m : Machine) (input : Input) (told : ℕ)
       → IfOk result (λ found.
       (pairs : List Pair) → IsOverlapping way (engine_of m.nfa (match_kind_of m.config)) input pairs
       → found ≡ half_nth pairs told)
+  -- with it as many are told, and no unit that was read is a quit byte
+  pub clean : IfOk result (λ found. (w : Walk) × HasTold way m input w (suc told))
   -- it lies in the input's span, and its pattern is one of the automaton's
   pub within : IfOk result (λ found. IfSome found (LiesIn m input))
   -- a refusal is one that some cache may give
@@ -99,7 +103,8 @@ MayRefuseTruth m input e = (c : Stored) × IsStoreOf c m × IsMatchRefused m c i
 
 -- what the search for whether there is a match answers
 pub record IsTruthOf (p : Regex) (input : Input) (result : Result Bool SearchError) : Type 0 where
-  -- for every automaton, whether the passes tell one
+  -- for every automaton, whether its search finds one, and whether the passes in full tell one
+  pub found : IfOk result (IsTruthFound p.forward input)
   pub told : IfOk result (IsMatchTold p.forward input)
   -- where no cycle passes a look, whether the ordered paths have an answer
   pub answer : IsLookAcyclic (nfa_of p.forward.nfa) → IfOk result (IsMatch (forward_engine p) input)
@@ -173,6 +178,15 @@ MayRefusePatterns m input capacity found e =
     (IsMemory e × (found ≡ []))
     ⊎ ((set : List Bool) × (found ≡ members set) × MayRefuseWhich m input (empty_set capacity) set e)
 
+-- the walk of a set has told as many pairs as it was gone on with for, the last one where none is left or the set isn't
+-- gone on with; no unit that it read is a quit byte
+abbrev pub HasToldSet : Machine → Input → (set : List Bool) → Type 0
+HasToldSet m input set =
+    (calls : ℕ) × (walk : Walk) × HasTold Forward m input walk calls
+    × ((k : ℕ) → k < calls → IsOpenAfter m input set k)
+    × ((walk.stage ≡ Ended)
+    ⊎ ((pairs : List Pair) → AreWalked Forward m input pairs → IsOpen input set (take calls pairs) → ⊥))
+
 -- the patterns below a capacity of all overlapping matches, in an earliest search of the first one; or those told
 -- before the error
 pub record ArePatternsUpto (m : Machine) (input : Input) (capacity : ℕ) (found : List ℕ)
@@ -185,6 +199,8 @@ pub record ArePatternsUpto (m : Machine) (input : Input) (capacity : ℕ) (found
   pub paths :
       IsLookAcyclic (nfa_of m.nfa) → error ≡ None
       → ArePatternsFound (engine_of m.nfa (match_kind_of m.config)) input capacity [] found
+  -- up to the last one no unit that was read is a quit byte
+  pub clean : error ≡ None → HasToldSet m input (empty_set capacity)
   -- a refusal is one that some cache may give
   pub errors : IfSome error (MayRefusePatterns m input capacity found)
   -- in a mode that isn't supported there is none, and that is told, unless memory is wanting for the set or the list

@@ -1,6 +1,6 @@
 -- How what a replay keeps stands to the history of its requests and replies.
 use Rattle.std.specs.Prelude.{ℕ, ◌≡◌, ◌+◌, ◌<◌, List, [], ◌∷◌, length, slice_index_or, slice_set, Option, Some, Result}
-use Rattle.std.specs.Prelude.{OnOk, OnErr}
+use Rattle.std.specs.Prelude.{Ok, OnOk, OnErr}
 use Rattle.automata_base.specs.Input.{Input}
 use Rattle.automata_base.specs.Lists.{nth}
 use Rattle.automata_base.specs.Matches.{HalfMatch}
@@ -12,10 +12,11 @@ use Rattle.automata_hybrid.specs.Walking.{AreWalked, HasTold}
 use Rattle.automata_hybrid.specs.Walks.{Walk, Ended}
 use Rattle.regex_automata.specs.Histories.{Begun, History, after}
 use Rattle.regex_automata.specs.Owing.{IsStep}
-use Rattle.regex_automata.specs.RegexCaches.{AreCachesOf}
+use Rattle.regex_automata.specs.RegexCaches.{AreCachesOf, AreFresh}
 use Rattle.regex_automata.specs.Replies.{IsReply, dfa_of, direction_of}
 use Rattle.regex_automata.specs.declared.hybrid.regex.Regex.{Regex}
 use Rattle.regex_automata.specs.declared.replay.replies.Reply.{Reply}
+use Rattle.regex_automata.specs.declared.replay.replies.Reply.TheVariants as reply
 use Rattle.regex_automata.specs.declared.replay.requests.Request.{Request}
 use Rattle.regex_automata.specs.declared.replay.players.Player.{Player}
 use Rattle.regex_automata.specs.declared.replay.walks.KeptWalk.{KeptWalk}
@@ -85,3 +86,8 @@ IsReplyTo s q answer = (h : History) → HasPlayed h s → IsReply s.regexes.now
 
 abbrev pub StandsAfter : (old : Player) → Request → Reply → (new : Player) → Type 0
 StandsAfter old q answer new = (h : History) → HasPlayed h old → HasPlayed (after h q answer) new
+
+-- after an Ok reply to a reset the caches are fresh ones of the regex that is current then
+abbrev pub AreFreshAfter : Reply → Player → Type 0
+AreFreshAfter (reply.Done (Ok done)) s = AreFresh s.regex.now s.cache
+AreFreshAfter other s = Unit {0}

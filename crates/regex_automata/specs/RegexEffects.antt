@@ -1,5 +1,5 @@
 -- What a search over two lazy DFAs makes of their caches.
-use Rattle.std.specs.Prelude.{ℕ, ◌≡◌, ◌-◌, ◌<◌, Bool, Option, Result, IfErr, IfOk, OnOk}
+use Rattle.std.specs.Prelude.{ℕ, ◌≡◌, ◌<◌, Bool, Option, Result, IfErr, IfOk, OnOk}
 use Rattle.automata_base.specs.Answers.{Half}
 use Rattle.automata_base.specs.Input.{Input}
 use Rattle.automata_base.specs.Matches.{Match}
@@ -7,7 +7,7 @@ use Rattle.automata_config.specs.declared.error.SearchError.{SearchError}
 use Rattle.automata_hybrid.specs.Caches.{CacheView}
 use Rattle.automata_hybrid.specs.Growing.{ClearedNothing, IsGrown, IsStill}
 use Rattle.automata_hybrid.specs.Knowing.{IsOfInput}
-use Rattle.regex_automata.specs.Costs.{AreCostsOf, IsPassCost, KnowsBackStart}
+use Rattle.regex_automata.specs.Costs.{AreCostsOf, IsBackCost}
 use Rattle.regex_automata.specs.Iterating.{AreCostsTwice, KnowsNext, LearnsItem}
 use Rattle.regex_automata.specs.Matching.{EndsMatch, IsMatchCost, KnowsMatch, LeavesMatch}
 use Rattle.regex_automata.specs.RegexCaches.{AreGrown, AreStill, KnowsBack, KnowsBoth, NothingCleared}
@@ -37,8 +37,8 @@ pub record IsSpanEffect (p : Regex) (input : Input) (old new : Cache)
 -- the search back in it, from a forward answer, which is made or isn't
 pub record IsBackEffect (p : Regex) (input : Input) (half : Half) (old new : CacheView)
     (result : Result (Option ℕ) SearchError) : Type 0 where
-  -- it is one pass
-  pub cost : IsPassCost (input.end - input.start) (KnowsBackStart p old.store input half) old new
+  -- it is one pass from the answer's end to its base
+  pub cost : IsBackCost p input half old new
   -- until the next clear nothing is lost
   pub grown : IsGrown old new
   -- and what it used is known
@@ -49,15 +49,15 @@ pub record IsBackEffect (p : Regex) (input : Input) (half : Half) (old new : Cac
   pub ended : OnOk result (EndsBack p input half old new)
   pub left : IfErr result (LeavesBack p input half old new)
 
--- a search for the match after another, made once, or once more from a place later
+-- a search for the match after another, made once, or behind an empty one at the last end once more, from a place later
 pub record IsNextEffect (p : Regex) (input : Input) (last : Option ℕ) (old new : Cache)
     (result : Result (Option Match) SearchError) : Type 0 where
-  pub cost : AreCostsTwice p input old new
+  pub cost : AreCostsTwice p input last old new
   pub grown : AreGrown old new
   pub learned : NothingCleared old new → OnOk result (KnowsNext p new input last)
   pub known : KnowsNext p old input last → AreStill old new × IfErr result IsOfGiven
-  pub ended : IfOk result (EndsNext p input old new)
-  pub left : IfErr result (LeavesNext p input old new)
+  pub ended : IfOk result (EndsNext p input last old new)
+  pub left : IfErr result (LeavesNext p input last old new)
 
 -- a search for whether there is a match, which leaves the reverse cache as it is
 pub record IsTruthEffect (p : Regex) (input : Input) (old new : Cache)
@@ -72,10 +72,10 @@ pub record IsTruthEffect (p : Regex) (input : Input) (old new : Cache)
   pub left : IfErr result (LeavesMatch p.forward input old.forward.store new.forward.store)
   pub done : input.end < input.start → new ≡ old
 
--- an item of an iteration, which searches once, or once more from a place later
+-- an item of an iteration, which searches so
 pub record IsItemEffect (p : Regex) (input : Input) (last : Option ℕ) (ended : Bool) (old new : Cache)
     (item : Option (Result Match SearchError)) : Type 0 where
-  pub cost : AreCostsTwice p input old new
+  pub cost : AreCostsTwice p input last old new
   pub grown : AreGrown old new
   pub learns : LearnsItem p old new input last ended item
-  pub progress : LeavesItem p input old new ended item
+  pub progress : LeavesItem p input last old new ended item

@@ -1,15 +1,17 @@
 -- What a search over two lazy DFAs leaves of the progress of searches.
-use Rattle.std.specs.Prelude.{suc, ◌≡◌, ◌⊎◌, Option, Some, None, Result, Ok, Err, Bool, true, false}
+use Rattle.std.specs.Prelude.{ℕ, suc, ◌≡◌, ◌⊎◌, Option, Some, None, Result, Ok, Err, Bool, true, false}
 use Rattle.automata_base.specs.Answers.{Half}
 use Rattle.automata_base.specs.Input.{Input}
 use Rattle.automata_base.specs.Matches.{Match}
-use Rattle.automata_base.specs.Spans.{IsShort, back, from}
+use Rattle.automata_base.specs.Spans.{IsEmptyAt, IsShort, back, from}
 use Rattle.automata_base.specs.Tapes.{Backward, Forward}
 use Rattle.automata_config.specs.declared.error.SearchError.{SearchError}
 use Rattle.automata_config.specs.declared.error.SearchError.TheVariants as search
 use Rattle.automata_hybrid.specs.Caches.{CacheView}
 use Rattle.automata_hybrid.specs.Searched.{EndsProgress, LeavesProgress}
 use Rattle.automata_hybrid.specs.Searches.{IsFound}
+use Rattle.regex_automata.specs.Iterating.{FindsEmptyAt}
+use Rattle.regex_automata.specs.Outcomes.{FindsMatch}
 use Rattle.regex_automata.specs.SoundPairs.{forward_engine}
 use Rattle.regex_automata.specs.declared.hybrid.regex.Regex.{Regex}
 use Rattle.regex_automata.specs.declared.hybrid.regex.caches.Cache.{Cache}
@@ -50,23 +52,28 @@ LeavesSpan p input old new e =
     × (LeavesBack p input half old.reverse new.reverse e
     ⊎ ((e ≡ search.NotAPair) × EndsBack p input half old.reverse new.reverse))))
 
--- the same of the next match: of one search, or of one that gave a match and the one from a place later
-abbrev pub EndsNext : Regex → Input → (old new : Cache) → Option Match → Type 0
-EndsNext p input old new o =
-    EndsSpan p input old new o
-    ⊎ ((between : Cache) × (m : Match) × EndsSpan p input old between (Some m)
-    × EndsSpan p (from (suc input.start) input) between new o)
+-- a search found an empty match at the last end, and has ended
+abbrev pub EndsEmpty : Regex → Input → Option ℕ → (old new : Cache) → Type 0
+EndsEmpty p input last old new =
+    (m : Match) × FindsMatch p input (Some m) × IsEmptyAt last m × EndsSpan p input old new (Some m)
 
-abbrev pub LeavesNext : Regex → Input → (old new : Cache) → SearchError → Type 0
-LeavesNext p input old new e =
+-- the same of the next match: of one search, where it finds no such match, and else of that and the one from a place
+-- later
+abbrev pub EndsNext : Regex → Input → Option ℕ → (old new : Cache) → Option Match → Type 0
+EndsNext p input last old new o =
+    ((FindsEmptyAt p input last → ⊥) × EndsSpan p input old new o)
+    ⊎ ((between : Cache) × EndsEmpty p input last old between × EndsSpan p (from (suc input.start) input) between new o)
+
+abbrev pub LeavesNext : Regex → Input → Option ℕ → (old new : Cache) → SearchError → Type 0
+LeavesNext p input last old new e =
     LeavesSpan p input old new e
-    ⊎ ((between : Cache) × (m : Match) × EndsSpan p input old between (Some m)
+    ⊎ ((between : Cache) × EndsEmpty p input last old between
     × LeavesSpan p (from (suc input.start) input) between new e)
 
 -- and of an item of an iteration, which changes nothing once that has ended
 abbrev pub LeavesItem :
-    Regex → Input → (old new : Cache) → (ended : Bool) → Option (Result Match SearchError) → Type 0
-LeavesItem p input old new true item = new ≡ old
-LeavesItem p input old new false None = EndsNext p input old new None
-LeavesItem p input old new false (Some (Ok m)) = EndsNext p input old new (Some m)
-LeavesItem p input old new false (Some (Err e)) = LeavesNext p input old new e
+    Regex → Input → Option ℕ → (old new : Cache) → (ended : Bool) → Option (Result Match SearchError) → Type 0
+LeavesItem p input last old new true item = new ≡ old
+LeavesItem p input last old new false None = EndsNext p input last old new None
+LeavesItem p input last old new false (Some (Ok m)) = EndsNext p input last old new (Some m)
+LeavesItem p input last old new false (Some (Err e)) = LeavesNext p input last old new e

@@ -2,7 +2,7 @@
 ghost use Rattle.std.specs.Prelude.{◌≡◌, IfOk, Some};
 ghost use Rattle.automata_base.specs.Lists.{nth};
 ghost use Rattle.regex_automata.specs.Histories.{History, start};
-ghost use Rattle.regex_automata.specs.Players.{HasPlayed, IsReplyTo, StandsAfter};
+ghost use Rattle.regex_automata.specs.Players.{AreFreshAfter, HasPlayed, IsReplyTo, StandsAfter};
 ghost use Rattle.regex_automata.specs.declared.replay.requests.Request.TheVariants as request;
 
 use crate::hybrid::dfa::OverlappingState;
@@ -57,6 +57,7 @@ impl<'r, 'h> Player<'r, 'h> {
         ensures regexes { self.new.regexes.now ≡ self.old.regexes.now }
         ensures reply { IsReplyTo self.old request.now result }
         ensures at { StandsAfter self.old request.now result self.new }
+        ensures fresh { AreFreshAfter result self.new }
     {
         let regex = self.regex;
         match request {
@@ -102,6 +103,7 @@ impl<'r, 'h> Player<'r, 'h> {
         ensures regexes { self.new.regexes.now ≡ self.old.regexes.now }
         ensures reply { IsReplyTo self.old (request.BeginWalk reverse input.now) result }
         ensures at { StandsAfter self.old (request.BeginWalk reverse input.now) result self.new }
+        ensures fresh { AreFreshAfter result self.new }
     {
         let number = self.walks.len();
         let walk = KeptWalk {
@@ -122,6 +124,7 @@ impl<'r, 'h> Player<'r, 'h> {
         ensures regexes { self.new.regexes.now ≡ self.old.regexes.now }
         ensures reply { IsReplyTo self.old (request.StepWalk number) result }
         ensures at { StandsAfter self.old (request.StepWalk number) result self.new }
+        ensures fresh { AreFreshAfter result self.new }
     {
         let of = match self.walks.get(number) {
             Some(walk) => walk.regex,
@@ -141,6 +144,7 @@ impl<'r, 'h> Player<'r, 'h> {
         ensures regexes { self.new.regexes.now ≡ self.old.regexes.now }
         ensures reply { IsReplyTo self.old (request.Reset number) result }
         ensures at { StandsAfter self.old (request.Reset number) result self.new }
+        ensures fresh { AreFreshAfter result self.new }
     {
         let regexes = self.regexes;
         match regexes.get(number) {

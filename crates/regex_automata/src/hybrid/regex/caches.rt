@@ -3,7 +3,7 @@ ghost use Rattle.std.specs.Borrow.{sem};
 ghost use Rattle.automata_hybrid.specs.Usage.{usage};
 ghost use Rattle.automata_hybrid.specs.Owing.{IsStoreOf};
 ghost use Rattle.regex_automata.specs.RegexCaches.{AreFresh};
-ghost use Rattle.regex_automata.specs.Lending.{LendsBothParts, LendsForward, LendsReverse};
+ghost use Rattle.regex_automata.specs.Lending.{LendsBothParts, LendsForward, LendsReverse, StaysSame};
 
 use crate::hybrid::dfa;
 use crate::hybrid::regex::Regex;
@@ -35,16 +35,18 @@ impl Cache {
         Ok(())
     }
 
-    /// The cache of the forward DFA.
+    /// The cache of the forward DFA. Neither part changes.
     pub fn forward(&mut self) -> &dfa::Cache
-        ensures { result.now ≡ self.old.forward }
+        ensures* same { sem 𝓛 (StaysSame self.entry) }
+        ensures value { result.now ≡ self.old.forward }
     {
         &self.forward
     }
 
-    /// The cache of the reverse DFA.
+    /// The cache of the reverse DFA. Neither part changes.
     pub fn reverse(&mut self) -> &dfa::Cache
-        ensures { result.now ≡ self.old.reverse }
+        ensures* same { sem 𝓛 (StaysSame self.entry) }
+        ensures value { result.now ≡ self.old.reverse }
     {
         &self.reverse
     }

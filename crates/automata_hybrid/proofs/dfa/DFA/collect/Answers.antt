@@ -26,8 +26,14 @@ use Rattle.automata_config.specs.Options.{match_kind_of}
 pub returns-in_err-next-clause-refusal : goal.returns-in_err-next-clause-refusal
 returns-in_err-next-clause-refusal c =
     let j = c.loop-walk.invariant.joins.0 in
-    if_err c.from_residual.result _ _ c.from_residual.ensures.1
-    (c.loop-walk.walk, j.k, j.told, c.in_err-next.ensures.refusal.why (kept_by c.loop-walk.walk c.loop-walk.at c.loop-walk.invariant.can) j.k j.told, j.joined)
+    if_err c.from_residual.result _ _ c.from_residual.ensures.1 (
+      c.loop-walk.walk,
+      j.k,
+      j.told,
+      c.in_err-next.ensures.refusal.why (kept_by c.loop-walk.walk c.loop-walk.at c.loop-walk.invariant.can) j.k j.told,
+      j.joined,
+      open_after c.args.self.now c.args.input.now c.loop-walk.walk c.args.patset.now c.loop-walk.patset j,
+    )
 
 pub returns-in_err-next-clause-told : goal.returns-in_err-next-clause-told
 returns-in_err-next-clause-told c =

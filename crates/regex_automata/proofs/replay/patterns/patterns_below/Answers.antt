@@ -1,4 +1,4 @@
-use Rattle.std.proofs.Common.{◌≡◌, ◌∙◌, Option, [], ap, inl, subst, sym, IfSome}
+use Rattle.std.proofs.Common.{◌≡◌, ◌∙◌, Bool, List, Option, [], ap, inl, subst, sym, IfSome}
 use Rattle.std.specs.Result.{result_err}
 use Rattle.automata_base.specs.Answers.{ArePatterns, ArePatternsFound}
 use Rattle.automata_base.specs.Engines.{engine_of}
@@ -7,9 +7,10 @@ use Rattle.automata_base.specs.PatternSet.{members}
 use Rattle.automata_base.specs.Tapes.{Forward}
 use Rattle.automata_config.specs.declared.error.SearchError.{SearchError}
 use Rattle.automata_hybrid.specs.Owing.{IsMemory}
+use Rattle.automata_hybrid.specs.SearchedWalks.{EndsSet}
 use Rattle.automata_hybrid.specs.Walking.{AreWalked}
-use Rattle.regex_automata.specs.Owing.{MayRefusePatterns}
-use Rattle.regex_automata.proofs.SetLists.{members_rise, memory_where, no_patterns, none_where, patterns_told, refused_where, told_where}
+use Rattle.regex_automata.specs.Owing.{HasToldSet, MayRefusePatterns}
+use Rattle.regex_automata.proofs.SetLists.{members_rise, memory_where, no_patterns, none_where, patterns_told, refused_where, told_set, told_where}
 use Rattle.regex_automata.proofs.replay.patterns.patterns_below.Goals as goal
 use Rattle.automata_config.specs.Options.{match_kind_of}
 
@@ -33,6 +34,10 @@ returns-in-Ok-list_members-clause-owed c =
           (told_where told (ArePatterns (AreWalked Forward m input) input _ _ _) s.told.found (sym error ∙ none));
       paths = λ acyclic none. patterns_told (IsOverlapping Forward (engine_of m.nfa (match_kind_of m.config)) input) input c.args.capacity old new found c.in-Ok.ensures.capacity c.in-Ok.ensures.empty c.in-Ok-list_members.ensures
           (told_where told (ArePatternsFound (engine_of m.nfa (match_kind_of m.config)) input _ _ _) (s.told.paths acyclic) (sym error ∙ none));
+      clean = λ none. subst (λ (set : List Bool). HasToldSet m input set) c.in-Ok.ensures.capacity
+          (told_set m input old c.args.cache.now.store c.try_which_overlapping_matches-told.new.cache.store
+          (told_where told (EndsSet m input old c.args.cache.now.store c.try_which_overlapping_matches-told.new.cache.store)
+          c.try_which_overlapping_matches-told.ensures.effect.ended (sym error ∙ none)));
       errors = subst (λ (e : Option SearchError). IfSome e (MayRefusePatterns m input c.args.capacity found)) (sym error)
           (refused_where told m input c.args.capacity old new found c.in-Ok.ensures.capacity c.in-Ok-list_members.ensures s.errors);
       unsupported = λ u. (let told = s.told.unsupported u in (still told.1, inl (error ∙ ap result_err told.0)));

@@ -8,7 +8,7 @@ use Rattle.automata_hybrid.specs.Searches.{IsFound, IsRefused, NoQuitInReach, wi
 use Rattle.automata_hybrid.specs.Within.{LiesIn}
 use Rattle.automata_hybrid.proofs.Growing.{grown_same}
 use Rattle.automata_hybrid.proofs.Searching.{if_err}
-use Rattle.regex_automata.proofs.Finding.{back_none, back_reach, back_some, cost_back, pass_none}
+use Rattle.regex_automata.proofs.Finding.{back_none, back_reach, back_some, cost_back}
 use Rattle.regex_automata.proofs.Nexts.{some_of}
 use Rattle.regex_automata.proofs.Results.{on_ok}
 use Rattle.regex_automata.proofs.hybrid.regex.Regex.find_start.Goals as goal
@@ -24,7 +24,7 @@ returns-then-short-clause-within c = (omega arith, c.requires.past.past)
 
 pub returns-then-short-clause-effect : goal.returns-then-short-clause-effect
 returns-then-short-clause-effect c = record {
-  cost = pass_none _ _ c.args.cache.now;
+  cost = inl (c.is_short-short.ensures.yes c.if-short.true, refl);
   grown = grown_same c.args.cache.now c.args.cache.now refl;
   learned = λ nothing long. absurd (long (c.is_short-short.ensures.yes c.if-short.true));
   known = λ knows. ((refl, refl), tt);
@@ -63,8 +63,8 @@ returns-in_err-found-clause-free c = λ reach free.
 
 pub returns-in_err-found-clause-effect : goal.returns-in_err-found-clause-effect
 returns-in_err-found-clause-effect c = record {
-  cost = cost_back c.args.self.now.reverse c.args.input.now c.backward-rest.result (with_base c.args.half c.args.base) c.args.cache.now c.try_search_rev.new.cache c.backward-rest.ensures
-      c.requires.past.from c.requires.past.lies.upto c.try_search_rev.ensures.effect.cost c.try_search_rev.ensures.effect.grown;
+  cost = cost_back c.args.self.now c.args.input.now c.backward-rest.result (with_base c.args.half c.args.base) c.args.cache.now c.try_search_rev.new.cache c.backward-rest.ensures
+      (c.is_short-short.ensures.no c.if-short.false) c.try_search_rev.ensures.effect.cost c.try_search_rev.ensures.effect.grown;
   grown = c.try_search_rev.ensures.effect.grown;
   learned = search rules;
   known = λ knows.
@@ -98,8 +98,8 @@ returns-in-Some-clause-within c =
 
 pub returns-in-Some-clause-effect : goal.returns-in-Some-clause-effect
 returns-in-Some-clause-effect c = record {
-  cost = cost_back c.args.self.now.reverse c.args.input.now c.backward-rest.result (with_base c.args.half c.args.base) c.args.cache.now c.try_search_rev.new.cache c.backward-rest.ensures
-      c.requires.past.from c.requires.past.lies.upto c.try_search_rev.ensures.effect.cost c.try_search_rev.ensures.effect.grown;
+  cost = cost_back c.args.self.now c.args.input.now c.backward-rest.result (with_base c.args.half c.args.base) c.args.cache.now c.try_search_rev.new.cache c.backward-rest.ensures
+      (c.is_short-short.ensures.no c.if-short.false) c.try_search_rev.ensures.effect.cost c.try_search_rev.ensures.effect.grown;
   grown = c.try_search_rev.ensures.effect.grown;
   learned = λ nothing long.
       subst (Knows Backward c.args.self.now.reverse c.try_search_rev.new.cache.store) c.backward-rest.ensures (c.in_ok-found.ensures.effect.learned nothing);
@@ -125,8 +125,8 @@ returns-in-None-clause-found c = (
 
 pub returns-in-None-clause-effect : goal.returns-in-None-clause-effect
 returns-in-None-clause-effect c = record {
-  cost = cost_back c.args.self.now.reverse c.args.input.now c.backward-rest.result (with_base c.args.half c.args.base) c.args.cache.now c.try_search_rev.new.cache c.backward-rest.ensures
-      c.requires.past.from c.requires.past.lies.upto c.try_search_rev.ensures.effect.cost c.try_search_rev.ensures.effect.grown;
+  cost = cost_back c.args.self.now c.args.input.now c.backward-rest.result (with_base c.args.half c.args.base) c.args.cache.now c.try_search_rev.new.cache c.backward-rest.ensures
+      (c.is_short-short.ensures.no c.if-short.false) c.try_search_rev.ensures.effect.cost c.try_search_rev.ensures.effect.grown;
   grown = c.try_search_rev.ensures.effect.grown;
   learned = λ nothing long.
       subst (Knows Backward c.args.self.now.reverse c.try_search_rev.new.cache.store) c.backward-rest.ensures (c.in_ok-found.ensures.effect.learned nothing);

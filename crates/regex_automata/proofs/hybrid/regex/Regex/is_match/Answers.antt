@@ -15,7 +15,7 @@ use Rattle.automata_hybrid.specs.Starting.{quit_behind}
 use Rattle.automata_hybrid.proofs.Growing.{grown_same}
 use Rattle.automata_hybrid.proofs.Searching.{if_err}
 use Rattle.regex_automata.proofs.Finding.{cache_of}
-use Rattle.regex_automata.proofs.Matching.{asked_from, asked_to, match_right, same_asked, truth_nearest, truth_told}
+use Rattle.regex_automata.proofs.Matching.{asked_from, asked_to, match_right, same_asked, truth_found, truth_nearest, truth_told}
 use Rattle.regex_automata.proofs.Owed.{may_refuse_truth, truth_owed}
 use Rattle.regex_automata.proofs.Results.{err_ok, if_ok, is_err, ok_err, on_ok, same_err, same_ok}
 use Rattle.regex_automata.proofs.hybrid.regex.Regex.is_match.Goals as goal
@@ -31,6 +31,7 @@ returns-in_err-found-clause-refusal c =
 pub returns-in_err-found-clause-owed : goal.returns-in_err-found-clause-owed
 returns-in_err-found-clause-owed c =
     truth_owed c.args.self.now c.args.input.now c.from_residual.result
+    (if_ok c.from_residual.result _ _ c.from_residual.ensures.1)
     (if_ok c.from_residual.result _ _ c.from_residual.ensures.1)
     (λ acyclic. if_ok c.from_residual.result _ _ c.from_residual.ensures.1)
     (λ whole. if_ok c.from_residual.result _ _ c.from_residual.ensures.1)
@@ -68,6 +69,7 @@ pub returns-clause-owed : goal.returns-clause-owed
 returns-clause-owed c =
     let told = truth_told c.args.self.now.forward c.args.input.now c.asked-asked.result c.asked-asked.ensures c.in_ok-found.found c.is_some.result c.in_ok-found.ensures.half.found c.is_some.ensures in
     truth_owed c.args.self.now c.args.input.now (Ok c.is_some.result)
+    (truth_found c.args.self.now.forward c.args.input.now c.asked-asked.result c.asked-asked.ensures c.in_ok-found.found c.is_some.result c.in_ok-found.ensures.half.found c.is_some.ensures)
     told
     (λ acyclic. match_right c.args.self.now.forward (subst (λ (a : Automaton). ToldIsRight a) c.get_nfa.ensures c.told_is_right.ensures.answer) c.args.input.now c.is_some.result acyclic (c.haystack-haystack.ensures.bytes, c.haystack-haystack.ensures.within.1) (truth_told c.args.self.now.forward c.args.input.now c.asked-asked.result c.asked-asked.ensures c.in_ok-found.found c.is_some.result c.in_ok-found.ensures.half.found c.is_some.ensures))
     (truth_nearest c.args.self.now.forward c.args.input.now c.asked-asked.result c.asked-asked.ensures c.in_ok-found.found c.is_some.result c.in_ok-found.ensures.half.nearest c.is_some.ensures)

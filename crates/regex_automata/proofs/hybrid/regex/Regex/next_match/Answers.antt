@@ -9,7 +9,7 @@ use Rattle.regex_automata.specs.RegexRefusals.{IsRegexRefusal}
 use Rattle.regex_automata.specs.RegexProgress.{EndsSpan}
 use Rattle.regex_automata.proofs.Leaving.{ends_later, leaves_later}
 use Rattle.regex_automata.proofs.Nexts.{ahead_of, costs_twice, goes_first, goes_later, grown_twice, next_later, on_err, refused_later, some_of}
-use Rattle.regex_automata.proofs.Remembering.{alone_none, alone_some, both_stays, cleared_first, cleared_second, next_known, next_learned}
+use Rattle.regex_automata.proofs.Remembering.{alone, both_stays, cleared_first, cleared_second, next_known, next_learned, stands_none, stands_some}
 use Rattle.regex_automata.proofs.Results.{if_ok, is_err, ok_err, on_ok, same_err}
 use Rattle.regex_automata.proofs.hybrid.regex.Regex.next_match.Goals as goal
 
@@ -46,10 +46,15 @@ pub returns-in_default-clause-effect : goal.returns-in_default-clause-effect
 returns-in_default-clause-effect c = record {
   cost = inl c.try_search.ensures.effect.cost;
   grown = search rules;
-  learned = λ nothing. alone_none c.matches_agree.ensures c.args.self.now c.args.input.now c.args.last c.try_search.new.cache (c.in_ok-found.ensures.effect.learned nothing)
-      (subst (FindsMatch c.args.self.now c.args.input.now) c.in_default.is c.in_ok-found.ensures.owed.told.found);
+  learned = λ nothing. alone c.args.self.now c.args.input.now c.args.last c.try_search.new.cache (c.in_ok-found.ensures.effect.learned nothing)
+      (stands_none c.matches_agree.ensures c.args.self.now c.args.input.now c.args.last
+      (subst (FindsMatch c.args.self.now c.args.input.now) c.in_default.is c.in_ok-found.ensures.owed.told.found));
   known = λ knows. ((c.in_ok-found.ensures.effect.known knows.0).0, tt);
-  ended = inl (subst (EndsSpan c.args.self.now c.args.input.now c.args.cache.now c.try_search.new.cache) c.in_default.is c.in_ok-found.ensures.effect.ended);
+  ended = inl (
+    stands_none c.matches_agree.ensures c.args.self.now c.args.input.now c.args.last
+        (subst (FindsMatch c.args.self.now c.args.input.now) c.in_default.is c.in_ok-found.ensures.owed.told.found),
+    subst (EndsSpan c.args.self.now c.args.input.now c.args.cache.now c.try_search.new.cache) c.in_default.is c.in_ok-found.ensures.effect.ended,
+  );
   left = search rules;
 }
 
@@ -66,10 +71,15 @@ pub returns-then-not-is_empty_at-clause-effect : goal.returns-then-not-is_empty_
 returns-then-not-is_empty_at-clause-effect c = record {
   cost = inl c.try_search.ensures.effect.cost;
   grown = search rules;
-  learned = λ nothing. alone_some c.matches_agree.ensures c.args.self.now c.args.input.now c.args.last c.try_search.new.cache (c.in_ok-found.ensures.effect.learned nothing)
-      c.in-Some.found (subst (FindsMatch c.args.self.now c.args.input.now) c.in-Some.is c.in_ok-found.ensures.owed.told.found) (c.if-not-is_empty_at.ensures.no refl);
+  learned = λ nothing. alone c.args.self.now c.args.input.now c.args.last c.try_search.new.cache (c.in_ok-found.ensures.effect.learned nothing)
+      (stands_some c.matches_agree.ensures c.args.self.now c.args.input.now c.args.last c.in-Some.found
+      (subst (FindsMatch c.args.self.now c.args.input.now) c.in-Some.is c.in_ok-found.ensures.owed.told.found) (c.if-not-is_empty_at.ensures.no refl));
   known = λ knows. ((c.in_ok-found.ensures.effect.known knows.0).0, tt);
-  ended = inl (subst (EndsSpan c.args.self.now c.args.input.now c.args.cache.now c.try_search.new.cache) c.in-Some.is c.in_ok-found.ensures.effect.ended);
+  ended = inl (
+    stands_some c.matches_agree.ensures c.args.self.now c.args.input.now c.args.last c.in-Some.found
+        (subst (FindsMatch c.args.self.now c.args.input.now) c.in-Some.is c.in_ok-found.ensures.owed.told.found) (c.if-not-is_empty_at.ensures.no refl),
+    subst (EndsSpan c.args.self.now c.args.input.now c.args.cache.now c.try_search.new.cache) c.in-Some.is c.in_ok-found.ensures.effect.ended,
+  );
   left = search rules;
 }
 
@@ -117,7 +127,9 @@ pub returns-clause-effect : goal.returns-clause-effect
 returns-clause-effect c = record {
   cost = let place : c.start.result + 1 ≡ suc c.args.input.now.start = omega (arith, c.start.ensures.start) in
       let rest : c.from-rest.result ≡ from (suc c.args.input.now.start) c.args.input.now = c.from-rest.ensures ∙ ap (λ n. from n c.args.input.now) place in
-      costs_twice c.args.self.now c.args.input.now c.from-rest.result c.args.cache.now c.try_search.new.cache c.try_search-2.new.cache rest c.try_search.ensures.effect.cost c.try_search-2.ensures.effect.cost;
+      let found = subst (FindsMatch c.args.self.now c.args.input.now) c.in-Some.is c.in_ok-found.ensures.owed.told.found in
+      costs_twice c.args.self.now c.args.input.now c.from-rest.result c.args.last c.args.cache.now c.try_search.new.cache c.try_search-2.new.cache rest
+      (c.in-Some.found, found, c.if-not-is_empty_at.ensures.yes refl) c.try_search.ensures.effect.cost c.try_search-2.ensures.effect.cost;
   grown = grown_twice c.args.cache.now c.try_search.new.cache c.try_search-2.new.cache c.try_search.ensures.effect.grown c.try_search-2.ensures.effect.grown;
   learned = let place : c.start.result + 1 ≡ suc c.args.input.now.start = omega (arith, c.start.ensures.start) in
       let rest : c.from-rest.result ≡ from (suc c.args.input.now.start) c.args.input.now = c.from-rest.ensures ∙ ap (λ n. from n c.args.input.now) place in
@@ -136,13 +148,23 @@ returns-clause-effect c = record {
       c.in-Some.found rest found (c.if-not-is_empty_at.ensures.yes refl) knows (c.in_ok-found.ensures.effect.known knows.0).0 c.try_search-2.ensures.effect.known;
   ended = let place : c.start.result + 1 ≡ suc c.args.input.now.start = omega (arith, c.start.ensures.start) in
       let rest : c.from-rest.result ≡ from (suc c.args.input.now.start) c.args.input.now = c.from-rest.ensures ∙ ap (λ n. from n c.args.input.now) place in
-      ends_later c.args.self.now c.args.input.now c.from-rest.result c.args.cache.now c.try_search.new.cache c.try_search-2.new.cache c.in-Some.found rest
-      (subst (EndsSpan c.args.self.now c.args.input.now c.args.cache.now c.try_search.new.cache) c.in-Some.is c.in_ok-found.ensures.effect.ended)
+      let found = subst (FindsMatch c.args.self.now c.args.input.now) c.in-Some.is c.in_ok-found.ensures.owed.told.found in
+      ends_later c.args.self.now c.args.input.now c.from-rest.result c.args.last c.args.cache.now c.try_search.new.cache c.try_search-2.new.cache rest (
+        c.in-Some.found,
+        found,
+        c.if-not-is_empty_at.ensures.yes refl,
+        subst (EndsSpan c.args.self.now c.args.input.now c.args.cache.now c.try_search.new.cache) c.in-Some.is c.in_ok-found.ensures.effect.ended,
+      )
       c.try_search-2.result c.try_search-2.ensures.effect.ended;
   left = let place : c.start.result + 1 ≡ suc c.args.input.now.start = omega (arith, c.start.ensures.start) in
       let rest : c.from-rest.result ≡ from (suc c.args.input.now.start) c.args.input.now = c.from-rest.ensures ∙ ap (λ n. from n c.args.input.now) place in
-      leaves_later c.args.self.now c.args.input.now c.from-rest.result c.args.cache.now c.try_search.new.cache c.try_search-2.new.cache c.in-Some.found rest
-      (subst (EndsSpan c.args.self.now c.args.input.now c.args.cache.now c.try_search.new.cache) c.in-Some.is c.in_ok-found.ensures.effect.ended)
+      let found = subst (FindsMatch c.args.self.now c.args.input.now) c.in-Some.is c.in_ok-found.ensures.owed.told.found in
+      leaves_later c.args.self.now c.args.input.now c.from-rest.result c.args.last c.args.cache.now c.try_search.new.cache c.try_search-2.new.cache rest (
+        c.in-Some.found,
+        found,
+        c.if-not-is_empty_at.ensures.yes refl,
+        subst (EndsSpan c.args.self.now c.args.input.now c.args.cache.now c.try_search.new.cache) c.in-Some.is c.in_ok-found.ensures.effect.ended,
+      )
       c.try_search-2.result c.try_search-2.ensures.effect.left;
 }
 

@@ -6,7 +6,7 @@ use Rattle.automata_hybrid.specs.Within.{LiesPast}
 use Rattle.automata_hybrid.proofs.Growing.{grown_same}
 use Rattle.automata_hybrid.proofs.Searching.{if_err}
 use Rattle.regex_automata.specs.Outcomes.{IsStartFound}
-use Rattle.regex_automata.proofs.Finding.{cache_of, pass_none, pass_when, front_none, front_some, knows_both, knows_front, match_of, match_within, start_within}
+use Rattle.regex_automata.proofs.Finding.{cache_of, front_none, front_some, knows_both, knows_front, match_of, match_within, start_within}
 use Rattle.regex_automata.proofs.Nexts.{some_of}
 use Rattle.regex_automata.proofs.Results.{err_ok, if_ok, is_err, ok_err, on_ok, same_err, same_ok, some_none}
 use Rattle.regex_automata.proofs.hybrid.regex.Regex.search.Goals as goal
@@ -34,7 +34,7 @@ returns-in_err-front-clause-refusal c =
 
 pub returns-in_err-front-clause-effect : goal.returns-in_err-front-clause-effect
 returns-in_err-front-clause-effect c = record {
-  cost = (c.try_search_fwd_base.ensures.effect.cost, pass_none _ _ c.args.cache.now.reverse);
+  cost = (c.try_search_fwd_base.ensures.effect.cost, inl refl);
   grown = (c.try_search_fwd_base.ensures.effect.grown, grown_same c.args.cache.now.reverse c.args.cache.now.reverse refl);
   learned = λ nothing. on_ok c.from_residual.result _ _ c.from_residual.ensures.1;
   known = λ knows. (let known = c.in_err-front.ensures.effect.known knows.0 in ((known.0, (refl, refl)), if_err c.from_residual.result _ _ c.from_residual.ensures.1 (inl known.1)));
@@ -58,7 +58,7 @@ returns-in_default-clause-told c = record {
 
 pub returns-in_default-clause-effect : goal.returns-in_default-clause-effect
 returns-in_default-clause-effect c = record {
-  cost = (c.try_search_fwd_base.ensures.effect.cost, pass_none _ _ c.args.cache.now.reverse);
+  cost = (c.try_search_fwd_base.ensures.effect.cost, inl refl);
   grown = (c.try_search_fwd_base.ensures.effect.grown, grown_same c.args.cache.now.reverse c.args.cache.now.reverse refl);
   learned = λ nothing. knows_front c.answers_agree.ensures c.args.self.now c.args.input.now (record { forward = c.try_search_fwd_base.new.cache; reverse = c.args.cache.now.reverse }) (c.in_ok-front.ensures.effect.learned nothing.0) (front_none c.args.self.now.forward c.args.input.now c.in_ok-front.field-0 c.in_ok-front.ensures.based.found c.in_default.is);
   known = λ knows. (let known = c.in_ok-front.ensures.effect.known knows.0 in ((known.0, (refl, refl)), tt));
@@ -96,9 +96,11 @@ pub returns-in_err-start-clause-effect : goal.returns-in_err-start-clause-effect
 returns-in_err-start-clause-effect c = record {
   cost = (
     c.try_search_fwd_base.ensures.effect.cost,
-    pass_when _ _ _ c.args.cache.now.reverse c.find_start.new.cache
-        (λ begins. begins (with_base c.in-Some.front.0 c.in-Some.front.1) (front_some c.args.self.now.forward c.args.input.now c.in_ok-front.field-0 c.in-Some.front.0 c.in-Some.front.1 c.in_ok-front.ensures.based.found c.in-Some.is))
-        c.find_start.ensures.effect.cost,
+    inr (
+      with_base c.in-Some.front.0 c.in-Some.front.1,
+      front_some c.args.self.now.forward c.args.input.now c.in_ok-front.field-0 c.in-Some.front.0 c.in-Some.front.1 c.in_ok-front.ensures.based.found c.in-Some.is,
+      c.find_start.ensures.effect.cost,
+    ),
   );
   grown = (c.try_search_fwd_base.ensures.effect.grown, c.find_start.ensures.effect.grown);
   learned = λ nothing. on_ok c.from_residual-in_err-start.result _ _ c.from_residual-in_err-start.ensures.1;
@@ -130,9 +132,11 @@ pub returns-in_default-2-clause-effect : goal.returns-in_default-2-clause-effect
 returns-in_default-2-clause-effect c = record {
   cost = (
     c.try_search_fwd_base.ensures.effect.cost,
-    pass_when _ _ _ c.args.cache.now.reverse c.find_start.new.cache
-        (λ begins. begins (with_base c.in-Some.front.0 c.in-Some.front.1) (front_some c.args.self.now.forward c.args.input.now c.in_ok-front.field-0 c.in-Some.front.0 c.in-Some.front.1 c.in_ok-front.ensures.based.found c.in-Some.is))
-        c.find_start.ensures.effect.cost,
+    inr (
+      with_base c.in-Some.front.0 c.in-Some.front.1,
+      front_some c.args.self.now.forward c.args.input.now c.in_ok-front.field-0 c.in-Some.front.0 c.in-Some.front.1 c.in_ok-front.ensures.based.found c.in-Some.is,
+      c.find_start.ensures.effect.cost,
+    ),
   );
   grown = (c.try_search_fwd_base.ensures.effect.grown, c.find_start.ensures.effect.grown);
   learned = search rules;
@@ -164,9 +168,11 @@ pub returns-clause-effect : goal.returns-clause-effect
 returns-clause-effect c = record {
   cost = (
     c.try_search_fwd_base.ensures.effect.cost,
-    pass_when _ _ _ c.args.cache.now.reverse c.find_start.new.cache
-        (λ begins. begins (with_base c.in-Some.front.0 c.in-Some.front.1) (front_some c.args.self.now.forward c.args.input.now c.in_ok-front.field-0 c.in-Some.front.0 c.in-Some.front.1 c.in_ok-front.ensures.based.found c.in-Some.is))
-        c.find_start.ensures.effect.cost,
+    inr (
+      with_base c.in-Some.front.0 c.in-Some.front.1,
+      front_some c.args.self.now.forward c.args.input.now c.in_ok-front.field-0 c.in-Some.front.0 c.in-Some.front.1 c.in_ok-front.ensures.based.found c.in-Some.is,
+      c.find_start.ensures.effect.cost,
+    ),
   );
   grown = (c.try_search_fwd_base.ensures.effect.grown, c.find_start.ensures.effect.grown);
   learned = λ nothing. knows_both c.answers_agree.ensures c.args.self.now c.args.input.now (cache_of c.try_search_fwd_base.new.cache c.find_start.new.cache) (with_base c.in-Some.front.0 c.in-Some.front.1) (c.in_ok-front.ensures.effect.learned nothing.0) (front_some c.args.self.now.forward c.args.input.now c.in_ok-front.field-0 c.in-Some.front.0 c.in-Some.front.1 c.in_ok-front.ensures.based.found c.in-Some.is) (c.in_ok-start.ensures.effect.learned nothing.1);

@@ -21,11 +21,11 @@ returns-in-Ok-Some-clause-steps c =
       refl,
       refl,
       record {
-        cost = subst (λ (i : Input). AreCostsTwice s.regex.now i s.cache.now c.next_match.new.cache) c.input-input.ensures c.next_match.ensures.effect.cost;
+        cost = subst (λ (i : Input). AreCostsTwice s.regex.now i s.last s.cache.now c.next_match.new.cache) c.input-input.ensures c.next_match.ensures.effect.cost;
         grown = c.next_match.ensures.effect.grown;
         learns = learns_next s.regex.now s.cache.now c.next_match.new.cache c.input-input.result now s.last s.ended (Some (Ok c.in-Ok-Some.found)) c.if-self.false c.input-input.ensures
             c.in-Ok-Some.ensures.effect.known (λ nothing good. c.in-Ok-Some.ensures.effect.learned nothing);
-        progress = item_match s.regex.now c.input-input.result now s.cache.now c.next_match.new.cache c.input-input.ensures s.ended c.in-Ok-Some.field-0 c.in-Ok-Some.found c.if-self.false c.in-Ok-Some.field-0-is c.in-Ok-Some.ensures.effect.ended;
+        progress = item_match s.regex.now c.input-input.result now s.last s.cache.now c.next_match.new.cache c.input-input.ensures s.ended c.in-Ok-Some.field-0 c.in-Ok-Some.found c.if-self.false c.in-Ok-Some.field-0-is c.in-Ok-Some.ensures.effect.ended;
       },
       tells_found s.regex.now c.input-input.result now s.ended _ (Some (Ok c.in-Ok-Some.found)) c.input-input.ensures c.in-Ok-Some.ensures.unsupported,
     )
@@ -50,11 +50,11 @@ returns-in-Err-clause-steps c =
       refl,
       refl,
       record {
-        cost = subst (λ (i : Input). AreCostsTwice s.regex.now i s.cache.now c.next_match.new.cache) c.input-input.ensures c.next_match.ensures.effect.cost;
+        cost = subst (λ (i : Input). AreCostsTwice s.regex.now i s.last s.cache.now c.next_match.new.cache) c.input-input.ensures c.next_match.ensures.effect.cost;
         grown = c.next_match.ensures.effect.grown;
         learns = learns_next s.regex.now s.cache.now c.next_match.new.cache c.input-input.result now s.last s.ended (Some (Err c.in-Err.error)) c.if-self.false c.input-input.ensures
             c.in-Err.ensures.effect.known (λ nothing good. absurd (false_true good));
-        progress = item_error s.regex.now c.input-input.result now s.cache.now c.next_match.new.cache c.input-input.ensures s.ended c.in-Err.error c.if-self.false c.in-Err.ensures.effect.left;
+        progress = item_error s.regex.now c.input-input.result now s.last s.cache.now c.next_match.new.cache c.input-input.ensures s.ended c.in-Err.error c.if-self.false c.in-Err.ensures.effect.left;
       },
       tells_error s.regex.now c.input-input.result now s.ended c.in-Err.error c.input-input.ensures c.in-Err.ensures.unsupported,
     )
@@ -76,11 +76,11 @@ returns-in-Ok-None-clause-steps c =
       refl,
       refl,
       record {
-        cost = subst (λ (i : Input). AreCostsTwice s.regex.now i s.cache.now c.next_match.new.cache) c.input-input.ensures c.next_match.ensures.effect.cost;
+        cost = subst (λ (i : Input). AreCostsTwice s.regex.now i s.last s.cache.now c.next_match.new.cache) c.input-input.ensures c.next_match.ensures.effect.cost;
         grown = c.next_match.ensures.effect.grown;
         learns = learns_next s.regex.now s.cache.now c.next_match.new.cache c.input-input.result now s.last s.ended (None) c.if-self.false c.input-input.ensures
             c.in-Ok-None.ensures.effect.known (λ nothing good. c.in-Ok-None.ensures.effect.learned nothing);
-        progress = item_none s.regex.now c.input-input.result now s.cache.now c.next_match.new.cache c.input-input.ensures s.ended c.in-Ok-None.field-0 c.if-self.false c.in-Ok-None.field-0-is c.in-Ok-None.ensures.effect.ended;
+        progress = item_none s.regex.now c.input-input.result now s.last s.cache.now c.next_match.new.cache c.input-input.ensures s.ended c.in-Ok-None.field-0 c.if-self.false c.in-Ok-None.field-0-is c.in-Ok-None.ensures.effect.ended;
       },
       tells_found s.regex.now c.input-input.result now s.ended _ None c.input-input.ensures c.in-Ok-None.ensures.unsupported,
     )
