@@ -6,9 +6,11 @@ pub mod Classes
 pub mod Code
 pub mod Computed
 pub mod Cuts
+pub mod Decoders
 pub mod Door
 pub mod Engines
 pub mod Equal
+pub mod Finishing
 pub mod Getters
 pub mod Input
 pub mod Key
@@ -45,6 +47,7 @@ pub mod Telling
 pub mod Told
 pub mod TruePairs
 pub mod Truths
+pub mod Utf8
 pub mod Visits
 pub mod WalkLaws
 pub mod Within

@@ -35,7 +35,7 @@ node_in N [] q e = refl
 node_in N (x ∷ xs) zero e = (both (node_below N x) (nodes_below N xs) e).0
 node_in N (x ∷ xs) (suc q) e = node_in N xs q (both (node_below N x) (nodes_below N xs) e).1
 
-children_below : (N : ℕ) (x : Node) (A : Truth) (c : ℕ) → node_below N x ≡ true → In c (children_at x A) → c < N
+pub children_below : (N : ℕ) (x : Node) (A : Truth) (c : ℕ) → node_below N x ≡ true → In c (children_at x A) → c < N
 children_below N (Split alternates) A c e i = below_in N alternates c e i
 children_below N (Assert look next) A c e i = go (A look) i
   where

@@ -39,6 +39,13 @@ inserted old new id true fresh added had kept =
 inserted old new id false fresh added had kept =
     kept refl ∙ (sym (append-nil old) ∙ ap (λ z. old ++ cond z [] (id ∷ [])) (sym (had_is id old (had refl))))
 
+-- The insertion of a state that is no member puts it last.
+pub inserted_new :
+    (old new : List ℕ) (id : ℕ) (b : Bool) → (In id old → ⊥) → (IsTrue b → new ≡ old ++ id ∷ []) → (IsFalse b → Contains old id)
+    → new ≡ old ++ id ∷ []
+inserted_new old new id true fresh added had = added refl
+inserted_new old new id false fresh added had = absurd (fresh (In-Contains id old (had refl)))
+
 pub once_more : (ys xs : List ℕ) → (more : List ℕ) × (once_from ys xs ≡ ys ++ more)
 once_more ys [] = ([], sym (append-nil ys))
 once_more ys (x ∷ xs) =

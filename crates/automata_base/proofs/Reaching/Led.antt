@@ -165,7 +165,7 @@ state_takes (is.Capture next pattern index slot) r o i = absurd i
 state_takes is.Fail r o i = absurd i
 state_takes (is.Match pattern) r o i = absurd i
 
-node_takes :
+pub node_takes :
     (states : List State) (q r : ℕ) → states_ordered states ≡ true → In r (byte_targets (node_in states q))
     → (u : ℕ) × (takes_at (node_in states q) u ≡ Some r)
 node_takes [] q r o i = absurd i

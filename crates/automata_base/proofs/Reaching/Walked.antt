@@ -7,7 +7,7 @@ use Rattle.automata_base.specs.Reach.{Route, IsReachedBy}
 use Rattle.automata_base.proofs.Determinizing.Distinct.{In-either, In-get_or}
 use Rattle.automata_base.proofs.Reaching.Adding.{once_keeps, once_has, once_only, once_take}
 
-way_more :
+pub way_more :
     (G : ℕ → List ℕ) (q : ℕ) (way : List ℕ) (z r : ℕ) → Route G q way z → In r (G z) → (way' : List ℕ) × Route G q way' r
 way_more G q [] z r w i = (r ∷ [], (subst (λ v. In r (G v)) (sym w) i, refl))
 way_more G q (s ∷ way) z r w i = let h = way_more G s way z r w.1 i in (s ∷ h.0, (w.0, h.1))
@@ -19,18 +19,34 @@ pub record IsWalked (G : ℕ → List ℕ) (roots : List ℕ) (at : ℕ) (items 
   pub closed : (q r : ℕ) → In q (take at items) → In r (G q) → In r items
 
 pub walk_starts :
-    (G : ℕ → List ℕ) (roots none items : List ℕ) → none ≡ [] → items ≡ once_from none roots → IsWalked G roots 0 items
-walk_starts G roots none items e s =
-    let t : items ≡ once_from [] roots = s ∙ ap (λ z. once_from z roots) e in
-    subst (λ z. IsWalked G roots 0 z) (sym t) (record {
-      has = λ q i. once_has q [] roots i;
-      sound = λ q i. start q (once_only q [] roots i);
-      closed = λ q r i j. absurd i;
-    })
+    (G : ℕ → List ℕ) (at : ℕ) (items : List ℕ) → ((q r : ℕ) → In q (take at items) → In r (G q) → In r items)
+    → IsWalked G items at items
+walk_starts G at items closed = record {
+  has = λ q i. i;
+  sound = λ q i. (q, [], i, refl);
+  closed = closed;
+}
+
+-- Roots that are the same states lead to the same ones.
+pub roots_alike :
+    (G : ℕ → List ℕ) (roots others : List ℕ) (z : ℕ) → ((q : ℕ) → In q roots → In q others) → IsReachedBy G roots z
+    → IsReachedBy G others z
+roots_alike G roots others z has h = (h.0, h.1, has h.0 h.2, h.3)
+
+pub roots_once :
+    (G : ℕ → List ℕ) (none items roots : List ℕ) (z : ℕ) → none ≡ [] → items ≡ once_from none roots
+    → IsReachedBy G items z ↔ IsReachedBy G roots z
+roots_once G none items roots z e s = (
+  roots_alike G items roots z (λ q i. from q (once_only q [] roots (subst (λ v. In q v) t i))),
+  roots_alike G roots items z (λ q i. subst (λ v. In q v) (sym t) (once_has q [] roots i)),
+)
   where
-    start : (q : ℕ) → In q [] ⊎ In q roots → IsReachedBy G roots q
-    start q (inl i) = absurd i
-    start q (inr i) = (q, [], i, refl)
+    t : items ≡ once_from [] roots
+    t = s ∙ ap (λ z. once_from z roots) e
+
+    from : (q : ℕ) → In q [] ⊎ In q roots → In q roots
+    from q (inl i) = absurd i
+    from q (inr i) = i
 
 pub walk_steps :
     (G : ℕ → List ℕ) (roots : List ℕ) (at : ℕ) (items new : List ℕ) (q : ℕ)

@@ -7,6 +7,7 @@ use Shape::{Accept, Assert, Either, Range};
 use regex_automata::nfa::thompson::NFA;
 use regex_automata::util::look::Look;
 use regex_automata::util::primitives::{PatternID, StateID};
+use std::process::Abort;
 
 /// The entries that have an empty match.
 #[rattlefmt::skip]
@@ -37,6 +38,34 @@ fn describes_the_catalogue(rt: HostRuntime) {
         );
         same_of(&rt, &found, &want, &entry);
     }
+}
+
+/// Only `any` reads bytes in UTF-8 mode that are not UTF-8.
+#[test]
+fn tests_utf8(rt: HostRuntime) {
+    compare_utf8(&rt);
+}
+
+fn compare_utf8<R: Abort + AllocGlobal>(rt: &R) {
+    for entry in Entry::ALL {
+        let is_kept = entry != Entry::Any;
+        same_of(rt, &keep_utf8(rt, entry), &(is_kept, is_kept), &entry);
+    }
+}
+
+/// Whether the two automata of an entry read only UTF-8.
+fn keep_utf8<R: Abort + AllocGlobal>(rt: &R, entry: Entry) -> (bool, bool) {
+    (forward_keeps(rt, entry), reverse_keeps(rt, entry))
+}
+
+fn forward_keeps<R: Abort + AllocGlobal>(rt: &R, entry: Entry) -> bool {
+    let nfa = entry.forward(rt.alloc()).expect(rt, "an entry");
+    nfa.keeps_utf8().expect(rt, "memory")
+}
+
+fn reverse_keeps<R: Abort + AllocGlobal>(rt: &R, entry: Entry) -> bool {
+    let nfa = entry.reverse(rt.alloc()).expect(rt, "an entry");
+    nfa.keeps_utf8_reverse().expect(rt, "memory")
 }
 
 /// What the row shows, the states, the unanchored start, and whether the automaton skips lazily.

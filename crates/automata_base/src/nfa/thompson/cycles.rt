@@ -1,43 +1,68 @@
 //! Whether a look leads back to itself at one place.
-ghost use Rattle.std.specs.Prelude.{◌≡◌, ◌<◌, ◌≤◌, ◌^◌, ◌↔◌, true, length, IfOk, IsTrue};
-ghost use Rattle.automata_base.specs.Reach.{AreLooksAcyclic, LeadsBack};
+ghost use Rattle.std.specs.Prelude.{◌≡◌, ◌<◌, ◌≤◌, ◌^◌, ◌↔◌, ◌++◌, ℕ, [], Some, true, length, option_to_list, IfOk, IsTrue};
+ghost use Rattle.automata_base.specs.Finishing.{IsWholeOrder};
+ghost use Rattle.automata_base.specs.Lists.{In};
+ghost use Rattle.automata_base.specs.Reach.{AreLooksAcyclic, IsReached, look_target, node_in, targets_of};
 ghost use Rattle.automata_base.specs.Refusals.{states_below};
 
 use crate::nfa::thompson::State;
-use crate::nfa::thompson::reach::{Edges, walk};
+use crate::nfa::thompson::finishing::finishing_order;
+use crate::nfa::thompson::reach::{Edges, add, walk_on};
 use crate::nfa::thompson::reading::look_target;
 use crate::util::determinize::sparse_set::SparseSet;
 use crate::util::primitives::StateID;
 use std::alloc::{AllocError, Global};
 
-// Whether edges that read nothing lead from the look of this number back to it.
-fn leads_back(set: &mut SparseSet, states: &[State], q: usize) -> bool
+// Adds what edges that read nothing lead to from the look of this number, and tells whether it is then a member. The
+// members lead to members alone.
+fn reaches_look(set: &mut SparseSet, states: &[State], q: StateID) -> bool
     requires few { length states.now ≤ 2 ^ 27 }
     requires range { states_below (length states.now) states.now ≡ true }
     requires capacity { set.old.capacity ≡ length states.now }
     requires within { q < length states.now }
-    ensures back { IsTrue result ↔ LeadsBack states.now q }
+    requires walked { (p r : ℕ) → In p set.old.items → In r (targets_of Edges.Epsilon states.now p)
+        → In r set.old.items }
+    ensures found { IsTrue result
+        ↔ ((next : ℕ) × (look_target (node_in states.now q) ≡ Some next) × In q set.new.items) }
+    ensures reached { (z : ℕ) → In z set.new.items ↔ IsReached Edges.Epsilon states.now
+        (set.old.items ++ option_to_list (look_target (node_in states.now q))) z }
     ensures capacity { set.new.capacity ≡ length states.now }
 {
-    let Some(next) = look_target(&states[q]) else {
+    let Some(next) = look_target(&states[q.as_usize()]) else {
         return false;
     };
-    walk(set, states, &[next], Edges::Epsilon);
-    set.contains(StateID::new_unchecked(q as u32))
+    let done = set.as_slice().len();
+    add(set, next);
+    walk_on(set, states, Edges::Epsilon, done);
+    set.contains(q)
 }
 
-/// Whether no edges that read nothing lead from a look back to it. For each look it walks once over what such edges
-/// reach from there.
+// Whether no look leads back to itself. One walk goes on from look to look in a finishing order, so the first look
+// that it comes back to is one that leads back to itself.
+fn are_acyclic_in(set: &mut SparseSet, states: &[State], order: &[StateID]) -> bool
+    requires few { length states.now ≤ 2 ^ 27 }
+    requires range { states_below (length states.now) states.now ≡ true }
+    requires capacity { set.old.capacity ≡ length states.now }
+    requires empty { set.old.items ≡ [] }
+    requires order { IsWholeOrder (length states.now) (targets_of Edges.Epsilon states.now) order.now }
+    ensures { IsTrue result ↔ AreLooksAcyclic states.now }
+{
+    for q in order {
+        if reaches_look(set, states, *q) {
+            return false;
+        }
+    }
+    true
+}
+
+/// Whether no edges that read nothing lead from a look back to it: by a depth-first search over such edges and a
+/// second walk over them, in time linear in states and such edges.
 pub fn are_looks_acyclic(alloc: Global, states: &[State]) -> Result<bool, AllocError>
     requires few { length states.now ≤ 2 ^ 27 }
     requires range { states_below (length states.now) states.now ≡ true }
     ensures { IfOk result (λ acyclic. IsTrue acyclic ↔ AreLooksAcyclic states.now) }
 {
+    let order = finishing_order(alloc, states)?;
     let mut set = SparseSet::new(alloc, states.len() as u32)?;
-    for q in 0..states.len() {
-        if leads_back(&mut set, states, q) {
-            return Ok(false);
-        }
-    }
-    Ok(true)
+    Ok(are_acyclic_in(&mut set, states, order.as_slice()))
 }

@@ -2,12 +2,15 @@
 
 mod cycles;
 mod door;
+mod finishing;
 mod reach;
 pub(crate) mod reading;
+mod utf8;
 
 use crate::nfa::thompson::cycles::are_looks_acyclic;
 use crate::nfa::thompson::door::{looks_of, test};
 use crate::nfa::thompson::reach::{reaches_match, skips_lazily};
+use crate::nfa::thompson::utf8::{BACKWARD, Class, FORWARD, ends_at_boundaries};
 use crate::util::look::{Look, LookSet};
 use crate::util::primitives::{PatternID, StateID};
 use crate::util::search::Anchored;
@@ -186,8 +189,12 @@ impl Clone for NFA {
 
 impl NFA {
     ghost use Rattle.std.specs.Prelude.{◌≡◌, ◌<◌, ◌≤◌, ◌^◌, ◌↔◌, ℕ, true, None, Some, IfOk, IsOkUnless, IsTrue, length};
+    ghost use Rattle.std.specs.Prelude.{◌∷◌};
     ghost use Rattle.std.specs.Prelude.{slice_get, slice_index_or};
+    ghost use Rattle.automata_base.specs.Cuts.{MatchKind};
+    ghost use Rattle.automata_base.specs.Decoders.{EndsAtBoundaries, classes_below};
     ghost use Rattle.automata_base.specs.Door.{IsDoor, IsLooks};
+    ghost use Rattle.automata_base.specs.Engines.{engine_of};
     ghost use Rattle.automata_base.specs.Getters.{HasEmpty, IsAlwaysStartAnchored, SkipsLazily};
     ghost use Rattle.automata_base.specs.Looks.{Look};
     ghost use Rattle.automata_base.specs.Automata.{automaton};
@@ -196,7 +203,10 @@ impl NFA {
     ghost use Rattle.automata_base.specs.Paths.{IsLookAcyclic};
     ghost use Rattle.automata_base.specs.Refusals.{door_refusal};
     ghost use Rattle.automata_base.specs.Starts.{mode_start};
+    ghost use Rattle.automata_base.specs.Tapes.{Forward, Backward};
+    ghost use Rattle.automata_base.specs.TruePairs.{KeepsUtf8};
     ghost use Rattle.automata_base.specs.Truths.{truth_of};
+    ghost use Rattle.automata_base.specs.Utf8.{HasNoLook, ReadsUtf8};
 
     /// An NFA of these states. Searches start at the anchored or the unanchored start, and those for pattern k at
     /// `start_pattern[k]`, so there are as many patterns as such starts. The tests are made in this order, each of the
@@ -403,6 +413,59 @@ impl NFA {
         ensures { IsTrue result ↔ IsLookAcyclic (nfa_of self.now) }
     {
         self.data.is_look_acyclic
+    }
+
+    /// Whether every path that is not empty, from the anchored start or the start of a pattern to a match state, reads
+    /// valid UTF-8, from the start of the haystack to its end. Searches for spans ask for it in UTF-8 mode. Outside
+    /// UTF-8 mode nothing is asked, and the answer is `true`.
+    ///
+    /// Looks are taken as true. So `true` is right for every NFA, and `false` for every NFA without looks. The NFA of
+    /// `\z\xFF` has no such path, since no byte follows the end of a haystack, and yet the answer is `false`.
+    ///
+    /// It takes time and memory linear in the states and their edges.
+    pub fn keeps_utf8(&self) -> Result<bool, AllocError>
+        ensures reads { IfOk result (λ keeps. IsTrue keeps
+            ↔ (self.now.flags.utf8 ≡ true → ReadsUtf8 Forward self.now)) }
+        ensures keeps { IfOk result (λ keeps. IsTrue keeps
+            → (kind : MatchKind) → KeepsUtf8 Forward (engine_of self.now kind)) }
+        ensures exact { IfOk result (λ keeps. HasNoLook self.now
+            → (kind : MatchKind) → IsTrue keeps ↔ KeepsUtf8 Forward (engine_of self.now kind)) }
+    {
+        if !self.is_utf8() {
+            return Ok(true);
+        }
+        self.reads_utf8(&FORWARD)
+    }
+
+    /// As `keeps_utf8`, of an NFA that reads from the end of the haystack to its start.
+    pub fn keeps_utf8_reverse(&self) -> Result<bool, AllocError>
+        ensures reads { IfOk result (λ keeps. IsTrue keeps
+            ↔ (self.now.flags.utf8 ≡ true → ReadsUtf8 Backward self.now)) }
+        ensures keeps { IfOk result (λ keeps. IsTrue keeps
+            → (kind : MatchKind) → KeepsUtf8 Backward (engine_of self.now kind)) }
+        ensures exact { IfOk result (λ keeps. HasNoLook self.now
+            → (kind : MatchKind) → IsTrue keeps ↔ KeepsUtf8 Backward (engine_of self.now kind)) }
+    {
+        if !self.is_utf8() {
+            return Ok(true);
+        }
+        self.reads_utf8(&BACKWARD)
+    }
+
+    // Whether match states are reached only between two characters, by the decoder of these classes.
+    fn reads_utf8(&self, classes: &[Class]) -> Result<bool, AllocError>
+        requires { classes_below classes.now ≡ true }
+        ensures ends { IfOk result (λ reads. IsTrue reads
+            ↔ EndsAtBoundaries classes.now self.now.states (self.now.start_anchored ∷ self.now.start_pattern)) }
+        ensures door { IsDoor self.now }
+    {
+        ends_at_boundaries(
+            self.alloc,
+            self.states(),
+            self.start_anchored(),
+            self.pattern_starts(),
+            classes,
+        )
     }
 
     /// How many states may wait on the stack of a closure: one, and each alternate of a union but its first.

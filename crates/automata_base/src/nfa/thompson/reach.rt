@@ -1,10 +1,10 @@
 ghost use Rattle.std.specs.Prelude.{◌≡◌, ◌<◌, ◌≤◌, ◌^◌, ◌↔◌, ℕ, [], ◌∷◌, true, length, get_or, IfOk, IsTrue, Some};
-ghost use Rattle.std.specs.Prelude.{None};
+ghost use Rattle.std.specs.Prelude.{None, take};
 ghost use Rattle.automata_base.specs.Lists.{all_below, In};
 ghost use Rattle.automata_base.specs.Nodes.{node_of, ranges_of, dense_from};
 ghost use Rattle.automata_base.specs.Once.{once_from};
 ghost use Rattle.automata_base.specs.Paths.{all_true};
-ghost use Rattle.automata_base.specs.Reach.{node_in, nexts, byte_targets, targets_at, IsReached, IsMatchAt};
+ghost use Rattle.automata_base.specs.Reach.{node_in, nexts, byte_targets, targets_at, targets_of, IsReached, IsMatchAt};
 ghost use Rattle.automata_base.specs.Reach.{ReachesMatch};
 ghost use Rattle.automata_base.specs.Reach.{second_of, second_at, is_any_byte_of, SkipsFrom};
 ghost use Rattle.automata_base.specs.Refusals.{transitions_below, state_below, states_below};
@@ -23,7 +23,8 @@ pub enum Edges {
     Every,
 }
 
-fn add(set: &mut SparseSet, id: StateID)
+/// Adds a state, if it is not a member.
+pub fn add(set: &mut SparseSet, id: StateID)
     requires { id < set.old.capacity }
     ensures items { set.new.items ≡ once_from set.old.items (id ∷ []) }
     ensures capacity { set.new.capacity ≡ set.old.capacity }
@@ -130,7 +131,7 @@ fn add_targets(set: &mut SparseSet, state: &State, edges: Edges)
 }
 
 // The member that came at this place.
-fn member(set: &SparseSet, at: usize) -> Option<StateID>
+pub fn member(set: &SparseSet, at: usize) -> Option<StateID>
     ensures some { (id : ℕ) → result ≡ Some id
         → (at < length set.now.items) × (id ≡ get_or set.now.items at id)
         × (id < set.now.capacity) × (at < set.now.capacity) }
@@ -143,22 +144,36 @@ fn member(set: &SparseSet, at: usize) -> Option<StateID>
     Some(items[at])
 }
 
-/// Makes of the set the states that the edges lead to from the roots, the roots among them.
-pub fn walk(set: &mut SparseSet, states: &[State], roots: &[StateID], edges: Edges)
+/// Adds what the edges lead to from the members. Where the first `done` of them lead to members alone, as a walk that
+/// ended leaves them, they are not walked over again.
+pub fn walk_on(set: &mut SparseSet, states: &[State], edges: Edges, done: usize)
     requires few { length states.now ≤ 2 ^ 27 }
     requires range { states_below (length states.now) states.now ≡ true }
-    requires roots { all_below (length states.now) roots.now ≡ true }
     requires capacity { set.old.capacity ≡ length states.now }
-    ensures reached { (q : ℕ) → In q set.new.items ↔ IsReached edges states.now roots.now q }
+    requires walked { (q r : ℕ) → In q (take done set.old.items) → In r (targets_of edges states.now q)
+        → In r set.old.items }
+    ensures reached { (q : ℕ) → In q set.new.items ↔ IsReached edges states.now set.old.items q }
     ensures capacity { set.new.capacity ≡ length states.now }
 {
-    set.clear();
-    add_ids(set, roots);
-    let mut at = 0;
+    let mut at = done;
     while let Some(id) = member(set, at) {
         add_targets(set, &states[id.as_usize()], edges);
         at += 1;
     }
+}
+
+// Makes of the empty set the states that the edges lead to from the roots, the roots among them.
+fn walk(set: &mut SparseSet, states: &[State], roots: &[StateID], edges: Edges)
+    requires few { length states.now ≤ 2 ^ 27 }
+    requires range { states_below (length states.now) states.now ≡ true }
+    requires roots { all_below (length states.now) roots.now ≡ true }
+    requires empty { set.old.items ≡ [] }
+    requires capacity { set.old.capacity ≡ length states.now }
+    ensures reached { (q : ℕ) → In q set.new.items ↔ IsReached edges states.now roots.now q }
+    ensures capacity { set.new.capacity ≡ length states.now }
+{
+    add_ids(set, roots);
+    walk_on(set, states, edges, 0);
 }
 
 /// The states that the edges lead to from the roots, the roots among them.
@@ -179,7 +194,7 @@ fn reach(
     Ok(set)
 }
 
-fn is_match(state: &State) -> bool
+pub fn is_match(state: &State) -> bool
     ensures { IsTrue result ↔ IsMatchAt (node_of state.now) }
 {
     pattern_of(state).is_some()

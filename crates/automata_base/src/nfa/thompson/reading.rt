@@ -1,6 +1,9 @@
 ghost use Rattle.std.specs.Prelude.{◌≡◌, ◌+◌, ◌<◌, ◌≤◌, ◌||◌, [], ◌∷◌, ◌++◌, List, ℕ, length, take, eqb, Bool, Some};
 ghost use Rattle.std.specs.Prelude.{None, option_map};
-ghost use Rattle.automata_base.specs.Lists.{In, pick};
+ghost use Rattle.automata_base.specs.Lists.{In, nth, pick};
+ghost use Rattle.automata_base.specs.Paths.{all_true};
+ghost use Rattle.automata_base.specs.Visits.{children_at};
+ghost use Rattle.std.specs.Prelude.{◌⊎◌, ◌^◌};
 ghost use Rattle.automata_base.specs.Nfa.{stays_at, accepts_at, takes_at, accepts, takes, keep};
 ghost use Rattle.automata_base.specs.Computed.{looks_at, any_state};
 ghost use Rattle.automata_base.specs.Looks.{look_index};
@@ -85,6 +88,24 @@ pub fn look_target(state: &State) -> Option<StateID>
         State::BinaryUnion { .. } => None,
         State::Capture { .. } => None,
         State::Fail => None,
+    }
+}
+
+/// Where the edge of this number leads, of those that read nothing, looks taken as true.
+pub fn epsilon_target(state: &State, edge: usize) -> Option<StateID>
+    ensures same { result ≡ nth (children_at (node_of state.now) all_true) edge }
+    ensures few { result ≡ None ⊎ edge < 2 ^ 63 }
+{
+    match state {
+        State::Look { next, .. } => [*next].get(edge).copied(),
+        State::Capture { next, .. } => [*next].get(edge).copied(),
+        State::Union { alternates } => alternates.get(edge).copied(),
+        State::BinaryUnion { alt1, alt2 } => [*alt1, *alt2].get(edge).copied(),
+        State::ByteRange { .. } => None,
+        State::Sparse(_) => None,
+        State::Dense(_) => None,
+        State::Fail => None,
+        State::Match { .. } => None,
     }
 }
 

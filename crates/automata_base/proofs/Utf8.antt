@@ -1,0 +1,10 @@
+pub mod Adding
+pub mod Answering
+pub mod Backwards
+pub mod Chars
+pub mod Decoding
+pub mod Edges
+pub mod Keeping
+pub mod Product
+pub mod Reading
+pub mod Tables

@@ -1,0 +1,29 @@
+use Rattle.std.proofs.Common.{◌≡◌, ◌↔◌, ◌∷◌, true, Bool, IfOk, sym, ◌∙◌}
+use Rattle.std.specs.Prelude.{IsTrue}
+use Rattle.automata_base.specs.Cuts.{MatchKind}
+use Rattle.automata_base.specs.Decoders.{EndsAtBoundaries}
+use Rattle.automata_base.specs.Engines.{engine_of}
+use Rattle.automata_base.specs.Tapes.{Backward}
+use Rattle.automata_base.specs.TruePairs.{KeepsUtf8}
+use Rattle.automata_base.specs.Utf8.{HasNoLook}
+use Rattle.automata_base.proofs.Utf8.Answering.{IsAnswer, if_ok, answer_bytes, answer_keeps, answer_exact, walked_backward}
+use Rattle.automata_base.proofs.Utf8.Tables.{backward}
+use Rattle.automata_base.proofs.nfa.thompson.NFA.keeps_utf8_reverse.Goals as goal
+
+pub returns-clause-reads : goal.returns-clause-reads
+returns-clause-reads c =
+    let a = c.args.self.now in
+    if_ok c.reads_utf8.result (λ b. IsTrue b ↔ EndsAtBoundaries backward a.states (a.start_anchored ∷ a.start_pattern)) (IsAnswer Backward a)
+    (walked_backward a c.reads_utf8.ensures.door (sym c.is_utf8.ensures ∙ c.if-not-is_utf8.false)) c.reads_utf8.ensures.ends
+
+pub returns-clause-keeps : goal.returns-clause-keeps
+returns-clause-keeps c =
+    let a = c.args.self.now in
+    if_ok c.reads_utf8.result (IsAnswer Backward a) (λ b. IsTrue b → (kind : MatchKind) → KeepsUtf8 Backward (engine_of a kind))
+    (answer_keeps Backward a) (returns-clause-reads c)
+
+pub returns-clause-exact : goal.returns-clause-exact
+returns-clause-exact c =
+    let a = c.args.self.now in
+    if_ok c.reads_utf8.result (IsAnswer Backward a)
+    (λ b. HasNoLook a → (kind : MatchKind) → IsTrue b ↔ KeepsUtf8 Backward (engine_of a kind)) (answer_exact Backward a) (returns-clause-reads c)

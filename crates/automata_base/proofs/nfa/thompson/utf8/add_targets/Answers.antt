@@ -1,0 +1,21 @@
+use Rattle.std.proofs.Common.{◌/◌, ap, ◌∙◌}
+use Rattle.automata_base.specs.Decoders.{ranges_pairs}
+use Rattle.automata_base.specs.Lists.{all_below}
+use Rattle.automata_base.specs.Nodes.{dense_from}
+use Rattle.automata_base.specs.Once.{once_from}
+use Rattle.automata_base.proofs.Reaching.Adding.{id_below}
+use Rattle.automata_base.proofs.Utf8.Adding.{target_next}
+use Rattle.automata_base.proofs.nfa.thompson.utf8.add_targets.Goals as goal
+
+pub add_target-requires-clause-below : goal.add_target-requires-clause-below
+add_target-requires-clause-below c =
+    id_below (c.loop-byte.set.capacity / 11) c.args.targets.now c.loop-byte.byte c.index-targets-byte.result
+    (ap (λ z. all_below (z / 11) c.args.targets.now) c.loop-byte.invariant.capacity ∙ c.requires.below) c.loop-byte-test.true c.index-targets-byte.is
+
+pub loop-byte-preserved : goal.loop-byte-preserved
+loop-byte-preserved c = record {
+  rest = target_next c.args.classes.now c.args.decoder c.args.targets.now c.loop-byte.set.items c.add_target.new.set.items
+      (once_from c.args.set.now.items (ranges_pairs c.args.classes.now c.args.decoder (dense_from 0 c.args.targets.now)))
+      c.loop-byte.byte c.index-targets-byte.result c.loop-byte-test.true c.index-targets-byte.is c.add_target.ensures.items c.loop-byte.invariant.rest;
+  capacity = c.add_target.ensures.capacity ∙ c.loop-byte.invariant.capacity;
+}

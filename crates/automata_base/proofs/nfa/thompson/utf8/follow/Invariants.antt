@@ -1,0 +1,13 @@
+use Rattle.std.proofs.Common.{◌≡◌, ◌-◌, ◌*◌, length}
+use Rattle.automata_base.specs.Decoders.{pairs_of}
+use Rattle.automata_base.proofs.Reaching.Walked.{IsWalked}
+use Rattle.automata_base.proofs.nfa.thompson.utf8.follow.Given as goal
+
+abbrev pub invariant-loop-id : goal.invariant-loop-id
+invariant-loop-id l = record {
+  walked : IsWalked (pairs_of l.classes l.states) l.fn.set.items l.at l.set.items;
+  capacity : l.set.capacity ≡ length l.states * 11;
+}
+
+abbrev pub decreases-loop-id : goal.decreases-loop-id
+decreases-loop-id l = length l.states * 11 - l.at
