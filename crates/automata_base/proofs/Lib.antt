@@ -1,3 +1,4 @@
+pub mod Building
 pub mod Coding
 pub mod Determinizing
 pub mod Paths

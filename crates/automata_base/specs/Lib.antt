@@ -8,6 +8,7 @@ pub mod Computed
 pub mod Cuts
 pub mod Decoders
 pub mod Door
+pub mod Drafts
 pub mod Engines
 pub mod Equal
 pub mod Finishing
@@ -36,6 +37,7 @@ pub mod Rooms
 pub mod Scratches
 pub mod Selections
 pub mod Spans
+pub mod Shapes
 pub mod Sparse
 pub mod StartConfig
 pub mod StartIsRight

@@ -1,4 +1,5 @@
 //! The laws that searches stand on. Each function does nothing: its contract is the law.
+ghost use Rattle.automata_base.specs.Drafts.{PrefixesSkipLazily};
 ghost use Rattle.automata_base.specs.LateIsRight.{SearchesAreRight, WalksAreRight, NearestEndsAreRight, EndsAreRight};
 ghost use Rattle.automata_base.specs.LateIsRight.{PairsAreRight};
 ghost use Rattle.automata_base.specs.StartIsRight.{StartsAreRight, SpansAreFound, AreOne, IterationsAreRight};
@@ -89,3 +90,9 @@ pub fn walk_is_right(nfa: &NFA)
     let _utf8 = nfa.is_utf8();
     let _empty = nfa.has_empty();
 }
+
+/// An NFA that starts at the lazy loop that a builder adds before a start is one that `NFA::skips_lazily` tells, where
+/// the states before it lead to no others.
+pub fn prefixes_skip_lazily()
+    ensures { PrefixesSkipLazily }
+{}

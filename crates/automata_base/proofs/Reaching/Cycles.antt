@@ -16,7 +16,7 @@ use Rattle.automata_base.specs.Paths.{all_true}
 use Rattle.automata_base.specs.Reach.{node_in, look_target, targets_of, Route, IsReached, LeadsBack, AreLooksAcyclic}
 use Rattle.automata_base.specs.Refusals.{states_below}
 use Rattle.automata_base.specs.Visits.{children_at}
-use Rattle.automata_base.proofs.Determinizing.Distinct.{In-either, In-get_or, In-left, In-right}
+use Rattle.automata_base.proofs.Determinizing.Distinct.{In-either, In-left, In-right}
 use Rattle.automata_base.proofs.Determinizing.Tests_of_lists.{node_fits}
 use Rattle.automata_base.proofs.Determinizing.Walking.{node_at}
 use Rattle.automata_base.proofs.Paths.Orders.{some_inj, none_some}

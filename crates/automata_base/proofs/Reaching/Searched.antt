@@ -1,11 +1,11 @@
 -- What a depth-first search has done, step by step.
-use Rattle.std.proofs.Common.{ℕ, zero, suc, ◌≡◌, ◌<◌, ◌≤◌, ◌+◌, ◌⊎◌, Bool, true, false, List, [], ◌∷◌, ◌++◌, length, get_or, take, Some, None, inl, inr, refl, sym, ap, ◌∙◌, subst, arith}
+use Rattle.std.proofs.Common.{ℕ, zero, suc, ◌≡◌, ◌<◌, ◌+◌, ◌⊎◌, Bool, true, false, List, [], ◌∷◌, ◌++◌, length, get_or, take, Some, None, inl, inr, refl, sym, ap, ◌∙◌, subst, arith}
 use Rattle.std.specs.Prelude.{Contains, IsTrue, IsFalse, reverse}
 use Rattle.std.proofs.lemmas.List.{reverse-append}
 use Rattle.automata_base.specs.declared.nfa.thompson.State.{State}
 use Rattle.automata_base.specs.declared.nfa.thompson.finishing.Frame.{Frame}
 use Rattle.automata_base.specs.declared.nfa.thompson.reach.Edges.TheVariants.{Epsilon}
-use Rattle.automata_base.specs.Finishing.{LeadsBy, IsFinishingOrder, states_in, IsChain, AreFollowed, IsUnderSearch, IsWholeOrder}
+use Rattle.automata_base.specs.Finishing.{LeadsBy, states_in, AreFollowed, IsUnderSearch, IsWholeOrder}
 use Rattle.automata_base.specs.Lists.{In, nth}
 use Rattle.automata_base.specs.Nodes.{node_of}
 use Rattle.automata_base.specs.Paths.{all_true}

@@ -1,5 +1,7 @@
 //! Thompson NFAs.
 
+mod builder;
+mod building;
 mod cycles;
 mod door;
 mod finishing;
@@ -7,6 +9,8 @@ mod reach;
 pub(crate) mod reading;
 mod utf8;
 
+pub use crate::nfa::thompson::builder::Builder;
+pub use crate::nfa::thompson::building::BuildError;
 use crate::nfa::thompson::cycles::are_looks_acyclic;
 use crate::nfa::thompson::door::{looks_of, test};
 use crate::nfa::thompson::reach::{reaches_match, skips_lazily};
@@ -211,7 +215,8 @@ impl NFA {
     /// An NFA of these states. Searches start at the anchored or the unanchored start, and those for pattern k at
     /// `start_pattern[k]`, so there are as many patterns as such starts. The tests are made in this order, each of the
     /// whole list: its size, the starts, the states that edges lead to, the order of ranges, the patterns. The first
-    /// that fails refuses it. A refusal hands neither list back.
+    /// that fails refuses it. A refusal hands neither list back. It takes time linear in the states, their edges and the
+    /// starts, a dense state having 256 edges.
     pub fn from_states(
         alloc: Global,
         states: Vec<State>,

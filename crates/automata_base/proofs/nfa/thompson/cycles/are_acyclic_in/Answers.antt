@@ -1,4 +1,4 @@
-use Rattle.std.proofs.Common.{◌≡◌, ◌<◌, length, sym, subst}
+use Rattle.std.proofs.Common.{sym, subst}
 use Rattle.automata_base.specs.Lists.{In}
 use Rattle.automata_base.proofs.Determinizing.Distinct.{In-get_or}
 use Rattle.automata_base.proofs.Reaching.Cycles.{none_tried, one_tried, one_back, all_tried}

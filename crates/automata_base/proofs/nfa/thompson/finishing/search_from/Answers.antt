@@ -1,9 +1,8 @@
-use Rattle.std.proofs.Common.{ℕ, ◌≡◌, ◌<◌, List, [], ◌∷◌, length, reverse, refl, sym, ap, ◌∙◌, subst}
+use Rattle.std.proofs.Common.{◌≡◌, [], ◌∷◌, length, reverse, refl, sym, ap, ◌∙◌, subst}
 use Rattle.std.proofs.lemmas.List.{nil_from_length}
 use Rattle.automata_base.specs.declared.nfa.thompson.finishing.Frame.{Frame}
 use Rattle.automata_base.specs.declared.nfa.thompson.reach.Edges.TheVariants.{Epsilon}
 use Rattle.automata_base.specs.Finishing.{IsUnderSearch}
-use Rattle.automata_base.specs.Lists.{In}
 use Rattle.automata_base.specs.Reach.{targets_of}
 use Rattle.automata_base.proofs.Determinizing.Distinct.{Contains-In, In-Contains}
 use Rattle.automata_base.proofs.Reaching.Searched.{search_starts, stack_top}

@@ -1,13 +1,10 @@
-use Rattle.std.proofs.Common.{ℕ, ◌≡◌, ◌+◌, ◌<◌, ◌++◌, List, [], ◌∷◌, Some, length, reverse, take, get_or, true, refl, sym, ap, ◌∙◌, subst, arith}
+use Rattle.std.proofs.Common.{ℕ, ◌≡◌, ◌+◌, ◌<◌, ◌∷◌, length, reverse, take, refl, sym, ap, ◌∙◌, subst, arith}
 use Rattle.automata_base.specs.declared.nfa.thompson.finishing.Frame.{Frame}
 use Rattle.automata_base.specs.declared.nfa.thompson.reach.Edges.TheVariants.{Epsilon}
 use Rattle.automata_base.specs.Finishing.{IsUnderSearch}
 use Rattle.automata_base.specs.Lists.{In, nth}
-use Rattle.automata_base.specs.Nodes.{node_of}
-use Rattle.automata_base.specs.Paths.{all_true}
-use Rattle.automata_base.specs.Reach.{node_in, targets_of}
+use Rattle.automata_base.specs.Reach.{targets_of}
 use Rattle.automata_base.specs.Refusals.{states_below}
-use Rattle.automata_base.specs.Visits.{children_at}
 use Rattle.automata_base.proofs.Reaching.Adding.{state_at_below}
 use Rattle.automata_base.proofs.Reaching.Searched.{search_done, search_enters, stack_two, read_at, edges_at}
 use Rattle.automata_base.proofs.nfa.thompson.finishing.step.Goals as goal

@@ -1,4 +1,3 @@
-use Rattle.std.proofs.Common.{◌↔◌}
 use Rattle.automata_base.specs.Reach.{targets_of}
 use Rattle.automata_base.proofs.Reaching.Walked.{roots_once}
 use Rattle.automata_base.proofs.nfa.thompson.reach.walk.Goals as goal

@@ -1,0 +1,4 @@
+pub mod Answered
+pub mod Patched
+pub mod Prefixed
+pub mod Shaped

@@ -1,0 +1,123 @@
+-- What contracts see of a builder of NFAs.
+use Rattle.std.specs.Prelude.{ℕ, ◌≡◌, ◌+◌, ◌≤◌, ◌<◌, List, [], ◌∷◌, ◌++◌, length, map, Option, Some, None, false}
+use Rattle.std.specs.Prelude.{Result, Err, IfOk, OnOk, OnErr, IsOkUnless}
+use Rattle.automata_base.specs.declared.nfa.thompson.Flags.{Flags}
+use Rattle.automata_base.specs.declared.nfa.thompson.State.{State}
+use Rattle.automata_base.specs.declared.nfa.thompson.builder.Builder.TheInside.{Inside}
+use Rattle.automata_base.specs.declared.nfa.thompson.building.BuildError.{BuildError}
+use Rattle.automata_base.specs.declared.nfa.thompson.building.BuildError.TheVariants.{TooLarge, OutOfMemory, NoPattern, NFA}
+use Rattle.automata_base.specs.declared.nfa.thompson.NfaError.{NfaError}
+use Rattle.automata_base.specs.declared.nfa.thompson.NfaError.TheVariants as door
+use Rattle.automata_base.specs.Door.{IsDoor}
+use Rattle.automata_base.specs.Getters.{SkipsLazily}
+use Rattle.automata_base.specs.Nodes.{Automaton}
+use Rattle.automata_base.specs.Shapes.{Shape, UnionShape, RangeShape, shape_of, shape_added, built_of}
+
+-- Its states as they were added and patched, the pattern that was begun and not finished, the starts of those that
+-- were finished, and the flags.
+pub record Draft : Type 0 where
+  pub states : List Shape
+  pub pattern : Option ℕ
+  pub starts : List ℕ
+  pub flags : Flags
+
+abbrev pub draft_of : Inside → Draft
+draft_of b = record {
+  states = map shape_added b.states.items;
+  pattern = b.pattern;
+  starts = b.starts.items;
+  flags = b.flags;
+}
+
+-- One without states and patterns.
+abbrev pub blank : Flags → Draft
+blank flags = record { states = []; pattern = None; starts = []; flags = flags }
+
+abbrev pub default_flags : Flags
+default_flags = record { utf8 = false; reverse = false; line_terminator = 10 }
+
+-- The same with other states, with a pattern begun, and with it finished.
+abbrev pub with_states : Draft → List Shape → Draft
+with_states draft states = record { states = states; pattern = draft.pattern; starts = draft.starts; flags = draft.flags }
+
+abbrev pub begun : Draft → Draft
+begun draft =
+    record { states = draft.states; pattern = Some (length draft.starts); starts = draft.starts; flags = draft.flags }
+
+abbrev pub finished : Draft → ℕ → Draft
+finished draft start =
+    record { states = draft.states; pattern = None; starts = draft.starts ++ start ∷ []; flags = draft.flags }
+
+-- The same with these flags.
+abbrev pub with_flags : Draft → Flags → Draft
+with_flags draft flags =
+    record { states = draft.states; pattern = draft.pattern; starts = draft.starts; flags = flags }
+
+-- The lazy loop over any bytes before a start, whose union comes next.
+abbrev pub prefix_of : Draft → (start : ℕ) → List Shape
+prefix_of draft start =
+    UnionShape (start ∷ (length draft.states + 1) ∷ []) ∷ RangeShape 0 255 (length draft.states) ∷ []
+
+-- A call that adds states tells the number of the first of them, or changes nothing. It is refused where the numbers
+-- come to their end, and else for want of memory alone.
+pub record IsAdding (old new : Draft) (result : Result ℕ BuildError) (shapes : List Shape) : Type 0 where
+  pub number : IfOk result (λ id. id ≡ length old.states)
+  pub added : OnOk result (new ≡ with_states old (old.states ++ shapes))
+  pub refused : OnErr result (new ≡ old)
+  pub large : 2147483647 < length old.states + length shapes → result ≡ Err TooLarge
+  pub memory : length old.states + length shapes ≤ 2147483647 → IsOkUnless result OutOfMemory
+
+-- The same where it asks for the pattern that was begun: without one it is refused, and changes nothing.
+pub record IsAddingOf
+    (old new : Draft) (result : Result ℕ BuildError) (shape : ℕ → Shape)
+    : Type 0 where
+  pub none : old.pattern ≡ None → (result ≡ Err NoPattern) × (new ≡ old)
+  pub one : (p : ℕ) → old.pattern ≡ Some p → IsAdding old new result (shape p ∷ [])
+
+-- An NFA by what its states say.
+pub record Outline : Type 0 where
+  pub states : List Shape
+  pub start_anchored : ℕ
+  pub start_unanchored : ℕ
+  pub start_pattern : List ℕ
+  pub flags : Flags
+
+abbrev pub outline : Automaton → Outline
+outline a = record {
+  states = map shape_of a.states;
+  start_anchored = a.start_anchored;
+  start_unanchored = a.start_unanchored;
+  start_pattern = a.start_pattern;
+  flags = a.flags;
+}
+
+-- The NFA that is built, with these starts.
+abbrev pub built : Draft → (anchored unanchored : ℕ) → Outline
+built draft anchored unanchored = record {
+  states = map built_of draft.states;
+  start_anchored = anchored;
+  start_unanchored = unanchored;
+  start_pattern = draft.starts;
+  flags = draft.flags;
+}
+
+-- The states are those that are built.
+abbrev pub AreBuilt : Draft → List State → Type 0
+AreBuilt draft states = map shape_of states ≡ map built_of draft.states
+
+-- An error of the door as a builder tells it: want of memory is its own.
+abbrev pub told : NfaError → BuildError
+told door.StateRange = NFA door.StateRange
+told door.StartRange = NFA door.StartRange
+told door.PatternRange = NFA door.PatternRange
+told door.Ranges = NFA door.Ranges
+told door.TooLarge = NFA door.TooLarge
+told door.OutOfMemory = OutOfMemory
+
+-- Where the states before it lead to no others, an NFA that starts at a lazy loop skips lazily.
+abbrev pub PrefixesSkipLazily : Type 0
+PrefixesSkipLazily =
+    (draft : Draft) (start : ℕ) (before after : Automaton) → IsDoor before → AreBuilt draft before.states
+    → start < length draft.states
+    → outline after ≡ built (with_states draft (draft.states ++ prefix_of draft start)) start (length draft.states)
+    → SkipsLazily after

@@ -1,0 +1,346 @@
+//! A builder of NFAs, state by state.
+use crate::nfa::thompson::building::{Added, BuildError, patch, push_states, told};
+use crate::nfa::thompson::{Flags, NFA, NfaError, Transition};
+use crate::util::look::Look;
+use crate::util::primitives::{PatternID, StateID};
+use std::alloc::Global;
+use std::marker::Model;
+
+/// A builder of an NFA: states are added one by one, and each call tells the number of its state, which the NFA keeps.
+/// Targets may be states that aren't there yet, and can be patched later. A match and a group are of the pattern that
+/// was begun last. A call that is refused changes nothing.
+#[derive(Drop)]
+pub struct Builder {
+    alloc: Global,
+    states: Vec<Added>,
+    pattern: Option<PatternID>,
+    starts: Vec<StateID>,
+    flags: Flags,
+}
+
+impl Model for Builder {
+    ghost use Rattle.std.specs.Prelude.{◌≡◌, ℕ, Some, length};
+    ghost use Rattle.automata_base.specs.Drafts.{Draft, draft_of};
+
+    ghost Value = { Draft };
+
+    ghost view = { draft_of };
+
+    ghost invariant = { λ b. (p : ℕ) → b.pattern ≡ Some p → p ≡ length b.starts.items };
+}
+
+impl Builder {
+    ghost use Rattle.std.specs.Prelude.{◌≡◌, ◌⊎◌, ◌+◌, ◌*◌, ◌<◌, ◌≤◌, ◌∷◌, ◌++◌, [], List, ℕ, None, Some, length, set};
+    ghost use Rattle.std.specs.Prelude.{IfOk, OnOk, OnErr, IsOk, IsOkUnless, slice_get};
+    ghost use Rattle.automata_base.specs.declared.nfa.thompson.State.{State};
+    ghost use Rattle.automata_base.specs.Drafts.{blank, default_flags, with_states, with_flags, begun, finished};
+    ghost use Rattle.automata_base.specs.Drafts.{prefix_of};
+    ghost use Rattle.automata_base.specs.Drafts.{IsAdding, IsAddingOf, AreBuilt, outline, built};
+    ghost use Rattle.automata_base.specs.Refusals.{door_refusal};
+    ghost use Rattle.automata_base.specs.Shapes.{Shape, shape_added, patched, EmptyShape, RangeShape, SparseShape};
+    ghost use Rattle.automata_base.specs.Shapes.{LookShape, UnionShape, UnionReverseShape, CaptureShape, FailShape};
+    ghost use Rattle.automata_base.specs.Shapes.{MatchShape};
+
+    /// A builder without states, whose NFA is neither in UTF-8 mode nor reversed, and whose lines end in `\n`.
+    pub fn new(alloc: Global) -> Builder
+        ensures { result ≡ blank default_flags }
+    {
+        Builder {
+            alloc,
+            states: Vec::new(alloc),
+            pattern: None,
+            starts: Vec::new(alloc),
+            flags: Flags::default(),
+        }
+    }
+
+    /// Takes all states and patterns out. What the NFA says of itself stays.
+    pub fn clear(&mut self)
+        ensures { self.new ≡ blank self.old.flags }
+    {
+        self.states.clear();
+        self.pattern = None;
+        self.starts.clear();
+    }
+
+    /// Begins a pattern, and tells its number. Matches and groups are its own until it is finished.
+    pub fn start_pattern(&mut self) -> Result<PatternID, BuildError>
+        ensures number { IfOk result (λ p. p ≡ length self.old.starts) }
+        ensures begun { OnOk result (self.new ≡ begun self.old) }
+        ensures same { OnErr result (self.new ≡ self.old) }
+        ensures unfinished { (p : ℕ) → self.old.pattern ≡ Some p → result ≡ Err BuildError.UnfinishedPattern }
+        ensures large { self.old.pattern ≡ None → 2147483646 < length self.old.starts → result ≡ Err BuildError.TooLarge }
+        ensures few { self.old.pattern ≡ None → length self.old.starts ≤ 2147483646 → IsOk result }
+    {
+        if self.pattern.is_some() {
+            return Err(BuildError::UnfinishedPattern);
+        }
+        let Some(pattern) = PatternID::new(self.starts.len()) else {
+            return Err(BuildError::TooLarge);
+        };
+        self.pattern = Some(pattern);
+        Ok(pattern)
+    }
+
+    /// Finishes the pattern that was begun, whose searches start at this state, and tells its number.
+    pub fn finish_pattern(&mut self, start_id: StateID) -> Result<PatternID, BuildError>
+        ensures number { IfOk result (λ p. self.old.pattern ≡ Some p) }
+        ensures finished { OnOk result (self.new ≡ finished self.old start_id) }
+        ensures same { OnErr result (self.new ≡ self.old) }
+        ensures none { self.old.pattern ≡ None → result ≡ Err BuildError.NoPattern }
+        ensures memory { (p : ℕ) → self.old.pattern ≡ Some p → IsOkUnless result BuildError.OutOfMemory }
+    {
+        let Some(pattern) = self.pattern else {
+            return Err(BuildError::NoPattern);
+        };
+        match self.starts.push(start_id) {
+            Ok(()) => {
+                self.pattern = None;
+                Ok(pattern)
+            }
+            Err(_) => Err(BuildError::OutOfMemory),
+        }
+    }
+
+    fn add(&mut self, added: Added) -> Result<StateID, BuildError>
+        ensures { IsAdding self.old self.new result (shape_added added ∷ []) }
+    {
+        let Some(id) = StateID::new(self.states.len()) else {
+            return Err(BuildError::TooLarge);
+        };
+        match self.states.push(added) {
+            Ok(()) => Ok(id),
+            Err(_) => Err(BuildError::OutOfMemory),
+        }
+    }
+
+    /// Adds a state that goes on without reading, to state 0 until it is patched. It is built as a union of one.
+    pub fn add_empty(&mut self) -> Result<StateID, BuildError>
+        ensures { IsAdding self.old self.new result (EmptyShape 0 ∷ []) }
+    {
+        self.add(Added::Empty {
+            next: StateID::ZERO,
+        })
+    }
+
+    /// Adds a union, the first alternate preferred. A patch adds an alternate behind the others.
+    pub fn add_union(&mut self, alternates: Vec<StateID>) -> Result<StateID, BuildError>
+        ensures { IsAdding self.old self.new result (UnionShape alternates.items ∷ []) }
+    {
+        self.add(Added::Union { alternates })
+    }
+
+    /// Adds a union in reverse: the last alternate is preferred, one that is patched to it later before all others.
+    pub fn add_union_reverse(&mut self, alternates: Vec<StateID>) -> Result<StateID, BuildError>
+        ensures { IsAdding self.old self.new result (UnionReverseShape alternates.items ∷ []) }
+    {
+        self.add(Added::UnionReverse { alternates })
+    }
+
+    /// Adds a state that reads one byte of a range.
+    pub fn add_range(&mut self, trans: Transition) -> Result<StateID, BuildError>
+        ensures { IsAdding self.old self.new result (RangeShape trans.lo trans.hi trans.next ∷ []) }
+    {
+        self.add(Added::Range(trans))
+    }
+
+    /// Adds a state that reads one byte by the range that has it. It can't be patched.
+    pub fn add_sparse(&mut self, ranges: Vec<Transition>) -> Result<StateID, BuildError>
+        ensures { IsAdding self.old self.new result (SparseShape ranges.items ∷ []) }
+    {
+        self.add(Added::Sparse(ranges))
+    }
+
+    /// Adds a look.
+    pub fn add_look(&mut self, next: StateID, look: Look) -> Result<StateID, BuildError>
+        ensures { IsAdding self.old self.new result (LookShape look next ∷ []) }
+    {
+        self.add(Added::Look { look, next })
+    }
+
+    /// Adds a state that leads nowhere.
+    pub fn add_fail(&mut self) -> Result<StateID, BuildError>
+        ensures { IsAdding self.old self.new result (FailShape ∷ []) }
+    {
+        self.add(Added::Fail)
+    }
+
+    /// Adds a match of the pattern that was begun.
+    pub fn add_match(&mut self) -> Result<StateID, BuildError>
+        ensures { IsAddingOf self.old self.new result (λ p. MatchShape p) }
+    {
+        match self.pattern {
+            Some(pattern) => self.add(Added::Match { pattern }),
+            None => Err(BuildError::NoPattern),
+        }
+    }
+
+    fn add_capture(
+        &mut self,
+        next: StateID,
+        group_index: u32,
+        slot: u32,
+    ) -> Result<StateID, BuildError>
+        ensures { IsAddingOf self.old self.new result (λ p. CaptureShape next p group_index slot) }
+    {
+        match self.pattern {
+            Some(pattern_id) => self.add(Added::Capture {
+                next,
+                pattern_id,
+                group_index,
+                slot,
+            }),
+            None => Err(BuildError::NoPattern),
+        }
+    }
+
+    /// Adds the start of a group of the pattern that was begun. Its slot is twice the group's index.
+    pub fn add_capture_start(
+        &mut self,
+        next: StateID,
+        group_index: u32,
+    ) -> Result<StateID, BuildError>
+        ensures added { group_index ≤ 2147483646
+            → IsAddingOf self.old self.new result (λ p. CaptureShape next p group_index (2 * group_index)) }
+        ensures large { 2147483646 < group_index → (result ≡ Err BuildError.TooLarge) × (self.new ≡ self.old) }
+    {
+        if group_index > 2147483646 {
+            return Err(BuildError::TooLarge);
+        }
+        self.add_capture(next, group_index, 2 * group_index)
+    }
+
+    /// Adds the end of a group of the pattern that was begun. Its slot is that behind the start's.
+    pub fn add_capture_end(
+        &mut self,
+        next: StateID,
+        group_index: u32,
+    ) -> Result<StateID, BuildError>
+        ensures added { group_index ≤ 2147483646
+            → IsAddingOf self.old self.new result (λ p. CaptureShape next p group_index (2 * group_index + 1)) }
+        ensures large { 2147483646 < group_index → (result ≡ Err BuildError.TooLarge) × (self.new ≡ self.old) }
+    {
+        if group_index > 2147483646 {
+            return Err(BuildError::TooLarge);
+        }
+        self.add_capture(next, group_index, 2 * group_index + 1)
+    }
+
+    /// Adds an edge from a union to a state, or lets what has one target lead there instead. A fail or match state
+    /// stays as it is.
+    pub fn patch(&mut self, from: StateID, to: StateID) -> Result<(), BuildError>
+        ensures patched { OnOk result ((old shape : Shape) → slice_get self.old.states from ≡ Some old
+            → patched old to ≡ Some shape → self.new ≡ with_states self.old (set self.old.states from shape)) }
+        ensures same { OnErr result (self.new ≡ self.old) }
+        ensures range { length self.old.states ≤ from → result ≡ Err BuildError.StateRange }
+        ensures sparse { (old : Shape) → slice_get self.old.states from ≡ Some old → patched old to ≡ None
+            → result ≡ Err BuildError.SparsePatch }
+        ensures memory { (old shape : Shape) → slice_get self.old.states from ≡ Some old → patched old to ≡ Some shape
+            → IsOkUnless result BuildError.OutOfMemory }
+    {
+        if from.as_usize() >= self.states.len() {
+            return Err(BuildError::StateRange);
+        }
+        patch(&mut self.states[from.as_usize()], to)
+    }
+
+    /// Whether the NFA leaves empty matches out that split a character.
+    pub fn set_utf8(&mut self, yes: bool)
+        ensures { self.new ≡ with_flags self.old (record {
+          utf8 = yes;
+          reverse = self.old.flags.reverse;
+          line_terminator = self.old.flags.line_terminator;
+        }) }
+    {
+        self.flags.utf8 = yes;
+    }
+
+    /// Whether the NFA matches the reversed texts.
+    pub fn set_reverse(&mut self, yes: bool)
+        ensures { self.new ≡ with_flags self.old (record {
+          utf8 = self.old.flags.utf8;
+          reverse = yes;
+          line_terminator = self.old.flags.line_terminator;
+        }) }
+    {
+        self.flags.reverse = yes;
+    }
+
+    /// The byte that ends a line, for the looks at lines.
+    pub fn set_line_terminator(&mut self, byte: u8)
+        ensures { self.new ≡ with_flags self.old (record {
+          utf8 = self.old.flags.utf8;
+          reverse = self.old.flags.reverse;
+          line_terminator = byte;
+        }) }
+    {
+        self.flags.line_terminator = byte;
+    }
+
+    /// Adds a lazy loop over any bytes before a start, and tells its number: an unanchored search from there finds
+    /// what begins anywhere. It is two states, a union that prefers the start, and a state that reads any byte. Where
+    /// nothing before it leads to it, an NFA that starts there skips lazily.
+    pub fn add_unanchored_prefix(&mut self, start: StateID) -> Result<StateID, BuildError>
+        ensures { IsAdding self.old self.new result (prefix_of self.old start) }
+    {
+        let Some(skip) = StateID::new(self.states.len() + 1) else {
+            return Err(BuildError::TooLarge);
+        };
+        let Ok(alternates) = Vec::from_slice(self.alloc, &[start, skip]) else {
+            return Err(BuildError::OutOfMemory);
+        };
+        let union = self.add_union(alternates)?;
+        let any = Transition {
+            lo: 0,
+            hi: 255,
+            next: union,
+        };
+        if let Err(error) = self.add_range(any) {
+            self.states.pop();
+            return Err(error);
+        }
+        Ok(union)
+    }
+
+    /// The NFA of these states, in which searches start at the anchored or the unanchored start. It is refused while a
+    /// pattern is not finished, and where `NFA::from_states` refuses it. The builder stays as it is.
+    pub fn build(
+        &self,
+        start_anchored: StateID,
+        start_unanchored: StateID,
+    ) -> Result<NFA, BuildError>
+        ensures same { IfOk result (λ nfa. outline nfa ≡ built self.now start_anchored start_unanchored) }
+        ensures unfinished { (p : ℕ) → self.now.pattern ≡ Some p → result ≡ Err BuildError.UnfinishedPattern }
+        ensures refused { (states : List State) (error : NfaError) → self.now.pattern ≡ None → AreBuilt self.now states
+            → door_refusal states start_anchored start_unanchored self.now.starts ≡ Some error
+            → (result ≡ Err (BuildError.NFA error)) ⊎ (result ≡ Err BuildError.OutOfMemory) }
+        ensures memory { (states : List State) → self.now.pattern ≡ None → AreBuilt self.now states
+            → door_refusal states start_anchored start_unanchored self.now.starts ≡ None
+            → IsOkUnless result BuildError.OutOfMemory }
+    {
+        if self.pattern.is_some() {
+            return Err(BuildError::UnfinishedPattern);
+        }
+        let Ok(mut states) = Vec::with_capacity(self.alloc, self.states.len()) else {
+            return Err(BuildError::OutOfMemory);
+        };
+        let Ok(()) = push_states(self.alloc, &mut states, self.states.as_slice()) else {
+            return Err(BuildError::OutOfMemory);
+        };
+        let Ok(starts) = Vec::from_slice(self.alloc, self.starts.as_slice()) else {
+            return Err(BuildError::OutOfMemory);
+        };
+        let nfa = NFA::from_states(
+            self.alloc,
+            states,
+            start_anchored,
+            start_unanchored,
+            starts,
+            self.flags,
+        );
+        match nfa {
+            Ok(nfa) => Ok(nfa),
+            Err(error) => Err(told(error)),
+        }
+    }
+}

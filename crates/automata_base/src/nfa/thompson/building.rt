@@ -1,0 +1,196 @@
+//! The states that a builder has, and what it makes of them.
+ghost use Rattle.std.specs.Prelude.{◌≡◌, ◌++◌, ◌∷◌, [], List, ℕ, None, Some, map, reverse, IfOk, OnOk, OnErr, IsOkUnless};
+ghost use Rattle.automata_base.specs.Drafts.{told};
+ghost use Rattle.automata_base.specs.Shapes.{Shape, shape_of, shape_added, built_of, patched, union_of};
+
+use crate::nfa::thompson::{NfaError, State, Transition};
+use crate::util::look::Look;
+use crate::util::primitives::{PatternID, StateID};
+use std::alloc::{AllocError, Global};
+use thiserror::Error;
+
+/// Why a builder refuses a call. It is then as it was before the call.
+#[derive(Clone, Copy, Debug, PartialEq, Eq, Error)]
+pub enum BuildError {
+    /// No pattern was begun, or the last one was finished.
+    #[error("no pattern was begun")]
+    NoPattern,
+    /// The pattern that was begun is not finished.
+    #[error("a pattern was begun and not finished")]
+    UnfinishedPattern,
+    /// The state that is to be patched isn't there.
+    #[error("a state that is to be patched is out of range")]
+    StateRange,
+    /// A sparse state takes no patch.
+    #[error("a sparse state takes no patch")]
+    SparsePatch,
+    /// There are too many states or patterns for their numbers, or the index of a group is too great.
+    #[error("too many states, patterns or groups")]
+    TooLarge,
+    /// The NFA is refused.
+    #[error("{0}")]
+    NFA(NfaError),
+    /// An allocation failed.
+    #[error("out of memory")]
+    OutOfMemory,
+}
+
+/// The error of the test of an NFA, as a builder tells it.
+pub fn told(error: NfaError) -> BuildError
+    ensures { result ≡ told error }
+{
+    match error {
+        NfaError::OutOfMemory => BuildError::OutOfMemory,
+        NfaError::StateRange
+        | NfaError::StartRange
+        | NfaError::PatternRange
+        | NfaError::Ranges
+        | NfaError::TooLarge => BuildError::NFA(error),
+    }
+}
+
+/// A state as it was added. Its targets may be states that are added later.
+#[derive(Debug, Drop)]
+pub enum Added {
+    Empty {
+        next: StateID,
+    },
+    Range(Transition),
+    Sparse(Vec<Transition>),
+    Look {
+        look: Look,
+        next: StateID,
+    },
+    Union {
+        alternates: Vec<StateID>,
+    },
+    /// The alternates in reverse, the last of them preferred.
+    UnionReverse {
+        alternates: Vec<StateID>,
+    },
+    Capture {
+        next: StateID,
+        pattern_id: PatternID,
+        group_index: u32,
+        slot: u32,
+    },
+    Fail,
+    Match {
+        pattern: PatternID,
+    },
+}
+
+fn push_alternate(alternates: &mut Vec<StateID>, to: StateID) -> Result<(), BuildError>
+    ensures added { OnOk result (alternates.new.items ≡ alternates.old.items ++ to ∷ []) }
+    ensures same { OnErr result (alternates.new.items ≡ alternates.old.items) }
+    ensures memory { IsOkUnless result BuildError.OutOfMemory }
+{
+    match alternates.push(to) {
+        Ok(()) => Ok(()),
+        Err(_) => Err(BuildError::OutOfMemory),
+    }
+}
+
+/// Adds an edge from the state, or moves the one that it has.
+pub fn patch(added: &mut Added, to: StateID) -> Result<(), BuildError>
+    ensures patched { OnOk result (patched (shape_added added.old) to ≡ Some (shape_added added.new)) }
+    ensures same { OnErr result (shape_added added.new ≡ shape_added added.old) }
+    ensures sparse { patched (shape_added added.old) to ≡ None → result ≡ Err BuildError.SparsePatch }
+    ensures memory { (shape : Shape) → patched (shape_added added.old) to ≡ Some shape
+        → IsOkUnless result BuildError.OutOfMemory }
+{
+    match added {
+        Added::Empty { next } => *next = to,
+        Added::Range(transition) => transition.next = to,
+        Added::Sparse(_) => return Err(BuildError::SparsePatch),
+        Added::Look { next, .. } => *next = to,
+        Added::Union { alternates } => return push_alternate(alternates, to),
+        Added::UnionReverse { alternates } => return push_alternate(alternates, to),
+        Added::Capture { next, .. } => *next = to,
+        Added::Fail => {}
+        Added::Match { .. } => {}
+    }
+    Ok(())
+}
+
+fn union(alternates: Vec<StateID>) -> State
+    ensures { shape_of result ≡ union_of alternates.items }
+{
+    match alternates.as_slice() {
+        [] => State::Fail,
+        [alt1, alt2] => State::BinaryUnion {
+            alt1: *alt1,
+            alt2: *alt2,
+        },
+        _ => State::Union { alternates },
+    }
+}
+
+// A union with the last alternate preferred.
+fn union_reverse(alloc: Global, alternates: &[StateID]) -> Result<State, AllocError>
+    ensures { IfOk result (λ state. shape_of state ≡ union_of (reverse alternates.now)) }
+{
+    let mut reversed = Vec::from_slice(alloc, alternates)?;
+    reversed.reverse();
+    Ok(union(reversed))
+}
+
+// A state of an NFA for one that was added.
+fn build_state(alloc: Global, added: &Added) -> Result<State, AllocError>
+    ensures { IfOk result (λ state. shape_of state ≡ built_of (shape_added added.now)) }
+{
+    Ok(match added {
+        Added::Empty { next } => State::Union {
+            alternates: Vec::from_slice(alloc, &[*next])?,
+        },
+        Added::Range(Transition { lo, hi, next }) => State::ByteRange {
+            lo: *lo,
+            hi: *hi,
+            next: *next,
+        },
+        Added::Sparse(transitions) => State::Sparse(Vec::from_slice(alloc, transitions)?),
+        Added::Look { look, next } => State::Look {
+            look: *look,
+            next: *next,
+        },
+        Added::Union { alternates } => union(Vec::from_slice(alloc, alternates)?),
+        Added::UnionReverse { alternates } => union_reverse(alloc, alternates)?,
+        Added::Capture {
+            next,
+            pattern_id,
+            group_index,
+            slot,
+        } => State::Capture {
+            next: *next,
+            pattern_id: *pattern_id,
+            group_index: *group_index,
+            slot: *slot,
+        },
+        Added::Fail => State::Fail,
+        Added::Match { pattern } => State::Match { pattern: *pattern },
+    })
+}
+
+fn push_state(alloc: Global, states: &mut Vec<State>, added: &Added) -> Result<(), AllocError>
+    ensures { OnOk result (map shape_of states.new.items
+        ≡ map shape_of states.old.items ++ built_of (shape_added added.now) ∷ []) }
+{
+    let state = build_state(alloc, added)?;
+    states.push(state)?;
+    Ok(())
+}
+
+/// Appends the states of an NFA for those that were added.
+pub fn push_states(
+    alloc: Global,
+    states: &mut Vec<State>,
+    added: &[Added],
+) -> Result<(), AllocError>
+    ensures { OnOk result (map shape_of states.new.items
+        ≡ map shape_of states.old.items ++ map built_of (map shape_added added.now)) }
+{
+    for one in added {
+        push_state(alloc, states, one)?;
+    }
+    Ok(())
+}
