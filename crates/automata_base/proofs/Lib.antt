@@ -1,6 +1,7 @@
 pub mod Building
 pub mod Coding
 pub mod Determinizing
+pub mod Mirrors
 pub mod Paths
 pub mod Reaching
 pub mod Spans

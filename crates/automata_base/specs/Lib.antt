@@ -5,6 +5,7 @@ pub mod Automata
 pub mod Classes
 pub mod Code
 pub mod Computed
+pub mod Copies
 pub mod Cuts
 pub mod Decoders
 pub mod Door
@@ -22,6 +23,7 @@ pub mod Made
 pub mod Marks
 pub mod Matches
 pub mod Members
+pub mod Mirrors
 pub mod Nfa
 pub mod Nodes
 pub mod Once
@@ -33,7 +35,9 @@ pub mod PatternSet
 pub mod Powerset
 pub mod Reach
 pub mod Refusals
+pub mod ReversedSizes
 pub mod Rooms
+pub mod Runs
 pub mod Scratches
 pub mod Selections
 pub mod Spans
@@ -49,6 +53,7 @@ pub mod Telling
 pub mod Told
 pub mod TruePairs
 pub mod Truths
+pub mod Turns
 pub mod Utf8
 pub mod Visits
 pub mod WalkLaws

@@ -2,6 +2,7 @@
 ghost use Rattle.automata_base.specs.Drafts.{PrefixesSkipLazily};
 ghost use Rattle.automata_base.specs.LateIsRight.{SearchesAreRight, WalksAreRight, NearestEndsAreRight, EndsAreRight};
 ghost use Rattle.automata_base.specs.LateIsRight.{PairsAreRight};
+ghost use Rattle.automata_base.specs.Mirrors.{PatternsAreReversed, ReversedIsTrue};
 ghost use Rattle.automata_base.specs.StartIsRight.{StartsAreRight, SpansAreFound, AreOne, IterationsAreRight};
 ghost use Rattle.automata_base.specs.StartIsRight.{AllEndsRise, MatchIffFound, BackMeetsNone};
 ghost use Rattle.automata_base.specs.StepLaws.{ClassesStepAlike, ClassesQuitAlike, StartsAreAlike, DeadStaysDead};
@@ -95,4 +96,11 @@ pub fn walk_is_right(nfa: &NFA)
 /// the states before it lead to no others.
 pub fn prefixes_skip_lazily()
     ensures { PrefixesSkipLazily }
+{}
+
+/// An automaton and the reversed one are a true pair: each edge of the one is an edge of the other that leads back, looks
+/// flipped, and the paths of a pattern begin at its matches and end where those of the other begin.
+pub fn reversed_is_true()
+    ensures pair { ReversedIsTrue }
+    ensures patterns { PatternsAreReversed }
 {}

@@ -23,3 +23,4 @@ pub mod Replying
 pub mod Folding
 pub mod WalkReplies
 pub mod WalkTelling
+pub mod Reversing

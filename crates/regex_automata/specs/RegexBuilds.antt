@@ -1,7 +1,15 @@
 -- What a regex's builder makes of two automata, or why it refuses them.
-use Rattle.std.specs.Prelude.{ℕ, ◌==◌, false, if◌then◌else◌, length, Option, Some}
+use Rattle.std.specs.Prelude.{ℕ, ◌≡◌, ◌==◌, false, true, if◌then◌else◌, length, Option, Some}
 use Rattle.std.specs.Option.{option_or}
-use Rattle.automata_base.specs.Nodes.{Automaton}
+use Rattle.automata_base.specs.Getters.{SkipsLazily}
+use Rattle.automata_base.specs.Mirrors.{BeginsAlike, IsReversed}
+use Rattle.automata_base.specs.Nodes.{Automaton, nfa_of}
+use Rattle.automata_base.specs.Paths.{IsLookAcyclic}
+use Rattle.automata_base.specs.ReversedSizes.{MayBeTooLarge}
+use Rattle.automata_base.specs.Tapes.{Forward}
+use Rattle.automata_base.specs.Utf8.{ReadsUtf8}
+use Rattle.automata_base.specs.declared.nfa.thompson.ReverseError.{ReverseError}
+use Rattle.automata_base.specs.declared.nfa.thompson.ReverseError.TheVariants as reverse
 use Rattle.automata_base.specs.declared.util.search.MatchKind.TheVariants.{All}
 use Rattle.automata_config.specs.Options.{Options}
 use Rattle.automata_config.specs.Settling as settling
@@ -9,6 +17,8 @@ use Rattle.automata_config.specs.declared.error.BuildError.{BuildError}
 use Rattle.automata_config.specs.declared.error.BuildError.TheVariants.{PatternCounts}
 use Rattle.automata_hybrid.specs.Builds as dfa
 use Rattle.regex_automata.specs.declared.hybrid.regex.Regex.{Regex}
+use Rattle.regex_automata.specs.declared.hybrid.regex.build.RegexBuildError.{RegexBuildError}
+use Rattle.regex_automata.specs.declared.hybrid.regex.build.RegexBuildError.TheVariants as is
 
 -- the settings of the reverse DFA: it tells all matches, and start states are not tagged
 abbrev pub backward : Options → Options
@@ -28,3 +38,20 @@ pair_refusal o forward reverse =
     if pattern_count forward == pattern_count reverse
     then option_or (settling.settling_refusal o forward) (settling.settling_refusal (backward o) reverse)
     else Some (PatternCounts (pattern_count forward) (pattern_count reverse))
+
+-- how the errors of `NFA::reversed` are named
+abbrev pub reverse_refusal : ReverseError → RegexBuildError
+reverse_refusal reverse.Starts = is.Starts
+reverse_refusal reverse.TooLarge = is.TooLarge
+reverse_refusal reverse.OutOfMemory = is.OutOfMemory
+
+-- why no regex is built of one automaton
+abbrev pub IsRefusal : Options → Automaton → RegexBuildError → Type 0
+IsRefusal o forward is.NotLazy = SkipsLazily forward → ⊥
+IsRefusal o forward is.LookCycle = IsLookAcyclic (nfa_of forward) → ⊥
+IsRefusal o forward is.NotUtf8 = (forward.flags.utf8 ≡ true → ReadsUtf8 Forward forward) → ⊥
+IsRefusal o forward is.Starts = BeginsAlike forward → ⊥
+IsRefusal o forward is.TooLarge = MayBeTooLarge forward
+IsRefusal o forward is.OutOfMemory = Unit {0}
+IsRefusal o forward (is.Build error) =
+    (reverse : Automaton) × IsReversed forward reverse × (pair_refusal o forward reverse ≡ Some error)

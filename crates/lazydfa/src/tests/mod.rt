@@ -33,6 +33,7 @@ mod regex_bench;
 mod regex_memory;
 mod regex_turns;
 mod replay_turns;
+mod reversed;
 mod scripts;
 mod sets;
 mod span_paths;

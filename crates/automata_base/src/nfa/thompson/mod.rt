@@ -2,22 +2,26 @@
 
 mod builder;
 mod building;
+mod copies;
 mod cycles;
 mod door;
 mod finishing;
 mod reach;
 pub(crate) mod reading;
+mod reverse;
+mod turn;
 mod utf8;
 
 pub use crate::nfa::thompson::builder::Builder;
 pub use crate::nfa::thompson::building::BuildError;
 use crate::nfa::thompson::cycles::are_looks_acyclic;
-use crate::nfa::thompson::door::{looks_of, test};
+use crate::nfa::thompson::door::{looks_of, room_of, test};
 use crate::nfa::thompson::reach::{reaches_match, skips_lazily};
+use crate::nfa::thompson::reverse::{Mirror, reverse_error, reverse_states};
 use crate::nfa::thompson::utf8::{BACKWARD, Class, FORWARD, ends_at_boundaries};
 use crate::util::look::{Look, LookSet};
 use crate::util::primitives::{PatternID, StateID};
-use crate::util::search::Anchored;
+use crate::util::search::{Anchored, MatchKind};
 use std::alloc::{AllocError, Global};
 use std::marker::Model;
 use std::rc::Rc;
@@ -142,6 +146,32 @@ impl From<AllocError> for NfaError {
     }
 }
 
+/// Why an NFA can't be reversed.
+#[derive(Clone, Copy, Debug, PartialEq, Eq, Error)]
+pub enum ReverseError {
+    /// The empty match is reached from the start of some pattern and not from the anchored start, or the other way
+    /// round.
+    #[error("the starts differ in the empty match, so the reversed NFA would have others")]
+    Starts,
+    /// The reversed NFA would have more states or alternates than an NFA may have.
+    #[error("the reversed NFA would be too large")]
+    TooLarge,
+    /// An allocation failed.
+    #[error("out of memory")]
+    OutOfMemory,
+}
+
+impl From<AllocError> for ReverseError {
+    ghost use Rattle.std.specs.Prelude.{◌≡◌};
+    ghost use Rattle.automata_base.specs.declared.nfa.thompson.ReverseError.TheVariants.{OutOfMemory};
+
+    ghost from_gives = { λ _ e. e ≡ OutOfMemory };
+
+    fn from(_e: AllocError) -> ReverseError {
+        ReverseError::OutOfMemory
+    }
+}
+
 // What the clones of an NFA share.
 #[derive(Drop)]
 struct Data {
@@ -192,8 +222,8 @@ impl Clone for NFA {
 }
 
 impl NFA {
-    ghost use Rattle.std.specs.Prelude.{◌≡◌, ◌<◌, ◌≤◌, ◌^◌, ◌↔◌, ℕ, true, None, Some, IfOk, IsOkUnless, IsTrue, length};
-    ghost use Rattle.std.specs.Prelude.{◌∷◌};
+    ghost use Rattle.std.specs.Prelude.{◌≡◌, ◌<◌, ◌≤◌, ◌^◌, ◌↔◌, ◌∷◌, ℕ, true, None, Some, Err, IfOk, IsOkUnless};
+    ghost use Rattle.std.specs.Prelude.{IsTrue, length};
     ghost use Rattle.std.specs.Prelude.{slice_get, slice_index_or};
     ghost use Rattle.automata_base.specs.Cuts.{MatchKind};
     ghost use Rattle.automata_base.specs.Decoders.{EndsAtBoundaries, classes_below};
@@ -201,14 +231,17 @@ impl NFA {
     ghost use Rattle.automata_base.specs.Engines.{engine_of};
     ghost use Rattle.automata_base.specs.Getters.{HasEmpty, IsAlwaysStartAnchored, SkipsLazily};
     ghost use Rattle.automata_base.specs.Looks.{Look};
+    ghost use Rattle.automata_base.specs.Mirrors.{IsReversed, IsReversedByPattern, BeginsAlike, reversed_flags};
     ghost use Rattle.automata_base.specs.Automata.{automaton};
+    ghost use Rattle.automata_base.specs.Copies.{IsFit};
     ghost use Rattle.automata_base.specs.Nodes.{nfa_of, stack_room};
     ghost use Rattle.automata_base.specs.Passes.{Occurs};
     ghost use Rattle.automata_base.specs.Paths.{IsLookAcyclic};
     ghost use Rattle.automata_base.specs.Refusals.{door_refusal};
+    ghost use Rattle.automata_base.specs.ReversedSizes.{most_states, most_alternates, MayBeTooLarge};
     ghost use Rattle.automata_base.specs.Starts.{mode_start};
     ghost use Rattle.automata_base.specs.Tapes.{Forward, Backward};
-    ghost use Rattle.automata_base.specs.TruePairs.{KeepsUtf8};
+    ghost use Rattle.automata_base.specs.TruePairs.{IsTruePair, KeepsUtf8};
     ghost use Rattle.automata_base.specs.Truths.{truth_of};
     ghost use Rattle.automata_base.specs.Utf8.{HasNoLook, ReadsUtf8};
 
@@ -479,6 +512,81 @@ impl NFA {
         ensures few { result ≤ 2147483649 }
     {
         self.data.room
+    }
+
+    /// The reversed NFA: it accepts, reading backward, what this one accepts from its anchored start, each part of a
+    /// haystack by the same patterns. With it a regex finds where a match starts; `regex::Builder::build_from_nfa`
+    /// makes both at once.
+    ///
+    /// It is for anchored searches under `MatchKind::All`, and has one start for both anchored modes; searched for
+    /// pattern k it accepts what this NFA accepts by pattern k. Its reverse flag is flipped, its other flags are the
+    /// same. Reversing takes linear time in the NFA and in what it is reversed to.
+    ///
+    /// The reversed NFA has, for each pattern, states for what is reached from the anchored start and leads to a match
+    /// of the pattern: one for each such state, and one for each edge that reads a byte or tests a look. So it has at
+    /// most `(P + 1) * (n + r + 2)` states, where P counts patterns, n states, and r such edges. Neighbouring bytes of
+    /// a `Dense` state that lead to one state are one edge.
+    ///
+    /// It fails if the empty match is reached from the start of a pattern and not from the anchored start, or the
+    /// other way round, since then the two would not leave out the same empty matches in UTF-8 mode; if the reversed
+    /// NFA would be too large; and if an allocation fails.
+    ///
+    /// ```text
+    /// let reverse = forward.reversed()?;
+    /// let regex = Regex::builder().build_from_nfas(forward, reverse)?;
+    /// ```
+    pub fn reversed(&self) -> Result<NFA, ReverseError>
+        ensures turned { IfOk result (λ reversed. IsReversed self.now reversed) }
+        ensures pair { IfOk result (λ reversed. SkipsLazily self.now
+            → (kind : MatchKind) → IsTruePair (engine_of self.now kind) (engine_of reversed MatchKind.All)) }
+        ensures patterns { IfOk result (λ reversed. IsReversedByPattern self.now reversed) }
+        ensures alike { IfOk result (λ reversed. BeginsAlike self.now) }
+        ensures starts { result ≡ Err ReverseError.Starts → BeginsAlike self.now → ⊥ }
+        ensures size { IfOk result (λ reversed. length reversed.states ≤ most_states self.now) }
+        ensures large { result ≡ Err ReverseError.TooLarge → MayBeTooLarge self.now }
+    {
+        let states = self.states();
+        let first = self.start_anchored();
+        let begins = reaches_match(self.alloc, states, &[first])?;
+        if begins != self.has_empty() {
+            return Err(ReverseError::Starts);
+        }
+        let mirror = match reverse_states(self.alloc, states, first, self.pattern_len()) {
+            Ok(mirror) => mirror,
+            Err(error) => return Err(reverse_error(error)),
+        };
+        let reversed = self.mirrored(mirror)?;
+        Ok(reversed)
+    }
+
+    // The reversed NFA, by its states.
+    fn mirrored(&self, mirror: Mirror) -> Result<NFA, ReverseError>
+        requires fit { IsFit
+            self.now.states (length self.now.start_pattern) mirror.states.items mirror.entries.items mirror.root }
+        requires few { length mirror.entries.items ≡ length self.now.start_pattern }
+        ensures same { IfOk result (λ nfa. nfa ≡ automaton
+            mirror.states.items mirror.root mirror.root mirror.entries.items (reversed_flags self.now.flags)) }
+        ensures large { result ≡ Err ReverseError.TooLarge → 2 ^ 31 < most_alternates self.now }
+        ensures starts { result ≡ Err ReverseError.Starts → ⊥ }
+    {
+        let Mirror {
+            states,
+            entries,
+            root,
+        } = mirror;
+        let Some(room) = room_of(states.as_slice()) else {
+            return Err(ReverseError::TooLarge);
+        };
+        let given = self.flags();
+        let flags = Flags {
+            utf8: given.utf8,
+            reverse: !given.reverse,
+            line_terminator: given.line_terminator,
+        };
+        match NFA::make(self.alloc, states, root, root, entries, flags, room) {
+            Ok(nfa) => Ok(nfa),
+            Err(_) => Err(ReverseError::OutOfMemory),
+        }
     }
 
     /// Where the NFA's memory is from.

@@ -162,22 +162,22 @@ pub fn walk_on(set: &mut SparseSet, states: &[State], edges: Edges, done: usize)
     }
 }
 
-// Makes of the empty set the states that the edges lead to from the roots, the roots among them.
-fn walk(set: &mut SparseSet, states: &[State], roots: &[StateID], edges: Edges)
+/// Makes of the set the states that the edges lead to from the roots, the roots among them.
+pub fn walk(set: &mut SparseSet, states: &[State], roots: &[StateID], edges: Edges)
     requires few { length states.now ≤ 2 ^ 27 }
     requires range { states_below (length states.now) states.now ≡ true }
     requires roots { all_below (length states.now) roots.now ≡ true }
-    requires empty { set.old.items ≡ [] }
     requires capacity { set.old.capacity ≡ length states.now }
     ensures reached { (q : ℕ) → In q set.new.items ↔ IsReached edges states.now roots.now q }
     ensures capacity { set.new.capacity ≡ length states.now }
 {
+    set.clear();
     add_ids(set, roots);
     walk_on(set, states, edges, 0);
 }
 
 /// The states that the edges lead to from the roots, the roots among them.
-fn reach(
+pub fn reach(
     alloc: Global,
     states: &[State],
     roots: &[StateID],

@@ -1,6 +1,8 @@
 ghost use Rattle.std.specs.Prelude.{◌≡◌, ◌<◌, ◌≤◌, ◌^◌, [], ◌∷◌, ◌++◌, IfOk, IsTrue, IsFalse, Contains, if◌then◌else◌};
 ghost use Rattle.std.specs.Prelude.{ℕ, length};
 ghost use Rattle.automata_base.specs.Lists.{In};
+ghost use Rattle.automata_base.specs.Once.{Distinct};
+ghost use Rattle.automata_base.specs.Turns.{place_in};
 
 use crate::util::primitives::StateID;
 use std::alloc::{AllocError, Global};
@@ -54,6 +56,7 @@ impl SparseSet {
         ensures items { result.now ≡ self.now.items }
         ensures below { (q : ℕ) → In q self.now.items → q < self.now.capacity }
         ensures few { length self.now.items ≤ self.now.capacity }
+        ensures distinct { Distinct self.now.items }
     {
         &self.dense[..self.len]
     }
@@ -66,6 +69,15 @@ impl SparseSet {
     {
         let i = self.sparse[id.as_usize()] as usize;
         i < self.len && self.dense[i] == id
+    }
+
+    /// Where a member stands among the numbers, from 0.
+    pub fn place(&self, id: StateID) -> usize
+        requires { In id self.now.items }
+        ensures place { result ≡ place_in self.now.items id }
+        ensures few { result < length self.now.items }
+    {
+        self.sparse[id.as_usize()] as usize
     }
 
     /// Whether the number is new. It then comes last.

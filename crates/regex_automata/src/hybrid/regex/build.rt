@@ -1,13 +1,83 @@
-ghost use Rattle.std.specs.Prelude.{◌≡◌, IfOk, length, Some, false};
-ghost use Rattle.automata_config.specs.Options.{unset, overwritten};
-ghost use Rattle.regex_automata.specs.RegexBuilds.{BuildsPair, pair_refusal};
+ghost use Rattle.std.specs.Prelude.{◌≡◌, IfOk, IfErr, length, Some, false};
+ghost use Rattle.automata_base.specs.Engines.{engine_of};
+ghost use Rattle.automata_base.specs.Mirrors.{IsReversed};
+ghost use Rattle.automata_base.specs.Nodes.{Automaton, nfa_of};
+ghost use Rattle.automata_base.specs.Paths.{IsLookAcyclic};
+ghost use Rattle.automata_base.specs.Tapes.{Forward};
+ghost use Rattle.automata_base.specs.TruePairs.{IsTruePair, KeepsUtf8};
+ghost use Rattle.automata_config.specs.Options.{Options, unset, overwritten};
+ghost use Rattle.regex_automata.specs.RegexBuilds.{BuildsPair, pair_refusal, reverse_refusal, IsRefusal};
+ghost use Rattle.regex_automata.specs.SoundPairs.{IsSoundPair};
 
 use crate::hybrid::regex::Regex;
 use crate::hybrid::{BuildError, dfa};
-use automata_base::nfa::thompson::NFA;
+use automata_base::nfa::thompson::{NFA, ReverseError};
 use automata_base::util::search::MatchKind;
 use automata_hybrid::dfa::DFA;
 use std::marker::Model;
+use thiserror::Error;
+
+/// Why no regex is made of one NFA.
+#[derive(Clone, Copy, Debug, PartialEq, Eq, Error)]
+pub enum RegexBuildError {
+    /// `NFA::skips_lazily` is false.
+    #[error("the unanchored start does not skip lazily, so an unanchored match may have no start")]
+    NotLazy,
+    /// `NFA::is_look_acyclic` is false.
+    #[error("a cycle of edges that read nothing passes a look, so matches may not follow the paths")]
+    LookCycle,
+    /// `NFA::keeps_utf8` is false.
+    #[error("a match may be invalid UTF-8, so in UTF-8 mode it might split a character")]
+    NotUtf8,
+    /// The NFA can't be reversed: `ReverseError::Starts`.
+    #[error("the starts differ in the empty match, so the reversed NFA would have others")]
+    Starts,
+    /// The reversed NFA would have more states or alternates than an NFA may have.
+    #[error("the reversed NFA would be too large")]
+    TooLarge,
+    /// An allocation failed.
+    #[error("out of memory")]
+    OutOfMemory,
+    /// A lazy DFA can't be built of one of the two NFAs.
+    #[error("{0}")]
+    Build(BuildError),
+}
+
+// Why no regex is made of an NFA that can't be reversed.
+fn reverse_error(error: ReverseError) -> RegexBuildError
+    ensures { result ≡ reverse_refusal error }
+{
+    match error {
+        ReverseError::Starts => RegexBuildError::Starts,
+        ReverseError::TooLarge => RegexBuildError::TooLarge,
+        ReverseError::OutOfMemory => RegexBuildError::OutOfMemory,
+    }
+}
+
+// The reversed NFA of one that passes the tests which a sound pair needs.
+fn tested_reverse(forward: &NFA) -> Result<NFA, RegexBuildError>
+    ensures reversed { IfOk result (λ reverse. IsReversed forward.now reverse) }
+    ensures pair { IfOk result (λ reverse. (kind : MatchKind)
+        → IsTruePair (engine_of forward.now kind) (engine_of reverse MatchKind.All)) }
+    ensures acyclic { IfOk result (λ reverse. IsLookAcyclic (nfa_of forward.now)) }
+    ensures utf8 { IfOk result (λ reverse. (kind : MatchKind) → KeepsUtf8 Forward (engine_of forward.now kind)) }
+    ensures refused { IfErr result (λ error. (o : Options) → IsRefusal o forward.now error) }
+{
+    if !forward.skips_lazily() {
+        return Err(RegexBuildError::NotLazy);
+    }
+    if !forward.is_look_acyclic() {
+        return Err(RegexBuildError::LookCycle);
+    }
+    match forward.keeps_utf8() {
+        Err(_) => Err(RegexBuildError::OutOfMemory),
+        Ok(false) => Err(RegexBuildError::NotUtf8),
+        Ok(true) => match forward.reversed() {
+            Ok(reverse) => Ok(reverse),
+            Err(error) => Err(reverse_error(error)),
+        },
+    }
+}
 
 /// A builder of regexes, which holds the settings of their DFAs.
 #[derive(Clone, Copy, Debug)]
@@ -82,6 +152,30 @@ impl Builder {
         let forward = self.dfa.build_from_nfa(forward)?;
         let reverse = self.backward().build_from_nfa(reverse)?;
         Ok(Regex { forward, reverse })
+    }
+
+    /// The regex of one NFA: it searches backward with the reversed NFA (`NFA::reversed`).
+    ///
+    /// It tests what the promise of spans needs: that the NFA skips lazily (`NFA::skips_lazily`), that no cycle of edges
+    /// that read nothing passes a look (`NFA::is_look_acyclic`), and that in UTF-8 mode it keeps UTF-8
+    /// (`NFA::keeps_utf8`). So every regex that it answers is a sound pair: `find` and its iterator give the spans that
+    /// the ordered paths of the NFA define. `build_from_nfas` makes a regex without these tests.
+    ///
+    /// The tests are made in this order, and then the NFA is reversed and both lazy DFAs are built; the error is that of
+    /// the first that fails. It takes time and memory linear in the NFA and in what it is reversed to.
+    pub fn build_from_nfa(&self, forward: NFA) -> Result<Regex, RegexBuildError>
+        ensures built { IfOk result (λ regex. (reverse : Automaton)
+            × IsReversed forward reverse × BuildsPair self.now forward reverse regex) }
+        ensures sound { IfOk result IsSoundPair }
+        ensures refused { IfErr result (IsRefusal self.now forward) }
+    {
+        match tested_reverse(&forward) {
+            Err(error) => Err(error),
+            Ok(reverse) => match self.build_from_nfas(forward, reverse) {
+                Ok(regex) => Ok(regex),
+                Err(error) => Err(RegexBuildError::Build(error)),
+            },
+        }
     }
 
     /// The builder of the reverse DFA.

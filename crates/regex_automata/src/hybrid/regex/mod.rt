@@ -10,7 +10,7 @@ mod matching;
 mod search;
 
 use automata_hybrid::dfa::DFA;
-pub use build::Builder;
+pub use build::{Builder, RegexBuildError};
 pub use caches::Cache;
 pub use iterate::FindMatches;
 use std::alloc::AllocError;

@@ -1,0 +1,17 @@
+pub mod Begins
+pub mod Byte
+pub mod Copies
+pub mod Fits
+pub mod Flips
+pub mod Graphs
+pub mod Lists
+pub mod Made
+pub mod Pairs
+pub mod Parts
+pub mod Ranged
+pub mod Ranges
+pub mod Runs
+pub mod Sizes
+pub mod Sums
+pub mod Turned
+pub mod Ways

@@ -1,0 +1,78 @@
+-- Lists of lists, and what is put behind one of them.
+use Rattle.std.proofs.Common.{ℕ, zero, suc, ◌≡◌, ◌<◌, ◌+◌, Bool, true, false, cond, leb, Option, Some, None, Result, Ok, Err, List, [], ◌∷◌, ◌++◌, length, get_or, drop, Vec, refl, sym, ap, ◌∙◌, arith}
+use Rattle.std.proofs.Math.ListN.{set}
+use Rattle.std.specs.Result.{IsErrAnd}
+use Rattle.std.proofs.lemmas.Bool.{leb-false}
+use Rattle.std.proofs.lemmas.List.{drop_more, get_or_default}
+use Rattle.std.specs.declared.alloc.Global.{Global}
+use Rattle.automata_base.specs.declared.nfa.thompson.State.{State}
+use Rattle.automata_base.specs.declared.nfa.thompson.State.TheVariants.{Fail}
+use Rattle.automata_base.specs.Turns.{Turns, lists_of, push_at, no_lists, turn_state, turn_states}
+use Rattle.automata_base.proofs.Paths.Orders.{some_inj, none_some}
+
+pub lists_length : (vs : List (Vec ℕ Global)) → length (lists_of vs) ≡ length vs
+lists_length [] = refl
+lists_length (v ∷ vs) = ap suc (lists_length vs)
+
+pub lists_append : (vs : List (Vec ℕ Global)) (v : Vec ℕ Global) → lists_of (vs ++ v ∷ []) ≡ lists_of vs ++ v.items ∷ []
+lists_append [] v = refl
+lists_append (w ∷ vs) v = ap (λ z. w.items ∷ z) (lists_append vs v)
+
+pub none_more : (n : ℕ) → no_lists (n + 1) ≡ no_lists n ++ [] ∷ []
+none_more n = ap no_lists (next n) ∙ go n
+  where
+    next : (n : ℕ) → n + 1 ≡ suc n
+    next n = omega arith
+
+    go : (n : ℕ) → no_lists (suc n) ≡ no_lists n ++ [] ∷ []
+    go zero = refl
+    go (suc n) = ap (λ z. [] ∷ z) (go n)
+
+pub lists_push :
+    (vs : List (Vec ℕ Global)) (k : ℕ) (old new d : Vec ℕ Global) (x : ℕ) → k < length vs → old ≡ get_or vs k d
+    → new.items ≡ old.items ++ x ∷ [] → lists_of (set vs k new) ≡ push_at (lists_of vs) k x
+lists_push [] k old new d x l e f = absurd (omega (arith, l))
+lists_push (v ∷ vs) zero old new d x l e f = ap (λ z. z ∷ lists_of vs) (f ∙ ap (λ (z : Vec ℕ Global). z.items ++ x ∷ []) e)
+lists_push (v ∷ vs) (suc k) old new d x l e f = ap (λ z. v.items ∷ z) (lists_push vs k old new d x (omega (arith, l)) e f)
+
+pub push_length : (xs : List (List ℕ)) (k x : ℕ) → length (push_at xs k x) ≡ length xs
+push_length [] k x = refl
+push_length (y ∷ ys) zero x = refl
+push_length (y ∷ ys) (suc k) x = ap suc (push_length ys k x)
+
+pub some_id : (b : Bool) (n id : ℕ) → cond b (Some n) None ≡ Some id → id ≡ n
+some_id true n id e = sym (some_inj e)
+some_id false n id e = absurd (none_some e)
+
+pub nothing : (o : Option ℕ) → ((x : ℕ) → o ≡ Some x → ⊥) → o ≡ None
+nothing None f = refl
+nothing (Some x) f = absurd (f x refl)
+
+-- There is no number for what is past the greatest.
+pub none_large : (n m : ℕ) → cond (leb n m) (Some n) None ≡ None → m < n
+none_large n m e = go (leb n m) refl e
+  where
+    go : (b : Bool) → leb n m ≡ b → cond b (Some n) None ≡ None → m < n
+    go true h k = absurd (none_some (sym k))
+    go false h k = leb-false n m h
+
+-- The turned edges of one state more.
+pub states_next :
+    (t new : Turns) (states : List State) (ids : List ℕ) (i id at : ℕ) (s : State) (w : Turns)
+    → i < length ids → id ≡ get_or ids i id → at < length states → at ≡ id → s ≡ get_or states at s
+    → new ≡ turn_state t id s → turn_states t states (drop i ids) ≡ w → turn_states new states (drop (i + 1) ids) ≡ w
+states_next t new states ids i id at s w l e k a f g h =
+    ap (λ z. turn_states z states (drop (i + 1) ids)) (g ∙ ap (λ z. turn_state t id z) same)
+    ∙ (sym (ap (turn_states t states) (drop_more ids i id l ∙ ap (λ z. z ∷ drop (i + 1) ids) (sym e))) ∙ h)
+  where
+    same : s ≡ get_or states id Fail
+    same = f ∙ (get_or_default states at s Fail k ∙ ap (λ z. get_or states z Fail) a)
+
+-- An error that is handed on is the error.
+pub err_is :
+    {A B E : Type 0} → (r : Result A E) (x z : E) → IsErrAnd r (λ y. y ≡ x) → r ≡ Err z → ◌≡◌ {A = Result B E} (Err x) (Err z)
+err_is (Ok a) x z h e = absurd h
+err_is (Err y) x z h e = ap (λ v. Err v) (sym h ∙ one e)
+  where
+    one : {A E : Type 0} {a b : E} → ◌≡◌ {A = Result A E} (Err a) (Err b) → a ≡ b
+    one e = cc

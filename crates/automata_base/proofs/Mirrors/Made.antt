@@ -1,0 +1,25 @@
+-- What `NFA::reversed` makes is the reversed automaton.
+use Rattle.std.proofs.Common.{ℕ, ◌≡◌, List, length, refl, sym, subst}
+use Rattle.automata_base.specs.declared.nfa.thompson.State.{State}
+use Rattle.automata_base.specs.Automata.{automaton}
+use Rattle.automata_base.specs.Door.{IsDoor}
+use Rattle.automata_base.specs.Mirrors.{IsReversed, reversed_flags}
+use Rattle.automata_base.specs.Nodes.{Automaton}
+use Rattle.automata_base.specs.Turns.{AreReversed}
+use Rattle.automata_base.proofs.Mirrors.Parts.{made_reversed}
+use Rattle.automata_base.proofs.Mirrors.Ranges.{door_below}
+
+pub whole_made :
+    (a b : Automaton) (states : List State) (first patterns root : ℕ) (made : List State) (entries : List ℕ)
+    → IsDoor a → states ≡ a.states → first ≡ a.start_anchored → patterns ≡ length a.start_pattern
+    → AreReversed states first patterns made entries root → b ≡ automaton made root root entries (reversed_flags a.flags) → IsReversed a b
+whole_made a b states first patterns root made entries door s f p m e =
+    subst (λ (z : Automaton). IsReversed a z) (sym e)
+    (made_reversed a (automaton made root root entries (reversed_flags a.flags)) w.0 w.1 w.2 door (door_below a door) w.3 w.4 w.5 w.6 w.7 w.8
+    refl refl refl)
+  where
+    w : AreReversed a.states a.start_anchored (length a.start_pattern) made entries root
+    w =
+        subst (λ (z : List State). AreReversed z a.start_anchored (length a.start_pattern) made entries root) s
+        (subst (λ z. AreReversed states z (length a.start_pattern) made entries root) f
+        (subst (λ z. AreReversed states first z made entries root) p m))

@@ -1,0 +1,54 @@
+use Rattle.std.proofs.Common.{List, ℕ, ◌≤◌, [], ◌∷◌, ◌+◌, length, length-append, sym, ap, ◌∙◌, subst}
+use Rattle.automata_base.specs.Copies.{IsPartAdded}
+use Rattle.automata_base.specs.Lists.{all_below}
+use Rattle.automata_base.specs.Nodes.{nodes_of}
+use Rattle.automata_base.specs.Turns.{HasCopies}
+use Rattle.automata_base.proofs.Determinizing.Walking.{nodes_length}
+use Rattle.automata_base.proofs.Mirrors.Copies.{have_more, matches_below, matches_few}
+use Rattle.automata_base.proofs.Mirrors.Fits.{added_copies, added_more, added_nodes, part_fits, part_large}
+use Rattle.automata_base.proofs.Mirrors.Lists.{err_is}
+use Rattle.automata_base.proofs.nfa.thompson.copies.parts_of.Goals as goal
+
+pub add_part-requires-clause-roots : goal.add_part-requires-clause-roots
+add_part-requires-clause-roots c =
+    ap (all_below (length c.args.turned.now)) (c.deref.ensures.value ∙ c.in_ok-roots.ensures)
+    ∙ matches_below (length c.args.states.now) (length c.args.turned.now) c.args.states.now c.new_unchecked-pattern.result c.args.reached.now
+    c.requires.whole c.requires.below
+
+pub loop-p-preserved : goal.loop-p-preserved
+loop-p-preserved c =
+    let part = c.in_ok-add_part.ensures.part in
+    let old = nodes_of c.loop-p.parts.states.items in
+    let new = nodes_of c.add_part.new.parts.states.items in
+    let few : length c.deref.result.now ≤ length c.args.reached.now =
+    subst (λ (z : List ℕ). length z ≤ length c.args.reached.now) (sym (c.deref.ensures.value ∙ c.in_ok-roots.ensures))
+    (matches_few c.args.states.now c.new_unchecked-pattern.result c.args.reached.now) in
+    record {
+      copies =
+          have_more old new (added_nodes old c.args.turned.now c.deref.result.now c.new_unchecked-pattern.result part.2.0) c.args.states.now
+          c.args.turned.now c.args.reached.now c.loop-p.parts.entries.items c.add_part.new.parts.entries.items
+          c.new_unchecked-pattern.result part.0
+          (added_more old new c.args.turned.now c.deref.result.now c.new_unchecked-pattern.result part.0 part.2.0 part.2.1)
+          (c.new_unchecked-pattern.ensures ∙ sym c.loop-p.invariant.count) part.1
+          (subst (λ z. HasCopies new c.args.turned.now z c.new_unchecked-pattern.result part.0)
+          (c.deref.ensures.value ∙ c.in_ok-roots.ensures)
+          (added_copies old new c.args.turned.now c.deref.result.now c.new_unchecked-pattern.result part.0 part.2))
+          c.loop-p.invariant.copies;
+      count =
+          ap (λ xs. length xs) part.1
+          ∙ (length-append c.loop-p.parts.entries.items (part.0 ∷ []) ∙ ap (λ n. n + 1) c.loop-p.invariant.count);
+      capacity = c.in_ok-add_part.ensures.capacity;
+      fit =
+          part_fits c.args.turned.now (length c.args.reached.now) c.args.patterns c.loop-p.p old new c.loop-p.parts.entries.items
+          c.add_part.new.parts.entries.items c.deref.result.now part.0 c.requires.ordered c.loop-p-test.true few
+          (subst (λ z. IsPartAdded old new c.args.turned.now c.deref.result.now z part.0) c.new_unchecked-pattern.ensures part.2)
+          part.1 c.loop-p.invariant.fit;
+    }
+
+pub returns-in_err-add_part-clause-large : goal.returns-in_err-add_part-clause-large
+returns-in_err-add_part-clause-large c = λ e.
+    part_large c.args.turned.now (length c.args.reached.now) c.args.patterns c.loop-p.p (nodes_of c.loop-p.parts.states.items)
+    c.loop-p.parts.entries.items (length c.loop-p.parts.states.items) c.loop-p-test.true c.loop-p.invariant.fit
+    (sym (nodes_length c.loop-p.parts.states.items))
+    (c.in_err-add_part.ensures.large
+    (err_is c.from_residual-in_err-add_part.result _ _ c.from_residual-in_err-add_part.ensures.1 e))

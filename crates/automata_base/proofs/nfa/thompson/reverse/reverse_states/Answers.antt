@@ -1,0 +1,139 @@
+use Rattle.std.proofs.Common.{ℕ, List, ◌∷◌, [], ◌++◌, ◌↔◌, ◌≡◌, ◌≤◌, ◌<◌, true, length, ap, sym, ◌∙◌, subst, arith}
+use Rattle.std.specs.Prelude.{sum_by}
+use Rattle.automata_base.specs.declared.nfa.thompson.State.{State}
+use Rattle.automata_base.specs.declared.nfa.thompson.reach.Edges.TheVariants.{Every}
+use Rattle.automata_base.specs.Lists.{In, all_below}
+use Rattle.automata_base.specs.Nfa.{Split}
+use Rattle.automata_base.specs.Nodes.{nodes_of}
+use Rattle.automata_base.specs.Once.{Distinct}
+use Rattle.automata_base.specs.Reach.{IsReached}
+use Rattle.automata_base.specs.Refusals.{alternates_of, states_below, states_ordered}
+use Rattle.automata_base.specs.Turns.{HaveCopies}
+use Rattle.automata_base.proofs.Determinizing.Walking.{nodes_length}
+use Rattle.automata_base.proofs.Mirrors.Fits.{made_fits, parts_large, root_large, turned_large}
+use Rattle.automata_base.proofs.Mirrors.Lists.{err_is}
+use Rattle.automata_base.proofs.Mirrors.Ranges.{states_whole, states_in_range, ids_below}
+use Rattle.automata_base.proofs.Mirrors.Sizes.{turned_length, turned_ordered, turned_alternates}
+use Rattle.automata_base.proofs.nfa.thompson.reverse.reverse_states.Goals as goal
+
+pub turned_states-requires-clause-below : goal.turned_states-requires-clause-below
+turned_states-requires-clause-below c =
+    ap (all_below (length c.args.states.now)) c.as_slice-ids.ensures.items
+    ∙ ids_below (length c.args.states.now) c.in_ok-reached.reached.items
+    (λ q i. subst (λ z. q < z) c.in_ok-reached.ensures.capacity (c.as_slice-ids.ensures.below q i))
+
+pub parts_of-requires-clause-below : goal.parts_of-requires-clause-below
+parts_of-requires-clause-below c =
+    ap (all_below (length c.args.states.now)) c.as_slice-ids.ensures.items
+    ∙ ids_below (length c.args.states.now) c.in_ok-reached.reached.items
+    (λ q i. subst (λ z. q < z) c.in_ok-reached.ensures.capacity (c.as_slice-ids.ensures.below q i))
+
+pub parts_of-requires-clause-range : goal.parts_of-requires-clause-range
+parts_of-requires-clause-range c =
+    let small : all_below (length c.args.states.now) c.as_slice-ids.result.now ≡ true =
+    ap (all_below (length c.args.states.now)) c.as_slice-ids.ensures.items
+    ∙ ids_below (length c.args.states.now) c.in_ok-reached.reached.items
+    (λ q i. subst (λ z. q < z) c.in_ok-reached.ensures.capacity (c.as_slice-ids.ensures.below q i)) in
+    subst (λ (z : List State). states_below (length z) z ≡ true) (sym c.deref.ensures.value)
+    (states_in_range c.args.states.now c.in_ok-turned.turned.items c.as_slice-ids.result.now c.args.first c.requires.range c.requires.first small
+    c.in_ok-turned.ensures.turned)
+
+pub parts_of-requires-clause-whole : goal.parts_of-requires-clause-whole
+parts_of-requires-clause-whole c =
+    let small : all_below (length c.args.states.now) c.as_slice-ids.result.now ≡ true =
+    ap (all_below (length c.args.states.now)) c.as_slice-ids.ensures.items
+    ∙ ids_below (length c.args.states.now) c.in_ok-reached.reached.items
+    (λ q i. subst (λ z. q < z) c.in_ok-reached.ensures.capacity (c.as_slice-ids.ensures.below q i)) in
+    subst (λ (z : List State). length c.args.states.now ≤ length z) (sym c.deref.ensures.value)
+    (states_whole c.args.states.now c.in_ok-turned.turned.items c.as_slice-ids.result.now c.args.first c.requires.range c.requires.first small
+    c.in_ok-turned.ensures.turned)
+
+pub parts_of-requires-clause-ordered : goal.parts_of-requires-clause-ordered
+parts_of-requires-clause-ordered c =
+    let small : all_below (length c.args.states.now) c.as_slice-ids.result.now ≡ true =
+    ap (all_below (length c.args.states.now)) c.as_slice-ids.ensures.items
+    ∙ ids_below (length c.args.states.now) c.in_ok-reached.reached.items
+    (λ q i. subst (λ z. q < z) c.in_ok-reached.ensures.capacity (c.as_slice-ids.ensures.below q i)) in
+    let distinct : Distinct c.as_slice-ids.result.now =
+    subst (λ (z : List ℕ). Distinct z) (sym c.as_slice-ids.ensures.items) c.as_slice-ids.ensures.distinct in
+    subst (λ (z : List State). states_ordered z ≡ true) (sym c.deref.ensures.value)
+    (turned_ordered c.args.states.now c.in_ok-turned.turned.items c.as_slice-ids.result.now c.args.first distinct small c.in_ok-turned.ensures.turned
+    c.requires.ordered)
+
+pub returns-in_err-turned-clause-large : goal.returns-in_err-turned-clause-large
+returns-in_err-turned-clause-large c = λ e.
+    turned_large c.args.states.now c.args.patterns
+    (c.in_err-turned.ensures.large
+    (err_is c.from_residual-in_err-turned.result _ _ c.from_residual-in_err-turned.ensures.1 e))
+
+pub returns-in_err-parts-clause-large : goal.returns-in_err-parts-clause-large
+returns-in_err-parts-clause-large c = λ e.
+    let small : all_below (length c.args.states.now) c.as_slice-ids.result.now ≡ true =
+    ap (all_below (length c.args.states.now)) c.as_slice-ids.ensures.items
+    ∙ ids_below (length c.args.states.now) c.in_ok-reached.reached.items
+    (λ q i. subst (λ z. q < z) c.in_ok-reached.ensures.capacity (c.as_slice-ids.ensures.below q i)) in
+    let distinct : Distinct c.as_slice-ids.result.now =
+    subst (λ (z : List ℕ). Distinct z) (sym c.as_slice-ids.ensures.items) c.as_slice-ids.ensures.distinct in
+    let long =
+    turned_length c.args.states.now c.in_ok-turned.turned.items c.as_slice-ids.result.now c.args.first distinct small c.in_ok-turned.ensures.turned in
+    let same : length c.deref.result.now ≡ length c.in_ok-turned.turned.items = ap (λ z. length z) c.deref.ensures.value in
+    parts_large c.args.states.now c.deref.result.now c.args.patterns (omega (arith, same, long))
+    (c.in_err-parts.ensures.large
+    (err_is c.from_residual-in_err-parts.result _ _ c.from_residual-in_err-parts.ensures.1 e))
+
+pub returns-in_err-mirror-clause-large : goal.returns-in_err-mirror-clause-large
+returns-in_err-mirror-clause-large c = λ e.
+    let small : all_below (length c.args.states.now) c.as_slice-ids.result.now ≡ true =
+    ap (all_below (length c.args.states.now)) c.as_slice-ids.ensures.items
+    ∙ ids_below (length c.args.states.now) c.in_ok-reached.reached.items
+    (λ q i. subst (λ z. q < z) c.in_ok-reached.ensures.capacity (c.as_slice-ids.ensures.below q i)) in
+    let distinct : Distinct c.as_slice-ids.result.now =
+    subst (λ (z : List ℕ). Distinct z) (sym c.as_slice-ids.ensures.items) c.as_slice-ids.ensures.distinct in
+    let long =
+    turned_length c.args.states.now c.in_ok-turned.turned.items c.as_slice-ids.result.now c.args.first distinct small c.in_ok-turned.ensures.turned in
+    let same : length c.deref.result.now ≡ length c.in_ok-turned.turned.items = ap (λ z. length z) c.deref.ensures.value in
+    root_large c.args.states.now c.deref.result.now c.as_slice-ids.result.now c.args.patterns (nodes_of c.in_ok-parts.parts.states.items)
+    c.in_ok-parts.parts.entries.items (length c.in_ok-parts.parts.states.items) c.in_ok-parts.ensures.fit
+    (sym (nodes_length c.in_ok-parts.parts.states.items)) (omega (arith, same, long))
+    (c.in_err-mirror.ensures.large
+    (err_is c.from_residual-in_err-mirror.result _ _ c.from_residual-in_err-mirror.ensures.1 e))
+
+pub returns-clause-fit : goal.returns-clause-fit
+returns-clause-fit c =
+    let small : all_below (length c.args.states.now) c.as_slice-ids.result.now ≡ true =
+    ap (all_below (length c.args.states.now)) c.as_slice-ids.ensures.items
+    ∙ ids_below (length c.args.states.now) c.in_ok-reached.reached.items
+    (λ q i. subst (λ z. q < z) c.in_ok-reached.ensures.capacity (c.as_slice-ids.ensures.below q i)) in
+    let distinct : Distinct c.as_slice-ids.result.now =
+    subst (λ (z : List ℕ). Distinct z) (sym c.as_slice-ids.ensures.items) c.as_slice-ids.ensures.distinct in
+    let long =
+    turned_length c.args.states.now c.in_ok-turned.turned.items c.as_slice-ids.result.now c.args.first distinct small c.in_ok-turned.ensures.turned in
+    let same : length c.deref.result.now ≡ length c.in_ok-turned.turned.items = ap (λ z. length z) c.deref.ensures.value in
+    let wide =
+    turned_alternates c.args.states.now c.in_ok-turned.turned.items c.as_slice-ids.result.now c.args.first distinct small c.in_ok-turned.ensures.turned
+    c.requires.ordered in
+    let alike : sum_by alternates_of c.deref.result.now ≡ sum_by alternates_of c.in_ok-turned.turned.items =
+    ap (sum_by alternates_of) c.deref.ensures.value in
+    let few : length c.as_slice-ids.result.now ≡ length c.in_ok-reached.reached.items = ap (λ z. length z) c.as_slice-ids.ensures.items in
+    made_fits c.args.states.now c.deref.result.now c.in_ok-mirror.mirror.states.items c.as_slice-ids.result.now c.args.patterns
+    (nodes_of c.in_ok-parts.parts.states.items) c.in_ok-parts.parts.entries.items c.in_ok-mirror.mirror.entries.items c.in_ok-mirror.mirror.root
+    (length c.in_ok-parts.parts.states.items) c.in_ok-parts.ensures.fit c.in_ok-mirror.ensures.nodes c.in_ok-mirror.ensures.root
+    (sym (nodes_length c.in_ok-parts.parts.states.items)) c.in_ok-mirror.ensures.small c.in_ok-mirror.ensures.entries c.in_ok-parts.ensures.count
+    (omega (arith, few, c.as_slice-ids.ensures.few, c.in_ok-reached.ensures.capacity)) (omega (arith, same, long)) (omega (arith, alike, wide))
+
+pub returns-clause-mirrored : goal.returns-clause-mirrored
+returns-clause-mirrored c = (
+  c.in_ok-turned.turned.items,
+  c.as_slice-ids.result.now,
+  nodes_of c.in_ok-parts.parts.states.items,
+  subst (λ z. (q : ℕ) → In q z ↔ IsReached Every c.args.states.now (c.args.first ∷ []) q) (sym c.as_slice-ids.ensures.items)
+      c.in_ok-reached.ensures.reached,
+  c.in_ok-turned.ensures.turned,
+  c.in_ok-mirror.ensures.nodes ∙ ap (λ z. nodes_of c.in_ok-parts.parts.states.items ++ Split z ∷ []) (sym c.in_ok-mirror.ensures.entries),
+  c.in_ok-mirror.ensures.root ∙ sym (nodes_length c.in_ok-parts.parts.states.items),
+  subst (λ (z : List ℕ). HaveCopies (nodes_of c.in_ok-parts.parts.states.items) c.args.states.now c.in_ok-turned.turned.items c.as_slice-ids.result.now z)
+      (sym c.in_ok-mirror.ensures.entries)
+      (subst (λ (z : List State). HaveCopies (nodes_of c.in_ok-parts.parts.states.items) c.args.states.now z c.as_slice-ids.result.now c.in_ok-parts.parts.entries.items)
+      c.deref.ensures.value c.in_ok-parts.ensures.copies),
+  ap (λ z. length z) c.in_ok-mirror.ensures.entries ∙ c.in_ok-parts.ensures.count,
+)

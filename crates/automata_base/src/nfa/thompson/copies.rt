@@ -1,0 +1,255 @@
+//! A copy of the reversed states for each pattern: those that are reached from its matches.
+ghost use Rattle.std.specs.Prelude.{ℕ, ◌≡◌, ◌<◌, ◌≤◌, ◌+◌, ◌*◌, ◌^◌, ◌++◌, [], ◌∷◌, List, true, map, length};
+ghost use Rattle.std.specs.Prelude.{IfOk, OnOk, Err, None, Some};
+ghost use Rattle.automata_base.specs.declared.nfa.thompson.reach.Edges.TheVariants.{Every};
+ghost use Rattle.automata_base.specs.Copies.{AreParts, IsPartAdded};
+ghost use Rattle.automata_base.specs.Lists.{In, all_below};
+ghost use Rattle.automata_base.specs.Nfa.{Node};
+ghost use Rattle.automata_base.specs.Nodes.{node_of, nodes_of};
+ghost use Rattle.automata_base.specs.Once.{Distinct};
+ghost use Rattle.automata_base.specs.Reach.{targets_at, targets_of};
+ghost use Rattle.automata_base.specs.Refusals.{states_below, states_ordered};
+ghost use Rattle.automata_base.specs.Turns.{copied, copies, copy_of, is_of, matches_in, HaveCopies};
+
+use crate::nfa::thompson::State;
+use crate::nfa::thompson::reach::{Edges, walk};
+use crate::nfa::thompson::reading::pattern_of;
+use crate::nfa::thompson::turn::MakeError;
+use crate::util::determinize::sparse_set::SparseSet;
+use crate::util::primitives::{PatternID, StateID};
+use std::alloc::{AllocError, Global};
+
+// 2^27.
+const MAX_STATES: usize = 134_217_728;
+
+// The number of a member's copy, where the copies stand from a base on.
+fn copy_id(set: &SparseSet, base: StateID, id: StateID) -> StateID
+    requires member { In id set.now.items }
+    requires room { base + length set.now.items ≤ 2 ^ 27 }
+    ensures { result ≡ copy_of base set.now.items id }
+{
+    StateID::new_unchecked((base.as_usize() + set.place(id)) as u32)
+}
+
+fn push_id(ids: &mut Vec<StateID>, id: StateID) -> Result<(), AllocError>
+    ensures { OnOk result (ids.new.items ≡ ids.old.items ++ id ∷ []) }
+{
+    ids.push(id)?;
+    Ok(())
+}
+
+fn copy_ids(
+    alloc: Global,
+    set: &SparseSet,
+    base: StateID,
+    ids: &[StateID],
+) -> Result<Vec<StateID>, AllocError>
+    requires members { (q : ℕ) → In q ids.now → In q set.now.items }
+    requires room { base + length set.now.items ≤ 2 ^ 27 }
+    ensures { IfOk result (λ v. v.items ≡ map (copy_of base set.now.items) ids.now) }
+{
+    let mut copies = Vec::new(alloc);
+    for id in ids {
+        let copy = copy_id(set, base, *id);
+        push_id(&mut copies, copy)?;
+    }
+    Ok(copies)
+}
+
+// The copy of a reversed state: its targets are their copies, and its match is of the pattern.
+fn copy_state(
+    alloc: Global,
+    set: &SparseSet,
+    base: StateID,
+    pattern: PatternID,
+    state: &State,
+) -> Result<State, AllocError>
+    requires members { (q : ℕ) → In q (targets_at Edges.Every (node_of state.now)) → In q set.now.items }
+    requires room { base + length set.now.items ≤ 2 ^ 27 }
+    ensures { IfOk result (λ s. node_of s ≡ copied (copy_of base set.now.items) pattern state.now) }
+{
+    match state {
+        State::ByteRange { lo, hi, next } => {
+            let next = copy_id(set, base, *next);
+            Ok(State::ByteRange {
+                lo: *lo,
+                hi: *hi,
+                next,
+            })
+        }
+        State::Look { look, next } => {
+            let next = copy_id(set, base, *next);
+            Ok(State::Look { look: *look, next })
+        }
+        State::Union { alternates } => {
+            let alternates = copy_ids(alloc, set, base, alternates)?;
+            Ok(State::Union { alternates })
+        }
+        State::Match { .. } => Ok(State::Match { pattern }),
+        State::Sparse(_) => Ok(State::Fail),
+        State::Dense(_) => Ok(State::Fail),
+        State::BinaryUnion { .. } => Ok(State::Fail),
+        State::Capture { .. } => Ok(State::Fail),
+        State::Fail => Ok(State::Fail),
+    }
+}
+
+/// Adds a state after the others.
+pub fn push_state(states: &mut Vec<State>, state: State) -> Result<(), AllocError>
+    ensures { OnOk result (nodes_of states.new.items ≡ nodes_of states.old.items ++ node_of state ∷ []) }
+{
+    states.push(state)?;
+    Ok(())
+}
+
+// The copies of a set's members, one after the other.
+fn copy_all(
+    alloc: Global,
+    set: &SparseSet,
+    base: StateID,
+    pattern: PatternID,
+    turned: &[State],
+    out: &mut Vec<State>,
+) -> Result<(), AllocError>
+    requires whole { set.now.capacity ≡ length turned.now }
+    requires room { base + length set.now.items ≤ 2 ^ 27 }
+    requires closed { (x q : ℕ) → In x set.now.items → In q (targets_of Edges.Every turned.now x) → In q set.now.items }
+    ensures { OnOk result (nodes_of out.new.items
+        ≡ nodes_of out.old.items ++ copies (copy_of base set.now.items) pattern turned.now set.now.items) }
+{
+    let members = set.as_slice();
+    for id in members {
+        let copy = copy_state(alloc, set, base, pattern, &turned[id.as_usize()])?;
+        push_state(out, copy)?;
+    }
+    Ok(())
+}
+
+// Whether it is this pattern.
+fn is_of(found: Option<PatternID>, pattern: PatternID) -> bool
+    ensures { result ≡ is_of found pattern }
+{
+    match found {
+        Some(other) => other == pattern,
+        None => false,
+    }
+}
+
+// The match states of the pattern among these.
+fn matches_of(
+    alloc: Global,
+    states: &[State],
+    ids: &[StateID],
+    pattern: PatternID,
+) -> Result<Vec<StateID>, AllocError>
+    requires { all_below (length states.now) ids.now ≡ true }
+    ensures { IfOk result (λ v. v.items ≡ matches_in states.now pattern ids.now) }
+{
+    let mut matches = Vec::new(alloc);
+    for id in ids {
+        if is_of(pattern_of(&states[id.as_usize()]), pattern) {
+            matches.push(*id)?;
+        }
+    }
+    Ok(matches)
+}
+
+/// A list again.
+pub fn copy_list(alloc: Global, ids: &[StateID]) -> Result<Vec<StateID>, AllocError>
+    ensures { IfOk result (λ v. v.items ≡ ids.now) }
+{
+    let mut list = Vec::new(alloc);
+    for id in ids {
+        list.push(*id)?;
+    }
+    Ok(list)
+}
+
+/// Copies for patterns, and for each pattern the state where its paths begin.
+#[derive(Drop)]
+pub struct Parts {
+    pub states: Vec<State>,
+    pub entries: Vec<StateID>,
+}
+
+// Where the copies of the members begin, if there is room for them and for one state more.
+fn base_of(states: &[State], set: &SparseSet) -> Option<StateID>
+    requires { set.now.capacity ≤ 2 ^ 27 }
+    ensures some { (base : ℕ) → result ≡ Some base
+        → (base ≡ length states.now) × (base + length set.now.items < 2 ^ 27) }
+    ensures none { result ≡ None → 2 ^ 27 < length states.now + set.now.capacity + 1 }
+    ensures distinct { Distinct set.now.items }
+    ensures below { (q : ℕ) → In q set.now.items → q < set.now.capacity }
+    ensures few { length set.now.items ≤ set.now.capacity }
+{
+    let members = set.as_slice();
+    if states.len() >= MAX_STATES - members.len() {
+        return None;
+    }
+    Some(StateID::new_unchecked(states.len() as u32))
+}
+
+// Adds the copies for a pattern of what is reached from its roots.
+fn add_part(
+    alloc: Global,
+    turned: &[State],
+    roots: &[StateID],
+    set: &mut SparseSet,
+    pattern: PatternID,
+    parts: &mut Parts,
+) -> Result<(), MakeError>
+    requires few { length turned.now ≤ 2 ^ 27 }
+    requires range { states_below (length turned.now) turned.now ≡ true }
+    requires roots { all_below (length turned.now) roots.now ≡ true }
+    requires capacity { set.old.capacity ≡ length turned.now }
+    ensures part { OnOk result ((entry : ℕ) × (parts.new.entries.items ≡ parts.old.entries.items ++ entry ∷ [])
+        × IsPartAdded (nodes_of parts.old.states.items) (nodes_of parts.new.states.items)
+        turned.now roots.now pattern entry) }
+    ensures capacity { set.new.capacity ≡ length turned.now }
+    ensures large { result ≡ Err MakeError.TooLarge → 2 ^ 27 < length parts.old.states.items + length turned.now + 1 }
+{
+    walk(set, turned, roots, Edges::Every);
+    let Some(base) = base_of(&parts.states, set) else {
+        return Err(MakeError::TooLarge);
+    };
+    copy_all(alloc, set, base, pattern, turned, &mut parts.states)?;
+    let entry = StateID::new_unchecked(parts.states.len() as u32);
+    let alternates = copy_ids(alloc, set, base, roots)?;
+    push_state(&mut parts.states, State::Union { alternates })?;
+    push_id(&mut parts.entries, entry)?;
+    Ok(())
+}
+
+/// The copies for each pattern.
+pub fn parts_of(
+    alloc: Global,
+    states: &[State],
+    turned: &[State],
+    reached: &[StateID],
+    patterns: usize,
+) -> Result<Parts, MakeError>
+    requires few { length turned.now ≤ 2 ^ 27 }
+    requires range { states_below (length turned.now) turned.now ≡ true }
+    requires ordered { states_ordered turned.now ≡ true }
+    requires whole { length states.now ≤ length turned.now }
+    requires below { all_below (length states.now) reached.now ≡ true }
+    requires patterns { patterns ≤ 2 ^ 27 }
+    ensures copies { IfOk result (λ parts.
+        HaveCopies (nodes_of parts.states.items) states.now turned.now reached.now parts.entries.items) }
+    ensures count { IfOk result (λ parts. length parts.entries.items ≡ patterns) }
+    ensures fit { IfOk result (λ parts. AreParts
+        turned.now (length reached.now) patterns patterns (nodes_of parts.states.items) parts.entries.items) }
+    ensures large { result ≡ Err MakeError.TooLarge → 2 ^ 27 < patterns * (length turned.now + 1) }
+{
+    let mut set = SparseSet::new(alloc, turned.len() as u32)?;
+    let mut parts = Parts {
+        states: Vec::new(alloc),
+        entries: Vec::new(alloc),
+    };
+    for p in 0..patterns {
+        let pattern = PatternID::new_unchecked(p as u32);
+        let roots = matches_of(alloc, states, reached, pattern)?;
+        add_part(alloc, turned, &roots, &mut set, pattern, &mut parts)?;
+    }
+    Ok(parts)
+}

@@ -1,0 +1,117 @@
+//! The states of a reversed NFA.
+ghost use Rattle.std.specs.Prelude.{ℕ, ◌≡◌, ◌<◌, ◌≤◌, ◌+◌, ◌*◌, ◌^◌, ◌++◌, [], ◌∷◌, true, IfOk, Err, length, sum_by};
+ghost use Rattle.automata_base.specs.Copies.{IsFit};
+ghost use Rattle.automata_base.specs.Lists.{all_below};
+ghost use Rattle.automata_base.specs.Nfa.{Node};
+ghost use Rattle.automata_base.specs.Nodes.{nodes_of};
+ghost use Rattle.automata_base.specs.Once.{Distinct};
+ghost use Rattle.automata_base.specs.Refusals.{states_below, states_ordered};
+ghost use Rattle.automata_base.specs.ReversedSizes.{asking_edges};
+ghost use Rattle.automata_base.specs.Turns.{AreTurned, AreReversed};
+
+use crate::nfa::thompson::copies::{Parts, copy_list, parts_of, push_state};
+use crate::nfa::thompson::reach::{Edges, reach};
+use crate::nfa::thompson::turn::{EdgesByTarget, MakeError};
+use crate::nfa::thompson::{ReverseError, State};
+use crate::util::primitives::StateID;
+use std::alloc::Global;
+
+// 2^27.
+const MAX_STATES: usize = 134_217_728;
+
+/// Why an NFA can't be reversed, by why its states can't be made.
+pub fn reverse_error(error: MakeError) -> ReverseError
+    ensures large { result ≡ ReverseError.TooLarge → error ≡ MakeError.TooLarge }
+    ensures starts { result ≡ ReverseError.Starts → ⊥ }
+{
+    match error {
+        MakeError::TooLarge => ReverseError::TooLarge,
+        MakeError::OutOfMemory => ReverseError::OutOfMemory,
+    }
+}
+
+// For each state the union of what its edges are reversed to, and after these a state for each reversed edge.
+fn turned_states(
+    alloc: Global,
+    states: &[State],
+    first: StateID,
+    reached: &[StateID],
+) -> Result<Vec<State>, MakeError>
+    requires few { length states.now ≤ 2 ^ 27 }
+    requires range { states_below (length states.now) states.now ≡ true }
+    requires below { all_below (length states.now) reached.now ≡ true }
+    requires distinct { Distinct reached.now }
+    requires first { first < length states.now }
+    ensures turned { IfOk result (λ v. AreTurned states.now reached.now first v.items) }
+    ensures few { IfOk result (λ v. length v.items ≤ 2 ^ 27) }
+    ensures large { result ≡ Err MakeError.TooLarge → 2 ^ 27 < length states.now + sum_by asking_edges states.now + 1 }
+{
+    let mut turning = EdgesByTarget::new(alloc, states.len())?;
+    turning.turn_states(states, reached)?;
+    turning.tell(first)?;
+    let turned = turning.into_states(alloc)?;
+    if turned.len() > MAX_STATES {
+        return Err(MakeError::TooLarge);
+    }
+    Ok(turned)
+}
+
+/// The states of a reversed NFA, the starts of its patterns, and its start.
+#[derive(Drop)]
+pub struct Mirror {
+    pub states: Vec<State>,
+    pub entries: Vec<StateID>,
+    pub root: StateID,
+}
+
+// The parts for each pattern, and the root, which goes on to their entries.
+fn rooted(alloc: Global, parts: Parts) -> Result<Mirror, MakeError>
+    ensures nodes { IfOk result (λ m. nodes_of m.states.items
+        ≡ nodes_of parts.states.items ++ Node.Split parts.entries.items ∷ []) }
+    ensures entries { IfOk result (λ m. m.entries.items ≡ parts.entries.items) }
+    ensures root { IfOk result (λ m. m.root ≡ length parts.states.items) }
+    ensures small { IfOk result (λ m. length m.states.items ≤ 2 ^ 27) }
+    ensures large { result ≡ Err MakeError.TooLarge → 2 ^ 27 ≤ length parts.states.items }
+{
+    let Parts {
+        mut states,
+        entries,
+    } = parts;
+    if states.len() >= MAX_STATES {
+        return Err(MakeError::TooLarge);
+    }
+    let root = StateID::new_unchecked(states.len() as u32);
+    let alternates = copy_list(alloc, &entries)?;
+    push_state(&mut states, State::Union { alternates })?;
+    Ok(Mirror {
+        states,
+        entries,
+        root,
+    })
+}
+
+/// Reverses what is reached from the first state.
+pub fn reverse_states(
+    alloc: Global,
+    states: &[State],
+    first: StateID,
+    patterns: usize,
+) -> Result<Mirror, MakeError>
+    requires few { length states.now ≤ 2 ^ 27 }
+    requires range { states_below (length states.now) states.now ≡ true }
+    requires ordered { states_ordered states.now ≡ true }
+    requires first { first < length states.now }
+    requires patterns { patterns ≤ 2 ^ 27 }
+    ensures mirrored { IfOk result (λ m.
+        AreReversed states.now first patterns m.states.items m.entries.items m.root) }
+    ensures fit { IfOk result (λ m. IsFit states.now patterns m.states.items m.entries.items m.root) }
+    ensures large { result ≡ Err MakeError.TooLarge
+        → 2 ^ 27 < (patterns + 1) * (length states.now + sum_by asking_edges states.now + 2) }
+{
+    let reached = reach(alloc, states, &[first], Edges::Every)?;
+    let ids = reached.as_slice();
+    let turned = turned_states(alloc, states, first, ids)?;
+    let parts = parts_of(alloc, states, &turned, ids, patterns)?;
+    let mirror = rooted(alloc, parts)?;
+    Ok(mirror)
+}

@@ -1,0 +1,338 @@
+//! The edges of an NFA by their targets, as a reversed NFA needs them.
+ghost use Rattle.std.specs.Prelude.{ℕ, Some, ◌≡◌, ◌<◌, ◌≤◌, ◌+◌, ◌^◌, [], ◌∷◌, ◌++◌, true, IfOk, OnOk, Err, length};
+ghost use Rattle.std.specs.Prelude.{drop, None, slice_index_or, vec_len};
+ghost use Rattle.automata_base.specs.Lists.{all_below};
+ghost use Rattle.automata_base.specs.Mirrors.{flip};
+ghost use Rattle.automata_base.specs.Refusals.{transitions_below, state_below, states_below};
+ghost use Rattle.automata_base.specs.Runs.{starts_with, run_of, runs_from};
+ghost use Rattle.automata_base.specs.Turns.{lists_of, turns_of, push_at, no_lists, turn_free, turn_by, turn_all};
+ghost use Rattle.automata_base.specs.Turns.{turn_ranges, turn_state, turn_states, states_of, unions_of, size};
+
+use crate::nfa::thompson::{State, Transition};
+use crate::util::look::Look;
+use crate::util::primitives::{PatternID, StateID};
+use std::alloc::{AllocError, Global};
+
+/// The look that holds where the bytes on the two sides are exchanged and the reverse flag is turned.
+fn flip(look: Look) -> Look
+    ensures { result ≡ flip look }
+{
+    match look {
+        Look::Start => Look::End,
+        Look::End => Look::Start,
+        Look::StartLF => Look::EndLF,
+        Look::EndLF => Look::StartLF,
+        Look::StartCRLF => Look::EndCRLF,
+        Look::EndCRLF => Look::StartCRLF,
+        Look::WordAscii => Look::WordAscii,
+        Look::WordAsciiNegate => Look::WordAsciiNegate,
+        Look::WordUnicode => Look::WordUnicode,
+        Look::WordUnicodeNegate => Look::WordUnicodeNegate,
+        Look::WordStartAscii => Look::WordEndAscii,
+        Look::WordEndAscii => Look::WordStartAscii,
+        Look::WordStartUnicode => Look::WordEndUnicode,
+        Look::WordEndUnicode => Look::WordStartUnicode,
+        Look::WordStartHalfAscii => Look::WordEndHalfAscii,
+        Look::WordEndHalfAscii => Look::WordStartHalfAscii,
+        Look::WordStartHalfUnicode => Look::WordEndHalfUnicode,
+        Look::WordEndHalfUnicode => Look::WordStartHalfUnicode,
+    }
+}
+
+fn push_state(states: &mut Vec<State>, state: State) -> Result<(), AllocError>
+    ensures { OnOk result (states.new.items ≡ states.old.items ++ state ∷ []) }
+{
+    states.push(state)?;
+    Ok(())
+}
+
+fn push_at(lists: &mut Vec<Vec<StateID>>, at: usize, id: StateID) -> Result<(), AllocError>
+    requires { at < length lists.old.items }
+    ensures pushed { OnOk result (lists_of lists.new.items ≡ push_at (lists_of lists.old.items) at id) }
+    ensures few { OnOk result (length lists.new.items ≡ length lists.old.items) }
+{
+    lists[at].push(id)?;
+    Ok(())
+}
+
+// Whether the byte after this one leads where this one does.
+fn goes_on(targets: &[StateID; 256], byte: usize) -> bool
+    requires { byte < 256 }
+    ensures { result ≡ starts_with (slice_index_or targets.now byte 0) (drop (byte + 1) targets.now) }
+{
+    byte < 255 && targets[byte + 1] == targets[byte]
+}
+
+/// Why no states are made.
+#[derive(Clone, Copy)]
+pub enum MakeError {
+    /// They would be too many.
+    TooLarge,
+    /// An allocation failed.
+    OutOfMemory,
+}
+
+impl From<AllocError> for MakeError {
+    ghost use Rattle.std.specs.Prelude.{◌≡◌};
+    ghost use Rattle.automata_base.specs.declared.nfa.thompson.turn.MakeError.TheVariants.{OutOfMemory};
+
+    ghost from_gives = { λ _ e. e ≡ OutOfMemory };
+
+    fn from(_e: AllocError) -> MakeError {
+        MakeError::OutOfMemory
+    }
+}
+
+/// For each state what leads to it, as alternates: a state, where the edge reads and tests nothing, and else a helper,
+/// a state of its own that stands for the edge. The helpers come after the states.
+#[derive(Drop)]
+pub struct EdgesByTarget {
+    lists: Vec<Vec<StateID>>,
+    helpers: Vec<State>,
+}
+
+impl EdgesByTarget {
+    /// No edge of so many states.
+    pub fn new(alloc: Global, states: usize) -> Result<EdgesByTarget, AllocError>
+        ensures none { IfOk result (λ t. turns_of t ≡ record { lists = no_lists states; helpers = [] }) }
+        ensures few { IfOk result (λ t. length t.lists.items ≡ states) }
+    {
+        let mut lists = Vec::new(alloc);
+        for i in 0..states {
+            lists.push(Vec::new(alloc))?;
+        }
+        Ok(EdgesByTarget {
+            lists,
+            helpers: Vec::new(alloc),
+        })
+    }
+
+    // The number of the next helper.
+    fn next_helper(&self) -> Option<StateID>
+        ensures some { (id : ℕ) → result ≡ Some id → id ≡ size (turns_of self.now) }
+        ensures none { result ≡ None → 2 ^ 27 < size (turns_of self.now) }
+    {
+        StateID::new(self.lists.len() + self.helpers.len())
+    }
+
+    // The state `x` leads to `to` freely.
+    fn turn_free(&mut self, x: StateID, to: StateID) -> Result<(), AllocError>
+        requires { to < length self.old.lists.items }
+        ensures turned { OnOk result (turns_of self.new ≡ turn_free (turns_of self.old) x to) }
+        ensures few { OnOk result (length self.new.lists.items ≡ length self.old.lists.items) }
+    {
+        push_at(&mut self.lists, to.as_usize(), x)?;
+        Ok(())
+    }
+
+    // A helper stands for an edge to `to`.
+    fn turn_by(&mut self, helper: State, to: StateID) -> Result<(), MakeError>
+        requires { to < length self.old.lists.items }
+        ensures turned { OnOk result (turns_of self.new ≡ turn_by (turns_of self.old) helper to) }
+        ensures few { OnOk result (length self.new.lists.items ≡ length self.old.lists.items) }
+        ensures large { result ≡ Err MakeError.TooLarge
+            → 2 ^ 27 < size (turn_by (turns_of self.old) helper to) }
+    {
+        let Some(id) = self.next_helper() else {
+            return Err(MakeError::TooLarge);
+        };
+        push_state(&mut self.helpers, helper)?;
+        push_at(&mut self.lists, to.as_usize(), id)?;
+        Ok(())
+    }
+
+    fn turn_all(&mut self, from: StateID, alternates: &[StateID]) -> Result<(), AllocError>
+        requires { all_below (length self.old.lists.items) alternates.now ≡ true }
+        ensures turned { OnOk result (turns_of self.new ≡ turn_all (turns_of self.old) from alternates.now) }
+        ensures few { OnOk result (length self.new.lists.items ≡ length self.old.lists.items) }
+    {
+        for to in alternates {
+            self.turn_free(from, *to)?;
+        }
+        Ok(())
+    }
+
+    fn turn_range(&mut self, from: StateID, range: &Transition) -> Result<(), MakeError>
+        requires { range.now.next < length self.old.lists.items }
+        ensures turned { OnOk result (turns_of self.new
+            ≡ turn_by (turns_of self.old) (State.ByteRange range.now.lo range.now.hi from) range.now.next) }
+        ensures few { OnOk result (length self.new.lists.items ≡ length self.old.lists.items) }
+        ensures large { result ≡ Err MakeError.TooLarge
+            → 2 ^ 27 < size (turn_by
+            (turns_of self.old) (State.ByteRange range.now.lo range.now.hi from) range.now.next) }
+    {
+        let helper = State::ByteRange {
+            lo: range.lo,
+            hi: range.hi,
+            next: from,
+        };
+        self.turn_by(helper, range.next)
+    }
+
+    fn turn_ranges(&mut self, from: StateID, ranges: &[Transition]) -> Result<(), MakeError>
+        requires { transitions_below (length self.old.lists.items) ranges.now ≡ true }
+        ensures turned { OnOk result (turns_of self.new ≡ turn_ranges (turns_of self.old) from ranges.now) }
+        ensures few { OnOk result (length self.new.lists.items ≡ length self.old.lists.items) }
+        ensures large { result ≡ Err MakeError.TooLarge
+            → 2 ^ 27 < size (turn_ranges (turns_of self.old) from ranges.now) }
+    {
+        for range in ranges {
+            self.turn_range(from, range)?;
+        }
+        Ok(())
+    }
+
+    // Reverses the edge of the bytes from `lo` to `hi` of a dense state: target 0 stands for none.
+    fn turn_run(&mut self, from: StateID, lo: u8, hi: u8, target: StateID) -> Result<(), MakeError>
+        requires { target < length self.old.lists.items }
+        ensures turned { OnOk result (turns_of self.new
+            ≡ turn_ranges (turns_of self.old) from (run_of lo hi target)) }
+        ensures few { OnOk result (length self.new.lists.items ≡ length self.old.lists.items) }
+        ensures large { result ≡ Err MakeError.TooLarge
+            → 2 ^ 27 < size (turn_ranges (turns_of self.old) from (run_of lo hi target)) }
+    {
+        if target.as_usize() == 0 {
+            return Ok(());
+        }
+        let helper = State::ByteRange { lo, hi, next: from };
+        self.turn_by(helper, target)
+    }
+
+    // Reverses the run of bytes that begins at `lo`, if it ends at this byte. The answer is where that of the next byte
+    // begins.
+    fn turn_byte(
+        &mut self,
+        from: StateID,
+        targets: &[StateID; 256],
+        lo: usize,
+        byte: usize,
+    ) -> Result<usize, MakeError>
+        requires range { all_below (length self.old.lists.items) targets.now ≡ true }
+        requires order { lo ≤ byte }
+        requires inside { byte < 256 }
+        ensures turned { IfOk result (λ next. turn_ranges (turns_of self.new) from
+            (runs_from next (byte + 1) (drop (byte + 1) targets.now))
+            ≡ turn_ranges (turns_of self.old) from (runs_from lo byte (drop byte targets.now))) }
+        ensures order { IfOk result (λ next. next ≤ byte + 1) }
+        ensures few { OnOk result (length self.new.lists.items ≡ length self.old.lists.items) }
+        ensures large { result ≡ Err MakeError.TooLarge
+            → 2 ^ 27 < size (turn_ranges (turns_of self.old) from (runs_from lo byte (drop byte targets.now))) }
+    {
+        if goes_on(targets, byte) {
+            return Ok(lo);
+        }
+        self.turn_run(from, lo as u8, byte as u8, targets[byte])?;
+        Ok(byte + 1)
+    }
+
+    fn turn_targets(&mut self, from: StateID, targets: &[StateID; 256]) -> Result<(), MakeError>
+        requires { all_below (length self.old.lists.items) targets.now ≡ true }
+        ensures turned { OnOk result (turns_of self.new
+            ≡ turn_ranges (turns_of self.old) from (runs_from 0 0 targets.now)) }
+        ensures few { OnOk result (length self.new.lists.items ≡ length self.old.lists.items) }
+        ensures large { result ≡ Err MakeError.TooLarge
+            → 2 ^ 27 < size (turn_ranges (turns_of self.old) from (runs_from 0 0 targets.now)) }
+    {
+        let mut lo = 0;
+        for byte in 0..256 {
+            lo = self.turn_byte(from, targets, lo, byte)?;
+        }
+        Ok(())
+    }
+
+    fn turn_look(&mut self, from: StateID, look: Look, to: StateID) -> Result<(), MakeError>
+        requires { to < length self.old.lists.items }
+        ensures turned { OnOk result (turns_of self.new
+            ≡ turn_by (turns_of self.old) (State.Look (flip look) from) to) }
+        ensures few { OnOk result (length self.new.lists.items ≡ length self.old.lists.items) }
+        ensures large { result ≡ Err MakeError.TooLarge
+            → 2 ^ 27 < size (turn_by (turns_of self.old) (State.Look (flip look) from) to) }
+    {
+        let helper = State::Look {
+            look: flip(look),
+            next: from,
+        };
+        self.turn_by(helper, to)
+    }
+
+    // Reverses each edge of a state.
+    fn turn_state(&mut self, from: StateID, state: &State) -> Result<(), MakeError>
+        requires { state_below (length self.old.lists.items) state.now ≡ true }
+        ensures turned { OnOk result (turns_of self.new ≡ turn_state (turns_of self.old) from state.now) }
+        ensures few { OnOk result (length self.new.lists.items ≡ length self.old.lists.items) }
+        ensures large { result ≡ Err MakeError.TooLarge
+            → 2 ^ 27 < size (turn_state (turns_of self.old) from state.now) }
+    {
+        match state {
+            State::ByteRange { lo, hi, next } => {
+                let helper = State::ByteRange {
+                    lo: *lo,
+                    hi: *hi,
+                    next: from,
+                };
+                self.turn_by(helper, *next)
+            }
+            State::Sparse(ranges) => self.turn_ranges(from, ranges),
+            State::Dense(targets) => self.turn_targets(from, targets),
+            State::Look { look, next } => self.turn_look(from, *look, *next),
+            State::Union { alternates } => {
+                self.turn_all(from, alternates)?;
+                Ok(())
+            }
+            State::BinaryUnion { alt1, alt2 } => {
+                self.turn_free(from, *alt1)?;
+                self.turn_free(from, *alt2)?;
+                Ok(())
+            }
+            State::Capture { next, .. } => {
+                self.turn_free(from, *next)?;
+                Ok(())
+            }
+            State::Fail => Ok(()),
+            State::Match { .. } => Ok(()),
+        }
+    }
+
+    /// Reverses each edge of these states.
+    pub fn turn_states(&mut self, states: &[State], ids: &[StateID]) -> Result<(), MakeError>
+        requires whole { length self.old.lists.items ≡ length states.now }
+        requires range { states_below (length states.now) states.now ≡ true }
+        requires below { all_below (length states.now) ids.now ≡ true }
+        ensures turned { OnOk result (turns_of self.new ≡ turn_states (turns_of self.old) states.now ids.now) }
+        ensures few { OnOk result (length self.new.lists.items ≡ length states.now) }
+        ensures large { result ≡ Err MakeError.TooLarge
+            → 2 ^ 27 < size (turn_states (turns_of self.old) states.now ids.now) }
+    {
+        for id in ids {
+            self.turn_state(*id, &states[id.as_usize()])?;
+        }
+        Ok(())
+    }
+
+    /// Adds a match as an alternate of the state: backward, paths end where they begin forward.
+    pub fn tell(&mut self, first: StateID) -> Result<(), MakeError>
+        requires { first < length self.old.lists.items }
+        ensures turned { OnOk result (turns_of self.new ≡ turn_by (turns_of self.old) (State.Match 0) first) }
+        ensures few { OnOk result (length self.new.lists.items ≡ length self.old.lists.items) }
+        ensures large { result ≡ Err MakeError.TooLarge
+            → 2 ^ 27 < size (turn_by (turns_of self.old) (State.Match 0) first) }
+    {
+        let helper = State::Match {
+            pattern: PatternID::ZERO,
+        };
+        self.turn_by(helper, first)
+    }
+
+    /// The states: a union for each list of alternates, and after these the helpers.
+    pub fn into_states(self, alloc: Global) -> Result<Vec<State>, AllocError>
+        ensures { IfOk result (λ states. states.items ≡ states_of self) }
+    {
+        let EdgesByTarget { lists, mut helpers } = self;
+        let mut states = Vec::new(alloc);
+        for alternates in lists {
+            states.push(State::Union { alternates })?;
+        }
+        states.append(&mut helpers)?;
+        Ok(states)
+    }
+}
