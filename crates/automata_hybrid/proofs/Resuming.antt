@@ -1,5 +1,5 @@
 -- Going on with a walk: what the functions under its calls answer, and what they make of their cache.
-use Rattle.std.proofs.Common.{ℕ, suc, ⊎_elim, ◌≡◌, ◌∙◌, ◌<◌, inl, inr, true, false, length, Option, None, Some, refl, sym, ap, subst, arith}
+use Rattle.std.proofs.Common.{ℕ, suc, ◌≡◌, ◌∙◌, ◌<◌, inl, inr, false, length, Option, None, refl, sym, ap, subst, arith}
 use Rattle.std.specs.Prelude.{Err, IfErr, IfOk, Ok, Result}
 use Rattle.std.proofs.lemmas.Result.{IfErr-weaker, IfOk-weaker, on_ok_weaker}
 use Rattle.automata_base.specs.Answers.{offset_in}
@@ -16,41 +16,31 @@ use Rattle.automata_config.specs.declared.error.SearchError.TheVariants as searc
 use Rattle.automata_hybrid.specs.Stores.{IsKnownTransition, Stored, with_searched}
 use Rattle.automata_hybrid.specs.declared.dfa.progress.Searched.{Searched}
 use Rattle.automata_hybrid.specs.Caches.{CacheView, with_store}
-use Rattle.automata_hybrid.specs.KnowingWalks.{KnowsItsState}
+use Rattle.automata_hybrid.specs.KnowingWalks.{IsToRead, KnowsItsState}
 use Rattle.automata_hybrid.specs.Growing.{IsGrown}
+use Rattle.automata_hybrid.specs.Knowing.{IsOfInput}
 use Rattle.automata_hybrid.specs.Machine.{Machine, slot_count, table_stride}
 use Rattle.automata_hybrid.specs.Owing.{IsUnsupported, unsupported_error}
-use Rattle.automata_hybrid.specs.OwingWalks.{IsCallEffect}
+use Rattle.automata_hybrid.specs.OwingWalks.{IsCallEffect, IsKnownRefusal}
 use Rattle.automata_hybrid.specs.Reading.{IsReadEffect, IsReadProgress}
-use Rattle.automata_hybrid.specs.Resuming.{IsCallRefused, IsResumeAnswer, IsResumeEffect, IsUnitEffect, ReadsOn, lost_without, resumed}
+use Rattle.automata_hybrid.specs.Resuming.{IsCallAnswer, IsCallRefused, IsResumeAnswer, IsResumeEffect, IsUnitEffect}
 use Rattle.automata_hybrid.specs.SearchedWalks.{LeavesCall, ReadsNoUnit}
 use Rattle.automata_hybrid.specs.Searches.{behind_offset, given_up_offset, state_in, tape_in}
 use Rattle.automata_hybrid.specs.Slots.{supports}
 use Rattle.automata_hybrid.specs.Starting.{IsStartAnswer, IsStartEffect, IsStartRefusal, IsStartRefusalAt, IsStartRefusedAt, quit_behind, search_refusal}
 use Rattle.automata_hybrid.specs.Stepping.{unit_class}
-use Rattle.automata_hybrid.specs.Table.{Leads, Names}
-use Rattle.automata_hybrid.specs.Walking.{CanGoOn, HasTold, HasToldAt, IsResumeRefusal, IsWalkOf, IsWalkRefusal, TellsNext}
-use Rattle.automata_hybrid.specs.Walks.{At, Ended, Fresh, Stage, Walk}
+use Rattle.automata_base.specs.Powerset.{Powerset}
+use Rattle.automata_hybrid.specs.Table.{Leads, Names, Rows}
+use Rattle.automata_hybrid.specs.Walking.{HasTold, HasToldAt, IsResumeRefusal, IsWalkOf, IsWalkRefusal, TellsNext}
+use Rattle.automata_hybrid.specs.Walks.{At, Ended, Fresh, HoldsNone, Ids, IsHeldAt, IsHeldItself, Keeping, Stage, States, Walk, keeping_of, without_match}
+use Rattle.automata_hybrid.specs.declared.search.walk.Held.{Held}
+use Rattle.automata_hybrid.specs.declared.search.walk.Held.TheVariants as held
 use Rattle.automata_hybrid.proofs.Growing.{grown_less, grown_moved, grown_same, grown_trans, nothing_second}
 use Rattle.automata_hybrid.proofs.Knowing.{start_idle}
 use Rattle.automata_hybrid.proofs.KnowingWalks.{still_same}
 use Rattle.automata_hybrid.proofs.SearchedWalks.{reads_some, start_keeps}
 use Rattle.automata_hybrid.proofs.Searching.{false_true, state_first}
 use Rattle.automata_hybrid.proofs.Starting.{refusal_at}
-
--- a walk that can go on hasn't lost its state, as a call resumes it
-pub kept_by : (w : Walk) (at : Option ℕ) → CanGoOn w at → (resumed w at).lost ≡ false
-kept_by w None can = can refl
-kept_by w (Some id) can = refl
-
--- and what a refused call left it also left with the walk as it was
-pub leaves_before :
-    (way : Direction) (m : Machine) (input : Input) (w : Walk) (at : Option ℕ) (old new : Stored) (e : SearchError)
-    → LeavesCall way m input (resumed w at) old new e → LeavesCall way m input w old new e
-leaves_before way m input w None old new e left = left
-leaves_before way m input w (Some id) old new e (inl (inl stuck, same)) = absurd (false_true stuck.0)
-leaves_before way m input w (Some id) old new e (inl (inr refused, same)) = inl (inr refused, same)
-leaves_before way m input w (Some id) old new e (inr left) = inr left
 
 -- a start in a mode that isn't supported is refused for that, behind no quit byte
 unsupported_start :
@@ -66,12 +56,12 @@ unsupported_start m c mode behind behind_at start_at e (error, why, told, unknow
 
 -- so is the call that was to begin the walk
 unsupported_call :
-    (way : Direction) (m : Machine) (c : Stored) (input : Input) (w : Walk) (k : ℕ) (e : SearchError)
-    → w.stage ≡ Fresh → IsUnsupported way m input → IsWalkRefusal way m c input w k e → e ≡ unsupported_error input
-unsupported_call way m c input w k e fresh u (l, inl (told, r)) =
+    (keeping : Keeping) (way : Direction) (m : Machine) (c : Stored) (input : Input) (w : Walk) (k : ℕ) (e : SearchError)
+    → w.stage ≡ Fresh → IsUnsupported way m input → IsWalkRefusal keeping way m c input w k e → e ≡ unsupported_error input
+unsupported_call keeping way m c input w k e fresh u (l, inl (told, r)) =
     unsupported_start m c input.anchored (tape_in way input).before _ _ e
     (subst (λ (s : Stage). IsResumeRefusal way m c input s w.units e) fresh r) u.behind u.mode
-unsupported_call way m c input w k e fresh u (l, inr (may, r)) = absurd (false_true (sym u.mode ∙ may.1))
+unsupported_call keeping way m c input w k e fresh u (l, inr (may, r)) = absurd (false_true (sym u.mode ∙ may.1))
 
 -- and it isn't answered
 pub supported_call :
@@ -88,53 +78,107 @@ supported_call way m input walk next (k, told) tells u = go next.stage (tells k 
 
 -- why a call is refused that reads units
 pub refused_on :
-    (way : Direction) (m : Machine) (input : Input) (w : Walk) (at : Option ℕ) (new : Stored) (e : SearchError)
-    → ReadsOn way m input w → CanGoOn w at
-    → ((k : ℕ) → HasTold way m input w k → IsWalkRefusal way m new input w k e)
-    → IsCallRefused way m input (resumed w at) new e
-refused_on way m input w at new e on can why = record {
-  why = λ kept k told. why k told;
-  lost = λ lost. absurd (false_true (sym (kept_by w at can) ∙ lost));
-  unsupported = λ fresh u. unsupported_call way m new input w on.told.0 e fresh u (why on.told.0 on.told.1);
-  ready = λ none _. reads_some input w on.reads none;
+    (keeping : Keeping) (way : Direction) (m : Machine) (input : Input) (w : Walk) (new : Stored) (e : SearchError)
+    → IsWalkOf way m input w → IsToRead input w.stage w.units w.told
+    → ((k : ℕ) → HasTold way m input w k → IsWalkRefusal keeping way m new input w k e)
+    → IsCallRefused keeping way m input w new e
+refused_on keeping way m input w new e told reads why = record {
+  why = why;
+  unsupported = λ fresh u. unsupported_call keeping way m new input w told.0 e fresh u (why told.0 told.1);
+  ready = λ none. reads_some input w reads none;
 }
 
--- a walk that lost its state, and is given no ID of it
-module _ (way : Direction) (m : Machine) (input : Input) (w : Walk) (at : Option ℕ) (c : CacheView)
-    (none : at ≡ None) (lost : w.lost ≡ true) (begun : w.stage ≡ Fresh → ⊥) (on : w.stage ≡ Ended → ⊥) where
-  stuck : (resumed w at).lost ≡ true
-  stuck = subst (λ (o : Option ℕ). lost_without w.lost o ≡ true) (sym none) lost
+-- a refusal for what was given is one of a call that knows all
+pub known_refusal :
+    (keeping : Keeping) (way : Direction) (m : Machine) (input : Input) (w : Walk) (e : SearchError) → IsOfInput e
+    → IsKnownRefusal keeping way m input w e
+known_refusal Ids way m input w e given = given
+known_refusal States way m input w e given = inl given
 
-  pub refused_stuck : IsCallRefused way m input (resumed w at) c.store search.OutOfMemory
-  refused_stuck = record {
-    why = λ kept. absurd (false_true (sym kept ∙ stuck));
-    lost = λ _. refl;
-    unsupported = λ fresh. absurd (begun fresh);
-    ready = λ none. ⊎_elim on (λ kept. false_true (sym kept ∙ stuck));
+-- whether the walk had a match before changes nothing
+module _ (keeping : Keeping) (way : Direction) (m : Machine) (input : Input) (w next : Walk) where
+  pub answer_matched : (old new : Stored) → IsCallAnswer way m input (without_match w) next old new → IsCallAnswer way m input w next old new
+  answer_matched old new a = record {
+    tells = a.tells;
+    goes_on = a.goes_on;
+    stops = a.stops;
+    there = a.there;
+    learned = a.learned;
   }
 
-  pub effect_stuck : (next : Walk) → IsCallEffect {T = Option ℕ} way m input (resumed w at) next c c (Err search.OutOfMemory)
-  effect_stuck next = record {
-    rises = tt;
-    cost = tt;
-    most = omega arith;
-    started = λ _. (omega arith, tt);
-    roomy = λ _. refl;
-    grown = grown_less c c (grown_same c c refl);
-    there = λ _. grown_same c c refl;
-    learned = λ _. tt;
-    known = λ _. (still_same c c refl, λ kept. absurd (false_true (sym kept ∙ stuck)));
-    ended = tt;
-    left = inl (inl (stuck, refl), refl);
-    ready = λ _. refl;
+  pub refused_matched : (new : Stored) (e : SearchError) → IsCallRefused keeping way m input (without_match w) new e → IsCallRefused keeping way m input w new e
+  refused_matched new e r = record { why = r.why; unsupported = r.unsupported; ready = r.ready }
+
+  pub effect_matched :
+      {T : Type 0} (old new : CacheView) (r : Result T SearchError)
+      → IsCallEffect keeping way m input (without_match w) next old new r → IsCallEffect keeping way m input w next old new r
+  effect_matched old new (Ok u) e = record {
+    rises = e.rises;
+    cost = e.cost;
+    most = e.most;
+    started = e.started;
+    roomy = e.roomy;
+    grown = e.grown;
+    there = e.there;
+    learned = e.learned;
+    known = e.known;
+    ended = e.ended;
+    left = e.left;
+    ready = e.ready;
   }
+  effect_matched old new (Err x) e = record {
+    rises = e.rises;
+    cost = e.cost;
+    most = e.most;
+    started = e.started;
+    roomy = e.roomy;
+    grown = e.grown;
+    there = e.there;
+    learned = e.learned;
+    known = λ knows. ((e.known knows).0, known_matched x (e.known knows).1);
+    ended = e.ended;
+    left = left_matched x e.left;
+    ready = e.ready;
+  } where
+    known_matched : (x : SearchError) → IsKnownRefusal keeping way m input (without_match w) x → IsKnownRefusal keeping way m input w x
+    known_matched x = go keeping where
+      go : (k : Keeping) → IsKnownRefusal k way m input (without_match w) x → IsKnownRefusal k way m input w x
+      go Ids r = r
+      go States r = r
+
+    left_matched : (x : SearchError) → LeavesCall keeping way m input (without_match w) old.store new.store x → LeavesCall keeping way m input w old.store new.store x
+    left_matched x l = l
+
+-- what is held by itself is held whatever the cache
+pub held_itself : (t : Rows) (s : Stage) (h : Held) → IsHeldItself s h → IsHeldAt t s h × (keeping_of h ≡ States)
+held_itself t s (held.Row id) none = absurd none
+held_itself t Fresh (held.State handle) none = (none, refl)
+held_itself t (At q) (held.State handle) holds = (holds, refl)
+held_itself t Ended (held.State handle) _ = (tt, refl)
+
+pub itself_held : (t : Rows) (s : Stage) (h : Held) → IsHeldAt t s h → keeping_of h ≡ States → IsHeldItself s h
+itself_held t s (held.Row id) at e = absurd (cc)
+itself_held t Fresh (held.State handle) none e = none
+itself_held t (At q) (held.State handle) holds e = holds
+itself_held t Ended (held.State handle) _ e = tt
+
+-- what is held in the same way is the state itself too
+pub shared_itself :
+    (s : Stage) (h held : Held)
+    → keeping_of held ≡ keeping_of h → (HoldsNone h → HoldsNone held)
+    → ((q : Powerset) → IsHeldItself (At q) h → IsHeldItself (At q) held) → IsHeldItself s h → IsHeldItself s held
+shared_itself s (held.Row id) h keeping none itself i = absurd i
+shared_itself Fresh (held.State a) (held.State b) keeping none itself i = none i
+shared_itself Fresh (held.State a) (held.Row b) keeping none itself i = absurd (cc)
+shared_itself (At q) (held.State a) h keeping none itself i = itself q i
+shared_itself Ended (held.State a) (held.State b) keeping none itself i = tt
+shared_itself Ended (held.State a) (held.Row b) keeping none itself i = absurd (cc)
 
 -- a call that reads no unit leaves its cache as it was
 pub effect_none :
-    (way : Direction) (m : Machine) (input : Input) (w : Walk) (at : Option ℕ) (next : Walk) (c : CacheView)
-    (id : Option ℕ)
-    → ReadsNoUnit input w → next.units ≡ w.units → IsCallEffect way m input (resumed w at) next c c (Ok id)
-effect_none way m input w at next c id none same = record {
+    (keeping : Keeping) (way : Direction) (m : Machine) (input : Input) (w next : Walk) (c : CacheView)
+    → ReadsNoUnit input w → next.units ≡ w.units → IsCallEffect {T = Unit {0}} keeping way m input w next c c (Ok tt)
+effect_none keeping way m input w next c none same = record {
   rises = omega (arith, same);
   cost = omega (arith, same);
   most = omega arith;
@@ -143,49 +187,10 @@ effect_none way m input w at next c id none same = record {
   grown = grown_less c c (grown_same c c refl);
   there = λ _. grown_same c c refl;
   learned = λ nothing k told r may. absurd (reads_some input w r none);
-  known = λ _. (still_same c c refl, λ _. tt);
+  known = λ _. (still_same c c refl, tt);
   ended = inl (none, refl);
   left = tt;
   ready = λ _. refl;
-}
-
--- an answer without what it carries
-abbrev pub done : {T U : Type 0} → Result T SearchError → U → Result U SearchError
-done (Ok t) u = Ok u
-done (Err e) u = Err e
-
--- what a call by the state that a walk holds makes of its cache
-pub call_effect :
-    {T U : Type 0} (way : Direction) (m : Machine) (input : Input) (w next : Walk) (old new : CacheView)
-    (r : Result T SearchError) (u : U)
-    → IsCallEffect way m input (resumed w None) next old new r → IsCallEffect way m input w next old new (done r u)
-call_effect way m input w next old new (Ok t) u e = record {
-  rises = e.rises;
-  cost = e.cost;
-  most = e.most;
-  started = e.started;
-  roomy = e.roomy;
-  grown = e.grown;
-  there = e.there;
-  learned = e.learned;
-  known = e.known;
-  ended = e.ended;
-  left = e.left;
-  ready = e.ready;
-}
-call_effect way m input w next old new (Err x) u e = record {
-  rises = e.rises;
-  cost = e.cost;
-  most = e.most;
-  started = e.started;
-  roomy = e.roomy;
-  grown = e.grown;
-  there = e.there;
-  learned = e.learned;
-  known = e.known;
-  ended = e.ended;
-  left = e.left;
-  ready = e.ready;
 }
 
 -- a walk that hasn't begun goes on from its start

@@ -17,8 +17,8 @@ use Rattle.automata_hybrid.specs.Searched.{CountsFrom, IsEndedAt, IsLeftAt, IsMo
 use Rattle.automata_hybrid.specs.SearchedWalks.{EndsAtUnit, IsLeftAtUnit, ReadsNoUnit}
 use Rattle.automata_hybrid.specs.Searches.{HasReadNoQuit, given_up_offset, tape_in}
 use Rattle.automata_hybrid.specs.Starting.{IsStartRefusedAt}
-use Rattle.automata_hybrid.specs.Walking.{IsSilent, IsUnitRefusal, WalkReads}
-use Rattle.automata_hybrid.specs.Walks.{Walk}
+use Rattle.automata_hybrid.specs.Walking.{IsRefusalAt, IsSilent, IsUnitRefusal, WalkReads}
+use Rattle.automata_hybrid.specs.Walks.{Ids, Keeping, States, Walk}
 use Rattle.automata_hybrid.proofs.Growing.{grown_moved, grown_same, grown_trans}
 use Rattle.automata_hybrid.proofs.Searched.{ended_after, ends_kept, ends_open, started_cleared, stays_open}
 
@@ -73,7 +73,7 @@ module _ (way : Direction) (m : Machine) (input : Input) (s : Searched) (from k 
       (e : SearchError) → from ≤ k → WalkReads way m input k → HasReadNoQuit way m input k → IsSilent way m input from k
       → IsUnitRefusal way m new.store input k e
       → IsLeftAt m (next (tape_in way input) k) (given_up_offset way input k) mid.store new.store e
-      → IsLeftAtUnit way m input s from old.store new.store e
+      → IsLeftAtUnit Ids way m input s from old.store new.store e
   unit_left e l reads clean silent refused left = (
     k,
     l,
@@ -148,13 +148,27 @@ reads_some input w r (inr (inl (q, at, few))) =
     (let all : length q.patterns ≤ w.told = r.all_told q at in omega (arith, all, few))
 reads_some input w r (inr (inr past)) = omega (arith, r.undone, r.left, past)
 
--- a step that was refused after that
+-- a refused step is a refusal at its unit, whatever is kept
+pub step_refuses :
+    (keeping : Keeping) (way : Direction) (m : Machine) (c : Stored) (input : Input) (j : ℕ) (e : SearchError)
+    → IsUnitRefusal way m c input j e → IsRefusalAt keeping way m c input j e
+step_refuses Ids way m c input j e r = r
+step_refuses States way m c input j e r = inl r
+
+pub step_leaves :
+    (keeping : Keeping) (way : Direction) (m : Machine) (input : Input) (s : Searched) (from : ℕ) (old new : Stored)
+    (e : SearchError)
+    → IsLeftAtUnit Ids way m input s from old new e → IsLeftAtUnit keeping way m input s from old new e
+step_leaves keeping way m input s from old new e (k, l, reads, clean, silent, refused, left) =
+    (k, l, reads, clean, silent, step_refuses keeping way m new input k e refused, left)
+
+-- a call that was refused at a unit after that
 pub recounts_left :
-    (way : Direction) (m : Machine) (input : Input) (old begun mid new : Stored) (units : ℕ)
+    (keeping : Keeping) (way : Direction) (m : Machine) (input : Input) (old begun mid new : Stored) (units : ℕ)
     → input.start ≤ input.end → units ≤ input.end - input.start → old.clears ≤ begun.clears
     → mid.clears ≡ begun.clears → mid.clears ≤ new.clears → KeepsProgress old begun → (e : SearchError)
-    → IsLeftAtUnit way m input begun.searched units mid new e → IsLeftAtUnit way m input old.searched units old new e
-recounts_left way m input old begun mid new units undone within up same more kept e (k, l, reads, clean, silent, refused, left) = (
+    → IsLeftAtUnit keeping way m input begun.searched units mid new e → IsLeftAtUnit keeping way m input old.searched units old new e
+recounts_left keeping way m input old begun mid new units undone within up same more kept e (k, l, reads, clean, silent, refused, left) = (
   k,
   l,
   reads,

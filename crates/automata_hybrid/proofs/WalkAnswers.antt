@@ -1,6 +1,5 @@
 -- Where no quit byte is in reach, no clear limit is set and the mode is supported, a walk call is refused by memory alone.
-use Rattle.std.proofs.Common.{ℕ, ◌≡◌, ◌≤◌, inl, inr, Bool, true, false, length, Some, None, refl, sym, ◌∙◌}
-use Rattle.std.specs.Prelude.{Result, Ok, Err, IfErr}
+use Rattle.std.proofs.Common.{ℕ, ◌≡◌, ◌≤◌, inl, inr, true, length, Some, None, refl, sym, ◌∙◌}
 use Rattle.automata_base.specs.Classes.{is_quit}
 use Rattle.automata_base.specs.Input.{Input}
 use Rattle.automata_base.specs.Paths.{next}
@@ -15,8 +14,8 @@ use Rattle.automata_hybrid.specs.Machine.{Machine}
 use Rattle.automata_hybrid.specs.Searches.{IsStepRefusal, NoQuitInReach, tape_in}
 use Rattle.automata_hybrid.specs.Slots.{supports}
 use Rattle.automata_hybrid.specs.Starting.{IsStartRefusalAt}
-use Rattle.automata_hybrid.specs.Walking.{HasTold, IsResumeRefusal, IsWalkRefusal}
-use Rattle.automata_hybrid.specs.Walks.{At, Ended, Fresh, Stage, Walk}
+use Rattle.automata_hybrid.specs.Walking.{IsRefusalAt, IsResumeRefusal, IsWalkRefusal}
+use Rattle.automata_hybrid.specs.Walks.{At, Ended, Fresh, Ids, Keeping, Stage, States, Walk}
 use Rattle.automata_hybrid.proofs.Answering.{InReach, behind_reach, is_behind, no_limit, unit_reach}
 use Rattle.automata_hybrid.proofs.Searching.{false_true}
 use Rattle.automata_config.specs.Options.{minimum_cache_clear_count_of}
@@ -55,19 +54,13 @@ module _ (way : Direction) (m : Machine) (c : Stored) (input : Input)
   resume_memory (At q) units e l (inr r) = absurd (no_limit m c q same free r.0)
   resume_memory Ended units e l r = absurd r
 
-  pub walk_memory : (w : Walk) (k : ℕ) (e : SearchError) → IsWalkRefusal way m c input w k e → e ≡ search.OutOfMemory
-  walk_memory w k e (l, inl r) = resume_memory w.stage w.units e l r.1
-  walk_memory w k e (l, inr (may, r)) = step_memory r.0 _ _ _ e l r.2.0 r.5
+  at_memory :
+      (keeping : Keeping) (j : ℕ) (e : SearchError)
+      → input.start ≤ input.end → j ≤ length (tape_in way input).bytes → IsRefusalAt keeping way m c input j e → e ≡ search.OutOfMemory
+  at_memory Ids j e s l r = step_memory j _ _ _ e s l r
+  at_memory States j e s l (inl r) = step_memory j _ _ _ e s l r
+  at_memory States j e s l (inr r) = r.memory
 
-  -- whether or not the walk lost its state
-  pub call_memory :
-      (w : Walk) (r : Result (Unit {0}) SearchError)
-      → ((k : ℕ) × HasTold way m input w k)
-      → (w.lost ≡ true → IfErr r (λ e. e ≡ search.OutOfMemory))
-      → (w.lost ≡ false → (k : ℕ) → HasTold way m input w k → IfErr r (IsWalkRefusal way m c input w k))
-      → IfErr r (λ e. e ≡ search.OutOfMemory)
-  call_memory w (Ok u) told lost refused = tt
-  call_memory w (Err e) told lost refused = go w.lost refl where
-    go : (b : Bool) → w.lost ≡ b → e ≡ search.OutOfMemory
-    go true f = lost f
-    go false f = walk_memory w told.0 e (refused f told.0 told.1)
+  pub walk_memory : (keeping : Keeping) (w : Walk) (k : ℕ) (e : SearchError) → IsWalkRefusal keeping way m c input w k e → e ≡ search.OutOfMemory
+  walk_memory keeping w k e (l, inl r) = resume_memory w.stage w.units e l r.1
+  walk_memory keeping w k e (l, inr (may, r)) = at_memory keeping r.0 e l r.2.0 r.5

@@ -188,6 +188,7 @@ module _ (way : Direction) (m : Machine) (input : Input) where
         row = s.row;
         clean = s.clean;
         unskipped = s.unskipped;
+        some = omega arith;
         few = omega (arith, less);
         earlier = s.earlier;
         before = s.before;
@@ -211,13 +212,13 @@ module _ (way : Direction) (m : Machine) (input : Input) where
 
   -- or to a state that tells patterns, and tells the first one
   pub next_arrives :
-      (w : Walk) (t : Rows) (id units : ℕ) (q : Powerset) (lost : Bool) (half : HalfMatch)
+      (w : Walk) (t : Rows) (id units : ℕ) (q : Powerset) (half : HalfMatch)
       → input.start ≤ input.end → MayStart m input.anchored (tape_in way input).before
       → ((k : ℕ) → HasTold way m input w k → HasToldBy way m input w.units k)
       → Arrives way m t input w.units id units → q ≡ state_in way m input units → IsRowState m q
       → half.pattern ≡ get_or q.patterns 0 0 → half.offset ≡ offset_in way input (units - 1)
-      → TellsNext way m input w (record { stage = At q; units = units; told = 1; found = Some half; lost = lost })
-  next_arrives w t id units q lost half s may here a state row pattern offset k told =
+      → TellsNext way m input w (record { stage = At q; units = units; told = 1; found = Some half })
+  next_arrives w t id units q half s may here a state row pattern offset k told =
       let same : q ≡ state_in way m input (suc a.place) = state ∙ ap (state_in way m input) a.behind in
       let place : units - 1 ≡ a.place = omega (arith, a.behind) in
       let before : HasToldBy way m input a.place k = a.silent k (here k told) in
@@ -232,6 +233,7 @@ module _ (way : Direction) (m : Machine) (input : Input) where
         row = row;
         clean = a.clean;
         unskipped = a.unskipped;
+        some = omega arith;
         few = omega (arith, some);
         earlier = k;
         before = before;

@@ -1,6 +1,6 @@
 -- What a call of a walk and a set answer by their DFA and their input alone, whatever the cache, and what they make of
 -- their cache.
-use Rattle.std.specs.Prelude.{ℕ, ◌≡◌, ◌<◌, ◌≤◌, ◌+◌, ◌-◌, ◌⊎◌, Bool, true, false, List, length, Result, Err}
+use Rattle.std.specs.Prelude.{ℕ, ◌≡◌, ◌<◌, ◌≤◌, ◌+◌, ◌-◌, ◌⊎◌, Bool, List, length, Result, Err}
 use Rattle.std.specs.Prelude.{IfErr, IfSome, IsOk, OnOk, OnErr}
 use Rattle.automata_base.specs.Answers.{ArePatterns, ArePatternsFound, IsOverlapping}
 use Rattle.automata_base.specs.Engines.{engine_of}
@@ -19,16 +19,16 @@ use Rattle.automata_hybrid.specs.KnowingWalks.{KnowsItsState, KnowsWalk, KnowsWh
 use Rattle.automata_hybrid.specs.Machine.{Machine}
 use Rattle.automata_hybrid.specs.Owing.{IsMemory, IsStoreOf, IsUnhindered, IsUnsupported, unsupported_error}
 use Rattle.automata_hybrid.specs.SearchedWalks.{EndsCall, EndsSet, LeavesCall, LeavesSet, ReadsNoUnit}
-use Rattle.automata_hybrid.specs.Walking.{AreWalked, HasItsState, HasTold, IsWalkRefusal, TellsNext, half_nth}
+use Rattle.automata_hybrid.specs.Walking.{AreWalked, HasItsState, HasTold, IsUnheld, IsWalkRefusal, TellsNext, half_nth}
 use Rattle.automata_hybrid.specs.Walking.{start_count}
-use Rattle.automata_hybrid.specs.Walks.{Ended, Fresh, Walk, without_match}
+use Rattle.automata_hybrid.specs.Walks.{Fresh, Ids, Keeping, States, Walk, without_match}
 use Rattle.automata_hybrid.specs.Which.{IsWhichRefusal}
 use Rattle.automata_hybrid.specs.Within.{LiesIn}
 use Rattle.automata_config.specs.Options.{match_kind_of}
 
 -- some cache of the DFA, within its settings, refuses so a call of this walk, which has told so many pairs
 abbrev pub MayRefuseCall : Direction → Machine → Input → Walk → (told : ℕ) → SearchError → Type 0
-MayRefuseCall way m input w told e = (c : Stored) × IsStoreOf c m × IsWalkRefusal way m c input w told e
+MayRefuseCall way m input w told e = (c : Stored) × IsStoreOf c m × IsWalkRefusal States way m c input w told e
 
 -- what a call of a walk answers, and what it makes of the walk
 pub record IsWalkCall (way : Direction) (m : Machine) (input : Input) (old new : Walk)
@@ -44,20 +44,24 @@ pub record IsWalkCall (way : Direction) (m : Machine) (input : Input) (old new :
   pub within : IfSome new.found (LiesIn m input)
   -- a refused walk is as before, but for its match, which is none
   pub refused : OnErr result (new ≡ without_match old)
-  -- a refusal is one that some cache may give; and of a walk that lost its state want of memory
-  pub errors :
-      old.lost ≡ false → (k : ℕ) → HasTold way m input old k → IfErr result (MayRefuseCall way m input old k)
-  pub lost : old.lost ≡ true → IfErr result IsMemory
+  -- a refusal is one that some cache may give
+  pub errors : (k : ℕ) → HasTold way m input old k → IfErr result (MayRefuseCall way m input old k)
   -- of a walk that hasn't begun, a mode that isn't supported is told
   pub unsupported : old.stage ≡ Fresh → IsUnsupported way m input → result ≡ Err (unsupported_error input)
   -- where nothing stands in the way, only want of memory is a refusal
   pub free : IsUnhindered m input → IfErr result IsMemory
-  -- one that reads no unit is never refused, of a walk that has ended or has its state
-  pub ready : ReadsNoUnit input old → (old.stage ≡ Ended) ⊎ (old.lost ≡ false) → IfErr result (λ e. ⊥)
+  -- one that reads no unit is never refused
+  pub ready : ReadsNoUnit input old → IfErr result (λ e. ⊥)
+
+-- why a call is refused that knows all that it uses: for what it was given; or, where states are kept, since the one that
+-- tells the next pair can't be held
+abbrev pub IsKnownRefusal : Keeping → Direction → Machine → Input → Walk → SearchError → Type 0
+IsKnownRefusal Ids way m input walk e = IsOfInput e
+IsKnownRefusal States way m input walk e = IsOfInput e ⊎ ((j : ℕ) × (walk.units ≤ j) × IsUnheld way m input j e)
 
 -- what a call of a walk makes of its cache
-pub record IsCallEffect {T : Type 0} (way : Direction) (m : Machine) (input : Input) (walk next : Walk)
-    (old new : CacheView) (result : Result T SearchError) : Type 0 where
+pub record IsCallEffect {T : Type 0} (keeping : Keeping) (way : Direction) (m : Machine) (input : Input)
+    (walk next : Walk) (old new : CacheView) (result : Result T SearchError) : Type 0 where
   -- it makes at most one determinisation for each unit by which those read rise, and one for a start; a refused call
   -- one for each unit left
   pub rises : OnOk result (walk.units ≤ next.units)
@@ -76,10 +80,12 @@ pub record IsCallEffect {T : Type 0} (way : Direction) (m : Machine) (input : In
   -- where nothing was cleared what it used is known
   pub learned : ClearedNothing old.store new.store → OnOk result (KnowsWalk way m new.store input walk)
   -- with all that known it takes no memory, and changes nothing but the progress
-  pub known : KnowsWalk way m old.store input walk → IsStill old new × (walk.lost ≡ false → IfErr result IsOfInput)
+  pub known :
+      KnowsWalk way m old.store input walk
+      → IsStill old new × IfErr result (IsKnownRefusal keeping way m input walk)
   -- the searched bytes, and the search that is open
   pub ended : OnOk result (EndsCall way m input walk next old.store new.store)
-  pub left : IfErr result (LeavesCall way m input walk old.store new.store)
+  pub left : IfErr result (LeavesCall keeping way m input walk old.store new.store)
   -- one that reads no unit changes nothing at all
   pub ready : ReadsNoUnit input walk → new ≡ old
 

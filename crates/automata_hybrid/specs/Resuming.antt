@@ -1,8 +1,9 @@
 -- Going on with a walk: what the functions under its calls ask, what they answer, and what they make of their cache.
-use Rattle.std.specs.Prelude.{ℕ, suc, ◌≡◌, ◌+◌, ◌-◌, ◌≤◌, ◌⊎◌, Bool, true, false, Option, None, Some, Result}
+use Rattle.std.specs.Prelude.{ℕ, suc, ◌≡◌, ◌+◌, ◌-◌, ◌≤◌, ◌⊎◌, Result}
 use Rattle.std.specs.Prelude.{IfErr, IfOk, OnErr, OnOk}
 use Rattle.automata_base.specs.Input.{Input}
 use Rattle.automata_base.specs.Paths.{next}
+use Rattle.automata_base.specs.Powerset.{Powerset}
 use Rattle.automata_base.specs.Tapes.{Direction}
 use Rattle.automata_config.specs.declared.error.SearchError.{SearchError}
 use Rattle.automata_hybrid.specs.declared.dfa.progress.Searched.{Searched}
@@ -13,48 +14,46 @@ use Rattle.automata_hybrid.specs.Growing.{ClearedNothing, IsGrown, KeepsProgress
 use Rattle.automata_hybrid.specs.Knowing.{IsOfInput, KnowsUnit}
 use Rattle.automata_hybrid.specs.KnowingWalks.{HasLearnedUnits, IsToRead, KnowsItsState, KnowsUnits}
 use Rattle.automata_hybrid.specs.Machine.{Machine}
-use Rattle.automata_hybrid.specs.Owing.{IsMemory, IsUnsupported, unsupported_error}
+use Rattle.automata_hybrid.specs.Owing.{IsUnsupported, unsupported_error}
 use Rattle.automata_hybrid.specs.Passing.{HasLearnedUnit}
 use Rattle.automata_hybrid.specs.Progressing.{started}
 use Rattle.automata_hybrid.specs.Reading.{IsReadProgress}
-use Rattle.automata_hybrid.specs.SearchedWalks.{EndsAtUnit, IsLeftAtUnit, ReadsNoUnit}
+use Rattle.automata_hybrid.specs.Searched.{IsOpenAt}
+use Rattle.automata_hybrid.specs.SearchedWalks.{IsLeftAtUnit, ReadsNoUnit}
 use Rattle.automata_hybrid.specs.Searches.{given_up_offset, state_in, tape_in}
 use Rattle.automata_hybrid.specs.Starting.{MayStart}
-use Rattle.automata_hybrid.specs.Table.{Leads, Names, Rows}
-use Rattle.automata_hybrid.specs.Walking.{CanGoOn, GoesOn, HasItsState, HasTold, HasToldBy, IsNamedAt, IsWalkOf}
+use Rattle.automata_hybrid.specs.Table.{Has, Leads, Names, Rows}
+use Rattle.automata_hybrid.specs.Walking.{GoesOn, HasItsState, HasTold, HasToldBy, IsWalkOf}
 use Rattle.automata_hybrid.specs.Walking.{IsWalkRefusal, TellsNext, WalkReads, start_count}
-use Rattle.automata_hybrid.specs.Walks.{Ended, Fresh, Stage, Walk}
+use Rattle.automata_hybrid.specs.Walks.{Ended, Fresh, Ids, IsHeldAt, IsHeldItself, Keeping, Stage, Walk, keeping_of}
+use Rattle.automata_hybrid.specs.declared.search.walk.Held.{Held}
 
--- a state isn't lost where its ID is given
-abbrev pub lost_without : Bool → Option ℕ → Bool
-lost_without lost None = lost
-lost_without lost (Some id) = false
-
--- a walk as a call goes on with it: it has no match, and hasn't lost its state where the ID of that is given
-abbrev pub resumed : Walk → Option ℕ → Walk
-resumed w at = record {
-  stage = w.stage;
-  units = w.units;
-  told = w.told;
-  found = None;
-  lost = lost_without w.lost at;
-}
-
--- a walk can go on from where it stands
-pub record CanResume (t : Rows) (w : Walk) (at : Option ℕ) : Type 0 where
-  -- an ID that is given is that of its state
-  pub named : IsNamedAt t w.stage at
-  -- where none is given it hasn't lost its state
-  pub kept : CanGoOn w at
-
--- a walk over this input whose next call reads units
-pub record ReadsOn (way : Direction) (m : Machine) (input : Input) (w : Walk) : Type 0 where
+-- a walk over this input, and what is held is the state where it stands
+pub record IsHeldWalk (way : Direction) (m : Machine) (input : Input) (t : Rows) (w : Walk) (held : Held) :
+    Type 0 where
   pub told : IsWalkOf way m input w
+  pub holds : IsHeldAt t w.stage held
+
+-- and it is the state itself
+pub record IsKeptWalk (way : Direction) (m : Machine) (input : Input) (w : Walk) (held : Held) : Type 0 where
+  pub told : IsWalkOf way m input w
+  pub itself : IsHeldItself w.stage held
+
+-- a walk whose next call reads units
+pub record ReadsOn (way : Direction) (m : Machine) (input : Input) (t : Rows) (w : Walk) (held : Held) :
+    Type 0 where
+  pub told : IsWalkOf way m input w
+  pub holds : IsHeldAt t w.stage held
   pub reads : IsToRead input w.stage w.units w.told
 
--- what a call of a walk answers, by the ID of the state where the walk stands then
-pub record IsCallAnswer (way : Direction) (m : Machine) (input : Input) (walk next : Walk) (old new : Stored)
-    (at : Option ℕ) : Type 0 where
+-- what a call makes of what is held: it is the state where the walk stands then, and as much is kept of it
+pub record HoldsOn (t : Rows) (next : Walk) (old new : Held) : Type 0 where
+  pub holds : IsHeldAt t next.stage new
+  pub keeping : keeping_of new ≡ keeping_of old
+
+-- what a call of a walk answers
+pub record IsCallAnswer (way : Direction) (m : Machine) (input : Input) (walk next : Walk) (old new : Stored) :
+    Type 0 where
   -- the walk has told the next pair, or has ended
   pub tells : TellsNext way m input walk next
   -- with a match it has read more units or told one pattern more
@@ -63,26 +62,20 @@ pub record IsCallAnswer (way : Direction) (m : Machine) (input : Input) (walk ne
   pub stops :
       input.start ≤ input.end → (walk.stage ≡ Ended → ⊥) → next.stage ≡ Ended → (j : ℕ) → next.units ≤ j
       → WalkReads way m input j → ⊥
-  -- the ID is that of its state
-  pub named : IsNamedAt new.table next.stage at
-  -- with none it has ended, or hasn't lost its state
-  pub kept : at ≡ None → (next.stage ≡ Ended) ⊎ (next.lost ≡ false)
   -- the cache has its state, if it had the one before
   pub there : HasItsState old.table walk.stage → HasItsState new.table next.stage
   -- where nothing was cleared the transition is known on each unit that it read
   pub learned : ClearedNothing old new → HasLearnedUnits way m new input walk.units next.units
 
 -- why a call of a walk is refused
-pub record IsCallRefused (way : Direction) (m : Machine) (input : Input) (walk : Walk) (new : Stored)
-    (e : SearchError) : Type 0 where
-  -- the walk isn't gone on with, or the step on a unit is refused
-  pub why : walk.lost ≡ false → (k : ℕ) → HasTold way m input walk k → IsWalkRefusal way m new input walk k e
-  -- one that lost its state is refused for want of memory
-  pub lost : walk.lost ≡ true → IsMemory e
+pub record IsCallRefused (keeping : Keeping) (way : Direction) (m : Machine) (input : Input) (walk : Walk)
+    (new : Stored) (e : SearchError) : Type 0 where
+  -- the walk isn't gone on with, or it is refused at a unit
+  pub why : (k : ℕ) → HasTold way m input walk k → IsWalkRefusal keeping way m new input walk k e
   -- of one that hasn't begun, a mode that isn't supported is told
   pub unsupported : walk.stage ≡ Fresh → IsUnsupported way m input → e ≡ unsupported_error input
-  -- one that reads no unit isn't, of a walk that has ended or has its state
-  pub ready : ReadsNoUnit input walk → (walk.stage ≡ Ended) ⊎ (walk.lost ≡ false) → ⊥
+  -- one that reads no unit isn't
+  pub ready : ReadsNoUnit input walk → ⊥
 
 -- what the ID is that a walk goes on from
 pub record IsResumeAnswer (way : Direction) (m : Machine) (input : Input) (walk : Walk) (new : Stored) (id : ℕ) :
@@ -111,12 +104,12 @@ pub record IsResumeEffect {T : Type 0} (way : Direction) (m : Machine) (input : 
   pub err : OnErr result (new.store.searched ≡ old.store.searched)
 
 -- what putting the state of a walk back makes of the cache
-pub record IsPutBackEffect {T E : Type 0} (stage : Stage) (old new : CacheView) (result : Result T E) : Type 0 where
+pub record IsPutBackEffect {T E : Type 0} (q : Powerset) (old new : CacheView) (result : Result T E) : Type 0 where
   -- it determinises nothing, and grows the cache as one determinisation would
   pub cost : new.count ≡ old.count
   pub grown : IsGrown old (counted new)
   -- a state that is there is answered, and nothing changes
-  pub there : HasItsState old.store.table stage → (new ≡ old) × IfErr result (λ e. ⊥)
+  pub there : Has old.store.table q → (new ≡ old) × IfErr result (λ e. ⊥)
   -- the progress of searches stays, but for a clear
   pub progress : KeepsProgress old.store new.store
 
@@ -156,12 +149,12 @@ pub record IsAdvanceEffect (way : Direction) (m : Machine) (input : Input) (unit
   -- where nothing was cleared it is known from then on
   pub learned :
       ClearedNothing old.store new.store → IfOk result (λ a. HasLearnedUnits way m new.store input units a.units)
-  -- a search that began there has ended at the last unit that was read
-  pub ended :
+  -- a search that began there is open at the last unit that was read
+  pub moved :
       (before : Searched) → old.store.searched ≡ started before (given_up_offset way input units)
       → IfOk result (λ a. (k : ℕ) × (units ≤ k) × (a.units ≡ suc k) × WalkReads way m input k
-      × EndsAtUnit way input before units k old.store new.store)
+      × IsOpenAt input before (given_up_offset way input units) (given_up_offset way input k) old.store new.store)
   -- or is left at the one that was refused
   pub left :
       (before : Searched) → old.store.searched ≡ started before (given_up_offset way input units)
-      → IfErr result (IsLeftAtUnit way m input before units old.store new.store)
+      → IfErr result (IsLeftAtUnit Ids way m input before units old.store new.store)

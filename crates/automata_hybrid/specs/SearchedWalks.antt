@@ -1,12 +1,11 @@
 -- What the calls of a walk leave of the progress: the searched bytes, and the search that is open.
-use Rattle.std.specs.Prelude.{ℕ, zero, suc, ◌≡◌, ◌<◌, ◌≤◌, ◌+◌, ◌⊎◌, Bool, true, List, length, take, None}
+use Rattle.std.specs.Prelude.{ℕ, zero, suc, ◌≡◌, ◌<◌, ◌≤◌, ◌+◌, ◌⊎◌, Bool, List, length, take, None}
 use Rattle.automata_base.specs.Input.{Input}
 use Rattle.automata_base.specs.Paths.{next}
 use Rattle.automata_base.specs.Powerset.{Powerset, dead}
 use Rattle.automata_base.specs.Selections.{Pair}
 use Rattle.automata_base.specs.Tapes.{Direction, Forward}
 use Rattle.automata_config.specs.declared.error.SearchError.{SearchError}
-use Rattle.automata_config.specs.declared.error.SearchError.TheVariants as search
 use Rattle.automata_hybrid.specs.declared.dfa.progress.Searched.{Searched}
 use Rattle.automata_hybrid.specs.Caches.{CacheView, with_store}
 use Rattle.automata_hybrid.specs.Stores.{Stored, with_searched}
@@ -15,8 +14,8 @@ use Rattle.automata_hybrid.specs.Machine.{Machine}
 use Rattle.automata_hybrid.specs.Progressing.{updated}
 use Rattle.automata_hybrid.specs.Searched.{IsEndedAt, IsOfRoom, IsOpenAt, IsQuitUnit}
 use Rattle.automata_hybrid.specs.Searches.{HasReadNoQuit, given_up_offset, state_in, tape_in}
-use Rattle.automata_hybrid.specs.Walking.{AreWalked, IsResumeRefusal, IsSilent, IsUnitRefusal, TellsNext, WalkReads}
-use Rattle.automata_hybrid.specs.Walks.{At, Ended, Walk, fresh_walk}
+use Rattle.automata_hybrid.specs.Walking.{AreWalked, IsRefusalAt, IsResumeRefusal, IsSilent, TellsNext, WalkReads}
+use Rattle.automata_hybrid.specs.Walks.{At, Ended, Ids, Keeping, Walk, fresh_walk}
 
 -- nothing has changed but that the open search has come to an offset
 abbrev pub HasJustMoved : (at : ℕ) → (old new : CacheView) → Type 0
@@ -41,13 +40,14 @@ abbrev pub EndsAtUnit : Direction → Input → (before : Searched) → (from k 
 EndsAtUnit way input before from k old new =
     IsEndedAt input before (given_up_offset way input from) (given_up_offset way input k) old new
 
--- the step on a unit was refused, the first one from a place on to be: a quit byte ended the search there, and else it
--- is left open there
+-- a call was refused at a unit, the first one from a place on to be: a quit byte ended the search there, and else it is
+-- left open there
 abbrev pub IsLeftAtUnit :
-    Direction → Machine → Input → (before : Searched) → (from : ℕ) → (old new : Stored) → SearchError → Type 0
-IsLeftAtUnit way m input before from old new e =
+    Keeping → Direction → Machine → Input → (before : Searched) → (from : ℕ) → (old new : Stored) → SearchError
+    → Type 0
+IsLeftAtUnit keeping way m input before from old new e =
     (k : ℕ) × (from ≤ k) × WalkReads way m input k × HasReadNoQuit way m input k × IsSilent way m input from k
-    × IsUnitRefusal way m new input k e
+    × IsRefusalAt keeping way m new input k e
     × ((IsQuitUnit m (next (tape_in way input) k) × EndsAtUnit way input before from k old new)
     ⊎ (IsOfRoom (given_up_offset way input k) e
     × IsOpenAt input before (given_up_offset way input from) (given_up_offset way input k) old new))
@@ -60,16 +60,11 @@ EndsCall way m input walk next old new =
     ⊎ ((ReadsNoUnit input walk → ⊥) × (k : ℕ) × IsLastUnit way m input walk next k
     × EndsAtUnit way input old.searched walk.units k old new)
 
--- a call was refused before it began: the walk lost its state, or it isn't gone on with
-abbrev pub IsRefusedAtOnce : Direction → Machine → Stored → Input → Walk → SearchError → Type 0
-IsRefusedAtOnce way m c input walk e =
-    ((walk.lost ≡ true) × (e ≡ search.OutOfMemory)) ⊎ IsResumeRefusal way m c input walk.stage walk.units e
-
--- a call was refused: before it began, which changed nothing, or at a unit
-abbrev pub LeavesCall : Direction → Machine → Input → Walk → (old new : Stored) → SearchError → Type 0
-LeavesCall way m input walk old new e =
-    (IsRefusedAtOnce way m new input walk e × (new.searched ≡ old.searched))
-    ⊎ IsLeftAtUnit way m input old.searched walk.units old new e
+-- a call was refused: the walk isn't gone on with, which changed nothing, or at a unit
+abbrev pub LeavesCall : Keeping → Direction → Machine → Input → Walk → (old new : Stored) → SearchError → Type 0
+LeavesCall keeping way m input walk old new e =
+    (IsResumeRefusal way m new input walk.stage walk.units e × (new.searched ≡ old.searched))
+    ⊎ IsLeftAtUnit keeping way m input old.searched walk.units old new e
 
 -- a set is gone on with when its walk has told its first pairs
 abbrev pub IsOpenAfter : Machine → Input → (set : List Bool) → (told : ℕ) → Type 0
@@ -94,4 +89,4 @@ EndsSet m input set old new =
 abbrev pub LeavesSet : Machine → Input → (set : List Bool) → (old new : Stored) → SearchError → Type 0
 LeavesSet m input set old new e =
     (calls : ℕ) × (walk : Walk) × (mid : Stored) × HaveCalled m input set calls old walk mid
-    × IsOpenAfter m input set calls × LeavesCall Forward m input walk mid new e × (mid.clears ≤ new.clears)
+    × IsOpenAfter m input set calls × LeavesCall Ids Forward m input walk mid new e × (mid.clears ≤ new.clears)

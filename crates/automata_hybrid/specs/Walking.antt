@@ -17,11 +17,11 @@ use Rattle.automata_hybrid.specs.Stores.{Stored}
 use Rattle.automata_hybrid.specs.Usage.{GivesUp}
 use Rattle.automata_hybrid.specs.Machine.{Machine, greatest}
 use Rattle.automata_hybrid.specs.Owned.{IsOwn}
-use Rattle.automata_hybrid.specs.Searches.{HasReadNoQuit, IsStepRefusal, Skips, behind_offset, given_up_offset}
+use Rattle.automata_hybrid.specs.Searches.{HasReadNoQuit, IsNoQuit, IsStepRefusal, Skips, behind_offset, given_up_offset}
 use Rattle.automata_hybrid.specs.Searches.{state_in, tape_in, unit_offset}
 use Rattle.automata_hybrid.specs.Starting.{IsStartRefusalAt, MayStart}
 use Rattle.automata_hybrid.specs.Table.{Rows, Has, Names}
-use Rattle.automata_hybrid.specs.Walks.{At, Ended, Fresh, Stage, Walk}
+use Rattle.automata_hybrid.specs.Walks.{At, Ended, Fresh, Ids, Keeping, Stage, States, Walk}
 use Rattle.automata_config.specs.Options.{match_kind_of}
 
 -- the pairs that a pass tells by its first `k` units; their places are the pass's
@@ -60,7 +60,7 @@ pub record IsRowState (m : Machine) (q : Powerset) : Type 0 where
   pub alive : q ≡ dead → ⊥
 
 -- a walk stands at the state behind the unit at a place that isn't skipped, none of its units a quit byte; it has told
--- `told` patterns of this state, and `k` pairs in all
+-- `told` patterns of this state, at least one, and `k` pairs in all
 pub record Stands (way : Direction) (m : Machine) (input : Input) (q : Powerset) (units told k : ℕ) : Type 0 where
   pub undone : input.start ≤ input.end
   pub may : MayStart m input.anchored (tape_in way input).before
@@ -71,6 +71,7 @@ pub record Stands (way : Direction) (m : Machine) (input : Input) (q : Powerset)
   pub row : IsRowState m q
   pub clean : HasReadNoQuit way m input units
   pub unskipped : Skips m → is_split input.haystack (offset_in way input place) ≡ false
+  pub some : 0 < told
   pub few : told ≤ length q.patterns
   pub earlier : ℕ
   pub before : HasToldBy way m input place earlier
@@ -125,15 +126,29 @@ IsUnitRefusal way m c input j e =
     IsStepRefusal m c (state_in way m input j) (next (tape_in way input) j) (unit_offset way input j)
     (given_up_offset way input j) e
 
--- why a call is refused that was to tell the pair behind the first `k`: it isn't gone on with, or the step on a unit
--- that it reads is refused, no quit byte having been met before; the units before tell these `k` pairs
-abbrev pub IsWalkRefusal : Direction → Machine → Stored → Input → Walk → ℕ → SearchError → Type 0
-IsWalkRefusal way m c input w k e =
+-- the state behind the unit at place `j` tells a pair, and can't be held: no user more of it can be counted, which is told
+-- as want of memory
+pub record IsUnheld (way : Direction) (m : Machine) (input : Input) (j : ℕ) (e : SearchError) : Type 0 where
+  pub clean : IsNoQuit m (next (tape_in way input) j)
+  pub tells : 0 < length (state_in way m input (suc j)).patterns
+  pub unskipped : Skips m → is_split input.haystack (offset_in way input j) ≡ false
+  pub memory : e ≡ search.OutOfMemory
+
+-- why a call is refused at the unit at place `j`: the step on it is; or, where states are kept, the one behind it can't be
+-- held
+abbrev pub IsRefusalAt : Keeping → Direction → Machine → Stored → Input → ℕ → SearchError → Type 0
+IsRefusalAt Ids way m c input j e = IsUnitRefusal way m c input j e
+IsRefusalAt States way m c input j e = IsUnitRefusal way m c input j e ⊎ IsUnheld way m input j e
+
+-- why a call is refused that was to tell the pair behind the first `k`: it isn't gone on with, or it is refused at a unit
+-- that it reads, no quit byte having been met before; the units before tell these `k` pairs
+abbrev pub IsWalkRefusal : Keeping → Direction → Machine → Stored → Input → Walk → ℕ → SearchError → Type 0
+IsWalkRefusal keeping way m c input w k e =
     (input.start ≤ input.end)
     × ((HasToldBy way m input w.units k × IsResumeRefusal way m c input w.stage w.units e)
     ⊎ (MayStart m input.anchored (tape_in way input).before
     × ((j : ℕ) × (w.units ≤ j) × WalkReads way m input j × HasReadNoQuit way m input j × HasToldBy way m input j k
-    × IsUnitRefusal way m c input j e)))
+    × IsRefusalAt keeping way m c input j e)))
 
 -- the units from one place of a pass to another tell a walk nothing
 abbrev pub IsSilent : Direction → Machine → Input → (from to : ℕ) → Type 0
@@ -176,15 +191,6 @@ abbrev pub HasItsState : Rows → Stage → Type 0
 HasItsState t Fresh = Unit {0}
 HasItsState t (At q) = Has t q
 HasItsState t Ended = Unit {0}
-
--- the ID, where there is one, is that of the state at which a walk stands
-abbrev pub IsNamedAt : Rows → Stage → Option ℕ → Type 0
-IsNamedAt t stage None = Unit {0}
-IsNamedAt t stage (Some id) = (q : Powerset) × (stage ≡ At q) × Names t id q
-
--- a walk can go on by an ID, or else by its state, which isn't lost
-abbrev pub CanGoOn : Walk → Option ℕ → Type 0
-CanGoOn w at = at ≡ None → w.lost ≡ false
 
 -- a call found no match, or the walk has read more units, or has told one pattern more
 abbrev pub GoesOn : Walk → Walk → Type 0

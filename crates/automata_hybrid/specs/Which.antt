@@ -11,7 +11,7 @@ use Rattle.automata_hybrid.specs.Stores.{Stored}
 use Rattle.automata_hybrid.specs.Machine.{Machine}
 use Rattle.automata_hybrid.specs.SearchedWalks.{IsOpenAfter}
 use Rattle.automata_hybrid.specs.Walking.{AreWalked, HasTold, IsWalkRefusal}
-use Rattle.automata_hybrid.specs.Walks.{Walk}
+use Rattle.automata_hybrid.specs.Walks.{Ids, Walk}
 
 -- a set joined with the patterns of these pairs that are below its capacity
 abbrev pub IsJoined : List Pair → (old new : List Bool) → Type 0
@@ -23,6 +23,6 @@ IsJoined pairs old new =
 abbrev pub IsWhichRefusal : Machine → Stored → Input → (old new : List Bool) → SearchError → Type 0
 IsWhichRefusal m c input old new e =
     (walk : Walk) × (k : ℕ) × HasTold Forward m input walk k
-    × IsWalkRefusal Forward m c input walk k e
+    × IsWalkRefusal Ids Forward m c input walk k e
     × ((pairs : List Pair) → AreWalked Forward m input pairs → IsJoined (take k pairs) old new)
     × IsOpenAfter m input old k

@@ -1,5 +1,5 @@
 -- Calls of a walk, by how many have answered before.
-use Rattle.std.proofs.Common.{◌≡◌, ◌∙◌, ◌+◌, ℕ, Bool, true, false, List, Option, Ok, Err, IfSome, add-one, ap, arith, inl, inr, refl, subst, sym}
+use Rattle.std.proofs.Common.{◌≡◌, ◌∙◌, ◌+◌, ℕ, false, List, Option, Ok, Err, IfSome, add-one, ap, arith, inl, inr, refl, subst, sym}
 use Rattle.automata_base.specs.Answers.{IsOverlapping}
 use Rattle.automata_base.specs.Engines.{engine_of}
 use Rattle.automata_base.specs.Input.{Input}
@@ -18,7 +18,7 @@ use Rattle.automata_hybrid.specs.Starting.{MayStart}
 use Rattle.automata_hybrid.specs.Walking.{HasTold, HasToldAt, TellsNext, half_nth}
 use Rattle.automata_hybrid.specs.Walks.{At, Ended, Fresh, Stage, Walk, fresh_walk, without_match}
 use Rattle.automata_hybrid.specs.Within.{LiesIn}
-use Rattle.regex_automata.specs.Owing.{IsStep, MayRefuseStep}
+use Rattle.regex_automata.specs.Owing.{IsStep}
 use Rattle.regex_automata.specs.Players.{HasAnswered}
 use Rattle.automata_config.specs.Options.{match_kind_of}
 
@@ -62,27 +62,19 @@ module _ (way : Direction) (m : Machine) (input : Input) (old : Walk) (k : ℕ) 
       })
 
   -- one that is refused
-  step_error :
-      (b : Bool) → old.lost ≡ b → (e : SearchError)
-      → (old.lost ≡ false → (j : ℕ) → HasTold way m input old j → MayRefuseCall way m input old j e)
-      → (old.lost ≡ true → IsMemory e) → MayRefuseStep way m input k e
-  step_error true is e errors lost = inl (lost is)
-  step_error false is e errors lost = inr (old, h.told, errors is k h.told)
-
   pub step_refused :
       (e : SearchError)
-      → (old.lost ≡ false → (j : ℕ) → HasTold way m input old j → MayRefuseCall way m input old j e)
-      → (old.lost ≡ true → IsMemory e)
+      → ((j : ℕ) → HasTold way m input old j → MayRefuseCall way m input old j e)
       → (old.stage ≡ Ended → ⊥)
       → (old.stage ≡ Fresh → IsUnsupported way m input → e ≡ unsupported_error input)
       → (IsUnhindered m input → IsMemory e)
       → IsStep way m input k (Err e)
-  step_refused e errors lost goes_on unsupported free = record {
+  step_refused e errors goes_on unsupported free = record {
     pair = tt;
     paths = λ acyclic. tt;
     clean = tt;
     within = tt;
-    errors = step_error old.lost refl e errors lost;
+    errors = (old, h.told, errors k h.told);
     ended = λ pairs all lt. goes_on (h.ended pairs all lt);
     unsupported = λ u. ap Err (unsupported (still_fresh way m input old.stage old.units old.told k h.told u) u);
     free = free;

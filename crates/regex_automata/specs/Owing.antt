@@ -36,11 +36,9 @@ use Rattle.automata_config.specs.Options.{match_kind_of}
 abbrev pub AreStoresOf : Cache → Regex → Type 0
 AreStoresOf c p = IsStoreOf c.forward.store p.forward × IsStoreOf c.reverse.store p.reverse
 
--- some cache of the DFA, within its settings, refuses a call of a walk that has told so many pairs; or memory is
--- wanting
+-- some cache of the DFA, within its settings, refuses a call of a walk that has told so many pairs
 abbrev pub MayRefuseStep : Direction → Machine → Input → (told : ℕ) → SearchError → Type 0
-MayRefuseStep way m input told e =
-    IsMemory e ⊎ ((w : Walk) × HasTold way m input w told × MayRefuseCall way m input w told e)
+MayRefuseStep way m input told e = (w : Walk) × HasTold way m input w told × MayRefuseCall way m input w told e
 
 -- what a call of a walk answers after so many that answered Ok
 pub record IsStep (way : Direction) (m : Machine) (input : Input) (told : ℕ)

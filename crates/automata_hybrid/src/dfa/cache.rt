@@ -15,20 +15,21 @@ ghost use Rattle.automata_hybrid.specs.Caches.{IsRow, IsCacheOf, fresh_cache, co
 ghost use Rattle.automata_hybrid.specs.Growing.{IsGrown, KeepsProgress};
 ghost use Rattle.automata_hybrid.specs.Owing.{IsStoreOf};
 ghost use Rattle.automata_hybrid.specs.Walking.{IsRowState};
-ghost use Rattle.automata_hybrid.specs.Walks.{HasKey, state_held};
+ghost use Rattle.automata_hybrid.specs.Walks.{IsHandle};
 ghost use Rattle.automata_hybrid.specs.Progressing.{started, updated, finished, total_len};
 ghost use Rattle.automata_config.specs.Options.{match_kind_of};
 
 use crate::dfa::store::Store;
 use crate::dfa::{DFA, row};
 use crate::id::LazyStateID;
-use crate::search::walk::Held;
+use crate::search::walk::Handle;
 use automata_base::util::determinize::{Key, Scratch, State, next_key, start_key};
 use automata_base::util::primitives::PatternID;
 use automata_base::util::search::Anchored;
 use automata_config::error::StepError;
 use std::alloc::AllocError;
 use std::marker::Model;
+use std::snapshot::Snapshot;
 
 /// What a look-up of a state gives.
 #[derive(Drop)]
@@ -128,15 +129,22 @@ impl Cache {
         self.store.get(key)
     }
 
-    /// A handle on the state of a row. It takes no memory.
-    pub(crate) fn hold(&self, id: LazyStateID) -> Held
+    /// A handle on the state of a row. It takes no memory. It is refused only where no user more can be counted.
+    pub(crate) fn handle(&self, id: LazyStateID) -> Result<Handle, AllocError>
         requires { IsValid self.now.store.table id }
-        ensures state { (q : Powerset) → Names self.now.store.table id q → state_held result ≡ q }
-        ensures key { HasKey result }
-        ensures row { IsRowState self.now.store.table.of (state_held result) }
+        ensures { IfOk result (λ handle. (q : Powerset) → Names self.now.store.table id q → IsHandle handle q) }
+    {
+        Handle::of(self.store.state(id))
+    }
+
+    /// The state of a row, which contracts alone see.
+    pub(crate) fn snapshot(&self, id: LazyStateID) -> Snapshot<State>
+        requires { IsValid self.now.store.table id }
+        ensures state { (q : Powerset) → Names self.now.store.table id q → result.value ≡ q }
+        ensures row { IsRowState self.now.store.table.of result.value }
     {
         self.see_ids();
-        Held::of(self.store.state(id))
+        Snapshot::of(self.store.state(id))
     }
 
     /// Adds a state again that a clear took. A refusal changes nothing.

@@ -1,27 +1,27 @@
 //! Overlapping walks: each call tells the next match, over whatever caches of the DFA.
-ghost use Rattle.std.specs.Prelude.{ℕ, ◌≡◌, ◌+◌, ◌-◌, ◌<◌, ◌≤◌, ◌^◌, IfOk, IfErr, IfNone, IfSome, OnErr};
-ghost use Rattle.std.specs.Prelude.{None, true, false, length, slice_index};
+ghost use Rattle.std.specs.Prelude.{ℕ, ◌≡◌, ◌+◌, ◌-◌, ◌<◌, ◌≤◌, ◌^◌, IfOk, IfErr, IfNone, IfSome, OnOk, OnErr};
+ghost use Rattle.std.specs.Prelude.{length, slice_index};
 ghost use Rattle.automata_base.specs.Powerset.{Powerset};
 ghost use Rattle.automata_base.specs.Tapes.{Forward, Backward};
 ghost use Rattle.automata_hybrid.specs.Stores.{IsCacheError};
 ghost use Rattle.automata_hybrid.specs.Usage.{GivesUp};
 ghost use Rattle.automata_hybrid.specs.Caches.{IsCacheOf};
 ghost use Rattle.automata_hybrid.specs.OwingWalks.{IsCallEffect, IsWalkCall};
-ghost use Rattle.automata_hybrid.specs.Resuming.{CanResume, IsCallAnswer, IsCallRefused, IsPutBackEffect};
-ghost use Rattle.automata_hybrid.specs.Resuming.{IsResumeAnswer, IsResumeEffect, ReadsOn, resumed};
+ghost use Rattle.automata_hybrid.specs.Resuming.{HoldsOn, IsCallAnswer, IsCallRefused, IsHeldWalk, IsPutBackEffect};
+ghost use Rattle.automata_hybrid.specs.Resuming.{IsKeptWalk, IsResumeAnswer, IsResumeEffect, ReadsOn};
 ghost use Rattle.automata_hybrid.specs.Searches.{tape_in};
 ghost use Rattle.automata_hybrid.specs.Starting.{MayStart};
 ghost use Rattle.automata_hybrid.specs.Table.{Names};
-ghost use Rattle.automata_hybrid.specs.Walking.{Arrives, CanGoOn, HasTold, HasToldBy, IsNamedAt};
+ghost use Rattle.automata_hybrid.specs.Walking.{Arrives, HasTold, HasToldBy};
 ghost use Rattle.automata_hybrid.specs.Walking.{IsResumeRefusal, IsRowState, IsWalkOf, IsWalkRefusal, TellsNext};
-ghost use Rattle.automata_hybrid.specs.Walks.{At, Fresh, way_of, without_match};
+ghost use Rattle.automata_hybrid.specs.Walks.{At, Ended, IsHeldAt, States, keeping_of, way_of, without_match};
 
 use crate::dfa::DFA;
 use crate::dfa::cache::Cache;
 use crate::id::LazyStateID;
 use crate::search::refusal;
 use crate::search::units::{last_place, place_offset, span_offset};
-use crate::search::walk::{OverlappingState, Way};
+use crate::search::walk::{Cursor, Handle, Held, OverlappingState, Way};
 use automata_base::laws::walk_is_right;
 use automata_base::util::primitives::PatternID;
 use automata_base::util::search::{HalfMatch, Input};
@@ -46,11 +46,11 @@ impl DFA {
 
         // What it answers, whatever the cache; and why this one refuses.
         ensures call { IsWalkCall Forward self.now input.now state.old state.new result }
-        ensures refusal { state.old.lost ≡ false → (k : ℕ) → HasTold Forward self.now input.now state.old k
-            → IfErr result (IsWalkRefusal Forward self.now cache.new.store input.now state.old k) }
+        ensures refusal { (k : ℕ) → HasTold Forward self.now input.now state.old k
+            → IfErr result (IsWalkRefusal States Forward self.now cache.new.store input.now state.old k) }
 
         // What it makes of the cache.
-        ensures effect { IsCallEffect Forward self.now input.now state.old state.new cache.old cache.new result }
+        ensures effect { IsCallEffect States Forward self.now input.now state.old state.new cache.old cache.new result }
     {
         self.call(cache, input, Way::Forward, state)
     }
@@ -70,48 +70,45 @@ impl DFA {
 
         // What it answers, whatever the cache; and why this one refuses.
         ensures call { IsWalkCall Backward self.now input.now state.old state.new result }
-        ensures refusal { state.old.lost ≡ false → (k : ℕ) → HasTold Backward self.now input.now state.old k
-            → IfErr result (IsWalkRefusal Backward self.now cache.new.store input.now state.old k) }
+        ensures refusal { (k : ℕ) → HasTold Backward self.now input.now state.old k
+            → IfErr result (IsWalkRefusal States Backward self.now cache.new.store input.now state.old k) }
 
         // What it makes of the cache.
-        ensures effect { IsCallEffect Backward self.now input.now state.old state.new cache.old cache.new result }
+        ensures effect { IsCallEffect States Backward self.now input.now state.old state.new cache.old cache.new result }
     {
         self.call(cache, input, Way::Backward, state)
     }
 
-    /// The ID of the state that a walk holds, which is added again where the cache lacks it.
-    fn put_back(&self, cache: &mut Cache, walk: &OverlappingState) -> Result<LazyStateID, StepError>
+    /// The ID of a state that a walk holds, which is added again where the cache lacks it.
+    fn put_back(&self, cache: &mut Cache, handle: &Handle) -> Result<LazyStateID, StepError>
         requires of { IsCacheOf cache.old self.now }
-        requires kept { walk.now.lost ≡ false }
-        requires state { (q : Powerset) × (walk.now.stage ≡ At q) × IsRowState self.now q }
+        requires key { handle.now.key ≡ handle.now.state }
+        requires state { IsRowState self.now handle.now.state }
         ensures of { IsCacheOf cache.new self.now }
-        ensures named { IfOk result (λ id. (q : Powerset) → walk.now.stage ≡ At q → Names cache.new.store.table id q) }
-        ensures gives_up { IfErr result (λ e. IsCacheError e → (q : Powerset) → walk.now.stage ≡ At q
-            → GivesUp cache.old.store q) }
+        ensures named { IfOk result (λ id. Names cache.new.store.table id handle.now.state) }
+        ensures gives_up { IfErr result (λ e. IsCacheError e → GivesUp cache.old.store handle.now.state) }
         ensures err { OnErr result (cache.new ≡ cache.old) }
-        ensures effect { IsPutBackEffect walk.now.stage cache.old cache.new result }
+        ensures effect { IsPutBackEffect handle.now.state cache.old cache.new result }
     {
-        if let Some(id) = walk.find_in(cache) {
+        if let Some(id) = cache.find(&handle.key) {
             return Ok(id);
         }
-        let state = walk.state()?;
+        let state = handle.state.clone()?;
         let id = cache.add_again(self, state)?;
         Ok(id)
     }
 
-    /// The ID of the state that a walk goes on from: its start, the one that is given, or that of the state that it
-    /// holds.
+    /// The ID of the state that a walk goes on from: its start, or what is held of its state.
     fn resume(
         &self,
         cache: &mut Cache,
         input: &Input<'_>,
         way: Way,
-        walk: &OverlappingState,
-        at: &Option<LazyStateID>,
+        walk: &Cursor,
+        held: &Held,
     ) -> Result<LazyStateID, SearchError>
         requires of { IsCacheOf cache.old self.now }
-        requires at { CanResume cache.old.store.table walk.now at.now }
-        requires walk { ReadsOn (way_of way) self.now input.now walk.now }
+        requires walk { ReadsOn (way_of way) self.now input.now cache.old.store.table walk.now held.now }
         ensures of { IsCacheOf cache.new self.now }
         ensures answer { IfOk result
             (IsResumeAnswer (way_of way) self.now input.now walk.now cache.new.store) }
@@ -123,54 +120,61 @@ impl DFA {
             cache.see_slots();
             return self.walk_start(cache, input, way);
         }
-        if let Some(id) = at {
-            return Ok(*id);
-        }
-        match self.put_back(cache, walk) {
-            Ok(id) => Ok(id),
-            Err(error) => Err(refusal(error, span_offset(input, way, walk.units()))),
+        match held {
+            Held::Row(Some(id)) => Ok(*id),
+            Held::State(Some(handle)) => match self.put_back(cache, handle) {
+                Ok(id) => Ok(id),
+                Err(error) => Err(refusal(error, span_offset(input, way, walk.units()))),
+            },
+            Held::Row(None) | Held::State(None) => Err(SearchError::OutOfMemory),
         }
     }
 
-    /// Goes on with a walk that has told all of where it stands, to the next pair, and answers the ID of the state
-    /// there.
+    /// Goes on with a walk that has told all of where it stands, to the next pair. Its new state is held before the
+    /// search ends.
     fn walk_on(
         &self,
         cache: &mut Cache,
         input: &Input<'_>,
         way: Way,
-        walk: &mut OverlappingState,
-        at: &Option<LazyStateID>,
-    ) -> Result<Option<LazyStateID>, SearchError>
+        walk: &mut Cursor,
+        held: &mut Held,
+    ) -> Result<(), SearchError>
         requires of { IsCacheOf cache.old self.now }
-        requires at { CanResume cache.old.store.table walk.old at.now }
-        requires walk { ReadsOn (way_of way) self.now input.now walk.old }
+        requires walk { ReadsOn (way_of way) self.now input.now cache.old.store.table walk.old held.old }
         ensures of { IsCacheOf cache.new self.now }
-        ensures answer { IfOk result (IsCallAnswer (way_of way) self.now input.now (resumed walk.old at.now) walk.new
-            cache.old.store cache.new.store) }
-        ensures err { OnErr result (walk.new ≡ walk.old) }
+        ensures answer { OnOk result
+            (IsCallAnswer (way_of way) self.now input.now walk.old walk.new cache.old.store cache.new.store) }
+        ensures held { OnOk result (HoldsOn cache.new.store.table walk.new held.old held.new) }
+        ensures err { OnErr result ((walk.new ≡ walk.old) × (held.new ≡ held.old)) }
         ensures refusal { IfErr result
-            (IsCallRefused (way_of way) self.now input.now (resumed walk.old at.now) cache.new.store) }
-        ensures effect { IsCallEffect (way_of way) self.now input.now (resumed walk.old at.now) walk.new
+            (IsCallRefused (keeping_of held.old) (way_of way) self.now input.now walk.old cache.new.store) }
+        ensures effect { IsCallEffect (keeping_of held.old) (way_of way) self.now input.now walk.old walk.new
             cache.old cache.new result }
     {
         self.see_skips();
         let _haystack = input.haystack();
-        let from = self.resume(cache, input, way, walk, at)?;
+        let from = self.resume(cache, input, way, walk, held)?;
         let place = span_offset(input, way, walk.units());
         cache.search_start(place);
         cache.see_ids();
         if from.is_dead() {
             cache.end_search(place);
             walk.end(walk.units());
-            return Ok(None);
+            return Ok(());
         }
         let arrival = self.advance(cache, input, way, from, walk.units())?;
-        match arrival.id {
-            None => walk.end(arrival.units),
-            Some(id) => self.stand(cache, input, way, walk, id, arrival.units),
-        }
-        Ok(arrival.id)
+        let last = span_offset(input, way, arrival.units - 1);
+        let Some(id) = arrival.id else {
+            cache.end_search(last);
+            walk.end(arrival.units);
+            return Ok(());
+        };
+        let next = held.of_row(cache, id)?;
+        cache.end_search(last);
+        self.stand(cache, input, way, walk, id, arrival.units);
+        *held = next;
+        Ok(())
     }
 
     /// Takes a walk to a state that tells patterns, and tells the first one.
@@ -179,7 +183,7 @@ impl DFA {
         cache: &Cache,
         input: &Input<'_>,
         way: Way,
-        walk: &mut OverlappingState,
+        walk: &mut Cursor,
         id: LazyStateID,
         units: usize,
     )
@@ -195,7 +199,7 @@ impl DFA {
     {
         let at = place_offset(input, way, units - 1);
         let half = HalfMatch::new(cache.match_pattern(id, 0), at);
-        walk.go_to(cache.hold(id), units);
+        walk.go_to(cache.snapshot(id), units);
         walk.tell(half);
     }
 
@@ -212,14 +216,40 @@ impl DFA {
         ensures of { IsCacheOf cache.new self.now }
         ensures walk { IsWalkOf (way_of way) self.now input.now walk.new }
         ensures call { IsWalkCall (way_of way) self.now input.now walk.old walk.new result }
-        ensures refusal { walk.old.lost ≡ false → (k : ℕ) → HasTold (way_of way) self.now input.now walk.old k
-            → IfErr result (IsWalkRefusal (way_of way) self.now cache.new.store input.now walk.old k) }
-        ensures effect { IsCallEffect (way_of way) self.now input.now walk.old walk.new cache.old cache.new result }
+        ensures refusal { (k : ℕ) → HasTold (way_of way) self.now input.now walk.old k
+            → IfErr result (IsWalkRefusal States (way_of way) self.now cache.new.store input.now walk.old k) }
+        ensures effect { IsCallEffect States (way_of way) self.now input.now walk.old walk.new
+            cache.old cache.new result }
+    {
+        self.call_held(cache, input, way, &mut walk.cursor, &mut walk.held)
+    }
+
+    /// The same of its two parts.
+    fn call_held(
+        &self,
+        cache: &mut Cache,
+        input: &Input<'_>,
+        way: Way,
+        walk: &mut Cursor,
+        held: &mut Held,
+    ) -> Result<(), SearchError>
+        requires of { IsCacheOf cache.old self.now }
+        requires walk { IsKeptWalk (way_of way) self.now input.now walk.old held.old }
+        ensures of { IsCacheOf cache.new self.now }
+        ensures walk { IsKeptWalk (way_of way) self.now input.now walk.new held.new }
+        ensures call { IsWalkCall (way_of way) self.now input.now walk.old walk.new result }
+        ensures refusal { (k : ℕ) → HasTold (way_of way) self.now input.now walk.old k
+            → IfErr result (IsWalkRefusal States (way_of way) self.now cache.new.store input.now walk.old k) }
+        ensures effect { IsCallEffect States (way_of way) self.now input.now walk.old walk.new
+            cache.old cache.new result }
     {
         walk_is_right(self.get_nfa());
         let _haystack = input.haystack();
-        match self.go_on(cache, input, way, walk, &None) {
-            Ok(_) => Ok(()),
+        match self.go_on(cache, input, way, walk, held) {
+            Ok(()) => {
+                held.release(walk);
+                Ok(())
+            }
             Err(error) => {
                 cache.see_bounds();
                 Err(error)
@@ -227,82 +257,73 @@ impl DFA {
         }
     }
 
-    /// One call of a walk, which goes on by the ID of its state, where that is given, and else by the state that it
-    /// holds. It answers the ID of the state where the walk stands then.
+    /// One call of a walk, by what is held of its state.
     pub(crate) fn go_on(
         &self,
         cache: &mut Cache,
         input: &Input<'_>,
         way: Way,
-        walk: &mut OverlappingState,
-        at: &Option<LazyStateID>,
-    ) -> Result<Option<LazyStateID>, SearchError>
+        walk: &mut Cursor,
+        held: &mut Held,
+    ) -> Result<(), SearchError>
         requires of { IsCacheOf cache.old self.now }
-        requires at { IsNamedAt cache.old.store.table walk.old.stage at.now }
-        requires walk { IsWalkOf (way_of way) self.now input.now walk.old }
+        requires walk { IsHeldWalk (way_of way) self.now input.now cache.old.store.table walk.old held.old }
         ensures of { IsCacheOf cache.new self.now }
-        ensures answer { IfOk result (IsCallAnswer (way_of way) self.now input.now (resumed walk.old at.now) walk.new
-            cache.old.store cache.new.store) }
-        ensures err { OnErr result (walk.new ≡ without_match walk.old) }
+        ensures answer { OnOk result
+            (IsCallAnswer (way_of way) self.now input.now walk.old walk.new cache.old.store cache.new.store) }
+        ensures held { OnOk result (HoldsOn cache.new.store.table walk.new held.old held.new) }
+        ensures err { OnErr result ((walk.new ≡ without_match walk.old) × (held.new ≡ held.old)) }
         ensures refusal { IfErr result
-            (IsCallRefused (way_of way) self.now input.now (resumed walk.old at.now) cache.new.store) }
-        ensures effect { IsCallEffect (way_of way) self.now input.now (resumed walk.old at.now) walk.new
+            (IsCallRefused (keeping_of held.old) (way_of way) self.now input.now walk.old cache.new.store) }
+        ensures effect { IsCallEffect (keeping_of held.old) (way_of way) self.now input.now walk.old walk.new
             cache.old cache.new result }
     {
         walk.forget_match();
         if walk.has_ended() {
-            return Ok(None);
+            return Ok(());
         }
         if input.is_done() {
             walk.end(walk.units());
-            return Ok(None);
+            return Ok(());
         }
-        if is_stuck(walk, at) {
-            return Err(SearchError::OutOfMemory);
-        }
-        if let Some(pattern) = self.next_pattern(cache, walk, at) {
+        if let Some(pattern) = self.next_pattern(cache, walk, held) {
             let place = place_offset(input, way, walk.units() - 1);
             walk.tell(HalfMatch::new(pattern, place));
-            return Ok(*at);
+            return Ok(());
         }
         if walk.units() > last_place(input) {
             walk.end(walk.units());
-            return Ok(None);
+            return Ok(());
         }
-        self.walk_on(cache, input, way, walk, at)
+        self.walk_on(cache, input, way, walk, held)
     }
 
-    /// The pattern that a walk tells next at the state where it stands, by the ID of that state, or by the state
-    /// itself.
-    fn next_pattern(
-        &self,
-        cache: &Cache,
-        walk: &OverlappingState,
-        at: &Option<LazyStateID>,
-    ) -> Option<PatternID>
-        requires at { IsNamedAt cache.now.store.table walk.now.stage at.now }
-        requires kept { CanGoOn walk.now at.now }
+    /// The pattern that a walk tells next at the state where it stands.
+    fn next_pattern(&self, cache: &Cache, walk: &Cursor, held: &Held) -> Option<PatternID>
+        requires on { walk.now.stage ≡ Ended → ⊥ }
+        requires held { IsHeldAt cache.now.store.table walk.now.stage held.now }
         ensures left { IfSome result (λ p. (q : Powerset) × (walk.now.stage ≡ At q)
             × (walk.now.told < length q.patterns) × (p ≡ slice_index q.patterns walk.now.told)) }
         ensures room { IfSome result (λ p. walk.now.told + 1 < 2 ^ 64) }
         ensures none { IfNone result ((q : Powerset) → walk.now.stage ≡ At q → length q.patterns ≤ walk.now.told) }
     {
-        let Some(id) = at else {
-            return walk.next_pattern();
-        };
         let told = walk.told();
-        if told >= cache.match_len(*id) {
-            return None;
+        match held {
+            Held::Row(Some(id)) => {
+                if told < cache.match_len(*id) {
+                    Some(cache.match_pattern(*id, told))
+                } else {
+                    None
+                }
+            }
+            Held::State(Some(handle)) => {
+                if told < handle.state.match_len() {
+                    Some(handle.state.match_pattern(told))
+                } else {
+                    None
+                }
+            }
+            Held::Row(None) | Held::State(None) => None,
         }
-        Some(cache.match_pattern(*id, told))
     }
-}
-
-/// Whether a walk has lost its state, and there is no ID of it.
-fn is_stuck(walk: &OverlappingState, at: &Option<LazyStateID>) -> bool
-    ensures yes { result ≡ true → (at.now ≡ None) × (walk.now.lost ≡ true) }
-    ensures no { result ≡ false → CanGoOn walk.now at.now }
-    ensures begun { result ≡ true → walk.now.stage ≡ Fresh → ⊥ }
-{
-    at.is_none() && walk.is_lost()
 }

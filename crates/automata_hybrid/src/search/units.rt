@@ -260,7 +260,8 @@ impl DFA {
         }
     }
 
-    /// Goes on over the units of a walk from a state that it stands at, to the next one that tells patterns.
+    /// Goes on over the units of a walk from a state that it stands at, to the next one that tells patterns. The search
+    /// stays open at the last unit that is read.
     pub(crate) fn advance(
         &self,
         cache: &mut Cache,
@@ -285,17 +286,14 @@ impl DFA {
         while read <= last {
             let stop = self.follow(cache, input, way, id, read);
             let next = self.read_unit(cache, input, way, stop.id, stop.at)?;
-            let at = span_offset(input, way, stop.at);
             cache.see_ids();
             if next.is_dead() {
-                cache.end_search(at);
                 return Ok(Arrival {
                     id: None,
                     units: stop.at + 1,
                 });
             }
             if self.tells(cache, input, way, next, stop.at) {
-                cache.end_search(at);
                 return Ok(Arrival {
                     id: Some(next),
                     units: stop.at + 1,
@@ -304,7 +302,6 @@ impl DFA {
             id = next;
             read = stop.at + 1;
         }
-        cache.end_search(span_offset(input, way, last));
         Ok(Arrival {
             id: None,
             units: read,

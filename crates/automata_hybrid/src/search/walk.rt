@@ -1,14 +1,13 @@
-ghost use Rattle.std.specs.Prelude.{ℕ, ◌≡◌, ◌+◌, ◌<◌, ◌≤◌, ◌^◌, IfOk, IfSome, IfNone, Option, None, Some, true, false};
-ghost use Rattle.std.specs.Prelude.{length, slice_index, suc};
+ghost use Rattle.std.specs.Prelude.{ℕ, ◌≡◌, ◌+◌, ◌<◌, ◌≤◌, ◌^◌, IfOk, IfSome, IfNone, OnErr, true, false};
+ghost use Rattle.std.specs.Prelude.{length, slice_index, suc, None};
 ghost use Rattle.automata_base.specs.Powerset.{Powerset};
-ghost use Rattle.automata_hybrid.specs.Table.{id_of};
-ghost use Rattle.automata_hybrid.specs.Walks.{At, Ended, Fresh, ended_walk, fresh_walk, is_lost, state_held};
-ghost use Rattle.automata_hybrid.specs.Walks.{with_match, without_match, HasKey};
+ghost use Rattle.automata_hybrid.specs.Table.{IsValid, Names};
+ghost use Rattle.automata_hybrid.specs.Walks.{At, Ended, Fresh, States, ended_walk, fresh_walk, keeping_of};
+ghost use Rattle.automata_hybrid.specs.Walks.{Holds, HoldsNone, IsHandle, IsHeldItself, with_match, without_match};
 
 use crate::dfa::cache::Cache;
 use crate::id::LazyStateID;
 use automata_base::util::determinize::{Key, State};
-use automata_base::util::primitives::PatternID;
 use automata_base::util::search::HalfMatch;
 use std::alloc::AllocError;
 use std::marker::Model;
@@ -21,70 +20,108 @@ pub(crate) enum Way {
     Backward,
 }
 
-/// A powerset state with its key in the map of a cache. Where no user more could be counted it is lost, and contracts
-/// alone know it.
+/// A powerset state, shared with the rows of caches, and its key in their maps.
 #[derive(Drop)]
-pub(crate) enum Held {
-    Kept(State, Key),
-    Lost(Snapshot<State>),
+pub(crate) struct Handle {
+    pub(crate) state: State,
+    pub(crate) key: Key,
 }
 
-impl Held {
-    /// A handle on a state. It takes no memory.
-    pub(crate) fn of(state: &State) -> Held
-        ensures state { state_held result ≡ state.now }
-        ensures key { HasKey result }
-    {
-        match Held::share(state) {
-            Ok(held) => held,
-            Err(_) => Held::Lost(Snapshot::of(state)),
-        }
-    }
-
-    fn share(state: &State) -> Result<Held, AllocError>
-        ensures state { IfOk result (λ held. state_held held ≡ state.now) }
-        ensures key { IfOk result HasKey }
-        ensures kept { IfOk result (λ held. is_lost held ≡ false) }
+impl Handle {
+    /// It takes no memory. It is refused only where no user more of the state can be counted.
+    pub(crate) fn of(state: &State) -> Result<Handle, AllocError>
+        ensures { IfOk result (λ handle. IsHandle handle state.now) }
     {
         let key = state.key()?;
         let state = state.clone()?;
-        Ok(Held::Kept(state, key))
+        Ok(Handle { state, key })
     }
 }
 
-/// Where a walk stands.
+/// What is held of the state where a walk stands: the state itself; or the ID of its row, in a walk that is over with its
+/// call.
+#[derive(Drop)]
+pub(crate) enum Held {
+    State(Option<Handle>),
+    Row(Option<LazyStateID>),
+}
+
+impl Held {
+    /// The same once more.
+    fn share(&self) -> Result<Held, AllocError>
+        ensures keeping { IfOk result (λ held. keeping_of held ≡ keeping_of self.now) }
+        ensures none { IfOk result (λ held. HoldsNone self.now → HoldsNone held) }
+        ensures itself { IfOk result (λ held. (q : Powerset) → IsHeldItself (At q) self.now → IsHeldItself (At q) held) }
+    {
+        match self {
+            Held::State(Some(handle)) => {
+                let again = Handle::of(&handle.state)?;
+                Ok(Held::State(Some(again)))
+            }
+            Held::State(None) => Ok(Held::State(None)),
+            Held::Row(id) => Ok(Held::Row(*id)),
+        }
+    }
+
+    /// Lets the state go of a walk that has ended.
+    pub(crate) fn release(&mut self, walk: &Cursor)
+        requires { IsHeldItself walk.now.stage self.old }
+        ensures { IsHeldItself walk.now.stage self.new }
+    {
+        if walk.has_ended() {
+            *self = Held::State(None);
+        }
+    }
+
+    /// The state of a row, held in the same way.
+    pub(crate) fn of_row(&self, cache: &Cache, id: LazyStateID) -> Result<Held, AllocError>
+        requires { IsValid cache.now.store.table id }
+        ensures holds { IfOk result (λ held. (q : Powerset) → Names cache.now.store.table id q
+            → Holds cache.now.store.table held q) }
+        ensures keeping { IfOk result (λ held. keeping_of held ≡ keeping_of self.now) }
+        ensures refused { OnErr result (keeping_of self.now ≡ States) }
+    {
+        match self {
+            Held::Row(_) => Ok(Held::Row(Some(id))),
+            Held::State(_) => {
+                let handle = cache.handle(id)?;
+                Ok(Held::State(Some(handle)))
+            }
+        }
+    }
+}
+
+/// Where a walk stands. Its state contracts alone know.
 #[derive(Drop)]
 enum Stage {
     Fresh,
-    At(Held),
+    At(Snapshot<State>),
     Ended,
 }
 
-/// How far an overlapping walk is: of one DFA, one input and one direction, over whatever cache of that DFA.
+/// How far a walk is, without what it holds.
 #[derive(Drop)]
-pub struct OverlappingState {
+pub(crate) struct Cursor {
     stage: Stage,
     units: usize,
     told: usize,
     found: Option<HalfMatch>,
 }
 
-impl Model for OverlappingState {
-    ghost use Rattle.automata_hybrid.specs.Walks.{Walk, walk_of, stage_has_key};
+impl Model for Cursor {
+    ghost use Rattle.automata_hybrid.specs.Walks.{Walk, walk_of};
 
     ghost Value = { Walk };
 
     ghost view = { walk_of };
-
-    ghost invariant = { λ s. stage_has_key s.stage };
 }
 
-impl OverlappingState {
+impl Cursor {
     /// A walk that hasn't begun.
-    pub fn start() -> OverlappingState
+    pub(crate) fn start() -> Cursor
         ensures { result ≡ fresh_walk }
     {
-        OverlappingState {
+        Cursor {
             stage: Stage::Fresh,
             units: 0,
             told: 0,
@@ -93,7 +130,7 @@ impl OverlappingState {
     }
 
     /// The match that the last call found.
-    pub fn get_match(&self) -> Option<HalfMatch>
+    pub(crate) fn get_match(&self) -> Option<HalfMatch>
         ensures { result ≡ self.now.found }
     {
         self.found
@@ -133,58 +170,6 @@ impl OverlappingState {
         }
     }
 
-    /// Whether it lost its state, which it then had.
-    pub(crate) fn is_lost(&self) -> bool
-        ensures lost { result ≡ self.now.lost }
-        ensures begun { result ≡ true → self.now.stage ≡ Fresh → ⊥ }
-    {
-        match &self.stage {
-            Stage::At(Held::Lost(_)) => true,
-            Stage::At(Held::Kept(_, _)) | Stage::Fresh | Stage::Ended => false,
-        }
-    }
-
-    /// The pattern of its state that is told next, if one is left.
-    pub(crate) fn next_pattern(&self) -> Option<PatternID>
-        requires { self.now.lost ≡ false }
-        ensures left { IfSome result (λ p. (q : Powerset) × (self.now.stage ≡ At q)
-            × (self.now.told < length q.patterns) × (p ≡ slice_index q.patterns self.now.told)) }
-        ensures room { IfSome result (λ p. self.now.told + 1 < 2 ^ 64) }
-        ensures none { IfNone result ((q : Powerset) → self.now.stage ≡ At q → length q.patterns ≤ self.now.told) }
-    {
-        match &self.stage {
-            Stage::At(Held::Kept(state, _)) => {
-                if self.told < state.match_len() {
-                    Some(state.match_pattern(self.told))
-                } else {
-                    None
-                }
-            }
-            Stage::At(Held::Lost(_)) | Stage::Fresh | Stage::Ended => None,
-        }
-    }
-
-    /// The ID that a cache has for its state.
-    pub(crate) fn find_in(&self, cache: &Cache) -> Option<LazyStateID>
-        requires { self.now.lost ≡ false }
-        ensures { (q : Powerset) → self.now.stage ≡ At q → result ≡ id_of cache.now.store.table q }
-    {
-        match &self.stage {
-            Stage::At(Held::Kept(_, key)) => cache.find(key),
-            Stage::At(Held::Lost(_)) | Stage::Fresh | Stage::Ended => None,
-        }
-    }
-
-    /// Its state, shared once more.
-    pub(crate) fn state(&self) -> Result<State, AllocError>
-        ensures { IfOk result (λ state. (q : Powerset) → self.now.stage ≡ At q → state ≡ q) }
-    {
-        match &self.stage {
-            Stage::At(Held::Kept(state, _)) => state.clone(),
-            Stage::At(Held::Lost(_)) | Stage::Fresh | Stage::Ended => Err(AllocError),
-        }
-    }
-
     /// Forgets the match.
     pub(crate) fn forget_match(&mut self)
         ensures { self.new ≡ without_match self.old }
@@ -202,17 +187,10 @@ impl OverlappingState {
     }
 
     /// Goes to a state, of which it has told nothing.
-    pub(crate) fn go_to(&mut self, held: Held, units: usize)
-        requires { HasKey held }
-        ensures { self.new ≡ record {
-          stage = At (state_held held);
-          units = units;
-          told = 0;
-          found = None;
-          lost = is_lost held;
-        } }
+    pub(crate) fn go_to(&mut self, state: Snapshot<State>, units: usize)
+        ensures { self.new ≡ record { stage = At state.value; units = units; told = 0; found = None } }
     {
-        self.stage = Stage::At(held);
+        self.stage = Stage::At(state);
         self.units = units;
         self.told = 0;
         self.found = None;
@@ -227,6 +205,63 @@ impl OverlappingState {
         self.told = 0;
         self.found = None;
     }
+
+    /// The same once more, where its state is held.
+    fn copy(&self, held: &Held) -> Cursor
+        requires { IsHeldItself self.now.stage held.now }
+        ensures { result ≡ self.now }
+    {
+        let stage = match &self.stage {
+            Stage::Fresh => Stage::Fresh,
+            Stage::Ended => Stage::Ended,
+            Stage::At(_) => match held {
+                Held::State(Some(handle)) => Stage::At(Snapshot::of(&handle.state)),
+                Held::State(None) | Held::Row(_) => Stage::Ended,
+            },
+        };
+        Cursor {
+            stage,
+            units: self.units,
+            told: self.told,
+            found: self.found,
+        }
+    }
+}
+
+/// How far an overlapping walk is: of one DFA, one input and one direction, over whatever cache of that DFA.
+#[derive(Drop)]
+pub struct OverlappingState {
+    pub(crate) cursor: Cursor,
+    pub(crate) held: Held,
+}
+
+impl Model for OverlappingState {
+    ghost use Rattle.automata_hybrid.specs.Walks.{Walk, IsHeldItself};
+
+    ghost Value = { Walk };
+
+    ghost view = { λ s. s.cursor };
+
+    ghost invariant = { λ s. IsHeldItself s.cursor.stage s.held };
+}
+
+impl OverlappingState {
+    /// A walk that hasn't begun.
+    pub fn start() -> OverlappingState
+        ensures { result ≡ fresh_walk }
+    {
+        OverlappingState {
+            cursor: Cursor::start(),
+            held: Held::State(None),
+        }
+    }
+
+    /// The match that the last call found.
+    pub fn get_match(&self) -> Option<HalfMatch>
+        ensures { result ≡ self.now.found }
+    {
+        self.cursor.get_match()
+    }
 }
 
 impl Clone for OverlappingState {
@@ -234,17 +269,10 @@ impl Clone for OverlappingState {
 
     /// It takes no memory: states are shared. It is refused only where no user more can be counted.
     fn clone(&self) -> Result<OverlappingState, AllocError> {
-        let stage = match &self.stage {
-            Stage::Fresh => Stage::Fresh,
-            Stage::At(Held::Kept(state, _)) => Stage::At(Held::share(state)?),
-            Stage::At(Held::Lost(_)) => return Err(AllocError),
-            Stage::Ended => Stage::Ended,
-        };
+        let held = self.held.share()?;
         Ok(OverlappingState {
-            stage,
-            units: self.units,
-            told: self.told,
-            found: self.found,
+            cursor: self.cursor.copy(&held),
+            held,
         })
     }
 }

@@ -6,7 +6,7 @@ ghost use Rattle.automata_hybrid.specs.Which.{IsWhichRefusal};
 
 use crate::dfa::DFA;
 use crate::dfa::cache::Cache;
-use crate::search::walk::{OverlappingState, Way};
+use crate::search::walk::{Cursor, Held, Way};
 use automata_base::laws::walk_is_right;
 use automata_base::util::pattern_set::PatternSet;
 use automata_base::util::search::Input;
@@ -52,10 +52,10 @@ impl DFA {
     {
         walk_is_right(self.get_nfa());
         let _haystack = input.haystack();
-        let mut walk = OverlappingState::start();
-        let mut at = None;
-        loop {
-            let next = self.go_on(cache, input, Way::Forward, &mut walk, &at)?;
+        let mut walk = Cursor::start();
+        let mut held = Held::Row(None);
+        'walk: loop {
+            self.go_on(cache, input, Way::Forward, &mut walk, &mut held)?;
             let Some(half) = walk.get_match() else {
                 return Ok(());
             };
@@ -66,7 +66,6 @@ impl DFA {
             if input.get_earliest() {
                 return Ok(());
             }
-            at = next;
         }
     }
 }

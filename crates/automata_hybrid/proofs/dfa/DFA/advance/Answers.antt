@@ -10,14 +10,14 @@ use Rattle.automata_hybrid.specs.Passing.{IsFollowed}
 use Rattle.automata_hybrid.specs.Resuming.{IsAdvanceEffect}
 use Rattle.automata_hybrid.specs.Searched.{IsOpenAt}
 use Rattle.automata_hybrid.specs.Searches.{HasReadNoQuit, given_up_offset, state_in, tape_in}
-use Rattle.automata_hybrid.specs.Table.{Names, Rows}
+use Rattle.automata_hybrid.specs.Table.{Names}
 use Rattle.automata_hybrid.specs.Walking.{IsSilent, WalkReads}
 use Rattle.automata_hybrid.specs.Walks.{way_of}
 use Rattle.automata_hybrid.proofs.Following.{followed_clean, followed_silent}
-use Rattle.automata_hybrid.proofs.Growing.{grown_moved, grown_same, grown_trans, nothing_first, nothing_second}
-use Rattle.automata_hybrid.proofs.KnowingWalks.{unit_knows, units_more, units_moved, units_none}
+use Rattle.automata_hybrid.proofs.Growing.{grown_same, grown_trans, nothing_first, nothing_second}
+use Rattle.automata_hybrid.proofs.KnowingWalks.{unit_knows, units_more, units_none}
 use Rattle.automata_hybrid.proofs.Reading.{at_err}
-use Rattle.automata_hybrid.proofs.SearchedWalks.{span_ends, unit_ends, unit_left, unit_open}
+use Rattle.automata_hybrid.proofs.SearchedWalks.{unit_left, unit_open}
 use Rattle.automata_hybrid.proofs.Searching.{false_true, if_err}
 use Rattle.automata_hybrid.proofs.Stepping.{dead_tagged}
 use Rattle.automata_hybrid.proofs.Walked.{clean_more, finish_dead, finish_read, silent_same, silent_step}
@@ -38,7 +38,7 @@ loop-read-init c =
       idle = λ n told knows. refl;
       learned = λ nothing. units_none d c.args.self.now c.args.cache.now.store c.args.input.now c.args.units;
       silent = silent_same d c.args.self.now c.args.input.now c.args.units;
-      progress = λ s e. (given_up_offset d c.args.input.now c.args.units, (s, given_up_offset d c.args.input.now c.args.units, inl (refl, refl), e));
+      progress = λ s e. (given_up_offset d c.args.input.now c.args.units, (s, given_up_offset d c.args.input.now c.args.units, inl (refl, refl), e), λ less. absurd (omega (arith, less)));
       reads = λ less. absurd (omega (arith, less));
     }
 
@@ -74,10 +74,11 @@ loop-read-preserved c =
           (c.loop-read.invariant.learned first) f (c.in_ok-next.ensures.effect.learned second)));
       silent = subst (IsSilent d c.args.self.now c.args.input.now c.args.units) more silent;
       progress = λ s e.
-          (let underway : (x : ℕ) × IsOpenAt c.args.input.now s (given_up_offset d c.args.input.now c.args.units) x c.args.cache.now.store c.loop-read.cache.store = c.loop-read.invariant.progress s e in (
+          (let underway = c.loop-read.invariant.progress s e in (
             given_up_offset d c.args.input.now k,
             unit_open d c.args.self.now c.args.input.now s c.args.units k underway.0 c.args.cache.now c.loop-read.cache c.read_unit.new.cache c.requires.from.undone c.follow-stop.ensures.within
                 c.loop-read.invariant.grown c.in_ok-next.ensures.effect.grown underway.1 c.in_ok-next.ensures.effect.progress.moved,
+            λ less. ap (given_up_offset d c.args.input.now) (omega (arith, more)),
           ));
       reads = λ less. (k, sym more, c.in_ok-next.ensures.reads);
     }
@@ -114,9 +115,9 @@ returns-then-tells-clause-arrives c =
       behind = sym more;
       more = omega (arith, c.loop-read.invariant.from, f.more);
       within = omega (arith, units, c.follow-stop.ensures.within);
-      named = subst (λ (t : Rows). Names t c.in_ok-next.next (state_in d c.args.self.now c.args.input.now (k + 1))) (sym c.end_search-then-tells.ensures.table) (subst (λ n. Names c.read_unit.new.cache.store.table c.in_ok-next.next (state_in d c.args.self.now c.args.input.now n)) more named);
+      named = subst (λ n. Names c.read_unit.new.cache.store.table c.in_ok-next.next (state_in d c.args.self.now c.args.input.now n)) more named;
       clean = subst (HasReadNoQuit d c.args.self.now c.args.input.now) more (clean_more d c.args.self.now c.args.input.now k (followed_clean f c.loop-read.invariant.clean) c.in_ok-next.ensures.clean);
-      tells = λ q n. yes.1 q (subst (λ (t : Rows). Names t c.in_ok-next.next q) c.end_search-then-tells.ensures.table n);
+      tells = yes.1;
       unskipped = yes.0;
       silent = followed_silent f c.loop-read.invariant.silent;
     }
@@ -144,9 +145,9 @@ returns-in_err-next-clause-effect c =
           let here = c.in_err-next.ensures.effect.known (unit_knows d c.args.self.now c.args.cache.now c.loop-read.cache c.args.input.now c.args.units k n c.loop-read.invariant.grown count knows from c.in_err-next.ensures.reads (followed_clean f c.loop-read.invariant.clean) (followed_silent f c.loop-read.invariant.silent n told)) in
           (here.0 ∙ count, here.1));
       learned = λ nothing. tt;
-      ended = λ s e. tt;
+      moved = λ s e. tt;
       left = λ s e. (
-          let underway : (x : ℕ) × IsOpenAt c.args.input.now s (given_up_offset d c.args.input.now c.args.units) x c.args.cache.now.store c.loop-read.cache.store = c.loop-read.invariant.progress s e in
+          let underway = c.loop-read.invariant.progress s e in
           unit_left d c.args.self.now c.args.input.now s c.args.units k underway.0 c.args.cache.now c.loop-read.cache c.read_unit.new.cache c.requires.from.undone c.follow-stop.ensures.within
           c.loop-read.invariant.grown c.in_err-next.ensures.effect.grown underway.1 c.in_err-next.field-0.0 from c.in_err-next.ensures.reads
           (followed_clean f c.loop-read.invariant.clean) (followed_silent f c.loop-read.invariant.silent) c.in_err-next.ensures.refusal c.in_err-next.ensures.effect.progress.left);
@@ -160,31 +161,27 @@ returns-then-is_dead-clause-effect c =
     let from : c.args.units ≤ k = omega (arith, c.loop-read.invariant.from, f.more) in
     let more : suc k ≡ k + 1 = omega arith in
     record {
-      grown =
-          grown_trans c.args.cache.now c.read_unit.new.cache c.end_search.new.self
-          (grown_trans c.args.cache.now c.loop-read.cache c.read_unit.new.cache c.loop-read.invariant.grown c.in_ok-next.ensures.effect.grown)
-          (grown_moved c.read_unit.new.cache c.end_search.new.self c.end_search.ensures.value);
-      cost = omega (arith, c.end_search.ensures.counted, c.in_ok-next.ensures.effect.counted, c.loop-read.invariant.counted, f.more);
-      most = omega (arith, c.end_search.ensures.counted, c.in_ok-next.ensures.effect.counted, c.loop-read.invariant.counted, f.more, c.follow-stop.ensures.within);
+      grown = grown_trans c.args.cache.now c.loop-read.cache c.read_unit.new.cache c.loop-read.invariant.grown c.in_ok-next.ensures.effect.grown;
+      cost = omega (arith, c.in_ok-next.ensures.effect.counted, c.loop-read.invariant.counted, f.more);
+      most = omega (arith, c.in_ok-next.ensures.effect.counted, c.loop-read.invariant.counted, f.more, c.follow-stop.ensures.within);
       known = λ n told knows. (
           let count : c.loop-read.cache.count ≡ c.args.cache.now.count = c.loop-read.invariant.idle n told knows in
           let here = c.in_ok-next.ensures.effect.known (unit_knows d c.args.self.now c.args.cache.now c.loop-read.cache c.args.input.now c.args.units k n c.loop-read.invariant.grown count knows from c.in_ok-next.ensures.reads (followed_clean f c.loop-read.invariant.clean) (followed_silent f c.loop-read.invariant.silent n told)) in
-          (c.end_search.ensures.counted ∙ (here.0 ∙ count), tt));
-      learned =
-          units_moved d c.args.self.now c.args.input.now c.args.cache.now c.read_unit.new.cache c.end_search.new.self c.args.units _ c.end_search.ensures.value (λ nothing.
+          (here.0 ∙ count, tt));
+      learned = λ nothing. (
           let second : ClearedNothing c.loop-read.cache.store c.read_unit.new.cache.store = nothing_second c.args.cache.now c.loop-read.cache c.read_unit.new.cache c.loop-read.invariant.grown c.in_ok-next.ensures.effect.grown nothing in
           let first : ClearedNothing c.args.cache.now.store c.loop-read.cache.store = nothing_first c.args.cache.now c.loop-read.cache c.read_unit.new.cache c.loop-read.invariant.grown c.in_ok-next.ensures.effect.grown nothing in
           subst (HasLearnedUnits d c.args.self.now c.read_unit.new.cache.store c.args.input.now c.args.units) more
           (units_more d c.args.self.now c.loop-read.cache c.read_unit.new.cache c.args.input.now c.args.units c.loop-read.read k c.follow-stop.result.id c.in_ok-next.ensures.effect.grown second
           (c.loop-read.invariant.learned first) f (c.in_ok-next.ensures.effect.learned second)));
-      ended = λ s e. (
-          let underway : (x : ℕ) × IsOpenAt c.args.input.now s (given_up_offset d c.args.input.now c.args.units) x c.args.cache.now.store c.loop-read.cache.store = c.loop-read.invariant.progress s e in (
+      moved = λ s e. (
+          let underway = c.loop-read.invariant.progress s e in (
             k,
             from,
             sym more,
             c.in_ok-next.ensures.reads,
-            unit_ends d c.args.self.now c.args.input.now s c.args.units k underway.0 c.args.cache.now c.loop-read.cache c.read_unit.new.cache c.requires.from.undone c.follow-stop.ensures.within
-                c.loop-read.invariant.grown c.in_ok-next.ensures.effect.grown underway.1 c.end_search.new.self c.span_offset-at.result c.span_offset-at.ensures c.end_search.ensures.value c.in_ok-next.ensures.effect.progress.moved,
+            unit_open d c.args.self.now c.args.input.now s c.args.units k underway.0 c.args.cache.now c.loop-read.cache c.read_unit.new.cache c.requires.from.undone c.follow-stop.ensures.within
+                c.loop-read.invariant.grown c.in_ok-next.ensures.effect.grown underway.1 c.in_ok-next.ensures.effect.progress.moved,
           ));
       left = λ s e. tt;
     }
@@ -197,31 +194,27 @@ returns-then-tells-clause-effect c =
     let from : c.args.units ≤ k = omega (arith, c.loop-read.invariant.from, f.more) in
     let more : suc k ≡ k + 1 = omega arith in
     record {
-      grown =
-          grown_trans c.args.cache.now c.read_unit.new.cache c.end_search-then-tells.new.self
-          (grown_trans c.args.cache.now c.loop-read.cache c.read_unit.new.cache c.loop-read.invariant.grown c.in_ok-next.ensures.effect.grown)
-          (grown_moved c.read_unit.new.cache c.end_search-then-tells.new.self c.end_search-then-tells.ensures.value);
-      cost = omega (arith, c.end_search-then-tells.ensures.counted, c.in_ok-next.ensures.effect.counted, c.loop-read.invariant.counted, f.more);
-      most = omega (arith, c.end_search-then-tells.ensures.counted, c.in_ok-next.ensures.effect.counted, c.loop-read.invariant.counted, f.more, c.follow-stop.ensures.within);
+      grown = grown_trans c.args.cache.now c.loop-read.cache c.read_unit.new.cache c.loop-read.invariant.grown c.in_ok-next.ensures.effect.grown;
+      cost = omega (arith, c.in_ok-next.ensures.effect.counted, c.loop-read.invariant.counted, f.more);
+      most = omega (arith, c.in_ok-next.ensures.effect.counted, c.loop-read.invariant.counted, f.more, c.follow-stop.ensures.within);
       known = λ n told knows. (
           let count : c.loop-read.cache.count ≡ c.args.cache.now.count = c.loop-read.invariant.idle n told knows in
           let here = c.in_ok-next.ensures.effect.known (unit_knows d c.args.self.now c.args.cache.now c.loop-read.cache c.args.input.now c.args.units k n c.loop-read.invariant.grown count knows from c.in_ok-next.ensures.reads (followed_clean f c.loop-read.invariant.clean) (followed_silent f c.loop-read.invariant.silent n told)) in
-          (c.end_search-then-tells.ensures.counted ∙ (here.0 ∙ count), tt));
-      learned =
-          units_moved d c.args.self.now c.args.input.now c.args.cache.now c.read_unit.new.cache c.end_search-then-tells.new.self c.args.units _ c.end_search-then-tells.ensures.value (λ nothing.
+          (here.0 ∙ count, tt));
+      learned = λ nothing. (
           let second : ClearedNothing c.loop-read.cache.store c.read_unit.new.cache.store = nothing_second c.args.cache.now c.loop-read.cache c.read_unit.new.cache c.loop-read.invariant.grown c.in_ok-next.ensures.effect.grown nothing in
           let first : ClearedNothing c.args.cache.now.store c.loop-read.cache.store = nothing_first c.args.cache.now c.loop-read.cache c.read_unit.new.cache c.loop-read.invariant.grown c.in_ok-next.ensures.effect.grown nothing in
           subst (HasLearnedUnits d c.args.self.now c.read_unit.new.cache.store c.args.input.now c.args.units) more
           (units_more d c.args.self.now c.loop-read.cache c.read_unit.new.cache c.args.input.now c.args.units c.loop-read.read k c.follow-stop.result.id c.in_ok-next.ensures.effect.grown second
           (c.loop-read.invariant.learned first) f (c.in_ok-next.ensures.effect.learned second)));
-      ended = λ s e. (
-          let underway : (x : ℕ) × IsOpenAt c.args.input.now s (given_up_offset d c.args.input.now c.args.units) x c.args.cache.now.store c.loop-read.cache.store = c.loop-read.invariant.progress s e in (
+      moved = λ s e. (
+          let underway = c.loop-read.invariant.progress s e in (
             k,
             from,
             sym more,
             c.in_ok-next.ensures.reads,
-            unit_ends d c.args.self.now c.args.input.now s c.args.units k underway.0 c.args.cache.now c.loop-read.cache c.read_unit.new.cache c.requires.from.undone c.follow-stop.ensures.within
-                c.loop-read.invariant.grown c.in_ok-next.ensures.effect.grown underway.1 c.end_search-then-tells.new.self c.span_offset-at.result c.span_offset-at.ensures c.end_search-then-tells.ensures.value c.in_ok-next.ensures.effect.progress.moved,
+            unit_open d c.args.self.now c.args.input.now s c.args.units k underway.0 c.args.cache.now c.loop-read.cache c.read_unit.new.cache c.requires.from.undone c.follow-stop.ensures.within
+                c.loop-read.invariant.grown c.in_ok-next.ensures.effect.grown underway.1 c.in_ok-next.ensures.effect.progress.moved,
           ));
       left = λ s e. tt;
     }
@@ -231,23 +224,21 @@ returns-clause-effect c =
     let d : Direction = way_of c.args.way in
     let less : c.args.units < c.loop-read.read = omega (arith, c.requires.from.left, c.loop-read-test.false, c.last_place-last.ensures) in
     let last : (k : ℕ) × (c.loop-read.read ≡ suc k) × WalkReads d c.args.self.now c.args.input.now k = c.loop-read.invariant.reads less in
-    let here : c.last_place-last.result ≡ last.0 = omega (arith, c.last_place-last.ensures, c.loop-read-test.false, c.loop-read.invariant.within, last.1) in
     record {
-      grown =
-          grown_trans c.args.cache.now c.loop-read.cache c.end_search-2.new.self c.loop-read.invariant.grown
-          (grown_moved c.loop-read.cache c.end_search-2.new.self c.end_search-2.ensures.value);
-      cost = omega (arith, c.end_search-2.ensures.counted, c.loop-read.invariant.counted);
-      most = omega (arith, c.end_search-2.ensures.counted, c.loop-read.invariant.counted, c.loop-read.invariant.within);
-      known = λ n told knows. (c.end_search-2.ensures.counted ∙ c.loop-read.invariant.idle n told knows, tt);
-      learned = units_moved d c.args.self.now c.args.input.now c.args.cache.now c.loop-read.cache c.end_search-2.new.self c.args.units _ c.end_search-2.ensures.value c.loop-read.invariant.learned;
-      ended = λ s e. (
-          let underway : (x : ℕ) × IsOpenAt c.args.input.now s (given_up_offset d c.args.input.now c.args.units) x c.args.cache.now.store c.loop-read.cache.store = c.loop-read.invariant.progress s e in (
+      grown = c.loop-read.invariant.grown;
+      cost = c.loop-read.invariant.counted;
+      most = omega (arith, c.loop-read.invariant.counted, c.loop-read.invariant.within);
+      known = λ n told knows. (c.loop-read.invariant.idle n told knows, tt);
+      learned = c.loop-read.invariant.learned;
+      moved = λ s e. (
+          let underway = c.loop-read.invariant.progress s e in
+          let place : c.loop-read.read - 1 ≡ last.0 = omega (arith, last.1) in (
             last.0,
             omega (arith, less, last.1),
             last.1,
             last.2,
-            span_ends d c.args.input.now s c.args.units last.0 underway.0 c.span_offset.result c.args.cache.now c.loop-read.cache c.end_search-2.new.self c.requires.from.undone (omega (arith, here, c.last_place-last.ensures))
-                c.loop-read.invariant.grown underway.1 (c.span_offset.ensures ∙ ap (given_up_offset d c.args.input.now) here) c.end_search-2.ensures.value,
+            subst (λ x. IsOpenAt c.args.input.now s (given_up_offset d c.args.input.now c.args.units) x c.args.cache.now.store c.loop-read.cache.store)
+                (underway.2 less ∙ ap (given_up_offset d c.args.input.now) place) underway.1,
           ));
       left = λ s e. tt;
     }

@@ -1,4 +1,4 @@
-use Rattle.std.proofs.Common.{suc, ⊎_elim, inl, inr, length-set, ◌≡◌, ◌∙◌, ◌≤◌, ◌+◌, ◌-◌, List, Bool, true, length, set, Some, rules, refl, sym, ap, subst, arith}
+use Rattle.std.proofs.Common.{suc, inl, inr, length-set, ◌≡◌, ◌∙◌, ◌≤◌, ◌+◌, ◌-◌, List, Bool, true, length, set, Some, rules, refl, sym, ap, subst, arith}
 use Rattle.std.specs.Prelude.{Err, IsTrue, Result}
 use Rattle.automata_base.specs.Answers.{ArePatterns}
 use Rattle.automata_base.specs.Input.{Input}
@@ -10,80 +10,82 @@ use Rattle.automata_config.specs.declared.error.SearchError.{SearchError}
 use Rattle.automata_hybrid.specs.Caches.{CacheView}
 use Rattle.automata_hybrid.specs.Growing.{ClearedNothing, IsGrown}
 use Rattle.automata_hybrid.specs.Machine.{Machine}
-use Rattle.automata_hybrid.specs.OwingWalks.{IsSetTold, IsWhichEffect}
+use Rattle.automata_hybrid.specs.OwingWalks.{IsCallEffect, IsSetTold, IsWhichEffect}
+use Rattle.automata_hybrid.specs.Resuming.{IsCallRefused}
 use Rattle.automata_hybrid.specs.SearchedWalks.{HaveCalled}
 use Rattle.automata_hybrid.specs.Walking.{AreWalked}
-use Rattle.automata_hybrid.specs.Walks.{Ended, Walk}
+use Rattle.automata_hybrid.specs.Walks.{Ended, Ids, Walk}
 use Rattle.automata_hybrid.proofs.Growing.{clears_none, grown_same, grown_trans, nothing_first, nothing_second}
 use Rattle.automata_hybrid.proofs.LearningSets.{half_none, learned_call, open_stops, set_knows}
 use Rattle.automata_hybrid.proofs.Reading.{at_err}
-use Rattle.automata_hybrid.proofs.Resuming.{kept_by, leaves_before, supported_call}
+use Rattle.automata_hybrid.proofs.Resuming.{supported_call}
 use Rattle.automata_hybrid.proofs.Searching.{false_true, if_err}
 use Rattle.automata_hybrid.proofs.WalkSets.{IsLacking, Joins, StandsWell, begun_state, calls_more, closes, joins_all, joins_begin, joins_first, joins_full, joined_more, joins_more, lacking, on_found, open_after, patterns_of, stands_well, steps_less, told_undone, which_still, which_walk}
 use Rattle.automata_hybrid.proofs.dfa.DFA.collect.Goals as goal
 use Rattle.automata_config.specs.Options.{match_kind_of}
 
-pub returns-in_err-next-clause-refusal : goal.returns-in_err-next-clause-refusal
-returns-in_err-next-clause-refusal c =
-    let j = c.loop-walk.invariant.joins.0 in
+pub returns-in_err-go_on-clause-refusal : goal.returns-in_err-go_on-clause-refusal
+returns-in_err-go_on-clause-refusal c =
+    let j = c.walk.invariant.joins.0 in
     if_err c.from_residual.result _ _ c.from_residual.ensures.1 (
-      c.loop-walk.walk,
+      c.walk.walk,
       j.k,
       j.told,
-      c.in_err-next.ensures.refusal.why (kept_by c.loop-walk.walk c.loop-walk.at c.loop-walk.invariant.can) j.k j.told,
+      (subst (λ k. IsCallRefused k Forward c.args.self.now c.args.input.now c.walk.walk c.go_on.new.cache.store c.in_err-go_on.field-0.0) c.walk.invariant.keeping c.in_err-go_on.ensures.refusal).why j.k j.told,
       j.joined,
-      open_after c.args.self.now c.args.input.now c.loop-walk.walk c.args.patset.now c.loop-walk.patset j,
+      open_after c.args.self.now c.args.input.now c.walk.walk c.args.patset.now c.walk.patset j,
     )
 
-pub returns-in_err-next-clause-told : goal.returns-in_err-next-clause-told
-returns-in_err-next-clause-told c =
+pub returns-in_err-go_on-clause-told : goal.returns-in_err-go_on-clause-told
+returns-in_err-go_on-clause-told c =
     let m : Machine = c.args.self.now in
     let input : Input = c.args.input.now in
-    let walk : Walk = c.loop-walk.walk in
-    let v = c.loop-walk.invariant in
-    let r = c.in_err-next.ensures.refusal in
-    at_err c.from_residual.result _ (λ (x : Result (Unit {0}) SearchError). IsSetTold m input c.args.patset.now c.loop-walk.patset x) c.from_residual.ensures.1
+    let walk : Walk = c.walk.walk in
+    let v = c.walk.invariant in
+    let r = c.in_err-go_on.ensures.refusal in
+    at_err c.from_residual.result _ (λ (x : Result (Unit {0}) SearchError). IsSetTold m input c.args.patset.now c.walk.patset x) c.from_residual.ensures.1
     (record {
       found = tt;
       paths = λ free. tt;
       capacity = v.joins.0.capacity;
       unsupported = λ u. (ap Err (r.unsupported (v.begins u).0 u), (v.begins u).1);
-      done = λ past. absurd (r.ready (inr (inr (omega (arith, past)))) (inr (kept_by walk c.loop-walk.at v.can)));
+      done = λ past. absurd (r.ready (inr (inr (omega (arith, past)))));
     })
 
-pub returns-in_err-next-clause-effect : goal.returns-in_err-next-clause-effect
-returns-in_err-next-clause-effect c =
+pub returns-in_err-go_on-clause-effect : goal.returns-in_err-go_on-clause-effect
+returns-in_err-go_on-clause-effect c =
     let m : Machine = c.args.self.now in
     let input : Input = c.args.input.now in
     let old : CacheView = c.args.cache.now in
-    let mid : CacheView = c.loop-walk.cache in
+    let mid : CacheView = c.walk.cache in
     let new : CacheView = c.go_on.new.cache in
-    let walk : Walk = c.loop-walk.walk in
+    let walk : Walk = c.walk.walk in
     let next : Walk = c.go_on.new.walk in
-    let v = c.loop-walk.invariant in
+    let v = c.walk.invariant in
     let j = v.joins.0 in
     let told : WalksAreTold m.nfa = subst WalksAreTold c.get_nfa.ensures c.walk_is_right.ensures.told in
     let list : (pairs : List Pair) × AreWalked Forward m input pairs = told Forward (match_kind_of m.config) input in
-    let e = c.in_err-next.ensures.effect in
-    let stepped : IsGrown mid new = e.there v.holds in
+    let e : IsCallEffect {T = Unit {0}} Ids Forward m input walk next mid new (Err c.in_err-go_on.field-0.0) =
+    subst (λ k. IsCallEffect {T = Unit {0}} k Forward m input walk next mid new (Err c.in_err-go_on.field-0.0)) v.keeping c.in_err-go_on.ensures.effect in
+    let stepped : IsGrown mid new = e.there v.there in
     let grown : IsGrown old new = grown_trans old mid new v.grown stepped in
     let cost : new.count ≤ old.count + (input.end - input.start + 2) = omega (arith, e.most, v.counted, v.few) in
     at_err c.from_residual.result _ (λ (r : Result (Unit {0}) SearchError). IsWhichEffect m input c.args.patset.now old new r) c.from_residual.ensures.1
     (record {
       cost = cost;
       started = λ knows. (
-          let less = (e.started (begun_state m input walk.stage old mid v.grown v.holds knows)).0 in
+          let less = (e.started (begun_state m input walk.stage old mid v.grown v.there knows)).0 in
           omega (arith, less, v.started knows, v.few));
       roomy = λ room. clears_none old new _ grown cost room;
       grown = grown;
       learned = λ nothing. tt;
       known = λ knows. (
           let count : mid.count ≡ old.count = v.idle knows in
-          let here = e.known (which_walk m mid.store input walk c.args.patset.now c.loop-walk.patset j list v.holds
+          let here = e.known (which_walk m mid.store input walk c.args.patset.now c.walk.patset j list v.there
           (which_still m input c.args.patset.now old mid v.grown count knows)) in
-          (grown.idle (here.0.0 ∙ count), here.1 (kept_by walk c.loop-walk.at v.can)));
+          (grown.idle (here.0.0 ∙ count), here.1));
       ended = tt;
-      left = (j.k, walk, mid.store, v.joins.1, open_after m input walk c.args.patset.now c.loop-walk.patset j, leaves_before Forward m input walk c.loop-walk.at mid.store new.store c.in_err-next.field-0.0 e.left, stepped.clears);
+      left = (j.k, walk, mid.store, v.joins.1, open_after m input walk c.args.patset.now c.walk.patset j, e.left, stepped.clears);
       done = λ past. e.ready (inr (inr (omega (arith, past)))) ∙ (v.done past).0;
     })
 
@@ -92,19 +94,19 @@ returns-in_default-clause-told c =
     let m : Machine = c.args.self.now in
     let input : Input = c.args.input.now in
     let old : List Bool = c.args.patset.now in
-    let set : List Bool = c.loop-walk.patset in
-    let v = c.loop-walk.invariant in
+    let set : List Bool = c.walk.patset in
+    let v = c.walk.invariant in
     let j = v.joins.0 in
-    let tells = c.in_ok-next.ensures.answer.tells in
+    let tells = c.in_ok-go_on.ensures.answer.tells in
     let told : WalksAreTold m.nfa = subst WalksAreTold c.get_nfa.ensures c.walk_is_right.ensures.told in
     let list : (pairs : List Pair) × AreWalked Forward m input pairs = told Forward (match_kind_of m.config) input in
-    let found = joins_all m input old c.loop-walk.walk c.go_on.new.walk set j tells list (sym c.get_match.ensures ∙ c.in_default.«is») in
+    let found = joins_all m input old c.walk.walk c.go_on.new.walk set j tells list (sym c.get_match.ensures ∙ c.in_default.«is») in
     record {
       found = found;
       paths = λ free. patterns_of m input (subst WalkIsRight c.get_nfa.ensures c.walk_is_right.ensures.right)
           (c.haystack-haystack.ensures.bytes, c.haystack-haystack.ensures.within.1) old set free found;
       capacity = j.capacity;
-      unsupported = λ u. absurd (supported_call Forward m input c.loop-walk.walk c.go_on.new.walk (j.k, j.told) tells u);
+      unsupported = λ u. absurd (supported_call Forward m input c.walk.walk c.go_on.new.walk (j.k, j.told) tells u);
       done = λ past. (refl, (v.done past).1);
     }
 
@@ -113,25 +115,25 @@ returns-in_default-clause-effect c =
     let m : Machine = c.args.self.now in
     let input : Input = c.args.input.now in
     let old : CacheView = c.args.cache.now in
-    let mid : CacheView = c.loop-walk.cache in
+    let mid : CacheView = c.walk.cache in
     let new : CacheView = c.go_on.new.cache in
-    let walk : Walk = c.loop-walk.walk in
+    let walk : Walk = c.walk.walk in
     let next : Walk = c.go_on.new.walk in
-    let v = c.loop-walk.invariant in
+    let v = c.walk.invariant in
     let j = v.joins.0 in
     let told : WalksAreTold m.nfa = subst WalksAreTold c.get_nfa.ensures c.walk_is_right.ensures.told in
     let list : (pairs : List Pair) × AreWalked Forward m input pairs = told Forward (match_kind_of m.config) input in
-    let e = c.in_ok-next.ensures.effect in
-    let stepped : IsGrown mid new = e.there v.holds in
+    let e = c.in_ok-go_on.ensures.effect in
+    let stepped : IsGrown mid new = e.there v.there in
     let grown : IsGrown old new = grown_trans old mid new v.grown stepped in
     let cost : new.count ≤ old.count + (input.end - input.start + 2) = omega (arith, e.most, v.counted, v.few) in
-    let a = c.in_ok-next.ensures.answer in
+    let a = c.in_ok-go_on.ensures.answer in
     let after = (a.tells j.k j.told).1 list.0 list.1 in
     let last : next.stage ≡ Ended = after.1 (half_none list.0 j.k (sym after.0 ∙ (sym c.get_match.ensures ∙ c.in_default.«is»))) in
     record {
       cost = cost;
       started = λ knows. (
-          let less = (e.started (begun_state m input walk.stage old mid v.grown v.holds knows)).0 in
+          let less = (e.started (begun_state m input walk.stage old mid v.grown v.there knows)).0 in
           omega (arith, less, v.started knows, v.few));
       roomy = λ room. clears_none old new _ grown cost room;
       grown = grown;
@@ -143,13 +145,13 @@ returns-in_default-clause-effect c =
           (λ n pairs l reads unsplit is_open. a.stops undone v.on last n l reads));
       known = λ knows. (
           let count : mid.count ≡ old.count = v.idle knows in
-          let here = e.known (which_walk m mid.store input walk c.args.patset.now c.loop-walk.patset j list v.holds
+          let here = e.known (which_walk m mid.store input walk c.args.patset.now c.walk.patset j list v.there
           (which_still m input c.args.patset.now old mid v.grown count knows)) in
           (grown.idle (here.0.0 ∙ count), tt));
       ended = (
         suc j.k,
         next,
-        (walk, mid.store, v.joins.1, open_after m input walk c.args.patset.now c.loop-walk.patset j, a.tells, e.ended, stepped.clears),
+        (walk, mid.store, v.joins.1, open_after m input walk c.args.patset.now c.walk.patset j, a.tells, e.ended, stepped.clears),
         inl last,
       );
       left = tt;
@@ -161,12 +163,12 @@ returns-then-is_full-clause-told c =
     let m : Machine = c.args.self.now in
     let input : Input = c.args.input.now in
     let old : List Bool = c.args.patset.now in
-    let before : List Bool = c.loop-walk.patset in
+    let before : List Bool = c.walk.patset in
     let half = c.in-Some.half in
-    let walk : Walk = c.loop-walk.walk in
+    let walk : Walk = c.walk.walk in
     let next : Walk = c.go_on.new.walk in
-    let j = c.loop-walk.invariant.joins.0 in
-    let a = c.in_ok-next.ensures.answer in
+    let j = c.walk.invariant.joins.0 in
+    let a = c.in_ok-go_on.ensures.answer in
     let told : WalksAreTold m.nfa = subst WalksAreTold c.get_nfa.ensures c.walk_is_right.ensures.told in
     let list : (pairs : List Pair) × AreWalked Forward m input pairs = told Forward (match_kind_of m.config) input in
     let seen : next.found ≡ Some half = sym c.get_match.ensures ∙ c.in-Some.«is» in
@@ -190,27 +192,27 @@ returns-then-is_full-clause-effect c =
     let m : Machine = c.args.self.now in
     let input : Input = c.args.input.now in
     let old : CacheView = c.args.cache.now in
-    let mid : CacheView = c.loop-walk.cache in
+    let mid : CacheView = c.walk.cache in
     let new : CacheView = c.go_on.new.cache in
-    let walk : Walk = c.loop-walk.walk in
+    let walk : Walk = c.walk.walk in
     let next : Walk = c.go_on.new.walk in
-    let v = c.loop-walk.invariant in
+    let v = c.walk.invariant in
     let j = v.joins.0 in
     let told : WalksAreTold m.nfa = subst WalksAreTold c.get_nfa.ensures c.walk_is_right.ensures.told in
     let list : (pairs : List Pair) × AreWalked Forward m input pairs = told Forward (match_kind_of m.config) input in
-    let e = c.in_ok-next.ensures.effect in
-    let stepped : IsGrown mid new = e.there v.holds in
+    let e = c.in_ok-go_on.ensures.effect in
+    let stepped : IsGrown mid new = e.there v.there in
     let grown : IsGrown old new = grown_trans old mid new v.grown stepped in
     let cost : new.count ≤ old.count + (input.end - input.start + 2) = omega (arith, e.most, v.counted, v.few) in
-    let a = c.in_ok-next.ensures.answer in
+    let a = c.in_ok-go_on.ensures.answer in
     let found : next.found ≡ Some c.in-Some.half = sym c.get_match.ensures ∙ c.in-Some.«is» in
-    let put : c.try_insert.new.self ≡ set c.loop-walk.patset c.in-Some.half.pattern true = c.try_insert.ensures.inserted ∙ ap (λ n. set c.loop-walk.patset n true) c.pattern.ensures in
+    let put : c.try_insert.new.self ≡ set c.walk.patset c.in-Some.half.pattern true = c.try_insert.ensures.inserted ∙ ap (λ n. set c.walk.patset n true) c.pattern.ensures in
     let on = on_found walk next c.in-Some.half a.goes_on found in
-    let capacity = length-set c.loop-walk.patset c.in-Some.half.pattern true ∙ j.capacity in
+    let capacity = length-set c.walk.patset c.in-Some.half.pattern true ∙ j.capacity in
     record {
       cost = cost;
       started = λ knows. (
-          let less = (e.started (begun_state m input walk.stage old mid v.grown v.holds knows)).0 in
+          let less = (e.started (begun_state m input walk.stage old mid v.grown v.there knows)).0 in
           omega (arith, less, v.started knows, v.few));
       roomy = λ room. clears_none old new _ grown cost room;
       grown = grown;
@@ -219,22 +221,22 @@ returns-then-is_full-clause-effect c =
           let second : ClearedNothing mid.store new.store = nothing_second old mid new v.grown stepped nothing in
           let all = learned_call m input mid new walk next j.k stepped second j.told undone may (v.learned first undone may) (e.learned second) (a.learned second) in
           set_knows m new.store input c.args.patset.now next all
-          (open_stops m input next j.k (a.tells j.k j.told).0 on.0 c.args.patset.now (set c.loop-walk.patset c.in-Some.half.pattern true) list.0 undone list.1 capacity
-          (joined_more m input c.args.patset.now walk next c.loop-walk.patset j a.tells list c.in-Some.half found)
+          (open_stops m input next j.k (a.tells j.k j.told).0 on.0 c.args.patset.now (set c.walk.patset c.in-Some.half.pattern true) list.0 undone list.1 capacity
+          (joined_more m input c.args.patset.now walk next c.walk.patset j a.tells list c.in-Some.half found)
           (inr (subst (λ (s : List Bool). length (members s) ≡ length s) put (c.is_full.ensures.0 c.if-is_full.true)))));
       known = λ knows. (
           let count : mid.count ≡ old.count = v.idle knows in
-          let here = e.known (which_walk m mid.store input walk c.args.patset.now c.loop-walk.patset j list v.holds
+          let here = e.known (which_walk m mid.store input walk c.args.patset.now c.walk.patset j list v.there
           (which_still m input c.args.patset.now old mid v.grown count knows)) in
           (grown.idle (here.0.0 ∙ count), tt));
       ended = (
         suc j.k,
         next,
-        (walk, mid.store, v.joins.1, open_after m input walk c.args.patset.now c.loop-walk.patset j, a.tells, e.ended, stepped.clears),
+        (walk, mid.store, v.joins.1, open_after m input walk c.args.patset.now c.walk.patset j, a.tells, e.ended, stepped.clears),
         inr (λ pairs walked.
-            closes input c.args.patset.now (set c.loop-walk.patset c.in-Some.half.pattern true) pairs j.k c.in-Some.half
+            closes input c.args.patset.now (set c.walk.patset c.in-Some.half.pattern true) pairs j.k c.in-Some.half
             (sym ((a.tells j.k j.told).1 pairs walked).0 ∙ found) capacity
-            (joined_more m input c.args.patset.now walk next c.loop-walk.patset j a.tells (pairs, walked) c.in-Some.half found)
+            (joined_more m input c.args.patset.now walk next c.walk.patset j a.tells (pairs, walked) c.in-Some.half found)
             (inr (subst (λ (s : List Bool). length (members s) ≡ length s) put (c.is_full.ensures.0 c.if-is_full.true)))),
       );
       left = tt;
@@ -246,12 +248,12 @@ returns-then-get_earliest-clause-told c =
     let m : Machine = c.args.self.now in
     let input : Input = c.args.input.now in
     let old : List Bool = c.args.patset.now in
-    let before : List Bool = c.loop-walk.patset in
+    let before : List Bool = c.walk.patset in
     let half = c.in-Some.half in
-    let walk : Walk = c.loop-walk.walk in
+    let walk : Walk = c.walk.walk in
     let next : Walk = c.go_on.new.walk in
-    let j = c.loop-walk.invariant.joins.0 in
-    let a = c.in_ok-next.ensures.answer in
+    let j = c.walk.invariant.joins.0 in
+    let a = c.in_ok-go_on.ensures.answer in
     let told : WalksAreTold m.nfa = subst WalksAreTold c.get_nfa.ensures c.walk_is_right.ensures.told in
     let list : (pairs : List Pair) × AreWalked Forward m input pairs = told Forward (match_kind_of m.config) input in
     let seen : next.found ≡ Some half = sym c.get_match.ensures ∙ c.in-Some.«is» in
@@ -274,27 +276,27 @@ returns-then-get_earliest-clause-effect c =
     let m : Machine = c.args.self.now in
     let input : Input = c.args.input.now in
     let old : CacheView = c.args.cache.now in
-    let mid : CacheView = c.loop-walk.cache in
+    let mid : CacheView = c.walk.cache in
     let new : CacheView = c.go_on.new.cache in
-    let walk : Walk = c.loop-walk.walk in
+    let walk : Walk = c.walk.walk in
     let next : Walk = c.go_on.new.walk in
-    let v = c.loop-walk.invariant in
+    let v = c.walk.invariant in
     let j = v.joins.0 in
     let told : WalksAreTold m.nfa = subst WalksAreTold c.get_nfa.ensures c.walk_is_right.ensures.told in
     let list : (pairs : List Pair) × AreWalked Forward m input pairs = told Forward (match_kind_of m.config) input in
-    let e = c.in_ok-next.ensures.effect in
-    let stepped : IsGrown mid new = e.there v.holds in
+    let e = c.in_ok-go_on.ensures.effect in
+    let stepped : IsGrown mid new = e.there v.there in
     let grown : IsGrown old new = grown_trans old mid new v.grown stepped in
     let cost : new.count ≤ old.count + (input.end - input.start + 2) = omega (arith, e.most, v.counted, v.few) in
-    let a = c.in_ok-next.ensures.answer in
+    let a = c.in_ok-go_on.ensures.answer in
     let found : next.found ≡ Some c.in-Some.half = sym c.get_match.ensures ∙ c.in-Some.«is» in
-    let put : c.try_insert.new.self ≡ set c.loop-walk.patset c.in-Some.half.pattern true = c.try_insert.ensures.inserted ∙ ap (λ n. set c.loop-walk.patset n true) c.pattern.ensures in
+    let put : c.try_insert.new.self ≡ set c.walk.patset c.in-Some.half.pattern true = c.try_insert.ensures.inserted ∙ ap (λ n. set c.walk.patset n true) c.pattern.ensures in
     let on = on_found walk next c.in-Some.half a.goes_on found in
-    let capacity = length-set c.loop-walk.patset c.in-Some.half.pattern true ∙ j.capacity in
+    let capacity = length-set c.walk.patset c.in-Some.half.pattern true ∙ j.capacity in
     record {
       cost = cost;
       started = λ knows. (
-          let less = (e.started (begun_state m input walk.stage old mid v.grown v.holds knows)).0 in
+          let less = (e.started (begun_state m input walk.stage old mid v.grown v.there knows)).0 in
           omega (arith, less, v.started knows, v.few));
       roomy = λ room. clears_none old new _ grown cost room;
       grown = grown;
@@ -303,42 +305,42 @@ returns-then-get_earliest-clause-effect c =
           let second : ClearedNothing mid.store new.store = nothing_second old mid new v.grown stepped nothing in
           let all = learned_call m input mid new walk next j.k stepped second j.told undone may (v.learned first undone may) (e.learned second) (a.learned second) in
           set_knows m new.store input c.args.patset.now next all
-          (open_stops m input next j.k (a.tells j.k j.told).0 on.0 c.args.patset.now (set c.loop-walk.patset c.in-Some.half.pattern true) list.0 undone list.1 capacity
-          (joined_more m input c.args.patset.now walk next c.loop-walk.patset j a.tells list c.in-Some.half found)
+          (open_stops m input next j.k (a.tells j.k j.told).0 on.0 c.args.patset.now (set c.walk.patset c.in-Some.half.pattern true) list.0 undone list.1 capacity
+          (joined_more m input c.args.patset.now walk next c.walk.patset j a.tells list c.in-Some.half found)
           (inl (sym c.get_earliest.ensures ∙ c.if-get_earliest.true))));
       known = λ knows. (
           let count : mid.count ≡ old.count = v.idle knows in
-          let here = e.known (which_walk m mid.store input walk c.args.patset.now c.loop-walk.patset j list v.holds
+          let here = e.known (which_walk m mid.store input walk c.args.patset.now c.walk.patset j list v.there
           (which_still m input c.args.patset.now old mid v.grown count knows)) in
           (grown.idle (here.0.0 ∙ count), tt));
       ended = (
         suc j.k,
         next,
-        (walk, mid.store, v.joins.1, open_after m input walk c.args.patset.now c.loop-walk.patset j, a.tells, e.ended, stepped.clears),
+        (walk, mid.store, v.joins.1, open_after m input walk c.args.patset.now c.walk.patset j, a.tells, e.ended, stepped.clears),
         inr (λ pairs walked.
-            closes input c.args.patset.now (set c.loop-walk.patset c.in-Some.half.pattern true) pairs j.k c.in-Some.half
+            closes input c.args.patset.now (set c.walk.patset c.in-Some.half.pattern true) pairs j.k c.in-Some.half
             (sym ((a.tells j.k j.told).1 pairs walked).0 ∙ found) capacity
-            (joined_more m input c.args.patset.now walk next c.loop-walk.patset j a.tells (pairs, walked) c.in-Some.half found)
+            (joined_more m input c.args.patset.now walk next c.walk.patset j a.tells (pairs, walked) c.in-Some.half found)
             (inl (sym c.get_earliest.ensures ∙ c.if-get_earliest.true))),
       );
       left = tt;
       done = λ past. e.ready (inr (inr (omega (arith, past)))) ∙ (v.done past).0;
     }
 
-pub loop-walk-smaller : goal.loop-walk-smaller
-loop-walk-smaller c =
+pub walk-smaller : goal.walk-smaller
+walk-smaller c =
     let found : c.go_on.new.walk.found ≡ Some c.in-Some.half = sym c.get_match.ensures ∙ c.in-Some.«is» in
-    let put : c.try_insert.new.self ≡ set c.loop-walk.patset c.in-Some.half.pattern true = c.try_insert.ensures.inserted ∙ ap (λ n. set c.loop-walk.patset n true) c.pattern.ensures in
-    let on = on_found c.loop-walk.walk c.go_on.new.walk c.in-Some.half c.in_ok-next.ensures.answer.goes_on found in
-    let j = c.loop-walk.invariant.joins.0 in
-    steps_less c.args.self.now c.args.input.now c.haystack-haystack.ensures.within.1 c.loop-walk.walk c.go_on.new.walk
-    (stands_well c.args.self.now c.args.input.now c.haystack-haystack.ensures.within.1 c.go_on.new.walk j.k (c.in_ok-next.ensures.answer.tells j.k j.told).0 on.0) on.1
+    let put : c.try_insert.new.self ≡ set c.walk.patset c.in-Some.half.pattern true = c.try_insert.ensures.inserted ∙ ap (λ n. set c.walk.patset n true) c.pattern.ensures in
+    let on = on_found c.walk.walk c.go_on.new.walk c.in-Some.half c.in_ok-go_on.ensures.answer.goes_on found in
+    let j = c.walk.invariant.joins.0 in
+    steps_less c.args.self.now c.args.input.now c.haystack-haystack.ensures.within.1 c.walk.walk c.go_on.new.walk
+    (stands_well c.args.self.now c.args.input.now c.haystack-haystack.ensures.within.1 c.go_on.new.walk j.k (c.in_ok-go_on.ensures.answer.tells j.k j.told).0 on.0) on.1
 
-pub loop-walk-init : goal.loop-walk-init
-loop-walk-init c = record {
+pub walk-init : goal.walk-init
+walk-init c = record {
   of = search rules;
   grown = grown_same c.args.cache.now c.args.cache.now refl;
-  holds = search rules;
+  there = search rules;
   counted = search rules;
   few = search rules;
   started = λ knows. omega arith;
@@ -346,58 +348,58 @@ loop-walk-init c = record {
   done = λ past. (refl, refl);
   idle = λ knows. refl;
   on = search rules;
-  at = search rules;
-  can = search rules;
+  holds = search rules;
+  keeping = search rules;
   learned = search rules;
   joins = joins_begin c.args.self.now c.args.input.now c.start-walk.result c.args.patset.now c.args.cache.now.store c.start-walk.ensures;
 }
 
-pub loop-walk-preserved : goal.loop-walk-preserved
-loop-walk-preserved c =
+pub walk-preserved : goal.walk-preserved
+walk-preserved c =
     let told : WalksAreTold c.args.self.now.nfa = subst WalksAreTold c.get_nfa.ensures c.walk_is_right.ensures.told in
     let list : (pairs : List Pair) × AreWalked Forward c.args.self.now c.args.input.now pairs = told Forward (match_kind_of c.args.self.now.config) c.args.input.now in
     let found : c.go_on.new.walk.found ≡ Some c.in-Some.half = sym c.get_match.ensures ∙ c.in-Some.«is» in
-    let put : c.try_insert.new.self ≡ set c.loop-walk.patset c.in-Some.half.pattern true = c.try_insert.ensures.inserted ∙ ap (λ n. set c.loop-walk.patset n true) c.pattern.ensures in
-    let on = on_found c.loop-walk.walk c.go_on.new.walk c.in-Some.half c.in_ok-next.ensures.answer.goes_on found in
-    let j = c.loop-walk.invariant.joins.0 in
+    let put : c.try_insert.new.self ≡ set c.walk.patset c.in-Some.half.pattern true = c.try_insert.ensures.inserted ∙ ap (λ n. set c.walk.patset n true) c.pattern.ensures in
+    let on = on_found c.walk.walk c.go_on.new.walk c.in-Some.half c.in_ok-go_on.ensures.answer.goes_on found in
+    let j = c.walk.invariant.joins.0 in
     let well : StandsWell c.args.self.now c.args.input.now c.haystack-haystack.ensures.within.1 c.go_on.new.walk =
-    stands_well c.args.self.now c.args.input.now c.haystack-haystack.ensures.within.1 c.go_on.new.walk j.k (c.in_ok-next.ensures.answer.tells j.k j.told).0 on.0 in
-    let lacks : IsLacking (set c.loop-walk.patset c.in-Some.half.pattern true) = lacking _ 0 (λ full.
+    stands_well c.args.self.now c.args.input.now c.haystack-haystack.ensures.within.1 c.go_on.new.walk j.k (c.in_ok-go_on.ensures.answer.tells j.k j.told).0 on.0 in
+    let lacks : IsLacking (set c.walk.patset c.in-Some.half.pattern true) = lacking _ 0 (λ full.
     let whole : IsTrue c.is_full.result = c.is_full.ensures.1 (subst (λ (s : List Bool). length (members s) ≡ length s) (sym put) full) in
     false_true (sym c.if-is_full.false ∙ whole)) in
     record {
-      of = c.in_ok-next.ensures.of;
-      grown = grown_trans c.args.cache.now c.loop-walk.cache c.go_on.new.cache c.loop-walk.invariant.grown (c.in_ok-next.ensures.effect.there c.loop-walk.invariant.holds);
-      holds = c.in_ok-next.ensures.answer.there c.loop-walk.invariant.holds;
-      counted = omega (arith, well.begun, c.in_ok-next.ensures.effect.cost, c.loop-walk.invariant.counted);
+      of = c.in_ok-go_on.ensures.of;
+      grown = grown_trans c.args.cache.now c.walk.cache c.go_on.new.cache c.walk.invariant.grown (c.in_ok-go_on.ensures.effect.there c.walk.invariant.there);
+      there = c.in_ok-go_on.ensures.answer.there c.walk.invariant.there;
+      counted = omega (arith, well.begun, c.in_ok-go_on.ensures.effect.cost, c.walk.invariant.counted);
       few = well.units;
       idle = λ knows. (
           let told : WalksAreTold c.args.self.now.nfa = subst WalksAreTold c.get_nfa.ensures c.walk_is_right.ensures.told in
           let list : (pairs : List Pair) × AreWalked Forward c.args.self.now c.args.input.now pairs = told Forward (match_kind_of c.args.self.now.config) c.args.input.now in
-          let count : c.loop-walk.cache.count ≡ c.args.cache.now.count = c.loop-walk.invariant.idle knows in
-          let here = c.in_ok-next.ensures.effect.known (which_walk c.args.self.now c.loop-walk.cache.store c.args.input.now c.loop-walk.walk c.args.patset.now c.loop-walk.patset c.loop-walk.invariant.joins.0 list c.loop-walk.invariant.holds
-          (which_still c.args.self.now c.args.input.now c.args.patset.now c.args.cache.now c.loop-walk.cache c.loop-walk.invariant.grown count knows)) in
+          let count : c.walk.cache.count ≡ c.args.cache.now.count = c.walk.invariant.idle knows in
+          let here = c.in_ok-go_on.ensures.effect.known (which_walk c.args.self.now c.walk.cache.store c.args.input.now c.walk.walk c.args.patset.now c.walk.patset c.walk.invariant.joins.0 list c.walk.invariant.there
+          (which_still c.args.self.now c.args.input.now c.args.patset.now c.args.cache.now c.walk.cache c.walk.invariant.grown count knows)) in
           here.0.0 ∙ count);
       on = on.0;
-      at = c.in_ok-next.ensures.answer.named;
-      can = λ none. ⊎_elim (λ ended. absurd (on.0 ended)) (λ kept. kept) (c.in_ok-next.ensures.answer.kept none);
+      holds = c.in_ok-go_on.ensures.held.holds;
+      keeping = c.in_ok-go_on.ensures.held.keeping ∙ c.walk.invariant.keeping;
       learned = λ nothing undone may. (
-          let stepped : IsGrown c.loop-walk.cache c.go_on.new.cache = c.in_ok-next.ensures.effect.there c.loop-walk.invariant.holds in
-          let first : ClearedNothing c.args.cache.now.store c.loop-walk.cache.store = nothing_first c.args.cache.now c.loop-walk.cache c.go_on.new.cache c.loop-walk.invariant.grown stepped nothing in
-          let second : ClearedNothing c.loop-walk.cache.store c.go_on.new.cache.store = nothing_second c.args.cache.now c.loop-walk.cache c.go_on.new.cache c.loop-walk.invariant.grown stepped nothing in
-          let all = learned_call c.args.self.now c.args.input.now c.loop-walk.cache c.go_on.new.cache c.loop-walk.walk c.go_on.new.walk j.k stepped second j.told undone may (c.loop-walk.invariant.learned first undone may) (c.in_ok-next.ensures.effect.learned second) (c.in_ok-next.ensures.answer.learned second) in
+          let stepped : IsGrown c.walk.cache c.go_on.new.cache = c.in_ok-go_on.ensures.effect.there c.walk.invariant.there in
+          let first : ClearedNothing c.args.cache.now.store c.walk.cache.store = nothing_first c.args.cache.now c.walk.cache c.go_on.new.cache c.walk.invariant.grown stepped nothing in
+          let second : ClearedNothing c.walk.cache.store c.go_on.new.cache.store = nothing_second c.args.cache.now c.walk.cache c.go_on.new.cache c.walk.invariant.grown stepped nothing in
+          let all = learned_call c.args.self.now c.args.input.now c.walk.cache c.go_on.new.cache c.walk.walk c.go_on.new.walk j.k stepped second j.told undone may (c.walk.invariant.learned first undone may) (c.in_ok-go_on.ensures.effect.learned second) (c.in_ok-go_on.ensures.answer.learned second) in
           inr all);
       started = λ knows. (
-          let less = (c.in_ok-next.ensures.effect.started (begun_state c.args.self.now c.args.input.now c.loop-walk.walk.stage c.args.cache.now c.loop-walk.cache c.loop-walk.invariant.grown c.loop-walk.invariant.holds knows)).1 in
-          omega (arith, less, c.loop-walk.invariant.started knows));
+          let less = (c.in_ok-go_on.ensures.effect.started (begun_state c.args.self.now c.args.input.now c.walk.walk.stage c.args.cache.now c.walk.cache c.walk.invariant.grown c.walk.invariant.there knows)).1 in
+          omega (arith, less, c.walk.invariant.started knows));
       done = λ past. (
-          let undone = told_undone c.args.self.now c.args.input.now c.go_on.new.walk j.k (c.in_ok-next.ensures.answer.tells j.k j.told).0 on.0 in
+          let undone = told_undone c.args.self.now c.args.input.now c.go_on.new.walk j.k (c.in_ok-go_on.ensures.answer.tells j.k j.told).0 on.0 in
           absurd (omega (arith, past, undone)));
-      begins = λ u. absurd (supported_call Forward c.args.self.now c.args.input.now c.loop-walk.walk c.go_on.new.walk (j.k, j.told) c.in_ok-next.ensures.answer.tells u);
+      begins = λ u. absurd (supported_call Forward c.args.self.now c.args.input.now c.walk.walk c.go_on.new.walk (j.k, j.told) c.in_ok-go_on.ensures.answer.tells u);
       joins =
           subst (λ (s : List Bool). (i : Joins c.args.self.now c.args.input.now c.go_on.new.walk c.args.patset.now s) × HaveCalled c.args.self.now c.args.input.now c.args.patset.now i.k c.args.cache.now.store c.go_on.new.walk c.go_on.new.cache.store) (sym put) (
-            joins_more c.args.self.now c.args.input.now c.args.patset.now c.loop-walk.walk c.go_on.new.walk c.loop-walk.patset c.loop-walk.invariant.joins.0 c.in_ok-next.ensures.answer.tells list c.in-Some.half found (sym c.get_earliest.ensures ∙ c.if-get_earliest.false) lacks,
-            calls_more c.args.self.now c.args.input.now c.args.patset.now c.loop-walk.walk c.go_on.new.walk c.loop-walk.patset c.loop-walk.invariant.joins.0 c.in_ok-next.ensures.answer.tells list c.in-Some.half found (sym c.get_earliest.ensures ∙ c.if-get_earliest.false) lacks c.args.cache.now.store c.go_on.new.cache.store
-                (c.loop-walk.walk, c.loop-walk.cache.store, c.loop-walk.invariant.joins.1, open_after c.args.self.now c.args.input.now c.loop-walk.walk c.args.patset.now c.loop-walk.patset j, c.in_ok-next.ensures.answer.tells, c.in_ok-next.ensures.effect.ended, (c.in_ok-next.ensures.effect.there c.loop-walk.invariant.holds).clears),
+            joins_more c.args.self.now c.args.input.now c.args.patset.now c.walk.walk c.go_on.new.walk c.walk.patset c.walk.invariant.joins.0 c.in_ok-go_on.ensures.answer.tells list c.in-Some.half found (sym c.get_earliest.ensures ∙ c.if-get_earliest.false) lacks,
+            calls_more c.args.self.now c.args.input.now c.args.patset.now c.walk.walk c.go_on.new.walk c.walk.patset c.walk.invariant.joins.0 c.in_ok-go_on.ensures.answer.tells list c.in-Some.half found (sym c.get_earliest.ensures ∙ c.if-get_earliest.false) lacks c.args.cache.now.store c.go_on.new.cache.store
+                (c.walk.walk, c.walk.cache.store, c.walk.invariant.joins.1, open_after c.args.self.now c.args.input.now c.walk.walk c.args.patset.now c.walk.patset j, c.in_ok-go_on.ensures.answer.tells, c.in_ok-go_on.ensures.effect.ended, (c.in_ok-go_on.ensures.effect.there c.walk.invariant.there).clears),
           );
     }

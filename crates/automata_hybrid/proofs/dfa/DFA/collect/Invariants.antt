@@ -8,17 +8,17 @@ use Rattle.automata_hybrid.specs.Owing.{IsUnsupported}
 use Rattle.automata_hybrid.specs.SearchedWalks.{HaveCalled}
 use Rattle.automata_hybrid.specs.Searches.{tape_in}
 use Rattle.automata_hybrid.specs.Starting.{MayStart}
-use Rattle.automata_hybrid.specs.Walking.{CanGoOn, HasItsState, IsNamedAt, start_count}
-use Rattle.automata_hybrid.specs.Walks.{Ended, Fresh}
+use Rattle.automata_hybrid.specs.Walking.{HasItsState, start_count}
+use Rattle.automata_hybrid.specs.Walks.{Ended, Fresh, Ids, IsHeldAt, keeping_of}
 use Rattle.automata_hybrid.proofs.LearningSets.{HasLearnedWalk}
 use Rattle.automata_hybrid.proofs.WalkSets.{Joins, steps_left}
 use Rattle.automata_hybrid.proofs.dfa.DFA.collect.Given as goal
 
-abbrev pub invariant-loop-walk : goal.invariant-loop-walk
-invariant-loop-walk l = record {
+abbrev pub invariant-walk : goal.invariant-walk
+invariant-walk l = record {
   of : IsCacheOf l.cache l.self;
   grown : IsGrown l.fn.cache l.cache;
-  holds : HasItsState l.cache.store.table l.walk.stage;
+  there : HasItsState l.cache.store.table l.walk.stage;
   counted : l.cache.count + start_count l.walk.stage ≤ l.fn.cache.count + l.walk.units + 1;
   few : l.walk.units ≤ l.input.end - l.input.start + 1;
   started : KnowsItsStart Forward l.self l.fn.cache.store l.input → l.cache.count ≤ l.fn.cache.count + l.walk.units;
@@ -26,11 +26,11 @@ invariant-loop-walk l = record {
   done : l.input.end < l.input.start → (l.cache ≡ l.fn.cache) × (l.patset ≡ l.fn.patset);
   idle : KnowsWhich l.self l.fn.cache.store l.input l.fn.patset → l.cache.count ≡ l.fn.cache.count;
   on : l.walk.stage ≡ Ended → ⊥;
-  at : IsNamedAt l.cache.store.table l.walk.stage l.at;
-  can : CanGoOn l.walk l.at;
+  holds : IsHeldAt l.cache.store.table l.walk.stage l.held;
+  keeping : keeping_of l.held ≡ Ids;
   learned : ClearedNothing l.fn.cache.store l.cache.store → l.input.start ≤ l.input.end → MayStart l.self l.input.anchored (tape_in Forward l.input).before → HasLearnedWalk l.self l.cache.store l.input l.walk;
   joins : (j : Joins l.self l.input l.walk l.fn.patset l.patset) × HaveCalled l.self l.input l.fn.patset j.k l.fn.cache.store l.walk l.cache.store;
 }
 
-abbrev pub decreases-loop-walk : goal.decreases-loop-walk
-decreases-loop-walk l = steps_left l.self l.input l.walk
+abbrev pub decreases-walk : goal.decreases-walk
+decreases-walk l = steps_left l.self l.input l.walk

@@ -1,18 +1,18 @@
-use Rattle.std.proofs.Common.{ℕ, ◌≡◌, ◌∙◌, ◌-◌, ◌<◌, ◌≤◌, inl, inr, length, Option, None, false, refl, sym, ap, subst, arith, get_or}
-use Rattle.std.specs.Prelude.{Err, IfErr, IfOk}
+use Rattle.std.proofs.Common.{◌≡◌, ◌∙◌, ◌-◌, ◌<◌, ◌≤◌, inl, inr, length, refl, sym, ap, subst, arith, get_or}
+use Rattle.std.specs.Prelude.{IfErr, OnOk}
 use Rattle.automata_base.specs.Answers.{offset_in}
 use Rattle.automata_base.specs.Input.{Input}
 use Rattle.automata_base.specs.Matches.{HalfMatch}
 use Rattle.automata_base.specs.Tapes.{Direction}
-use Rattle.automata_config.specs.declared.error.SearchError.TheVariants as search
 use Rattle.automata_hybrid.specs.Machine.{Machine}
 use Rattle.automata_hybrid.specs.OwingWalks.{IsCallEffect}
-use Rattle.automata_hybrid.specs.Resuming.{IsCallAnswer, IsCallRefused, resumed}
+use Rattle.automata_hybrid.specs.Resuming.{IsCallAnswer, IsCallRefused}
 use Rattle.automata_hybrid.specs.Searches.{tape_in}
 use Rattle.automata_hybrid.specs.Walking.{TellsNext}
-use Rattle.automata_hybrid.specs.Walks.{At, Ended, Walk, ended_walk, way_of, with_match, without_match}
+use Rattle.automata_hybrid.specs.Walks.{At, Ended, Walk, ended_walk, keeping_of, way_of, with_match, without_match}
 use Rattle.automata_hybrid.proofs.KnowingWalks.{units_none}
-use Rattle.automata_hybrid.proofs.Resuming.{effect_none, effect_stuck, refused_stuck}
+use Rattle.std.proofs.lemmas.Result.{IfErr-weaker, on_ok_weaker}
+use Rattle.automata_hybrid.proofs.Resuming.{answer_matched, effect_matched, effect_none, refused_matched}
 use Rattle.automata_hybrid.proofs.WalkCalls.{ended_at, next_done, next_ended, next_read, next_same, undone}
 use Rattle.automata_hybrid.proofs.WalkUnits.{units_in}
 use Rattle.automata_hybrid.proofs.dfa.DFA.go_on.Goals as goal
@@ -22,20 +22,18 @@ returns-then-has_ended-clause-answer c =
     let d : Direction = way_of c.args.way in
     let w : Walk = c.args.walk.now in
     let ended : w.stage ≡ Ended = subst (λ (v : Walk). v.stage ≡ Ended) c.forget_match.ensures (c.has_ended.ensures.yes c.if-has_ended.true) in
-    subst (λ (x : Walk). IsCallAnswer d c.args.self.now c.args.input.now (resumed w c.args.at.now) x c.args.cache.now.store c.args.cache.now.store None) (sym c.forget_match.ensures)
+    subst (λ (x : Walk). IsCallAnswer d c.args.self.now c.args.input.now w x c.args.cache.now.store c.args.cache.now.store) (sym c.forget_match.ensures)
     (record {
       tells = next_ended d c.args.self.now c.args.input.now w ended;
       goes_on = inl refl;
       stops = λ undone on. absurd (on ended);
-      named = tt;
-      kept = λ none. inl ended;
       there = λ there. there;
       learned = λ nothing. units_none d c.args.self.now c.args.cache.now.store c.args.input.now w.units;
     })
 
 pub returns-then-has_ended-clause-effect : goal.returns-then-has_ended-clause-effect
 returns-then-has_ended-clause-effect c =
-    effect_none (way_of c.args.way) c.args.self.now c.args.input.now c.args.walk.now c.args.at.now c.forget_match.new.self c.args.cache.now None
+    effect_none (keeping_of c.args.held.now) (way_of c.args.way) c.args.self.now c.args.input.now c.args.walk.now c.forget_match.new.self c.args.cache.now
     (inl (subst (λ (v : Walk). v.stage ≡ Ended) c.forget_match.ensures (c.has_ended.ensures.yes c.if-has_ended.true)))
     (ap (λ (v : Walk). v.units) c.forget_match.ensures)
 
@@ -45,15 +43,13 @@ returns-then-is_done-clause-answer c =
     let w : Walk = c.args.walk.now in
     let done : c.args.input.now.end < c.args.input.now.start = c.is_done.ensures.done.0 c.if-is_done.true in
     let same : c.end.new.self ≡ ended_walk w w.units = c.end.ensures ∙ ap (ended_walk w) (c.units.ensures ∙ ap (λ (v : Walk). v.units) c.forget_match.ensures) in
-    subst (λ (x : Walk). IsCallAnswer d c.args.self.now c.args.input.now (resumed w c.args.at.now) x c.args.cache.now.store c.args.cache.now.store None) (sym same)
+    subst (λ (x : Walk). IsCallAnswer d c.args.self.now c.args.input.now w x c.args.cache.now.store c.args.cache.now.store) (sym same)
     (record {
       tells =
           next_done d c.args.self.now c.args.input.now w w w.units done
           (subst (λ (v : Walk). v.stage ≡ Ended → ⊥) c.forget_match.ensures (c.has_ended.ensures.no c.if-has_ended.false));
       goes_on = inl refl;
       stops = λ undone. absurd (omega (arith, done, undone));
-      named = tt;
-      kept = λ none. inl refl;
       there = λ there. tt;
       learned = λ nothing. units_none d c.args.self.now c.args.cache.now.store c.args.input.now w.units;
     })
@@ -61,23 +57,9 @@ returns-then-is_done-clause-answer c =
 pub returns-then-is_done-clause-effect : goal.returns-then-is_done-clause-effect
 returns-then-is_done-clause-effect c =
     let done : c.args.input.now.end < c.args.input.now.start = c.is_done.ensures.done.0 c.if-is_done.true in
-    effect_none (way_of c.args.way) c.args.self.now c.args.input.now c.args.walk.now c.args.at.now c.end.new.self c.args.cache.now None
+    effect_none (keeping_of c.args.held.now) (way_of c.args.way) c.args.self.now c.args.input.now c.args.walk.now c.end.new.self c.args.cache.now
     (inr (inr (omega (arith, done))))
     (ap (λ (v : Walk). v.units) c.end.ensures ∙ (c.units.ensures ∙ ap (λ (v : Walk). v.units) c.forget_match.ensures))
-
-pub returns-then-is_stuck-clause-refusal : goal.returns-then-is_stuck-clause-refusal
-returns-then-is_stuck-clause-refusal c =
-    let stuck = c.is_stuck.ensures.yes c.if-is_stuck.true in
-    subst (λ (v : Walk). IsCallRefused (way_of c.args.way) c.args.self.now c.args.input.now (resumed v c.args.at.now) c.args.cache.now.store search.OutOfMemory) c.forget_match.ensures
-    (refused_stuck (way_of c.args.way) c.args.self.now c.args.input.now c.forget_match.new.self c.args.at.now c.args.cache.now stuck.0 stuck.1
-    (c.is_stuck.ensures.begun c.if-is_stuck.true) (c.has_ended.ensures.no c.if-has_ended.false))
-
-pub returns-then-is_stuck-clause-effect : goal.returns-then-is_stuck-clause-effect
-returns-then-is_stuck-clause-effect c =
-    let stuck = c.is_stuck.ensures.yes c.if-is_stuck.true in
-    subst (λ (v : Walk). IsCallEffect {T = Option ℕ} (way_of c.args.way) c.args.self.now c.args.input.now (resumed v c.args.at.now) c.forget_match.new.self c.args.cache.now c.args.cache.now (Err search.OutOfMemory)) c.forget_match.ensures
-    (effect_stuck (way_of c.args.way) c.args.self.now c.args.input.now c.forget_match.new.self c.args.at.now c.args.cache.now stuck.0 stuck.1
-    (c.is_stuck.ensures.begun c.if-is_stuck.true) (c.has_ended.ensures.no c.if-has_ended.false) c.forget_match.new.self)
 
 pub returns-in-Some-clause-answer : goal.returns-in-Some-clause-answer
 returns-in-Some-clause-answer c =
@@ -89,7 +71,7 @@ returns-in-Some-clause-answer c =
     let stage : w.stage ≡ At left.0 = subst (λ (v : Walk). v.stage ≡ At left.0) c.forget_match.ensures left.1 in
     let few : w.told < length left.0.patterns = subst (λ (v : Walk). v.told < length left.0.patterns) c.forget_match.ensures left.2 in
     let same : c.tell.new.self ≡ with_match (without_match w) c.new.result = c.tell.ensures ∙ ap (λ (v : Walk). with_match v c.new.result) c.forget_match.ensures in
-    subst (λ (x : Walk). IsCallAnswer d m input (resumed w c.args.at.now) x c.args.cache.now.store c.args.cache.now.store c.args.at.now) (sym same)
+    subst (λ (x : Walk). IsCallAnswer d m input w x c.args.cache.now.store c.args.cache.now.store) (sym same)
     (record {
       tells =
           next_same d m input (without_match w) left.0 c.new.result stage few
@@ -97,8 +79,6 @@ returns-in-Some-clause-answer c =
           (ap (λ (h : HalfMatch). h.offset) c.new.ensures ∙ (c.place_offset-place.ensures ∙ ap (λ n. offset_in d input (n - 1)) (c.units-in-Some.ensures ∙ ap (λ (v : Walk). v.units) c.forget_match.ensures)));
       goes_on = inr (λ ended. ended_at left.0 (sym ended ∙ stage), inr (refl, refl));
       stops = λ undone on ended. absurd (ended_at left.0 (sym ended ∙ stage));
-      named = c.requires.at;
-      kept = λ none. inr (subst (λ (v : Walk). v.lost ≡ false) c.forget_match.ensures (c.is_stuck.ensures.no c.if-is_stuck.false none));
       there = λ there. there;
       learned = λ nothing. units_none d m c.args.cache.now.store input w.units;
     })
@@ -106,7 +86,7 @@ returns-in-Some-clause-answer c =
 pub returns-in-Some-clause-effect : goal.returns-in-Some-clause-effect
 returns-in-Some-clause-effect c =
     let left = c.in-Some.ensures.left in
-    effect_none (way_of c.args.way) c.args.self.now c.args.input.now c.args.walk.now c.args.at.now c.tell.new.self c.args.cache.now c.args.at.now
+    effect_none (keeping_of c.args.held.now) (way_of c.args.way) c.args.self.now c.args.input.now c.args.walk.now c.tell.new.self c.args.cache.now
     (inr (inl (
       left.0,
       subst (λ (v : Walk). v.stage ≡ At left.0) c.forget_match.ensures left.1,
@@ -125,15 +105,13 @@ returns-then-units-last_place-clause-answer c =
     let past : length (tape_in d input).bytes < c.forget_match.new.self.units = omega (arith, units, c.units-2.ensures, c.last_place.ensures, c.if-units-last_place.true) in
     let more : length (tape_in d input).bytes < w.units = subst (λ (v : Walk). length (tape_in d input).bytes < v.units) c.forget_match.ensures past in
     let same : c.end-then-units-last_place.new.self ≡ ended_walk w w.units = c.end-then-units-last_place.ensures ∙ ap (ended_walk w) (c.units-then-units-last_place.ensures ∙ ap (λ (v : Walk). v.units) c.forget_match.ensures) in
-    subst (λ (x : Walk). IsCallAnswer d m input (resumed w c.args.at.now) x c.args.cache.now.store c.args.cache.now.store None) (sym same)
+    subst (λ (x : Walk). IsCallAnswer d m input w x c.args.cache.now.store c.args.cache.now.store) (sym same)
     (record {
       tells =
           subst (λ (v : Walk). TellsNext d m input v (ended_walk w w.units)) c.forget_match.ensures
           (next_read d m input c.forget_match.new.self w w.units (c.has_ended.ensures.no c.if-has_ended.false) c.in_default.ensures.none past);
       goes_on = inl refl;
       stops = λ undone on ended j l reads. (let few : j ≤ length (tape_in d input).bytes = reads.0 in absurd (omega (arith, few, l, more)));
-      named = tt;
-      kept = λ none. inl refl;
       there = λ there. tt;
       learned = λ nothing. units_none d m c.args.cache.now.store input w.units;
     })
@@ -141,21 +119,24 @@ returns-then-units-last_place-clause-answer c =
 pub returns-then-units-last_place-clause-effect : goal.returns-then-units-last_place-clause-effect
 returns-then-units-last_place-clause-effect c =
     let units : c.units-2.result ≡ c.args.walk.now.units = c.units-2.ensures ∙ ap (λ (v : Walk). v.units) c.forget_match.ensures in
-    effect_none (way_of c.args.way) c.args.self.now c.args.input.now c.args.walk.now c.args.at.now c.end-then-units-last_place.new.self c.args.cache.now None
+    effect_none (keeping_of c.args.held.now) (way_of c.args.way) c.args.self.now c.args.input.now c.args.walk.now c.end-then-units-last_place.new.self c.args.cache.now
     (inr (inr (omega (arith, units, c.last_place.ensures, c.if-units-last_place.true))))
     (ap (λ (v : Walk). v.units) c.end-then-units-last_place.ensures ∙ (c.units-then-units-last_place.ensures ∙ ap (λ (v : Walk). v.units) c.forget_match.ensures))
 
 pub returns-clause-answer : goal.returns-clause-answer
 returns-clause-answer c =
-    subst (λ (v : Walk). IfOk c.walk_on.result (IsCallAnswer (way_of c.args.way) c.args.self.now c.args.input.now (resumed v c.args.at.now) c.walk_on.new.walk c.args.cache.now.store c.walk_on.new.cache.store)) c.forget_match.ensures
-    c.walk_on.ensures.answer
+    on_ok_weaker c.walk_on.result (answer_matched (keeping_of c.args.held.now) (way_of c.args.way) c.args.self.now c.args.input.now c.args.walk.now c.walk_on.new.walk c.args.cache.now.store c.walk_on.new.cache.store)
+    (subst (λ (v : Walk). OnOk c.walk_on.result (IsCallAnswer (way_of c.args.way) c.args.self.now c.args.input.now v c.walk_on.new.walk c.args.cache.now.store c.walk_on.new.cache.store)) c.forget_match.ensures
+    c.walk_on.ensures.answer)
 
 pub returns-clause-refusal : goal.returns-clause-refusal
 returns-clause-refusal c =
-    subst (λ (v : Walk). IfErr c.walk_on.result (IsCallRefused (way_of c.args.way) c.args.self.now c.args.input.now (resumed v c.args.at.now) c.walk_on.new.cache.store)) c.forget_match.ensures
-    c.walk_on.ensures.refusal
+    IfErr-weaker c.walk_on.result _ _ (refused_matched (keeping_of c.args.held.now) (way_of c.args.way) c.args.self.now c.args.input.now c.args.walk.now c.walk_on.new.walk c.walk_on.new.cache.store)
+    (subst (λ (v : Walk). IfErr c.walk_on.result (IsCallRefused (keeping_of c.args.held.now) (way_of c.args.way) c.args.self.now c.args.input.now v c.walk_on.new.cache.store)) c.forget_match.ensures
+    c.walk_on.ensures.refusal)
 
 pub returns-clause-effect : goal.returns-clause-effect
 returns-clause-effect c =
-    subst (λ (v : Walk). IsCallEffect (way_of c.args.way) c.args.self.now c.args.input.now (resumed v c.args.at.now) c.walk_on.new.walk c.args.cache.now c.walk_on.new.cache c.walk_on.result) c.forget_match.ensures
-    c.walk_on.ensures.effect
+    effect_matched (keeping_of c.args.held.now) (way_of c.args.way) c.args.self.now c.args.input.now c.args.walk.now c.walk_on.new.walk c.args.cache.now c.walk_on.new.cache c.walk_on.result
+    (subst (λ (v : Walk). IsCallEffect (keeping_of c.args.held.now) (way_of c.args.way) c.args.self.now c.args.input.now v c.walk_on.new.walk c.args.cache.now c.walk_on.new.cache c.walk_on.result) c.forget_match.ensures
+    c.walk_on.ensures.effect)

@@ -3,6 +3,7 @@ use Rattle.automata_base.specs.Tapes.{Forward}
 use Rattle.automata_hybrid.proofs.Owing.{is_store}
 use Rattle.automata_hybrid.proofs.OwingWalks.{may_refuse_which}
 use Rattle.automata_hybrid.proofs.WalkAnswers.{walk_memory}
+use Rattle.automata_hybrid.specs.Walks.{Ids}
 use Rattle.automata_hybrid.proofs.dfa.DFA.try_which_overlapping_matches.Goals as goal
 
 pub returns-clause-which : goal.returns-clause-which
@@ -19,6 +20,6 @@ returns-clause-which c =
           s.refusal;
       free = λ f.
           IfErr-weaker r _ _ (λ e x.
-          walk_memory Forward m cache input c.haystack-haystack.ensures.within.1 s.of f.reach f.supported f.clears x.0 x.1 e x.3)
+          walk_memory Forward m cache input c.haystack-haystack.ensures.within.1 s.of f.reach f.supported f.clears Ids x.0 x.1 e x.3)
           s.refusal;
     }

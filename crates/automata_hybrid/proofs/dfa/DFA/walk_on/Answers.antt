@@ -1,33 +1,34 @@
-use Rattle.std.proofs.Common.{ℕ, suc, ◌≡◌, ◌∙◌, ◌+◌, ◌-◌, ◌≤◌, inl, inr, length, Option, None, refl, sym, ap, subst, arith}
-use Rattle.std.specs.Prelude.{Ok, Result}
+use Rattle.std.proofs.Common.{ℕ, ◌≡◌, ◌∙◌, ◌-◌, ◌≤◌, inl, inr, length, Option, refl, sym, ap, subst, arith}
+use Rattle.std.specs.Prelude.{Err, Ok, Result}
 use Rattle.automata_base.specs.Input.{Input}
 use Rattle.automata_base.specs.Powerset.{dead}
 use Rattle.automata_base.specs.Tapes.{Direction}
-use Rattle.automata_base.proofs.Paths.Orders.{none_some}
 use Rattle.automata_config.specs.declared.error.SearchError.{SearchError}
-use Rattle.automata_hybrid.specs.Caches.{CacheView}
-use Rattle.automata_hybrid.specs.Growing.{ClearedNothing, IsGrown}
-use Rattle.automata_hybrid.specs.KnowingWalks.{HasLearnedUnits}
+use Rattle.automata_config.specs.declared.error.SearchError.TheVariants as search
+use Rattle.automata_hybrid.specs.Caches.{CacheView, with_store}
+use Rattle.automata_hybrid.specs.Growing.{IsGrown}
 use Rattle.automata_hybrid.specs.Machine.{Machine}
 use Rattle.automata_hybrid.specs.OwingWalks.{IsCallEffect}
 use Rattle.automata_hybrid.specs.Progressing.{finished, started}
-use Rattle.automata_hybrid.specs.Resuming.{IsCallAnswer, resumed}
-use Rattle.automata_hybrid.specs.SearchedWalks.{EndsAtUnit, EndsCall, IsLeftAtUnit}
+use Rattle.automata_hybrid.specs.Resuming.{IsAdvanceEffect, IsCallAnswer, IsCallRefused}
+use Rattle.automata_hybrid.specs.SearchedWalks.{IsLeftAtUnit}
 use Rattle.automata_hybrid.specs.Searches.{HasReadNoQuit, given_up_offset, state_in, tape_in}
-use Rattle.automata_hybrid.specs.Table.{Rows, Leads}
-use Rattle.automata_hybrid.specs.Walking.{Arrives, Finishes, HasItsState, HasToldBy, IsAdvanceRefusal, IsArrival, IsNamedAt, WalkReads, start_count}
-use Rattle.automata_hybrid.specs.Walks.{Ended, Stage, Walk, ended_walk, way_of}
-use Rattle.automata_hybrid.proofs.Growing.{grown_after, grown_moved, grown_trans, nothing_second}
-use Rattle.automata_hybrid.proofs.KnowingWalks.{has_state, nothing_after, state_after, state_still, still_same, unit_knows, units_all, units_none}
+use Rattle.automata_hybrid.specs.Stores.{with_searched}
+use Rattle.automata_hybrid.specs.Table.{Rows, Leads, Names}
+use Rattle.automata_hybrid.specs.Walking.{Arrives, Finishes, HasItsState, HasToldBy, IsAdvanceRefusal, IsArrival}
+use Rattle.automata_hybrid.specs.Walks.{Holds, Ids, IsHeldAt, Stage, Walk, ended_walk, keeping_of, way_of}
+use Rattle.automata_hybrid.specs.declared.search.units.Arrival.{Arrival}
+use Rattle.automata_hybrid.proofs.Growing.{grown_after, grown_moved, grown_trans}
+use Rattle.automata_hybrid.proofs.KnowingWalks.{has_state, state_after, still_same, unit_knows, units_none}
 use Rattle.automata_hybrid.proofs.Reading.{at_err}
-use Rattle.automata_hybrid.proofs.Resuming.{refused_on}
-use Rattle.automata_hybrid.proofs.SearchedWalks.{dies_at, reads_some, recounts_ended, recounts_left, unit_high, unit_low}
+use Rattle.automata_hybrid.proofs.Resuming.{known_refusal, refused_on}
+use Rattle.automata_hybrid.proofs.SearchedWalks.{dies_at, reads_some, recounts_left, step_leaves, step_refuses, unit_high, unit_low}
 use Rattle.automata_hybrid.proofs.Searching.{dead_more, if_err}
 use Rattle.automata_hybrid.proofs.Stepping.{dead_tagged}
 use Rattle.automata_hybrid.proofs.WalkCalls.{clean_here, ended_at, next_finishes, told_here, walk_clears_none}
 use Rattle.automata_hybrid.proofs.Walked.{finish_start}
 use Rattle.automata_hybrid.proofs.WalkUnits.{units_in}
-use Rattle.automata_hybrid.proofs.dfa.DFA.walk_on.Goals.{in-None, in-Some}
+use Rattle.automata_hybrid.proofs.WalkingOn.{effect_on, effect_unheld, last, learned_on, refused_unheld}
 use Rattle.automata_hybrid.proofs.dfa.DFA.walk_on.Goals as goal
 
 pub returns-in_err-from-clause-refusal : goal.returns-in_err-from-clause-refusal
@@ -36,7 +37,7 @@ returns-in_err-from-clause-refusal c =
     let w : Walk = c.args.walk.now in
     let r = c.requires.walk.reads in
     if_err c.from_residual.result _ _ c.from_residual.ensures.1
-    (refused_on d c.args.self.now c.args.input.now w c.args.at.now _ _ c.requires.walk c.requires.at.kept (λ k t.
+    (refused_on (keeping_of c.args.held.now) d c.args.self.now c.args.input.now w _ _ c.requires.walk.told r (λ k t.
     (r.undone, inl (told_here d c.args.self.now c.args.input.now w k c.see_skips.ensures t r.on r.all_told, c.in_err-from.ensures.refusal))))
 
 pub returns-in_err-from-clause-effect : goal.returns-in_err-from-clause-effect
@@ -47,7 +48,7 @@ returns-in_err-from-clause-effect c =
     let w : Walk = c.args.walk.now in
     let r = c.requires.walk.reads in
     let e = c.in_err-from.ensures.effect in
-    at_err c.from_residual.result _ (λ (x : Result (Option ℕ) SearchError). IsCallEffect d m input (resumed w c.args.at.now) w c.args.cache.now c.resume.new.cache x) c.from_residual.ensures.1
+    at_err c.from_residual.result _ (λ (x : Result (Unit {0}) SearchError). IsCallEffect (keeping_of c.args.held.now) d m input w w c.args.cache.now c.resume.new.cache x) c.from_residual.ensures.1
     (record {
       rises = tt;
       cost = tt;
@@ -59,9 +60,9 @@ returns-in_err-from-clause-effect c =
       grown = e.grown;
       there = e.there;
       learned = λ nothing. tt;
-      known = λ knows. (let same = e.known (λ may. (knows c.requires.walk.told.0 c.requires.walk.told.1 r may).0) in (still_same c.args.cache.now c.resume.new.cache same.0, λ kept. same.1));
+      known = λ knows. (let same = e.known (λ may. (knows c.requires.walk.told.0 c.requires.walk.told.1 r may).0) in (still_same c.args.cache.now c.resume.new.cache same.0, known_refusal (keeping_of c.args.held.now) d m input w c.in_err-from.field-0.0 same.1));
       ended = tt;
-      left = inl (inr c.in_err-from.ensures.refusal, e.err);
+      left = inl (c.in_err-from.ensures.refusal, e.err);
       ready = λ none. absurd (reads_some input w r none);
     })
 
@@ -78,15 +79,13 @@ returns-then-is_dead-clause-answer c =
     let clean : HasReadNoQuit d m input w.units = clean_here d m input w c.requires.walk.told.0 c.requires.walk.told.1 r.on in
     let ends : Finishes d m input w.units w.units = finish_start d m input w.units (omega (arith, units, r.left)) clean dies in
     let same : c.end.new.self ≡ ended_walk w w.units = c.end.ensures ∙ ap (ended_walk w) c.units-then-is_dead.ensures in
-    subst (λ (x : Walk). IsCallAnswer d m input (resumed w c.args.at.now) x c.args.cache.now.store c.end_search.new.self.store None) (sym same)
+    subst (λ (x : Walk). IsCallAnswer d m input w x c.args.cache.now.store c.end_search.new.self.store) (sym same)
     (record {
       tells =
           next_finishes d m input w w w.units r.undone c.in_ok-from.ensures.answer.may
           (λ k t. told_here d m input w k c.see_skips.ensures t r.on r.all_told) ends;
       goes_on = inl refl;
       stops = λ undone on ended. ends.stops;
-      named = tt;
-      kept = λ none. inl refl;
       there = λ there. tt;
       learned = λ nothing. units_none d m c.end_search.new.self.store input w.units;
     })
@@ -116,7 +115,7 @@ returns-then-is_dead-clause-effect c =
     let count : new.count ≡ between.count = c.end_search.ensures.counted ∙ c.search_start.ensures.counted in
     let grown = grown_after old between new e.grown moved in
     let there : HasItsState old.store.table w.stage → IsGrown old new = (λ there. grown_trans old between new (e.there there) moved) in
-    subst (λ (x : Walk). IsCallEffect {T = Option ℕ} d m input (resumed w c.args.at.now) x old new (Ok None)) (sym same)
+    subst (λ (x : Walk). IsCallEffect {T = Unit {0}} (keeping_of c.args.held.now) d m input w x old new (Ok tt)) (sym same)
     (record {
       rises = omega arith;
       cost = omega (arith, e.cost, count);
@@ -134,7 +133,7 @@ returns-then-is_dead-clause-effect c =
       known = λ knows. (
           let all = knows c.requires.walk.told.0 c.requires.walk.told.1 r c.in_ok-from.ensures.answer.may in
           let still = e.known (λ may. all.0) in
-          ((there (has_state d m old.store input w.stage all.0)).idle (count ∙ ap (λ (v : CacheView). v.count) still.0), λ kept. tt));
+          ((there (has_state d m old.store input w.stage all.0)).idle (count ∙ ap (λ (v : CacheView). v.count) still.0), tt));
       ended = inr (
         reads_some input w r,
         w.units,
@@ -155,8 +154,8 @@ returns-in_err-arrival-clause-refusal c =
     let s = c.requires.walk.reads in
     let r : IsAdvanceRefusal d c.args.self.now c.advance.new.cache.store c.args.input.now w.units c.in_err-arrival.field-0.0 = subst (λ n. IsAdvanceRefusal d c.args.self.now c.advance.new.cache.store c.args.input.now n c.in_err-arrival.field-0.0) c.units-2.ensures c.in_err-arrival.ensures.refusal in
     if_err c.from_residual-in_err-arrival.result _ _ c.from_residual-in_err-arrival.ensures.1
-    (refused_on d c.args.self.now c.args.input.now w c.args.at.now _ _ c.requires.walk c.requires.at.kept (λ k t.
-    (s.undone, inr (c.in_ok-from.ensures.answer.may, (r.0, r.1, r.2, r.3, r.4 k (told_here d c.args.self.now c.args.input.now w k c.see_skips.ensures t s.on s.all_told), r.5)))))
+    (refused_on (keeping_of c.args.held.now) d c.args.self.now c.args.input.now w _ _ c.requires.walk.told s (λ k t.
+    (s.undone, inr (c.in_ok-from.ensures.answer.may, (r.0, r.1, r.2, r.3, r.4 k (told_here d c.args.self.now c.args.input.now w k c.see_skips.ensures t s.on s.all_told), step_refuses (keeping_of c.args.held.now) d c.args.self.now c.advance.new.cache.store c.args.input.now r.0 c.in_err-arrival.field-0.0 r.5)))))
 
 pub returns-in_err-arrival-clause-effect : goal.returns-in_err-arrival-clause-effect
 returns-in_err-arrival-clause-effect c =
@@ -179,10 +178,10 @@ returns-in_err-arrival-clause-effect c =
     let moved : IsGrown between new = grown_trans between begun new began a.grown in
     let grown = grown_after old between new e.grown moved in
     let there : HasItsState old.store.table w.stage → IsGrown old new = (λ there. grown_trans old between new (e.there there) moved) in
-    let left : IsLeftAtUnit d m input between.store.searched w.units begun.store new.store c.in_err-arrival.field-0.0 =
-    subst (λ n. IsLeftAtUnit d m input between.store.searched n begun.store new.store c.in_err-arrival.field-0.0) c.units-2.ensures
+    let left : IsLeftAtUnit Ids d m input between.store.searched w.units begun.store new.store c.in_err-arrival.field-0.0 =
+    subst (λ n. IsLeftAtUnit Ids d m input between.store.searched n begun.store new.store c.in_err-arrival.field-0.0) c.units-2.ensures
     (a.left between.store.searched begins) in
-    at_err c.from_residual-in_err-arrival.result _ (λ (x : Result (Option ℕ) SearchError). IsCallEffect d m input (resumed w c.args.at.now) w old new x) c.from_residual-in_err-arrival.ensures.1
+    at_err c.from_residual-in_err-arrival.result _ (λ (x : Result (Unit {0}) SearchError). IsCallEffect (keeping_of c.args.held.now) d m input w w old new x) c.from_residual-in_err-arrival.ensures.1
     (record {
       rises = tt;
       cost = tt;
@@ -203,17 +202,144 @@ returns-in_err-arrival-clause-effect c =
           let to : IsGrown old begun = grown_trans old between begun (e.there has) began in
           let here : HasToldBy d m input c.units-2.result k = subst (λ n. HasToldBy d m input n k) (sym c.units-2.ensures) (told_here d m input w k c.see_skips.ensures c.requires.walk.told.1 r.on r.all_told) in
           let idle = a.known k here (λ j l reads clean told. unit_knows d m old begun input w.units j k to count all.1 (subst (λ n. n ≤ j) c.units-2.ensures l) reads clean told) in
-          ((there has).idle (idle.0 ∙ count), λ kept. idle.1));
+          ((there has).idle (idle.0 ∙ count), known_refusal (keeping_of c.args.held.now) d m input w c.in_err-arrival.field-0.0 idle.1));
       ended = tt;
       left =
-          inr (recounts_left d m input old.store between.store begun.store new.store w.units r.undone r.left
-          e.grown.clears cleared a.grown.clears e.progress c.in_err-arrival.field-0.0 left);
+          inr (recounts_left (keeping_of c.args.held.now) d m input old.store between.store begun.store new.store w.units r.undone r.left
+          e.grown.clears cleared a.grown.clears e.progress c.in_err-arrival.field-0.0 (step_leaves (keeping_of c.args.held.now) d m input between.store.searched w.units begun.store new.store c.in_err-arrival.field-0.0 left));
       ready = λ none. absurd (reads_some input w r none);
     })
+
+pub returns-in_default-clause-answer : goal.returns-in_default-clause-answer
+returns-in_default-clause-answer c =
+    let d : Direction = way_of c.args.way in
+    let m : Machine = c.args.self.now in
+    let input : Input = c.args.input.now in
+    let w : Walk = c.args.walk.now in
+    let r = c.requires.walk.reads in
+    let arrival : Arrival = c.in_ok-arrival.arrival in
+    let first : c.span_offset-place.result ≡ given_up_offset d input w.units = c.span_offset-place.ensures ∙ ap (given_up_offset d input) c.units.ensures in
+    let begins : c.search_start.new.self ≡ with_store c.resume.new.cache (with_searched c.resume.new.cache.store (started c.resume.new.cache.store.searched (given_up_offset d input w.units))) =
+    subst (λ at. c.search_start.new.self ≡ with_store c.resume.new.cache (with_searched c.resume.new.cache.store (started c.resume.new.cache.store.searched at))) first c.search_start.ensures.value in
+    let advanced : IsAdvanceEffect d m input w.units c.search_start.new.self c.advance.new.cache (Ok arrival) =
+    subst (λ n. IsAdvanceEffect d m input n c.search_start.new.self c.advance.new.cache (Ok arrival)) c.units-2.ensures c.in_ok-arrival.ensures.effect in
+    let arrives : IsArrival d m c.advance.new.cache.store.table input w.units arrival.id arrival.units =
+    subst (λ n. IsArrival d m c.advance.new.cache.store.table input n arrival.id arrival.units) c.units-2.ensures c.in_ok-arrival.ensures.arrives in
+    let ended : c.end-in_default.new.self ≡ ended_walk w arrival.units = c.end-in_default.ensures in
+    let finish : Finishes d m input w.units arrival.units = subst (λ (o : Option ℕ). IsArrival d m c.advance.new.cache.store.table input w.units o arrival.units) c.in_default.«is» arrives in
+    subst (λ (x : Walk). IsCallAnswer d m input w x c.args.cache.now.store c.end_search-in_default.new.self.store) (sym ended)
+    (record {
+      tells = next_finishes d m input w w arrival.units r.undone c.in_ok-from.ensures.answer.may (λ k t. told_here d m input w k c.see_skips.ensures t r.on r.all_told) finish;
+      goes_on = inl refl;
+      stops = λ undone on ends. finish.stops;
+      there = λ there. tt;
+      learned =
+          learned_on d m input w c.in_ok-from.from c.args.cache.now c.resume.new.cache c.search_start.new.self c.advance.new.cache
+          c.haystack-haystack.ensures.within.1 c.see_skips.ensures c.requires.walk.told r c.in_ok-from.ensures.effect c.in_ok-from.ensures.answer begins arrival advanced arrives
+          (keeping_of c.args.held.now) (ended_walk w arrival.units) c.end_search-in_default.new.self c.span_offset-last.result refl c.span_offset-last.ensures c.end_search-in_default.ensures.value
+          (λ e. (
+            refl,
+            finish.stops _ (omega (
+              arith,
+              (last d m input w c.in_ok-from.from c.args.cache.now c.resume.new.cache c.search_start.new.self c.advance.new.cache
+                  c.haystack-haystack.ensures.within.1 c.see_skips.ensures c.requires.walk.told r c.in_ok-from.ensures.effect c.in_ok-from.ensures.answer begins arrival advanced arrives).2,
+            )),
+          ));
+    })
+
+pub returns-in_default-clause-effect : goal.returns-in_default-clause-effect
+returns-in_default-clause-effect c =
+    let d : Direction = way_of c.args.way in
+    let m : Machine = c.args.self.now in
+    let input : Input = c.args.input.now in
+    let w : Walk = c.args.walk.now in
+    let r = c.requires.walk.reads in
+    let arrival : Arrival = c.in_ok-arrival.arrival in
+    let first : c.span_offset-place.result ≡ given_up_offset d input w.units = c.span_offset-place.ensures ∙ ap (given_up_offset d input) c.units.ensures in
+    let begins : c.search_start.new.self ≡ with_store c.resume.new.cache (with_searched c.resume.new.cache.store (started c.resume.new.cache.store.searched (given_up_offset d input w.units))) =
+    subst (λ at. c.search_start.new.self ≡ with_store c.resume.new.cache (with_searched c.resume.new.cache.store (started c.resume.new.cache.store.searched at))) first c.search_start.ensures.value in
+    let advanced : IsAdvanceEffect d m input w.units c.search_start.new.self c.advance.new.cache (Ok arrival) =
+    subst (λ n. IsAdvanceEffect d m input n c.search_start.new.self c.advance.new.cache (Ok arrival)) c.units-2.ensures c.in_ok-arrival.ensures.effect in
+    let arrives : IsArrival d m c.advance.new.cache.store.table input w.units arrival.id arrival.units =
+    subst (λ n. IsArrival d m c.advance.new.cache.store.table input n arrival.id arrival.units) c.units-2.ensures c.in_ok-arrival.ensures.arrives in
+    let ended : c.end-in_default.new.self ≡ ended_walk w arrival.units = c.end-in_default.ensures in
+    let finish : Finishes d m input w.units arrival.units = subst (λ (o : Option ℕ). IsArrival d m c.advance.new.cache.store.table input w.units o arrival.units) c.in_default.«is» arrives in
+    subst (λ (x : Walk). IsCallEffect {T = Unit {0}} (keeping_of c.args.held.now) d m input w x c.args.cache.now c.end_search-in_default.new.self (Ok tt)) (sym ended)
+    (effect_on d m input w c.in_ok-from.from c.args.cache.now c.resume.new.cache c.search_start.new.self c.advance.new.cache
+    c.haystack-haystack.ensures.within.1 c.see_skips.ensures c.requires.walk.told r c.in_ok-from.ensures.effect c.in_ok-from.ensures.answer begins arrival advanced arrives
+    (keeping_of c.args.held.now) (ended_walk w arrival.units) c.end_search-in_default.new.self c.span_offset-last.result refl c.span_offset-last.ensures c.end_search-in_default.ensures.value
+    (λ e. (
+      refl,
+      finish.stops _ (omega (
+        arith,
+        (last d m input w c.in_ok-from.from c.args.cache.now c.resume.new.cache c.search_start.new.self c.advance.new.cache
+            c.haystack-haystack.ensures.within.1 c.see_skips.ensures c.requires.walk.told r c.in_ok-from.ensures.effect c.in_ok-from.ensures.answer begins arrival advanced arrives).2,
+      )),
+    )))
+
+pub returns-in_err-next-clause-refusal : goal.returns-in_err-next-clause-refusal
+returns-in_err-next-clause-refusal c =
+    let d : Direction = way_of c.args.way in
+    let m : Machine = c.args.self.now in
+    let input : Input = c.args.input.now in
+    let w : Walk = c.args.walk.now in
+    let r = c.requires.walk.reads in
+    let arrival : Arrival = c.in_ok-arrival.arrival in
+    let first : c.span_offset-place.result ≡ given_up_offset d input w.units = c.span_offset-place.ensures ∙ ap (given_up_offset d input) c.units.ensures in
+    let begins : c.search_start.new.self ≡ with_store c.resume.new.cache (with_searched c.resume.new.cache.store (started c.resume.new.cache.store.searched (given_up_offset d input w.units))) =
+    subst (λ at. c.search_start.new.self ≡ with_store c.resume.new.cache (with_searched c.resume.new.cache.store (started c.resume.new.cache.store.searched at))) first c.search_start.ensures.value in
+    let advanced : IsAdvanceEffect d m input w.units c.search_start.new.self c.advance.new.cache (Ok arrival) =
+    subst (λ n. IsAdvanceEffect d m input n c.search_start.new.self c.advance.new.cache (Ok arrival)) c.units-2.ensures c.in_ok-arrival.ensures.effect in
+    let arrives : IsArrival d m c.advance.new.cache.store.table input w.units arrival.id arrival.units =
+    subst (λ n. IsArrival d m c.advance.new.cache.store.table input n arrival.id arrival.units) c.units-2.ensures c.in_ok-arrival.ensures.arrives in
+    let arrived : Arrives d m c.advance.new.cache.store.table input w.units c.in-Some.id arrival.units = subst (λ (o : Option ℕ). IsArrival d m c.advance.new.cache.store.table input w.units o arrival.units) c.in-Some.«is» arrives in
+    if_err c.from_residual-in_err-next.result search.OutOfMemory _ c.from_residual-in_err-next.ensures.1
+    (subst (λ k. IsCallRefused k d m input w c.advance.new.cache.store search.OutOfMemory) (sym c.in_err-next.ensures.refused)
+    (refused_unheld d m input w c.in_ok-from.from c.args.cache.now c.resume.new.cache c.search_start.new.self c.advance.new.cache
+    c.haystack-haystack.ensures.within.1 c.see_skips.ensures c.requires.walk.told r c.in_ok-from.ensures.effect c.in_ok-from.ensures.answer begins arrival advanced arrives c.in-Some.id arrived))
+
+pub returns-in_err-next-clause-effect : goal.returns-in_err-next-clause-effect
+returns-in_err-next-clause-effect c =
+    let d : Direction = way_of c.args.way in
+    let m : Machine = c.args.self.now in
+    let input : Input = c.args.input.now in
+    let w : Walk = c.args.walk.now in
+    let r = c.requires.walk.reads in
+    let arrival : Arrival = c.in_ok-arrival.arrival in
+    let first : c.span_offset-place.result ≡ given_up_offset d input w.units = c.span_offset-place.ensures ∙ ap (given_up_offset d input) c.units.ensures in
+    let begins : c.search_start.new.self ≡ with_store c.resume.new.cache (with_searched c.resume.new.cache.store (started c.resume.new.cache.store.searched (given_up_offset d input w.units))) =
+    subst (λ at. c.search_start.new.self ≡ with_store c.resume.new.cache (with_searched c.resume.new.cache.store (started c.resume.new.cache.store.searched at))) first c.search_start.ensures.value in
+    let advanced : IsAdvanceEffect d m input w.units c.search_start.new.self c.advance.new.cache (Ok arrival) =
+    subst (λ n. IsAdvanceEffect d m input n c.search_start.new.self c.advance.new.cache (Ok arrival)) c.units-2.ensures c.in_ok-arrival.ensures.effect in
+    let arrives : IsArrival d m c.advance.new.cache.store.table input w.units arrival.id arrival.units =
+    subst (λ n. IsArrival d m c.advance.new.cache.store.table input n arrival.id arrival.units) c.units-2.ensures c.in_ok-arrival.ensures.arrives in
+    let arrived : Arrives d m c.advance.new.cache.store.table input w.units c.in-Some.id arrival.units = subst (λ (o : Option ℕ). IsArrival d m c.advance.new.cache.store.table input w.units o arrival.units) c.in-Some.«is» arrives in
+    at_err c.from_residual-in_err-next.result search.OutOfMemory (λ (x : Result (Unit {0}) SearchError). IsCallEffect (keeping_of c.args.held.now) d m input w w c.args.cache.now c.advance.new.cache x) c.from_residual-in_err-next.ensures.1
+    (subst (λ k. IsCallEffect {T = Unit {0}} k d m input w w c.args.cache.now c.advance.new.cache (Err search.OutOfMemory)) (sym c.in_err-next.ensures.refused)
+    (effect_unheld d m input w c.in_ok-from.from c.args.cache.now c.resume.new.cache c.search_start.new.self c.advance.new.cache
+    c.haystack-haystack.ensures.within.1 c.see_skips.ensures c.requires.walk.told r c.in_ok-from.ensures.effect c.in_ok-from.ensures.answer begins arrival advanced arrives c.in-Some.id arrived w))
 
 pub stand-requires-clause-here : goal.stand-requires-clause-here
 stand-requires-clause-here c = λ k t.
     told_here (way_of c.args.way) c.args.self.now c.args.input.now c.args.walk.now k c.see_skips.ensures t c.requires.walk.reads.on c.requires.walk.reads.all_told
+
+pub stand-requires-clause-arrives : goal.stand-requires-clause-arrives
+stand-requires-clause-arrives c =
+    let d : Direction = way_of c.args.way in
+    let m : Machine = c.args.self.now in
+    let input : Input = c.args.input.now in
+    let w : Walk = c.args.walk.now in
+    let r = c.requires.walk.reads in
+    let arrival : Arrival = c.in_ok-arrival.arrival in
+    let first : c.span_offset-place.result ≡ given_up_offset d input w.units = c.span_offset-place.ensures ∙ ap (given_up_offset d input) c.units.ensures in
+    let begins : c.search_start.new.self ≡ with_store c.resume.new.cache (with_searched c.resume.new.cache.store (started c.resume.new.cache.store.searched (given_up_offset d input w.units))) =
+    subst (λ at. c.search_start.new.self ≡ with_store c.resume.new.cache (with_searched c.resume.new.cache.store (started c.resume.new.cache.store.searched at))) first c.search_start.ensures.value in
+    let advanced : IsAdvanceEffect d m input w.units c.search_start.new.self c.advance.new.cache (Ok arrival) =
+    subst (λ n. IsAdvanceEffect d m input n c.search_start.new.self c.advance.new.cache (Ok arrival)) c.units-2.ensures c.in_ok-arrival.ensures.effect in
+    let arrives : IsArrival d m c.advance.new.cache.store.table input w.units arrival.id arrival.units =
+    subst (λ n. IsArrival d m c.advance.new.cache.store.table input n arrival.id arrival.units) c.units-2.ensures c.in_ok-arrival.ensures.arrives in
+    subst (λ (t : Rows). Arrives d m t input w.units c.in-Some.id arrival.units) (sym c.end_search-2.ensures.table)
+    (subst (λ (o : Option ℕ). IsArrival d m c.advance.new.cache.store.table input w.units o arrival.units) c.in-Some.«is» arrives)
 
 pub returns-clause-answer : goal.returns-clause-answer
 returns-clause-answer c =
@@ -222,48 +348,27 @@ returns-clause-answer c =
     let input : Input = c.args.input.now in
     let w : Walk = c.args.walk.now in
     let r = c.requires.walk.reads in
-    let a = c.in_ok-arrival.ensures.effect in
-    let between : CacheView = c.resume.new.cache in
-    let begun : CacheView = c.search_start.new.self in
-    let new : CacheView = c.advance.new.cache in
-    let id : Option ℕ = c.in_ok-arrival.arrival.id in
-    let n : ℕ = c.in_ok-arrival.arrival.units in
-    let arrives : IsArrival d m new.store.table input w.units id n = subst (λ k. IsArrival d m new.store.table input k id n) c.units-2.ensures c.in_ok-arrival.ensures.arrives in
-    let moved : IsGrown between begun = grown_moved between begun c.search_start.ensures.value in
-    let whole : IsGrown between new = grown_trans between begun new moved a.grown in
-    let units : ClearedNothing c.args.cache.now.store new.store → HasLearnedUnits d m new.store input w.units n = (λ nothing.
-    let after : ClearedNothing between.store new.store = nothing_after c.args.cache.now between new c.in_ok-from.ensures.effect.grown whole nothing in
-    let second : ClearedNothing begun.store new.store = nothing_second between begun new moved a.grown after in
-    subst (λ k. HasLearnedUnits d m new.store input k n) c.units-2.ensures (a.learned second)) in
-    elim c.match-arrival.branch [
-      | in-None v ↦
-          let finish : Finishes d m input w.units n = subst (λ (o : Option ℕ). IsArrival d m new.store.table input w.units o n) v.in-None.«is» arrives in
-          subst (λ (x : Walk). IsCallAnswer d m input (resumed w c.args.at.now) x c.args.cache.now.store new.store id) (sym (v.walk-is ∙ v.end-in-None.ensures))
-          (record {
-            tells =
-                next_finishes d m input w w n r.undone c.in_ok-from.ensures.answer.may
-                (λ k t. told_here d m input w k c.see_skips.ensures t r.on r.all_told) finish;
-            goes_on = inl refl;
-            stops = λ undone on ended. finish.stops;
-            named = subst (IsNamedAt new.store.table Ended) (sym v.in-None.«is») tt;
-            kept = λ none. inl refl;
-            there = λ there. tt;
-            learned = units;
-          })
-      | in-Some v ↦
-          let s = v.stand.ensures in
-          let arrived : Arrives d m new.store.table input w.units v.in-Some.id n = subst (λ (o : Option ℕ). IsArrival d m new.store.table input w.units o n) v.in-Some.«is» arrives in
-          subst (λ (x : Walk). IsCallAnswer d m input (resumed w c.args.at.now) x c.args.cache.now.store new.store id) (sym v.walk-is)
-          (record {
-            tells = s.tells;
-            goes_on = inr (λ ended. ended_at s.at.0 (sym ended ∙ s.at.1), inl (omega (arith, s.units, arrived.behind, arrived.more)));
-            stops = λ undone on ended. absurd (ended_at s.at.0 (sym ended ∙ s.at.1));
-            named = subst (IsNamedAt new.store.table v.stand.new.walk.stage) (sym v.in-Some.«is») s.at;
-            kept = λ none. absurd (none_some (sym none ∙ v.in-Some.«is»));
-            there = λ there. subst (λ (x : Stage). HasItsState new.store.table x) (sym s.at.1) (record { id = v.in-Some.id; named = s.at.2 });
-            learned = λ nothing. subst (HasLearnedUnits d m new.store input w.units) (sym s.units) (units nothing);
-          })
-    ]
+    let arrival : Arrival = c.in_ok-arrival.arrival in
+    let first : c.span_offset-place.result ≡ given_up_offset d input w.units = c.span_offset-place.ensures ∙ ap (given_up_offset d input) c.units.ensures in
+    let begins : c.search_start.new.self ≡ with_store c.resume.new.cache (with_searched c.resume.new.cache.store (started c.resume.new.cache.store.searched (given_up_offset d input w.units))) =
+    subst (λ at. c.search_start.new.self ≡ with_store c.resume.new.cache (with_searched c.resume.new.cache.store (started c.resume.new.cache.store.searched at))) first c.search_start.ensures.value in
+    let advanced : IsAdvanceEffect d m input w.units c.search_start.new.self c.advance.new.cache (Ok arrival) =
+    subst (λ n. IsAdvanceEffect d m input n c.search_start.new.self c.advance.new.cache (Ok arrival)) c.units-2.ensures c.in_ok-arrival.ensures.effect in
+    let arrives : IsArrival d m c.advance.new.cache.store.table input w.units arrival.id arrival.units =
+    subst (λ n. IsArrival d m c.advance.new.cache.store.table input n arrival.id arrival.units) c.units-2.ensures c.in_ok-arrival.ensures.arrives in
+    let s = c.stand.ensures in
+    let arrived : Arrives d m c.advance.new.cache.store.table input w.units c.in-Some.id arrival.units = subst (λ (o : Option ℕ). IsArrival d m c.advance.new.cache.store.table input w.units o arrival.units) c.in-Some.«is» arrives in
+    record {
+      tells = s.tells;
+      goes_on = inr (λ ended. ended_at s.at.0 (sym ended ∙ s.at.1), inl (omega (arith, s.units, arrived.behind, arrived.more)));
+      stops = λ undone on ended. absurd (ended_at s.at.0 (sym ended ∙ s.at.1));
+      there = λ there. subst (λ (x : Stage). HasItsState c.end_search-2.new.self.store.table x) (sym s.at.1) (record { id = c.in-Some.id; named = s.at.2 });
+      learned =
+          learned_on d m input w c.in_ok-from.from c.args.cache.now c.resume.new.cache c.search_start.new.self c.advance.new.cache
+          c.haystack-haystack.ensures.within.1 c.see_skips.ensures c.requires.walk.told r c.in_ok-from.ensures.effect c.in_ok-from.ensures.answer begins arrival advanced arrives
+          (keeping_of c.args.held.now) c.stand.new.walk c.end_search-2.new.self c.span_offset-last.result s.units c.span_offset-last.ensures c.end_search-2.ensures.value
+          (λ ended. absurd (ended_at s.at.0 (sym ended ∙ s.at.1)));
+    }
 
 pub returns-clause-effect : goal.returns-clause-effect
 returns-clause-effect c =
@@ -272,74 +377,26 @@ returns-clause-effect c =
     let input : Input = c.args.input.now in
     let w : Walk = c.args.walk.now in
     let r = c.requires.walk.reads in
-    let e = c.in_ok-from.ensures.effect in
-    let a = c.in_ok-arrival.ensures.effect in
-    let old : CacheView = c.args.cache.now in
-    let between : CacheView = c.resume.new.cache in
-    let begun : CacheView = c.search_start.new.self in
-    let new : CacheView = c.advance.new.cache in
-    let id : Option ℕ = c.in_ok-arrival.arrival.id in
-    let n : ℕ = c.in_ok-arrival.arrival.units in
-    let arrives : IsArrival d m new.store.table input w.units id n = subst (λ k. IsArrival d m new.store.table input k id n) c.units-2.ensures c.in_ok-arrival.ensures.arrives in
-    let first : c.span_offset-place.result ≡ given_up_offset d input c.units-2.result = c.span_offset-place.ensures ∙ ap (given_up_offset d input) (c.units.ensures ∙ sym c.units-2.ensures) in
-    let begins : begun.store.searched ≡ started between.store.searched (given_up_offset d input c.units-2.result) =
-    ap (λ (v : CacheView). v.store.searched) c.search_start.ensures.value ∙ ap (started between.store.searched) first in
-    let cleared : begun.store.clears ≡ between.store.clears = ap (λ (v : CacheView). v.store.clears) c.search_start.ensures.value in
-    let moved : IsGrown between begun = grown_moved between begun c.search_start.ensures.value in
-    let whole : IsGrown between new = grown_trans between begun new moved a.grown in
-    let grown = grown_after old between new e.grown whole in
-    let there : HasItsState old.store.table w.stage → IsGrown old new = (λ there. grown_trans old between new (e.there there) whole) in
-    let last : (k : ℕ) × (w.units ≤ k) × (n ≡ suc k) × WalkReads d m input k × EndsAtUnit d input between.store.searched w.units k begun.store new.store =
-    subst (λ x. (k : ℕ) × (x ≤ k) × (n ≡ suc k) × WalkReads d m input k × EndsAtUnit d input between.store.searched x k begun.store new.store) c.units-2.ensures
-    (a.ended between.store.searched begins) in
-    let ended : EndsAtUnit d input old.store.searched w.units last.0 old.store new.store =
-    recounts_ended input (given_up_offset d input w.units) (unit_low d input w.units r.undone) (unit_high d input w.units r.undone r.left)
-    old.store between.store begun.store new.store e.grown.clears cleared a.grown.clears e.progress (given_up_offset d input last.0) last.4 in
-    let some = reads_some input w r in
-    let same : c.match-arrival.walk.units ≡ n = elim c.match-arrival.branch [
-      | in-None v ↦ ap (λ (x : Walk). x.units) (v.walk-is ∙ v.end-in-None.ensures)
-      | in-Some v ↦ ap (λ (x : Walk). x.units) v.walk-is ∙ v.stand.ensures.units
-    ] in
-    let most : new.count + w.units ≤ old.count + (input.end - input.start + 1) + start_count w.stage = omega (arith, a.most, e.cost, c.search_start.ensures.counted, c.units-2.ensures) in
+    let arrival : Arrival = c.in_ok-arrival.arrival in
+    let first : c.span_offset-place.result ≡ given_up_offset d input w.units = c.span_offset-place.ensures ∙ ap (given_up_offset d input) c.units.ensures in
+    let begins : c.search_start.new.self ≡ with_store c.resume.new.cache (with_searched c.resume.new.cache.store (started c.resume.new.cache.store.searched (given_up_offset d input w.units))) =
+    subst (λ at. c.search_start.new.self ≡ with_store c.resume.new.cache (with_searched c.resume.new.cache.store (started c.resume.new.cache.store.searched at))) first c.search_start.ensures.value in
+    let advanced : IsAdvanceEffect d m input w.units c.search_start.new.self c.advance.new.cache (Ok arrival) =
+    subst (λ n. IsAdvanceEffect d m input n c.search_start.new.self c.advance.new.cache (Ok arrival)) c.units-2.ensures c.in_ok-arrival.ensures.effect in
+    let arrives : IsArrival d m c.advance.new.cache.store.table input w.units arrival.id arrival.units =
+    subst (λ n. IsArrival d m c.advance.new.cache.store.table input n arrival.id arrival.units) c.units-2.ensures c.in_ok-arrival.ensures.arrives in
+    let s = c.stand.ensures in
+    effect_on d m input w c.in_ok-from.from c.args.cache.now c.resume.new.cache c.search_start.new.self c.advance.new.cache
+    c.haystack-haystack.ensures.within.1 c.see_skips.ensures c.requires.walk.told r c.in_ok-from.ensures.effect c.in_ok-from.ensures.answer begins arrival advanced arrives
+    (keeping_of c.args.held.now) c.stand.new.walk c.end_search-2.new.self c.span_offset-last.result s.units c.span_offset-last.ensures c.end_search-2.ensures.value
+    (λ ended. absurd (ended_at s.at.0 (sym ended ∙ s.at.1)))
+
+pub returns-clause-held : goal.returns-clause-held
+returns-clause-held c =
+    let s = c.stand.ensures in
     record {
-      rises = omega (arith, same, last.1, last.2);
-      cost = omega (arith, same, a.cost, e.cost, c.search_start.ensures.counted, c.units-2.ensures);
-      most = omega (arith, most, r.left);
-      started = λ knows. (
-          let still : between.count ≡ old.count = ap (λ (v : CacheView). v.count) (e.known (λ may. knows)).0 in (
-            omega (arith, still, a.most, c.search_start.ensures.counted, c.units-2.ensures, r.left),
-            omega (arith, same, still, a.cost, c.search_start.ensures.counted, c.units-2.ensures),
-          ));
-      roomy = λ room. walk_clears_none old new w.stage _ grown there (omega (arith, most, r.left)) room;
-      grown = grown;
-      there = there;
-      learned = λ nothing k told ready may. (
-          let after : ClearedNothing between.store new.store = nothing_after old between new e.grown whole nothing in
-          let second : ClearedNothing begun.store new.store = nothing_second between begun new moved a.grown after in
-          let units : HasLearnedUnits d m new.store input w.units n = subst (λ x. HasLearnedUnits d m new.store input x n) c.units-2.ensures (a.learned second) in
-          let here : HasToldBy d m input w.units k = told_here d m input w k c.see_skips.ensures told r.on r.all_told in (
-            state_still d m between new input w.stage whole after c.in_ok-from.ensures.answer.learned,
-            units_all d m new.store input w.units k id n arrives here units,
-          ));
-      known = λ knows. (
-          let k : ℕ = c.requires.walk.told.0 in
-          let all = knows k c.requires.walk.told.1 r c.in_ok-from.ensures.answer.may in
-          let still = e.known (λ may. all.0) in
-          let count : begun.count ≡ old.count = c.search_start.ensures.counted ∙ ap (λ (v : CacheView). v.count) still.0 in
-          let has = has_state d m old.store input w.stage all.0 in
-          let to : IsGrown old begun = grown_trans old between begun (e.there has) moved in
-          let here : HasToldBy d m input c.units-2.result k = subst (λ x. HasToldBy d m input x k) (sym c.units-2.ensures) (told_here d m input w k c.see_skips.ensures c.requires.walk.told.1 r.on r.all_told) in
-          let idle = a.known k here (λ j l reads clean told. unit_knows d m old begun input w.units j k to count all.1 (subst (λ x. x ≤ j) c.units-2.ensures l) reads clean told) in
-          ((there has).idle (idle.0 ∙ count), λ kept. tt));
-      ended = elim c.match-arrival.branch [
-        | in-None v ↦
-            let finish : Finishes d m input w.units n = subst (λ (o : Option ℕ). IsArrival d m new.store.table input w.units o n) v.in-None.«is» arrives in
-            subst (λ (x : Walk). EndsCall d m input w x old.store new.store) (sym (v.walk-is ∙ v.end-in-None.ensures))
-            (inr (some, last.0, inr (last.1, last.2, last.3, λ e. (refl, finish.stops (suc last.0) (omega (arith, last.2)))), ended))
-        | in-Some v ↦
-            subst (λ (x : Walk). EndsCall d m input w x old.store new.store) (sym v.walk-is)
-            (inr (some, last.0, inr (last.1, v.stand.ensures.units ∙ last.2, last.3, λ e. absurd (ended_at v.stand.ensures.at.0 (sym e ∙ v.stand.ensures.at.1))), ended))
-      ];
-      left = tt;
-      ready = λ none. absurd (reads_some input w r none);
+      holds = subst (λ (x : Stage). IsHeldAt c.end_search-2.new.self.store.table x c.in_ok-next.next) (sym s.at.1)
+          (subst (λ (t : Rows). Holds t c.in_ok-next.next s.at.0) (sym c.end_search-2.ensures.table)
+          (c.in_ok-next.ensures.holds s.at.0 (subst (λ (t : Rows). Names t c.in-Some.id s.at.0) c.end_search-2.ensures.table s.at.2)));
+      keeping = c.in_ok-next.ensures.keeping;
     }

@@ -26,7 +26,7 @@ returns-in-Err-clause-call c =
     let old = c.args.state.now in
     let new = c.try_search_overlapping_rev.new.state in
     record {
-      step = λ k h. step_refused Backward m input old k h c.in-Err.error s.errors s.lost (λ ended. s.ready (inl ended) (inl ended))
+      step = λ k h. step_refused Backward m input old k h c.in-Err.error s.errors (λ ended. s.ready (inl ended))
           (λ fresh u. same_err (s.unsupported fresh u)) s.free;
       told = λ k h. tt;
       kept = λ k h. stayed Backward m input old k h new s.refused;

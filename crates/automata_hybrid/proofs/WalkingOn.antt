@@ -1,0 +1,196 @@
+-- One call of a walk that reads units: what it makes of its cache.
+use Rattle.std.proofs.Common.{ℕ, suc, ◌≡◌, ◌∙◌, ◌+◌, ◌-◌, ◌≤◌, ◌<◌, ◌⊎◌, inl, inr, false, length, None, refl, sym, ap, subst, arith}
+use Rattle.std.specs.Prelude.{Err, Ok}
+use Rattle.automata_base.specs.Answers.{offset_in}
+use Rattle.automata_base.specs.Input.{Input}
+use Rattle.automata_base.specs.Tapes.{Direction, is_split}
+use Rattle.automata_config.specs.declared.error.SearchError.TheVariants as search
+use Rattle.automata_hybrid.specs.Caches.{CacheView, with_store}
+use Rattle.automata_hybrid.specs.Growing.{ClearedNothing, IsGrown}
+use Rattle.automata_hybrid.specs.KnowingWalks.{HasLearnedUnits, IsToRead, KnowsItsState, KnowsUnits, KnowsWalk}
+use Rattle.automata_hybrid.specs.Machine.{Machine}
+use Rattle.automata_hybrid.specs.OwingWalks.{IsCallEffect}
+use Rattle.automata_hybrid.specs.Progressing.{finished, started}
+use Rattle.automata_hybrid.specs.Resuming.{IsAdvanceEffect, IsCallRefused, IsResumeAnswer, IsResumeEffect}
+use Rattle.automata_hybrid.specs.Searched.{IsOpenAt}
+use Rattle.automata_hybrid.specs.SearchedWalks.{EndsAtUnit, IsLeftAtUnit}
+use Rattle.automata_hybrid.specs.Searches.{HasReadNoQuit, Skips, given_up_offset, state_in, tape_in}
+use Rattle.automata_hybrid.specs.Stores.{with_searched}
+use Rattle.automata_hybrid.specs.Walking.{Arrives, HasItsState, HasTold, HasToldBy, IsArrival, IsSilent, IsUnheld, IsWalkOf, WalkReads, start_count}
+use Rattle.automata_hybrid.specs.Walks.{Ended, Keeping, States, Walk}
+use Rattle.automata_hybrid.specs.declared.search.units.Arrival.{Arrival}
+use Rattle.automata_hybrid.proofs.Growing.{grown_after, grown_moved, grown_trans, nothing_second}
+use Rattle.automata_hybrid.proofs.KnowingWalks.{has_state, nothing_after, state_still, unit_knows, units_all, units_moved}
+use Rattle.automata_hybrid.proofs.Resuming.{refused_on}
+use Rattle.automata_hybrid.proofs.SearchedWalks.{reads_some, recounts_ended, recounts_left, span_ends, unit_high, unit_low}
+use Rattle.automata_hybrid.proofs.WalkCalls.{told_here, walk_clears_none}
+use Rattle.automata_hybrid.proofs.WalkUnits.{units_in}
+
+-- a walk was gone on with from an ID, a search began at its first unit, and it came to where it tells patterns, or to its end
+module _ (way : Direction) (m : Machine) (input : Input) (w : Walk) (from : ℕ) (old between begun mid : CacheView)
+    (inside : input.end ≤ length input.haystack) (skips : Skips m ⊎ (Skips m → ⊥)) (told : IsWalkOf way m input w) (r : IsToRead input w.stage w.units w.told)
+    (e : IsResumeEffect {T = ℕ} way m input w.stage old between (Ok from))
+    (resumes : IsResumeAnswer way m input w between.store from)
+    (begins : begun ≡ with_store between (with_searched between.store (started between.store.searched (given_up_offset way input w.units))))
+    (arrival : Arrival) (a : IsAdvanceEffect way m input w.units begun mid (Ok arrival))
+    (arrives : IsArrival way m mid.store.table input w.units arrival.id arrival.units) where
+  counts : begun.count ≡ between.count
+  counts = ap (λ (v : CacheView). v.count) begins
+
+  cleared : begun.store.clears ≡ between.store.clears
+  cleared = ap (λ (v : CacheView). v.store.clears) begins
+
+  began : IsGrown between begun
+  began = grown_moved between begun begins
+
+  whole : IsGrown between mid
+  whole = grown_trans between begun mid began a.grown
+
+  there : HasItsState old.store.table w.stage → IsGrown old mid
+  there has = grown_trans old between mid (e.there has) whole
+
+  here : (k : ℕ) → HasTold way m input w k → HasToldBy way m input w.units k
+  here k t = told_here way m input w k skips t r.on r.all_told
+
+  abbrev Last : Type 0
+  Last =
+      (k : ℕ) × (w.units ≤ k) × (arrival.units ≡ suc k) × WalkReads way m input k
+      × IsOpenAt input between.store.searched (given_up_offset way input w.units) (given_up_offset way input k) begun.store mid.store
+
+  pub last : Last
+  last = a.moved between.store.searched (ap (λ (v : CacheView). v.store.searched) begins)
+
+  last_within : last.0 ≤ input.end - input.start
+  last_within =
+      let units : input.end - input.start ≡ length (tape_in way input).bytes = units_in way input r.undone inside in
+      let few : last.0 ≤ length (tape_in way input).bytes = last.3.0 in omega (arith, units, few)
+
+  still : KnowsItsState way m old.store input w.stage → between.count ≡ old.count
+  still knows = ap (λ (v : CacheView). v.count) (e.known (λ may. knows)).0
+
+  most : mid.count + w.units ≤ old.count + (input.end - input.start + 1) + start_count w.stage
+  most = omega (arith, a.most, e.cost, counts)
+
+  knows_count : KnowsWalk way m old.store input w → mid.count ≡ old.count
+  knows_count knows =
+      let k : ℕ = told.0 in
+      let all = knows k told.1 r resumes.may in
+      let count : begun.count ≡ old.count = counts ∙ still all.0 in
+      let has = has_state way m old.store input w.stage all.0 in
+      let to : IsGrown old begun = grown_trans old between begun (e.there has) began in
+      let idle = a.known k (here k told.1) (λ j l reads clean t. unit_knows way m old begun input w.units j k to count all.1 l reads clean t) in
+      idle.0 ∙ count
+
+  has_known : KnowsWalk way m old.store input w → HasItsState old.store.table w.stage
+  has_known knows = has_state way m old.store input w.stage (knows told.0 told.1 r resumes.may).0
+
+  -- and the search ended at the last unit that was read
+  module _ (keeping : Keeping) (next : Walk) (new : CacheView) (at : ℕ) (units : next.units ≡ arrival.units)
+      (place : at ≡ given_up_offset way input (arrival.units - 1))
+      (ends : new ≡ with_store mid (with_searched mid.store (finished mid.store.searched at)))
+      (stops : next.stage ≡ Ended → (next.found ≡ None) × (WalkReads way m input (suc last.0) → ⊥)) where
+    ended_count : new.count ≡ mid.count
+    ended_count = ap (λ (v : CacheView). v.count) ends
+
+    after : IsGrown between new
+    after = grown_trans between mid new whole (grown_moved mid new ends)
+
+    ended_there : HasItsState old.store.table w.stage → IsGrown old new
+    ended_there has = grown_trans old between new (e.there has) after
+
+    here_at : at ≡ given_up_offset way input last.0
+    here_at = place ∙ ap (given_up_offset way input) (omega (arith, last.2))
+
+    ends_at : EndsAtUnit way input old.store.searched w.units last.0 old.store new.store
+    ends_at =
+        recounts_ended input (given_up_offset way input w.units) (unit_low way input w.units r.undone) (unit_high way input w.units r.undone r.left)
+        old.store between.store begun.store new.store e.grown.clears cleared (grown_trans begun mid new a.grown (grown_moved mid new ends)).clears e.progress (given_up_offset way input last.0)
+        (span_ends way input between.store.searched w.units last.0 (given_up_offset way input last.0) at begun mid new r.undone last_within a.grown last.4 here_at ends)
+
+    pub effect_on : IsCallEffect {T = Unit {0}} keeping way m input w next old new (Ok tt)
+    effect_on = record {
+      rises = omega (arith, units, last.1, last.2);
+      cost = omega (arith, units, a.cost, e.cost, counts, ended_count);
+      most = omega (arith, most, r.left, ended_count);
+      started = λ knows. (
+          let same : between.count ≡ old.count = still knows in
+          (omega (arith, same, a.most, counts, r.left, ended_count), omega (arith, units, same, a.cost, counts, ended_count)));
+      roomy = λ room. walk_clears_none old new w.stage _ (grown_after old between new e.grown after) ended_there (omega (arith, most, r.left, ended_count)) room;
+      grown = grown_after old between new e.grown after;
+      there = ended_there;
+      learned = λ nothing k t ready may. (
+          let second : ClearedNothing between.store new.store = nothing_after old between new e.grown after nothing in (
+            state_still way m between new input w.stage after second resumes.learned,
+            units_known k t second,
+          ));
+      known = λ knows. ((ended_there (has_known knows)).idle (ended_count ∙ knows_count knows), tt);
+      ended = inr (reads_some input w r, last.0, inr (last.1, units ∙ last.2, last.3, stops), ends_at);
+      left = tt;
+      ready = λ none. absurd (reads_some input w r none);
+    } where
+      units_known : (k : ℕ) → HasTold way m input w k → ClearedNothing between.store new.store → KnowsUnits way m new.store input w.units k
+      units_known k t nothing =
+          let arrived : IsArrival way m new.store.table input w.units arrival.id arrival.units = subst (λ (v : CacheView). IsArrival way m v.store.table input w.units arrival.id arrival.units) (sym ends) arrives in
+          units_all way m new.store input w.units k arrival.id arrival.units arrived (here k t)
+          (units_moved way m input begun mid new w.units arrival.units ends a.learned (nothing_second between begun new began (grown_trans begun mid new a.grown (grown_moved mid new ends)) nothing))
+
+    pub learned_on : ClearedNothing old.store new.store → HasLearnedUnits way m new.store input w.units next.units
+    learned_on nothing =
+        subst (HasLearnedUnits way m new.store input w.units) (sym units)
+        (units_moved way m input begun mid new w.units arrival.units ends a.learned
+        (nothing_second between begun new began (grown_trans begun mid new a.grown (grown_moved mid new ends))
+        (nothing_after old between new e.grown after nothing)))
+
+  -- or the state there can't be held
+  module _ (id : ℕ) (arrived : Arrives way m mid.store.table input w.units id arrival.units) where
+    same_place : arrived.place ≡ last.0
+    same_place = omega (arith, arrived.behind, last.2)
+
+    clean_before : HasReadNoQuit way m input last.0
+    clean_before j byte l unit = arrived.clean j byte (omega (arith, l, last.2)) unit
+
+    pub unheld_on : IsUnheld way m input last.0 search.OutOfMemory
+    unheld_on = record {
+      clean = λ byte unit. arrived.clean last.0 byte (omega (arith, last.2)) unit;
+      tells = subst (λ n. 0 < length (state_in way m input n).patterns) last.2 (arrived.tells (state_in way m input arrival.units) arrived.named);
+      unskipped = subst (λ n. Skips m → is_split input.haystack (offset_in way input n) ≡ false) same_place arrived.unskipped;
+      memory = refl;
+    }
+
+    left_unheld : IsLeftAtUnit States way m input between.store.searched w.units begun.store mid.store search.OutOfMemory
+    left_unheld = (
+      last.0,
+      last.1,
+      last.3,
+      clean_before,
+      subst (IsSilent way m input w.units) same_place arrived.silent,
+      inr unheld_on,
+      inr (tt, last.4),
+    )
+
+    pub refused_unheld : IsCallRefused States way m input w mid.store search.OutOfMemory
+    refused_unheld = refused_on States way m input w mid.store search.OutOfMemory told r (λ k t. (
+      r.undone,
+      inr (
+        resumes.may,
+        (last.0, last.1, last.3, clean_before, subst (λ n. HasToldBy way m input n k) same_place (arrived.silent k (here k t)), inr unheld_on),
+      ),
+    ))
+
+    pub effect_unheld : (next : Walk) → IsCallEffect {T = Unit {0}} States way m input w next old mid (Err search.OutOfMemory)
+    effect_unheld next = record {
+      rises = tt;
+      cost = tt;
+      most = omega (arith, most, r.left);
+      started = λ knows. (let same : between.count ≡ old.count = still knows in (omega (arith, same, a.most, counts, r.left), tt));
+      roomy = λ room. walk_clears_none old mid w.stage _ (grown_after old between mid e.grown whole) there (omega (arith, most, r.left)) room;
+      grown = grown_after old between mid e.grown whole;
+      there = there;
+      learned = λ nothing. tt;
+      known = λ knows. ((there (has_known knows)).idle (knows_count knows), inr (last.0, last.1, unheld_on));
+      ended = tt;
+      left =
+          inr (recounts_left States way m input old.store between.store begun.store mid.store w.units r.undone r.left
+          e.grown.clears cleared a.grown.clears e.progress search.OutOfMemory left_unheld);
+      ready = λ none. absurd (reads_some input w r none);
+    }
