@@ -1,4 +1,4 @@
-pub mod Answered
-pub mod Patched
-pub mod Prefixed
-pub mod Shaped
+pub mod Patches
+pub mod Prefixes
+pub mod Refusals
+pub mod Shapes

@@ -1,10 +1,10 @@
 pub mod Adding
 pub mod Cycles
+pub mod DepthFirst
 pub mod InRange
 pub mod Led
 pub mod Looped
 pub mod Matched
 pub mod Occurring
 pub mod Refused
-pub mod Searched
 pub mod Walked

@@ -11,7 +11,8 @@ use Rattle.automata_base.specs.Refusals.{alternates_of}
 use Rattle.automata_base.specs.ReversedSizes.{asking_edges, free_edges}
 use Rattle.automata_base.specs.Turns.{copies, copy_of}
 
--- The copies of the states that are reached from the roots, and after them the entry, which goes on to the roots' copies.
+-- The copies of the states that are reached from the roots, and after them the entry, which goes on to the copies of
+-- the roots.
 pub record IsAdded
     (old new : List Node) (turned : List State) (roots : List ℕ) (p entry : ℕ) (items : List ℕ) : Type 0 where
   pub reached : (q : ℕ) → In q items ↔ IsReached Every turned roots q

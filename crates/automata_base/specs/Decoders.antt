@@ -1,4 +1,4 @@
--- A decoder of UTF-8 over classes of bytes, and its product with an NFA.
+-- A decoder of UTF-8, as an automaton over classes of bytes, and its product with an NFA.
 use Rattle.std.specs.Prelude.{ℕ, ◌≡◌, ◌+◌, ◌*◌, ◌/◌, ◌%◌, ◌&&◌, Bool, true, cond, leb, List, [], ◌∷◌, ◌++◌, map}
 use Rattle.std.specs.Prelude.{slice_index}
 use Rattle.automata_base.specs.declared.nfa.thompson.utf8.Class.{Class}
@@ -24,7 +24,7 @@ abbrev pub classes_below : List Class → Bool
 classes_below [] = true
 classes_below (c ∷ cs) = all_below 11 c.to && classes_below cs
 
--- The number of an NFA's state beside a decoder's.
+-- The number of a pair: a state of the NFA and a state of the decoder.
 abbrev pub pair : ℕ → ℕ → ℕ
 pair q s = q * 11 + s
 
@@ -32,10 +32,11 @@ pair q s = q * 11 + s
 abbrev pub meets : Class → Range → Bool
 meets c r = leb c.first r.hi && leb r.lo c.last
 
+-- Where a range leads by one class: to its target, with where the class leads from the decoder's state `s`.
 abbrev pub pairs_in : ℕ → Range → Class → List ℕ
 pairs_in s r c = cond (meets c r) (pair r.next (slice_index c.to s) ∷ []) []
 
--- Where a range leads: by each class that it meets, to one state of the decoder.
+-- By all classes; and where several ranges lead.
 abbrev pub range_pairs : List Class → ℕ → Range → List ℕ
 range_pairs [] s r = []
 range_pairs (c ∷ cs) s r = pairs_in s r c ++ range_pairs cs s r
@@ -50,22 +51,22 @@ byte_pairs classes s (Assert look next) = []
 byte_pairs classes s (Read ranges) = ranges_pairs classes s ranges
 byte_pairs classes s (Accept p) = []
 
--- The states beside one of the decoder's.
+-- States of the NFA, each with this state of the decoder.
 abbrev pub pairs_at : ℕ → List ℕ → List ℕ
 pairs_at s ids = map (λ q. pair q s) ids
 
--- Where an NFA's state beside a decoder's leads, looks taken as true.
+-- Where a pair leads, looks taken as true.
 abbrev pub node_pairs : List Class → ℕ → Node → List ℕ
 node_pairs classes s x = pairs_at s (children_at x all_true) ++ byte_pairs classes s x
 
 abbrev pub pairs_of : List Class → List State → ℕ → List ℕ
 pairs_of classes states x = node_pairs classes (x % 11) (node_in states (x / 11))
 
--- The pair is no match, or the decoder is between two characters.
+-- The pair is not at a match state, or it is between two characters.
 abbrev pub IsBoundary : List State → ℕ → Type 0
 IsBoundary states x = IsMatchAt (node_in states (x / 11)) → x % 11 ≡ 0
 
--- Each match that is reached from the starts is reached between two characters alone.
+-- Every pair at a match state that is reached from the starts is between two characters.
 abbrev pub EndsAtBoundaries : List Class → List State → List ℕ → Type 0
 EndsAtBoundaries classes states starts =
     (x : ℕ) → IsReachedBy (pairs_of classes states) (pairs_at 0 starts) x → IsBoundary states x

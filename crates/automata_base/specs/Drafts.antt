@@ -5,7 +5,8 @@ use Rattle.automata_base.specs.declared.nfa.thompson.Flags.{Flags}
 use Rattle.automata_base.specs.declared.nfa.thompson.State.{State}
 use Rattle.automata_base.specs.declared.nfa.thompson.builder.Builder.TheInside.{Inside}
 use Rattle.automata_base.specs.declared.nfa.thompson.building.BuildError.{BuildError}
-use Rattle.automata_base.specs.declared.nfa.thompson.building.BuildError.TheVariants.{TooLarge, OutOfMemory, NoPattern, NFA}
+use Rattle.automata_base.specs.declared.nfa.thompson.building.BuildError.TheVariants.{TooLarge, OutOfMemory}
+use Rattle.automata_base.specs.declared.nfa.thompson.building.BuildError.TheVariants.{NoPattern, NFA}
 use Rattle.automata_base.specs.declared.nfa.thompson.NfaError.{NfaError}
 use Rattle.automata_base.specs.declared.nfa.thompson.NfaError.TheVariants as door
 use Rattle.automata_base.specs.Door.{IsDoor}
@@ -13,8 +14,8 @@ use Rattle.automata_base.specs.Getters.{SkipsLazily}
 use Rattle.automata_base.specs.Nodes.{Automaton}
 use Rattle.automata_base.specs.Shapes.{Shape, UnionShape, RangeShape, shape_of, shape_added, built_of}
 
--- Its states as they were added and patched, the pattern that was begun and not finished, the starts of those that
--- were finished, and the flags.
+-- Its states as they were added and patched, the pattern that was started and not finished, the starts of the
+-- finished patterns, and the flags.
 pub record Draft : Type 0 where
   pub states : List Shape
   pub pattern : Option ℕ
@@ -36,12 +37,13 @@ blank flags = record { states = []; pattern = None; starts = []; flags = flags }
 abbrev pub default_flags : Flags
 default_flags = record { utf8 = false; reverse = false; line_terminator = 10 }
 
--- The same with other states, with a pattern begun, and with it finished.
+-- The same with other states, with a pattern started, and with it finished.
 abbrev pub with_states : Draft → List Shape → Draft
-with_states draft states = record { states = states; pattern = draft.pattern; starts = draft.starts; flags = draft.flags }
+with_states draft states =
+    record { states = states; pattern = draft.pattern; starts = draft.starts; flags = draft.flags }
 
-abbrev pub begun : Draft → Draft
-begun draft =
+abbrev pub started : Draft → Draft
+started draft =
     record { states = draft.states; pattern = Some (length draft.starts); starts = draft.starts; flags = draft.flags }
 
 abbrev pub finished : Draft → ℕ → Draft
@@ -58,23 +60,23 @@ abbrev pub prefix_of : Draft → (start : ℕ) → List Shape
 prefix_of draft start =
     UnionShape (start ∷ (length draft.states + 1) ∷ []) ∷ RangeShape 0 255 (length draft.states) ∷ []
 
--- A call that adds states tells the number of the first of them, or changes nothing. It is refused where the numbers
--- come to their end, and else for want of memory alone.
+-- A call that adds states returns the ID of the first of them, or an error, and then it changes nothing. It fails where
+-- IDs run out, and otherwise only where the allocation fails.
 pub record IsAdding (old new : Draft) (result : Result ℕ BuildError) (shapes : List Shape) : Type 0 where
-  pub number : IfOk result (λ id. id ≡ length old.states)
+  pub id : IfOk result (λ id. id ≡ length old.states)
   pub added : OnOk result (new ≡ with_states old (old.states ++ shapes))
-  pub refused : OnErr result (new ≡ old)
+  pub same : OnErr result (new ≡ old)
   pub large : 2147483647 < length old.states + length shapes → result ≡ Err TooLarge
   pub memory : length old.states + length shapes ≤ 2147483647 → IsOkUnless result OutOfMemory
 
--- The same where it asks for the pattern that was begun: without one it is refused, and changes nothing.
+-- The same of a call that needs a started pattern: without one it fails, and changes nothing.
 pub record IsAddingOf
     (old new : Draft) (result : Result ℕ BuildError) (shape : ℕ → Shape)
     : Type 0 where
   pub none : old.pattern ≡ None → (result ≡ Err NoPattern) × (new ≡ old)
   pub one : (p : ℕ) → old.pattern ≡ Some p → IsAdding old new result (shape p ∷ [])
 
--- An NFA by what its states say.
+-- An NFA by the shapes of its states.
 pub record Outline : Type 0 where
   pub states : List Shape
   pub start_anchored : ℕ
@@ -105,14 +107,14 @@ built draft anchored unanchored = record {
 abbrev pub AreBuilt : Draft → List State → Type 0
 AreBuilt draft states = map shape_of states ≡ map built_of draft.states
 
--- An error of the door as a builder tells it: want of memory is its own.
-abbrev pub told : NfaError → BuildError
-told door.StateRange = NFA door.StateRange
-told door.StartRange = NFA door.StartRange
-told door.PatternRange = NFA door.PatternRange
-told door.Ranges = NFA door.Ranges
-told door.TooLarge = NFA door.TooLarge
-told door.OutOfMemory = OutOfMemory
+-- What a builder returns for an error of `NFA::from_states`: the one of memory is its own.
+abbrev pub build_error : NfaError → BuildError
+build_error door.StateRange = NFA door.StateRange
+build_error door.StartRange = NFA door.StartRange
+build_error door.PatternRange = NFA door.PatternRange
+build_error door.Ranges = NFA door.Ranges
+build_error door.TooLarge = NFA door.TooLarge
+build_error door.OutOfMemory = OutOfMemory
 
 -- Where the states before it lead to no others, an NFA that starts at a lazy loop skips lazily.
 abbrev pub PrefixesSkipLazily : Type 0

@@ -1,4 +1,4 @@
--- A depth-first search, and the order in which it is done with states.
+-- A depth-first search, and the order in which it finishes states.
 use Rattle.std.specs.Prelude.{ℕ, ◌≡◌, ◌<◌, ◌⊎◌, List, [], ◌∷◌, take, Some}
 use Rattle.automata_base.specs.declared.nfa.thompson.finishing.Frame.{Frame}
 use Rattle.automata_base.specs.Lists.{In, nth}
@@ -13,7 +13,7 @@ abbrev pub IsFinishingOrder : (ℕ → List ℕ) → List ℕ → Type 0
 IsFinishingOrder targets xs =
     (i q p : ℕ) → nth xs i ≡ Some q → In p (take i xs) → (p ≡ q → ⊥) × (LeadsBy targets p q → LeadsBy targets p p)
 
--- The states that a search is in, the last one first.
+-- The states on the stack, the top first.
 abbrev pub states_in : List Frame → List ℕ
 states_in [] = []
 states_in (frame ∷ below) = frame.state ∷ states_in below
@@ -30,7 +30,7 @@ AreFollowed n targets visited (frame ∷ below) =
     (frame.state < n) × ((r : ℕ) → In r (take frame.edge (targets frame.state)) → In r visited)
     × AreFollowed n targets visited below
 
--- A depth-first search over `n` states is under way: these were visited, with these it is done, in these it is.
+-- A depth-first search over `n` states is under way: these are visited, these finished, and these on its stack.
 pub record IsUnderSearch
     (n : ℕ) (targets : ℕ → List ℕ) (visited finished : List ℕ) (frames : List Frame)
     : Type 0 where

@@ -76,12 +76,25 @@ IsReversedArc m x (Reads lo hi) next = node m x ≡ Read (record { lo = lo; hi =
 abbrev pub IsKept : Nfa → List ℕ → ℕ → Type 0
 IsKept n kept q = In q kept × (q < length n.nodes)
 
--- Among the states for the pattern `p`, where `place q` stands for `q`: the state that stands for `t` goes on to the
--- reversed edges to `t`, and to a match where paths begin at `t`.
+abbrev pub IsAsking : Label → Type 0
+IsAsking Free = ⊥
+IsAsking (Asks look) = Unit {0}
+IsAsking (Reads lo hi) = Unit {0}
+
+-- The state stands for an edge to `t` that reads a byte or asks a look, or for the match where paths begin.
+abbrev pub IsEdgeTo :
+    (n m : Nfa) → (first p : ℕ) → (place : ℕ → ℕ) → (kept : List ℕ) → (t x : ℕ) → Type 0
+IsEdgeTo n m first p place kept t x =
+    ((s : ℕ) × (l : Label) × IsKept n kept s × HasArc n s l t × IsAsking l × IsReversedArc m x l (place s))
+    ⊎ ((t ≡ first) × (node m x ≡ Accept p))
+
+-- Among the states for the pattern `p`, where `place q` stands for `q`: the state that stands for `t` is the union of
+-- the reversed edges to `t`, and of a match where paths begin at `t`; or it is the only one of these itself.
 pub record IsReversedAt
     (n m : Nfa) (first : ℕ) (reached : List ℕ) (p : ℕ) (place : ℕ → ℕ) (kept : List ℕ) (t : ℕ) (xs : List ℕ) :
     Type 0 where
-  pub stands : node m (place t) ≡ Split xs
+  pub stands :
+      (node m (place t) ≡ Split xs) ⊎ ((xs ≡ place t ∷ []) × IsEdgeTo n m first p place kept t (place t))
   pub sound :
       (x : ℕ) → In x xs
       → ((s : ℕ) × (l : Label) × IsKept n kept s × HasArc n s l t × IsReversedArc m x l (place s))

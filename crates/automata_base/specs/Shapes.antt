@@ -1,4 +1,4 @@
--- States by what they say, their lists as lists.
+-- The shape of a state: its kind and its parts, vectors as lists.
 use Rattle.std.specs.Prelude.{ℕ, List, [], ◌∷◌, ◌++◌, reverse, Option, Some, None}
 use Rattle.automata_base.specs.declared.nfa.thompson.State.{State}
 use Rattle.automata_base.specs.declared.nfa.thompson.State.TheVariants as is
@@ -7,7 +7,7 @@ use Rattle.automata_base.specs.declared.nfa.thompson.building.Added.{Added}
 use Rattle.automata_base.specs.declared.nfa.thompson.building.Added.TheVariants as was
 use Rattle.automata_base.specs.Looks.{Look}
 
--- A state of an NFA, or one that a builder has: an empty state and a union in reverse are a builder's alone.
+-- Of a state of an NFA, or of one that a builder keeps. Only a builder has empty states and reversed unions.
 pub data Shape : Type 0 where
   EmptyShape : (next : ℕ) → Shape
   RangeShape : (lo hi next : ℕ) → Shape
@@ -43,7 +43,7 @@ shape_added (was.Capture next pattern index slot) = CaptureShape next pattern in
 shape_added was.Fail = FailShape
 shape_added (was.Match pattern) = MatchShape pattern
 
--- What a union is built as: none of alternates is a fail state, and two are a binary union.
+-- What a union is built as: without alternates a fail state, with two a binary union.
 abbrev pub union_of : List ℕ → Shape
 union_of [] = FailShape
 union_of (a ∷ []) = UnionShape (a ∷ [])

@@ -1,6 +1,6 @@
 -- How the code reverses edges: for each state what leads to it, and the states that stand for edges.
 use Rattle.std.specs.Prelude.{ℕ, zero, suc, ◌+◌, ◌≡◌, List, [], ◌∷◌, ◌++◌, length, slice_index_or, cond, eqb, Some}
-use Rattle.std.specs.Prelude.{Option, None, map, ◌↔◌, Bool, false}
+use Rattle.std.specs.Prelude.{Option, None, map, ◌↔◌, ◌⊎◌, Bool, false}
 use Rattle.automata_base.specs.declared.nfa.thompson.State.{State}
 use Rattle.automata_base.specs.declared.nfa.thompson.State.TheVariants as is
 use Rattle.automata_base.specs.declared.nfa.thompson.Transition.{Transition}
@@ -80,13 +80,23 @@ abbrev pub no_lists : ℕ → List (List ℕ)
 no_lists zero = []
 no_lists (suc n) = [] ∷ no_lists n
 
--- The states: unions of the alternates, and after them the helpers.
-abbrev pub unions_of : List (Vec ℕ Global) → List State
-unions_of [] = []
-unions_of (v ∷ vs) = is.Union v ∷ unions_of vs
+-- What is made of a state's alternates: their union, or the helper itself if it is the only one. Helpers have the
+-- numbers from `n` on.
+abbrev pub IsHead : (n : ℕ) → List State → (alternates : List ℕ) → State → Type 0
+IsHead n helpers alternates s =
+    ((v : Vec ℕ Global) × (s ≡ is.Union v) × (v.items ≡ alternates))
+    ⊎ ((j : ℕ) × (alternates ≡ (n + j) ∷ []) × (nth helpers j ≡ Some s))
 
-abbrev pub states_of : EdgesByTarget → List State
-states_of t = unions_of t.lists.items ++ t.helpers.items
+abbrev pub AreHeads : (n : ℕ) → List State → List (List ℕ) → List State → Type 0
+AreHeads n helpers [] [] = Unit {0}
+AreHeads n helpers [] (s ∷ ss) = ⊥
+AreHeads n helpers (xs ∷ rest) [] = ⊥
+AreHeads n helpers (xs ∷ rest) (s ∷ ss) = IsHead n helpers xs s × AreHeads n helpers rest ss
+
+-- These states are made of the edges: one for each list of alternates, and after them the helpers.
+abbrev pub AreMade : Turns → List State → Type 0
+AreMade t states =
+    (heads : List State) × (states ≡ heads ++ t.helpers) × AreHeads (length t.lists) t.helpers t.lists heads
 
 -- Where a number first stands in a list.
 abbrev pub place_in : List ℕ → ℕ → ℕ
@@ -128,8 +138,8 @@ matches_in states p (q ∷ qs) =
 -- The reversed edges of these states, the first of which goes on to a match, make this list.
 abbrev pub AreTurned : List State → (reached : List ℕ) → (first : ℕ) → List State → Type 0
 AreTurned states reached first turned =
-    (lists : List (Vec ℕ Global)) × (helpers : List State) × (turned ≡ unions_of lists ++ helpers)
-    × (record { lists = lists_of lists; helpers = helpers }
+    (t : Turns) × AreMade t turned
+    × (t
     ≡ turn_by (turn_states (record { lists = no_lists (length states); helpers = [] }) states reached) (is.Match 0)
     first)
 

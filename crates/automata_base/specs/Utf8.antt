@@ -1,4 +1,4 @@
--- What an NFA reads, looks taken as true, and whether it is UTF-8.
+-- What the paths of an NFA read, looks taken as true, and whether it is UTF-8.
 use Rattle.std.specs.Prelude.{ℕ, ◌≡◌, ◌<◌, List, [], ◌∷◌, Some, reverse, IsUtf8}
 use Rattle.automata_base.specs.Lists.{In}
 use Rattle.automata_base.specs.Looks.{Look}
@@ -19,7 +19,7 @@ abbrev pub in_order : Direction → List ℕ → List ℕ
 in_order Forward bytes = bytes
 in_order Backward bytes = reverse bytes
 
--- All that leads from the anchored start or a pattern's start to a match is UTF-8.
+-- Whatever leads from the anchored start or a pattern's start to a match state is UTF-8.
 abbrev pub ReadsUtf8 : Direction → Automaton → Type 0
 ReadsUtf8 way a =
     (start q p : ℕ) (bytes : List ℕ) → In start (a.start_anchored ∷ a.start_pattern)

@@ -92,8 +92,8 @@ pub fn walk_is_right(nfa: &NFA)
     let _empty = nfa.has_empty();
 }
 
-/// An NFA that starts at the lazy loop that a builder adds before a start is one that `NFA::skips_lazily` tells, where
-/// the states before it lead to no others.
+/// `NFA::skips_lazily` is true of an NFA that starts at the lazy loop which a builder adds, if the states before the
+/// loop lead to no others.
 pub fn prefixes_skip_lazily()
     ensures { PrefixesSkipLazily }
 {}

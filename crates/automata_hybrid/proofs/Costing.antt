@@ -6,7 +6,7 @@ use Rattle.automata_base.specs.Input.{Input}
 use Rattle.automata_base.specs.Selections.{Pair}
 use Rattle.automata_base.specs.Tapes.{Direction, Forward, Backward}
 use Rattle.automata_hybrid.specs.Caches.{CacheView}
-use Rattle.automata_hybrid.specs.Costs.{IsCostOfPasses, IsCostOfSearch, SearchesCostFew, passes_most}
+use Rattle.automata_hybrid.specs.Costs.{AreCostsInTurn, IsCostOfPass, IsCostOfPasses, IsCostOfSearch, SearchesCostFew, passes_most}
 use Rattle.automata_hybrid.specs.Growing.{IsGrown}
 use Rattle.automata_hybrid.specs.Knowing.{KnowsItsStart}
 use Rattle.automata_hybrid.specs.Machine.{Machine}
@@ -62,8 +62,21 @@ later_none Forward input =
 later_none Backward input =
     let same : input.end - 0 ≡ input.end = omega arith in ap (λ n. record input { end = n }) same
 
+-- a pass that determinised so often, and grew the cache, has cleared nothing where there was room
+pub cost_of_pass :
+    (way : Direction) (m : Machine) (input : Input) (old new : CacheView)
+    → IsGrown old new → new.count ≤ old.count + (input.end - input.start + 2)
+    → (KnowsItsStart way m old.store input → new.count ≤ old.count + (input.end - input.start + 1))
+    → IsCostOfPass way m input old new
+cost_of_pass way m input old new grown counted started = record {
+  counted = counted;
+  started = started;
+  room = λ room. clears_none old new (input.end - input.start + 2) grown counted room;
+}
+
 -- how often so many passes of a search determinised, and how often where their starts were known
 pub record AreCounted (way : Direction) (m : Machine) (input : Input) (passes : ℕ) (old new : CacheView) : Type 0 where
+  pub each : AreCostsInTurn way m input passes old new
   pub most : new.count ≤ old.count + passes_most passes (input.end - input.start)
   pub started :
       ((k : ℕ) → k < passes → KnowsItsStart way m old.store (later way k input))
@@ -73,10 +86,12 @@ pub record AreCounted (way : Direction) (m : Machine) (input : Input) (passes : 
 pub counted_more :
     (way : Direction) (m : Machine) (input now : Input) (passes units : ℕ) (old between new : CacheView)
     → AreCounted way m input passes old between → IsGrown old between → now ≡ later way passes input
+    → IsCostOfPass way m now between new
     → new.count ≤ between.count + (units + 2)
     → (KnowsItsStart way m between.store now → new.count ≤ between.count + (units + 1))
     → units ≤ input.end - input.start - passes → AreCounted way m input (suc passes) old new
-counted_more way m input now passes units old between new before grown same pass begun few = record {
+counted_more way m input now passes units old between new before grown same cost pass begun few = record {
+  each = (between, before.each, subst (λ (i : Input). IsCostOfPass way m i between new) same cost);
   most = most_more passes (input.end - input.start) units old.count between.count new.count before.most pass few;
   started = λ begins. (
       let first : between.count + passes ≤ old.count + passes_most passes (input.end - input.start) =
@@ -97,6 +112,7 @@ module _ (way : Direction) (m : Machine) (input : Input) (old new : CacheView) w
   cost_before k tries grown counted =
       record {
         tried = λ j less. (tries_before (Finds way m) (Skips m) way input j k (omega (arith, less)) tries, (tries.1 j less).0);
+        each = counted.each;
         counted = counted.most;
         started = counted.started;
         room = λ room. clears_none old new (passes_most k (input.end - input.start)) grown counted.most room;
@@ -110,6 +126,7 @@ module _ (way : Direction) (m : Machine) (input : Input) (old new : CacheView) w
   cost_more between k tries within first second counted =
       record {
         tried = λ j less. (tries_before (Finds way m) (Skips m) way input j k (omega (arith, less)) tries, omega (arith, less, within));
+        each = counted.each;
         counted = counted.most;
         started = counted.started;
         room = λ room.

@@ -1,16 +1,17 @@
 -- What steps and searches make of a cache, one after another.
-use Rattle.std.proofs.Common.{ℕ, ◌≡◌, ◌∙◌, ◌+◌, ◌-◌, ◌*◌, ◌^◌, ◌<◌, ◌≤◌, inl, inr, length, refl, sym, ap, subst, arith}
+use Rattle.std.proofs.Common.{ℕ, ⊎_elim, ◌≡◌, ◌∙◌, ◌+◌, ◌-◌, ◌*◌, ◌^◌, ◌<◌, ◌≤◌, ◌⊎◌, inl, inr, length, true, refl, sym, ap, subst, arith}
 use Rattle.std.proofs.Math.Nat.{mul-le-mul_right}
 use Rattle.automata_hybrid.specs.declared.dfa.progress.Searched.{Searched}
 use Rattle.automata_hybrid.specs.Stores.{Stored, KeepsStarts, with_searched}
 use Rattle.automata_hybrid.specs.Usage.{row_usage, usage}
 use Rattle.automata_hybrid.specs.Effects.{IsAddedStart}
 use Rattle.automata_hybrid.specs.Caches.{CacheView, counted, with_store}
-use Rattle.automata_hybrid.specs.Growing.{IsGrown, Keeps, ClearedNothing, HasRoom}
+use Rattle.automata_hybrid.specs.Growing.{IsGrown, Keeps, ClearedNothing, HasRoom, HasStartTag, MayHaveStartTag}
 use Rattle.automata_hybrid.proofs.Effects.{HasRoom-Fits, HasRoom-grown, Keeps-grown, Keeps-trans, counts_up}
-use Rattle.automata_base.specs.Powerset.{cost}
+use Rattle.automata_base.specs.Powerset.{Powerset, cost}
+use Rattle.automata_config.specs.Options.{specialize_start_states_of}
 use Rattle.automata_hybrid.specs.declared.dfa.row.Row.{Row}
-use Rattle.automata_hybrid.specs.Machine.{greatest, template_of, table_stride}
+use Rattle.automata_hybrid.specs.Machine.{Machine, greatest, slot_count, start_of, template_of, table_stride}
 use Rattle.automata_hybrid.specs.Progressing.{saturated}
 use Rattle.automata_hybrid.specs.Table.{HasCells}
 
@@ -35,6 +36,7 @@ grown_searched c s =
       counted = omega arith;
       clears = omega arith;
       starts = λ slot k. k;
+      tagged = λ q t. inl t;
       idle = λ e. (refl, refl);
       kept = λ e. record { rows = λ id q n. n; starts = λ slot k. refl; cells = λ id class v l k. refl };
       roomy = λ states r. (
@@ -57,15 +59,17 @@ pub grown_one :
     → new.count ≡ old.count + 1
     → old.store.clears ≤ new.store.clears
     → KeepsStarts old.store.starts new.store.starts
+    → ((q : Powerset) → HasStartTag new.store.table q → HasStartTag old.store.table q ⊎ MayHaveStartTag new.store q)
     → (ClearedNothing old.store new.store → Keeps old.store new.store)
     → ((states : ℕ) → HasRoom old.store (states + 1) → HasRoom new.store states × (new.store.clears ≡ old.store.clears))
     → IsGrown old new
-grown_one old new of count clears starts kept roomy =
+grown_one old new of count clears starts tagged kept roomy =
     record {
       of = of;
       counted = omega (arith, count);
       clears = clears;
       starts = starts;
+      tagged = tagged;
       idle = λ e. absurd (omega (arith, count, e));
       kept = kept;
       roomy = λ states r. roomy states (room_less old.store (states + (new.count - old.count)) (states + 1) (omega (arith, count)) r);
@@ -75,7 +79,7 @@ grown_one old new of count clears starts kept roomy =
 pub grown_counted : (old new : CacheView) → new ≡ counted old → IsGrown old new
 grown_counted old new e =
     subst (IsGrown old) (sym e)
-    (grown_one old (counted old) refl refl (omega arith) (λ slot k. k)
+    (grown_one old (counted old) refl refl (omega arith) (λ slot k. k) (λ q t. inl t)
     (λ nothing. record { rows = λ id q n. n; starts = λ slot k. refl; cells = λ id class v l k. refl })
     (λ states r. (room_less old.store (states + 1) states (omega arith) r, refl)))
 
@@ -86,6 +90,20 @@ nothing_first a b c f g e = (omega (arith, e.0, f.clears, g.clears), e.1)
 pub nothing_second : (a b c : CacheView) → IsGrown a b → IsGrown b c → ClearedNothing a.store c.store → ClearedNothing b.store c.store
 nothing_second a b c f g e = (omega (arith, e.0, f.clears, g.clears), omega (arith, e.0, e.1, f.clears, g.clears))
 
+-- a state that may have the start tag may have it still
+still_may :
+    (old new : Stored) (q : Powerset) → new.table.of ≡ old.table.of → KeepsStarts old.starts new.starts → MayHaveStartTag old q
+    → MayHaveStartTag new q
+still_may old new q of starts (tags, (slot, within, known, same)) = (
+  subst (λ (m : Machine). specialize_start_states_of m.config ≡ true) (sym of) tags,
+  (
+    slot,
+    subst (λ (m : Machine). slot < slot_count m) (sym of) within,
+    starts slot known,
+    subst (λ (m : Machine). q ≡ start_of m slot) (sym of) same,
+  ),
+)
+
 -- one after another
 pub grown_trans : (a b c : CacheView) → IsGrown a b → IsGrown b c → IsGrown a c
 grown_trans a b c f g =
@@ -94,6 +112,7 @@ grown_trans a b c f g =
       counted = omega (arith, f.counted, g.counted);
       clears = omega (arith, f.clears, g.clears);
       starts = λ slot k. g.starts slot (f.starts slot k);
+      tagged = λ q t. ⊎_elim (λ mid. ⊎_elim (λ had. inl had) (λ may. inr (still_may b.store c.store q g.of g.starts may)) (f.tagged q mid)) (λ may. inr may) (g.tagged q t);
       idle = λ e.
           (let first : b.count ≡ a.count = omega (arith, e, f.counted, g.counted) in
           let second : c.count ≡ b.count = omega (arith, e, f.counted, g.counted) in
@@ -118,19 +137,20 @@ pub grown_again :
     (old new : CacheView) (r : Row)
     → IsAddedStart old.store r new.store → new.count ≡ old.count → new.store.table.of ≡ old.store.table.of
     → KeepsStarts old.store.starts new.store.starts
+    → ((q : Powerset) → HasStartTag new.store.table q → HasStartTag old.store.table q)
     → HasCells old.store.table → length (template_of old.store.table.of) ≡ table_stride old.store.table.of → old.store.clears < 2 ^ 64
     → cost r.state ≤ greatest old.store.table.of → IsGrown old (counted new)
-grown_again old new r (inl (fits, e)) count of starts cells wide small little =
+grown_again old new r (inl (fits, e)) count of starts tagged cells wide small little =
     grown_one old (counted new) of (omega (arith, count))
     (let c : new.store.clears ≡ old.store.clears = ap (λ (s : Stored). s.clears) e in omega (arith, c))
-    starts
+    starts (λ q t. inl (tagged q t))
     (λ nothing. subst (λ (s : Stored). Keeps old.store s) (sym e) (Keeps-grown old.store r cells))
     (λ states room. (
       subst (λ (s : Stored). HasRoom s states) (sym e) (HasRoom-grown old.store r states wide little room),
       ap (λ (s : Stored). s.clears) e,
     ))
-grown_again old new r (inr (full, may, e)) count of starts cells wide small little =
-    grown_one old (counted new) of (omega (arith, count)) (omega (arith, up, small)) starts
+grown_again old new r (inr (full, may, e)) count of starts tagged cells wide small little =
+    grown_one old (counted new) of (omega (arith, count)) (omega (arith, up, small)) starts (λ q t. inl (tagged q t))
     (λ nothing. absurd (counts_up old.store.clears new.store.clears up nothing.0 nothing.1))
     (λ states room. absurd (full (HasRoom-Fits old.store states (cost r.state) little room)))
   where
@@ -145,6 +165,7 @@ grown_both old new g =
       counted = omega (arith, g.counted);
       clears = g.clears;
       starts = g.starts;
+      tagged = g.tagged;
       idle = λ e. (let i = g.idle (omega (arith, e)) in (omega (arith, e), i.1));
       kept = g.kept;
       roomy = λ states r. g.roomy states (room_less old.store (states + (new.count + 1 - (old.count + 1))) (states + (new.count - old.count)) (omega arith) r);

@@ -1,5 +1,6 @@
 -- Going on with a walk: what the functions under its calls answer, and what they make of their cache.
-use Rattle.std.proofs.Common.{ℕ, suc, ◌≡◌, ◌∙◌, ◌<◌, inl, inr, false, length, Option, None, refl, sym, ap, subst, arith}
+use Rattle.automata_hybrid.specs.declared.search.walk.Handle.{Handle}
+use Rattle.std.proofs.Common.{ℕ, suc, ◌≡◌, ◌∙◌, ◌<◌, inl, inr, false, length, Option, None, refl, sym, ap, subst, arith, Some}
 use Rattle.std.specs.Prelude.{Err, IfErr, IfOk, Ok, Result}
 use Rattle.std.proofs.lemmas.Result.{IfErr-weaker, IfOk-weaker, on_ok_weaker}
 use Rattle.automata_base.specs.Answers.{offset_in}
@@ -21,24 +22,25 @@ use Rattle.automata_hybrid.specs.Growing.{IsGrown}
 use Rattle.automata_hybrid.specs.Knowing.{IsOfInput}
 use Rattle.automata_hybrid.specs.Machine.{Machine, slot_count, table_stride}
 use Rattle.automata_hybrid.specs.Owing.{IsUnsupported, unsupported_error}
-use Rattle.automata_hybrid.specs.OwingWalks.{IsCallEffect, IsKnownRefusal}
+use Rattle.automata_hybrid.specs.OwingWalks.{IsCallEffect, IsKnownRefusal, IsPutBack}
 use Rattle.automata_hybrid.specs.Reading.{IsReadEffect, IsReadProgress}
-use Rattle.automata_hybrid.specs.Resuming.{IsCallAnswer, IsCallRefused, IsResumeAnswer, IsResumeEffect, IsUnitEffect}
+use Rattle.automata_hybrid.specs.Resuming.{IsCallAnswer, IsCallRefused, IsResumeAnswer, IsResumeEffect, IsUnitEffect, IsPutBackEffect}
 use Rattle.automata_hybrid.specs.SearchedWalks.{LeavesCall, ReadsNoUnit}
 use Rattle.automata_hybrid.specs.Searches.{behind_offset, given_up_offset, state_in, tape_in}
 use Rattle.automata_hybrid.specs.Slots.{supports}
 use Rattle.automata_hybrid.specs.Starting.{IsStartAnswer, IsStartEffect, IsStartRefusal, IsStartRefusalAt, IsStartRefusedAt, quit_behind, search_refusal}
 use Rattle.automata_hybrid.specs.Stepping.{unit_class}
 use Rattle.automata_base.specs.Powerset.{Powerset}
-use Rattle.automata_hybrid.specs.Table.{Leads, Names, Rows}
+use Rattle.automata_hybrid.specs.Table.{Leads, Names, Rows, Has}
 use Rattle.automata_hybrid.specs.Walking.{HasTold, HasToldAt, IsResumeRefusal, IsWalkOf, IsWalkRefusal, TellsNext}
-use Rattle.automata_hybrid.specs.Walks.{At, Ended, Fresh, HoldsNone, Ids, IsHeldAt, IsHeldItself, Keeping, Stage, States, Walk, keeping_of, without_match}
+use Rattle.automata_hybrid.specs.Walks.{At, Ended, Fresh, HoldsNone, Ids, IsHeldAt, IsHeldItself, Keeping, Stage, States, Walk, keeping_of, without_match, Holds}
 use Rattle.automata_hybrid.specs.declared.search.walk.Held.{Held}
 use Rattle.automata_hybrid.specs.declared.search.walk.Held.TheVariants as held
 use Rattle.automata_hybrid.proofs.Growing.{grown_less, grown_moved, grown_same, grown_trans, nothing_second}
 use Rattle.automata_hybrid.proofs.Knowing.{start_idle}
 use Rattle.automata_hybrid.proofs.KnowingWalks.{still_same}
 use Rattle.automata_hybrid.proofs.SearchedWalks.{reads_some, start_keeps}
+use Rattle.automata_hybrid.proofs.WalkCalls.{fresh_at}
 use Rattle.automata_hybrid.proofs.Searching.{false_true, state_first}
 use Rattle.automata_hybrid.proofs.Starting.{refusal_at}
 
@@ -120,6 +122,7 @@ module _ (keeping : Keeping) (way : Direction) (m : Machine) (input : Input) (w 
     roomy = e.roomy;
     grown = e.grown;
     there = e.there;
+    put_back = e.put_back;
     learned = e.learned;
     known = e.known;
     ended = e.ended;
@@ -134,6 +137,7 @@ module _ (keeping : Keeping) (way : Direction) (m : Machine) (input : Input) (w 
     roomy = e.roomy;
     grown = e.grown;
     there = e.there;
+    put_back = e.put_back;
     learned = e.learned;
     known = λ knows. ((e.known knows).0, known_matched x (e.known knows).1);
     ended = e.ended;
@@ -186,6 +190,7 @@ effect_none keeping way m input w next c none same = record {
   roomy = λ _. refl;
   grown = grown_less c c (grown_same c c refl);
   there = λ _. grown_same c c refl;
+  put_back = λ q at lacks. inl refl;
   learned = λ nothing k told r may. absurd (reads_some input w r none);
   known = λ _. (still_same c c refl, tt);
   ended = inl (none, refl);
@@ -225,6 +230,7 @@ module _ (way : Direction) (m : Machine) (input : Input) (w : Walk) (old new : C
     cost = effect.counted;
     grown = grown_less old new effect.grown;
     there = λ _. effect.grown;
+    put_back = λ q at. absurd (fresh_at q at);
     known = λ knows.
         start_idle m old new input.anchored (tape_in way input).before r (behind_offset way input) (offset_in way input 0)
         slots refusal effect knows;
@@ -273,3 +279,35 @@ unit_effect way m input place id unit old mid new r same moved named of e progre
 
   count : mid.count ≡ old.count
   count = ap (λ (v : CacheView). v.count) moved
+
+abbrev at_state : Powerset → Stage → Powerset
+at_state q Fresh = q
+at_state q (At p) = p
+at_state q Ended = q
+
+-- a walk that has begun goes on from the state that it holds, which is put back
+pub back_effect :
+    {T E : Type 0} (way : Direction) (m : Machine) (input : Input) (t : Rows) (w : Walk) (h : Held) (handle : Handle)
+    (old new : CacheView) (id : T)
+    → IsWalkOf way m input w → (w.stage ≡ Fresh → ⊥) → (w.stage ≡ Ended → ⊥) → IsHeldAt t w.stage h → h ≡ held.State (Some handle)
+    → IsPutBackEffect {T = T} {E = E} handle.state old new (Ok id) → IsResumeEffect {T = T} way m input w.stage old new (Ok id)
+back_effect {T} {E} way m input t w h handle old new id (k, told) fresh on at is e = go w.stage told fresh on at where
+  go :
+      (s : Stage) → HasToldAt way m input s w.units w.told k → (s ≡ Fresh → ⊥) → (s ≡ Ended → ⊥) → IsHeldAt t s h
+      → IsResumeEffect {T = T} way m input s old new (Ok id)
+  go Fresh told fresh on at = absurd (fresh refl)
+  go Ended told fresh on at = absurd (on refl)
+  go (At q) told fresh on at =
+      let same : handle.state ≡ q = (subst (λ (x : Held). Holds t x q) is at).0 in
+      let back : IsPutBackEffect {T = T} {E = E} q old new (Ok id) = subst (λ (p : Powerset). IsPutBackEffect {T = T} {E = E} p old new (Ok id)) same e in
+      record {
+        cost = omega (arith, back.cost);
+        grown = back.grown;
+        there = λ has. grown_same old new (back.there has).0;
+        known = λ knows. ((back.there (knows told.may)).0, tt);
+        put_back = λ p here lacks. (
+            let one : q ≡ p = ap (at_state q) here in
+            (subst (λ (x : Powerset). IsPutBack x old new) one (back.again (λ has. lacks (subst (λ (x : Powerset). Has old.store.table x) one has))), tt));
+        progress = back.progress;
+        err = tt;
+      }

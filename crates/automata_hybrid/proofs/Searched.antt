@@ -1,5 +1,5 @@
 -- What steps, moves and ends make of the progress of a pass.
-use Rattle.std.proofs.Common.{ℕ, suc, ◌≡◌, ◌∙◌, ◌+◌, ◌-◌, ◌≤◌, ◌⊎◌, length, Option, None, Some, inl, inr, refl, sym, ap, subst, arith}
+use Rattle.std.proofs.Common.{ℕ, suc, ◌≡◌, ◌∙◌, ◌+◌, ◌-◌, ◌≤◌, ◌⊎◌, ⊎_elim, length, Option, None, Some, inl, inr, refl, sym, ap, subst, arith}
 use Rattle.std.specs.Prelude.{Err, IfErr, Ok, OnOk, Result}
 use Rattle.automata_base.specs.Answers.{Tries}
 use Rattle.automata_base.specs.Input.{Input}
@@ -18,8 +18,8 @@ use Rattle.automata_hybrid.specs.Growing.{IsGrown, IsKeptOrCleared, KeepsProgres
 use Rattle.automata_hybrid.specs.Machine.{Machine}
 use Rattle.automata_hybrid.specs.Passing.{IsAt}
 use Rattle.automata_hybrid.specs.Progressing.{finished, from_place, progress_cleared, saturated, started, updated}
-use Rattle.automata_hybrid.specs.Searched.{CountsFrom, EndsAtLast, IsEndedAt, IsEndedBy, IsLeftAt, IsLeftOpen, IsMovedTo, IsOfRoom, IsOpenAt, IsQuitUnit, TriesSpans, none_searched}
-use Rattle.automata_hybrid.specs.Searches.{Finds, Reads, Skips, given_up_offset, tape_in}
+use Rattle.automata_hybrid.specs.Searched.{CountsFrom, EndsAtLast, IsBehindEnd, IsEndedAt, IsEndedBy, IsLeftAt, IsMovedTo, IsOfRoom, IsOpenAt, IsQuitUnit, IsStoppedAt, TriesSpans, none_searched}
+use Rattle.automata_hybrid.specs.Searches.{Finds, IsUnitRefusal, Reads, Skips, given_up_offset, tape_in}
 use Rattle.automata_hybrid.specs.Table.{Names}
 use Rattle.automata_hybrid.proofs.Costing.{tries_before}
 use Rattle.automata_hybrid.proofs.Effects.{counts_up}
@@ -36,9 +36,9 @@ clears_progress old new clears searched =
 pub computed_progress :
     (old new : Stored) (id class next : ℕ) (q target : Powerset)
     → IsComputed old id class q target new next → KeepsProgress old new
-computed_progress old new id class next q target (inl (leads, e)) = inl (ap (λ (s : Stored). s.searched) e)
+computed_progress old new id class next q target (inl (leads, e)) = inl (ap (λ (s : Stored). s.clears) e, ap (λ (s : Stored). s.searched) e)
 computed_progress old new id class next q target (inr (lacks, from, between, inl (fits, g), n, e)) =
-    inl (ap (λ (s : Stored). s.searched) e ∙ ap (λ (s : Stored). s.searched) g)
+    inl (ap (λ (s : Stored). s.clears) e ∙ ap (λ (s : Stored). s.clears) g, ap (λ (s : Stored). s.searched) e ∙ ap (λ (s : Stored). s.searched) g)
 computed_progress old new id class next q target (inr (lacks, from, between, inr (full, may, g), n, e)) =
     clears_progress old new (ap (λ (s : Stored). s.clears) e ∙ ap (λ (s : Stored). s.clears) g)
     (ap (λ (s : Stored). s.searched) e ∙ ap (λ (s : Stored). s.searched) g)
@@ -46,15 +46,15 @@ computed_progress old new id class next q target (inr (lacks, from, between, inr
 pub started_progress :
     (old new : Stored) (slot id : ℕ) (r : Row)
     → IsStarted old slot r new id → KeepsProgress old new
-started_progress old new slot id r (inl (leads, e)) = inl (ap (λ (s : Stored). s.searched) e)
+started_progress old new slot id r (inl (leads, e)) = inl (ap (λ (s : Stored). s.clears) e, ap (λ (s : Stored). s.searched) e)
 started_progress old new slot id r (inr (lacks, between, inl (fits, g), e)) =
-    inl (ap (λ (s : Stored). s.searched) e ∙ ap (λ (s : Stored). s.searched) g)
+    inl (ap (λ (s : Stored). s.clears) e ∙ ap (λ (s : Stored). s.clears) g, ap (λ (s : Stored). s.searched) e ∙ ap (λ (s : Stored). s.searched) g)
 started_progress old new slot id r (inr (lacks, between, inr (full, may, g), e)) =
     clears_progress old new (ap (λ (s : Stored). s.clears) e ∙ ap (λ (s : Stored). s.clears) g)
     (ap (λ (s : Stored). s.searched) e ∙ ap (λ (s : Stored). s.searched) g)
 
 pub added_progress : (old new : Stored) (r : Row) → IsAddedStart old r new → KeepsProgress old new
-added_progress old new r (inl (fits, e)) = inl (ap (λ (s : Stored). s.searched) e)
+added_progress old new r (inl (fits, e)) = inl (ap (λ (s : Stored). s.clears) e, ap (λ (s : Stored). s.searched) e)
 added_progress old new r (inr (full, may, e)) =
     clears_progress old new (ap (λ (s : Stored). s.clears) e) (ap (λ (s : Stored). s.searched) e)
 
@@ -62,9 +62,10 @@ added_progress old new r (inr (full, may, e)) =
 module _ (input : Input) (s : Searched) (first : ℕ) (old mid new : CacheView) (before : IsGrown old mid) (after : IsGrown mid new) where
   still :
       {beside : Searched} {from : ℕ}
-      → CountsFrom input s first old.store mid.store beside from → CountsFrom input s first old.store new.store beside from
-  still (inl c) = inl c
-  still (inr c) = inr (λ nothing. c.0 (nothing_first old mid new before after nothing), c.1, c.2, c.3)
+      → new.store.clears ≡ mid.store.clears → CountsFrom input s first old.store mid.store beside from
+      → CountsFrom input s first old.store new.store beside from
+  still same (inl c) = inl (same ∙ c.0, c.1, c.2)
+  still same (inr c) = inr (λ nothing. c.0 (nothing_first old mid new before after nothing), c.1, c.2, c.3)
 
   -- an open pass moves to an offset of the span, and a step is made there
   moves :
@@ -74,7 +75,7 @@ module _ (input : Input) (s : Searched) (first : ℕ) (old mid new : CacheView) 
       → (beside : Searched) × (from : ℕ) × CountsFrom input s first old.store new.store beside from
       × (to ≡ updated (started beside from) at)
   moves x at to low high (b, from, counts, e) (inl same) =
-      (b, from, still counts, same ∙ ap (λ (v : Searched). updated v at) e)
+      (b, from, still same.0 counts, same.1 ∙ ap (λ (v : Searched). updated v at) e)
   moves x at to low high (b, from, counts, e) (inr (cleared, same)) = (
     none_searched,
     at,
@@ -116,7 +117,7 @@ ended_by old mid next new at m kept e =
       go :
           KeepsProgress mid.store next.store
           → IsKeptOrCleared old.store new.store (updated old.store.searched at) next.store.searched
-      go (inl same) = inl (same ∙ ap (λ (v : CacheView). v.store.searched) m)
+      go (inl same) = inl (last ∙ (same.0 ∙ first), same.1 ∙ ap (λ (v : CacheView). v.store.searched) m)
       go (inr (cleared, same)) =
           inr (
             λ nothing. cleared (omega (arith, nothing.0, first, last), omega (arith, nothing.1, first)),
@@ -129,7 +130,7 @@ pub moved_by :
     → mid ≡ with_store old (with_searched old.store (updated old.store.searched at))
     → KeepsProgress mid.store next.store
     → IsMovedTo at old.store next.store
-moved_by old mid next at m (inl same) = inl (same ∙ ap (λ (v : CacheView). v.store.searched) m)
+moved_by old mid next at m (inl same) = inl (same.0 ∙ ap (λ (v : CacheView). v.store.clears) m, same.1 ∙ ap (λ (v : CacheView). v.store.searched) m)
 moved_by old mid next at m (inr (cleared, same)) =
     inr (
       λ nothing. cleared (omega (arith, nothing.0, first), omega (arith, nothing.1, first)),
@@ -144,8 +145,11 @@ pub ended_after :
     → IsMovedTo at old.store next.store
     → new ≡ with_store next (with_searched next.store (finished next.store.searched at))
     → IsEndedBy at old.store new.store
-ended_after old next new at (inl same) e =
-    (next.store.searched, inl same, ap (λ (v : CacheView). v.store.searched) e)
+ended_after old next new at (inl same) e = (
+  next.store.searched,
+  inl (ap (λ (v : CacheView). v.store.clears) e ∙ same.0, same.1),
+  ap (λ (v : CacheView). v.store.searched) e,
+)
 ended_after old next new at (inr (cleared, same)) e = (
   next.store.searched,
   inr (λ nothing. cleared (omega (arith, nothing.0, last), nothing.1), same),
@@ -162,35 +166,47 @@ module _ (way : Direction) (m : Machine) (input : Input) (s : Searched) (old mid
     (unit : next (tape_in way input) k ≡ u) (place : given_up_offset way input k ≡ at)
     (low : input.start ≤ at) (high : at ≤ input.end)
     (o : IsOpenAt input s (given_up_offset way input 0) x old.store mid.store) where
+  ended_here :
+      IsEndedBy at mid.store new.store
+      → IsEndedAt input s (given_up_offset way input 0) (given_up_offset way input k) old.store new.store
+  ended_here ended =
+      subst (λ a. IsEndedAt input s (given_up_offset way input 0) a old.store new.store) (sym place)
+      (ends_open input s (given_up_offset way input 0) old mid new before after x at low high o ended)
+
   -- which is its last one
   pub last_here :
-      IsEndedBy at mid.store new.store → (Reads way m input (suc k) → ⊥) ⊎ IsQuitUnit m u
-      → EndsAtLast way m input s old.store new.store
+      IsEndedBy at mid.store new.store → (Reads way m input (suc k) → ⊥) → EndsAtLast way m input s old.store new.store
   last_here ended stops = (
     k,
     record {
       reads = inr (at_reads way m mid.store.table input k id found stands few alive);
       clean = stands.clean;
-      stops = subst (λ v. (Reads way m input (suc k) → ⊥) ⊎ IsQuitUnit m v) (sym unit) stops;
+      stops = stops;
     },
-    subst (λ a. IsEndedAt input s (given_up_offset way input 0) a old.store new.store) (sym place)
-        (ends_open input s (given_up_offset way input 0) old mid new before after x at low high o ended),
+    ended_here ended,
   )
 
   -- which is refused
   pub left_here :
-      (e : SearchError) → IsLeftAt m u at mid.store new.store e
-      → EndsAtLast way m input s old.store new.store ⊎ IsLeftOpen way m input s old.store new.store e
-  left_here e (inl (quits, ended)) = inl (last_here ended (inr quits))
-  left_here e (inr (room, moved)) =
-      inr (
-        k,
-        at_reads way m mid.store.table input k id found stands few alive,
-        stands.clean,
-        subst (λ a. IsOfRoom a e) (sym place) room,
-        subst (λ a. IsOpenAt input s (given_up_offset way input 0) a old.store new.store) (sym place)
-            (stays_open input s (given_up_offset way input 0) old mid new before after x at low high o moved),
-      )
+      (e : SearchError) → IsUnitRefusal way m new.store input k e → (IsBehindEnd way input k → ⊥)
+      → IsLeftAt m u at mid.store new.store e → IsStoppedAt way m input s old.store new.store e
+  left_here e refused inner left =
+      (k, at_reads way m mid.store.table input k id found stands few alive, stands.clean, refused, go left)
+    where
+      go :
+          IsLeftAt m u at mid.store new.store e
+          → ((IsQuitUnit m (next (tape_in way input) k) ⊎ IsBehindEnd way input k)
+          × IsEndedAt input s (given_up_offset way input 0) (given_up_offset way input k) old.store new.store)
+          ⊎ ((IsBehindEnd way input k → ⊥) × IsOfRoom (given_up_offset way input k) e
+          × IsOpenAt input s (given_up_offset way input 0) (given_up_offset way input k) old.store new.store)
+      go (inl (quits, ended)) = inl (inl (subst (IsQuitUnit m) (sym unit) quits), ended_here ended)
+      go (inr (room, moved)) =
+          inr (
+            inner,
+            subst (λ a. IsOfRoom a e) (sym place) room,
+            subst (λ a. IsOpenAt input s (given_up_offset way input 0) a old.store new.store) (sym place)
+                (stays_open input s (given_up_offset way input 0) old mid new before after x at low high o moved),
+          )
 
 -- a search begins as if nothing had been searched, where a clear came before
 pub started_cleared : (s : Searched) (first : ℕ) → started (progress_cleared s) first ≡ started none_searched first
@@ -232,49 +248,66 @@ module _ (way : Direction) (m : Machine) (input : Input) (low : input.start ≤ 
         KeepsProgress old.store begun.store
         → (b : Searched) × (f : ℕ) × CountsFrom input old.store.searched (given_up_offset way input 0) old.store new.store b f
         × (started beside from ≡ started b f)
-    go (inl same) = (beside, from, inl (c.0 ∙ same, c.1), refl)
+    go (inl same) = (beside, from, inl (c.0 ∙ (ap (λ (v : CacheView). v.store.clears) begins ∙ same.0), c.1 ∙ same.1, c.2), refl)
     go (inr (cleared, same)) = (
       none_searched,
       given_up_offset way input 0,
       inr (λ nothing. cleared (nothing_first old begun new starts (grown_trans begun mid new moved after) nothing), refl, low, high),
-      (λ i. started (c.0 i) (c.1 i))
+      (λ i. started (c.1 i) (c.2 i))
           ∙ (ap (λ (s : Searched). started s (given_up_offset way input 0)) same
           ∙ started_cleared old.store.searched (given_up_offset way input 0)),
     )
 
+  ends_again :
+      (at : ℕ) → IsEndedAt input begun.store.searched (given_up_offset way input 0) at mid.store new.store
+      → IsEndedAt input old.store.searched (given_up_offset way input 0) at old.store new.store
+  ends_again at (beside, from, counts, e) = go (recount beside from counts) where
+    go :
+        ((b : Searched) × (f : ℕ) × CountsFrom input old.store.searched (given_up_offset way input 0) old.store new.store b f
+        × (started beside from ≡ started b f))
+        → IsEndedAt input old.store.searched (given_up_offset way input 0) at old.store new.store
+    go (b, f, c, same) = (b, f, c, e ∙ ap (λ (s : Searched). finished s at) same)
+
+  opens_again :
+      (at : ℕ) → IsOpenAt input begun.store.searched (given_up_offset way input 0) at mid.store new.store
+      → IsOpenAt input old.store.searched (given_up_offset way input 0) at old.store new.store
+  opens_again at (beside, from, counts, e) = go (recount beside from counts) where
+    go :
+        ((b : Searched) × (f : ℕ) × CountsFrom input old.store.searched (given_up_offset way input 0) old.store new.store b f
+        × (started beside from ≡ started b f))
+        → IsOpenAt input old.store.searched (given_up_offset way input 0) at old.store new.store
+    go (b, f, c, same) = (b, f, c, e ∙ ap (λ (s : Searched). updated s at) same)
+
   pub pass_ends :
       EndsAtLast way m input begun.store.searched mid.store new.store
       → EndsAtLast way m input old.store.searched old.store new.store
-  pass_ends (k, last, (beside, from, counts, e)) = go (recount beside from counts) where
-    go :
-        ((b : Searched) × (f : ℕ) × CountsFrom input old.store.searched (given_up_offset way input 0) old.store new.store b f
-        × (started beside from ≡ started b f)) → EndsAtLast way m input old.store.searched old.store new.store
-    go (b, f, c, same) =
-        (k, last, (b, f, c, e ∙ ap (λ (s : Searched). finished s (given_up_offset way input k)) same))
+  pass_ends (k, last, ended) = (k, last, ends_again (given_up_offset way input k) ended)
 
-  pub pass_opens :
-      (e : SearchError) → IsLeftOpen way m input begun.store.searched mid.store new.store e
-      → IsLeftOpen way m input old.store.searched old.store new.store e
-  pass_opens error (k, reads, clean, room, (beside, from, counts, e)) = go (recount beside from counts) where
-    go :
-        ((b : Searched) × (f : ℕ) × CountsFrom input old.store.searched (given_up_offset way input 0) old.store new.store b f
-        × (started beside from ≡ started b f)) → IsLeftOpen way m input old.store.searched old.store new.store error
-    go (b, f, c, same) =
-        (k, reads, clean, room, (b, f, c, e ∙ ap (λ (s : Searched). updated s (given_up_offset way input k)) same))
+  pub pass_stops :
+      (e : SearchError) → IsStoppedAt way m input begun.store.searched mid.store new.store e
+      → IsStoppedAt way m input old.store.searched old.store new.store e
+  pass_stops e (k, reads, clean, refused, how) = (
+    k,
+    reads,
+    clean,
+    refused,
+    ⊎_elim (λ closed. inl (closed.0, ends_again (given_up_offset way input k) closed.1))
+        (λ opened. inr (opened.0, opened.1, opens_again (given_up_offset way input k) opened.2)) how,
+  )
 
   -- and ended at once, since its start is dead
   pub pass_dies :
-      ((j : ℕ) → 0 ≤ j → Reads way m input j → ⊥)
+      ((j : ℕ) → 0 ≤ j → Reads way m input j → ⊥) → new.store.clears ≡ mid.store.clears
       → new.store.searched ≡ finished mid.store.searched (given_up_offset way input 0)
       → EndsAtLast way m input old.store.searched old.store new.store
-  pass_dies none e =
+  pass_dies none same e =
       pass_ends (
         0,
-        record { reads = inl refl; clean = λ j byte l. absurd (omega (arith, l)); stops = inl (none 1 (omega arith)) },
+        record { reads = inl refl; clean = λ j byte l. absurd (omega (arith, l)); stops = none 1 (omega arith) },
         (
           begun.store.searched,
           given_up_offset way input 0,
-          inl (refl, refl),
+          inl (same, refl, refl),
           e ∙ ap (λ (v : CacheView). finished v.store.searched (given_up_offset way input 0)) begins,
         ),
       )
@@ -306,11 +339,11 @@ cleared_twice s = go s.running where
 pub kept_twice :
     (old mid new : CacheView) → IsGrown old mid → IsGrown mid new
     → KeepsProgress old.store mid.store → KeepsProgress mid.store new.store → KeepsProgress old.store new.store
-kept_twice old mid new f g (inl a) (inl b) = inl (b ∙ a)
+kept_twice old mid new f g (inl a) (inl b) = inl (b.0 ∙ a.0, b.1 ∙ a.1)
 kept_twice old mid new f g (inl a) (inr (cleared, b)) =
-    inr (λ nothing. cleared (nothing_second old mid new f g nothing), b ∙ ap (λ (s : Searched). progress_cleared s) a)
+    inr (λ nothing. cleared (nothing_second old mid new f g nothing), b ∙ ap (λ (s : Searched). progress_cleared s) a.1)
 kept_twice old mid new f g (inr (cleared, a)) (inl b) =
-    inr (λ nothing. cleared (nothing_first old mid new f g nothing), b ∙ a)
+    inr (λ nothing. cleared (nothing_first old mid new f g nothing), b.1 ∙ a)
 kept_twice old mid new f g (inr (cleared, a)) (inr (after, b)) =
     inr (
       λ nothing. cleared (nothing_first old mid new f g nothing),
@@ -343,8 +376,9 @@ module _ (input : Input) (s : Searched) (first : ℕ) (old mid ended new : Cache
     go (inl e) (b, from, counts, under) = (
       b,
       from,
-      still input s first old mid new before (grown_trans mid ended new moved after) counts,
-      e ∙ (same ∙ ap (λ (v : Searched). finished v at) under),
+      still input s first old mid new before (grown_trans mid ended new moved after)
+          (e.0 ∙ ap (λ (v : CacheView). v.store.clears) ends) counts,
+      e.1 ∙ (same ∙ ap (λ (v : Searched). finished v at) under),
     )
     go (inr (cleared, e)) (b, from, counts, under) = (
       none_searched,
@@ -369,10 +403,33 @@ last_kept way m input s old mid ended new k id at x found before ends after low 
   record {
     reads = inr (at_reads way m ended.store.table input k id found stands few alive);
     clean = stands.clean;
-    stops = inl stops;
+    stops = stops;
   },
   subst (λ a. IsEndedAt input s (given_up_offset way input 0) a old.store new.store) (sym place)
       (ends_kept input s (given_up_offset way input 0) old mid ended new before at x ends after low high o kept),
+)
+
+-- which was refused
+pub stopped_kept :
+    (way : Direction) (m : Machine) (input : Input) (s : Searched) (old mid ended new : CacheView) (k id at x : ℕ)
+    (found : Option HalfMatch) → IsGrown old mid
+    → ended ≡ with_store mid (with_searched mid.store (finished mid.store.searched at)) → IsGrown ended new
+    → input.start ≤ at → at ≤ input.end
+    → IsOpenAt input s (given_up_offset way input 0) x old.store mid.store
+    → IsAt way m ended.store.table input k id found → k ≤ length (tape_in way input).bytes
+    → ((q : Powerset) → Names ended.store.table id q → q ≡ dead → ⊥)
+    → given_up_offset way input k ≡ at → KeepsProgress ended.store new.store → IsBehindEnd way input k
+    → (e : SearchError) → IsUnitRefusal way m new.store input k e → IsStoppedAt way m input s old.store new.store e
+stopped_kept way m input s old mid ended new k id at x found before ends after low high o stands few alive place kept behind e refused = (
+  k,
+  at_reads way m ended.store.table input k id found stands few alive,
+  stands.clean,
+  refused,
+  inl (
+    inr behind,
+    subst (λ a. IsEndedAt input s (given_up_offset way input 0) a old.store new.store) (sym place)
+        (ends_kept input s (given_up_offset way input 0) old mid ended new before at x ends after low high o kept),
+  ),
 )
 
 -- what holds in any case

@@ -15,9 +15,9 @@ use Rattle.automata_hybrid.specs.Machine.{Machine}
 use Rattle.automata_hybrid.specs.Progressing.{finished, started, updated}
 use Rattle.automata_hybrid.specs.Searched.{CountsFrom, IsEndedAt, IsLeftAt, IsMovedTo, IsOpenAt, none_searched}
 use Rattle.automata_hybrid.specs.SearchedWalks.{EndsAtUnit, IsLeftAtUnit, ReadsNoUnit}
-use Rattle.automata_hybrid.specs.Searches.{HasReadNoQuit, given_up_offset, tape_in}
+use Rattle.automata_hybrid.specs.Searches.{HasReadNoQuit, IsUnitRefusal, given_up_offset, tape_in}
 use Rattle.automata_hybrid.specs.Starting.{IsStartRefusedAt}
-use Rattle.automata_hybrid.specs.Walking.{IsRefusalAt, IsSilent, IsUnitRefusal, WalkReads}
+use Rattle.automata_hybrid.specs.Walking.{IsRefusalAt, IsSilent, WalkReads}
 use Rattle.automata_hybrid.specs.Walks.{Ids, Keeping, States, Walk}
 use Rattle.automata_hybrid.proofs.Growing.{grown_moved, grown_same, grown_trans}
 use Rattle.automata_hybrid.proofs.Searched.{ended_after, ends_kept, ends_open, started_cleared, stays_open}
@@ -100,7 +100,7 @@ pub span_ends :
 span_ends way input s from k x at old mid ended undone within before o e ends =
     ends_kept input s (given_up_offset way input from) old mid ended ended before (given_up_offset way input k) x
     (subst (λ a. ended ≡ with_store mid (with_searched mid.store (finished mid.store.searched a))) e ends)
-    (grown_same ended ended refl) (unit_low way input k undone) (unit_high way input k undone within) o (inl refl)
+    (grown_same ended ended refl) (unit_low way input k undone) (unit_high way input k undone within) o (inl (refl, refl))
 
 -- a call asked for the state that it goes on from, and then began at an offset
 module _ (input : Input) (first : ℕ) (low : input.start ≤ first) (high : first ≤ input.end) (old begun mid new : Stored)
@@ -119,12 +119,12 @@ module _ (input : Input) (first : ℕ) (low : input.start ≤ first) (high : fir
   )
   recount beside from (inl c) = go kept where
     go : KeepsProgress old begun → Recounted beside from
-    go (inl e) = (beside, from, inl (c.0 ∙ e, c.1), refl)
+    go (inl e) = (beside, from, inl (c.0 ∙ (same ∙ e.0), c.1 ∙ e.1, c.2), refl)
     go (inr (cleared, e)) = (
       none_searched,
       first,
       inr (λ nothing. cleared (omega (arith, nothing.0, up, same, more), nothing.1), refl, low, high),
-      (λ i. started (c.0 i) (c.1 i)) ∙ (ap (λ (s : Searched). started s first) e ∙ started_cleared old.searched first),
+      (λ i. started (c.1 i) (c.2 i)) ∙ (ap (λ (s : Searched). started s first) e ∙ started_cleared old.searched first),
     )
 
   pub recounts_ended : (at : ℕ) → IsEndedAt input begun.searched first at mid new → IsEndedAt input old.searched first at old new
@@ -138,8 +138,10 @@ module _ (input : Input) (first : ℕ) (low : input.start ≤ first) (high : fir
     go (b, f, c, s) = (b, f, c, e ∙ ap (λ (v : Searched). updated v at) s)
 
   -- it ended at once
-  pub dies_at : new.searched ≡ finished (started begun.searched first) first → IsEndedAt input old.searched first first old new
-  dies_at e = recounts_ended first (begun.searched, first, inl (refl, refl), e)
+  pub dies_at :
+      new.clears ≡ mid.clears → new.searched ≡ finished (started begun.searched first) first
+      → IsEndedAt input old.searched first first old new
+  dies_at stays e = recounts_ended first (begun.searched, first, inl (stays, refl, refl), e)
 
 -- a call that is to read units reads some
 pub reads_some : (input : Input) (w : Walk) → IsToRead input w.stage w.units w.told → ReadsNoUnit input w → ⊥

@@ -20,7 +20,7 @@ use Rattle.automata_config.specs.declared.error.SearchError.{SearchError}
 use Rattle.automata_hybrid.specs.Stores.{Stored}
 use Rattle.automata_hybrid.specs.Machine.{Machine}
 use Rattle.automata_hybrid.specs.Passing.{half_of, half_at, found_over, IsAt}
-use Rattle.automata_hybrid.specs.Searches.{IsStepRefusal, IsPassRefusal, unit_offset, given_up_offset, tape_in, state_in, told_in, Reads, MeetsNoQuit}
+use Rattle.automata_hybrid.specs.Searches.{IsPassRefusal, IsStepRefusal, IsUnitRefusal, MeetsNoQuit, Reads, given_up_offset, state_in, tape_in, told_in, unit_offset}
 use Rattle.automata_hybrid.specs.Starting.{quit_behind}
 use Rattle.automata_hybrid.specs.Table.{Rows, Leads, Names}
 use Rattle.automata_base.specs.Classes.{is_quit}
@@ -312,7 +312,19 @@ pub clean_start :
 clean_start way m input d behind =
     clean_all way m input 0 behind (λ j byte l e. absurd (omega (arith, l))) (stops_start way m input d)
 
--- a refused step refuses the pass
+-- a refused step from an ID refuses the unit of its place
+pub unit_refuses :
+    (way : Direction) (m : Machine) (t : Rows) (c : Stored) (input : Input) (k id quit_at given_up_at : ℕ) (u : Option ℕ)
+    (found : Option HalfMatch) (e : SearchError)
+    → IsAt way m t input k id found
+    → next (tape_in way input) k ≡ u → unit_offset way input k ≡ quit_at → given_up_offset way input k ≡ given_up_at
+    → ((q : Powerset) → Names t id q → IsStepRefusal m c q u quit_at given_up_at e) → IsUnitRefusal way m c input k e
+unit_refuses way m t c input k id quit_at given_up_at u found e at unit first second refused =
+    subst (λ a. IsStepRefusal m c (state_in way m input k) (next (tape_in way input) k) a (given_up_offset way input k) e) (sym first)
+    (subst (λ b. IsStepRefusal m c (state_in way m input k) (next (tape_in way input) k) quit_at b e) (sym second)
+    (subst (λ v. IsStepRefusal m c (state_in way m input k) v quit_at given_up_at e) (sym unit) (refused (state_in way m input k) at.named)))
+
+-- and the pass
 pub step_refuses :
     (way : Direction) (m : Machine) (t : Rows) (c : Stored) (input : Input) (k id quit_at given_up_at : ℕ) (u : Option ℕ)
     (found : Option HalfMatch) (e : SearchError)
@@ -326,15 +338,26 @@ step_refuses way m t c input k id quit_at given_up_at u found e at l alive unit 
       behind,
       at_reads way m t input k id found at l alive,
       at.clean,
-      subst (λ a. IsStepRefusal m c (state_in way m input k) (next (tape_in way input) k) a (given_up_offset way input k) e) (sym first)
-          (subst (λ b. IsStepRefusal m c (state_in way m input k) (next (tape_in way input) k) quit_at b e) (sym second)
-          (subst (λ v. IsStepRefusal m c (state_in way m input k) v quit_at given_up_at e) (sym unit) (refused (state_in way m input k) at.named))),
+      unit_refuses way m t c input k id quit_at given_up_at u found e at unit first second refused,
     )
+
+-- as a refused unit does
+pub place_refuses :
+    (way : Direction) (m : Machine) (t : Rows) (c : Stored) (input : Input) (k id : ℕ) (found : Option HalfMatch) (e : SearchError)
+    → IsAt way m t input k id found → k ≤ length (tape_in way input).bytes → ((q : Powerset) → Names t id q → q ≡ dead → ⊥)
+    → quit_behind m (tape_in way input).before ≡ None → IsUnitRefusal way m c input k e → IsPassRefusal way m c input e
+place_refuses way m t c input k id found e at l alive behind refused =
+    inr (k, behind, at_reads way m t input k id found at l alive, at.clean, refused)
 
 pub if_err :
     {A E : Type 0} (r : Result A E) (e : E) (P : E → Type 0) → IsErrAnd r (λ x. x ≡ e) → P e → IfErr r P
 if_err (Ok a) e P h p = tt
 if_err (Err x) e P h p = subst P (sym h) p
+
+pub if_both :
+    {A E : Type 0} (r : Result A E) (P Q R : E → Type 0) → ((e : E) → P e → Q e → R e) → IfErr r P → IfErr r Q → IfErr r R
+if_both (Ok a) P Q R f p q = tt
+if_both (Err e) P Q R f p q = f e p q
 
 pub some_is : (o : Option HalfMatch) → true ≡ is_some o → o ≡ None → ⊥
 some_is None h e = false_true (sym h)

@@ -14,7 +14,7 @@ use Rattle.automata_hybrid.specs.Owing.{IsSearchEffect}
 use Rattle.automata_hybrid.specs.Passed.{IsPassEffect}
 use Rattle.automata_hybrid.specs.Searched.{HasEnded, HaveEnded, IsLeft}
 use Rattle.automata_hybrid.specs.Searches.{Finds, Skips}
-use Rattle.automata_hybrid.proofs.Costing.{AreCounted, cost_before, cost_more, counted_more}
+use Rattle.automata_hybrid.proofs.Costing.{AreCounted, cost_before, cost_more, cost_of_pass, counted_more}
 use Rattle.automata_hybrid.proofs.Growing.{grown_trans, nothing_first, nothing_second}
 use Rattle.automata_hybrid.proofs.Knowing.{LearnedSpans, search_still, spans_all, spans_more, spans_still}
 use Rattle.automata_hybrid.proofs.Searched.{spans_before, spans_tried}
@@ -51,7 +51,7 @@ module _ (way : Direction) (m : Machine) (input : Input) (k : ℕ) (tries : Trie
     grown = grown;
     learned = λ nothing. spans_all way m between.store input k (learned nothing) (λ j more tried within. omega (arith, past, more, within));
     known = λ knows. (grown.idle (known knows), tt);
-    ended = (k, spans_before way m input k tries, ended);
+    ended = (k, spans_before way m input k tries, (λ next. omega (arith, past, next.1)), ended);
     left = tt;
     done = λ over. none (first_only way m input k tries over);
   }
@@ -65,7 +65,8 @@ module _ (way : Direction) (m : Machine) (input : Input) (k : ℕ) (tries : Trie
         {T : Type 0} {result : Result T SearchError} → IsPassEffect way m now between new result
         → AreCounted way m input (suc k) old new
     counts pass =
-        counted_more way m input now k (now.end - now.start) old between new counted grown same pass.counted pass.started few
+        counted_more way m input now k (now.end - now.start) old between new counted grown same
+        (cost_of_pass way m now between new pass.grown pass.counted pass.started) pass.counted pass.started few
 
     cost :
         {T : Type 0} {result : Result T SearchError} → IsPassEffect way m now between new result
@@ -109,7 +110,7 @@ module _ (way : Direction) (m : Machine) (input : Input) (k : ℕ) (tries : Trie
         grown = grown_trans old between new grown pass.grown;
         learned = λ nothing. spans_all way m new.store input (suc k) (spans_learned nothing) stops;
         known = λ knows. ((grown_trans old between new grown pass.grown).idle (spans_known knows), tt);
-        ended = (suc k, spans_tried way m input k tries within, spans_ended);
+        ended = (suc k, spans_tried way m input k tries within, (λ next. stops (suc k) (omega arith) next.0 next.1), spans_ended);
         left = tt;
         done = λ over. absurd (omega (arith, over, within));
       }

@@ -5,15 +5,17 @@ use Rattle.automata_base.specs.Powerset.{Powerset}
 use Rattle.automata_base.proofs.Paths.Orders.{none_some}
 use Rattle.automata_hybrid.specs.declared.dfa.row.Row.{Row}
 use Rattle.automata_hybrid.specs.Ids.{tags}
-use Rattle.automata_hybrid.specs.Table.{Rows, fresh, id_of, has_patterns, Names, HasRowIds, KeepsStartTags, TagsNewStates, row_id, with_row}
+use Rattle.automata_hybrid.specs.Growing.{HasStartTag, MayHaveStartTag}
+use Rattle.automata_hybrid.specs.Table.{Has, Rows, fresh, id_of, has_patterns, Names, HasRowIds, KeepsStartTags, TagsNewStates, row_id, with_row}
 use Rattle.automata_hybrid.specs.Clears.{put_if, put, row_of, Kept, keep_found, keep_slot, keep_slots}
-use Rattle.automata_hybrid.specs.Stores.{Stored}
+use Rattle.automata_hybrid.specs.Stores.{Stored, IsKnownStart}
 use Rattle.automata_hybrid.specs.Usage.{cleared}
 use Rattle.automata_hybrid.specs.Effects.{cleared_saving, put_found, IsAdded, IsAddedStart, IsComputed, IsStarted}
 use Rattle.automata_hybrid.proofs.Rows.{at_push}
 use Rattle.automata_hybrid.proofs.Places.{Found, find_id-Found, bit_of, zero_one}
 use Rattle.automata_hybrid.proofs.Effects.{one_id}
-use Rattle.automata_hybrid.specs.Machine.{table_stride}
+use Rattle.automata_config.specs.Options.{specialize_start_states_of}
+use Rattle.automata_hybrid.specs.Machine.{slot_count, start_of, table_stride}
 
 -- the start tag of an ID at a row's offset
 tags_start : (x : ℕ) (a b : Bool) → x < 2 ^ 27 → IsBitSet (x + tags a b) 28 ↔ (a ≡ true)
@@ -160,3 +162,34 @@ module _ (old new : Stored) (slot id : ℕ) (r : Row) (ids_old : HasRowIds old.t
   -- a state that a start adds has the tag that its row has
   pub started_adds : TagsNewStates old.table new.table r.started
   started_adds = tags_new old.table new.table r.started ids_old ids_new (from_started old new slot id r done)
+
+-- a state that is put back has none
+module _ (old new : Stored) (r : Row) (ids_old : HasRowIds old.table) (ids_new : HasRowIds new.table) (none : id_of old.table r.state ≡ None) (done : IsAddedStart old r new) where
+  pub again_keeps : KeepsStartTags old.table new.table
+  again_keeps = keeps_tags old.table new.table r.started ids_old ids_new (from_added_start old new r none done)
+
+  pub again_adds : TagsNewStates old.table new.table r.started
+  again_adds = tags_new old.table new.table r.started ids_old ids_new (from_added_start old new r none done)
+
+-- where no state is given the start tag, a state that has it had it
+pub tagged_none :
+    (old new : Rows) → KeepsStartTags old new → TagsNewStates old new false → (q : Powerset) → HasStartTag new q → HasStartTag old q
+tagged_none old new keeps adds q (id, named, tag) = go (id_of old q) refl where
+  go : (o : Option ℕ) → id_of old q ≡ o → HasStartTag old q
+  go None none = absurd (let e : false ≡ true = (adds q id none named).0 tag in cc)
+  go (Some before) had = (before, had, (keeps q before id had named).1 tag)
+
+-- where a start is given it, as the settings specialise starts, a state that has it had it, or is that start
+pub tagged_start :
+    (old new : Stored) (slot : ℕ) (start : Powerset)
+    → KeepsStartTags old.table new.table → TagsNewStates old.table new.table (specialize_start_states_of new.table.of.config)
+    → ((q : Powerset) → Has new.table q → Has old.table q ⊎ (q ≡ start))
+    → slot < slot_count new.table.of → IsKnownStart new slot → start ≡ start_of new.table.of slot
+    → (q : Powerset) → HasStartTag new.table q → HasStartTag old.table q ⊎ MayHaveStartTag new q
+tagged_start old new slot start keeps adds only within known same q (id, named, tag) = go (id_of old.table q) refl where
+  go : (o : Option ℕ) → id_of old.table q ≡ o → HasStartTag old.table q ⊎ MayHaveStartTag new q
+  go (Some before) had = inl (before, had, (keeps q before id had named).1 tag)
+  go None none = here (only q (record { id = id; named = named })) where
+    here : Has old.table q ⊎ (q ≡ start) → HasStartTag old.table q ⊎ MayHaveStartTag new q
+    here (inl has) = absurd (none_some (sym none ∙ has.named))
+    here (inr e) = inr ((adds q id none named).0 tag, (slot, within, known, e ∙ same))

@@ -1,4 +1,5 @@
 -- Starts: what a call answers and changes, from what its parts do.
+use Rattle.automata_hybrid.specs.Growing.{HasStartTag, MayHaveStartTag}
 use Rattle.std.proofs.Common.{ℕ, ◌≡◌, ◌+◌, ◌^◌, ◌<◌, ◌≤◌, ◌⊎◌, List, length, length-set, get_or, set, Bool, Option, refl, sym, ap, ◌∙◌, subst, arith, inl, inr}
 use Rattle.std.proofs.lemmas.List.{get_or-set_other}
 use Rattle.std.specs.Prelude.{slice_index}
@@ -10,7 +11,7 @@ use Rattle.automata_config.specs.declared.error.SearchError.{SearchError}
 use Rattle.automata_hybrid.specs.declared.dfa.row.Row.{Row}
 use Rattle.automata_hybrid.specs.Ids.{unknown_id}
 use Rattle.automata_hybrid.specs.Machine.{Machine, greatest, slot_count, start_of, table_stride, template_of}
-use Rattle.automata_hybrid.specs.Table.{Has, HasCells, HasItsMatchTag, HasRowIds, Lacks, Leads, MayLead, Names, Rows}
+use Rattle.automata_hybrid.specs.Table.{Has, HasCells, HasItsMatchTag, HasRowIds, Lacks, Leads, MayLead, Names, Rows, TagsNewStates}
 use Rattle.automata_hybrid.specs.Stores.{Stored, IsKnownStart, KeepsStarts, with_start}
 use Rattle.automata_hybrid.specs.Usage.{GivesUp}
 use Rattle.automata_hybrid.specs.Effects.{AddsStart, IsStarted}
@@ -22,7 +23,7 @@ use Rattle.automata_hybrid.proofs.Growing.{grown_counted, grown_one, grown_same}
 use Rattle.automata_hybrid.proofs.Searched.{started_progress}
 use Rattle.automata_hybrid.proofs.Searching.{false_true, lt_or_le}
 use Rattle.automata_hybrid.proofs.SlotStarts.{start_same}
-use Rattle.automata_hybrid.proofs.StartTags.{same_adds, same_keeps, started_adds, started_keeps}
+use Rattle.automata_hybrid.proofs.StartTags.{same_adds, same_keeps, started_adds, started_keeps, tagged_start}
 use Rattle.automata_config.specs.Options.{specialize_start_states_of}
 
 -- the start of a slot is that of its mode
@@ -62,7 +63,7 @@ known_effect m mode behind c knows = record {
   known = λ _. refl;
   past = λ _ l. refl;
   start_tags = same_keeps c.store.table c.store.table refl;
-  progress = inl refl;
+  progress = inl (refl, refl);
   added = same_adds c.store.table c.store.table (specialize_start_states_of m.config) refl;
   only = λ q has. inl has;
 }
@@ -107,7 +108,7 @@ refused_effect m mode behind old new slot at unknown e = record {
   known = λ knows. absurd (unknown knows);
   past = λ _ l. absurd (omega (arith, at.at, at.within, l));
   start_tags = same_keeps old.store.table new.store.table table;
-  progress = inl (ap (λ (v : CacheView). v.store.searched) e);
+  progress = inl (ap (λ (v : CacheView). v.store.clears) e, ap (λ (v : CacheView). v.store.searched) e);
   added = same_adds old.store.table new.store.table (specialize_start_states_of m.config) table;
   only = λ q has. inl (subst (λ (t : Rows). Has t q) table has);
 } where
@@ -254,11 +255,11 @@ module _ (m : Machine) (mode : Anchored) (behind : Option ℕ) (old new : CacheV
   pub computed_effect :
       HasCells old.store.table → length (template_of old.store.table.of) ≡ table_stride old.store.table.of → old.store.clears < 2 ^ 64
       → cost (start_state_of m.nfa mode behind) ≤ greatest old.store.table.of → HasRowIds old.store.table → HasRowIds new.store.table
-      → IsStartEffect m mode behind old new
-  computed_effect cells wide small cheap ids_old ids_new = record {
+      → old.store.table.of ≡ m → IsStartEffect m mode behind old new
+  computed_effect cells wide small cheap ids_old ids_new of = record {
     grown =
         grown_one old new made.of made.counted
-        (started_clears old.store new.store slot id (start_row m mode behind) small made.done) made.starts
+        (started_clears old.store new.store slot id (start_row m mode behind) small made.done) made.starts tagged
         (λ nothing. Keeps-started old.store new.store slot id (start_row m mode behind) made.done cells not_known nothing)
         (λ states room. roomy-started old.store new.store slot id (start_row m mode behind) made.done states wide cheap room);
     counted = omega (arith, made.counted);
@@ -270,7 +271,18 @@ module _ (m : Machine) (mode : Anchored) (behind : Option ℕ) (old new : CacheV
     progress = started_progress old.store new.store slot id (start_row m mode behind) made.done;
     added = started_adds old.store new.store slot id (start_row m mode behind) ids_old ids_new made.done;
     only = made.only;
-  }
+  } where
+    now : new.store.table.of ≡ m
+    now = made.of ∙ of
+
+    tagged : (q : Powerset) → HasStartTag new.store.table q → HasStartTag old.store.table q ⊎ MayHaveStartTag new.store q
+    tagged =
+        tagged_start old.store new.store slot (start_state_of m.nfa mode behind)
+        (started_keeps old.store new.store slot id (start_row m mode behind) ids_old ids_new made.done)
+        (subst (λ (d : Machine). TagsNewStates old.store.table new.store.table (specialize_start_states_of d.config)) (sym now)
+        (started_adds old.store new.store slot id (start_row m mode behind) ids_old ids_new made.done))
+        made.only (subst (λ (d : Machine). slot < slot_count d) (sym now) at.within) made.found
+        (start_same m mode behind ∙ (ap (start_of m) (sym at.at) ∙ ap (λ (d : Machine). start_of d slot) (sym now)))
 
 -- why a search has no start state, of the states as they are after the refusal
 pub refusal_at :

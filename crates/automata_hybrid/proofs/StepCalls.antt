@@ -21,7 +21,7 @@ use Rattle.automata_hybrid.proofs.Effects.{Keeps-computed, roomy-computed, writt
 use Rattle.automata_hybrid.proofs.Growing.{grown_counted, grown_one, grown_same}
 use Rattle.automata_hybrid.proofs.Searched.{computed_progress}
 use Rattle.automata_hybrid.proofs.Searching.{false_true}
-use Rattle.automata_hybrid.proofs.StartTags.{computed_adds, computed_keeps, same_adds, same_keeps}
+use Rattle.automata_hybrid.proofs.StartTags.{computed_adds, computed_keeps, same_adds, same_keeps, tagged_none}
 use Rattle.automata_hybrid.proofs.Starting.{leads_row}
 use Rattle.automata_config.specs.Options.{match_kind_of}
 
@@ -36,7 +36,7 @@ same_effect m id unit c knows = record {
   fixed = λ h. refl;
   quit = λ q. refl;
   known = λ k. refl;
-  progress = inl refl;
+  progress = inl (refl, refl);
   start_tags = same_keeps c.store.table c.store.table refl;
   added = same_adds c.store.table c.store.table false refl;
   only = λ q n p has. inl has;
@@ -144,7 +144,7 @@ refused_effect m id unit old new low clean unknown e = record {
   fixed = λ high. absurd (omega (arith, low, high));
   quit = λ q. absurd (false_true (sym clean ∙ q));
   known = λ k. absurd (unknown k);
-  progress = inl (ap (λ (v : CacheView). v.store.searched) e);
+  progress = inl (ap (λ (v : CacheView). v.store.clears) e, ap (λ (v : CacheView). v.store.searched) e);
   start_tags = same_keeps old.store.table new.store.table table;
   added = same_adds old.store.table new.store.table false table;
   only = λ q n p has. inl (subst (λ (t : Rows). Has t p) table has);
@@ -290,6 +290,7 @@ module _ (m : Machine) (id : ℕ) (unit : Option ℕ) (old new : CacheView) (cla
     grown =
         grown_one old new step.of step.counted
         (computed_clears old.store new.store id class next valid.0 target small done) step.starts
+        (λ q t. inl (tagged_none old.store.table new.store.table (computed_keeps old.store new.store id class next valid.0 target ids_old ids_new done) (computed_adds old.store new.store id class next valid.0 target ids_old ids_new done) q t))
         (λ nothing. Keeps-computed old.store new.store id class next valid.0 target cells valid.1 within not_known done nothing)
         (λ states room. roomy-computed old.store new.store id class next valid.0 target states wide cheap done room);
     counted = omega (arith, step.counted);

@@ -22,7 +22,7 @@ use Rattle.automata_hybrid.proofs.Searching.{false_true, lt_or_le}
 use Rattle.automata_hybrid.proofs.Walked.{Begins, finish_all, half_at_place, half_behind, half_past, place_length, told_more, walked_all, walked_begin}
 use Rattle.automata_config.specs.Options.{match_kind_of}
 
-fresh_at : (q : Powerset) → Fresh ≡ At q → ⊥
+pub fresh_at : (q : Powerset) → Fresh ≡ At q → ⊥
 fresh_at q e = cc
 
 pub ended_at : (q : Powerset) → Ended ≡ At q → ⊥

@@ -1,5 +1,5 @@
 -- One call of a walk that reads units: what it makes of its cache.
-use Rattle.std.proofs.Common.{ℕ, suc, ◌≡◌, ◌∙◌, ◌+◌, ◌-◌, ◌≤◌, ◌<◌, ◌⊎◌, inl, inr, false, length, None, refl, sym, ap, subst, arith}
+use Rattle.std.proofs.Common.{ℕ, suc, ◌≡◌, ◌∙◌, ◌+◌, ◌-◌, ◌≤◌, ◌<◌, ◌⊎◌, inr, false, length, None, refl, sym, ap, subst, arith}
 use Rattle.std.specs.Prelude.{Err, Ok}
 use Rattle.automata_base.specs.Answers.{offset_in}
 use Rattle.automata_base.specs.Input.{Input}
@@ -118,6 +118,7 @@ module _ (way : Direction) (m : Machine) (input : Input) (w : Walk) (from : ℕ)
       roomy = λ room. walk_clears_none old new w.stage _ (grown_after old between new e.grown after) ended_there (omega (arith, most, r.left, ended_count)) room;
       grown = grown_after old between new e.grown after;
       there = ended_there;
+      put_back = λ q at lacks. inr (between, (e.put_back q at lacks).0, after);
       learned = λ nothing k t ready may. (
           let second : ClearedNothing between.store new.store = nothing_after old between new e.grown after nothing in (
             state_still way m between new input w.stage after second resumes.learned,
@@ -186,6 +187,7 @@ module _ (way : Direction) (m : Machine) (input : Input) (w : Walk) (from : ℕ)
       roomy = λ room. walk_clears_none old mid w.stage _ (grown_after old between mid e.grown whole) there (omega (arith, most, r.left)) room;
       grown = grown_after old between mid e.grown whole;
       there = there;
+      put_back = λ q at lacks. inr (between, (e.put_back q at lacks).0, whole);
       learned = λ nothing. tt;
       known = λ knows. ((there (has_known knows)).idle (knows_count knows), inr (last.0, last.1, unheld_on));
       ended = tt;

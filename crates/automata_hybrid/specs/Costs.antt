@@ -16,11 +16,28 @@ abbrev pub passes_most : (passes bytes : ℕ) → ℕ
 passes_most zero bytes = 0
 passes_most (suc passes) bytes = passes_most passes bytes + (bytes - passes + 2)
 
+-- what a pass over the span of an input costs a cache
+pub record IsCostOfPass (way : Direction) (m : Machine) (input : Input) (old new : CacheView) : Type 0 where
+  pub counted : new.count ≤ old.count + (input.end - input.start + 2)
+  -- a start that is known isn't determinised again
+  pub started : KnowsItsStart way m old.store input → new.count ≤ old.count + (input.end - input.start + 1)
+  -- where there is room for as many states, nothing is cleared
+  pub room : HasRoom old.store (input.end - input.start + 2) → new.store.clears ≡ old.store.clears
+
+-- what so many passes cost it one after another, each over the next span that is tried
+abbrev pub AreCostsInTurn : Direction → Machine → Input → (passes : ℕ) → CacheView → CacheView → Type 0
+AreCostsInTurn way m input zero old new = new ≡ old
+AreCostsInTurn way m input (suc passes) old new =
+    (between : CacheView) × AreCostsInTurn way m input passes old between
+    × IsCostOfPass way m (later way passes input) between new
+
 -- what so many passes of a search cost a cache
 pub record IsCostOfPasses (way : Direction) (m : Machine) (input : Input) (passes : ℕ)
     (old new : CacheView) : Type 0 where
   -- each is over a span that the search tries
   pub tried : (k : ℕ) → k < passes → Tries (Finds way m) (Skips m) way input k × (input.start + k ≤ input.end)
+  -- each costs what a pass over its span may; and so all of them together
+  pub each : AreCostsInTurn way m input passes old new
   pub counted : new.count ≤ old.count + passes_most passes (input.end - input.start)
   -- a start that is known isn't determinised again: where those of all are, each pass determinises once less
   pub started :

@@ -1,13 +1,14 @@
 -- What steps and searches make of a cache, and a reset doesn't.
-use Rattle.std.specs.Prelude.{◌≡◌, ℕ, ◌+◌, ◌-◌, ◌*◌, ◌^◌, ◌<◌, ◌≤◌, ◌⊎◌, length, slice_index}
+use Rattle.std.specs.Prelude.{◌≡◌, ℕ, ◌+◌, ◌-◌, ◌*◌, ◌^◌, ◌<◌, ◌≤◌, ◌⊎◌, IsBitSet, length, slice_index, true}
 use Rattle.automata_base.specs.Powerset.{Powerset}
 use Rattle.automata_hybrid.specs.Stores.{Stored, IsKnownStart, IsKnownTransition, KeepsStarts, cell_of, with_searched}
 use Rattle.automata_hybrid.specs.Usage.{row_usage, usage}
 use Rattle.automata_hybrid.specs.Caches.{CacheView}
 use Rattle.automata_hybrid.specs.Ids.{offset_limit}
-use Rattle.automata_hybrid.specs.Machine.{greatest, table_stride}
+use Rattle.automata_config.specs.Options.{specialize_start_states_of}
+use Rattle.automata_hybrid.specs.Machine.{greatest, slot_count, start_of, table_stride}
 use Rattle.automata_hybrid.specs.Progressing.{progress_cleared}
-use Rattle.automata_hybrid.specs.Table.{IsValid, Names}
+use Rattle.automata_hybrid.specs.Table.{IsValid, Names, Rows}
 use Rattle.automata_hybrid.specs.declared.dfa.progress.Searched.{Searched}
 
 -- nothing is lost: each row, each known start and each known transition is as it was
@@ -22,10 +23,10 @@ pub record Keeps (old new : Stored) : Type 0 where
 abbrev pub ClearedNothing : Stored → Stored → Type 0
 ClearedNothing old new = (new.clears ≡ old.clears) × (old.clears < 2 ^ 64 - 1)
 
--- progress is as it was, or, where something was cleared, as a clear makes it
+-- progress is as it was, and so is the count of clears; or, where something was cleared, it is as a clear makes it
 abbrev pub IsKeptOrCleared : (old new : Stored) → (from to : Searched) → Type 0
 IsKeptOrCleared old new from to =
-    (to ≡ from) ⊎ ((ClearedNothing old new → ⊥) × (to ≡ progress_cleared from))
+    ((new.clears ≡ old.clears) × (to ≡ from)) ⊎ ((ClearedNothing old new → ⊥) × (to ≡ progress_cleared from))
 
 -- a step or a start moves no progress
 abbrev pub KeepsProgress : Stored → Stored → Type 0
@@ -35,6 +36,16 @@ KeepsProgress old new = IsKeptOrCleared old new old.searched new.searched
 pub record HasRoom (c : Stored) (states : ℕ) : Type 0 where
   pub capacity : usage c + states * (row_usage c.table.of + greatest c.table.of) ≤ c.table.of.capacity
   pub offsets : (k : ℕ) → k < states → length c.table.cells + k * table_stride c.table.of < offset_limit
+
+-- a state's ID has the start tag
+abbrev pub HasStartTag : Rows → Powerset → Type 0
+HasStartTag t q = (id : ℕ) × Names t id q × IsBitSet id 28
+
+-- a state may be given the start tag: starts are specialised, and it's the start of a slot that is known
+abbrev pub MayHaveStartTag : Stored → Powerset → Type 0
+MayHaveStartTag c q =
+    (specialize_start_states_of c.table.of.config ≡ true)
+    × ((slot : ℕ) × (slot < slot_count c.table.of) × IsKnownStart c slot × (q ≡ start_of c.table.of slot))
 
 -- nothing has changed but the progress of searches
 abbrev pub IsStill : CacheView → CacheView → Type 0
@@ -47,6 +58,10 @@ pub record IsGrown (old new : CacheView) : Type 0 where
   pub clears : old.store.clears ≤ new.store.clears
   -- a start that is known stays known, across clears too
   pub starts : KeepsStarts old.store.starts new.store.starts
+  -- a state that hadn't the start tag is given it only as a start, where starts are specialised
+  pub tagged :
+      (q : Powerset) → HasStartTag new.store.table q
+      → HasStartTag old.store.table q ⊎ MayHaveStartTag new.store q
   -- with nothing determinised nothing has changed but the progress of searches
   pub idle : new.count ≡ old.count → IsStill old new
   -- with nothing cleared nothing is lost

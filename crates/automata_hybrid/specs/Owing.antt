@@ -1,5 +1,5 @@
 -- What a search answers by its DFA and its input alone, whatever the cache, and what it makes of its cache.
-use Rattle.std.specs.Prelude.{ℕ, ◌≡◌, ◌<◌, ◌≤◌, true, false, Option, None, option_map, Result, Ok, Err, IfOk, IfErr}
+use Rattle.std.specs.Prelude.{ℕ, ◌≡◌, ◌<◌, ◌≤◌, length, true, false, Option, None, option_map, Result, Ok, Err, IfOk, IfErr}
 use Rattle.std.specs.Prelude.{IfSome, OnOk}
 use Rattle.automata_base.specs.Answers.{Half, IsAnswer}
 use Rattle.automata_base.specs.Engines.{engine_of}
@@ -19,7 +19,9 @@ use Rattle.automata_hybrid.specs.Caches.{CacheView}
 use Rattle.automata_hybrid.specs.Costs.{IsCostOfSearch}
 use Rattle.automata_hybrid.specs.Growing.{ClearedNothing, IsGrown, IsStill}
 use Rattle.automata_hybrid.specs.Knowing.{IsOfInput, Knows}
-use Rattle.automata_hybrid.specs.Machine.{Machine}
+use Rattle.automata_hybrid.specs.Clears.{AllStarts}
+use Rattle.automata_hybrid.specs.Machine.{Machine, slot_count}
+use Rattle.automata_hybrid.specs.Table.{AreRows}
 use Rattle.automata_hybrid.specs.Searched.{EndsProgress, LeavesProgress}
 use Rattle.automata_hybrid.specs.Searches.{IsFound, IsRefused, NoQuitInReach, WithoutBase, tape_in, with_base}
 use Rattle.automata_hybrid.specs.Slots.{supports}
@@ -27,9 +29,13 @@ use Rattle.automata_hybrid.specs.Starting.{quit_behind}
 use Rattle.automata_hybrid.specs.Within.{LiesIn, LiesPast}
 use Rattle.automata_config.specs.Options.{match_kind_of, minimum_cache_clear_count_of}
 
--- a cache of this DFA, whose accounted bytes are within its settings
+-- a cache of this DFA: its rows fit together, each start slot has its own start or none yet, and its accounted bytes are
+-- within the settings
 pub record IsStoreOf (c : Stored) (m : Machine) : Type 0 where
   pub of : c.table.of ≡ m
+  pub rows : AreRows c.table
+  pub starts : AllStarts c.table c.starts
+  pub slots : length c.starts ≡ slot_count m
   pub within : usage c ≤ m.capacity
 
 -- want of memory

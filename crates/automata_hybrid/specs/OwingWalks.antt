@@ -1,6 +1,6 @@
 -- What a call of a walk and a set answer by their DFA and their input alone, whatever the cache, and what they make of
 -- their cache.
-use Rattle.std.specs.Prelude.{ℕ, ◌≡◌, ◌<◌, ◌≤◌, ◌+◌, ◌-◌, ◌⊎◌, Bool, List, length, Result, Err}
+use Rattle.std.specs.Prelude.{ℕ, ◌≡◌, ◌<◌, ◌≤◌, ◌+◌, ◌-◌, ◌⊎◌, Bool, List, false, length, Result, Err}
 use Rattle.std.specs.Prelude.{IfErr, IfSome, IsOk, OnOk, OnErr}
 use Rattle.automata_base.specs.Answers.{ArePatterns, ArePatternsFound, IsOverlapping}
 use Rattle.automata_base.specs.Engines.{engine_of}
@@ -8,6 +8,7 @@ use Rattle.automata_base.specs.Input.{Input}
 use Rattle.automata_base.specs.Nodes.{nfa_of}
 use Rattle.automata_base.specs.Paths.{IsLookAcyclic}
 use Rattle.automata_base.specs.PatternSet.{members}
+use Rattle.automata_base.specs.Powerset.{Powerset}
 use Rattle.automata_base.specs.Selections.{Pair}
 use Rattle.automata_base.specs.Tapes.{Direction, Forward}
 use Rattle.automata_config.specs.declared.error.SearchError.{SearchError}
@@ -16,13 +17,15 @@ use Rattle.automata_hybrid.specs.Caches.{CacheView, counted}
 use Rattle.automata_hybrid.specs.Growing.{ClearedNothing, HasRoom, IsGrown, IsStill}
 use Rattle.automata_hybrid.specs.Knowing.{IsOfInput, KnowsItsStart}
 use Rattle.automata_hybrid.specs.KnowingWalks.{KnowsItsState, KnowsWalk, KnowsWhich}
+use Rattle.automata_hybrid.specs.Effects.{IsAddedStart}
 use Rattle.automata_hybrid.specs.Machine.{Machine}
 use Rattle.automata_hybrid.specs.Owing.{IsMemory, IsStoreOf, IsUnhindered, IsUnsupported, unsupported_error}
 use Rattle.automata_hybrid.specs.SearchedWalks.{EndsCall, EndsSet, LeavesCall, LeavesSet, ReadsNoUnit}
 use Rattle.automata_hybrid.specs.Walking.{AreWalked, HasItsState, HasTold, IsUnheld, IsWalkRefusal, TellsNext, half_nth}
 use Rattle.automata_hybrid.specs.Walking.{start_count}
-use Rattle.automata_hybrid.specs.Walks.{Fresh, Ids, Keeping, States, Walk, without_match}
+use Rattle.automata_hybrid.specs.Walks.{At, Fresh, Ids, Keeping, States, Walk, without_match}
 use Rattle.automata_hybrid.specs.Which.{IsWhichRefusal}
+use Rattle.automata_hybrid.specs.Table.{Has}
 use Rattle.automata_hybrid.specs.Within.{LiesIn}
 use Rattle.automata_config.specs.Options.{match_kind_of}
 
@@ -53,6 +56,11 @@ pub record IsWalkCall (way : Direction) (m : Machine) (input : Input) (old new :
   -- one that reads no unit is never refused
   pub ready : ReadsNoUnit input old → IfErr result (λ e. ⊥)
 
+-- a state was added again, without the start tag; the cache was cleared for it only where it doesn't fit
+abbrev pub IsPutBack : Powerset → (old new : CacheView) → Type 0
+IsPutBack q old new =
+    (new.count ≡ old.count) × IsAddedStart old.store (record { state = q; started = false }) new.store
+
 -- why a call is refused that knows all that it uses: for what it was given; or, where states are kept, since the one that
 -- tells the next pair can't be held
 abbrev pub IsKnownRefusal : Keeping → Direction → Machine → Input → Walk → SearchError → Type 0
@@ -77,6 +85,10 @@ pub record IsCallEffect {T : Type 0} (keeping : Keeping) (way : Direction) (m : 
   -- it grows the cache as one determinisation more would, and where the cache has the walk's state as those made do
   pub grown : IsGrown old (counted new)
   pub there : HasItsState old.store.table walk.stage → IsGrown old new
+  -- a held state that the cache lacks is put back first, and the cache grows from there
+  pub put_back :
+      (q : Powerset) → walk.stage ≡ At q → (Has old.store.table q → ⊥)
+      → (new ≡ old) ⊎ ((between : CacheView) × IsPutBack q old between × IsGrown between new)
   -- where nothing was cleared what it used is known
   pub learned : ClearedNothing old.store new.store → OnOk result (KnowsWalk way m new.store input walk)
   -- with all that known it takes no memory, and changes nothing but the progress

@@ -1,5 +1,5 @@
 -- Going on with a walk: what the functions under its calls ask, what they answer, and what they make of their cache.
-use Rattle.std.specs.Prelude.{ℕ, suc, ◌≡◌, ◌+◌, ◌-◌, ◌≤◌, ◌⊎◌, Result}
+use Rattle.std.specs.Prelude.{ℕ, suc, ◌≡◌, ◌+◌, ◌-◌, ◌≤◌, Result}
 use Rattle.std.specs.Prelude.{IfErr, IfOk, OnErr, OnOk}
 use Rattle.automata_base.specs.Input.{Input}
 use Rattle.automata_base.specs.Paths.{next}
@@ -15,6 +15,7 @@ use Rattle.automata_hybrid.specs.Knowing.{IsOfInput, KnowsUnit}
 use Rattle.automata_hybrid.specs.KnowingWalks.{HasLearnedUnits, IsToRead, KnowsItsState, KnowsUnits}
 use Rattle.automata_hybrid.specs.Machine.{Machine}
 use Rattle.automata_hybrid.specs.Owing.{IsUnsupported, unsupported_error}
+use Rattle.automata_hybrid.specs.OwingWalks.{IsPutBack}
 use Rattle.automata_hybrid.specs.Passing.{HasLearnedUnit}
 use Rattle.automata_hybrid.specs.Progressing.{started}
 use Rattle.automata_hybrid.specs.Reading.{IsReadProgress}
@@ -25,7 +26,7 @@ use Rattle.automata_hybrid.specs.Starting.{MayStart}
 use Rattle.automata_hybrid.specs.Table.{Has, Leads, Names, Rows}
 use Rattle.automata_hybrid.specs.Walking.{GoesOn, HasItsState, HasTold, HasToldBy, IsWalkOf}
 use Rattle.automata_hybrid.specs.Walking.{IsWalkRefusal, TellsNext, WalkReads, start_count}
-use Rattle.automata_hybrid.specs.Walks.{Ended, Fresh, Ids, IsHeldAt, IsHeldItself, Keeping, Stage, Walk, keeping_of}
+use Rattle.automata_hybrid.specs.Walks.{At, Ended, Fresh, Ids, IsHeldAt, IsHeldItself, Keeping, Stage, Walk, keeping_of}
 use Rattle.automata_hybrid.specs.declared.search.walk.Held.{Held}
 
 -- a walk over this input, and what is held is the state where it stands
@@ -99,6 +100,9 @@ pub record IsResumeEffect {T : Type 0} (way : Direction) (m : Machine) (input : 
   pub known :
       (MayStart m input.anchored (tape_in way input).before → KnowsItsState way m old.store input stage)
       → (new ≡ old) × IfErr result IsOfInput
+  -- a held state that isn't there is put back
+  pub put_back :
+      (q : Powerset) → stage ≡ At q → (Has old.store.table q → ⊥) → OnOk result (IsPutBack q old new) × OnErr result (new ≡ old)
   -- the progress of searches stays, but for a clear; and where it is refused
   pub progress : KeepsProgress old.store new.store
   pub err : OnErr result (new.store.searched ≡ old.store.searched)
@@ -110,6 +114,8 @@ pub record IsPutBackEffect {T E : Type 0} (q : Powerset) (old new : CacheView) (
   pub grown : IsGrown old (counted new)
   -- a state that is there is answered, and nothing changes
   pub there : Has old.store.table q → (new ≡ old) × IfErr result (λ e. ⊥)
+  -- one that isn't there is added again
+  pub again : (Has old.store.table q → ⊥) → OnOk result (IsPutBack q old new)
   -- the progress of searches stays, but for a clear
   pub progress : KeepsProgress old.store new.store
 

@@ -1,5 +1,5 @@
 -- What the passes of a search leave of the progress: the searched bytes, and the search that is open.
-use Rattle.std.specs.Prelude.{ℕ, zero, suc, ◌≡◌, ◌<◌, ◌≤◌, ◌+◌, ◌⊎◌, true, Option, None, Some}
+use Rattle.std.specs.Prelude.{ℕ, zero, suc, ◌≡◌, ◌<◌, ◌≤◌, ◌+◌, ◌⊎◌, length, true, Option, None, Some}
 use Rattle.automata_base.specs.Answers.{Tries, later, offset_in}
 use Rattle.automata_base.specs.Classes.{is_quit}
 use Rattle.automata_base.specs.Input.{Input}
@@ -13,7 +13,8 @@ use Rattle.automata_hybrid.specs.Stores.{Stored}
 use Rattle.automata_hybrid.specs.Growing.{ClearedNothing, IsKeptOrCleared, KeepsProgress}
 use Rattle.automata_hybrid.specs.Machine.{Machine}
 use Rattle.automata_hybrid.specs.Progressing.{finished, started, updated}
-use Rattle.automata_hybrid.specs.Searches.{Finds, HasReadNoQuit, Reads, Skips, behind_offset, given_up_offset, tape_in}
+use Rattle.automata_hybrid.specs.Searches.{Finds, HasReadNoQuit, IsPassRefusal, IsUnitRefusal, Reads, Skips}
+use Rattle.automata_hybrid.specs.Searches.{behind_offset, given_up_offset, tape_in}
 use Rattle.automata_hybrid.specs.Starting.{IsStartRefusalAt}
 
 -- a step from an offset leaves a search at that offset
@@ -45,12 +46,12 @@ IsLeftAt m unit at old new e =
 abbrev pub none_searched : Searched
 none_searched = record { bytes = 0; running = None }
 
--- an open search counts its bytes from its first one, beside those that were searched before; once a clear came, from
--- where in the span it was then, beside none
+-- while the count of clears stays, an open search counts its bytes from its first one, beside those that were searched
+-- before; once a clear came, from a place of the span, beside none
 abbrev pub CountsFrom :
     Input → (before : Searched) (first : ℕ) → (old new : Stored) → (beside : Searched) (from : ℕ) → Type 0
 CountsFrom input before first old new beside from =
-    ((beside ≡ before) × (from ≡ first))
+    ((new.clears ≡ old.clears) × (beside ≡ before) × (from ≡ first))
     ⊎ ((ClearedNothing old new → ⊥) × (beside ≡ none_searched) × (input.start ≤ from) × (from ≤ input.end))
 
 -- a pass that began at `first` is open at an offset
@@ -65,12 +66,12 @@ IsEndedAt input before first at old new =
     (beside : Searched) × (from : ℕ) × CountsFrom input before first old new beside from
     × (new.searched ≡ finished (started beside from) at)
 
--- the place of the last unit that a pass reads: past it the pass reads none, or its unit is a quit byte; 0 where the
--- start is dead, so that the pass reads none
+-- the place of the last unit that a pass reads, past which it reads none; 0 where the start is dead, so that it reads
+-- none at all
 pub record IsLastPlace (way : Direction) (m : Machine) (input : Input) (k : ℕ) : Type 0 where
   pub reads : (k ≡ 0) ⊎ Reads way m input k
   pub clean : HasReadNoQuit way m input k
-  pub stops : (Reads way m input (suc k) → ⊥) ⊎ IsQuitUnit m (next (tape_in way input) k)
+  pub stops : Reads way m input (suc k) → ⊥
 
 -- a pass has ended at its last place, counted from its first
 abbrev pub EndsAtLast : Direction → Machine → Input → (before : Searched) → (old new : Stored) → Type 0
@@ -78,11 +79,21 @@ EndsAtLast way m input before old new =
     (k : ℕ) × IsLastPlace way m input k
     × IsEndedAt input before (given_up_offset way input 0) (given_up_offset way input k) old new
 
--- a pass is left open at a place that it reads, where it was refused
-abbrev pub IsLeftOpen : Direction → Machine → Input → (before : Searched) → (old new : Stored) → SearchError → Type 0
-IsLeftOpen way m input before old new e =
-    (k : ℕ) × Reads way m input k × HasReadNoQuit way m input k × IsOfRoom (given_up_offset way input k) e
-    × IsOpenAt input before (given_up_offset way input 0) (given_up_offset way input k) old new
+-- the last unit of a pass back, behind its span: the pass has ended before it reads it
+abbrev pub IsBehindEnd : Direction → Input → ℕ → Type 0
+IsBehindEnd Forward input k = ⊥
+IsBehindEnd Backward input k = k ≡ length (tape_in Backward input).bytes
+
+-- a pass was refused at a unit that it reads: at a quit byte, or at the last unit of a pass back, it has ended there; and
+-- else it is left open there
+abbrev pub IsStoppedAt :
+    Direction → Machine → Input → (before : Searched) → (old new : Stored) → SearchError → Type 0
+IsStoppedAt way m input before old new e =
+    (k : ℕ) × Reads way m input k × HasReadNoQuit way m input k × IsUnitRefusal way m new input k e
+    × (((IsQuitUnit m (next (tape_in way input) k) ⊎ IsBehindEnd way input k)
+    × IsEndedAt input before (given_up_offset way input 0) (given_up_offset way input k) old new)
+    ⊎ ((IsBehindEnd way input k → ⊥) × IsOfRoom (given_up_offset way input k) e
+    × IsOpenAt input before (given_up_offset way input 0) (given_up_offset way input k) old new))
 
 -- a pass back over an empty span keeps no progress
 abbrev pub KeepsNone : Direction → Input → Type 0
@@ -95,19 +106,21 @@ HasEnded way m input old new =
     (KeepsNone way input × KeepsProgress old new)
     ⊎ ((KeepsNone way input → ⊥) × EndsAtLast way m input old.searched old new)
 
--- a pass was refused: at its start, which isn't known, and which leaves the progress as it was; or it has ended; or it
--- is left open
+-- a pass was refused: at its start, which isn't known, and which leaves the progress as it was; or at a unit
 abbrev pub IsLeft : Direction → Machine → Input → (old new : Stored) → SearchError → Type 0
 IsLeft way m input old new e =
     (IsStartRefusalAt m new input.anchored (tape_in way input).before
     (behind_offset way input) (offset_in way input 0) e × (new.searched ≡ old.searched))
-    ⊎ (HasEnded way m input old new
-    ⊎ ((KeepsNone way input → ⊥) × IsLeftOpen way m input old.searched old new e))
+    ⊎ ((KeepsNone way input × IsPassRefusal way m new input e × KeepsProgress old new)
+    ⊎ ((KeepsNone way input → ⊥) × IsStoppedAt way m input old.searched old new e))
 
--- a search tries so many spans
+-- a search tries the span that begins so many places later, which isn't done
+abbrev pub TriesSpan : Direction → Machine → Input → (k : ℕ) → Type 0
+TriesSpan way m input k = Tries (Finds way m) (Skips m) way input k × (input.start + k ≤ input.end)
+
+-- it tries so many spans
 abbrev pub TriesSpans : Direction → Machine → Input → (passes : ℕ) → Type 0
-TriesSpans way m input passes =
-    (k : ℕ) → k < passes → Tries (Finds way m) (Skips m) way input k × (input.start + k ≤ input.end)
+TriesSpans way m input passes = (k : ℕ) → k < passes → TriesSpan way m input k
 
 -- so many passes of a search have ended, one after another
 abbrev pub HaveEnded : Direction → Machine → Input → (passes : ℕ) → (old new : Stored) → Type 0
@@ -116,10 +129,11 @@ HaveEnded way m input (suc passes) old new =
     (mid : Stored) × HaveEnded way m input passes old mid × HasEnded way m (later way passes input) mid new
     × (mid.clears ≤ new.clears)
 
--- a search that answers has ended the passes over the spans that it tried
+-- a search that answers has ended the passes over all the spans that it tries
 abbrev pub EndsProgress : Direction → Machine → Input → (old new : Stored) → Type 0
 EndsProgress way m input old new =
-    (passes : ℕ) × TriesSpans way m input passes × HaveEnded way m input passes old new
+    (passes : ℕ) × TriesSpans way m input passes × (TriesSpan way m input passes → ⊥)
+    × HaveEnded way m input passes old new
 
 -- one that is refused has ended some passes, and the next one was refused
 abbrev pub LeavesProgress : Direction → Machine → Input → (old new : Stored) → SearchError → Type 0

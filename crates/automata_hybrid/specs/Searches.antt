@@ -83,6 +83,12 @@ abbrev pub given_up_offset : Direction → Input → ℕ → ℕ
 given_up_offset Forward input k = input.start + k
 given_up_offset Backward input k = max input.start (input.end - k - 1)
 
+-- why the step on the unit at place `k` of a pass is refused
+abbrev pub IsUnitRefusal : Direction → Machine → Stored → Input → ℕ → SearchError → Type 0
+IsUnitRefusal way m c input k e =
+    IsStepRefusal m c (state_in way m input k) (next (tape_in way input) k) (unit_offset way input k)
+    (given_up_offset way input k) e
+
 -- the offset of the byte behind the start of a pass
 abbrev pub behind_offset : Direction → Input → ℕ
 behind_offset Forward input = input.start - 1
@@ -93,9 +99,7 @@ abbrev pub IsPassRefusal : Direction → Machine → Stored → Input → Search
 IsPassRefusal way m c input e =
     IsStartRefusalAt m c input.anchored (tape_in way input).before (behind_offset way input) (offset_in way input 0) e
     ⊎ ((k : ℕ) × (quit_behind m (tape_in way input).before ≡ None) × Reads way m input k
-    × HasReadNoQuit way m input k
-    × IsStepRefusal m c (state_in way m input k) (next (tape_in way input) k) (unit_offset way input k)
-    (given_up_offset way input k) e)
+    × HasReadNoQuit way m input k × IsUnitRefusal way m c input k e)
 
 -- a pass over the span of an input tells this, and meets no quit byte
 abbrev pub Finds : Direction → Machine → Input → Option Pair → Type 0

@@ -119,6 +119,16 @@ IsAlive t =
     (k : ℕ) (r : Row) → slice_get t.rows k ≡ Some r
     → (r.state ≡ dead → ⊥) × (cost r.state ≤ greatest t.of) × IsOwn t.of.nfa r.state
 
+-- rows and cells fit each other: the fixed rows come first, no state has two rows, and each known cell leads where its
+-- row's state goes
+pub record AreRows (t : Rows) : Type 0 where
+  pub whole : length t.cells ≡ (length t.rows + 3) * table_stride t.of
+  pub small : length t.cells < offset_limit + table_stride t.of
+  pub fixed : take (3 * table_stride t.of) t.cells ≡ fixed_rows (table_stride t.of)
+  pub stepped : IsStepped t
+  pub distinct : IsDistinct t
+  pub alive : IsAlive t
+
 -- the table, the states and the map fit each other
 pub record IsTable (t : Rows) (map : StateMap) (costs : ℕ) : Type 0 where
   pub template : IsTemplate (table_stride t.of) (template_of t.of)

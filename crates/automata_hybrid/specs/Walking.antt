@@ -17,8 +17,8 @@ use Rattle.automata_hybrid.specs.Stores.{Stored}
 use Rattle.automata_hybrid.specs.Usage.{GivesUp}
 use Rattle.automata_hybrid.specs.Machine.{Machine, greatest}
 use Rattle.automata_hybrid.specs.Owned.{IsOwn}
-use Rattle.automata_hybrid.specs.Searches.{HasReadNoQuit, IsNoQuit, IsStepRefusal, Skips, behind_offset, given_up_offset}
-use Rattle.automata_hybrid.specs.Searches.{state_in, tape_in, unit_offset}
+use Rattle.automata_hybrid.specs.Searches.{HasReadNoQuit, IsNoQuit, IsUnitRefusal, Skips, behind_offset, given_up_offset}
+use Rattle.automata_hybrid.specs.Searches.{state_in, tape_in}
 use Rattle.automata_hybrid.specs.Starting.{IsStartRefusalAt, MayStart}
 use Rattle.automata_hybrid.specs.Table.{Rows, Has, Names}
 use Rattle.automata_hybrid.specs.Walks.{At, Ended, Fresh, Ids, Keeping, Stage, States, Walk}
@@ -119,12 +119,6 @@ IsResumeRefusal way m c input Fresh units e =
     IsStartRefusalAt m c input.anchored (tape_in way input).before (behind_offset way input) (offset_in way input 0) e
 IsResumeRefusal way m c input (At q) units e = IsPutBackRefusal c q (given_up_offset way input units) e
 IsResumeRefusal way m c input Ended units e = ⊥
-
--- why the step on the unit at place `j` is refused
-abbrev pub IsUnitRefusal : Direction → Machine → Stored → Input → ℕ → SearchError → Type 0
-IsUnitRefusal way m c input j e =
-    IsStepRefusal m c (state_in way m input j) (next (tape_in way input) j) (unit_offset way input j)
-    (given_up_offset way input j) e
 
 -- the state behind the unit at place `j` tells a pair, and can't be held: no user more of it can be counted, which is told
 -- as want of memory

@@ -1,8 +1,13 @@
 -- Replies one after another.
-use Rattle.std.proofs.Common.{◌≡◌, ◌∙◌, ℕ, zero, suc, ◌+◌, ◌<◌, ◌≤◌, List, [], ◌∷◌, ◌++◌, length, drop, get_or, append_assoc, append-nil, add-one, ap, arith, drop-cons, refl, subst, sym}
+use Rattle.std.proofs.Common.{◌≡◌, ◌∙◌, ℕ, zero, suc, ◌+◌, ◌<◌, ◌≤◌, List, [], ◌∷◌, ◌++◌, length, drop, get_or, append_assoc, append-nil, add-one, ap, arith, drop-cons, Some, refl, subst, sym}
 use Rattle.std.proofs.Math.ListN.{drop_of_length-le}
 use Rattle.regex_automata.specs.Histories.{History, start, after}
+use Rattle.regex_automata.specs.RegexCaches.{AreFresh}
+use Rattle.regex_automata.specs.ReplayCaches.{AreAnswered, AreAnsweredAfter, AreMade}
 use Rattle.regex_automata.specs.Replies.{IsReply, AreReplies, AreRepliesAfter}
+use Rattle.automata_base.specs.Lists.{nth}
+use Rattle.regex_automata.specs.declared.hybrid.regex.caches.Cache.{Cache}
+use Rattle.regex_automata.proofs.Results.{same_some}
 use Rattle.regex_automata.specs.declared.hybrid.regex.Regex.{Regex}
 use Rattle.regex_automata.specs.declared.replay.requests.Request.{Request}
 use Rattle.regex_automata.specs.declared.replay.replies.Reply.{Reply}
@@ -41,6 +46,39 @@ module _ (regexes : List Regex) (script : List Request) where
   completes_end done h i le all =
       let ended = subst (λ (left : List Request). Completes done h left) (drop_of_length-le script le) all in
       subst (λ (xs : List Reply). AreReplies regexes script xs) (append-nil done) (ended [] tt)
+
+-- the caches over which what is left is answered continue those of the replies so far
+module _ (regexes : List Regex) (script : List Request) (first : Cache) where
+  abbrev pub Continues : List Reply → History → Cache → List Request → Type 0
+  Continues done h at left =
+      (rest : List Reply) → AreAnsweredAfter regexes h at left rest → AreAnsweredAfter regexes start first script (done ++ rest)
+
+  pub continues_turn :
+      (done new : List Reply) (h : History) (at next : Cache) (i : ℕ) (q : Request) (r : Reply)
+      → i < length script → q ≡ get_or script i q → Continues done h at (drop i script) → AreMade regexes h q r at next
+      → new ≡ done ++ r ∷ [] → Continues new (after h q r) next (drop (i + 1) script)
+  continues_turn done new h at next i q r lt is all made e = λ rest more.
+      let cut : drop i script ≡ q ∷ drop (i + 1) script =
+      rw add-one (drop-cons script i q lt ∙ ap (λ (x : Request). x ∷ drop (suc i) script) (sym is)) in
+      subst (λ (xs : List Reply). AreAnsweredAfter regexes start first script (xs ++ rest)) (sym e)
+      (subst (λ (xs : List Reply). AreAnsweredAfter regexes start first script xs) (sym (append_assoc done (r ∷ []) rest))
+      (subst (λ (left : List Request). Continues done h at left) cut all (r ∷ rest) (next, made, more)))
+
+  pub continues_end :
+      (done : List Reply) (h : History) (at : Cache) (i : ℕ)
+      → length script ≤ i → Continues done h at (drop i script) → AreAnsweredAfter regexes start first script done
+  continues_end done h at i le all =
+      let ended = subst (λ (left : List Request). Continues done h at left) (drop_of_length-le script le) all in
+      subst (λ (xs : List Reply). AreAnsweredAfter regexes start first script xs) (append-nil done) (ended [] tt)
+
+-- they begin as fresh ones of the first regex
+pub answered_first :
+    (regexes : List Regex) (script : List Request) (replies : List Reply) (r : Regex) (c : Cache)
+    → nth regexes 0 ≡ Some r → AreFresh r c → AreAnsweredAfter regexes start c script replies
+    → AreAnswered regexes script replies
+answered_first [] script replies r c at fresh all = tt
+answered_first (x ∷ xs) script replies r c at fresh all =
+    (c, subst (λ (v : Regex). AreFresh v c) (sym (same_some at)) fresh, all)
 
 cut_at : (script : List Request) (i : ℕ) → i < length script → (q : Request) × (drop i script ≡ q ∷ drop (suc i) script)
 cut_at [] i lt = absurd (omega arith)

@@ -10,6 +10,7 @@ pub mod Remembering
 pub mod Results
 pub mod Right
 pub mod Rising
+pub mod Searched
 pub mod Telling
 pub mod Tokenising
 pub mod Completing

@@ -3,7 +3,10 @@ use Rattle.std.proofs.Common.{◌≡◌, ℕ, List, [], ◌∷◌, Option, Some,
 use Rattle.automata_base.specs.Lists.{nth}
 use Rattle.regex_automata.specs.declared.hybrid.regex.Regex.{Regex}
 use Rattle.regex_automata.specs.Histories.{History}
+use Rattle.regex_automata.specs.RegexCaches.{AreFresh}
+use Rattle.regex_automata.specs.ReplayCaches.{AreFreshOf, IsMadeBy, IsMadeByOf}
 use Rattle.regex_automata.specs.Replies.{IsReply, IsOwed, IsOwedBy, own_fault}
+use Rattle.regex_automata.specs.declared.hybrid.regex.caches.Cache.{Cache}
 use Rattle.regex_automata.specs.declared.replay.requests.Request.{Request}
 use Rattle.regex_automata.specs.declared.replay.replies.Reply.{Reply}
 use Rattle.regex_automata.specs.declared.replay.replies.Reply.TheVariants as reply
@@ -38,3 +41,14 @@ pub refused_reset : (rs : List Regex) (h : History) (k : ℕ) (r : Regex)
     → nth rs h.current ≡ Some r → true ≡ nat_lt k (length rs) → IsReply rs h (request.Reset k) (reply.Done (Err search.OutOfMemory))
 refused_reset rs h k r at lt =
     is_own rs h (request.Reset k) (reply.Done (Err search.OutOfMemory)) r at (ap (λ b. if b then none_of else Some fault.NoRegex) (sym lt)) refl
+
+-- what a request with no fault of its own makes of the caches
+pub is_made :
+    (rs : List Regex) (h : History) (q : Request) (old new : Cache) (answer : Reply) (r : Regex)
+    → nth rs h.current ≡ Some r → IsMadeBy r h.walks q old new answer
+    → IsMadeByOf (nth rs h.current) h.walks q old new answer
+is_made rs h q old new answer r at made =
+    subst (λ (o : Option Regex). IsMadeByOf o h.walks q old new answer) (sym at) made
+
+pub is_fresh : (o : Option Regex) (r : Regex) (c : Cache) → o ≡ Some r → AreFresh r c → AreFreshOf o c
+is_fresh o r c at fresh = subst (λ (v : Option Regex). AreFreshOf v c) (sym at) fresh

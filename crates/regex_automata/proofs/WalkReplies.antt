@@ -12,7 +12,9 @@ use Rattle.regex_automata.specs.RegexCaches.{AreCachesOf}
 use Rattle.regex_automata.specs.Histories.{Begun, History, stepped, after_step}
 use Rattle.regex_automata.specs.Replies.{IsReply, IsStepOf, walk_fault}
 use Rattle.regex_automata.specs.Owing.{IsStep}
-use Rattle.regex_automata.specs.Players.{IsWalk, AreWalks, HasPlayed, HasAnsweredBy, IsStepFrom, Goes}
+use Rattle.regex_automata.specs.Players.{IsWalk, AreWalks, HasPlayed, HasAnsweredBy, IsStepFrom, Goes, MakesStep}
+use Rattle.regex_automata.specs.ReplayCaches.{AreMade, IsCalled, IsMadeByOf, IsWalkStepped, other_of, own_of}
+use Rattle.regex_automata.specs.declared.hybrid.regex.caches.Cache.{Cache}
 use Rattle.regex_automata.specs.declared.replay.requests.Request.TheVariants as request
 use Rattle.regex_automata.specs.declared.replay.replies.Reply.TheVariants as reply
 use Rattle.regex_automata.specs.declared.replay.replies.Fault.{Fault}
@@ -84,6 +86,25 @@ step_reply h s n k result a lt is e owed =
     (ap (walk_fault h.current) at ∙ same_regex h.current w (sym walk.regex ∙ e ∙ a.current))
     (subst (λ (o : Option Begun). IsStepOf s.regex.now o result) (sym at)
     (begun_step s.regexes.now s.regex.now w k result walk (owed w.told (walk.told s.regex.now (of_current h s w k a walk e)))))
+
+-- what it makes of the caches
+begun_made :
+    (rs : List Regex) (r : Regex) (w : Begun) (k : KeptWalk) (old new : Cache) (result : Result (Option HalfMatch) SearchError)
+    → IsWalk rs w k → HasAnsweredBy r k w.told → MakesStep r k old new result → IsWalkStepped r (Some w) old new result
+begun_made rs r w k old new result walk told made =
+    subst (λ (i : Input). IsCalled (direction_of w.reverse) (dfa_of w.reverse r) i w.told (own_of w.reverse old) (own_of w.reverse new) result × (other_of w.reverse new ≡ other_of w.reverse old)) walk.input
+    (subst (λ b. IsCalled (direction_of b) (dfa_of b r) k.input w.told (own_of b old) (own_of b new) result × (other_of b new ≡ other_of b old)) walk.reverse
+    (made.0 w.told told, made.1))
+
+pub step_made :
+    (h : History) (s : Player) (n : ℕ) (k : KeptWalk) (old new : Cache) (result : Result (Option HalfMatch) SearchError)
+    → HasPlayed h s → n < length s.walks.items → k ≡ get_or s.walks.items n k → k.regex ≡ s.current
+    → MakesStep s.regex.now k old new result → AreMade s.regexes.now h (request.StepWalk n) (reply.Half result) old new
+step_made h s n k old new result a lt is e made =
+    let (w, at, walk) = walk_at s.regexes.now h.walks s.walks.items n k a.walks lt is in
+    subst (λ (o : Option Regex). IsMadeByOf o h.walks (request.StepWalk n) old new (reply.Half result)) (sym a.regex)
+    (subst (λ (o : Option Begun). IsWalkStepped s.regex.now o old new result) (sym at)
+    (begun_made s.regexes.now s.regex.now w k old new result walk (walk.told s.regex.now (of_current h s w k a walk e)) made))
 
 -- a walk of the history, after the step
 some_regex : {v w : Regex} → Some v ≡ Some w → v ≡ w

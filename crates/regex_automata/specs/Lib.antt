@@ -20,4 +20,5 @@ pub mod Owing
 pub mod Tokens
 pub mod Histories
 pub mod Replies
+pub mod ReplayCaches
 pub mod Players

@@ -1,22 +1,24 @@
 -- How what a replay keeps stands to the history of its requests and replies.
 use Rattle.std.specs.Prelude.{ℕ, ◌≡◌, ◌+◌, ◌<◌, List, [], ◌∷◌, length, slice_index_or, slice_set, Option, Some, Result}
-use Rattle.std.specs.Prelude.{Ok, OnOk, OnErr}
+use Rattle.std.specs.Prelude.{OnOk, OnErr}
 use Rattle.automata_base.specs.Input.{Input}
 use Rattle.automata_base.specs.Lists.{nth}
 use Rattle.automata_base.specs.Matches.{HalfMatch}
 use Rattle.automata_base.specs.Selections.{Pair}
 use Rattle.automata_base.specs.Tapes.{Direction}
 use Rattle.automata_config.specs.declared.error.SearchError.{SearchError}
+use Rattle.automata_hybrid.specs.Caches.{CacheView}
 use Rattle.automata_hybrid.specs.Machine.{Machine}
 use Rattle.automata_hybrid.specs.Walking.{AreWalked, HasTold}
 use Rattle.automata_hybrid.specs.Walks.{Walk, Ended}
 use Rattle.regex_automata.specs.Histories.{Begun, History, after}
 use Rattle.regex_automata.specs.Owing.{IsStep}
-use Rattle.regex_automata.specs.RegexCaches.{AreCachesOf, AreFresh}
+use Rattle.regex_automata.specs.RegexCaches.{AreCachesOf}
+use Rattle.regex_automata.specs.ReplayCaches.{AreMade, IsCalled, other_of, own_of}
 use Rattle.regex_automata.specs.Replies.{IsReply, dfa_of, direction_of}
 use Rattle.regex_automata.specs.declared.hybrid.regex.Regex.{Regex}
+use Rattle.regex_automata.specs.declared.hybrid.regex.caches.Cache.{Cache}
 use Rattle.regex_automata.specs.declared.replay.replies.Reply.{Reply}
-use Rattle.regex_automata.specs.declared.replay.replies.Reply.TheVariants as reply
 use Rattle.regex_automata.specs.declared.replay.requests.Request.{Request}
 use Rattle.regex_automata.specs.declared.replay.players.Player.{Player}
 use Rattle.regex_automata.specs.declared.replay.walks.KeptWalk.{KeptWalk}
@@ -32,6 +34,12 @@ pub record IsCall (way : Direction) (m : Machine) (input : Input) (old new : Wal
   pub step : (k : ℕ) → HasAnswered way m input old k → IsStep way m input k result
   pub told : (k : ℕ) → HasAnswered way m input old k → OnOk result (HasAnswered way m input new (k + 1))
   pub kept : (k : ℕ) → HasAnswered way m input old k → OnErr result (HasAnswered way m input new k)
+
+-- and what it makes of its cache
+abbrev pub MakesCall :
+    Direction → Machine → Input → Walk → (old new : CacheView) → Result (Option HalfMatch) SearchError → Type 0
+MakesCall way m input w old new result =
+    (k : ℕ) → HasAnswered way m input w k → IsCalled way m input k old new result
 
 -- a walk of this regex has answered so many calls
 abbrev pub HasAnsweredBy : Regex → KeptWalk → ℕ → Type 0
@@ -58,6 +66,18 @@ abbrev pub GoesAt : Regex → ℕ → (olds news : List KeptWalk) → Result (Op
 GoesAt r number olds news result =
     (old : KeptWalk) → IsKept olds number old
     → (new : KeptWalk) × Goes r old new result × (news ≡ slice_set olds number new)
+
+-- what it makes of the caches: of that of its direction what its call does, and nothing of the other
+abbrev pub MakesStep : Regex → KeptWalk → (old new : Cache) → Result (Option HalfMatch) SearchError → Type 0
+MakesStep r kept old new result =
+    MakesCall (direction_of kept.reverse) (dfa_of kept.reverse r) kept.input kept.state (own_of kept.reverse old)
+    (own_of kept.reverse new) result
+    × (other_of kept.reverse new ≡ other_of kept.reverse old)
+
+abbrev pub MakesStepAt :
+    Regex → ℕ → List KeptWalk → (old new : Cache) → Result (Option HalfMatch) SearchError → Type 0
+MakesStepAt r number walks old new result =
+    (kept : KeptWalk) → IsKept walks number kept → MakesStep r kept old new result
 
 -- what is kept of a walk is of the walk that was begun, and has answered as many calls
 pub record IsWalk (regexes : List Regex) (w : Begun) (kept : KeptWalk) : Type 0 where
@@ -87,7 +107,7 @@ IsReplyTo s q answer = (h : History) → HasPlayed h s → IsReply s.regexes.now
 abbrev pub StandsAfter : (old : Player) → Request → Reply → (new : Player) → Type 0
 StandsAfter old q answer new = (h : History) → HasPlayed h old → HasPlayed (after h q answer) new
 
--- after an Ok reply to a reset the caches are fresh ones of the regex that is current then
-abbrev pub AreFreshAfter : Reply → Player → Type 0
-AreFreshAfter (reply.Done (Ok done)) s = AreFresh s.regex.now s.cache
-AreFreshAfter other s = Unit {0}
+-- what the request makes of the caches, after whatever history
+abbrev pub MakesCaches : (old : Player) → Request → Reply → (new : Player) → Type 0
+MakesCaches old q answer new =
+    (h : History) → HasPlayed h old → AreMade old.regexes.now h q answer old.cache new.cache

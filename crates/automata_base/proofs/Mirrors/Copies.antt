@@ -1,8 +1,7 @@
 -- Copies of turned states, and where they stand.
-use Rattle.std.proofs.Common.{ℕ, zero, suc, ◌≡◌, ◌<◌, ◌≤◌, ◌+◌, ◌⊎◌, ◌↔◌, ◌&&◌, ltb, Bool, true, false, cond, eqb, List, [], ◌∷◌, ◌++◌, length, get_or, take, drop, map, Vec, Option, Some, None, inl, inr, refl, sym, ap, ◌∙◌, subst, arith, append_assoc, append-nil}
+use Rattle.std.proofs.Common.{ℕ, zero, suc, ◌≡◌, ◌<◌, ◌≤◌, ◌+◌, ◌⊎◌, ◌↔◌, ◌&&◌, ltb, Bool, true, false, cond, eqb, List, [], ◌∷◌, ◌++◌, length, get_or, take, drop, map, Option, Some, None, inl, inr, refl, sym, ap, ◌∙◌, subst, arith, append_assoc, append-nil}
 use Rattle.std.proofs.lemmas.List.{get_or-take, get_or_default, drop_more, drop_all}
 use Rattle.std.proofs.lemmas.Bool.Decides.{eqb_tells}
-use Rattle.std.specs.declared.alloc.Global.{Global}
 use Rattle.automata_base.specs.declared.nfa.thompson.State.{State}
 use Rattle.automata_base.specs.declared.nfa.thompson.State.TheVariants as is
 use Rattle.automata_base.specs.declared.util.determinize.sparse_set.SparseSet.TheInside.{Inside}
@@ -19,11 +18,7 @@ use Rattle.automata_base.proofs.Mirrors.Sums.{distinct_places}
 use Rattle.automata_base.proofs.Paths.Checked.{both}
 use Rattle.automata_base.proofs.Paths.Orders.{some_inj, none_some}
 use Rattle.std.proofs.lemmas.Bool.{ltb-true, lt-ltb}
-use Rattle.automata_base.specs.Turns.{unions_of, place_in, copied, copies, copy_of, is_of, matches_in, IsCopied, HasCopies, HaveCopies}
-
-pub unions_more : (vs : List (Vec ℕ Global)) (v : Vec ℕ Global) → unions_of (vs ++ v ∷ []) ≡ unions_of vs ++ is.Union v ∷ []
-unions_more [] v = refl
-unions_more (w ∷ vs) v = ap (λ z. is.Union w ∷ z) (unions_more vs v)
+use Rattle.automata_base.specs.Turns.{place_in, copied, copies, copy_of, is_of, matches_in, IsCopied, HasCopies, HaveCopies}
 
 -- A member stands at its place.
 pub at_place : (items : List ℕ) (q : ℕ) → In q items → (place_in items q < length items) × (get_or items (place_in items q) 0 ≡ q)

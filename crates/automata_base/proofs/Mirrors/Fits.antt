@@ -19,10 +19,10 @@ use Rattle.automata_base.specs.Reach.{IsReached, targets_at, nexts}
 use Rattle.automata_base.specs.Refusals.{alternates_of, states_below, ordered_from, state_ordered, states_ordered, match_below, matches_below, is_small, is_narrow, starts_below, door_refusal, unless}
 use Rattle.automata_base.specs.ReversedSizes.{asking_edges, free_edges}
 use Rattle.automata_base.specs.Turns.{copied, copies, copy_of, HasCopies}
+use Rattle.automata_base.proofs.Reaching.InRange.{state_is_below, ids_below, node_is}
 use Rattle.automata_base.proofs.Determinizing.Walking.{nodes_length}
 use Rattle.automata_base.proofs.Mirrors.Copies.{at_place, part_made, reached_closed, reached_roots}
-use Rattle.automata_base.proofs.Mirrors.Parts.{node_is, of_map}
-use Rattle.automata_base.proofs.Mirrors.Ranges.{state_is_below, ids_below}
+use Rattle.automata_base.proofs.Mirrors.Parts.{of_map}
 use Rattle.automata_base.proofs.Mirrors.Sizes.{sum_at, ordered_at}
 use Rattle.automata_base.proofs.Mirrors.Sums.{sum_some}
 use Rattle.automata_base.proofs.Reaching.Refused.{refusal_is, goes_on}

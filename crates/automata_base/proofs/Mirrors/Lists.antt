@@ -1,5 +1,5 @@
 -- Lists of lists, and what is put behind one of them.
-use Rattle.std.proofs.Common.{ℕ, zero, suc, ◌≡◌, ◌<◌, ◌+◌, Bool, true, false, cond, leb, Option, Some, None, Result, Ok, Err, List, [], ◌∷◌, ◌++◌, length, get_or, drop, Vec, refl, sym, ap, ◌∙◌, arith}
+use Rattle.std.proofs.Common.{ℕ, zero, suc, ◌≡◌, ◌<◌, ◌+◌, Bool, true, false, cond, leb, Option, Some, None, Result, Ok, Err, List, [], ◌∷◌, ◌++◌, length, get_or, drop, Vec, refl, sym, ap, ◌∙◌, subst, arith}
 use Rattle.std.proofs.Math.ListN.{set}
 use Rattle.std.specs.Result.{IsErrAnd}
 use Rattle.std.proofs.lemmas.Bool.{leb-false}
@@ -7,7 +7,7 @@ use Rattle.std.proofs.lemmas.List.{drop_more, get_or_default}
 use Rattle.std.specs.declared.alloc.Global.{Global}
 use Rattle.automata_base.specs.declared.nfa.thompson.State.{State}
 use Rattle.automata_base.specs.declared.nfa.thompson.State.TheVariants.{Fail}
-use Rattle.automata_base.specs.Turns.{Turns, lists_of, push_at, no_lists, turn_state, turn_states}
+use Rattle.automata_base.specs.Turns.{Turns, lists_of, push_at, no_lists, turn_state, turn_states, IsHead, AreHeads, AreMade}
 use Rattle.automata_base.proofs.Paths.Orders.{some_inj, none_some}
 
 pub lists_length : (vs : List (Vec ℕ Global)) → length (lists_of vs) ≡ length vs
@@ -76,3 +76,32 @@ err_is (Err y) x z h e = ap (λ v. Err v) (sym h ∙ one e)
   where
     one : {A E : Type 0} {a b : E} → ◌≡◌ {A = Result A E} (Err a) (Err b) → a ≡ b
     one e = cc
+
+-- One state more is made.
+pub heads_more :
+    (n : ℕ) (hs : List State) (lists : List (List ℕ)) (heads : List State) (xs : List ℕ) (s : State)
+    → AreHeads n hs lists heads → IsHead n hs xs s → AreHeads n hs (lists ++ xs ∷ []) (heads ++ s ∷ [])
+heads_more n hs [] [] xs s a h = (h, tt)
+heads_more n hs [] (x ∷ ss) xs s a h = absurd a
+heads_more n hs (ys ∷ rest) [] xs s a h = absurd a
+heads_more n hs (ys ∷ rest) (x ∷ ss) xs s a h = (a.0, heads_more n hs rest ss xs s a.1 h)
+
+pub heads_step :
+    (n : ℕ) (hs hs' : List State) (yielded : List (Vec ℕ Global)) (v : Vec ℕ Global) (states new : List State) (s : State)
+    → AreHeads n hs (lists_of yielded) states → IsHead n hs' v.items s → hs' ≡ hs → new ≡ states ++ s ∷ []
+    → AreHeads n hs (lists_of (yielded ++ v ∷ [])) new
+heads_step n hs hs' yielded v states new s a h e f =
+    subst (λ z. AreHeads n hs (lists_of (yielded ++ v ∷ [])) z) (sym f)
+    (subst (λ z. AreHeads n hs z (states ++ s ∷ [])) (sym (lists_append yielded v))
+    (heads_more n hs (lists_of yielded) states v.items s a (subst (λ z. IsHead n z v.items s) e h)))
+
+pub made_is :
+    (n len : ℕ) (hs : List State) (lists yielded : List (Vec ℕ Global)) (heads states : List State)
+    → AreHeads n hs (lists_of yielded) heads → yielded ≡ lists → n ≡ len → len ≡ length lists → states ≡ heads ++ hs
+    → AreMade (record { lists = lists_of lists; helpers = hs }) states
+made_is n len hs lists yielded heads states a e l m f = (
+  heads,
+  f,
+  subst (λ z. AreHeads z hs (lists_of lists) heads) (l ∙ (m ∙ sym (lists_length lists)))
+      (subst (λ z. AreHeads n hs (lists_of z) heads) e a),
+)

@@ -6,8 +6,8 @@ use Rattle.automata_base.specs.Door.{IsDoor}
 use Rattle.automata_base.specs.Mirrors.{IsReversed, reversed_flags}
 use Rattle.automata_base.specs.Nodes.{Automaton}
 use Rattle.automata_base.specs.Turns.{AreReversed}
+use Rattle.automata_base.proofs.Reaching.InRange.{door_below}
 use Rattle.automata_base.proofs.Mirrors.Parts.{made_reversed}
-use Rattle.automata_base.proofs.Mirrors.Ranges.{door_below}
 
 pub whole_made :
     (a b : Automaton) (states : List State) (first patterns root : ℕ) (made : List State) (entries : List ℕ)

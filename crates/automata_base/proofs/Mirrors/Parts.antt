@@ -7,15 +7,15 @@ use Rattle.automata_base.specs.declared.nfa.thompson.State.TheVariants as is
 use Rattle.automata_base.specs.declared.nfa.thompson.reach.Edges.TheVariants.{Every}
 use Rattle.automata_base.specs.Door.{IsDoor}
 use Rattle.automata_base.specs.Lists.{In, nth}
-use Rattle.automata_base.specs.Mirrors.{flip, Label, Free, Asks, Reads, HasRange, HasArcAt, HasArc, IsReversedArc, IsKept, IsReversedAt, IsPart, IsMirror, IsReversed}
+use Rattle.automata_base.specs.Mirrors.{flip, Label, Free, Asks, Reads, HasRange, HasArcAt, HasArc, IsAsking, IsEdgeTo, IsReversedArc, IsKept, IsReversedAt, IsPart, IsMirror, IsReversed}
 use Rattle.automata_base.specs.Nfa.{Nfa, Node, Range, Split, Assert, Read, Accept, node, node_or_fail, accepts, accepts_at}
 use Rattle.automata_base.specs.Nodes.{Automaton, nfa_of, node_of, nodes_of}
 use Rattle.automata_base.specs.Reach.{IsReached, targets_at, nexts}
 use Rattle.automata_base.specs.Refusals.{state_below, states_below}
 use Rattle.automata_base.specs.Runs.{ranged, ranged_nodes, ranged_nfa}
-use Rattle.automata_base.specs.Turns.{lists_of, no_lists, unions_of, place_in, copied, copy_of, is_of, matches_in, turn_by, turn_states, AreTurned, IsCopied, HasCopies, HaveCopies}
+use Rattle.automata_base.specs.Turns.{Turns, no_lists, place_in, copied, copy_of, is_of, matches_in, turn_by, turn_states, IsHead, AreHeads, AreTurned, IsCopied, HasCopies, HaveCopies}
+use Rattle.automata_base.proofs.Reaching.InRange.{node_is}
 use Rattle.automata_base.proofs.Mirrors.Copies.{has_more, nth_last, reached_closed, reached_roots}
-use Rattle.automata_base.proofs.Mirrors.Lists.{lists_length}
 use Rattle.automata_base.proofs.Paths.Checked.{both}
 use Rattle.automata_base.proofs.Mirrors.Graphs.{InAt, Stand, IsGraph, IsHelper, Of, graph_none, graph_states, graph_tell}
 use Rattle.automata_base.proofs.Mirrors.Runs.{runs_next}
@@ -24,11 +24,6 @@ use Rattle.automata_base.proofs.Paths.Orders.{some_inj, none_some}
 use Rattle.automata_base.proofs.Paths.Walks.{in_left}
 
 -- The node of a number is that of its state.
-pub node_is : (states : List State) (q : ℕ) → node_or_fail (nth (nodes_of states) q) ≡ node_of (get_or states q is.Fail)
-node_is [] q = refl
-node_is (x ∷ xs) zero = refl
-node_is (x ∷ xs) (suc q) = node_is xs q
-
 in_right : (x : ℕ) (xs ys : List ℕ) → In x ys → In x (xs ++ ys)
 in_right x [] ys i = i
 in_right x (y ∷ xs) ys i = inr (in_right x xs ys i)
@@ -167,21 +162,44 @@ module _ (states : List State) (p : ℕ) where
       go false h = h
 
 -- The turned states, by their numbers.
-union_at :
-    (vs : List (Vec ℕ Global)) (hs : List State) (t : ℕ) → t < length vs
-    → (v : Vec ℕ Global) × (get_or (unions_of vs ++ hs) t is.Fail ≡ is.Union v)
-    × ((x : ℕ) → In x v.items ↔ InAt (lists_of vs) t x)
-union_at [] hs t l = absurd (omega (arith, l))
-union_at (v ∷ vs) hs zero l = (v, refl, λ x. (λ i. i, λ i. i))
-union_at (v ∷ vs) hs (suc t) l = union_at vs hs t (omega (arith, l))
+abbrev pub list_at : List (List ℕ) → ℕ → List ℕ
+list_at [] k = []
+list_at (xs ∷ rest) zero = xs
+list_at (xs ∷ rest) (suc k) = list_at rest k
+
+at_list : (lists : List (List ℕ)) (k x : ℕ) → InAt lists k x → In x (list_at lists k)
+at_list [] k x i = i
+at_list (xs ∷ rest) zero x i = i
+at_list (xs ∷ rest) (suc k) x i = at_list rest k x i
+
+list_in : (lists : List (List ℕ)) (k x : ℕ) → In x (list_at lists k) → InAt lists k x
+list_in [] k x i = i
+list_in (xs ∷ rest) zero x i = i
+list_in (xs ∷ rest) (suc k) x i = list_in rest k x i
+
+head_at :
+    (n : ℕ) (hs : List State) (lists : List (List ℕ)) (heads more : List State) (k : ℕ) → AreHeads n hs lists heads
+    → k < length lists → IsHead n hs (list_at lists k) (get_or (heads ++ more) k is.Fail)
+head_at n hs [] heads more k a l = absurd (omega (arith, l))
+head_at n hs (xs ∷ rest) [] more k a l = absurd a
+head_at n hs (xs ∷ rest) (s ∷ ss) more zero a l = a.0
+head_at n hs (xs ∷ rest) (s ∷ ss) more (suc k) a l = head_at n hs rest ss more k a.1 (omega (arith, l))
+
+pub heads_length :
+    (n : ℕ) (hs : List State) (lists : List (List ℕ)) (heads : List State) → AreHeads n hs lists heads
+    → length heads ≡ length lists
+heads_length n hs [] [] a = refl
+heads_length n hs [] (s ∷ ss) a = absurd a
+heads_length n hs (xs ∷ rest) [] a = absurd a
+heads_length n hs (xs ∷ rest) (s ∷ ss) a = ap suc (heads_length n hs rest ss a.1)
 
 helper_at :
-    (vs : List (Vec ℕ Global)) (hs : List State) (j : ℕ) (h : State) → nth hs j ≡ Some h
-    → get_or (unions_of vs ++ hs) (length (lists_of vs) + j) is.Fail ≡ h
-helper_at [] hs j h e = ap (λ n. get_or hs n is.Fail) (zero_add j) ∙ at hs j e
+    (heads hs : List State) (n j : ℕ) (h : State) → length heads ≡ n → nth hs j ≡ Some h
+    → get_or (heads ++ hs) (n + j) is.Fail ≡ h
+helper_at [] hs n j h l e = ap (λ k. get_or hs k is.Fail) (none n j l) ∙ at hs j e
   where
-    zero_add : (j : ℕ) → 0 + j ≡ j
-    zero_add j = omega arith
+    none : (n j : ℕ) → 0 ≡ n → n + j ≡ j
+    none n j l = omega (arith, l)
 
     at : (hs : List State) (j : ℕ) → nth hs j ≡ Some h → get_or hs j is.Fail ≡ h
     at [] j e = absurd (no e)
@@ -193,19 +211,26 @@ helper_at [] hs j h e = ap (λ n. get_or hs n is.Fail) (zero_add j) ∙ at hs j 
         one : ◌≡◌ {A = Option State} (Some x) (Some h) → x ≡ h
         one e = cc
     at (x ∷ xs) (suc j) e = at xs j e
-helper_at (v ∷ vs) hs j h e =
-    ap (λ n. get_or (is.Union v ∷ (unions_of vs ++ hs)) n is.Fail) (suc_add (length (lists_of vs)) j) ∙ helper_at vs hs j h e
+helper_at (s ∷ ss) hs zero j h l e = absurd (omega (arith, l))
+helper_at (s ∷ ss) hs (suc n) j h l e =
+    ap (λ k. get_or (s ∷ (ss ++ hs)) k is.Fail) (suc_add n j) ∙ helper_at ss hs n j h (omega (arith, l)) e
   where
     suc_add : (n j : ℕ) → suc n + j ≡ suc (n + j)
     suc_add n j = omega arith
+
+same_helper : (hs : List State) (j : ℕ) (g h : State) → nth hs j ≡ Some g → nth hs j ≡ Some h → g ≡ h
+same_helper hs j g h e f = one (sym e ∙ f)
+  where
+    one : ◌≡◌ {A = Option State} (Some g) (Some h) → g ≡ h
+    one e = cc
 
 -- An automaton, the states that are reached from its first, and what is turned of these.
 module _ (a : Automaton) (turned : List State) (reached : List ℕ) (m : Nfa)
     (door : IsDoor a)
     (reach : (q : ℕ) → In q reached ↔ IsReached Every a.states (a.start_anchored ∷ []) q)
-    (lists : List (Vec ℕ Global)) (helpers : List State) (is_turned : turned ≡ unions_of lists ++ helpers)
-    (graph : IsGraph (Of (λ s l k. ⊥) a.states reached) (λ k. k ≡ a.start_anchored) (length a.states)
-    (record { lists = lists_of lists; helpers = helpers })) where
+    (t : Turns) (heads : List State) (is_turned : turned ≡ heads ++ t.helpers)
+    (are : AreHeads (length t.lists) t.helpers t.lists heads)
+    (graph : IsGraph (Of (λ s l k. ⊥) a.states reached) (λ k. k ≡ a.start_anchored) (length a.states) t) where
   arc_is : (s : ℕ) (l : Label) (k : ℕ) → HasArc (ranged_nfa a) s l k → HasArcAt (ranged (get_or a.states s is.Fail)) l k
   arc_is s l k h = subst (λ v. HasArcAt v l k) (ranged_is a.states s) h
 
@@ -238,14 +263,15 @@ module _ (a : Automaton) (turned : List State) (reached : List ℕ) (m : Nfa)
     copy_is x s i e =
         ap node_or_fail (made.each (place_in items x) x (nth_place items x i)) ∙ ap (copied (copy_of base items) p) e
 
-    helper_is : (x : ℕ) (h : State) → IsHelper (record { lists = lists_of lists; helpers = helpers }) x h → get_or turned x is.Fail ≡ h
+    helper_is : (x : ℕ) (h : State) → IsHelper t x h → get_or turned x is.Fail ≡ h
     helper_is x h k =
         ap (λ z. get_or z x is.Fail) is_turned
-        ∙ (ap (λ z. get_or (unions_of lists ++ helpers) z is.Fail) k.1 ∙ helper_at lists helpers k.0 h k.2)
+        ∙ (ap (λ z. get_or (heads ++ t.helpers) z is.Fail) k.1
+        ∙ helper_at heads t.helpers (length t.lists) k.0 h (heads_length (length t.lists) t.helpers t.lists heads are) k.2)
 
     -- What stands for an edge is copied as the turned edge, and its source is kept.
     edge_is :
-        (y s : ℕ) (l : Label) → In y items → Stand (record { lists = lists_of lists; helpers = helpers }) y l s
+        (y s : ℕ) (l : Label) → In y items → Stand t y l s
         → In s items × IsReversedArc m (copy_of base items y) l (copy_of base items s)
     edge_is y s Free i h = (subst (λ v. In v items) h i, ap (copy_of base items) h)
     edge_is y s (Asks look) i h =
@@ -255,42 +281,38 @@ module _ (a : Automaton) (turned : List State) (reached : List ℕ) (m : Nfa)
         let e = helper_is y (is.ByteRange lo hi s) h in
         (closed y s (is.ByteRange lo hi s) i e (inl refl), copy_is y (is.ByteRange lo hi s) i e)
 
-    turned_at :
-        (k : ℕ) → IsKept (ranged_nfa a) items k
-        → (xs : List ℕ) × IsReversedAt (ranged_nfa a) m a.start_anchored reached p (copy_of base items) items k xs
-    turned_at k kept = (
-      map (copy_of base items) u.0.items,
-      record {
-        stands = copy_is k (is.Union u.0) kept.0 union;
-        sound = λ x i. sound x (of_map (copy_of base items) u.0.items x i);
-        arcs = λ s l i h. arcs s l (graph.arcs s k l (inr (i, arc_is s l k h)));
-        told = λ e. told (graph.told k e);
-      },
-    )
+    abbrev At : ℕ → List ℕ → Type 0
+    At k xs = IsReversedAt (ranged_nfa a) m a.start_anchored reached p (copy_of base items) items k xs
+
+    abbrev Edge : ℕ → ℕ → Type 0
+    Edge k x =
+        ((s : ℕ) × (l : Label) × IsKept (ranged_nfa a) items s × HasArc (ranged_nfa a) s l k
+        × IsReversedArc m x l (copy_of base items s))
+        ⊎ ((k ≡ a.start_anchored) × (node m x ≡ Accept p))
+
+    -- A state whose alternates are a union.
+    union_at : (k : ℕ) → In k items → (v : Vec ℕ Global) → get_or turned k is.Fail ≡ is.Union v → v.items ≡ list_at t.lists k
+        → At k (map (copy_of base items) v.items)
+    union_at k kept v union same = record {
+      stands = inl (copy_is k (is.Union v) kept union);
+      sound = λ x i. sound x (of_map (copy_of base items) v.items x i);
+      arcs = λ s l i h. arcs s l (graph.arcs s k l (inr (i, arc_is s l k h)));
+      told = λ e. told (graph.told k e);
+    }
       where
-        within : k < length lists
-        within =
-            let w = graph.whole in
-            omega (arith, kept.1, size_is, w, lists_length lists)
+        back : (y : ℕ) → InAt t.lists k y → In y v.items
+        back y i = subst (λ z. In y z) (sym same) (at_list t.lists k y i)
 
-        u :
-            (v : Vec ℕ Global) × (get_or (unions_of lists ++ helpers) k is.Fail ≡ is.Union v)
-            × ((x : ℕ) → In x v.items ↔ InAt (lists_of lists) k x)
-        u = union_at lists helpers k within
+        forth : (y : ℕ) → In y v.items → InAt t.lists k y
+        forth y i = list_in t.lists k y (subst (λ z. In y z) same i)
 
-        union : get_or turned k is.Fail ≡ is.Union u.0
-        union = ap (λ z. get_or z k is.Fail) is_turned ∙ u.1
-
-        member : (y : ℕ) → In y u.0.items → In y items
-        member y i = closed k y (is.Union u.0) kept.0 union (in_left y u.0.items [] i)
+        member : (y : ℕ) → In y v.items → In y items
+        member y i = closed k y (is.Union v) kept union (in_left y v.items [] i)
 
         go :
-            (x y : ℕ) → In y u.0.items → x ≡ copy_of base items y
-            → ((s : ℕ) × (l : Label) × Of (λ s l k. ⊥) a.states reached s l k
-            × Stand (record { lists = lists_of lists; helpers = helpers }) y l s)
-            ⊎ ((k ≡ a.start_anchored) × IsHelper (record { lists = lists_of lists; helpers = helpers }) y (is.Match 0))
-            → ((s : ℕ) × (l : Label) × IsKept (ranged_nfa a) items s × HasArc (ranged_nfa a) s l k × IsReversedArc m x l (copy_of base items s))
-            ⊎ ((k ≡ a.start_anchored) × (node m x ≡ Accept p))
+            (x y : ℕ) → In y v.items → x ≡ copy_of base items y
+            → ((s : ℕ) × (l : Label) × Of (λ s l k. ⊥) a.states reached s l k × Stand t y l s)
+            ⊎ ((k ≡ a.start_anchored) × IsHelper t y (is.Match 0)) → Edge k x
         go x y i e (inl (s, l, inl b, h)) = absurd b
         go x y i e (inl (s, l, inr b, h)) =
             let w = edge_is y s l (member y i) h in
@@ -299,30 +321,125 @@ module _ (a : Automaton) (turned : List State) (reached : List ℕ) (m : Nfa)
         go x y i e (inr h) =
             inr (h.0, ap (λ v. node m v) e ∙ copy_is y (is.Match 0) (member y i) (helper_is y (is.Match 0) h.1))
 
-        sound :
-            (x : ℕ) → (y : ℕ) × In y u.0.items × (x ≡ copy_of base items y)
-            → ((s : ℕ) × (l : Label) × IsKept (ranged_nfa a) items s × HasArc (ranged_nfa a) s l k × IsReversedArc m x l (copy_of base items s))
-            ⊎ ((k ≡ a.start_anchored) × (node m x ≡ Accept p))
-        sound x w = go x w.0 w.1 w.2 (graph.sound k w.0 ((u.2 w.0).0 w.1))
+        sound : (x : ℕ) → (y : ℕ) × In y v.items × (x ≡ copy_of base items y) → Edge k x
+        sound x w = go x w.0 w.1 w.2 (graph.sound k w.0 (forth w.0 w.1))
 
         arcs :
-            (s : ℕ) (l : Label)
-            → (x : ℕ) × InAt (lists_of lists) k x × Stand (record { lists = lists_of lists; helpers = helpers }) x l s
-            → In s items × ((x : ℕ) × In x (map (copy_of base items) u.0.items) × IsReversedArc m x l (copy_of base items s))
+            (s : ℕ) (l : Label) → (x : ℕ) × InAt t.lists k x × Stand t x l s
+            → In s items × ((x : ℕ) × In x (map (copy_of base items) v.items) × IsReversedArc m x l (copy_of base items s))
         arcs s l w =
-            let i = (u.2 w.0).1 w.1 in
+            let i = back w.0 w.1 in
             let e = edge_is w.0 s l (member w.0 i) w.2 in
-            (e.0, (copy_of base items w.0, in_map (copy_of base items) u.0.items w.0 i, e.1))
+            (e.0, (copy_of base items w.0, in_map (copy_of base items) v.items w.0 i, e.1))
 
         told :
-            (x : ℕ) × InAt (lists_of lists) k x × IsHelper (record { lists = lists_of lists; helpers = helpers }) x (is.Match 0)
-            → (x : ℕ) × In x (map (copy_of base items) u.0.items) × (node m x ≡ Accept p)
+            (x : ℕ) × InAt t.lists k x × IsHelper t x (is.Match 0)
+            → (x : ℕ) × In x (map (copy_of base items) v.items) × (node m x ≡ Accept p)
         told w =
-            let i = (u.2 w.0).1 w.1 in (
+            let i = back w.0 w.1 in (
               copy_of base items w.0,
-              in_map (copy_of base items) u.0.items w.0 i,
+              in_map (copy_of base items) v.items w.0 i,
               copy_is w.0 (is.Match 0) (member w.0 i) (helper_is w.0 (is.Match 0) w.2),
             )
+
+    -- A state whose only alternate is a helper: it is a copy of the helper.
+    alone_at :
+        (k : ℕ) → In k items → (j : ℕ) → list_at t.lists k ≡ (length t.lists + j) ∷ []
+        → nth t.helpers j ≡ Some (get_or turned k is.Fail) → At k (copy_of base items k ∷ [])
+    alone_at k kept j same here = record {
+      stands = inr (refl, stands (graph.sound k (length t.lists + j) there));
+      sound = λ x i. sound x (one x i) (graph.sound k (length t.lists + j) there);
+      arcs = λ s l i h. arcs s l h (graph.arcs s k l (inr (i, arc_is s l k h)));
+      told = λ e. told (graph.told k e);
+    }
+      where
+        there : InAt t.lists k (length t.lists + j)
+        there = list_in t.lists k (length t.lists + j) (subst (λ z. In (length t.lists + j) z) (sym same) (inl refl))
+
+        only : (y : ℕ) → InAt t.lists k y → y ≡ length t.lists + j
+        only y i = first (subst (λ z. In y z) same (at_list t.lists k y i))
+          where
+            first : In y ((length t.lists + j) ∷ []) → y ≡ length t.lists + j
+            first (inl e) = e
+            first (inr b) = absurd b
+
+        one : (x : ℕ) → In x (copy_of base items k ∷ []) → x ≡ copy_of base items k
+        one x (inl e) = e
+        one x (inr b) = absurd b
+
+        is_helper : (h : State) → IsHelper t (length t.lists + j) h → get_or turned k is.Fail ≡ h
+        is_helper h w =
+            same_helper t.helpers j (get_or turned k is.Fail) h here
+            (ap (λ z. nth t.helpers z) (let e = w.1 in omega (arith, e)) ∙ w.2)
+
+        edge :
+            (s : ℕ) (l : Label) → s < length a.states → Stand t (length t.lists + j) l s
+            → IsAsking l × In s items × IsReversedArc m (copy_of base items k) l (copy_of base items s)
+        edge s Free inside h = absurd (let w = graph.whole in omega (arith, inside, h, w))
+        edge s (Asks look) inside h =
+            let e = is_helper (is.Look (flip look) s) h in
+            (tt, closed k s (is.Look (flip look) s) kept e (inl refl), copy_is k (is.Look (flip look) s) kept e)
+        edge s (Reads lo hi) inside h =
+            let e = is_helper (is.ByteRange lo hi s) h in
+            (tt, closed k s (is.ByteRange lo hi s) kept e (inl refl), copy_is k (is.ByteRange lo hi s) kept e)
+
+        inside : (s : ℕ) (l : Label) → HasArc (ranged_nfa a) s l k → s < length a.states
+        inside s l h = let w = arc_inside (ranged_nfa a) s l k h in omega (arith, w, size_is)
+
+        stands :
+            ((s : ℕ) × (l : Label) × Of (λ s l k. ⊥) a.states reached s l k × Stand t (length t.lists + j) l s)
+            ⊎ ((k ≡ a.start_anchored) × IsHelper t (length t.lists + j) (is.Match 0))
+            → IsEdgeTo (ranged_nfa a) m a.start_anchored p (copy_of base items) items k (copy_of base items k)
+        stands (inl (s, l, inl b, h)) = absurd b
+        stands (inl (s, l, inr b, h)) =
+            let arc = is_arc s l k b.1 in
+            let w = edge s l (inside s l arc) h in
+            inl (s, l, (w.1, arc_inside (ranged_nfa a) s l k arc), arc, w.0, w.2)
+        stands (inr h) = inr (h.0, copy_is k (is.Match 0) kept (is_helper (is.Match 0) h.1))
+
+        sound :
+            (x : ℕ) → x ≡ copy_of base items k
+            → ((s : ℕ) × (l : Label) × Of (λ s l k. ⊥) a.states reached s l k × Stand t (length t.lists + j) l s)
+            ⊎ ((k ≡ a.start_anchored) × IsHelper t (length t.lists + j) (is.Match 0)) → Edge k x
+        sound x e (inl (s, l, inl b, h)) = absurd b
+        sound x e (inl (s, l, inr b, h)) =
+            let arc = is_arc s l k b.1 in
+            let w = edge s l (inside s l arc) h in
+            inl (s, l, (w.1, arc_inside (ranged_nfa a) s l k arc), arc, subst (λ v. IsReversedArc m v l (copy_of base items s)) (sym e) w.2)
+        sound x e (inr h) = inr (h.0, ap (λ v. node m v) e ∙ copy_is k (is.Match 0) kept (is_helper (is.Match 0) h.1))
+
+        arcs :
+            (s : ℕ) (l : Label) → HasArc (ranged_nfa a) s l k → (x : ℕ) × InAt t.lists k x × Stand t x l s
+            → In s items × ((x : ℕ) × In x (copy_of base items k ∷ []) × IsReversedArc m x l (copy_of base items s))
+        arcs s l h w =
+            let e = edge s l (inside s l h) (subst (λ v. Stand t v l s) (only w.0 w.1) w.2) in
+            (e.1, (copy_of base items k, inl refl, e.2))
+
+        told :
+            (x : ℕ) × InAt t.lists k x × IsHelper t x (is.Match 0)
+            → (x : ℕ) × In x (copy_of base items k ∷ []) × (node m x ≡ Accept p)
+        told w = (
+          copy_of base items k,
+          inl refl,
+          copy_is k (is.Match 0) kept (is_helper (is.Match 0) (subst (λ v. IsHelper t v (is.Match 0)) (only w.0 w.1) w.2)),
+        )
+
+    turned_at : (k : ℕ) → IsKept (ranged_nfa a) items k → (xs : List ℕ) × At k xs
+    turned_at k kept = go (head_at (length t.lists) t.helpers t.lists heads t.helpers k are within)
+      where
+        within : k < length t.lists
+        within =
+            let w = graph.whole in
+            omega (arith, kept.1, size_is, w)
+
+        here : get_or turned k is.Fail ≡ get_or (heads ++ t.helpers) k is.Fail
+        here = ap (λ z. get_or z k is.Fail) is_turned
+
+        go :
+            IsHead (length t.lists) t.helpers (list_at t.lists k) (get_or (heads ++ t.helpers) k is.Fail)
+            → (xs : List ℕ) × At k xs
+        go (inl (v, e, f)) = (map (copy_of base items) v.items, union_at k kept.0 v (here ∙ e) f)
+        go (inr (j, e, f)) = (copy_of base items k ∷ [], alone_at k kept.0 j e (f ∙ ap Some (sym here)))
 
     part_is : IsPart (ranged_nfa a) m a.start_anchored reached p entry (copy_of base items) items
     part_is = record {
@@ -378,12 +495,11 @@ all_in_range n (x ∷ xs) zero b = (both (state_below n x) (states_below n xs) b
 all_in_range n (x ∷ xs) (suc q) b = all_in_range n xs q (both (state_below n x) (states_below n xs) b).1
 
 pub turned_graph :
-    (a : Automaton) (reached : List ℕ) (lists : List (Vec ℕ Global)) (helpers : List State)
+    (a : Automaton) (reached : List ℕ) (t : Turns)
     → states_below (length a.states) a.states ≡ true → a.start_anchored < length a.states
-    → record { lists = lists_of lists; helpers = helpers }
-    ≡ turn_by (turn_states (record { lists = no_lists (length a.states); helpers = [] }) a.states reached) (is.Match 0) a.start_anchored
-    → IsGraph (Of (λ s l k. ⊥) a.states reached) (λ k. k ≡ a.start_anchored) (length a.states) (record { lists = lists_of lists; helpers = helpers })
-turned_graph a reached lists helpers below first e =
+    → t ≡ turn_by (turn_states (record { lists = no_lists (length a.states); helpers = [] }) a.states reached) (is.Match 0) a.start_anchored
+    → IsGraph (Of (λ s l k. ⊥) a.states reached) (λ k. k ≡ a.start_anchored) (length a.states) t
+turned_graph a reached t below first e =
     subst (λ t. IsGraph (Of (λ s l k. ⊥) a.states reached) (λ k. k ≡ a.start_anchored) (length a.states) t) (sym e)
     (graph_tell (Of (λ s l k. ⊥) a.states reached) (length a.states)
     (turn_states (record { lists = no_lists (length a.states); helpers = [] }) a.states reached) a.start_anchored first
@@ -406,8 +522,8 @@ made_reversed a b turned reached nodes door below reach are n r copies few utf8 
   utf8,
   (
     reached,
-    mirror_is a turned reached (nfa_of b) door reach are.0 are.1 are.2
-        (turned_graph a reached are.0 are.1 below door.anchored are.3)
+    mirror_is a turned reached (nfa_of b) door reach are.0 are.1.0 are.1.1 are.1.2
+        (turned_graph a reached are.0 below door.anchored are.2)
         b.start_pattern b.start_anchored nodes terminator reverse n r copies,
   ),
 )

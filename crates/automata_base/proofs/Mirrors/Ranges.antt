@@ -1,82 +1,19 @@
 -- The numbers that states lead to are in range.
-use Rattle.std.proofs.Common.{ℕ, zero, suc, ◌≡◌, ◌<◌, ◌≤◌, ◌+◌, ◌⊎◌, ◌&&◌, ltb, true, false, List, [], ◌∷◌, ◌++◌, length, length-append, get_or, Vec, Option, Some, None, inl, inr, refl, sym, ap, ◌∙◌, subst, arith, ⊎_elim}
+use Rattle.std.proofs.Common.{ℕ, zero, suc, ◌≡◌, ◌<◌, ◌≤◌, ◌+◌, ◌⊎◌, ◌&&◌, true, false, List, [], ◌∷◌, ◌++◌, length, length-append, get_or, Option, Some, None, inl, inr, refl, sym, ap, ◌∙◌, subst, arith}
 use Rattle.std.proofs.lemmas.Bool.{lt-ltb}
-use Rattle.std.specs.declared.alloc.Global.{Global}
 use Rattle.automata_base.specs.declared.nfa.thompson.State.{State}
 use Rattle.automata_base.specs.declared.nfa.thompson.State.TheVariants as is
 use Rattle.automata_base.specs.declared.nfa.thompson.Transition.{Transition}
-use Rattle.automata_base.specs.declared.nfa.thompson.reach.Edges.TheVariants.{Every}
-use Rattle.automata_base.specs.Door.{IsDoor}
 use Rattle.automata_base.specs.Lists.{In, nth, all_below}
 use Rattle.automata_base.specs.Mirrors.{flip, Label, Free, Asks, Reads}
-use Rattle.automata_base.specs.Nodes.{Automaton, node_of, nodes_of, ranges_of, dense_from}
-use Rattle.automata_base.specs.Paths.{all_true}
-use Rattle.automata_base.specs.Reach.{node_in, targets_at, byte_targets, nexts}
-use Rattle.automata_base.specs.Refusals.{state_below, states_below, transitions_below}
+use Rattle.automata_base.specs.Nodes.{Automaton}
+use Rattle.automata_base.specs.Refusals.{state_below, states_below}
 use Rattle.automata_base.specs.Runs.{runs_from}
-use Rattle.automata_base.specs.Turns.{Turns, lists_of, no_lists, unions_of, turn_by, turn_all, turn_ranges, turn_state, turn_states, AreTurned}
-use Rattle.automata_base.specs.Visits.{children_at}
-use Rattle.automata_base.proofs.Determinizing.Walking.{nodes_length}
+use Rattle.automata_base.specs.Turns.{Turns, no_lists, turn_by, turn_all, turn_ranges, turn_state, turn_states, IsHead, AreHeads, AreTurned}
 use Rattle.automata_base.proofs.Mirrors.Graphs.{InAt, Stand, IsHelper, IsGraph, Of}
-use Rattle.automata_base.proofs.Mirrors.Lists.{lists_length}
-use Rattle.automata_base.proofs.Mirrors.Parts.{node_is, turned_graph}
+use Rattle.automata_base.proofs.Mirrors.Parts.{heads_length, turned_graph}
 use Rattle.automata_base.proofs.Paths.Checked.{both, below_in}
-use Rattle.automata_base.proofs.Paths.Walks.{in_left, in_either}
-use Rattle.automata_base.proofs.Reaching.Led.{node_takes}
-
-two : (p q : ℕ) (n : ℕ) → p < n → q < n → (ltb p n && ltb q n) ≡ true
-two p q n l k = ap (λ v. v && ltb q n) (lt-ltb p n l) ∙ lt-ltb q n k
-
-below_all : (n : ℕ) (xs : List ℕ) → ((r : ℕ) → In r xs → r < n) → all_below n xs ≡ true
-below_all n [] f = refl
-below_all n (x ∷ xs) f = ap (λ v. v && all_below n xs) (lt-ltb x n (f x (inl refl))) ∙ below_all n xs (λ r i. f r (inr i))
-
-below_ranges :
-    (n : ℕ) (ts : List Transition) → ((r : ℕ) → In r (nexts (ranges_of ts)) → r < n) → transitions_below n ts ≡ true
-below_ranges n [] f = refl
-below_ranges n (t ∷ ts) f =
-    ap (λ v. v && transitions_below n ts) (lt-ltb t.next n (f t.next (inl refl))) ∙ below_ranges n ts (λ r i. f r (inr i))
-
-below_dense :
-    (n v : ℕ) (xs : List ℕ) → 0 < n → ((r : ℕ) → In r (nexts (dense_from v xs)) → r < n) → all_below n xs ≡ true
-below_dense n v [] z f = refl
-below_dense n v (zero ∷ xs) z f = ap (λ b. b && all_below n xs) (lt-ltb 0 n z) ∙ below_dense n (suc v) xs z f
-below_dense n v (suc m ∷ xs) z f =
-    ap (λ b. b && all_below n xs) (lt-ltb (suc m) n (f (suc m) (inl refl))) ∙ below_dense n (suc v) xs z (λ r i. f r (inr i))
-
-pub state_is_below :
-    (n : ℕ) (x : State) → 0 < n → ((r : ℕ) → In r (targets_at Every (node_of x)) → r < n) → state_below n x ≡ true
-state_is_below n (is.ByteRange lo hi next) z f = lt-ltb next n (f next (inl refl))
-state_is_below n (is.Sparse ts) z f = below_ranges n ts.items f
-state_is_below n (is.Dense targets) z f = below_dense n 0 targets z f
-state_is_below n (is.Look look next) z f = lt-ltb next n (f next (inl refl))
-state_is_below n (is.Union alternates) z f = below_all n alternates.items (λ r i. f r (in_left r alternates.items [] i))
-state_is_below n (is.BinaryUnion alt1 alt2) z f = two alt1 alt2 n (f alt1 (inl refl)) (f alt2 (inr (inl refl)))
-state_is_below n (is.Capture next pattern index slot) z f = lt-ltb next n (f next (inl refl))
-state_is_below n is.Fail z f = refl
-state_is_below n (is.Match pattern) z f = refl
-
-below_states : (n : ℕ) (xs : List State) → ((q : ℕ) → state_below n (get_or xs q is.Fail) ≡ true) → states_below n xs ≡ true
-below_states n [] f = refl
-below_states n (x ∷ xs) f = ap (λ v. v && states_below n xs) (f 0) ∙ below_states n xs (λ q. f (suc q))
-
--- The door lets in only states that are in range.
-pub door_below : (a : Automaton) → IsDoor a → states_below (length a.states) a.states ≡ true
-door_below a door = below_states (length a.states) a.states (λ q. state_is_below (length a.states) (get_or a.states q is.Fail) some (goes q))
-  where
-    some : 0 < length a.states
-    some = let k = door.anchored in omega (arith, k)
-
-    size : length (nodes_of a.states) ≡ length a.states
-    size = nodes_length a.states
-
-    goes : (q r : ℕ) → In r (targets_at Every (node_of (get_or a.states q is.Fail))) → r < length a.states
-    goes q r i = ⊎_elim
-        (λ (j : In r (children_at (node_in a.states q) all_true)). let k = door.range.0 q r all_true j in omega (arith, k, size))
-        (λ (j : In r (byte_targets (node_in a.states q))).
-        let w = node_takes a.states q r door.ordered j in let k = door.range.1 q w.0 r w.1 in omega (arith, k, size))
-        (in_either r (children_at (node_in a.states q) all_true) (byte_targets (node_in a.states q))
-        (subst (λ v. In r (targets_at Every v)) (sym (node_is a.states q)) i))
+use Rattle.automata_base.proofs.Reaching.InRange.{ids_below}
 
 -- The helpers lead to states.
 states_last : (n : ℕ) (xs : List State) (x : State) → states_below n xs ≡ true → state_below n x ≡ true → states_below n (xs ++ x ∷ []) ≡ true
@@ -116,17 +53,31 @@ helpers_states n states (q ∷ qs) t f b =
     helpers_states n states qs (turn_state t q (get_or states q is.Fail)) (λ r i. f r (inr i))
     (helpers_state n q (f q (inl refl)) (get_or states q is.Fail) t b)
 
-unions_below :
-    (n : ℕ) (vs : List (Vec ℕ Global)) (hs : List State) → ((k x : ℕ) → InAt (lists_of vs) k x → x < n) → states_below n hs ≡ true
-    → states_below n (unions_of vs ++ hs) ≡ true
-unions_below n [] hs f b = b
-unions_below n (v ∷ vs) hs f b =
-    ap (λ c. c && states_below n (unions_of vs ++ hs)) (below_all n v.items (λ r i. f 0 r i))
-    ∙ unions_below n vs hs (λ k x i. f (suc k) x i) b
+nth_below : (n : ℕ) (hs : List State) (j : ℕ) (h : State) → states_below n hs ≡ true → nth hs j ≡ Some h → state_below n h ≡ true
+nth_below n [] j h b e = absurd (no e)
+  where
+    no : ◌≡◌ {A = Option State} None (Some h) → ⊥
+    no e = cc
+nth_below n (x ∷ xs) zero h b e = ap (state_below n) (sym (one e)) ∙ (both (state_below n x) (states_below n xs) b).0
+  where
+    one : ◌≡◌ {A = Option State} (Some x) (Some h) → x ≡ h
+    one e = cc
+nth_below n (x ∷ xs) (suc j) h b e = nth_below n xs j h (both (state_below n x) (states_below n xs) b).1 e
 
-pub unions_length : (vs : List (Vec ℕ Global)) → length (unions_of vs) ≡ length vs
-unions_length [] = refl
-unions_length (v ∷ vs) = ap suc (unions_length vs)
+heads_below :
+    (n m : ℕ) (hs more : List State) (lists : List (List ℕ)) (heads : List State) → AreHeads m hs lists heads
+    → ((k x : ℕ) → InAt lists k x → x < n) → states_below n hs ≡ true → states_below n more ≡ true
+    → states_below n (heads ++ more) ≡ true
+heads_below n m hs more [] [] a f b c = c
+heads_below n m hs more [] (s ∷ ss) a f b c = absurd a
+heads_below n m hs more (xs ∷ rest) [] a f b c = absurd a
+heads_below n m hs more (xs ∷ rest) (s ∷ ss) a f b c =
+    ap (λ v. v && states_below n (ss ++ more)) (one a.0) ∙ heads_below n m hs more rest ss a.1 (λ k x i. f (suc k) x i) b c
+  where
+    one : IsHead m hs xs s → state_below n s ≡ true
+    one (inl (v, e, g)) =
+        ap (state_below n) e ∙ (ap (all_below n) g ∙ ids_below n xs (λ r i. f 0 r i))
+    one (inr (j, e, g)) = nth_below n hs j s b g
 
 nth_inside : {A : Type 0} (xs : List A) (j : ℕ) (a : A) → nth xs j ≡ Some a → j < length xs
 nth_inside [] j a e = absurd (no e)
@@ -140,36 +91,36 @@ nth_inside (x ∷ xs) (suc j) a e = let k = nth_inside xs j a e in omega (arith,
 module _ (a : Automaton) (turned : List State) (reached : List ℕ) (below : states_below (length a.states) a.states ≡ true)
     (first : a.start_anchored < length a.states) (small : all_below (length a.states) reached ≡ true)
     (are : AreTurned a.states reached a.start_anchored turned) where
-  graph :
-      IsGraph (Of (λ s l k. ⊥) a.states reached) (λ k. k ≡ a.start_anchored) (length a.states)
-      (record { lists = lists_of are.0; helpers = are.1 })
-  graph = turned_graph a reached are.0 are.1 below first are.3
+  graph : IsGraph (Of (λ s l k. ⊥) a.states reached) (λ k. k ≡ a.start_anchored) (length a.states) are.0
+  graph = turned_graph a reached are.0 below first are.2
 
-  long : length turned ≡ length are.0 + length are.1
-  long = ap (λ xs. length xs) are.2 ∙ (length-append (unions_of are.0) are.1 ∙ ap (λ n. n + length are.1) (unions_length are.0))
+  heads_are : AreHeads (length are.0.lists) are.0.helpers are.0.lists are.1.0
+  heads_are = are.1.2
 
-  whole : length are.0 ≡ length a.states
-  whole = sym (lists_length are.0) ∙ graph.whole
+  long : length turned ≡ length are.0.lists + length are.0.helpers
+  long =
+      ap (λ xs. length xs) are.1.1
+      ∙ (length-append are.1.0 are.0.helpers
+      ∙ ap (λ n. n + length are.0.helpers) (heads_length (length are.0.lists) are.0.helpers are.0.lists are.1.0 heads_are))
 
   pub turned_whole : length a.states ≤ length turned
-  turned_whole = omega (arith, long, whole)
+  turned_whole = let w = graph.whole in omega (arith, long, w)
 
   id_in : (q : ℕ) → In q reached → q < length turned
   id_in q i = let k = below_in (length a.states) reached q small i in omega (arith, k, turned_whole)
 
-  helper_in : (x : ℕ) (h : State) → IsHelper (record { lists = lists_of are.0; helpers = are.1 }) x h → x < length turned
+  helper_in : (x : ℕ) (h : State) → IsHelper are.0 x h → x < length turned
   helper_in x h k =
-      let j = nth_inside are.1 k.0 h k.2 in
+      let j = nth_inside are.0.helpers k.0 h k.2 in
       let e = k.1 in
-      let w = lists_length are.0 in
-      omega (arith, j, e, w, long)
+      omega (arith, j, e, long)
 
-  inside : (k x : ℕ) → InAt (lists_of are.0) k x → x < length turned
+  inside : (k x : ℕ) → InAt are.0.lists k x → x < length turned
   inside k x i = go (graph.sound k x i)
     where
       go :
-          ((s : ℕ) × (l : Label) × Of (λ s l k. ⊥) a.states reached s l k × Stand (record { lists = lists_of are.0; helpers = are.1 }) x l s)
-          ⊎ ((k ≡ a.start_anchored) × IsHelper (record { lists = lists_of are.0; helpers = are.1 }) x (is.Match 0))
+          ((s : ℕ) × (l : Label) × Of (λ s l k. ⊥) a.states reached s l k × Stand are.0 x l s)
+          ⊎ ((k ≡ a.start_anchored) × IsHelper are.0 x (is.Match 0))
           → x < length turned
       go (inl (s, l, inl b, h)) = absurd b
       go (inl (s, Free, inr b, h)) = subst (λ v. v < length turned) (sym h) (id_in s b.0)
@@ -177,15 +128,16 @@ module _ (a : Automaton) (turned : List State) (reached : List ℕ) (below : sta
       go (inl (s, Reads lo hi, inr b, h)) = helper_in x (is.ByteRange lo hi s) h
       go (inr h) = helper_in x (is.Match 0) h.1
 
-  helpers_are : states_below (length turned) are.1 ≡ true
+  helpers_are : states_below (length turned) are.0.helpers ≡ true
   helpers_are =
-      ap (λ (t : Turns). states_below (length turned) t.helpers) are.3
+      ap (λ (t : Turns). states_below (length turned) t.helpers) are.2
       ∙ states_last (length turned) (turn_states (record { lists = no_lists (length a.states); helpers = [] }) a.states reached).helpers (is.Match 0)
       (helpers_states (length turned) a.states reached (record { lists = no_lists (length a.states); helpers = [] }) id_in refl) refl
 
   pub turned_below : states_below (length turned) turned ≡ true
   turned_below =
-      ap (states_below (length turned)) are.2 ∙ unions_below (length turned) are.0 are.1 inside helpers_are
+      ap (states_below (length turned)) are.1.1
+      ∙ heads_below (length turned) (length are.0.lists) are.0.helpers are.0.helpers are.0.lists are.1.0 heads_are inside helpers_are helpers_are
 
 -- The same of states alone.
 module _ (states turned : List State) (reached : List ℕ) (first : ℕ) (below : states_below (length states) states ≡ true)
@@ -214,7 +166,3 @@ module _ (states turned : List State) (reached : List ℕ) (first : ℕ) (below 
         flags = record { utf8 = false; reverse = false; line_terminator = 10 };
       })
       turned reached below inside small are
-
--- Numbers below a bound, as a test.
-pub ids_below : (n : ℕ) (xs : List ℕ) → ((q : ℕ) → In q xs → q < n) → all_below n xs ≡ true
-ids_below n xs f = below_all n xs f

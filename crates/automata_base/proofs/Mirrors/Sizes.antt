@@ -1,20 +1,19 @@
 -- How many states and alternates what is turned has.
-use Rattle.std.proofs.Common.{ℕ, zero, suc, ◌≡◌, ◌<◌, ◌≤◌, ◌+◌, ◌^◌, ◌&&◌, true, leb, List, [], ◌∷◌, ◌++◌, drop, length, length-append, get_or, Vec, refl, sym, ap, ◌∙◌, subst, arith}
+use Rattle.std.proofs.Common.{ℕ, zero, suc, ◌≡◌, ◌<◌, ◌≤◌, ◌+◌, ◌^◌, ◌&&◌, true, leb, List, [], ◌∷◌, ◌++◌, drop, length, length-append, get_or, Option, Some, None, inl, inr, refl, sym, ap, ◌∙◌, subst, arith}
 use Rattle.std.specs.Prelude.{sum_by}
 use Rattle.std.proofs.lemmas.List.Sums.{sum_by-cons, sum_by-append}
-use Rattle.std.specs.declared.alloc.Global.{Global}
 use Rattle.automata_base.specs.declared.nfa.thompson.State.{State}
 use Rattle.automata_base.specs.declared.nfa.thompson.State.TheVariants as is
 use Rattle.automata_base.specs.declared.nfa.thompson.Transition.{Transition}
-use Rattle.automata_base.specs.Lists.{all_below}
+use Rattle.automata_base.specs.Lists.{nth, all_below}
 use Rattle.automata_base.specs.Mirrors.{flip}
 use Rattle.automata_base.specs.Once.{Distinct}
 use Rattle.automata_base.specs.Refusals.{alternates_of, ordered_from, state_ordered, states_ordered}
 use Rattle.automata_base.specs.ReversedSizes.{asking_edges, free_edges}
 use Rattle.automata_base.specs.Runs.{runs_from}
-use Rattle.automata_base.specs.Turns.{Turns, lists_of, no_lists, unions_of, push_at, turn_free, turn_by, turn_all, turn_ranges, turn_state, turn_states, size, AreTurned}
-use Rattle.automata_base.proofs.Mirrors.Lists.{lists_length, push_length, states_next}
-use Rattle.automata_base.proofs.Mirrors.Ranges.{unions_length}
+use Rattle.automata_base.specs.Turns.{Turns, no_lists, push_at, turn_free, turn_by, turn_all, turn_ranges, turn_state, turn_states, size, IsHead, AreHeads, AreTurned}
+use Rattle.automata_base.proofs.Mirrors.Lists.{push_length, states_next}
+use Rattle.automata_base.proofs.Mirrors.Parts.{heads_length}
 use Rattle.automata_base.proofs.Mirrors.Runs.{runs_ordered}
 use Rattle.automata_base.proofs.Mirrors.Sums.{sum_some}
 use Rattle.automata_base.proofs.Paths.Checked.{both, below_in}
@@ -183,18 +182,52 @@ helpers_none (h ∷ hs) a =
     let d = helpers_none hs a.1 in
     omega (arith, c, d, a.0.0)
 
-unions_sum : (vs : List (Vec ℕ Global)) → sum_by alternates_of (unions_of vs) ≡ total (lists_of vs)
-unions_sum [] = refl
-unions_sum (v ∷ vs) =
-    let c : sum_by alternates_of (unions_of (v ∷ vs)) ≡ length v.items + sum_by alternates_of (unions_of vs) =
-    sum_by-cons alternates_of (is.Union v) (unions_of vs) in
-    let d = unions_sum vs in
-    omega (arith, c, d)
+nth_helper : (hs : List State) (j : ℕ) (h : State) → AreHelpers hs → nth hs j ≡ Some h → IsHelperOf h
+nth_helper [] j h a e = absurd (no e)
+  where
+    no : ◌≡◌ {A = Option State} None (Some h) → ⊥
+    no e = cc
+nth_helper (x ∷ xs) zero h a e = subst IsHelperOf (one e) a.0
+  where
+    one : ◌≡◌ {A = Option State} (Some x) (Some h) → x ≡ h
+    one e = cc
+nth_helper (x ∷ xs) (suc j) h a e = nth_helper xs j h a.1 e
 
-unions_ordered : (vs : List (Vec ℕ Global)) (hs : List State) → AreHelpers hs → states_ordered (unions_of vs ++ hs) ≡ true
-unions_ordered (v ∷ vs) hs a = unions_ordered vs hs a
-unions_ordered [] [] a = refl
-unions_ordered [] (h ∷ hs) a = ap (λ b. b && states_ordered hs) a.0.1 ∙ unions_ordered [] hs a.1
+heads_sum :
+    (m : ℕ) (hs : List State) (lists : List (List ℕ)) (heads : List State) → AreHeads m hs lists heads → AreHelpers hs
+    → sum_by alternates_of heads ≤ total lists
+heads_sum m hs [] [] a h = omega arith
+heads_sum m hs [] (s ∷ ss) a h = absurd a
+heads_sum m hs (xs ∷ rest) [] a h = absurd a
+heads_sum m hs (xs ∷ rest) (s ∷ ss) a h =
+    let c : sum_by alternates_of (s ∷ ss) ≡ alternates_of s + sum_by alternates_of ss = sum_by-cons alternates_of s ss in
+    let d = heads_sum m hs rest ss a.1 h in
+    let e = one a.0 in
+    omega (arith, c, d, e)
+  where
+    one : IsHead m hs xs s → alternates_of s ≤ length xs
+    one (inl (v, e, g)) =
+        let k : alternates_of s ≡ length v.items = ap alternates_of e in
+        let l : length v.items ≡ length xs = ap (λ z. length z) g in
+        omega (arith, k, l)
+    one (inr (j, e, g)) = let k = (nth_helper hs j s h g).0 in omega (arith, k)
+
+helpers_ordered : (hs : List State) → AreHelpers hs → states_ordered hs ≡ true
+helpers_ordered [] a = refl
+helpers_ordered (h ∷ hs) a = ap (λ b. b && states_ordered hs) a.0.1 ∙ helpers_ordered hs a.1
+
+heads_ordered :
+    (m : ℕ) (hs more : List State) (lists : List (List ℕ)) (heads : List State) → AreHeads m hs lists heads → AreHelpers hs
+    → states_ordered more ≡ true → states_ordered (heads ++ more) ≡ true
+heads_ordered m hs more [] [] a h o = o
+heads_ordered m hs more [] (s ∷ ss) a h o = absurd a
+heads_ordered m hs more (xs ∷ rest) [] a h o = absurd a
+heads_ordered m hs more (xs ∷ rest) (s ∷ ss) a h o =
+    ap (λ b. b && states_ordered (ss ++ more)) (one a.0) ∙ heads_ordered m hs more rest ss a.1 h o
+  where
+    one : IsHead m hs xs s → state_ordered s ≡ true
+    one (inl (v, e, g)) = ap state_ordered e
+    one (inr (j, e, g)) = (nth_helper hs j s h g).1
 
 -- What is turned of states without repeats.
 module _ (states turned : List State) (reached : List ℕ) (first : ℕ) (distinct : Distinct reached)
@@ -207,36 +240,37 @@ module _ (states turned : List State) (reached : List ℕ) (first : ℕ) (distin
 
   pub turned_length : length turned ≤ length states + sum_by asking_edges states + 1
   turned_length =
-      let a : length turned ≡ length (unions_of are.0) + length are.1 =
-      ap (λ xs. length xs) are.2 ∙ length-append (unions_of are.0) are.1 in
-      let b = unions_length are.0 in
-      let c = lists_length are.0 in
-      let d : length (lists_of are.0) + length are.1 ≡ size (turn_by (turn_states none states reached) (is.Match 0) first) =
-      ap (λ (t : Turns). size t) are.3 in
+      let a : length turned ≡ length are.1.0 + length are.0.helpers =
+      ap (λ xs. length xs) are.1.1 ∙ length-append are.1.0 are.0.helpers in
+      let b = heads_length (length are.0.lists) are.0.helpers are.0.lists are.1.0 are.1.2 in
+      let d : length are.0.lists + length are.0.helpers ≡ size (turn_by (turn_states none states reached) (is.Match 0) first) =
+      ap (λ (t : Turns). size t) are.2 in
       let e = size_by (turn_states none states reached) (is.Match 0) first in
       let f = size_states none states reached in
       let g = few asking_edges in
       let h : length (no_lists (length states)) ≡ length states = none_length (length states) in
-      omega (arith, a, b, c, d, e, f, g, h)
+      omega (arith, a, b, d, e, f, g, h)
 
   module _ (ordered : states_ordered states ≡ true) where
-    helpers : AreHelpers are.1
+    helpers : AreHelpers are.0.helpers
     helpers =
-        subst (λ (t : Turns). AreHelpers t.helpers) (sym are.3)
+        subst (λ (t : Turns). AreHelpers t.helpers) (sym are.2)
         (helpers_more (turn_states none states reached).helpers (is.Match 0)
         (helpers_states states reached none ordered tt) (refl, refl))
 
     pub turned_ordered : states_ordered turned ≡ true
-    turned_ordered = ap states_ordered are.2 ∙ unions_ordered are.0 are.1 helpers
+    turned_ordered =
+        ap states_ordered are.1.1
+        ∙ heads_ordered (length are.0.lists) are.0.helpers are.0.helpers are.0.lists are.1.0 are.1.2 helpers (helpers_ordered are.0.helpers helpers)
 
     pub turned_alternates : sum_by alternates_of turned ≤ sum_by asking_edges states + sum_by free_edges states + 1
     turned_alternates =
-        let a : sum_by alternates_of turned ≡ sum_by alternates_of (unions_of are.0) + sum_by alternates_of are.1 =
-        ap (sum_by alternates_of) are.2 ∙ sum_by-append alternates_of (unions_of are.0) are.1 in
-        let b = helpers_none are.1 helpers in
-        let c = unions_sum are.0 in
-        let d : total (lists_of are.0) ≡ total (turn_by (turn_states none states reached) (is.Match 0) first).lists =
-        ap (λ (t : Turns). total t.lists) are.3 in
+        let a : sum_by alternates_of turned ≡ sum_by alternates_of are.1.0 + sum_by alternates_of are.0.helpers =
+        ap (sum_by alternates_of) are.1.1 ∙ sum_by-append alternates_of are.1.0 are.0.helpers in
+        let b = helpers_none are.0.helpers helpers in
+        let c = heads_sum (length are.0.lists) are.0.helpers are.0.lists are.1.0 are.1.2 helpers in
+        let d : total are.0.lists ≡ total (turn_by (turn_states none states reached) (is.Match 0) first).lists =
+        ap (λ (t : Turns). total t.lists) are.2 in
         let e = total_by (turn_states none states reached) (is.Match 0) first in
         let f = total_states none states reached in
         let g = few asking_edges in

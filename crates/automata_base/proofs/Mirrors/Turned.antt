@@ -3,7 +3,7 @@ use Rattle.std.proofs.Common.{ℕ, zero, suc, ◌≡◌, ◌<◌, ◌≤◌, ◌
 use Rattle.automata_base.specs.Lists.{In, nth}
 use Rattle.automata_base.specs.Looks.{Look, within}
 use Rattle.automata_base.specs.Nfa.{Nfa, Node, Range, Split, Assert, Read, Accept, Truth, node, node_or_fail, hop, hop_at, takes, takes_at, takes_in, accepts, accepts_at}
-use Rattle.automata_base.specs.Mirrors.{flip, Label, Free, Asks, Reads, HasRange, HasArcAt, HasArc, IsReversedArc, IsKept, IsReversedAt, IsPart, IsMirror}
+use Rattle.automata_base.specs.Mirrors.{flip, Label, Free, Asks, Reads, HasRange, HasArcAt, HasArc, IsAsking, IsEdgeTo, IsReversedArc, IsKept, IsReversedAt, IsPart, IsMirror}
 use Rattle.automata_base.proofs.Paths.Orders.{none_some, some_inj}
 use Rattle.automata_base.proofs.Paths.Sets.{nth_in, in_nth}
 use Rattle.automata_base.proofs.Mirrors.Ways.{Bytes, IsWay, HasWay, join, hop_way, move_way, way_grows}
@@ -128,6 +128,21 @@ module _ (n m : Nfa) (first root : ℕ) (entries reached : List ℕ)
 
   -- The part of one pattern.
   module _ (p entry : ℕ) (place : ℕ → ℕ) (kept : List ℕ) (part : IsPart n m first reached p entry place kept) where
+    -- To what the state that stands for `t` goes on to.
+    enters :
+        (t k x : ℕ) (xs : List ℕ) → IsReversedAt n m first reached p place kept t xs → In x xs → HasWay m B c k (place t) k x
+    enters t k x xs at i = go at.stands
+      where
+        one : (y : ℕ) → In x (y ∷ []) → x ≡ y
+        one y (inl e) = e
+        one y (inr j) = absurd j
+
+        go :
+            (node m (place t) ≡ Split xs) ⊎ ((xs ≡ place t ∷ []) × IsEdgeTo n m first p place kept t (place t))
+            → HasWay m B c k (place t) k x
+        go (inl s) = let h = split_hop m (B k) (place t) xs x s i in hop_way m B c k (place t) h.0 x h.1
+        go (inr e) = ([], (refl, sym (one (place t) (subst (λ v. In x v) e.0 i))))
+
     -- From an edge's target back to its source.
     back_hop :
         (s t : ℕ) (l : Label) (k k' : ℕ) → In s reached → IsKept n kept t → k + k' ≡ J → HasArc n s l t
@@ -140,12 +155,9 @@ module _ (n m : Nfa) (first root : ℕ) (entries reached : List ℕ)
         go :
             (l : Label) → HasArc n s l t → Holds (A k) l → (x : ℕ) × In x at.0 × IsReversedArc m x l (place s)
             → HasWay m B c k' (place t) k' (place s)
-        go Free arc holds w =
-            let h = split_hop m (B k') (place t) at.0 w.0 at.1.stands w.1 in
-            hop_way m B c k' (place t) h.0 (place s) (h.1 ∙ ap Some w.2)
+        go Free arc holds w = subst (λ v. HasWay m B c k' (place t) k' v) w.2 (enters t k' w.0 at.0 at.1 w.1)
         go (Asks look) arc holds w =
-            let h = split_hop m (B k') (place t) at.0 w.0 at.1.stands w.1 in
-            join m B c k' (place t) k' w.0 k' (place s) (hop_way m B c k' (place t) h.0 w.0 h.1)
+            join m B c k' (place t) k' w.0 k' (place s) (enters t k' w.0 at.0 at.1 w.1)
             (hop_way m B c k' w.0 0 (place s)
             (ap (λ v. hop_at v (B k') 0) w.2 ∙ ap (λ v. cond v (Some (place s)) None) (turn.looks k k' look e ∙ holds)))
         go (Reads lo hi) arc holds w = absurd holds
@@ -154,7 +166,7 @@ module _ (n m : Nfa) (first root : ℕ) (entries reached : List ℕ)
         (s t u lo hi k k' : ℕ) → In s reached → IsKept n kept t → suc (k + k') ≡ J → b k ≡ Some u
         → HasArc n s (Reads lo hi) t → within lo hi u ≡ true → HasWay m B c k' (place t) (suc k') (place s)
     back_move s t u lo hi k k' rs kt e byte arc has =
-        join m B c k' (place t) k' w.0 (suc k') (place s) (hop_way m B c k' (place t) h.0 w.0 h.1)
+        join m B c k' (place t) k' w.0 (suc k') (place s) (enters t k' w.0 at.0 at.1 w.1)
         (move_way m B c k' w.0 u (place s) (turn.bytes k k' e ∙ byte)
         (ap (λ v. takes_at v u) w.2 ∙ ap (λ v. cond v (Some (place s)) None) has))
       where
@@ -163,9 +175,6 @@ module _ (n m : Nfa) (first root : ℕ) (entries reached : List ℕ)
 
         w : (x : ℕ) × In x at.0 × IsReversedArc m x (Reads lo hi) (place s)
         w = (at.1.arcs s (Reads lo hi) rs arc).1
-
-        h : (e : ℕ) × (hop m (B k') (place t) e ≡ Some w.0)
-        h = split_hop m (B k') (place t) at.0 w.0 at.1.stands w.1
 
     -- A way forth to a kept state gives a way back.
     abbrev pub GoesBack : ℕ → ℕ → ℕ → ℕ → Type 0
@@ -238,41 +247,22 @@ module _ (n m : Nfa) (first root : ℕ) (entries reached : List ℕ)
         (i x j z i' j' t p' : ℕ) → IsKept n kept t → i + i' ≡ J → j + j' ≡ J → Stands x t
         → IsWay m B c i x path j z → accepts m z ≡ Some p' → Comes p' j' i' t
 
-    -- From a state that stands for `t`, once the first edge is known.
-    from_place :
-        (path : List ℕ) (e : ℕ) → Goes path
-        → (i x j z i' j' t p' : ℕ) → IsKept n kept t → i + i' ≡ J → j + j' ≡ J → x ≡ place t
-        → IsWay m B c i x (e ∷ path) j z → accepts m z ≡ Some p' → Comes p' j' i' t
-    from_place path e ih i x j z i' j' t p' kt d f same w a = go w
-      where
-        at : (xs : List ℕ) × IsReversedAt n m first reached p place kept t xs
-        at = part.turned t kt
-
-        is : node m x ≡ Split at.0
-        is = ap (λ v. node m v) same ∙ at.1.stands
-
-        go : IsWay m B c i x (e ∷ path) j z → Comes p' j' i' t
-        go (inl h) =
-            ih i h.0 j z i' j' t p' kt d f
-            (inr (at.1.sound h.0 (hop_split m (B i) x at.0 e h.0 is h.1))) h.2 a
-        go (inr h) = absurd (none_some (sym (ap (λ v. takes_at v h.1) is) ∙ h.3))
-
-    from_edge :
+    -- From a state that stands for an edge that reads or asks.
+    from_asking :
         (path : List ℕ) (e : ℕ) → Goes path → (l : Label)
-        → (i x j z i' j' s t p' : ℕ) → IsKept n kept s → i + i' ≡ J → j + j' ≡ J → HasArc n s l t
+        → (i x j z i' j' s t p' : ℕ) → IsKept n kept s → i + i' ≡ J → j + j' ≡ J → HasArc n s l t → IsAsking l
         → IsReversedArc m x l (place s) → IsWay m B c i x (e ∷ path) j z → accepts m z ≡ Some p' → Comes p' j' i' t
-    from_edge path e ih Free i x j z i' j' s t p' ks d f arc turned w a =
-        comes_hop p' j' i i' s t Free d arc tt (from_place path e ih i x j z i' j' s p' ks d f turned w a)
-    from_edge path e ih (Asks look) i x j z i' j' s t p' ks d f arc turned (inl h) a =
+    from_asking path e ih Free i x j z i' j' s t p' ks d f arc asks turned w a = absurd asks
+    from_asking path e ih (Asks look) i x j z i' j' s t p' ks d f arc asks turned (inl h) a =
         let g = assert_hop x (place s) e h.0 (flip look) (B i) turned h.1 in
         comes_hop p' j' i i' s t (Asks look) d arc
         (sym (turn.looks i' i look (omega (arith, d))) ∙ g.0)
         (ih i h.0 j z i' j' s p' ks d f (inl (sym g.1)) h.2 a)
-    from_edge path e ih (Asks look) i x j z i' j' s t p' ks d f arc turned (inr h) a =
+    from_asking path e ih (Asks look) i x j z i' j' s t p' ks d f arc asks turned (inr h) a =
         absurd (none_some (sym (ap (λ v. takes_at v h.1) turned) ∙ h.3))
-    from_edge path e ih (Reads lo hi) i x j z i' j' s t p' ks d f arc turned (inl h) a =
+    from_asking path e ih (Reads lo hi) i x j z i' j' s t p' ks d f arc asks turned (inl h) a =
         absurd (none_some (sym (ap (λ v. hop_at v (B i) e) turned) ∙ h.1))
-    from_edge path e ih (Reads lo hi) i x j z i' j' s t p' ks d f arc turned (inr h) a = go i' d
+    from_asking path e ih (Reads lo hi) i x j z i' j' s t p' ks d f arc asks turned (inr h) a = go i' d
       where
         more : suc i ≤ j
         more = way_grows m B c (suc i) h.0 path j z h.4
@@ -290,31 +280,105 @@ module _ (n m : Nfa) (first root : ℕ) (entries reached : List ℕ)
                   (arc_takes n s lo hi t h.1 apart arc taken.0)),
             )
 
+    -- From a match.
+    from_match :
+        (path : List ℕ) (e i x j z : ℕ) (C : Type 0) → node m x ≡ Accept p → IsWay m B c i x (e ∷ path) j z → C
+    from_match path e i x j z C is (inl h) = absurd (none_some (sym (ap (λ v. hop_at v (B i) e) is) ∙ h.1))
+    from_match path e i x j z C is (inr h) = absurd (none_some (sym (ap (λ v. takes_at v h.1) is) ∙ h.3))
+
+    -- From a state that stands for `t`, once the first edge is known.
+    from_place :
+        (path : List ℕ) (e : ℕ) → Goes path
+        → (i x j z i' j' t p' : ℕ) → IsKept n kept t → i + i' ≡ J → j + j' ≡ J → x ≡ place t
+        → IsWay m B c i x (e ∷ path) j z → accepts m z ≡ Some p' → Comes p' j' i' t
+    from_place path e ih i x j z i' j' t p' kt d f same w a = go at.1.stands
+      where
+        at : (xs : List ℕ) × IsReversedAt n m first reached p place kept t xs
+        at = part.turned t kt
+
+        by_union : node m x ≡ Split at.0 → IsWay m B c i x (e ∷ path) j z → Comes p' j' i' t
+        by_union is (inl h) =
+            ih i h.0 j z i' j' t p' kt d f
+            (inr (at.1.sound h.0 (hop_split m (B i) x at.0 e h.0 is h.1))) h.2 a
+        by_union is (inr h) = absurd (none_some (sym (ap (λ v. takes_at v h.1) is) ∙ h.3))
+
+        by_edge : IsEdgeTo n m first p place kept t (place t) → Comes p' j' i' t
+        by_edge (inl g) =
+            from_asking path e ih g.1 i x j z i' j' g.0 t p' g.2 d f g.3 g.4
+            (subst (λ v. IsReversedArc m v g.1 (place g.0)) (sym same) g.5) w a
+        by_edge (inr g) = from_match path e i x j z (Comes p' j' i' t) (ap (λ v. node m v) same ∙ g.1) w
+
+        go :
+            (node m (place t) ≡ Split at.0) ⊎ ((at.0 ≡ place t ∷ []) × IsEdgeTo n m first p place kept t (place t))
+            → Comes p' j' i' t
+        go (inl is) = by_union (ap (λ v. node m v) same ∙ is) w
+        go (inr g) = by_edge g.1
+
+    from_edge :
+        (path : List ℕ) (e : ℕ) → Goes path → (l : Label)
+        → (i x j z i' j' s t p' : ℕ) → IsKept n kept s → i + i' ≡ J → j + j' ≡ J → HasArc n s l t
+        → IsReversedArc m x l (place s) → IsWay m B c i x (e ∷ path) j z → accepts m z ≡ Some p' → Comes p' j' i' t
+    from_edge path e ih Free i x j z i' j' s t p' ks d f arc turned w a =
+        comes_hop p' j' i i' s t Free d arc tt (from_place path e ih i x j z i' j' s p' ks d f turned w a)
+    from_edge path e ih (Asks look) i x j z i' j' s t p' ks d f arc turned w a =
+        from_asking path e ih (Asks look) i x j z i' j' s t p' ks d f arc tt turned w a
+    from_edge path e ih (Reads lo hi) i x j z i' j' s t p' ks d f arc turned w a =
+        from_asking path e ih (Reads lo hi) i x j z i' j' s t p' ks d f arc tt turned w a
+
+    -- Where a way ends at a match.
+    stop_told : (i j z i' j' t p' : ℕ) → i + i' ≡ J → j + j' ≡ J → i ≡ j → t ≡ first → node m z ≡ Accept p
+        → accepts m z ≡ Some p' → Comes p' j' i' t
+    stop_told i j z i' j' t p' d f same begins is a = (
+      some_inj (sym a ∙ ap accepts_at is),
+      ([], (omega (arith, d, f, same), sym begins)),
+    )
+
+    stop_asking : (l : Label) (x z y p' : ℕ) (C : Type 0) → IsAsking l → IsReversedArc m x l y → x ≡ z → accepts m z ≡ Some p' → C
+    stop_asking Free x z y p' C asks turned same a = absurd asks
+    stop_asking (Asks look) x z y p' C asks turned same a =
+        absurd (none_some (sym (ap accepts_at (ap (λ v. node m v) (sym same) ∙ turned)) ∙ a))
+    stop_asking (Reads lo hi) x z y p' C asks turned same a =
+        absurd (none_some (sym (ap accepts_at (ap (λ v. node m v) (sym same) ∙ turned)) ∙ a))
+
+    stop_place :
+        (i j z i' j' t p' : ℕ) → IsKept n kept t → i + i' ≡ J → j + j' ≡ J → i ≡ j → place t ≡ z → accepts m z ≡ Some p'
+        → Comes p' j' i' t
+    stop_place i j z i' j' t p' kt d f same here a = go at.1.stands
+      where
+        at : (xs : List ℕ) × IsReversedAt n m first reached p place kept t xs
+        at = part.turned t kt
+
+        by_edge : IsEdgeTo n m first p place kept t (place t) → Comes p' j' i' t
+        by_edge (inl g) = stop_asking g.1 (place t) z (place g.0) p' (Comes p' j' i' t) g.4 g.5 here a
+        by_edge (inr g) =
+            stop_told i j z i' j' t p' d f same g.0 (ap (λ v. node m v) (sym here) ∙ g.1) a
+
+        go :
+            (node m (place t) ≡ Split at.0) ⊎ ((at.0 ≡ place t ∷ []) × IsEdgeTo n m first p place kept t (place t))
+            → Comes p' j' i' t
+        go (inl is) = absurd (not_split z at.0 p' (ap (λ v. node m v) (sym here) ∙ is) a)
+        go (inr g) = by_edge g.1
+
     -- A way back to a match gives a way forth.
     pub turned_forth : (path : List ℕ) → Goes path
     turned_forth [] i x j z i' j' t p' kt d f (inl same) w a =
-        absurd (not_split z (part.turned t kt).0 p'
-        (ap (λ v. node m v) (sym w.1 ∙ same) ∙ (part.turned t kt).1.stands) a)
-    turned_forth [] i x j z i' j' t p' kt d f (inr (inl edge)) w a = go edge.1 edge.4
+        stop_place i j z i' j' t p' kt d f w.0 (sym same ∙ w.1) a
+    turned_forth [] i x j z i' j' t p' kt d f (inr (inl edge)) w a = go edge.1 edge.3 edge.4
       where
-        go : (l : Label) → IsReversedArc m x l (place edge.0) → Comes p' j' i' t
-        go Free turned =
-            absurd (not_split z (part.turned edge.0 edge.2).0 p'
-            (ap (λ v. node m v) (sym w.1 ∙ turned) ∙ (part.turned edge.0 edge.2).1.stands) a)
-        go (Asks look) turned = absurd (none_some (sym (ap accepts_at (ap (λ v. node m v) (sym w.1) ∙ turned)) ∙ a))
-        go (Reads lo hi) turned = absurd (none_some (sym (ap accepts_at (ap (λ v. node m v) (sym w.1) ∙ turned)) ∙ a))
-    turned_forth [] i x j z i' j' t p' kt d f (inr (inr told)) w a = (
-      some_inj (sym a ∙ ap accepts_at (ap (λ v. node m v) (sym w.1) ∙ told.1)),
-      ([], (omega (arith, d, f, w.0), sym told.0)),
-    )
+        go : (l : Label) → HasArc n edge.0 l t → IsReversedArc m x l (place edge.0) → Comes p' j' i' t
+        go Free arc turned =
+            comes_hop p' j' i i' edge.0 t Free d arc tt
+            (stop_place i j z i' j' edge.0 p' edge.2 d f w.0 (sym turned ∙ w.1) a)
+        go (Asks look) arc turned = stop_asking (Asks look) x z (place edge.0) p' (Comes p' j' i' t) tt turned w.1 a
+        go (Reads lo hi) arc turned = stop_asking (Reads lo hi) x z (place edge.0) p' (Comes p' j' i' t) tt turned w.1 a
+    turned_forth [] i x j z i' j' t p' kt d f (inr (inr told)) w a =
+        stop_told i j z i' j' t p' d f w.0 told.0 (ap (λ v. node m v) (sym w.1) ∙ told.1) a
     turned_forth (e ∷ path) i x j z i' j' t p' kt d f (inl same) w a =
         from_place path e (turned_forth path) i x j z i' j' t p' kt d f same w a
     turned_forth (e ∷ path) i x j z i' j' t p' kt d f (inr (inl edge)) w a =
         from_edge path e (turned_forth path) edge.1 i x j z i' j' edge.0 t p' edge.2 d f edge.3 edge.4 w a
-    turned_forth (e ∷ path) i x j z i' j' t p' kt d f (inr (inr told)) (inl h) a =
-        absurd (none_some (sym (ap (λ v. hop_at v (B i) e) told.1) ∙ h.1))
-    turned_forth (e ∷ path) i x j z i' j' t p' kt d f (inr (inr told)) (inr h) a =
-        absurd (none_some (sym (ap (λ v. takes_at v h.1) told.1) ∙ h.3))
+    turned_forth (e ∷ path) i x j z i' j' t p' kt d f (inr (inr told)) w a =
+        from_match path e i x j z (Comes p' j' i' t) told.1 w
 
     -- From the entry.
     entry_back :
@@ -347,14 +411,10 @@ module _ (n m : Nfa) (first root : ℕ) (entries reached : List ℕ)
         told : (x : ℕ) × In x at.0 × (node m x ≡ Accept p)
         told = at.1.told refl
 
-        stop : (e : ℕ) × (hop m (B J) (place first) e ≡ Some told.0)
-        stop = split_hop m (B J) (place first) at.0 told.0 at.1.stands told.1
-
         way : HasWay m B c 0 entry J told.0
         way =
             join m B c 0 entry 0 (place q) J told.0 (hop_way m B c 0 entry start.0 (place q) start.1)
-            (join m B c 0 (place q) J (place first) J told.0 goes.1
-            (hop_way m B c J (place first) stop.0 told.0 stop.1))
+            (join m B c 0 (place q) J (place first) J told.0 goes.1 (enters first J told.0 at.0 at.1 told.1))
 
     entry_forth :
         (path : List ℕ) (p' z : ℕ) → IsWay m B c 0 entry path J z → accepts m z ≡ Some p'

@@ -22,7 +22,7 @@ use Rattle.automata_base.proofs.Determinizing.Walking.{node_at}
 use Rattle.automata_base.proofs.Paths.Orders.{some_inj, none_some}
 use Rattle.automata_base.proofs.Reaching.Adding.{once_has, once_keeps, once_only, once_take, state_at_below}
 use Rattle.automata_base.proofs.Reaching.Matched.{target_found}
-use Rattle.automata_base.proofs.Reaching.Searched.{read_at}
+use Rattle.automata_base.proofs.Reaching.DepthFirst.{read_at}
 use Rattle.automata_base.proofs.Reaching.Walked.{roots_alike, way_more}
 
 -- A node that has a target as a look is one.

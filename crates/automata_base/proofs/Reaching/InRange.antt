@@ -19,9 +19,10 @@ use Rattle.automata_base.proofs.Reaching.Led.{node_takes}
 two : (p q n : ℕ) → p < n → q < n → (ltb p n && ltb q n) ≡ true
 two p q n l k = ap (λ v. v && ltb q n) (lt-ltb p n l) ∙ lt-ltb q n k
 
-pub below_all : (n : ℕ) (xs : List ℕ) → ((r : ℕ) → In r xs → r < n) → all_below n xs ≡ true
-below_all n [] f = refl
-below_all n (x ∷ xs) f = ap (λ v. v && all_below n xs) (lt-ltb x n (f x (inl refl))) ∙ below_all n xs (λ r i. f r (inr i))
+-- Numbers below a bound, as a test.
+pub ids_below : (n : ℕ) (xs : List ℕ) → ((r : ℕ) → In r xs → r < n) → all_below n xs ≡ true
+ids_below n [] f = refl
+ids_below n (x ∷ xs) f = ap (λ v. v && all_below n xs) (lt-ltb x n (f x (inl refl))) ∙ ids_below n xs (λ r i. f r (inr i))
 
 pub below_each : (n : ℕ) (xs : List ℕ) → All (λ s. s < n) xs → all_below n xs ≡ true
 below_each n [] f = refl
@@ -41,13 +42,13 @@ below_dense n v (zero ∷ xs) z f = ap (λ b. b && all_below n xs) (lt-ltb 0 n z
 below_dense n v (suc m ∷ xs) z f =
     ap (λ b. b && all_below n xs) (lt-ltb (suc m) n (f (suc m) (inl refl))) ∙ below_dense n (suc v) xs z (λ r i. f r (inr i))
 
-state_is_below :
+pub state_is_below :
     (n : ℕ) (x : State) → 0 < n → ((r : ℕ) → In r (targets_at Every (node_of x)) → r < n) → state_below n x ≡ true
 state_is_below n (is.ByteRange lo hi next) z f = lt-ltb next n (f next (inl refl))
 state_is_below n (is.Sparse ts) z f = below_ranges n ts.items f
 state_is_below n (is.Dense targets) z f = below_dense n 0 targets z f
 state_is_below n (is.Look look next) z f = lt-ltb next n (f next (inl refl))
-state_is_below n (is.Union alternates) z f = below_all n alternates.items (λ r i. f r (In-left r alternates.items [] i))
+state_is_below n (is.Union alternates) z f = ids_below n alternates.items (λ r i. f r (In-left r alternates.items [] i))
 state_is_below n (is.BinaryUnion alt1 alt2) z f = two alt1 alt2 n (f alt1 (inl refl)) (f alt2 (inr (inl refl)))
 state_is_below n (is.Capture next pattern index slot) z f = lt-ltb next n (f next (inl refl))
 state_is_below n is.Fail z f = refl
@@ -57,7 +58,7 @@ below_states : (n : ℕ) (xs : List State) → ((q : ℕ) → state_below n (get
 below_states n [] f = refl
 below_states n (x ∷ xs) f = ap (λ v. v && states_below n xs) (f 0) ∙ below_states n xs (λ q. f (suc q))
 
-node_is : (states : List State) (q : ℕ) → node_in states q ≡ node_of (get_or states q is.Fail)
+pub node_is : (states : List State) (q : ℕ) → node_in states q ≡ node_of (get_or states q is.Fail)
 node_is [] q = refl
 node_is (x ∷ xs) zero = refl
 node_is (x ∷ xs) (suc q) = node_is xs q

@@ -1,5 +1,5 @@
 ghost use Rattle.std.specs.Prelude.{ℕ, ◌≡◌, ◌*◌, ◌^◌, ◌<◌, ◌≤◌, IfOk, IfErr, OnOk, OnErr, slice_index};
-ghost use Rattle.std.specs.Prelude.{length, is_some, IsSome, IsTrue, ◌↔◌, IsBitSet};
+ghost use Rattle.std.specs.Prelude.{length, is_some, IsSome, IsTrue, ◌↔◌, IsBitSet, false};
 ghost use Rattle.automata_base.specs.Powerset.{Powerset, cost, dead};
 ghost use Rattle.automata_base.specs.Steps.{successor, start_state_of};
 ghost use Rattle.automata_hybrid.specs.Owned.{IsOwn};
@@ -10,7 +10,7 @@ ghost use Rattle.automata_hybrid.specs.Table.{HasRowIds, IsNewState};
 ghost use Rattle.automata_hybrid.specs.Stores.{IsCacheError, cell_of, with_next, with_start};
 ghost use Rattle.automata_hybrid.specs.Stores.{with_searched};
 ghost use Rattle.automata_hybrid.specs.Usage.{usage, GivesUp};
-ghost use Rattle.automata_hybrid.specs.Effects.{AddsNext, AddsStart};
+ghost use Rattle.automata_hybrid.specs.Effects.{AddsNext, AddsStart, IsAddedStart};
 ghost use Rattle.automata_hybrid.specs.Caches.{IsRow, IsCacheOf, fresh_cache, counted, with_store};
 ghost use Rattle.automata_hybrid.specs.Growing.{IsGrown, KeepsProgress};
 ghost use Rattle.automata_hybrid.specs.Owing.{IsStoreOf};
@@ -153,13 +153,17 @@ impl Cache {
         requires new { IsNewState self.old.store.table state }
         ensures named { IfOk result (λ id. Names self.new.store.table id state) }
         ensures counted { self.new.count ≡ self.old.count }
+        ensures added { OnOk result (IsAddedStart self.old.store (record { state = state; started = false })
+            self.new.store) }
         ensures grown { IsGrown self.old (counted self.new) }
         ensures gives_up { IfErr result (λ e. IsCacheError e → GivesUp self.old.store state) }
         ensures err { OnErr result (self.new ≡ self.old) }
         ensures progress { KeepsProgress self.old.store self.new.store }
     {
         self.see_cells();
+        self.see_ids();
         let id = self.add_start(dfa, state, false)?;
+        self.see_ids();
         Ok(id)
     }
 

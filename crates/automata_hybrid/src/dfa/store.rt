@@ -6,8 +6,8 @@ ghost use Rattle.automata_hybrid.specs.Owned.{IsOwn};
 ghost use Rattle.automata_hybrid.specs.Ids.{dead_id, unknown_id, fixed_from, offset_limit};
 ghost use Rattle.automata_hybrid.specs.Machine.{next_of, start_of, greatest, template_of, IsTemplate, table_stride};
 ghost use Rattle.automata_hybrid.specs.Table.{id_of, Names, IsValid, Leads, MayLead, IsCell, HasCells, HasRowIds};
-ghost use Rattle.automata_hybrid.specs.Table.{IsNewState};
-ghost use Rattle.automata_hybrid.specs.Clears.{row_of};
+ghost use Rattle.automata_hybrid.specs.Table.{AreRows, IsNewState};
+ghost use Rattle.automata_hybrid.specs.Clears.{AllStarts, row_of};
 ghost use Rattle.automata_hybrid.specs.Stores.{with_table, IsCacheError, cell_of, with_next, fresh_store, settings_of};
 ghost use Rattle.automata_hybrid.specs.Stores.{with_start};
 ghost use Rattle.automata_hybrid.specs.Usage.{usage, Fits, GivesUp, IsCleared, refuses_to_clear};
@@ -178,11 +178,15 @@ impl Store {
         row + extra <= room && self.table.cell_count() < OFFSET_LIMIT
     }
 
-    /// The accounted bytes are within the capacity.
+    /// Rows, cells and starts fit each other, and the accounted bytes are within the capacity.
     pub fn see_bounds(&self)
-        ensures { usage self.now ≤ self.now.table.of.capacity }
+        ensures rows { AreRows self.now.table }
+        ensures starts { AllStarts self.now.table self.now.starts }
+        ensures slots { length self.now.starts ≡ slot_count self.now.table.of }
+        ensures within { usage self.now ≤ self.now.table.of.capacity }
     {
-        let _ = &self.settings;
+        let _ = self.starts.len();
+        self.table.see_whole();
     }
 
     /// The start slots are as many as the DFA's.

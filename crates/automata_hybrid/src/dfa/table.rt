@@ -8,7 +8,7 @@ ghost use Rattle.automata_hybrid.specs.Owned.{IsOwn};
 ghost use Rattle.automata_hybrid.specs.Ids.{unknown_id, fixed_from, offset_limit};
 ghost use Rattle.automata_hybrid.specs.Machine.{next_of, greatest, template_of, IsTemplate, marked, table_stride};
 ghost use Rattle.automata_hybrid.specs.Table.{id_of, with_row, fresh, Names, Leads, row_cost, IsValid, HasState};
-ghost use Rattle.automata_hybrid.specs.Table.{IsNewState};
+ghost use Rattle.automata_hybrid.specs.Table.{AreRows, IsNewState};
 ghost use Rattle.automata_hybrid.specs.Table.{IsCell, cell_at, with_cell, HasCells, HasRowIds};
 ghost use Rattle.automata_hybrid.specs.Clears.{AllStarts};
 
@@ -81,6 +81,13 @@ impl Table {
         ensures alive { (id : ℕ) (q : Powerset) → Names self.now id q → q ≡ dead → ⊥ }
     {
         let _rows = &self.rows;
+    }
+
+    /// Rows and cells fit each other.
+    pub fn see_whole(&self)
+        ensures { AreRows self.now }
+    {
+        let _ = self.rows.len();
     }
 
     /// Rows are of one width, each has a cell for each class, and their states are the automaton's own.

@@ -13,10 +13,9 @@ ghost use Rattle.automata_base.specs.Paths.{next};
 ghost use Rattle.automata_base.specs.Powerset.{Powerset, dead};
 ghost use Rattle.automata_hybrid.specs.Progressing.{started};
 ghost use Rattle.automata_hybrid.specs.Reading.{IsEndProgress};
-ghost use Rattle.automata_hybrid.specs.Searched.{EndsAtLast};
-ghost use Rattle.automata_hybrid.specs.Searched.{IsLeftOpen};
+ghost use Rattle.automata_hybrid.specs.Searched.{EndsAtLast, IsStoppedAt};
 ghost use Rattle.automata_hybrid.specs.declared.dfa.progress.Searched.{Searched};
-ghost use Rattle.automata_hybrid.specs.Searches.{given_up_offset, IsFound, IsPassRefusal, IsRefused};
+ghost use Rattle.automata_hybrid.specs.Searches.{given_up_offset, IsFound, IsPassRefusal, IsRefused, IsUnitRefusal};
 ghost use Rattle.automata_hybrid.specs.Searches.{state_in, tape_in};
 ghost use Rattle.automata_hybrid.specs.Table.{IsValid, Names};
 
@@ -586,9 +585,7 @@ impl DFA {
             → OnOk result (EndsAtLast Forward self.now input.now before cache.old.store cache.new.store) }
         ensures left { (before : Searched)
             → cache.old.store.searched ≡ started before (given_up_offset Forward input.now 0)
-            → IfErr result (λ e.
-            EndsAtLast Forward self.now input.now before cache.old.store cache.new.store
-            ⊎ IsLeftOpen Forward self.now input.now before cache.old.store cache.new.store e) }
+            → IfErr result (IsStoppedAt Forward self.now input.now before cache.old.store cache.new.store) }
     {
         let mut at = input.start();
         let mut id = start;
@@ -628,7 +625,8 @@ impl DFA {
             found }
         ensures of { IsCacheOf cache.new self.now }
         ensures answer { IfOk result (IsPassAnswer Forward self.now input.now) }
-        ensures refusal { IfErr result (IsPassRefusal Forward self.now cache.new.store input.now) }
+        ensures refusal { IfErr result
+            (IsUnitRefusal Forward self.now cache.new.store input.now (input.now.end - input.now.start)) }
         ensures effect { IsRestEffect Forward self.now input.now (input.now.end - input.now.start) cache.old cache.new
             result }
         ensures alive { (q : Powerset) → Names cache.old.store.table id q → q ≡ dead → ⊥ }

@@ -11,9 +11,9 @@ ghost use Rattle.automata_hybrid.specs.Passed.{IsPassAnswer, IsPassEffect, IsRes
 ghost use Rattle.automata_hybrid.specs.Passing.{HasLearned, IsAt, IsBetween, IsFollowed, IsLed, IsUntagged};
 ghost use Rattle.automata_hybrid.specs.Progressing.{started};
 ghost use Rattle.automata_hybrid.specs.Reading.{IsReadAnswer, IsReadEffect, IsReadRefusal};
-ghost use Rattle.automata_hybrid.specs.Searched.{EndsAtLast, IsLeftOpen};
+ghost use Rattle.automata_hybrid.specs.Searched.{EndsAtLast, IsStoppedAt};
 ghost use Rattle.automata_hybrid.specs.declared.dfa.progress.Searched.{Searched};
-ghost use Rattle.automata_hybrid.specs.Searches.{given_up_offset, IsFound, IsPassRefusal, IsRefused};
+ghost use Rattle.automata_hybrid.specs.Searches.{given_up_offset, IsFound, IsPassRefusal, IsRefused, IsUnitRefusal};
 ghost use Rattle.automata_hybrid.specs.Searches.{WithoutBase, state_in};
 ghost use Rattle.automata_hybrid.specs.Table.{IsValid, Names};
 
@@ -566,9 +566,7 @@ impl DFA {
             → OnOk result (EndsAtLast Backward self.now input.now before cache.old.store cache.new.store) }
         ensures left { (before : Searched)
             → cache.old.store.searched ≡ started before (given_up_offset Backward input.now 0)
-            → IfErr result (λ e.
-            EndsAtLast Backward self.now input.now before cache.old.store cache.new.store
-            ⊎ IsLeftOpen Backward self.now input.now before cache.old.store cache.new.store e) }
+            → IfErr result (IsStoppedAt Backward self.now input.now before cache.old.store cache.new.store) }
     {
         let mut at = input.end();
         let mut id = start;
@@ -609,7 +607,8 @@ impl DFA {
             found }
         ensures of { IsCacheOf cache.new self.now }
         ensures answer { IfOk result (IsPassAnswer Backward self.now input.now) }
-        ensures refusal { IfErr result (IsPassRefusal Backward self.now cache.new.store input.now) }
+        ensures refusal { IfErr result
+            (IsUnitRefusal Backward self.now cache.new.store input.now (input.now.end - input.now.start)) }
         ensures effect { IsRestEffect Backward self.now input.now (input.now.end - input.now.start) cache.old cache.new
             result }
         ensures alive { (q : Powerset) → Names cache.old.store.table id q → q ≡ dead → ⊥ }

@@ -10,12 +10,12 @@ ghost use Rattle.automata_hybrid.specs.Caches.{CacheView, IsCacheOf};
 ghost use Rattle.automata_hybrid.specs.Passing.{IsFollowed};
 ghost use Rattle.automata_hybrid.specs.Reading.{IsReadAnswer, IsReadEffect, IsReadProgress, IsReadRefusal};
 ghost use Rattle.automata_hybrid.specs.Resuming.{IsAdvanceEffect, IsUnitEffect, StandsBehind};
-ghost use Rattle.automata_hybrid.specs.Searches.{HasReadNoQuit, Skips, behind_offset, given_up_offset};
+ghost use Rattle.automata_hybrid.specs.Searches.{HasReadNoQuit, IsUnitRefusal, Skips, behind_offset, given_up_offset};
 ghost use Rattle.automata_hybrid.specs.Searches.{state_in, tape_in, unit_offset};
 ghost use Rattle.automata_hybrid.specs.SearchedWalks.{HasJustMoved};
 ghost use Rattle.automata_hybrid.specs.Starting.{IsStartAnswer, IsStartEffect, IsStartRefusedAt};
 ghost use Rattle.automata_hybrid.specs.Table.{IsValid, Leads, Names};
-ghost use Rattle.automata_hybrid.specs.Walking.{IsAdvanceRefusal, IsArrival, IsUnitRefusal, WalkReads};
+ghost use Rattle.automata_hybrid.specs.Walking.{IsAdvanceRefusal, IsArrival, WalkReads};
 ghost use Rattle.automata_hybrid.specs.Walks.{way_of};
 
 use crate::dfa::DFA;

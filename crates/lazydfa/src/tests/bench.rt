@@ -3,18 +3,17 @@
 ghost use Rattle.std.specs.Prelude.{◌≡◌, ◌<◌, ◌^◌, IsTrue};
 ghost use Rattle.regex_automata.specs.Caches.{IsCacheOf, HasRow};
 
-use super::exhaust;
-use super::plans::pattern_id;
-use crate::reply::Line;
+use super::plans::{Mode, pattern_id};
+use super::tells::{Automaton, Caller, built};
+use super::told::{Brief, Told, letter};
+use super::turns::{InTurns, Short, Turns, call_short};
+use crate::catalogue::Entry;
 use regex_automata::hybrid::dfa::{Cache, DFA};
 use regex_automata::hybrid::{BuildError, LazyStateID, SearchError, StartError, StepError};
-use regex_automata::replay::Reply;
 use regex_automata::util::primitives::PatternID;
 use regex_automata::util::search::{Anchored, HalfMatch, Input};
 use regex_automata::util::start;
 use std::alloc::{AllocError, Global};
-use std::fmt;
-use std::fmt::Write;
 use std::process::Abort;
 
 /// A call.
@@ -26,10 +25,16 @@ pub enum Call {
     /// Searches a haystack from a place to a place.
     FindIn(&'static str, usize, usize),
     FindAnchored(&'static str, usize, usize),
-    /// The start of a search of a haystack.
+    /// The same as `FindIn`, forward, with the place where the last of its searches began.
+    FindBased(&'static str, usize, usize),
+    /// The start of a search of a haystack, and whether it has a tag.
     StartOn(&'static str),
+    /// The same in a mode.
+    StartOnIn(Mode, &'static str),
     /// The start that isn't anchored, behind this byte.
     Start(Option<u8>),
+    /// The start of a mode, behind no byte.
+    StartIn(Mode),
     /// The start of a pattern.
     StartOf(u8, Option<u8>),
     Step(u8),
@@ -47,7 +52,19 @@ pub enum Call {
     Brief,
     /// The start, each step and the end, in brief.
     Walk(&'static str),
+    /// The cache is replaced by a new one.
+    Replace,
+    /// The same by `Cache::new`.
+    ReplaceByNew,
     Reset,
+    /// The same by `Cache::reset`.
+    ResetByCache,
+    /// The cache is reset to the automaton of another entry, which takes the place of this one.
+    ResetTo(Entry),
+    /// A search is in progress from an offset on, comes to one, and ends at one.
+    Open(usize),
+    MoveTo(usize),
+    Close(usize),
     /// How many patterns the automaton has.
     Patterns,
     /// What the automaton takes beside its NFA.
@@ -55,84 +72,8 @@ pub enum Call {
     Classes,
     /// The least capacity that the settings may ask for.
     Minimum,
-    /// Takes all memory that is left.
-    Exhaust,
     /// Whether a byte of memory is left.
     Room,
-}
-
-/// What a call tells.
-#[derive(Drop)]
-enum Told {
-    Word(&'static str),
-    Found(Reply),
-    NoStart(StartError),
-    NoStep(StepError),
-    Refused(BuildError),
-    /// A number, with what stands before it and behind it.
-    Number(&'static str, usize, &'static str),
-    /// How many patterns, and the last one.
-    Patterns(usize, PatternID),
-    Counts(usize, usize, usize, &'static str),
-}
-
-impl Told {
-    fn of_flag(yes: bool) -> Told {
-        Told::Word(if yes { "true" } else { "false" })
-    }
-
-    fn of_start(started: Result<(), StartError>) -> Told {
-        match started {
-            Ok(()) => Told::Word("-"),
-            Err(error) => Told::NoStart(error),
-        }
-    }
-
-    fn of_growth(grown: Result<(), AllocError>) -> Told {
-        Told::Word(if grown.is_ok() { "-" } else { "out of memory" })
-    }
-
-    fn of_step(stepped: Result<(), StepError>) -> Told {
-        match stepped {
-            Ok(()) => Told::Word("-"),
-            Err(error) => Told::NoStep(error),
-        }
-    }
-}
-
-impl fmt::Display for Told {
-    fn fmt<W: fmt::Write>(&self, f: &mut fmt::Formatter<W>) -> fmt::Result {
-        match self {
-            Told::Word(word) => write!(f, "{word}"),
-            Told::Found(reply) => write!(f, "{}", Line(reply)),
-            Told::NoStart(error) => write!(f, "{error}"),
-            Told::NoStep(error) => write!(f, "{error}"),
-            Told::Refused(error) => write!(f, "{error}"),
-            Told::Number(before, number, behind) => write!(f, "{before}{number}{behind}"),
-            Told::Patterns(count, last) => write!(f, "patterns {count} last {}", last.as_usize()),
-            Told::Counts(clears, memory, searched, behind) => write!(
-                f,
-                "{clears} {memory} {searched}{behind}"
-            ),
-        }
-    }
-}
-
-/// What an ID says of its state.
-fn letter(id: LazyStateID) -> &'static str {
-    if id.is_unknown() {
-        "u"
-    } else if id.is_dead() {
-        "d"
-    } else if id.is_quit() {
-        "q"
-    } else if id.is_match() {
-        "m"
-    } else if id.is_start() {
-        "s"
-    } else {
-        ""
-    }
 }
 
 /// A lazy automaton with a cache of its own, the state that was stepped to, and the states that were told.
@@ -153,6 +94,14 @@ impl Bench {
         Bench::over(dfa, cache)
     }
 
+    /// The same, if the automaton isn't refused.
+    pub fn built<R: Abort>(rt: &R, dfa: Result<DFA, BuildError>) -> Result<Bench, BuildError> {
+        match dfa {
+            Ok(dfa) => Ok(Bench::new(rt, dfa)),
+            Err(error) => Err(error),
+        }
+    }
+
     /// Over a cache that is there.
     pub fn over(dfa: DFA, cache: Cache) -> Bench
         requires { IsCacheOf cache dfa }
@@ -170,71 +119,54 @@ impl Bench {
         &self.dfa
     }
 
-    /// Writes what the calls tell.
-    pub fn tell_all<R: Abort + AllocGlobal>(&mut self, rt: &R, calls: &[Call], text: &mut String) {
-        for call in calls {
-            if let Call::Walk(bytes) = call {
-                self.walk(rt, *bytes, text);
-            } else {
-                self.tell(rt, *call, text);
-            }
-        }
-    }
-
-    fn walk<R: Abort + AllocGlobal>(&mut self, rt: &R, bytes: &str, text: &mut String) {
-        self.answer(rt.alloc(), Call::Start(None));
-        self.tell(rt, Call::Brief, text);
-        for byte in bytes.as_bytes() {
-            self.answer(rt.alloc(), Call::Step(*byte));
-            self.tell(rt, Call::Brief, text);
-        }
-        self.answer(rt.alloc(), Call::End);
-        self.tell(rt, Call::Brief, text);
-    }
-
-    fn tell<R: Abort + AllocGlobal>(&mut self, rt: &R, call: Call, text: &mut String) {
-        if !text.is_empty() {
-            text.push_str(", ").expect(rt, "memory");
-        }
-        let told = self.answer(rt.alloc(), call);
-        write!(text, "{told}").expect(rt, "memory");
-    }
-
-    fn answer(&mut self, alloc: Global, call: Call) -> Told {
+    /// What a call tells, whatever it changes.
+    fn call(&mut self, alloc: Global, call: Call) -> Told {
         match call {
             Call::Find(haystack) => self.find(&Input::new(haystack.as_bytes())),
-            Call::FindEarliest(haystack) => self.find(&Input::new(haystack.as_bytes()).earliest(
-                true,
-            )),
+            Call::FindEarliest(haystack) => {
+                self.find(&Input::new(haystack.as_bytes()).earliest(true))
+            }
             Call::FindIn(haystack, start, end) => self.find(&within(haystack, start, end)),
             Call::FindAnchored(haystack, start, end) => {
                 self.find(&within(haystack, start, end).anchored(Anchored::Yes))
             }
+            Call::FindBased(haystack, start, end) => self.find_based(&within(haystack, start, end)),
             Call::StartOn(haystack) => self.start_on(&Input::new(haystack.as_bytes())),
+            Call::StartOnIn(mode, haystack) => {
+                self.start_on(&Input::new(haystack.as_bytes()).anchored(mode.anchored()))
+            }
             Call::Start(behind) => Told::of_start(self.start(Anchored::No, behind)),
+            Call::StartIn(mode) => Told::of_start(self.start(mode.anchored(), None)),
             Call::StartOf(number, behind) => {
                 Told::of_start(self.start(Anchored::Pattern(pattern_id(number)), behind))
             }
             Call::Step(byte) => Told::of_step(self.step(byte)),
             Call::Steps(bytes) => Told::of_step(self.steps(bytes)),
             Call::End => Told::of_step(self.end()),
+            Call::Walk(bytes) => self.walk(bytes),
+            Call::Replace => Told::of_growth(self.replace()),
+            Call::ReplaceByNew => Told::of_growth(self.replace_by_new()),
+            Call::Reset => Told::of_growth(self.reset()),
+            Call::ResetByCache => Told::of_growth(self.cache.reset(&self.dfa)),
+            Call::ResetTo(entry) => self.reset_to(alloc, entry),
+            Call::Open(_) | Call::MoveTo(_) | Call::Close(_) => self.progress(call),
+            _ => self.ask(alloc, call),
+        }
+    }
+
+    /// A call that changes nothing of the cache.
+    fn ask(&mut self, alloc: Global, call: Call) -> Told {
+        match call {
             Call::Known(byte) => self.known(byte),
             Call::State => self.state(self.at),
             Call::Matched => self.matched(),
             Call::Counts => self.counts(),
-            Call::Brief | Call::Walk(_) => {
-                Told::Number("", self.cache.memory_usage(), letter(self.at))
-            }
-            Call::Reset => Told::of_growth(self.reset()),
+            Call::Brief => Told::Number("", self.cache.memory_usage(), letter(self.at)),
             Call::Patterns => Told::Number("", self.dfa.pattern_len(), ""),
             Call::Memory => Told::Number("", self.dfa.memory_usage(), ""),
             Call::Classes => Told::Number("", self.dfa.byte_classes().alphabet_len(), ""),
             Call::Minimum => self.minimum(),
-            Call::Exhaust => {
-                exhaust(alloc);
-                Told::Word("-")
-            }
-            Call::Room => Told::of_flag(Vec::<u8>::with_capacity(alloc, 1).is_ok()),
+            _ => Told::of_flag(Vec::<u8>::with_capacity(alloc, 1).is_ok()),
         }
     }
 
@@ -248,19 +180,41 @@ impl Bench {
     }
 
     fn find(&mut self, input: &Input<'_>) -> Told {
-        Told::Found(Reply::Half(self.search(input)))
+        Told::of_half(self.search(input))
+    }
+
+    fn find_based(&mut self, input: &Input<'_>) -> Told {
+        match self.dfa.try_search_fwd_base(&mut self.cache, input) {
+            Ok(Some((half, place))) => Told::Based(half, place),
+            Ok(None) => Told::of_half(Ok(None)),
+            Err(error) => Told::of_half(Err(error)),
+        }
     }
 
     fn start_on(&mut self, input: &Input<'_>) -> Told {
-        let started = if self.dfa.get_nfa().is_reverse() {
-            self.dfa.start_state_reverse(&mut self.cache, input)
-        } else {
-            self.dfa.start_state_forward(&mut self.cache, input)
-        };
-        match started {
-            Ok(id) => Told::of_flag(id.is_tagged()),
-            Err(error) => Told::Found(Reply::Half(Err(error))),
+        match self.begin(input) {
+            Ok(()) => Told::of_flag(self.at.is_tagged()),
+            Err(SearchError::OutOfMemory) => Told::NoStart(StartError::OutOfMemory),
+            Err(error) => Told::of_half(Err(error)),
         }
+    }
+
+    /// The start, each step and the end, in brief.
+    fn walk(&mut self, bytes: &str) -> Told {
+        let mut briefs = [None; 12];
+        let _ = self.start(Anchored::No, None);
+        briefs[0] = Some(self.brief());
+        for (place, byte) in bytes.as_bytes().iter().copied().enumerate() {
+            let _ = self.step(byte);
+            briefs[place.saturating_add(1).min(11)] = Some(self.brief());
+        }
+        let _ = self.end();
+        briefs[bytes.len().saturating_add(1).min(11)] = Some(self.brief());
+        Told::Briefs(briefs)
+    }
+
+    fn brief(&self) -> Brief {
+        (self.cache.memory_usage(), self.at)
     }
 
     pub fn start(&mut self, mode: Anchored, behind: Option<u8>) -> Result<(), StartError> {
@@ -411,16 +365,49 @@ impl Bench {
         Some(self.dfa.match_pattern(&self.cache, self.at, 0))
     }
 
+    fn replace(&mut self) -> Result<(), AllocError> {
+        self.cache = self.dfa.create_cache()?;
+        Ok(())
+    }
+
+    fn replace_by_new(&mut self) -> Result<(), AllocError> {
+        self.cache = Cache::new(&self.dfa)?;
+        Ok(())
+    }
+
     pub fn reset(&mut self) -> Result<(), AllocError> {
         self.dfa.reset_cache(&mut self.cache)
     }
 
-    /// The same cache, reset to another automaton.
-    pub fn reset_to<R: Abort>(self, rt: &R, dfa: DFA) -> Bench {
-        let Bench { cache, .. } = self;
-        let mut cache = cache;
-        dfa.reset_cache(&mut cache).expect(rt, "memory");
-        Bench::over(dfa, cache)
+    fn reset_to(&mut self, alloc: Global, entry: Entry) -> Told {
+        let Ok(nfa) = entry.forward(alloc) else {
+            return Told::Word("no entry");
+        };
+        match DFA::builder().build_from_nfa(nfa) {
+            Ok(dfa) => self.take(dfa),
+            Err(error) => Told::Refused(error),
+        }
+    }
+
+    /// Goes on over this automaton.
+    fn take(&mut self, dfa: DFA) -> Told {
+        match dfa.reset_cache(&mut self.cache) {
+            Ok(()) => {
+                self.dfa = dfa;
+                Told::Word("-")
+            }
+            Err(_) => Told::Refused(BuildError::OutOfMemory),
+        }
+    }
+
+    fn progress(&mut self, call: Call) -> Told {
+        match call {
+            Call::Open(at) => self.open(at),
+            Call::MoveTo(at) => self.move_to(at),
+            Call::Close(at) => self.close(at),
+            _ => {}
+        }
+        Told::Word("-")
     }
 
     fn minimum(&self) -> Told {
@@ -435,8 +422,42 @@ impl Bench {
     }
 }
 
+impl Caller for Bench {
+    type Of = Automaton;
+
+    type Call = Call;
+
+    fn make<R: Abort + AllocGlobal>(
+        rt: &R,
+        of: Automaton,
+        options: &str,
+    ) -> Result<Bench, BuildError> {
+        Bench::built(rt, built(rt, of, options))
+    }
+
+    fn answer(&mut self, alloc: Global, call: Call) -> Told {
+        let before = self.totals();
+        let told = self.call(alloc, call);
+        let may_change = matches!(call, Call::Steps(_));
+        if told.is_refusal() && !may_change && self.totals() != before {
+            return Told::Word("a refusal that changed the cache");
+        }
+        told
+    }
+}
+
+impl InTurns for Bench {
+    type Of = Automaton;
+
+    type Call = Call;
+
+    fn take_turn<R: Abort + AllocGlobal>(rt: &R, row: &Short<Automaton, Call>, turns: &mut Turns) {
+        call_short::<Bench, R>(rt, row, turns);
+    }
+}
+
 /// An input over a part of a haystack, or over all of it where it has no such part.
-fn within(haystack: &str, start: usize, end: usize) -> Input<'_> {
+pub fn within(haystack: &str, start: usize, end: usize) -> Input<'_> {
     let input = Input::new(haystack.as_bytes());
     if input.allows(start, end) {
         input.range(start..end)

@@ -2,16 +2,16 @@
 
 use super::bench::{Bench, Call};
 use super::plans::{Plan, Shape};
-use super::tells::{Automaton, Row, lazy, text_of, told_by};
+use super::tells::{Automaton, Caller, Row, lazy, text_of};
 use super::{same_of, same_text};
 use crate::catalogue::Entry;
 use Automaton::{Forward, Planned, Reverse};
 use Call::{
-    Classes, Counts, Find, FindAnchored, FindEarliest, FindIn, Memory, Minimum, Patterns, Reset,
-    StartOn,
+    Classes, Close, Counts, Find, FindAnchored, FindEarliest, FindIn, Minimum, MoveTo, Open, Reset,
+    ResetTo, StartOn,
 };
 use regex_automata::hybrid::BuildError;
-use regex_automata::hybrid::dfa::{Cache, Config, DFA};
+use regex_automata::hybrid::dfa::{Config, DFA};
 use regex_automata::nfa::thompson::{Flags, NFA, State};
 use regex_automata::util::primitives::{PatternID, StateID};
 use regex_automata::util::search::{HalfMatch, Input};
@@ -65,7 +65,7 @@ fn count<R: Abort + AllocGlobal>(rt: &R, row: Counted) {
     let calls = [
         Counts, find, Counts, find, Counts, Reset, Counts, find, Counts,
     ];
-    let found = told_by(rt, automaton, options, &calls);
+    let found = text_of(rt, Bench::make(rt, automaton, options), &calls);
     let twice = searched.saturating_mul(2);
     let want = format!(in rt.alloc();
         "0 {fresh} 0, {reply}, 0 {used} {searched}, {reply}, 0 {used} {twice}, -, 0 {fresh} 0, {reply}, 0 {used} {searched}"
@@ -132,14 +132,19 @@ pub const SEARCHED: &[Row] = &[
         "half 0 2, 0 678 2, half 0 2, 0 678 4"),
     ("a reset forgets it all", Forward(Entry::Ab), "capacity=1735", &[Find("ab"), Find("ab"), Reset, Counts],
         "half 0 2, half 0 2, -, 0 335 0"),
-    ("anchored and unanchored over one cache", Forward(Entry::Abc), "", &[FindAnchored("cabac", 0, 5), Find("cabac")],
-        "half 0 1, half 0 1"),
     ("the example", Planned(&EXAMPLE), "capacity=65536", &[Find("abc"), FindAnchored("cab", 1, 3)],
         "half 0 2, half 0 3"),
     ("the start of a search over no bytes is there, though the search begins no progress", Reverse(Entry::Ab), "all",
         &[StartOn(""), Counts, Find(""), Counts], "false, 0 421 0, none, 0 421 0"),
-    ("in reverse: the farthest start under kind all, the nearest with an earliest input", Reverse(Entry::Crlf), "all",
-        &[Find("a\r\n"), FindEarliest("a\r\n")], "half 0 1, half 0 3"),
+    ("a cache of one automaton serves another once it is reset to it", Forward(Entry::Date), "",
+        &[Find("2018-12-24 2016-10-08"), ResetTo(Entry::Ab), Counts, Find("ab"), Counts, Find("ab"), Counts],
+        "half 0 10, -, 0 335 0, half 0 2, 0 678 2, half 0 2, 0 678 4"),
+    ("one search after another, each from a place to a place, and the bytes searched by then", Forward(Entry::Ab), "",
+        &[Open(3), Close(7), Counts, Open(10), Close(2), Counts, Open(5), Close(5), Counts, Open(0), Close(usize::MAX),
+        Counts, Open(0), Close(1), Counts],
+        "-, -, 0 335 4, -, -, 0 335 12, -, -, 0 335 12, -, -, 0 335 18446744073709551615, -, -, 0 335 18446744073709551615"),
+    ("a search in progress has searched so far", Forward(Entry::Ab), "", &[Open(3), Counts, MoveTo(7), Counts],
+        "-, 0 335 0 open, -, 0 335 4 open"),
     ("in reverse: the first path's start under leftmost-first", Reverse(Entry::Crlf), "",
         &[Find("a\r\n"), FindEarliest("a\r\n")], "half 0 3, half 0 3"),
 ];
@@ -164,7 +169,8 @@ fn searches_where_no_letter_is_read(rt: HostRuntime) {
     let mut options = String::new(rt.alloc());
     write_quits(&rt, &mut options);
     let calls = [Find(" a"), Find(" a\u{e9}"), Counts];
-    let found = told_by(&rt, Forward(Entry::Bound), options.as_str(), &calls);
+    let built = Bench::make(&rt, Forward(Entry::Bound), options.as_str());
+    let found = text_of(&rt, built, &calls);
     let want = "half 0 1, quit c3 2, 0 696 4";
     same_text(&rt, found.as_str(), want, "quit bytes from 80 on");
 }
@@ -206,27 +212,6 @@ pub const REFUSED: &[Row] = &[
         "given cache capacity (1734) is smaller than minimum required (1735)"),
 ];
 
-/// A cache of one automaton serves another once it is reset to it.
-#[test]
-fn resets_to_another(rt: HostRuntime) {
-    let mut text = String::new(rt.alloc());
-    reset_dates(&rt, &mut text);
-    let want = "half 0 10, 0 335 0, half 0 2, 0 678 2, half 0 2, 0 678 4";
-    same_text(&rt, text.as_str(), want, "a reset");
-}
-
-fn reset_dates<R: Abort + AllocGlobal>(rt: &R, text: &mut String) {
-    let mut bench = Bench::new(rt, lazy(rt, Forward(Entry::Date), ""));
-    bench.tell_all(rt, &[Find("2018-12-24 2016-10-08")], text);
-    reset_to_ab(rt, bench, text);
-}
-
-fn reset_to_ab<R: Abort + AllocGlobal>(rt: &R, bench: Bench, text: &mut String) {
-    let mut bench = bench.reset_to(rt, lazy(rt, Forward(Entry::Ab), "capacity=1735"));
-    let calls = [Counts, Find("ab"), Counts, Find("ab"), Counts];
-    bench.tell_all(rt, &calls, text);
-}
-
 #[test]
 fn keeps_its_settings(rt: HostRuntime) {
     let built = lazy(&rt, Forward(Entry::Bound), "unicode");
@@ -246,7 +231,7 @@ fn refuses_too_many_starts(rt: HostRuntime) {
             "failed to create LazyStateID from 134217728, which exceeds 134217727",
         ),
     ] {
-        let text = text_of(&rt, crowd(&rt, patterns), &[]);
+        let text = text_of(&rt, Bench::built(&rt, crowd(&rt, patterns)), &[]);
         same_text(&rt, text.as_str(), want, "many patterns");
     }
 }
@@ -265,76 +250,4 @@ fn crowd<R: Abort + AllocGlobal>(rt: &R, patterns: usize) -> Result<DFA, BuildEr
     DFA::builder()
         .configure(config)
         .build_from_nfa(nfa.expect(rt, "an automaton"))
-}
-
-/// One search after another, each from a place to a place, and the bytes searched by then.
-const SEARCHES: &[(usize, usize, usize)] = &[
-    (3, 7, 4),
-    (10, 2, 12),
-    (5, 5, 12),
-    (0, usize::MAX, usize::MAX),
-    (0, 1, usize::MAX),
-];
-
-#[test]
-fn adds_up_searched_bytes(rt: HostRuntime) {
-    let dfa = lazy(&rt, Forward(Entry::Ab), "");
-    let mut cache = dfa.create_cache().expect(&rt, "a cache");
-    add_up_searched_bytes(&rt, &mut cache);
-}
-
-fn add_up_searched_bytes<R: Abort>(rt: &R, cache: &mut Cache) {
-    for row in SEARCHES {
-        let (start, end, searched) = *row;
-        cache.search_start(start);
-        cache.search_finish(end);
-        let found = (
-            cache.search_total_len(),
-            cache.memory_usage(),
-            cache.in_progress(),
-        );
-        same_of(rt, &found, &(searched, 335, false), &start);
-    }
-}
-
-#[test]
-fn keeps_a_progress(rt: HostRuntime) {
-    let dfa = lazy(&rt, Forward(Entry::Ab), "");
-    let mut cache = dfa.create_cache().expect(&rt, "a cache");
-    keep_a_progress(&rt, &mut cache);
-}
-
-fn keep_a_progress<R: Abort>(rt: &R, cache: &mut Cache) {
-    cache.search_start(3);
-    let begun = (cache.search_total_len(), cache.in_progress());
-    cache.search_update(7);
-    let moved = (cache.search_total_len(), cache.in_progress());
-    same_of(rt, &(begun, moved), &((0, true), (4, true)), &"a progress");
-}
-
-#[test]
-fn matches_always(rt: HostRuntime) {
-    let told = "1, 0, 1145, half 0 1, half 0 1, 0 344 2";
-    matches(&rt, DFA::always_match(rt.alloc()), told);
-}
-
-#[test]
-fn matches_never(rt: HostRuntime) {
-    let told = "0, 0, 1085, none, none, 0 217 0";
-    matches(&rt, DFA::never_match(rt.alloc()), told);
-}
-
-/// How many patterns there are, the memory, the least capacity, what searches from the first place to the second
-/// answer, of which one is over a part of a character, and the memory of the cache.
-fn matches<R: Abort + AllocGlobal>(rt: &R, dfa: Result<DFA, BuildError>, told: &str) {
-    let calls = [
-        Patterns,
-        Memory,
-        Minimum,
-        FindIn("abc", 1, 2),
-        FindIn("\u{2603}", 1, 2),
-        Counts,
-    ];
-    let text = text_of(rt, dfa, &calls);
-    same_text(rt, text.as_str(), told, told);
 }

@@ -2,8 +2,8 @@
 //! searched bytes.
 
 use super::bench::Bench;
+use super::paths::MODES;
 use super::same_of;
-use super::span_paths::MODES;
 use super::tells::{Automaton, lazy};
 use crate::catalogue::Entry;
 use regex_automata::hybrid::{SearchError, StepError};
@@ -60,26 +60,58 @@ fn ends(bench: &Bench, input: &Input<'_>, has_found: bool) -> bool {
     bench.id().is_dead() || input.get_earliest() && has_found
 }
 
-fn pass_forward(bench: &mut Bench, input: &Input<'_>) -> Result<Option<HalfMatch>, SearchError> {
+/// The offset of a byte of the span, in the order of the search.
+fn offset_of(input: &Input<'_>, is_reverse: bool, number: usize) -> usize {
+    if is_reverse {
+        input.end().saturating_sub(number).saturating_sub(1)
+    } else {
+        input.start().saturating_add(number)
+    }
+}
+
+/// One pass over a span, with one step a byte. In reverse no search of an empty span is in progress.
+fn pass(bench: &mut Bench, input: &Input<'_>) -> Result<Option<HalfMatch>, SearchError> {
+    let is_reverse = bench.is_reverse();
     bench.begin(input)?;
-    bench.open(input.start());
+    let first = offset_of(input, is_reverse, 0);
+    let is_open = !is_reverse || input.start() < input.end();
+    if is_open {
+        bench.open(first);
+    }
     if bench.id().is_dead() {
-        bench.close(input.start());
+        if is_open {
+            bench.close(first);
+        }
         return Ok(None);
     }
     let mut found = None;
-    for at in input.start()..input.end() {
+    for number in 0..input.end().saturating_sub(input.start()) {
+        let at = offset_of(input, is_reverse, number);
         let Some(byte) = input.haystack().get(at) else {
             return Ok(found);
         };
         read(bench, *byte, at)?;
-        found = found_at(bench, at, found);
+        found = found_at(bench, at.saturating_add(usize::from(is_reverse)), found);
         if ends(bench, input, found.is_some()) {
             bench.close(at);
             return Ok(found);
         }
     }
-    end_forward(bench, input, found)
+    end_pass(bench, input, found)
+}
+
+fn end_pass(
+    bench: &mut Bench,
+    input: &Input<'_>,
+    found: Option<HalfMatch>,
+) -> Result<Option<HalfMatch>, SearchError> {
+    if !bench.is_reverse() {
+        return end_forward(bench, input, found);
+    }
+    if input.start() < input.end() {
+        bench.close(input.start());
+    }
+    end_reverse(bench, input, found)
 }
 
 /// The step behind the span.
@@ -98,53 +130,6 @@ fn end_forward(
     }
     bench.close(end);
     Ok(found_at(bench, end, found))
-}
-
-fn pass_reverse(bench: &mut Bench, input: &Input<'_>) -> Result<Option<HalfMatch>, SearchError> {
-    bench.begin(input)?;
-    let (start, end) = (input.start(), input.end());
-    if start < end {
-        bench.open(end.saturating_sub(1));
-    }
-    if bench.id().is_dead() {
-        if start < end {
-            bench.close(end.saturating_sub(1));
-        }
-        return Ok(None);
-    }
-    let mut found = None;
-    for before in start..end {
-        let at = end.saturating_sub(before.saturating_sub(start));
-        let (last, stops) = step_reverse(bench, input, at, found)?;
-        found = last;
-        if stops {
-            return Ok(found);
-        }
-    }
-    if start < end {
-        bench.close(start);
-    }
-    end_reverse(bench, input, found)
-}
-
-/// The step on the byte before an offset: what was found last, and whether that is the answer.
-fn step_reverse(
-    bench: &mut Bench,
-    input: &Input<'_>,
-    at: usize,
-    found: Option<HalfMatch>,
-) -> Result<(Option<HalfMatch>, bool), SearchError> {
-    let before = at.saturating_sub(1);
-    let Some(byte) = input.haystack().get(before) else {
-        return Ok((found, true));
-    };
-    read(bench, *byte, before)?;
-    let found = found_at(bench, at, found);
-    let stops = ends(bench, input, found.is_some());
-    if stops {
-        bench.close(before);
-    }
-    Ok((found, stops))
 }
 
 /// The step before the span.
@@ -188,14 +173,6 @@ fn next_span<'h>(input: &Input<'h>, is_reverse: bool) -> Option<Input<'h>> {
             .range(start..end)
             .earliest(input.get_earliest()),
     )
-}
-
-fn pass(bench: &mut Bench, input: &Input<'_>) -> Result<Option<HalfMatch>, SearchError> {
-    if bench.is_reverse() {
-        pass_reverse(bench, input)
-    } else {
-        pass_forward(bench, input)
-    }
 }
 
 /// Searches with one step a byte, over one span after another.
@@ -345,33 +322,14 @@ const LONG: usize = 26;
 /// An entry, and two bytes: of different classes, where it has them.
 type Letters = (Entry, [u8; 2]);
 
-/// Entries without looks.
-const PLAIN: &[Letters] = &[
-    (Entry::Ab, *b"ab"),
-    (Entry::Always, *b"ab"),
-    (Entry::Never, *b"ab"),
-    (Entry::Date, *b"1-"),
-    (Entry::Abc, *b"ca"),
-    (Entry::Aa, *b"ab"),
-    (Entry::Runs, *b"a1"),
-    (Entry::A16, *b"ab"),
-];
-
-/// Entries with looks.
-const LOOKING: &[Letters] = &[
-    (Entry::Words, *b"a!"),
-    (Entry::Bnum, *b"1 "),
-    (Entry::Wordend, *b"a "),
-    (Entry::Bound, *b"a\xCE"),
+/// Entries without looks, with looks, and in UTF-8 mode where they may match nothing, and one of any bytes.
+#[rattlefmt::skip]
+const ENTRIES: &[Letters] = &[
+    (Entry::Ab, *b"ab"), (Entry::Always, *b"ab"), (Entry::Never, *b"ab"), (Entry::Date, *b"1-"), (Entry::Abc, *b"ca"),
+    (Entry::Aa, *b"ab"), (Entry::Runs, *b"a1"), (Entry::A16, *b"ab"),
+    (Entry::Words, *b"a!"), (Entry::Bnum, *b"1 "), (Entry::Wordend, *b"a "), (Entry::Bound, *b"a\xCE"),
     (Entry::Crlf, *b"\r\n"),
-];
-
-/// Entries in UTF-8 mode that may match nothing, and one of any bytes.
-const SPLITTING: &[Letters] = &[
-    (Entry::Empty, *b"a\x83"),
-    (Entry::Snow, *b"x\x83"),
-    (Entry::Snowx, *b"x\x83"),
-    (Entry::Any, *b"a\x83"),
+    (Entry::Empty, *b"a\x83"), (Entry::Snow, *b"x\x83"), (Entry::Snowx, *b"x\x83"), (Entry::Any, *b"a\x83"),
 ];
 
 /// At the default capacity, with no clear count that a refusal waits for, and with one.
@@ -381,28 +339,23 @@ const AMPLE: &[Run] = &[
 ];
 
 /// The same at the least capacity.
+#[rattlefmt::skip]
 const TIGHT: &[Run] = &[
-    ("unicode capacity=0 skip", History::Fresh),
-    ("unicode capacity=0 skip limit=1", History::Fresh),
+    ("unicode capacity=0 skip", History::Fresh), ("unicode capacity=0 skip limit=1", History::Fresh),
 ];
 
+#[rattlefmt::skip]
 const USED: &[Run] = &[
-    ("unicode", History::Haystack),
-    ("unicode", History::All),
-    ("unicode limit=1", History::Haystack),
-    ("unicode limit=1", History::All),
-    ("unicode capacity=0 skip", History::Haystack),
-    ("unicode capacity=0 skip", History::All),
-    ("unicode capacity=0 skip limit=1", History::Haystack),
-    ("unicode capacity=0 skip limit=1", History::All),
+    ("unicode", History::Haystack), ("unicode", History::All),
+    ("unicode limit=1", History::Haystack), ("unicode limit=1", History::All),
+    ("unicode capacity=0 skip", History::Haystack), ("unicode capacity=0 skip", History::All),
+    ("unicode capacity=0 skip limit=1", History::Haystack), ("unicode capacity=0 skip limit=1", History::All),
 ];
 
+#[rattlefmt::skip]
 const KINDS: &[Run] = &[
-    ("unicode", History::Fresh),
-    ("unicode all", History::Fresh),
-    ("unicode tags starts", History::Fresh),
-    ("unicode all tags", History::All),
-    ("unicode capacity=0 skip", History::All),
+    ("unicode", History::Fresh), ("unicode all", History::Fresh), ("unicode tags starts", History::Fresh),
+    ("unicode all tags", History::All), ("unicode capacity=0 skip", History::All),
     ("unicode capacity=0 skip limit=1", History::Fresh),
 ];
 
@@ -414,8 +367,8 @@ enum Texts {
 }
 
 /// Each entry, by its automata of both directions.
-fn compare_all<R: Abort + AllocGlobal>(rt: &R, entries: &[Letters], texts: Texts, runs: &[Run]) {
-    for (entry, letters) in entries {
+fn compare_all<R: Abort + AllocGlobal>(rt: &R, texts: Texts, runs: &[Run]) {
+    for (entry, letters) in ENTRIES {
         for run in runs {
             let of = (*entry, *run);
             compare_entry(rt, Automaton::Forward(*entry), *letters, texts, &of);
@@ -455,28 +408,20 @@ fn compare_texts<R: Abort>(
 
 #[test]
 fn steps_over_a_fresh_cache(rt: HostRuntime) {
-    compare_all(&rt, PLAIN, Texts::Short, AMPLE);
-    compare_all(&rt, LOOKING, Texts::Short, AMPLE);
-    compare_all(&rt, SPLITTING, Texts::Short, AMPLE);
+    compare_all(&rt, Texts::Short, AMPLE);
 }
 
 #[test]
 fn steps_over_a_fresh_tight_cache(rt: HostRuntime) {
-    compare_all(&rt, PLAIN, Texts::Short, TIGHT);
-    compare_all(&rt, LOOKING, Texts::Short, TIGHT);
-    compare_all(&rt, SPLITTING, Texts::Short, TIGHT);
+    compare_all(&rt, Texts::Short, TIGHT);
 }
 
 #[test]
 fn steps_over_a_used_cache(rt: HostRuntime) {
-    compare_all(&rt, PLAIN, Texts::Short, USED);
-    compare_all(&rt, LOOKING, Texts::Short, USED);
-    compare_all(&rt, SPLITTING, Texts::Short, USED);
+    compare_all(&rt, Texts::Short, USED);
 }
 
 #[test]
 fn steps_over_long_runs(rt: HostRuntime) {
-    compare_all(&rt, PLAIN, Texts::Long, KINDS);
-    compare_all(&rt, LOOKING, Texts::Long, KINDS);
-    compare_all(&rt, SPLITTING, Texts::Long, KINDS);
+    compare_all(&rt, Texts::Long, KINDS);
 }

@@ -325,12 +325,39 @@ fn is_word(byte: Option<u8>) -> bool {
 /// of one.
 pub type Pieces = [&'static [u8]; 3];
 
-/// The entries in UTF-8 mode, with whole characters.
-pub const CHARACTERS: &[(Entry, Pieces)] = &[
-    (Entry::Empty, [b"a", b"\xE2\x98\x83", b"\xC3\xA9"]),
-    (Entry::Snow, [b"a", b"\xE2\x98\x83", b"x"]),
-    (Entry::Snowx, [b"x", b"\xE2\x98\x83", b"a"]),
-    (Entry::Any, [b"a", b"\xE2\x98\x83", b"\xC3\xA9"]),
+/// An entry, pieces to make haystacks of, and how many bytes these have at most.
+pub type Row = (Entry, Pieces, usize);
+
+#[rattlefmt::skip]
+pub const LITERALS: &[Row] = &[
+    (Entry::Ab, [b"a", b"b", b"x"], 8), (Entry::Aa, [b"a", b"b", b"x"], 8),
+    (Entry::Date, [b"0", b"-", b"x"], 8), (Entry::A16, [b"a", b"b", b"x"], 8),
+];
+
+#[rattlefmt::skip]
+pub const EMPTY: &[Row] = &[
+    (Entry::Always, [b"a", b"b", b"x"], 8), (Entry::Never, [b"a", b"b", b"x"], 8),
+    (Entry::Empty, [b"a", b"\x98", b"\xE2"], 8), (Entry::Any, [b"a", b"\x98", b"\xE2"], 8),
+];
+
+#[rattlefmt::skip]
+pub const REPEATED: &[Row] = &[
+    (Entry::Abc, [b"a", b"b", b"c"], 8), (Entry::Runs, [b"a", b"1", b" "], 8),
+    (Entry::Words, [b"a", b"!", b" "], 8),
+];
+
+#[rattlefmt::skip]
+pub const LOOKS: &[Row] = &[
+    (Entry::Bnum, [b"1", b"a", b" "], 8), (Entry::Bound, [b"a", b" ", b"_"], 8),
+    (Entry::Wordend, [b"a", b" ", b"_"], 8), (Entry::Crlf, [b"\r", b"\n", b"a"], 8),
+];
+
+/// The entries in UTF-8 mode, with parts of characters, and with whole ones.
+#[rattlefmt::skip]
+pub const CHARACTERS: &[Row] = &[
+    (Entry::Snow, [b"a", b"\x98", b" "], 8), (Entry::Snowx, [b"x", b"\x98", b" "], 8),
+    (Entry::Empty, [b"a", b"\xE2\x98\x83", b"\xC3\xA9"], 8), (Entry::Snow, [b"a", b"\xE2\x98\x83", b"x"], 8),
+    (Entry::Snowx, [b"x", b"\xE2\x98\x83", b"a"], 8), (Entry::Any, [b"a", b"\xE2\x98\x83", b"\xC3\xA9"], 8),
 ];
 
 /// The pattern and the end of the answer.
@@ -344,9 +371,35 @@ pub fn half<R: Abort + AllocGlobal>(
     Some(half)
 }
 
-/// The pieces that the digits of a number to the base of their count stand for, the last digit
-/// first.
-pub fn spell<R: Abort + AllocGlobal>(
+/// Anchored or not, and the nearest end or not.
+pub const MODES: [(Anchored, bool); 5] = [
+    (Anchored::No, false),
+    (Anchored::No, true),
+    (Anchored::Yes, false),
+    (Anchored::Yes, true),
+    (Anchored::Pattern(PatternID::ZERO), false),
+];
+
+/// All haystacks of up to six of the first two pieces, and of up to four of all three, that have no more bytes.
+pub fn haystacks<R: Abort + AllocGlobal>(rt: &R, pieces: Pieces, most: usize) -> Vec<Vec<u8>> {
+    let mut haystacks = Vec::new(rt.alloc());
+    for (choices, lengths) in [(2usize, 7usize), (3, 5)] {
+        let mut count = 1usize;
+        for length in 0..lengths {
+            for number in 0..count {
+                let haystack = spell(rt, number, length, &pieces[..choices]);
+                if haystack.len() <= most {
+                    haystacks.push(haystack).expect(rt, "memory");
+                }
+            }
+            count = count.saturating_mul(choices);
+        }
+    }
+    haystacks
+}
+
+/// The pieces that the digits of a number to the base of their count stand for, the last digit first.
+fn spell<R: Abort + AllocGlobal>(
     rt: &R,
     number: usize,
     length: usize,
@@ -366,14 +419,4 @@ pub fn spell<R: Abort + AllocGlobal>(
 fn digit<'a>(number: usize, pieces: &[&'a [u8]]) -> &'a [u8] {
     let last = number.checked_rem(pieces.len()).unwrap_or(0);
     pieces.get(last).copied().unwrap_or(&[])
-}
-
-/// The whole haystack, anchored or earliest or both.
-pub fn modes(haystack: &[u8]) -> [Input<'_>; 4] {
-    [
-        Input::new(haystack).earliest(true),
-        Input::new(haystack).anchored(Anchored::Yes),
-        Input::new(haystack).anchored(Anchored::Yes).earliest(true),
-        Input::new(haystack).anchored(Anchored::Pattern(PatternID::ZERO)),
-    ]
 }

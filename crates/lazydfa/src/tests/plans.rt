@@ -3,7 +3,29 @@
 use regex_automata::nfa::thompson::{Flags, NFA, NfaError, State, Transition};
 use regex_automata::util::look::Look;
 use regex_automata::util::primitives::{PatternID, StateID};
+use regex_automata::util::search::Anchored;
 use std::process::Abort;
+
+/// Which searches a start is for.
+#[derive(Clone, Copy)]
+pub enum Mode {
+    /// Those that begin at each place.
+    Every,
+    /// Those that begin at the first place alone.
+    First,
+    /// Those for one pattern.
+    Of(u8),
+}
+
+impl Mode {
+    pub fn anchored(self) -> Anchored {
+        match self {
+            Mode::Every => Anchored::No,
+            Mode::First => Anchored::Yes,
+            Mode::Of(number) => Anchored::Pattern(pattern_id(number)),
+        }
+    }
+}
 
 /// A state. The last number names the state that comes next; of `Accept` it is the pattern.
 #[derive(Clone, Copy)]
@@ -83,35 +105,26 @@ fn push<R: Abort + AllocGlobal>(rt: &R, states: &mut Vec<State>, shape: Shape) {
     states.push(state_of(rt, shape)).expect(rt, "memory");
 }
 
+#[rattlefmt::skip]
 fn state_of<R: Abort + AllocGlobal>(rt: &R, shape: Shape) -> State {
     match shape {
-        Shape::Range(lo, hi, next) => State::ByteRange {
-            lo,
-            hi,
-            next: id(next),
-        },
+        Shape::Range(lo, hi, next) => State::ByteRange { lo, hi, next: id(next) },
         Shape::Sparse(ranges) => State::Sparse(transitions(rt, ranges)),
         Shape::Dense(bytes) => State::Dense(targets(bytes)),
-        Shape::Either(alt1, alt2) => State::BinaryUnion {
-            alt1: id(alt1),
-            alt2: id(alt2),
-        },
-        Shape::Union => State::Union {
-            alternates: Vec::new(rt.alloc()),
-        },
-        Shape::Assert(look, next) => State::Look {
-            look,
-            next: id(next),
-        },
-        Shape::Capture(next) => State::Capture {
-            next: id(next),
-            pattern_id: PatternID::ZERO,
-            group_index: 0,
-            slot: 0,
-        },
-        Shape::Accept(pattern) => State::Match {
-            pattern: pattern_id(pattern),
-        },
+        Shape::Either(alt1, alt2) => State::BinaryUnion { alt1: id(alt1), alt2: id(alt2) },
+        Shape::Union => State::Union { alternates: Vec::new(rt.alloc()) },
+        Shape::Assert(look, next) => State::Look { look, next: id(next) },
+        Shape::Capture(next) => capture(id(next)),
+        Shape::Accept(pattern) => State::Match { pattern: pattern_id(pattern) },
+    }
+}
+
+pub fn capture(next: StateID) -> State {
+    State::Capture {
+        next,
+        pattern_id: PatternID::ZERO,
+        group_index: 0,
+        slot: 0,
     }
 }
 

@@ -3,9 +3,9 @@
 
 ghost use Rattle.std.specs.Prelude.{◌≡◌};
 
-use super::memory::{Part, Turns};
-use super::plans::pattern_id;
+use super::plans::Mode;
 use super::tells::Automaton;
+use super::turns::Turns;
 use super::{check, same_of};
 use crate::catalogue::Entry;
 use Automaton::{Forward, Reverse};
@@ -13,30 +13,9 @@ use Mode::{Every, First, Of};
 use regex_automata::nfa::thompson::NFA;
 use regex_automata::util::determinize;
 use regex_automata::util::determinize::{Scratch, State};
-use regex_automata::util::search::{Anchored, MatchKind};
+use regex_automata::util::search::MatchKind;
 use std::alloc::AllocError;
 use std::process::Abort;
-
-/// Which searches a start is for.
-#[derive(Clone, Copy)]
-pub enum Mode {
-    /// Those that begin at each place.
-    Every,
-    /// Those that begin at the first place alone.
-    First,
-    /// Those for one pattern.
-    Of(u8),
-}
-
-impl Mode {
-    fn anchored(self) -> Anchored {
-        match self {
-            Every => Anchored::No,
-            First => Anchored::Yes,
-            Of(number) => Anchored::Pattern(pattern_id(number)),
-        }
-    }
-}
 
 /// What leads to a state: the mode and the byte behind of a start, the bytes read from there, and whether the end of
 /// the haystack is read too.
@@ -145,6 +124,14 @@ pub fn leads<R: Abort + AllocGlobal>(rt: &R, row: Row) {
     same_of(rt, &state.as_bytes(), &bytes, &shows);
 }
 
+/// What can be refused memory.
+#[derive(Clone, Copy)]
+enum Part {
+    Room,
+    Start,
+    Step,
+}
+
 /// One turn, over room of its own. Each call is lent the turn's memory alone; what is refused is answered once there is
 /// more.
 fn lead_short<R: Abort + AllocGlobal>(rt: &R, nfa: &NFA, turns: &mut Turns) {
@@ -158,7 +145,7 @@ fn maker_short<R: Abort>(rt: &R, nfa: &NFA, turns: &mut Turns) -> Maker {
     if let Ok(maker) = Maker::new(nfa.clone().expect(rt, "a copy"), MatchKind::All) {
         return maker;
     }
-    turns.refuse(Part::Create);
+    turns.refuse(Part::Room as usize);
     Maker::new(nfa.clone().expect(rt, "a copy"), MatchKind::All).expect(rt, "room")
 }
 
@@ -177,7 +164,7 @@ fn start_short<R: Abort>(rt: &R, maker: &mut Maker, turns: &mut Turns) -> State 
     if let Ok(state) = maker.start(Every, None) {
         return state;
     }
-    turns.refuse(Part::Start);
+    turns.refuse(Part::Start as usize);
     maker.start(Every, None).expect(rt, "a start")
 }
 
@@ -186,7 +173,7 @@ fn next_short<R: Abort>(rt: &R, maker: &mut Maker, from: &State, turns: &mut Tur
     if let Ok(state) = made.expect(rt, "a state of the automaton") {
         return state;
     }
-    turns.refuse(Part::Step);
+    turns.refuse(Part::Step as usize);
     maker.go_on(rt, from, Some(b'a'))
 }
 
@@ -199,5 +186,5 @@ fn makes_states_after_each_refused_growth(rt: HostRuntime) {
         lead_short(&rt, &nfa, &mut turns);
         turns.lend_more();
     }
-    turns.have_refused(&rt, &[Part::Create, Part::Start, Part::Step]);
+    turns.have_seen(&rt, 3, "room, a start and a step");
 }

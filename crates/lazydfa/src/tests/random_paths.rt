@@ -2,10 +2,9 @@
 //! by walks and by sets.
 
 use super::dice::Dice;
-use super::paths::half;
-use super::plans::{id, pattern_id};
+use super::paths::{MODES, half};
+use super::plans::{capture, id, pattern_id};
 use super::same_of;
-use super::span_paths::MODES;
 use super::walk_paths::{Listed, Name, list, prepare};
 use regex_automata::hybrid::dfa::DFA;
 use regex_automata::nfa::thompson::{Flags, NFA, State, Transition};
@@ -39,39 +38,22 @@ const ASCII_LOOKS: &[Look] = &[
         Look::WordEndHalfAscii,
 ];
 
-const LINES: Alphabet = Alphabet {
-    letters: *b"\n-a",
-    looks: LOOKS,
-    utf8: false,
-    line_terminator: b'\n',
-};
+#[rattlefmt::skip]
+const LINES: Alphabet = Alphabet { letters: *b"\n-a", looks: LOOKS, utf8: false, line_terminator: b'\n' };
 
-const CRLF: Alphabet = Alphabet {
-    letters: *b"\n\ra",
-    ..LINES
-};
+#[rattlefmt::skip]
+const CRLF: Alphabet = Alphabet { letters: *b"\n\ra", ..LINES };
 
-const SEMICOLONS: Alphabet = Alphabet {
-    letters: *b"-;a",
-    line_terminator: b';',
-    ..LINES
-};
+#[rattlefmt::skip]
+const SEMICOLONS: Alphabet = Alphabet { letters: *b"-;a", line_terminator: b';', ..LINES };
 
 /// A letter ends lines.
-const WORDS: Alphabet = Alphabet {
-    letters: *b"!Aa",
-    utf8: true,
-    line_terminator: b'A',
-    ..LINES
-};
+#[rattlefmt::skip]
+const WORDS: Alphabet = Alphabet { letters: *b"!Aa", utf8: true, line_terminator: b'A', ..LINES };
 
 /// A character of two bytes, and parts of it.
-const CHARACTERS: Alphabet = Alphabet {
-    letters: *b"a\xA9\xC3",
-    looks: ASCII_LOOKS,
-    utf8: true,
-    ..LINES
-};
+#[rattlefmt::skip]
+const CHARACTERS: Alphabet = Alphabet { letters: *b"a\xA9\xC3", looks: ASCII_LOOKS, utf8: true, ..LINES };
 
 /// Makes the parts of an automaton, by numbers that start at the automaton's own.
 #[derive(Clone, Copy)]
@@ -129,32 +111,18 @@ impl Maker {
         self.roll(4) == 0
     }
 
+    #[rattlefmt::skip]
     fn state<R: Abort + AllocGlobal>(&mut self, rt: &R) -> State {
         match self.roll(16) {
             0..=4 => self.range(),
             5..=6 => State::Sparse(self.transitions(rt)),
             7 => State::Dense(self.targets()),
-            8..=9 => State::Look {
-                look: self.look(),
-                next: self.target(),
-            },
-            10 => State::Union {
-                alternates: self.alternates(rt),
-            },
-            11..=12 => State::BinaryUnion {
-                alt1: self.target(),
-                alt2: self.target(),
-            },
-            13 => State::Capture {
-                next: self.target(),
-                pattern_id: PatternID::ZERO,
-                group_index: 0,
-                slot: 0,
-            },
+            8..=9 => State::Look { look: self.look(), next: self.target() },
+            10 => State::Union { alternates: self.alternates(rt) },
+            11..=12 => State::BinaryUnion { alt1: self.target(), alt2: self.target() },
+            13 => capture(self.target()),
             14 => State::Fail,
-            _ => State::Match {
-                pattern: self.pattern(),
-            },
+            _ => State::Match { pattern: self.pattern() },
         }
     }
 
@@ -255,14 +223,9 @@ impl Maker {
 }
 
 /// Haystacks, by the places of their letters in the alphabet.
+#[rattlefmt::skip]
 const HAYSTACKS: [&[usize]; 7] = [
-    &[],
-    &[0],
-    &[1, 2],
-    &[2, 0, 1],
-    &[1, 2, 2, 0],
-    &[2, 2, 1, 0, 2],
-    &[0, 1, 1, 2, 0, 2],
+    &[], &[0], &[1, 2], &[2, 0, 1], &[1, 2, 2, 0], &[2, 2, 1, 0, 2], &[0, 1, 1, 2, 0, 2],
 ];
 
 fn spell<R: Abort + AllocGlobal>(rt: &R, letters: [u8; 3], places: &[usize]) -> Vec<u8> {
@@ -274,7 +237,7 @@ fn spell<R: Abort + AllocGlobal>(rt: &R, letters: [u8; 3], places: &[usize]) -> 
 }
 
 /// How many searches have an answer, the sum of their ends, and how many pairs walks have.
-#[derive(Clone, Copy, Debug, PartialEq, Eq)]
+#[derive(Clone, Copy)]
 struct Tally {
     answers: usize,
     ends: usize,
@@ -397,7 +360,12 @@ fn same_members<R: Abort>(rt: &R, listed: &Listed, input: &Input<'_>) {
 }
 
 /// Forty automata from this number on, in both directions and of both kinds, and what is counted of their paths.
-fn agree<R: Abort + AllocGlobal>(rt: &R, first: u8, alphabet: Alphabet, counted: Tally) {
+fn agree<R: Abort + AllocGlobal>(
+    rt: &R,
+    first: u8,
+    alphabet: Alphabet,
+    counted: (usize, usize, usize),
+) {
     let mut tally = Tally {
         answers: 0,
         ends: 0,
@@ -410,7 +378,8 @@ fn agree<R: Abort + AllocGlobal>(rt: &R, first: u8, alphabet: Alphabet, counted:
             }
         }
     }
-    same_of(rt, &tally, &counted, &alphabet.letters);
+    let found = (tally.answers, tally.ends, tally.pairs);
+    same_of(rt, &found, &counted, &alphabet.letters);
 }
 
 fn compare_all<R: Abort + AllocGlobal>(
@@ -438,50 +407,25 @@ fn compare_haystacks<R: Abort + AllocGlobal>(
 
 #[test]
 fn automata_over_lines_find_their_paths(rt: HostRuntime) {
-    let counted = Tally {
-        answers: 10824,
-        ends: 18494,
-        pairs: 13376,
-    };
-    agree(&rt, 0, LINES, counted);
+    agree(&rt, 0, LINES, (10824, 18494, 13376));
 }
 
 #[test]
 fn automata_over_crlf_find_their_paths(rt: HostRuntime) {
-    let counted = Tally {
-        answers: 9856,
-        ends: 17562,
-        pairs: 11772,
-    };
-    agree(&rt, 40, CRLF, counted);
+    agree(&rt, 40, CRLF, (9856, 17562, 11772));
 }
 
 #[test]
 fn automata_over_other_lines_find_their_paths(rt: HostRuntime) {
-    let counted = Tally {
-        answers: 7924,
-        ends: 13923,
-        pairs: 10254,
-    };
-    agree(&rt, 80, SEMICOLONS, counted);
+    agree(&rt, 80, SEMICOLONS, (7924, 13923, 10254));
 }
 
 #[test]
 fn automata_over_words_find_their_paths(rt: HostRuntime) {
-    let counted = Tally {
-        answers: 10402,
-        ends: 18052,
-        pairs: 12852,
-    };
-    agree(&rt, 120, WORDS, counted);
+    agree(&rt, 120, WORDS, (10402, 18052, 12852));
 }
 
 #[test]
 fn automata_over_characters_find_their_paths(rt: HostRuntime) {
-    let counted = Tally {
-        answers: 7704,
-        ends: 13990,
-        pairs: 8634,
-    };
-    agree(&rt, 160, CHARACTERS, counted);
+    agree(&rt, 160, CHARACTERS, (7704, 13990, 8634));
 }

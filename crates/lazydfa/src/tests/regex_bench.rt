@@ -3,21 +3,18 @@
 ghost use Rattle.std.specs.Prelude.{◌≡◌};
 ghost use Rattle.regex_automata.specs.RegexCaches.{AreCachesOf};
 
-use super::exhaust;
-use super::plans::{Plan, ids_of};
-use super::tells::config;
+use super::plans::{Mode, Plan, Shape};
+use super::tells::{Caller, RowOf, config};
+use super::told::{Counts, Item, TokenItem, Told};
+use super::turns::{InTurns, Short, Turns, call_short};
 use crate::catalogue::Entry;
-use crate::reply::Line;
 use regex_automata::hybrid::regex::{Cache, Regex};
 use regex_automata::hybrid::{BuildError, SearchError};
-use regex_automata::nfa::thompson::{Flags, NFA, State};
+use regex_automata::nfa::thompson::NFA;
 use regex_automata::replay::Reply;
-use regex_automata::tokens::{TokenError, Tokens};
-use regex_automata::util::primitives::{PatternID, StateID};
-use regex_automata::util::search::{Input, Match, Span};
+use regex_automata::tokens::Tokens;
+use regex_automata::util::search::{Input, Match};
 use std::alloc::{AllocError, Global};
-use std::fmt;
-use std::fmt::Write;
 use std::process::Abort;
 
 /// Two automata for a regex.
@@ -48,7 +45,7 @@ impl Pair {
             Pair::Of(entry) | Pair::Mixed(_, entry) => {
                 entry.reverse(rt.alloc()).expect(rt, "an entry")
             }
-            Pair::Barren(_) => barren(rt),
+            Pair::Barren(_) => BARREN.build(rt),
             Pair::Planned(_, plan) => plan.build(rt),
         }
     }
@@ -69,117 +66,65 @@ impl Pair {
     }
 }
 
-/// One state, which fails.
-fn barren<R: Abort + AllocGlobal>(rt: &R) -> NFA {
-    let flags = Flags {
-        reverse: true,
-        ..Flags::default()
-    };
-    let starts = ids_of(rt, &[0]);
-    let states = vec![in rt.alloc(); State::Fail].expect(rt, "memory");
-    NFA::from_states(
-        rt.alloc(),
-        states,
-        StateID::ZERO,
-        StateID::ZERO,
-        starts,
-        flags,
-    )
-    .expect(rt, "an automaton")
-}
+/// One state, which leads nowhere.
+const BARREN: Plan = Plan {
+    states: &[Shape::Union],
+    starts: (0, 0),
+    patterns: &[0],
+};
 
 /// A call.
 #[derive(Clone, Copy)]
 pub enum Ask {
-    Find(&'static str),
-    FindEarliest(&'static str),
+    Find(&'static [u8]),
+    /// Searches from each of these places on, anchored or not.
+    Learn(&'static [u8], &'static [usize], Mode),
+    /// The same as `Find`, by `try_search`.
+    Search(&'static [u8]),
     /// Whether there is a match.
-    Is(&'static str),
-    /// The first four items of an iteration.
-    Items(&'static str),
+    Is(&'static [u8]),
+    /// The first eight items of an iteration.
+    Items(&'static [u8]),
+    /// The first eight tokens from a place on.
+    Tokens(&'static [u8], usize),
     /// A search by a part of the cache that is lent for writing.
-    Forward(&'static str),
-    Reverse(&'static str),
-    /// A part of the cache is replaced by a new one.
+    Forward(&'static [u8]),
+    Reverse(&'static [u8]),
+    /// The cache, or a part of it, is replaced by a new one.
+    Replace,
+    ReplaceByNew,
     ReplaceForward,
     ReplaceReverse,
-    /// A part of the cache is reset.
+    /// It is reset.
+    Reset,
+    ResetByCache,
     ResetForward,
     ResetReverse,
-    Reset,
+    /// The same as `Reset`. Where that is refused, a search that is known is made again.
+    ResetOrFind(&'static [u8]),
     /// The memory of the cache, and of each part.
     Memory,
     /// How often each part was cleared, its memory, and the bytes searched.
     Counts,
     /// How many patterns there are.
     Patterns,
-    /// Takes all memory that is left.
-    Exhaust,
 }
 
-/// What a call tells.
-#[derive(Drop)]
-enum Told {
-    Word(&'static str),
-    Replied(Reply),
-    Items([Item; 4]),
-    Number(usize),
-    Memory(usize, usize, usize),
-    Counts(Counts),
-}
+/// A row of calls over a regex and its cache.
+pub type Row = RowOf<Pair, Ask>;
 
-/// An item of an iteration, if it hasn't ended.
-pub type Item = Option<Result<Match, SearchError>>;
-
-/// The pattern and the span of a token, or why none comes, if the tokens haven't ended.
-pub type TokenItem = Option<Result<(PatternID, Span), TokenError>>;
-
-/// What is counted of each part of a cache: clears, memory, and bytes searched.
-pub type Counts = [(usize, usize, usize); 2];
-
-impl Told {
-    fn of_growth(grown: Result<(), AllocError>) -> Told {
-        Told::Word(if grown.is_ok() { "-" } else { "out of memory" })
-    }
-}
-
-impl fmt::Display for Told {
-    fn fmt<W: fmt::Write>(&self, f: &mut fmt::Formatter<W>) -> fmt::Result {
-        match self {
-            Told::Word(word) => write!(f, "{word}"),
-            Told::Replied(reply) => write!(f, "{}", Line(reply)),
-            Told::Items(items) => write_items(f, items),
-            Told::Number(number) => write!(f, "{number}"),
-            Told::Memory(both, forward, reverse) => write!(f, "{both} {forward} {reverse}"),
-            Told::Counts([forward, reverse]) => write!(f, "{forward:?} {reverse:?}"),
-        }
-    }
-}
-
-fn write_items<W: fmt::Write>(f: &mut fmt::Formatter<W>, items: &[Item; 4]) -> fmt::Result {
-    let mut before = "";
-    for item in items {
-        write_item(f, before, *item)?;
-        before = "; ";
-    }
-    Ok(())
-}
-
-fn next_token(tokens: &mut Tokens<'_, '_, '_>) -> TokenItem
+fn next_token(tokens: &mut Tokens<'_, '_, '_>, haystack: &[u8]) -> TokenItem
     ensures same_cache { tokens.new.cache.ghost_name ≡ tokens.old.cache.ghost_name }
     ensures regex { tokens.new.regex.now ≡ tokens.old.regex.now }
 {
     match tokens.next() {
-        Some(Ok(token)) => Some(Ok((token.pattern(), token.span()))),
+        Some(Ok(token)) => {
+            let span = token.span();
+            let is_right = haystack.get(span.start..span.end) == Some(token.bytes());
+            Some(Ok((token.pattern(), span, is_right)))
+        }
         Some(Err(error)) => Some(Err(error)),
         None => None,
-    }
-}
-
-fn write_item<W: fmt::Write>(f: &mut fmt::Formatter<W>, before: &str, item: Item) -> fmt::Result {
-    match item {
-        Some(item) => write!(f, "{before}{}", Line(&Reply::Span(item.map(Some)))),
-        None => write!(f, "{before}-"),
     }
 }
 
@@ -197,40 +142,74 @@ impl RegexBench {
         RegexBench { regex, cache }
     }
 
-    /// Writes what the calls tell.
-    pub fn tell_all<R: Abort + AllocGlobal>(&mut self, rt: &R, asks: &[Ask], text: &mut String) {
-        for ask in asks {
-            if !text.is_empty() {
-                text.push_str(", ").expect(rt, "memory");
-            }
-            let told = self.answer(rt.alloc(), *ask);
-            write!(text, "{told}").expect(rt, "memory");
+    /// The same, if the regex isn't refused.
+    pub fn built<R: Abort>(
+        rt: &R,
+        regex: Result<Regex, BuildError>,
+    ) -> Result<RegexBench, BuildError> {
+        match regex {
+            Ok(regex) => Ok(RegexBench::new(rt, regex)),
+            Err(error) => Err(error),
         }
     }
 
-    fn answer(&mut self, alloc: Global, ask: Ask) -> Told {
+    fn call(&mut self, ask: Ask) -> Told {
         match ask {
-            Ask::Find(haystack) => self.find(&Input::new(haystack.as_bytes())),
-            Ask::FindEarliest(haystack) => {
-                self.find(&Input::new(haystack.as_bytes()).earliest(true))
-            }
-            Ask::Is(haystack) => self.is_match(&Input::new(haystack.as_bytes())),
-            Ask::Items(haystack) => self.items(Input::new(haystack.as_bytes())),
-            Ask::Forward(haystack) => self.forward(&Input::new(haystack.as_bytes())),
-            Ask::Reverse(haystack) => self.reverse(&Input::new(haystack.as_bytes())),
+            Ask::Find(haystack) => self.find(&Input::new(haystack)),
+            Ask::Learn(haystack, places, mode) => self.learn(haystack, places, mode),
+            Ask::Search(haystack) => Told::Found(Reply::Span(self.search(&Input::new(haystack)))),
+            Ask::Is(haystack) => Told::Found(Reply::Truth(self.holds(&Input::new(haystack)))),
+            Ask::Items(haystack) => Told::Items(self.first_items(Input::new(haystack))),
+            Ask::Tokens(haystack, start) => Told::Tokens(self.first_tokens(haystack, start)),
+            Ask::Forward(haystack) => self.forward(&Input::new(haystack)),
+            Ask::Reverse(haystack) => self.reverse(&Input::new(haystack)),
+            Ask::Memory => self.memory(),
+            Ask::Counts => Told::Parts(self.counts()),
+            Ask::Patterns => Told::Number("", self.regex.pattern_len(), ""),
+            _ => self.renew(ask),
+        }
+    }
+
+    /// A call that makes a cache or a part of it as new.
+    fn renew(&mut self, ask: Ask) -> Told {
+        match ask {
+            Ask::Replace => self.replace(),
+            Ask::ReplaceByNew => Told::of_growth(self.replace_by_new()),
             Ask::ReplaceForward => Told::of_growth(self.replace_forward()),
             Ask::ReplaceReverse => Told::of_growth(self.replace_reverse()),
+            Ask::ResetByCache => Told::of_growth(self.cache.reset(&self.regex)),
             Ask::ResetForward => Told::of_growth(self.reset_forward()),
             Ask::ResetReverse => Told::of_growth(self.reset_reverse()),
-            Ask::Reset => Told::of_growth(self.reset()),
-            Ask::Memory => self.memory(),
-            Ask::Counts => Told::Counts(self.counts()),
-            Ask::Patterns => Told::Number(self.regex.pattern_len()),
-            Ask::Exhaust => {
-                exhaust(alloc);
-                Told::Word("-")
-            }
+            Ask::ResetOrFind(haystack) => self.reset_or_find(haystack),
+            _ => Told::of_growth(self.reset()),
         }
+    }
+
+    fn learn(&mut self, haystack: &[u8], places: &[usize], mode: Mode) -> Told {
+        for place in places {
+            let _ = self.search(&from(haystack, *place).anchored(mode.anchored()));
+        }
+        Told::Word("-")
+    }
+
+    fn reset_or_find(&mut self, haystack: &[u8]) -> Told {
+        let before = self.counts();
+        if self.reset().is_ok() {
+            return Told::Word("-");
+        }
+        if self.counts() != before {
+            return Told::Word("a refusal that changed a part");
+        }
+        let is_forward = self.regex.forward().create_cache().is_err();
+        let found = self.regex.find(&mut self.cache, &Input::new(haystack));
+        Told::Kept(
+            Reply::Span(found),
+            if is_forward {
+                "; memory"
+            } else {
+                "; reverse memory"
+            },
+        )
     }
 
     pub fn search(&mut self, input: &Input<'_>) -> Result<Option<Match>, SearchError> {
@@ -244,11 +223,17 @@ impl RegexBench {
     /// The first eight items of an iteration.
     pub fn first_items(&mut self, input: Input<'_>) -> [Item; 8] {
         let mut items = self.regex.find_iter(&mut self.cache, input);
+        let (first, second, third, fourth) = (
+            items.next(),
+            items.next(),
+            items.next(),
+            items.next(),
+        );
         [
-            items.next(),
-            items.next(),
-            items.next(),
-            items.next(),
+            first,
+            second,
+            third,
+            fourth,
             items.next(),
             items.next(),
             items.next(),
@@ -256,18 +241,18 @@ impl RegexBench {
         ]
     }
 
-    /// The first eight tokens.
-    pub fn first_tokens(&mut self, input: Input<'_>) -> [TokenItem; 8] {
-        let mut tokens = self.regex.tokens(&mut self.cache, input);
+    /// The first eight tokens from a place on.
+    fn first_tokens(&mut self, haystack: &[u8], start: usize) -> [TokenItem; 8] {
+        let mut tokens = self.regex.tokens(&mut self.cache, from(haystack, start));
         [
-            next_token(&mut tokens),
-            next_token(&mut tokens),
-            next_token(&mut tokens),
-            next_token(&mut tokens),
-            next_token(&mut tokens),
-            next_token(&mut tokens),
-            next_token(&mut tokens),
-            next_token(&mut tokens),
+            next_token(&mut tokens, haystack),
+            next_token(&mut tokens, haystack),
+            next_token(&mut tokens, haystack),
+            next_token(&mut tokens, haystack),
+            next_token(&mut tokens, haystack),
+            next_token(&mut tokens, haystack),
+            next_token(&mut tokens, haystack),
+            next_token(&mut tokens, haystack),
         ]
     }
 
@@ -276,28 +261,36 @@ impl RegexBench {
     }
 
     fn find(&mut self, input: &Input<'_>) -> Told {
-        Told::Replied(Reply::Span(self.regex.find(&mut self.cache, input)))
-    }
-
-    fn is_match(&mut self, input: &Input<'_>) -> Told {
-        Told::Replied(Reply::Truth(self.holds(input)))
-    }
-
-    fn items(&mut self, input: Input<'_>) -> Told {
-        let mut items = self.regex.find_iter(&mut self.cache, input);
-        Told::Items([items.next(), items.next(), items.next(), items.next()])
+        Told::Found(Reply::Span(self.regex.find(&mut self.cache, input)))
     }
 
     fn forward(&mut self, input: &Input<'_>) -> Told {
         let dfa = self.regex.forward();
         let found = dfa.try_search_fwd(self.cache.forward_mut(), input);
-        Told::Replied(Reply::Half(found))
+        Told::of_half(found)
     }
 
     fn reverse(&mut self, input: &Input<'_>) -> Told {
         let dfa = self.regex.reverse();
         let found = dfa.try_search_rev(self.cache.reverse_mut(), input);
-        Told::Replied(Reply::Half(found))
+        Told::of_half(found)
+    }
+
+    /// Where the forward part can be made, it is the reverse one that is refused.
+    fn replace(&mut self) -> Told {
+        match self.regex.create_cache() {
+            Ok(cache) => self.cache = cache,
+            Err(_) if self.regex.forward().create_cache().is_ok() => return Told::Word(
+                "reverse memory",
+            ),
+            Err(_) => return Told::Refused(BuildError::OutOfMemory),
+        }
+        Told::Word("-")
+    }
+
+    fn replace_by_new(&mut self) -> Result<(), AllocError> {
+        self.cache = Cache::new(&self.regex)?;
+        Ok(())
     }
 
     fn replace_forward(&mut self) -> Result<(), AllocError> {
@@ -334,11 +327,8 @@ impl RegexBench {
 
     fn memory(&self) -> Told {
         let (forward, reverse) = self.cache.as_parts();
-        Told::Memory(
-            self.cache.memory_usage(),
-            forward.memory_usage(),
-            reverse.memory_usage(),
-        )
+        let (forward, reverse) = (forward.memory_usage(), reverse.memory_usage());
+        Told::Memory(self.cache.memory_usage(), forward, reverse)
     }
 
     pub fn counts(&self) -> Counts {
@@ -356,4 +346,46 @@ impl RegexBench {
             ),
         ]
     }
+}
+
+impl Caller for RegexBench {
+    type Of = Pair;
+
+    type Call = Ask;
+
+    fn make<R: Abort + AllocGlobal>(
+        rt: &R,
+        of: Pair,
+        options: &str,
+    ) -> Result<RegexBench, BuildError> {
+        RegexBench::built(rt, of.build(rt, options))
+    }
+
+    fn answer(&mut self, _alloc: Global, ask: Ask) -> Told {
+        let before = self.counts();
+        let told = self.call(ask);
+        if told.is_refusal() && self.counts() != before {
+            return Told::Word("a refusal that changed a part");
+        }
+        told
+    }
+}
+
+impl InTurns for RegexBench {
+    type Of = Pair;
+
+    type Call = Ask;
+
+    fn take_turn<R: Abort + AllocGlobal>(rt: &R, row: &Short<Pair, Ask>, turns: &mut Turns) {
+        call_short::<RegexBench, R>(rt, row, turns);
+    }
+}
+
+/// A haystack from a place on.
+fn from<'h>(haystack: &'h [u8], start: usize) -> Input<'h> {
+    let input = Input::new(haystack);
+    if !input.allows(start, haystack.len()) {
+        return input;
+    }
+    input.range(start..haystack.len())
 }

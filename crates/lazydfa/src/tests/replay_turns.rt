@@ -1,8 +1,8 @@
 //! A long script whose growths are refused in turn. Each test is a process of its own, so it may use up all memory for
 //! good.
 
-use super::memory::Turns;
 use super::regex_bench::Pair;
+use super::turns::Turns;
 use super::{check, same_of};
 use crate::catalogue::Entry;
 use crate::reply::Line;
@@ -153,28 +153,6 @@ impl History {
     }
 }
 
-/// What was refused in a turn.
-#[derive(Clone, Copy, PartialEq, Eq)]
-enum Refused {
-    /// The list of the replies.
-    Script,
-    /// The request in the middle alone.
-    Middle,
-    Others,
-    Nothing,
-}
-
-impl Refused {
-    /// A request was refused as well.
-    fn and(self, at: usize) -> Refused {
-        if self == Refused::Nothing && at == BEFORE.len() {
-            Refused::Middle
-        } else {
-            Refused::Others
-        }
-    }
-}
-
 /// The rows of a script with this one in its middle.
 fn rows_around(middle: Row) -> [Row; 32] {
     let mut rows = [middle; 32];
@@ -195,62 +173,67 @@ fn script_of<R: Abort + AllocGlobal>(rt: &R, rows: &[Row]) -> Script {
     Script::parse(rt.alloc(), text.as_bytes()).expect(rt, "a script")
 }
 
-/// Whether each reply is the one that is owed after those before, or want of memory. It marks the refused requests.
+/// Which requests were refused, each other reply being the one that is owed after those before.
 fn compare<R: Abort + AllocGlobal>(
     rt: &R,
     requests: &[Request<'_>],
     rows: &[Row; 32],
     replies: &[Reply],
-    marks: &mut [bool; 32],
-) -> Refused {
-    same_of(
-        rt,
-        &(requests.len(), replies.len()),
-        &(32, 32),
-        &"the replies",
-    );
+) -> [bool; 32] {
+    let sizes = (requests.len(), replies.len());
+    same_of(rt, &sizes, &(32, 32), &"the replies");
     let mut text = String::with_capacity(rt.alloc(), 1 << 10).expect(rt, "memory");
     let mut history = History::new();
-    let mut refused = Refused::Nothing;
+    let mut refused = [false; 32];
     for at in 0..32usize {
         if let (Some(request), Some(reply)) = (requests.get(at), replies.get(at)) {
             text.clear();
             write!(text, "{}", Line(reply)).expect(rt, "memory");
-            if history.hear(rt, request, rows[at], text.as_str()) {
-                marks[at] = true;
-                refused = refused.and(at);
-            }
+            refused[at] = history.hear(rt, request, rows[at], text.as_str());
         }
     }
     refused
 }
 
-/// One turn.
+/// One turn: which requests were refused, if the list of the replies wasn't.
 fn replay_short<R: Abort + AllocGlobal>(
     rt: &R,
     regexes: &[Regex],
     requests: &[Request<'_>],
     rows: &[Row; 32],
     turns: &mut Turns,
-    marks: &mut [bool; 32],
-) -> Refused {
+) -> Option<[bool; 32]> {
     turns.lend(rt);
     let replies = replay(rt.alloc(), regexes, requests);
     turns.release();
     match replies {
-        Ok(replies) => compare(rt, requests, rows, replies.as_slice(), marks),
-        Err(_) => Refused::Script,
+        Ok(replies) => Some(compare(rt, requests, rows, replies.as_slice())),
+        Err(_) => None,
     }
 }
 
-/// What was refused in the turns of a script: by the kinds of turns, and by its requests.
+/// What was refused in the turns of a script: the list of the replies, the request in the middle alone, and requests.
 #[derive(Clone, Copy)]
 struct Seen {
-    turns: [bool; 4],
+    script: bool,
+    alone: bool,
     requests: [bool; 32],
 }
 
 impl Seen {
+    /// Adds what one turn has refused, and tells how many requests these are.
+    fn add(&mut self, refused: &[bool; 32]) -> usize {
+        let mut count = 0usize;
+        for at in 0..32usize {
+            if refused[at] {
+                self.requests[at] = true;
+                count = count.saturating_add(1);
+            }
+        }
+        self.alone = self.alone || count == 1 && refused[BEFORE.len().min(31)];
+        count
+    }
+
     /// Whether the list of the replies was refused, the request in the middle, and at least so many requests.
     fn has_refused(&self, least: usize) -> bool {
         let mut count = 0usize;
@@ -259,8 +242,7 @@ impl Seen {
                 count = count.saturating_add(1);
             }
         }
-        let middle = self.requests.get(BEFORE.len()).copied().unwrap_or(false);
-        self.turns[Refused::Script as usize] && middle && count >= least
+        self.script && self.requests[BEFORE.len().min(31)] && count >= least
     }
 }
 
@@ -274,15 +256,16 @@ fn refuse_in_turn<R: Abort + AllocGlobal>(
     step: usize,
 ) -> Seen {
     let mut seen = Seen {
-        turns: [false; 4],
+        script: false,
+        alone: false,
         requests: [false; 32],
     };
     for turn in 1..4096usize {
         turns.lend_from(step.saturating_mul(turn));
-        let refused = replay_short(rt, regexes, requests, rows, turns, &mut seen.requests);
-        seen.turns[refused as usize] = true;
-        if refused == Refused::Nothing {
-            return seen;
+        match replay_short(rt, regexes, requests, rows, turns) {
+            Some(refused) if seen.add(&refused) == 0 => return seen,
+            Some(_) => {}
+            None => seen.script = true,
         }
     }
     check(rt, false);
@@ -315,7 +298,7 @@ fn refuse_each<R: Abort + AllocGlobal>(rt: &R, options: &str, step: usize, least
     for middle in NEEDS.iter().copied() {
         let seen = refuse_around(rt, &regexes, middle, &mut turns, step);
         same_of(rt, &seen.has_refused(least), &true, &middle.0);
-        if seen.turns[Refused::Middle as usize] {
+        if seen.alone {
             alone = alone.saturating_add(1);
         }
     }

@@ -1,14 +1,14 @@
 //! Spans beside those of the listed paths: from where the selected path starts to where it ends.
 
-use super::paths::{CHARACTERS, Pieces, answer, spell};
-use super::regex_bench::{Item, Pair, RegexBench};
+use super::paths::{CHARACTERS, EMPTY, LITERALS, LOOKS, MODES, REPEATED, Row, answer, haystacks};
+use super::regex_bench::{Pair, RegexBench};
 use super::same_of;
+use super::told::Item;
 use crate::catalogue::Entry;
 use regex_automata::hybrid::dfa::Config;
 use regex_automata::hybrid::regex::Regex;
 use regex_automata::nfa::thompson::NFA;
-use regex_automata::util::primitives::PatternID;
-use regex_automata::util::search::{Anchored, Input, Match, MatchKind, Span};
+use regex_automata::util::search::{Input, Match, MatchKind, Span};
 use std::process::Abort;
 
 /// The span of the selected path, from a place on.
@@ -77,9 +77,6 @@ fn has_path<R: Abort + AllocGlobal>(rt: &R, nfa: &NFA, kind: MatchKind, input: &
     answer(rt, nfa, kind, &whole).is_some()
 }
 
-/// An entry, pieces to make haystacks of, and how many bytes these have at most.
-type Row = (Entry, Pieces, usize);
-
 /// What is compared: an entry's regex of one kind, with caches of the least capacity and of an ample one.
 #[derive(Drop)]
 struct Listed {
@@ -90,45 +87,22 @@ struct Listed {
     want: Vec<Match>,
 }
 
-/// Anchored or not, and the nearest end or not.
-pub const MODES: [(Anchored, bool); 5] = [
-    (Anchored::No, false),
-    (Anchored::No, true),
-    (Anchored::Yes, false),
-    (Anchored::Yes, true),
-    (Anchored::Pattern(PatternID::ZERO), false),
-];
-
 impl Listed {
-    /// All haystacks of up to six of the first two pieces, and of up to four of all three.
-    fn compare_all<R: Abort + AllocGlobal>(&mut self, rt: &R, (pieces, most): (Pieces, usize)) {
-        for (choices, lengths) in [(2usize, 7usize), (3, 5)] {
-            let mut count = 1usize;
-            for length in 0..lengths {
-                for number in 0..count {
-                    let haystack = spell(rt, number, length, &pieces[..choices]);
-                    if haystack.len() <= most {
-                        self.compare_haystack(rt, haystack.as_slice());
-                    }
-                }
-                count = count.saturating_mul(choices);
-            }
+    /// Every span of each haystack, and the whole of it in each mode. Of a short one every span is compared in each mode.
+    fn compare_all<R: Abort + AllocGlobal>(&mut self, rt: &R, haystacks: &[Vec<u8>]) {
+        for haystack in haystacks {
+            self.compare_haystack(rt, haystack.as_slice());
         }
     }
 
-    /// Every span of a haystack, and the whole of it in each other mode. Of a short one every span is compared in each
-    /// mode.
     fn compare_haystack<R: Abort + AllocGlobal>(&mut self, rt: &R, haystack: &[u8]) {
         for end in 0..haystack.len() + 1 {
             for start in 0..end + 1 {
                 let is_full = haystack.len() < 6 || start == 0 && end == haystack.len();
                 let modes = if is_full { MODES.len() } else { 1 };
                 for (mode, earliest) in MODES.iter().copied().take(modes) {
-                    let input = Input::new(haystack)
-                        .range(start..end)
-                        .anchored(mode)
-                        .earliest(earliest);
-                    self.compare(rt, &input);
+                    let input = Input::new(haystack).range(start..end);
+                    self.compare(rt, &input.anchored(mode).earliest(earliest));
                 }
             }
         }
@@ -203,54 +177,32 @@ fn bench<R: Abort + AllocGlobal>(rt: &R, entry: Entry, config: Config) -> RegexB
 fn agree<R: Abort + AllocGlobal>(rt: &R, rows: &[Row]) {
     for row in rows {
         let (entry, pieces, most) = *row;
+        let haystacks = haystacks(rt, pieces, most);
         for kind in [MatchKind::LeftmostFirst, MatchKind::All] {
-            prepare(rt, entry, kind).compare_all(rt, (pieces, most));
+            compare_kind(rt, entry, kind, haystacks.as_slice());
         }
     }
 }
 
-/// The pieces of the first two are long, so that some haystacks have a match.
-#[rattlefmt::skip]
-const LITERALS: &[Row] = &[
-    (Entry::Date, [b"0000-00-0", b"0", b"-"], 12),
-    (Entry::A16, [b"aaaaaaaaaaaaaaa", b"a", b"x"], 18),
-    (Entry::Ab, [b"a", b"b", b"x"], 8),
-    (Entry::Aa, [b"a", b"b", b"x"], 8),
-    (Entry::Date, [b"0", b"-", b"x"], 8),
-    (Entry::A16, [b"a", b"b", b"x"], 8),
-];
+fn compare_kind<R: Abort + AllocGlobal>(
+    rt: &R,
+    entry: Entry,
+    kind: MatchKind,
+    haystacks: &[Vec<u8>],
+) {
+    let mut listed = prepare(rt, entry, kind);
+    listed.compare_all(rt, haystacks);
+}
 
+/// Long pieces, so that some haystacks have a match.
 #[rattlefmt::skip]
-const EMPTY: &[Row] = &[
-    (Entry::Always, [b"a", b"b", b"x"], 8),
-    (Entry::Never, [b"a", b"b", b"x"], 8),
-    (Entry::Empty, [b"a", b"\x98", b"\xE2"], 8),
-    (Entry::Any, [b"a", b"\x98", b"\xE2"], 8),
-];
-
-#[rattlefmt::skip]
-const REPEATED: &[Row] = &[
-    (Entry::Abc, [b"a", b"b", b"c"], 8),
-    (Entry::Runs, [b"a", b"1", b" "], 8),
-    (Entry::Words, [b"a", b"!", b" "], 8),
-];
-
-#[rattlefmt::skip]
-const LOOKS: &[Row] = &[
-    (Entry::Bnum, [b"1", b"a", b" "], 8),
-    (Entry::Bound, [b"a", b" ", b"_"], 8),
-    (Entry::Wordend, [b"a", b" ", b"_"], 8),
-    (Entry::Crlf, [b"\r", b"\n", b"a"], 8),
-];
-
-#[rattlefmt::skip]
-const SPLIT: &[Row] = &[
-    (Entry::Snow, [b"a", b"\x98", b" "], 8),
-    (Entry::Snowx, [b"x", b"\x98", b" "], 8),
+const LONG: &[Row] = &[
+    (Entry::Date, [b"0000-00-0", b"0", b"-"], 12), (Entry::A16, [b"aaaaaaaaaaaaaaa", b"a", b"x"], 18),
 ];
 
 #[test]
 fn literals_span_their_paths(rt: HostRuntime) {
+    agree(&rt, LONG);
     agree(&rt, LITERALS);
 }
 
@@ -267,8 +219,5 @@ fn repetitions_and_looks_span_their_paths(rt: HostRuntime) {
 
 #[test]
 fn characters_span_their_paths(rt: HostRuntime) {
-    agree(&rt, SPLIT);
-    for (entry, pieces) in CHARACTERS {
-        agree(&rt, &[(*entry, *pieces, 8)]);
-    }
+    agree(&rt, CHARACTERS);
 }

@@ -7,7 +7,7 @@ use regex_automata::util::primitives::PatternID;
 use std::process::Abort;
 
 /// What the row shows, the NFA states, the patterns, the looks needed, and the bytes.
-type Row = (
+pub type Row = (
     &'static str,
     &'static [u8],
     &'static [u8],
@@ -16,16 +16,23 @@ type Row = (
 );
 
 #[rattlefmt::skip]
+pub const THREE: Row = (
+    "three states and two patterns", &[3, 4, 1], &[0, 1], 0,
+        &[3, 0, 0, 0, 0, 0, 0, 0, 0, 2, 0, 0, 0, 0, 0, 0, 0, 1, 0, 0, 0, 6, 2, 5],
+);
+
+#[rattlefmt::skip]
 const CODED: &[Row] = &[
     ("pattern 0 alone", &[], &[0], 0, &[1, 0, 0, 0, 0, 0, 0, 0, 0]),
     ("one state", &[1], &[], 0, &[0, 0, 0, 0, 0, 0, 0, 0, 0, 2]),
+    THREE,
     ("two patterns, and states that fall", &[3, 4, 1, 2, 6], &[0, 1], 0,
         &[3, 0, 0, 0, 0, 0, 0, 0, 0, 2, 0, 0, 0, 0, 0, 0, 0, 1, 0, 0, 0, 6, 2, 5, 2, 8]),
     ("a Unicode word boundary is needed", &[0, 6], &[], 1 << 8, &[0, 0, 0, 0, 0, 0, 1, 0, 0, 0, 12]),
 ];
 
 /// The parts of a row, no look known and no flag set.
-fn parts_of<R: Abort + AllocGlobal>(rt: &R, row: Row) -> Parts {
+pub fn parts_of<R: Abort + AllocGlobal>(rt: &R, row: Row) -> Parts {
     Parts {
         nfa: ids_of(rt, row.1),
         patterns: patterns_of(rt, row.2),

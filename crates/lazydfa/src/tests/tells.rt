@@ -2,12 +2,14 @@
 
 use super::bench::{Bench, Call};
 use super::plans::{Plan, Shape, chain};
+use super::told::Told;
 use super::{automata, clears, dfa, exits, same_text, steps};
 use crate::catalogue::Entry;
 use crate::script::Script;
 use regex_automata::hybrid::BuildError;
 use regex_automata::hybrid::dfa::{Config, DFA};
 use regex_automata::nfa::thompson::NFA;
+use std::alloc::Global;
 use std::fmt::Write;
 use std::process::Abort;
 
@@ -34,83 +36,110 @@ impl Automaton {
     }
 }
 
-/// What the row shows, the automaton, its options as a script has them, the calls, and what they
-/// tell, or why the automaton is refused.
-pub type Row = (
-    &'static str,
-    Automaton,
-    &'static str,
-    &'static [Call],
-    &'static str,
-);
+/// What the row shows, what is called, its options as a script has them, the calls, and what they tell, or why what is
+/// called is refused.
+pub type RowOf<O, C> = (&'static str, O, &'static str, &'static [C], &'static str);
+
+/// A row of calls over an automaton and a cache.
+pub type Row = RowOf<Automaton, Call>;
+
+/// What is called, with a cache of its own.
+pub trait Caller: Drop {
+    /// What it is made of.
+    type Of: Copy;
+
+    type Call: Copy;
+
+    /// Before any call.
+    fn make<R: Abort + AllocGlobal>(
+        rt: &R,
+        of: Self::Of,
+        options: &str,
+    ) -> Result<Self, BuildError>;
+
+    /// Makes a call. Where a refused one has to leave the cache as it was and doesn't, it says so.
+    fn answer(&mut self, alloc: Global, call: Self::Call) -> Told;
+}
 
 #[test]
 fn searches_tell_their_rows(rt: HostRuntime) {
-    tells_all(&rt, dfa::SEARCHED);
-    tells_all(&rt, dfa::SEARCHED_BACK);
-    tells_all(&rt, exits::FORWARD);
-    tells_all(&rt, exits::REVERSE);
-    tells_all(&rt, automata::SEARCHED);
+    tells_all::<Bench, _>(&rt, dfa::SEARCHED);
+    tells_all::<Bench, _>(&rt, dfa::SEARCHED_BACK);
+    tells_all::<Bench, _>(&rt, exits::FORWARD);
+    tells_all::<Bench, _>(&rt, exits::REVERSE);
+    tells_all::<Bench, _>(&rt, automata::SEARCHED);
 }
 
 #[test]
 fn settings_tell_their_rows(rt: HostRuntime) {
-    tells_all(&rt, dfa::SETTLED);
-    tells_all(&rt, dfa::REFUSED);
+    tells_all::<Bench, _>(&rt, dfa::SETTLED);
+    tells_all::<Bench, _>(&rt, dfa::REFUSED);
 }
 
 #[test]
 fn steps_tell_their_rows(rt: HostRuntime) {
-    tells_all(&rt, steps::STEPPED);
-    tells_all(&rt, steps::WALKED);
-    tells_all(&rt, steps::STARTED);
+    tells_all::<Bench, _>(&rt, steps::STEPPED);
+    tells_all::<Bench, _>(&rt, steps::WALKED);
+    tells_all::<Bench, _>(&rt, steps::STARTED);
 }
 
 #[test]
 fn clears_tell_their_rows(rt: HostRuntime) {
-    tells_all(&rt, clears::COUNTS);
-    tells_all(&rt, clears::STARTS);
+    tells_all::<Bench, _>(&rt, clears::COUNTS);
+    tells_all::<Bench, _>(&rt, clears::STARTS);
 }
 
 /// Makes the calls of each row.
-fn tells_all<R: Abort + AllocGlobal>(rt: &R, rows: &[Row]) {
+pub fn tells_all<T: Caller, R: Abort + AllocGlobal>(rt: &R, rows: &[RowOf<T::Of, T::Call>]) {
     for row in rows {
-        tells(rt, *row);
+        tells::<T, R>(rt, row);
     }
 }
 
 /// Makes the calls of a row.
-pub fn tells<R: Abort + AllocGlobal>(rt: &R, row: Row) {
-    let (shows, automaton, options, calls, told) = row;
-    let text = told_by(rt, automaton, options, calls);
-    same_text(rt, text.as_str(), told, shows);
+fn tells<T: Caller, R: Abort + AllocGlobal>(rt: &R, row: &RowOf<T::Of, T::Call>) {
+    let text = text_of(rt, T::make(rt, row.1, row.2), row.3);
+    same_text(rt, text.as_str(), row.4, row.0);
 }
 
-pub fn told_by<R: Abort + AllocGlobal>(
+/// What the calls tell, or why what is called is refused.
+pub fn text_of<T: Caller, R: Abort + AllocGlobal>(
     rt: &R,
-    automaton: Automaton,
-    options: &str,
-    calls: &[Call],
-) -> String {
-    text_of(rt, built(rt, automaton, options), calls)
-}
-
-/// What the calls tell, or why the automaton is refused.
-pub fn text_of<R: Abort + AllocGlobal>(
-    rt: &R,
-    dfa: Result<DFA, BuildError>,
-    calls: &[Call],
+    made: Result<T, BuildError>,
+    calls: &[T::Call],
 ) -> String {
     let mut text = String::with_capacity(rt.alloc(), 1 << 10).expect(rt, "memory");
-    match dfa {
-        Ok(dfa) => tell_into(rt, dfa, calls, &mut text),
+    match made {
+        Ok(caller) => tell_into(rt, caller, calls, &mut text),
         Err(error) => write!(text, "{error}").expect(rt, "memory"),
     }
     text
 }
 
-fn tell_into<R: Abort + AllocGlobal>(rt: &R, dfa: DFA, calls: &[Call], text: &mut String) {
-    Bench::new(rt, dfa).tell_all(rt, calls, text);
+fn tell_into<T: Caller, R: Abort + AllocGlobal>(
+    rt: &R,
+    caller: T,
+    calls: &[T::Call],
+    text: &mut String,
+) {
+    let mut caller = caller;
+    tell_calls(rt, &mut caller, calls, text);
+}
+
+/// Writes what the calls tell.
+pub fn tell_calls<T: Caller, R: Abort + AllocGlobal>(
+    rt: &R,
+    caller: &mut T,
+    calls: &[T::Call],
+    text: &mut String,
+) {
+    for call in calls {
+        if !text.is_empty() {
+            text.push_str(", ").expect(rt, "memory");
+        }
+        let told = caller.answer(rt.alloc(), *call);
+        write!(text, "{told}").expect(rt, "memory");
+    }
 }
 
 pub fn built<R: Abort + AllocGlobal>(

@@ -14,54 +14,39 @@ const UNSUPPORTED: &str =
 
 #[test]
 fn prints_refused_builds(rt: HostRuntime) {
+    let minimum = 1735;
     let capacity = BuildError::InsufficientCacheCapacity {
-        minimum: 1735,
+        minimum,
         given: 1734,
     };
-    let ids = BuildError::InsufficientStateIDCapacity {
-        attempted: 134217728,
-    };
+    let attempted = 134217728;
     let patterns = BuildError::PatternCounts {
         forward: 2,
         reverse: 1,
     };
-    for (error, text) in [
-        (BuildError::Unsupported, UNSUPPORTED),
-        (
-            capacity,
-            "given cache capacity (1734) is smaller than minimum required (1735)",
-        ),
-        (
-            ids,
-            "failed to create LazyStateID from 134217728, which exceeds 134217727",
-        ),
-        (BuildError::OutOfMemory, "out of memory"),
-        (patterns, "forward DFA has 2 patterns and reverse DFA has 1"),
-    ] {
-        prints(&rt, &error, text);
-    }
+    let too_small = "given cache capacity (1734) is smaller than minimum required (1735)";
+    let too_many = "failed to create LazyStateID from 134217728, which exceeds 134217727";
+    prints(&rt, &BuildError::Unsupported, UNSUPPORTED);
+    prints(&rt, &capacity, too_small);
+    prints(
+        &rt,
+        &BuildError::InsufficientStateIDCapacity { attempted },
+        too_many,
+    );
+    prints(&rt, &BuildError::OutOfMemory, "out of memory");
+    prints(
+        &rt,
+        &patterns,
+        "forward DFA has 2 patterns and reverse DFA has 1",
+    );
 }
 
 /// The byte of a quit start, as its text shows it.
+#[rattlefmt::skip]
 const SHOWN: &[(u8, &str)] = &[
-    (0x20, "' '"),
-    (0x09, "\\t"),
-    (0x0A, "\\n"),
-    (0x0D, "\\r"),
-    (0x27, "\\'"),
-    (0x22, "\\\""),
-    (0x5C, "\\\\"),
-    (0x41, "A"),
-    (0x21, "!"),
-    (0x7E, "~"),
-    (0x7F, "\\x7F"),
-    (0x00, "\\x00"),
-    (0x0B, "\\x0B"),
-    (0x1B, "\\x1B"),
-    (0x80, "\\x80"),
-    (0xB2, "\\xB2"),
-    (0xCE, "\\xCE"),
-    (0xFF, "\\xFF"),
+    (0x20, "' '"), (0x09, "\\t"), (0x0A, "\\n"), (0x0D, "\\r"), (0x27, "\\'"), (0x22, "\\\""), (0x5C, "\\\\"),
+    (0x41, "A"), (0x21, "!"), (0x7E, "~"), (0x7F, "\\x7F"), (0x00, "\\x00"), (0x0B, "\\x0B"), (0x1B, "\\x1B"),
+    (0x80, "\\x80"), (0xB2, "\\xB2"), (0xCE, "\\xCE"), (0xFF, "\\xFF"),
 ];
 
 #[test]

@@ -1,5 +1,5 @@
 //! The matches of an input, one after another, as a list.
-ghost use Rattle.std.specs.Prelude.{◌≡◌, ◌⊎◌, [], IfSome, Some};
+ghost use Rattle.std.specs.Prelude.{◌≡◌, ◌⊎◌, [], IfSome, None, Some};
 ghost use Rattle.automata_base.specs.Tapes.{Forward};
 ghost use Rattle.automata_hybrid.specs.Caches.{IsCacheOf};
 ghost use Rattle.automata_hybrid.specs.Owing.{IsMemory, IsUnsupported, unsupported_error};
@@ -7,6 +7,7 @@ ghost use Rattle.regex_automata.specs.Iterating.{AreCollected};
 ghost use Rattle.regex_automata.specs.Outcomes.{FindsMatch};
 ghost use Rattle.regex_automata.specs.Owing.{AreMatchesUpto, IsRefusedBehind};
 ghost use Rattle.regex_automata.specs.RegexCaches.{AreCachesOf};
+ghost use Rattle.regex_automata.specs.ReplayCaches.{AreSearched};
 
 use crate::hybrid::regex::{Cache, Regex};
 use automata_base::laws::{start_is_right, told_is_right};
@@ -24,6 +25,7 @@ pub fn matches_upto(
     requires { AreCachesOf cache.old regex.now }
     ensures of { AreCachesOf cache.new regex.now }
     ensures owed { AreMatchesUpto regex.now input.entry result.0.items result.1 }
+    ensures made { AreSearched regex.now cache.old cache.new input.entry None result.0.items result.1 }
 {
     told_is_right(regex.forward().get_nfa());
     told_is_right(regex.reverse().get_nfa());
@@ -49,6 +51,7 @@ fn take_matches(
         e) }
     ensures unsupported { IsUnsupported Forward regex.now.forward input.entry
         → (result.0.items ≡ []) × (result.1 ≡ Some (unsupported_error input.entry)) }
+    ensures made { AreSearched regex.now cache.old cache.new input.entry None result.0.items result.1 }
 {
     let mut found = Vec::new(alloc);
     for item in regex.find_iter(cache, input) {

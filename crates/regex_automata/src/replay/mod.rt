@@ -2,6 +2,7 @@
 ghost use Rattle.std.specs.Prelude.{[], IfOk};
 ghost use Rattle.regex_automata.specs.Histories.{start};
 ghost use Rattle.regex_automata.specs.Replies.{AreReplies, TellWalks};
+ghost use Rattle.regex_automata.specs.ReplayCaches.{AreAnswered, AreAnsweredAfter};
 ghost use Rattle.regex_automata.specs.Players.{HasPlayed};
 
 mod iteration;
@@ -33,6 +34,10 @@ pub fn replay(
 
     // The Ok replies to the steps of a walk are, in order, the pairs of its list, and then none.
     ensures walks { IfOk result (λ replies. TellWalks regexes.now script.now replies.items) }
+
+    // One cache serves them all, fresh at first and after an Ok reset; a refusal is of the cache as the request before
+    // left it.
+    ensures made { IfOk result (λ replies. AreAnswered regexes.now script.now replies.items) }
 {
     match regexes.first() {
         Some(regex) => answer_all(alloc, Player::new(alloc, regexes, regex)?, script),
@@ -47,7 +52,9 @@ fn answer_all<'h>(
     script: &[Request<'h>],
 ) -> Result<Vec<Reply>, AllocError>
     requires { HasPlayed start player }
-    ensures { IfOk result (λ replies. AreReplies player.entry.regexes.now script.now replies.items) }
+    ensures owed { IfOk result (λ replies. AreReplies player.entry.regexes.now script.now replies.items) }
+    ensures made { IfOk result (λ replies. AreAnsweredAfter player.entry.regexes.now start player.entry.cache script.now
+        replies.items) }
 {
     let mut replies = Vec::new(alloc);
     for request in script {

@@ -3,6 +3,7 @@ ghost use Rattle.std.specs.Prelude.{◌≡◌, IfOk};
 ghost use Rattle.automata_base.specs.PatternSet.{members};
 ghost use Rattle.automata_hybrid.specs.Caches.{IsCacheOf};
 ghost use Rattle.regex_automata.specs.Owing.{ArePatternsUpto};
+ghost use Rattle.regex_automata.specs.ReplayCaches.{ArePatternsSearched};
 
 use crate::hybrid::dfa;
 use crate::hybrid::dfa::DFA;
@@ -23,6 +24,7 @@ pub fn patterns_below(
     requires { IsCacheOf cache.old dfa.now }
     ensures of { IsCacheOf cache.new dfa.now }
     ensures owed { ArePatternsUpto dfa.now input.now capacity result.0.items result.1 }
+    ensures made { ArePatternsSearched dfa.now input.now capacity cache.old cache.new result.0.items result.1 }
 {
     let Ok(mut set) = PatternSet::new(alloc, capacity) else {
         return (Vec::new(alloc), Some(SearchError::OutOfMemory));

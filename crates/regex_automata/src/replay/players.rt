@@ -2,7 +2,8 @@
 ghost use Rattle.std.specs.Prelude.{◌≡◌, IfOk, Some};
 ghost use Rattle.automata_base.specs.Lists.{nth};
 ghost use Rattle.regex_automata.specs.Histories.{History, start};
-ghost use Rattle.regex_automata.specs.Players.{AreFreshAfter, HasPlayed, IsReplyTo, StandsAfter};
+ghost use Rattle.regex_automata.specs.Players.{HasPlayed, IsReplyTo, MakesCaches, StandsAfter};
+ghost use Rattle.regex_automata.specs.RegexCaches.{AreFresh};
 ghost use Rattle.regex_automata.specs.declared.replay.requests.Request.TheVariants as request;
 
 use crate::hybrid::dfa::OverlappingState;
@@ -39,6 +40,7 @@ impl<'r, 'h> Player<'r, 'h> {
         requires { nth regexes.now 0 ≡ Some regex.now }
         ensures at { IfOk result (HasPlayed start) }
         ensures regexes { IfOk result (λ player. player.regexes.now ≡ regexes.now) }
+        ensures fresh { IfOk result (λ player. AreFresh regex.now player.cache) }
     {
         let cache = regex.create_cache()?;
         Ok(Player {
@@ -57,7 +59,7 @@ impl<'r, 'h> Player<'r, 'h> {
         ensures regexes { self.new.regexes.now ≡ self.old.regexes.now }
         ensures reply { IsReplyTo self.old request.now result }
         ensures at { StandsAfter self.old request.now result self.new }
-        ensures fresh { AreFreshAfter result self.new }
+        ensures made { MakesCaches self.old request.now result self.new }
     {
         let regex = self.regex;
         match request {
@@ -103,7 +105,7 @@ impl<'r, 'h> Player<'r, 'h> {
         ensures regexes { self.new.regexes.now ≡ self.old.regexes.now }
         ensures reply { IsReplyTo self.old (request.BeginWalk reverse input.now) result }
         ensures at { StandsAfter self.old (request.BeginWalk reverse input.now) result self.new }
-        ensures fresh { AreFreshAfter result self.new }
+        ensures made { MakesCaches self.old (request.BeginWalk reverse input.now) result self.new }
     {
         let number = self.walks.len();
         let walk = KeptWalk {
@@ -124,7 +126,7 @@ impl<'r, 'h> Player<'r, 'h> {
         ensures regexes { self.new.regexes.now ≡ self.old.regexes.now }
         ensures reply { IsReplyTo self.old (request.StepWalk number) result }
         ensures at { StandsAfter self.old (request.StepWalk number) result self.new }
-        ensures fresh { AreFreshAfter result self.new }
+        ensures made { MakesCaches self.old (request.StepWalk number) result self.new }
     {
         let of = match self.walks.get(number) {
             Some(walk) => walk.regex,
@@ -144,7 +146,7 @@ impl<'r, 'h> Player<'r, 'h> {
         ensures regexes { self.new.regexes.now ≡ self.old.regexes.now }
         ensures reply { IsReplyTo self.old (request.Reset number) result }
         ensures at { StandsAfter self.old (request.Reset number) result self.new }
-        ensures fresh { AreFreshAfter result self.new }
+        ensures made { MakesCaches self.old (request.Reset number) result self.new }
     {
         let regexes = self.regexes;
         match regexes.get(number) {

@@ -1,6 +1,7 @@
 //! The tokens of an input, one behind another, as a list.
 ghost use Rattle.automata_hybrid.specs.Caches.{IsCacheOf};
 ghost use Rattle.regex_automata.specs.RegexCaches.{AreCachesOf};
+ghost use Rattle.regex_automata.specs.ReplayCaches.{AreTokensSearched};
 ghost use Rattle.regex_automata.specs.Tokens.{AreGiven, AreTokensUpto};
 
 use crate::hybrid::regex::{Cache, Regex};
@@ -19,6 +20,8 @@ pub fn tokens_upto(
     requires { AreCachesOf cache.old regex.now }
     ensures of { AreCachesOf cache.new regex.now }
     ensures owed { AreTokensUpto regex.now.forward input.entry result.0.items result.1 }
+    ensures made { AreTokensSearched regex.now.forward input.entry.haystack input.entry.end input.entry.start
+        cache.old cache.new result.0.items result.1 }
 {
     let _haystack = input.haystack();
     take_tokens(alloc, regex, cache, input)
@@ -36,6 +39,8 @@ fn take_tokens(
     ensures reverse { IsCacheOf cache.new.reverse regex.now.reverse }
     ensures given { AreGiven regex.now.forward input.entry.haystack input.entry.end input.entry.start
         result.0.items result.1 }
+    ensures made { AreTokensSearched regex.now.forward input.entry.haystack input.entry.end input.entry.start
+        cache.old cache.new result.0.items result.1 }
 {
     let mut found = Vec::new(alloc);
     for item in regex.tokens(cache, input) {

@@ -1,10 +1,12 @@
 //! The walks that a script began.
-ghost use Rattle.std.specs.Prelude.{ℕ, ◌<◌, length};
+ghost use Rattle.std.specs.Prelude.{ℕ, ◌≡◌, ◌<◌, length};
 ghost use Rattle.automata_base.specs.Tapes.{Forward, Backward};
 ghost use Rattle.automata_hybrid.specs.Caches.{IsCacheOf};
 ghost use Rattle.regex_automata.specs.RegexCaches.{AreCachesOf};
 ghost use Rattle.regex_automata.specs.Replies.{dfa_of, direction_of};
 ghost use Rattle.regex_automata.specs.Players.{GoesAt, HasAnswered, HasAnsweredBy, IsCall, IsKept};
+ghost use Rattle.regex_automata.specs.Players.{MakesCall, MakesStepAt};
+ghost use Rattle.regex_automata.specs.ReplayCaches.{other_of, own_of};
 ghost use Rattle.regex_automata.specs.declared.replay.walks.KeptWalk.{KeptWalk};
 
 use crate::hybrid::dfa;
@@ -33,6 +35,7 @@ fn step_fwd(
     requires told { (k : ℕ) × HasAnswered Forward dfa.now input.now state.old k }
     ensures of { IsCacheOf cache.new dfa.now }
     ensures call { IsCall Forward dfa.now input.now state.old state.new result }
+    ensures made { MakesCall Forward dfa.now input.now state.old cache.old cache.new result }
 {
     match dfa.try_search_overlapping_fwd(cache, input, state) {
         Ok(()) => Ok(state.get_match()),
@@ -51,6 +54,7 @@ fn step_rev(
     requires told { (k : ℕ) × HasAnswered Backward dfa.now input.now state.old k }
     ensures of { IsCacheOf cache.new dfa.now }
     ensures call { IsCall Backward dfa.now input.now state.old state.new result }
+    ensures made { MakesCall Backward dfa.now input.now state.old cache.old cache.new result }
 {
     match dfa.try_search_overlapping_rev(cache, input, state) {
         Ok(()) => Ok(state.get_match()),
@@ -70,6 +74,9 @@ fn step(
     requires told { (k : ℕ) × HasAnswered (direction_of reverse) (dfa_of reverse regex.now) input.now state.old k }
     ensures of { AreCachesOf cache.new regex.now }
     ensures call { IsCall (direction_of reverse) (dfa_of reverse regex.now) input.now state.old state.new result }
+    ensures made { MakesCall (direction_of reverse) (dfa_of reverse regex.now) input.now state.old
+        (own_of reverse cache.old) (own_of reverse cache.new) result }
+    ensures same { other_of reverse cache.new ≡ other_of reverse cache.old }
 {
     if reverse {
         return step_rev(regex.reverse(), cache.reverse_mut(), input, state);
@@ -89,6 +96,7 @@ pub fn step_at(
     requires told { (old : KeptWalk) → IsKept walks.old number old → (k : ℕ) × HasAnsweredBy regex.now old k }
     ensures of { AreCachesOf cache.new regex.now }
     ensures goes { GoesAt regex.now number walks.old walks.new result }
+    ensures made { MakesStepAt regex.now number walks.old cache.old cache.new result }
 {
     let walk = &mut walks[number];
     step(walk.reverse, regex, cache, &walk.input, &mut walk.state)

@@ -1,14 +1,14 @@
 //! A builder of NFAs, state by state.
-use crate::nfa::thompson::building::{Added, BuildError, patch, push_states, told};
+use crate::nfa::thompson::building::{Added, BuildError, build_error, patch, push_states};
 use crate::nfa::thompson::{Flags, NFA, NfaError, Transition};
 use crate::util::look::Look;
 use crate::util::primitives::{PatternID, StateID};
 use std::alloc::Global;
 use std::marker::Model;
 
-/// A builder of an NFA: states are added one by one, and each call tells the number of its state, which the NFA keeps.
-/// Targets may be states that aren't there yet, and can be patched later. A match and a group are of the pattern that
-/// was begun last. A call that is refused changes nothing.
+/// A builder of an NFA. States are added one by one; each call returns the ID of its state, which the NFA keeps. A
+/// target may be a state that does not exist yet, and can be patched later. Matches and groups belong to the pattern
+/// that was started last. A call that returns an error changes nothing.
 #[derive(Drop)]
 pub struct Builder {
     alloc: Global,
@@ -33,7 +33,7 @@ impl Builder {
     ghost use Rattle.std.specs.Prelude.{◌≡◌, ◌⊎◌, ◌+◌, ◌*◌, ◌<◌, ◌≤◌, ◌∷◌, ◌++◌, [], List, ℕ, None, Some, length, set};
     ghost use Rattle.std.specs.Prelude.{IfOk, OnOk, OnErr, IsOk, IsOkUnless, slice_get};
     ghost use Rattle.automata_base.specs.declared.nfa.thompson.State.{State};
-    ghost use Rattle.automata_base.specs.Drafts.{blank, default_flags, with_states, with_flags, begun, finished};
+    ghost use Rattle.automata_base.specs.Drafts.{blank, default_flags, with_states, with_flags, started, finished};
     ghost use Rattle.automata_base.specs.Drafts.{prefix_of};
     ghost use Rattle.automata_base.specs.Drafts.{IsAdding, IsAddingOf, AreBuilt, outline, built};
     ghost use Rattle.automata_base.specs.Refusals.{door_refusal};
@@ -54,7 +54,7 @@ impl Builder {
         }
     }
 
-    /// Takes all states and patterns out. What the NFA says of itself stays.
+    /// Removes all states and patterns. The settings stay.
     pub fn clear(&mut self)
         ensures { self.new ≡ blank self.old.flags }
     {
@@ -63,13 +63,14 @@ impl Builder {
         self.starts.clear();
     }
 
-    /// Begins a pattern, and tells its number. Matches and groups are its own until it is finished.
+    /// Starts a pattern, and returns its ID. Matches and groups belong to it until it is finished.
     pub fn start_pattern(&mut self) -> Result<PatternID, BuildError>
-        ensures number { IfOk result (λ p. p ≡ length self.old.starts) }
-        ensures begun { OnOk result (self.new ≡ begun self.old) }
+        ensures id { IfOk result (λ p. p ≡ length self.old.starts) }
+        ensures started { OnOk result (self.new ≡ started self.old) }
         ensures same { OnErr result (self.new ≡ self.old) }
         ensures unfinished { (p : ℕ) → self.old.pattern ≡ Some p → result ≡ Err BuildError.UnfinishedPattern }
-        ensures large { self.old.pattern ≡ None → 2147483646 < length self.old.starts → result ≡ Err BuildError.TooLarge }
+        ensures large { self.old.pattern ≡ None → 2147483646 < length self.old.starts
+            → result ≡ Err BuildError.TooLarge }
         ensures few { self.old.pattern ≡ None → length self.old.starts ≤ 2147483646 → IsOk result }
     {
         if self.pattern.is_some() {
@@ -82,9 +83,9 @@ impl Builder {
         Ok(pattern)
     }
 
-    /// Finishes the pattern that was begun, whose searches start at this state, and tells its number.
+    /// Finishes the pattern that was started, whose searches start at this state, and returns its ID.
     pub fn finish_pattern(&mut self, start_id: StateID) -> Result<PatternID, BuildError>
-        ensures number { IfOk result (λ p. self.old.pattern ≡ Some p) }
+        ensures id { IfOk result (λ p. self.old.pattern ≡ Some p) }
         ensures finished { OnOk result (self.new ≡ finished self.old start_id) }
         ensures same { OnErr result (self.new ≡ self.old) }
         ensures none { self.old.pattern ≡ None → result ≡ Err BuildError.NoPattern }
@@ -114,7 +115,7 @@ impl Builder {
         }
     }
 
-    /// Adds a state that goes on without reading, to state 0 until it is patched. It is built as a union of one.
+    /// Adds a state with one epsilon edge, to state 0 until it is patched. It is built as a union of one alternate.
     pub fn add_empty(&mut self) -> Result<StateID, BuildError>
         ensures { IsAdding self.old self.new result (EmptyShape 0 ∷ []) }
     {
@@ -123,28 +124,28 @@ impl Builder {
         })
     }
 
-    /// Adds a union, the first alternate preferred. A patch adds an alternate behind the others.
+    /// Adds a union whose first alternate is preferred. A patch adds an alternate after the others.
     pub fn add_union(&mut self, alternates: Vec<StateID>) -> Result<StateID, BuildError>
         ensures { IsAdding self.old self.new result (UnionShape alternates.items ∷ []) }
     {
         self.add(Added::Union { alternates })
     }
 
-    /// Adds a union in reverse: the last alternate is preferred, one that is patched to it later before all others.
+    /// Adds a union whose last alternate is preferred. A patch adds an alternate that is preferred to the others.
     pub fn add_union_reverse(&mut self, alternates: Vec<StateID>) -> Result<StateID, BuildError>
         ensures { IsAdding self.old self.new result (UnionReverseShape alternates.items ∷ []) }
     {
         self.add(Added::UnionReverse { alternates })
     }
 
-    /// Adds a state that reads one byte of a range.
+    /// Adds a state that reads one byte in a range.
     pub fn add_range(&mut self, trans: Transition) -> Result<StateID, BuildError>
         ensures { IsAdding self.old self.new result (RangeShape trans.lo trans.hi trans.next ∷ []) }
     {
         self.add(Added::Range(trans))
     }
 
-    /// Adds a state that reads one byte by the range that has it. It can't be patched.
+    /// Adds a state that reads one byte by the range that contains it. It cannot be patched.
     pub fn add_sparse(&mut self, ranges: Vec<Transition>) -> Result<StateID, BuildError>
         ensures { IsAdding self.old self.new result (SparseShape ranges.items ∷ []) }
     {
@@ -165,7 +166,7 @@ impl Builder {
         self.add(Added::Fail)
     }
 
-    /// Adds a match of the pattern that was begun.
+    /// Adds a match state of the pattern that was started.
     pub fn add_match(&mut self) -> Result<StateID, BuildError>
         ensures { IsAddingOf self.old self.new result (λ p. MatchShape p) }
     {
@@ -194,7 +195,7 @@ impl Builder {
         }
     }
 
-    /// Adds the start of a group of the pattern that was begun. Its slot is twice the group's index.
+    /// Adds the start of a group of the pattern that was started. Its slot is twice the group's index.
     pub fn add_capture_start(
         &mut self,
         next: StateID,
@@ -210,7 +211,7 @@ impl Builder {
         self.add_capture(next, group_index, 2 * group_index)
     }
 
-    /// Adds the end of a group of the pattern that was begun. Its slot is that behind the start's.
+    /// Adds the end of a group of the pattern that was started. Its slot is the one after the start's.
     pub fn add_capture_end(
         &mut self,
         next: StateID,
@@ -226,8 +227,8 @@ impl Builder {
         self.add_capture(next, group_index, 2 * group_index + 1)
     }
 
-    /// Adds an edge from a union to a state, or lets what has one target lead there instead. A fail or match state
-    /// stays as it is.
+    /// Adds an alternate to a union, or changes the target of a state that has one. Fail and match states stay as they
+    /// are.
     pub fn patch(&mut self, from: StateID, to: StateID) -> Result<(), BuildError>
         ensures patched { OnOk result ((old shape : Shape) → slice_get self.old.states from ≡ Some old
             → patched old to ≡ Some shape → self.new ≡ with_states self.old (set self.old.states from shape)) }
@@ -244,7 +245,7 @@ impl Builder {
         patch(&mut self.states[from.as_usize()], to)
     }
 
-    /// Whether the NFA leaves empty matches out that split a character.
+    /// Whether the NFA omits empty matches that split a UTF-8 encoded character.
     pub fn set_utf8(&mut self, yes: bool)
         ensures { self.new ≡ with_flags self.old (record {
           utf8 = yes;
@@ -277,9 +278,9 @@ impl Builder {
         self.flags.line_terminator = byte;
     }
 
-    /// Adds a lazy loop over any bytes before a start, and tells its number: an unanchored search from there finds
-    /// what begins anywhere. It is two states, a union that prefers the start, and a state that reads any byte. Where
-    /// nothing before it leads to it, an NFA that starts there skips lazily.
+    /// Adds a lazy loop over any bytes before a start, and returns its ID: an unanchored search that starts there finds
+    /// matches at any offset. The loop has two states, a union that prefers the start, and a state that reads any byte.
+    /// If no earlier state leads to it, an NFA that starts there skips lazily.
     pub fn add_unanchored_prefix(&mut self, start: StateID) -> Result<StateID, BuildError>
         ensures { IsAdding self.old self.new result (prefix_of self.old start) }
     {
@@ -302,8 +303,8 @@ impl Builder {
         Ok(union)
     }
 
-    /// The NFA of these states, in which searches start at the anchored or the unanchored start. It is refused while a
-    /// pattern is not finished, and where `NFA::from_states` refuses it. The builder stays as it is.
+    /// Builds the NFA of these states, in which searches start at the anchored or the unanchored start. It fails while
+    /// a pattern is not finished, and where `NFA::from_states` fails.
     pub fn build(
         &self,
         start_anchored: StateID,
@@ -340,7 +341,7 @@ impl Builder {
         );
         match nfa {
             Ok(nfa) => Ok(nfa),
-            Err(error) => Err(told(error)),
+            Err(error) => Err(build_error(error)),
         }
     }
 }

@@ -1,6 +1,7 @@
-//! The states that a builder has, and what it makes of them.
-ghost use Rattle.std.specs.Prelude.{◌≡◌, ◌++◌, ◌∷◌, [], List, ℕ, None, Some, map, reverse, IfOk, OnOk, OnErr, IsOkUnless};
-ghost use Rattle.automata_base.specs.Drafts.{told};
+//! The states that a builder keeps, and what it builds of them.
+ghost use Rattle.std.specs.Prelude.{◌≡◌, ◌++◌, ◌∷◌, [], List, ℕ, None, Some, map, reverse};
+ghost use Rattle.std.specs.Prelude.{IfOk, OnOk, OnErr, IsOkUnless};
+ghost use Rattle.automata_base.specs.Drafts.{build_error};
 ghost use Rattle.automata_base.specs.Shapes.{Shape, shape_of, shape_added, built_of, patched, union_of};
 
 use crate::nfa::thompson::{NfaError, State, Transition};
@@ -9,25 +10,25 @@ use crate::util::primitives::{PatternID, StateID};
 use std::alloc::{AllocError, Global};
 use thiserror::Error;
 
-/// Why a builder refuses a call. It is then as it was before the call.
+/// Why a call on a builder fails. The builder is then as it was before the call.
 #[derive(Clone, Copy, Debug, PartialEq, Eq, Error)]
 pub enum BuildError {
-    /// No pattern was begun, or the last one was finished.
-    #[error("no pattern was begun")]
+    /// No pattern was started, or the last one was finished.
+    #[error("no pattern was started")]
     NoPattern,
-    /// The pattern that was begun is not finished.
-    #[error("a pattern was begun and not finished")]
+    /// The pattern that was started is not finished.
+    #[error("a pattern was started and not finished")]
     UnfinishedPattern,
-    /// The state that is to be patched isn't there.
-    #[error("a state that is to be patched is out of range")]
+    /// The state to be patched does not exist.
+    #[error("the state to be patched is out of range")]
     StateRange,
-    /// A sparse state takes no patch.
-    #[error("a sparse state takes no patch")]
+    /// A sparse state cannot be patched.
+    #[error("a sparse state cannot be patched")]
     SparsePatch,
-    /// There are too many states or patterns for their numbers, or the index of a group is too great.
+    /// There are too many states or patterns for their IDs, or the index of a group is too large.
     #[error("too many states, patterns or groups")]
     TooLarge,
-    /// The NFA is refused.
+    /// `NFA::from_states` refuses the NFA.
     #[error("{0}")]
     NFA(NfaError),
     /// An allocation failed.
@@ -35,9 +36,9 @@ pub enum BuildError {
     OutOfMemory,
 }
 
-/// The error of the test of an NFA, as a builder tells it.
-pub fn told(error: NfaError) -> BuildError
-    ensures { result ≡ told error }
+/// What a builder returns for an error of `NFA::from_states`.
+pub fn build_error(error: NfaError) -> BuildError
+    ensures { result ≡ build_error error }
 {
     match error {
         NfaError::OutOfMemory => BuildError::OutOfMemory,
@@ -49,7 +50,7 @@ pub fn told(error: NfaError) -> BuildError
     }
 }
 
-/// A state as it was added. Its targets may be states that are added later.
+/// A state as it was added and patched.
 #[derive(Debug, Drop)]
 pub enum Added {
     Empty {
@@ -64,7 +65,7 @@ pub enum Added {
     Union {
         alternates: Vec<StateID>,
     },
-    /// The alternates in reverse, the last of them preferred.
+    /// The last alternate is preferred.
     UnionReverse {
         alternates: Vec<StateID>,
     },
@@ -126,7 +127,7 @@ fn union(alternates: Vec<StateID>) -> State
     }
 }
 
-// A union with the last alternate preferred.
+// The union whose last alternate is preferred.
 fn union_reverse(alloc: Global, alternates: &[StateID]) -> Result<State, AllocError>
     ensures { IfOk result (λ state. shape_of state ≡ union_of (reverse alternates.now)) }
 {
@@ -135,7 +136,7 @@ fn union_reverse(alloc: Global, alternates: &[StateID]) -> Result<State, AllocEr
     Ok(union(reversed))
 }
 
-// A state of an NFA for one that was added.
+// The state of an NFA for one that was added.
 fn build_state(alloc: Global, added: &Added) -> Result<State, AllocError>
     ensures { IfOk result (λ state. shape_of state ≡ built_of (shape_added added.now)) }
 {

@@ -1,5 +1,6 @@
-//! Whether a look leads back to itself at one place.
-ghost use Rattle.std.specs.Prelude.{◌≡◌, ◌<◌, ◌≤◌, ◌^◌, ◌↔◌, ◌++◌, ℕ, [], Some, true, length, option_to_list, IfOk, IsTrue};
+//! Whether epsilon edges lead from a look back to itself.
+ghost use Rattle.std.specs.Prelude.{◌≡◌, ◌<◌, ◌≤◌, ◌^◌, ◌↔◌, ◌++◌, ℕ, [], Some, true, length};
+ghost use Rattle.std.specs.Prelude.{option_to_list, IfOk, IsTrue};
 ghost use Rattle.automata_base.specs.Finishing.{IsWholeOrder};
 ghost use Rattle.automata_base.specs.Lists.{In};
 ghost use Rattle.automata_base.specs.Reach.{AreLooksAcyclic, IsReached, look_target, node_in, targets_of};
@@ -13,8 +14,8 @@ use crate::util::determinize::sparse_set::SparseSet;
 use crate::util::primitives::StateID;
 use std::alloc::{AllocError, Global};
 
-// Adds what edges that read nothing lead to from the look of this number, and tells whether it is then a member. The
-// members lead to members alone.
+// Adds the states that epsilon edges reach from this look, and returns whether the look is then a member. It asks that
+// members lead to members only.
 fn reaches_look(set: &mut SparseSet, states: &[State], q: StateID) -> bool
     requires few { length states.now ≤ 2 ^ 27 }
     requires range { states_below (length states.now) states.now ≡ true }
@@ -37,8 +38,8 @@ fn reaches_look(set: &mut SparseSet, states: &[State], q: StateID) -> bool
     set.contains(q)
 }
 
-// Whether no look leads back to itself. One walk goes on from look to look in a finishing order, so the first look
-// that it comes back to is one that leads back to itself.
+// Whether no look leads back to itself. One walk continues from look to look in a finishing order, so the first look
+// that it returns to leads back to itself.
 fn are_acyclic_in(set: &mut SparseSet, states: &[State], order: &[StateID]) -> bool
     requires few { length states.now ≤ 2 ^ 27 }
     requires range { states_below (length states.now) states.now ≡ true }
@@ -55,8 +56,8 @@ fn are_acyclic_in(set: &mut SparseSet, states: &[State], order: &[StateID]) -> b
     true
 }
 
-/// Whether no edges that read nothing lead from a look back to it: by a depth-first search over such edges and a
-/// second walk over them, in time linear in states and such edges.
+/// Whether no epsilon edges lead from a look back to it: by a depth-first search over these edges and a second walk
+/// over them, in time linear in states and epsilon edges.
 pub fn are_looks_acyclic(alloc: Global, states: &[State]) -> Result<bool, AllocError>
     requires few { length states.now ≤ 2 ^ 27 }
     requires range { states_below (length states.now) states.now ≡ true }

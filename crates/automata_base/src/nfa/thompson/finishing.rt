@@ -1,4 +1,4 @@
-//! The order in which a depth-first search over edges that read nothing is done with states.
+//! The order in which a depth-first search over epsilon edges finishes states.
 ghost use Rattle.std.specs.Prelude.{◌≡◌, ◌+◌, ◌-◌, ◌*◌, ◌<◌, ◌≤◌, ◌^◌, ℕ, [], ◌∷◌, ◌++◌, true, length, reverse, take};
 ghost use Rattle.std.specs.Prelude.{Some, None, IfOk, OnOk, vec_len};
 ghost use Rattle.automata_base.specs.Finishing.{IsUnderSearch, IsWholeOrder};
@@ -16,7 +16,7 @@ use crate::util::determinize::sparse_set::SparseSet;
 use crate::util::primitives::StateID;
 use std::alloc::{AllocError, Global};
 
-/// A state that the search is in, and the first of its edges that it has not followed.
+/// A state on the stack of the search, and the first of its edges that was not followed.
 #[derive(Clone, Copy, Debug)]
 pub struct Frame {
     /// The state.
@@ -32,7 +32,7 @@ struct Edge {
     target: StateID,
 }
 
-// The first edge, from this one on, that leads to a state that was not visited.
+// The first edge, from this one on, that leads to an unvisited state.
 fn next_edge(visited: &SparseSet, state: &State, from: usize) -> Option<Edge>
     requires range { state_below visited.now.capacity state.now ≡ true }
     requires followed { (r : ℕ) → In r (take from (children_at (node_of state.now) all_true)) → In r visited.now.items }
@@ -66,7 +66,7 @@ fn mark(visited: &mut SparseSet, id: StateID)
     let _ = visited.as_slice();
 }
 
-// Follows one more edge from the state on top, or is done with it.
+// Follows one more edge from the state on top, or finishes it.
 fn step(
     states: &[State],
     frame: Frame,
@@ -104,7 +104,7 @@ fn step(
     Ok(())
 }
 
-// Searches from this state, unless it was visited.
+// Searches from this state, unless it is visited.
 fn search_from(
     states: &[State],
     root: StateID,
@@ -159,8 +159,8 @@ fn search_all(
     Ok(())
 }
 
-/// Each state once, in the order in which one depth-first search is done with them: a state that leads to a later one
-/// is on a cycle. It takes time linear in states and edges that read nothing.
+/// Each state once, in the order in which one depth-first search finishes them: a state that leads to a later one is on
+/// a cycle. It takes time linear in states and epsilon edges.
 pub fn finishing_order(alloc: Global, states: &[State]) -> Result<SparseSet, AllocError>
     requires few { length states.now ≤ 2 ^ 27 }
     requires range { states_below (length states.now) states.now ≡ true }

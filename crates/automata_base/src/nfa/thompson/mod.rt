@@ -248,8 +248,8 @@ impl NFA {
     /// An NFA of these states. Searches start at the anchored or the unanchored start, and those for pattern k at
     /// `start_pattern[k]`, so there are as many patterns as such starts. The tests are made in this order, each of the
     /// whole list: its size, the starts, the states that edges lead to, the order of ranges, the patterns. The first
-    /// that fails refuses it. A refusal hands neither list back. It takes time linear in the states, their edges and the
-    /// starts, a dense state having 256 edges.
+    /// that fails refuses it. A refusal hands neither list back. It takes time linear in the states, their edges and
+    /// the starts, a dense state having 256 edges.
     pub fn from_states(
         alloc: Global,
         states: Vec<State>,

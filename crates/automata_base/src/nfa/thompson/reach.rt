@@ -144,8 +144,8 @@ pub fn member(set: &SparseSet, at: usize) -> Option<StateID>
     Some(items[at])
 }
 
-/// Adds what the edges lead to from the members. Where the first `done` of them lead to members alone, as a walk that
-/// ended leaves them, they are not walked over again.
+/// Adds the states that the edges reach from the members. The first `done` of them lead to members only, as after a
+/// walk that ended, and are not visited again.
 pub fn walk_on(set: &mut SparseSet, states: &[State], edges: Edges, done: usize)
     requires few { length states.now ≤ 2 ^ 27 }
     requires range { states_below (length states.now) states.now ≡ true }

@@ -91,7 +91,7 @@ pub fn look_target(state: &State) -> Option<StateID>
     }
 }
 
-/// Where the edge of this number leads, of those that read nothing, looks taken as true.
+/// Where the epsilon edge of this number leads, looks taken as true.
 pub fn epsilon_target(state: &State, edge: usize) -> Option<StateID>
     ensures same { result ≡ nth (children_at (node_of state.now) all_true) edge }
     ensures few { result ≡ None ⊎ edge < 2 ^ 63 }

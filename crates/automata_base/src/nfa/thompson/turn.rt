@@ -1,12 +1,12 @@
 //! The edges of an NFA by their targets, as a reversed NFA needs them.
 ghost use Rattle.std.specs.Prelude.{ℕ, Some, ◌≡◌, ◌<◌, ◌≤◌, ◌+◌, ◌^◌, [], ◌∷◌, ◌++◌, true, IfOk, OnOk, Err, length};
 ghost use Rattle.std.specs.Prelude.{drop, None, slice_index_or, vec_len};
-ghost use Rattle.automata_base.specs.Lists.{all_below};
+ghost use Rattle.automata_base.specs.Lists.{all_below, nth};
 ghost use Rattle.automata_base.specs.Mirrors.{flip};
 ghost use Rattle.automata_base.specs.Refusals.{transitions_below, state_below, states_below};
 ghost use Rattle.automata_base.specs.Runs.{starts_with, run_of, runs_from};
 ghost use Rattle.automata_base.specs.Turns.{lists_of, turns_of, push_at, no_lists, turn_free, turn_by, turn_all};
-ghost use Rattle.automata_base.specs.Turns.{turn_ranges, turn_state, turn_states, states_of, unions_of, size};
+ghost use Rattle.automata_base.specs.Turns.{turn_ranges, turn_state, turn_states, size, IsHead, AreMade};
 
 use crate::nfa::thompson::{State, Transition};
 use crate::util::look::Look;
@@ -53,6 +53,55 @@ fn push_at(lists: &mut Vec<Vec<StateID>>, at: usize, id: StateID) -> Result<(), 
 {
     lists[at].push(id)?;
     Ok(())
+}
+
+// A state again, if it has no list.
+fn same(state: &State) -> Option<State>
+    ensures { (other : State) → result ≡ Some other → other ≡ state.now }
+{
+    match state {
+        State::ByteRange { lo, hi, next } => Some(State::ByteRange {
+            lo: *lo,
+            hi: *hi,
+            next: *next,
+        }),
+        State::Look { look, next } => Some(State::Look {
+            look: *look,
+            next: *next,
+        }),
+        State::Match { pattern } => Some(State::Match { pattern: *pattern }),
+        State::Sparse(_) => None,
+        State::Dense(_) => None,
+        State::Union { .. } => None,
+        State::BinaryUnion { .. } => None,
+        State::Capture { .. } => None,
+        State::Fail => None,
+    }
+}
+
+// The helper that is the only alternate.
+fn only_helper(alternates: &[StateID], helpers: &[State], first: usize) -> Option<State>
+    ensures { (state : State) → result ≡ Some state
+        → (j : ℕ) × (alternates.now ≡ (first + j) ∷ []) × (nth helpers.now j ≡ Some state) }
+{
+    if alternates.len() != 1 || alternates[0].as_usize() < first {
+        return None;
+    }
+    let at = alternates[0].as_usize() - first;
+    if at >= helpers.len() {
+        return None;
+    }
+    same(&helpers[at])
+}
+
+// The state of these alternates: their union, or the helper itself if it is the only one.
+fn head(alternates: Vec<StateID>, helpers: &[State], first: usize) -> State
+    ensures { IsHead first helpers.now alternates.items result }
+{
+    match only_helper(&alternates, helpers, first) {
+        Some(state) => state,
+        None => State::Union { alternates },
+    }
 }
 
 // Whether the byte after this one leads where this one does.
@@ -323,14 +372,15 @@ impl EdgesByTarget {
         self.turn_by(helper, first)
     }
 
-    /// The states: a union for each list of alternates, and after these the helpers.
+    /// The states: one for each list of alternates, and after these the helpers.
     pub fn into_states(self, alloc: Global) -> Result<Vec<State>, AllocError>
-        ensures { IfOk result (λ states. states.items ≡ states_of self) }
+        ensures { IfOk result (λ states. AreMade (turns_of self) states.items) }
     {
         let EdgesByTarget { lists, mut helpers } = self;
+        let first = lists.len();
         let mut states = Vec::new(alloc);
         for alternates in lists {
-            states.push(State::Union { alternates })?;
+            states.push(head(alternates, &helpers, first))?;
         }
         states.append(&mut helpers)?;
         Ok(states)

@@ -1,14 +1,15 @@
 use Rattle.std.proofs.Common.{List, subst, ◌∙◌}
 use Rattle.regex_automata.specs.declared.hybrid.regex.Regex.{Regex}
 use Rattle.regex_automata.specs.Histories.{after}
+use Rattle.regex_automata.specs.ReplayCaches.{AreMade}
 use Rattle.regex_automata.specs.Replies.{IsReply}
-use Rattle.regex_automata.proofs.Folding.{completes_turn, completes_end}
+use Rattle.regex_automata.proofs.Folding.{completes_turn, completes_end, continues_turn, continues_end}
 use Rattle.regex_automata.proofs.replay.answer_all.Goals as goal
 
 pub loop-request-preserved : goal.loop-request-preserved
 loop-request-preserved c =
     let inv = c.loop-request.invariant in
-    let (h, a, all) = inv.so_far in
+    let (h, a, all, made) = inv.so_far in
     let regexes = c.args.player.regexes.now in
     let q = c.request-item.result in
     let r = c.answer-reply.result in
@@ -20,10 +21,18 @@ loop-request-preserved c =
         completes_turn regexes c.args.script.now c.loop-request.replies.items c.push.new.self.items h c.loop-request.request-index q r
             c.loop-request-test.true c.request-item.is all
             (subst (λ (rs : List Regex). IsReply rs h q r) inv.regexes (c.answer-reply.ensures.reply h a)) c.in_ok-push.ensures.items,
+        continues_turn regexes c.args.script.now c.args.player.cache c.loop-request.replies.items c.push.new.self.items h c.loop-request.player.cache c.answer-reply.new.self.cache c.loop-request.request-index q r
+            c.loop-request-test.true c.request-item.is made
+            (subst (λ (rs : List Regex). AreMade rs h q r c.loop-request.player.cache c.answer-reply.new.self.cache) inv.regexes (c.answer-reply.ensures.made h a)) c.in_ok-push.ensures.items,
       );
     }
 
 pub returns : goal.returns
 returns c =
-    let (h, a, all) = c.loop-request.invariant.so_far in
-    completes_end c.args.player.regexes.now c.args.script.now c.loop-request.replies.items h c.loop-request.request-index c.loop-request-test.false all
+    let (h, a, all, made) = c.loop-request.invariant.so_far in
+    let regexes = c.args.player.regexes.now in
+    let i = c.loop-request.request-index in
+    record {
+      owed = completes_end regexes c.args.script.now c.loop-request.replies.items h i c.loop-request-test.false all;
+      made = continues_end regexes c.args.script.now c.args.player.cache c.loop-request.replies.items h c.loop-request.player.cache i c.loop-request-test.false made;
+    }

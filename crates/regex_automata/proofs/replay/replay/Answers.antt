@@ -8,7 +8,7 @@ use Rattle.regex_automata.proofs.replay.replay.Goals as goal
 pub returns-in_ok-new-in-Some-clause-walks : goal.returns-in_ok-new-in-Some-clause-walks
 returns-in_ok-new-in-Some-clause-walks c =
     all_tell c.args.regexes.now c.args.script.now (λ v. v.items) c.answer_all.result
-    (subst (λ (rs : List Regex). IfOk c.answer_all.result (λ v. AreReplies rs c.args.script.now v.items)) c.in_ok-new-in-Some.ensures.regexes c.answer_all.ensures)
+    (subst (λ (rs : List Regex). IfOk c.answer_all.result (λ v. AreReplies rs c.args.script.now v.items)) c.in_ok-new-in-Some.ensures.regexes c.answer_all.ensures.owed)
 
 pub returns-in-None-clause-walks : goal.returns-in-None-clause-walks
 returns-in-None-clause-walks c =

@@ -156,13 +156,13 @@ impl Builder {
 
     /// The regex of one NFA: it searches backward with the reversed NFA (`NFA::reversed`).
     ///
-    /// It tests what the promise of spans needs: that the NFA skips lazily (`NFA::skips_lazily`), that no cycle of edges
-    /// that read nothing passes a look (`NFA::is_look_acyclic`), and that in UTF-8 mode it keeps UTF-8
-    /// (`NFA::keeps_utf8`). So every regex that it answers is a sound pair: `find` and its iterator give the spans that
-    /// the ordered paths of the NFA define. `build_from_nfas` makes a regex without these tests.
+    /// It tests what the promise of spans needs: that the NFA skips lazily (`NFA::skips_lazily`), that no cycle of
+    /// edges that read nothing passes a look (`NFA::is_look_acyclic`), and that in UTF-8 mode it keeps UTF-8
+    /// (`NFA::keeps_utf8`). So every regex that it returns is a sound pair: `find` and its iterator give the spans
+    /// that the ordered paths of the NFA define. `build_from_nfas` makes a regex without these tests.
     ///
-    /// The tests are made in this order, and then the NFA is reversed and both lazy DFAs are built; the error is that of
-    /// the first that fails. It takes time and memory linear in the NFA and in what it is reversed to.
+    /// The tests are made in this order, and then the NFA is reversed and both lazy DFAs are built; the error is that
+    /// of the first that fails.
     pub fn build_from_nfa(&self, forward: NFA) -> Result<Regex, RegexBuildError>
         ensures built { IfOk result (λ regex. (reverse : Automaton)
             × IsReversed forward reverse × BuildsPair self.now forward reverse regex) }

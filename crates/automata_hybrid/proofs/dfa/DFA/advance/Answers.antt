@@ -38,7 +38,7 @@ loop-read-init c =
       idle = λ n told knows. refl;
       learned = λ nothing. units_none d c.args.self.now c.args.cache.now.store c.args.input.now c.args.units;
       silent = silent_same d c.args.self.now c.args.input.now c.args.units;
-      progress = λ s e. (given_up_offset d c.args.input.now c.args.units, (s, given_up_offset d c.args.input.now c.args.units, inl (refl, refl), e), λ less. absurd (omega (arith, less)));
+      progress = λ s e. (given_up_offset d c.args.input.now c.args.units, (s, given_up_offset d c.args.input.now c.args.units, inl (refl, refl, refl), e), λ less. absurd (omega (arith, less)));
       reads = λ less. absurd (omega (arith, less));
     }
 

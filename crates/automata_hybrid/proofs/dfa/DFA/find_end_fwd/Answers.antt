@@ -10,7 +10,7 @@ use Rattle.automata_hybrid.specs.Table.{Rows, Leads, Names}
 use Rattle.automata_hybrid.proofs.Passed.{last_answer, rest_read, rest_refused, stands_alive}
 use Rattle.automata_hybrid.proofs.Reading.{at_err, end_room}
 use Rattle.automata_hybrid.proofs.Searched.{ended_after, ended_by, moved_by}
-use Rattle.automata_hybrid.proofs.Searching.{step_refuses, stops_last, if_err}
+use Rattle.automata_hybrid.proofs.Searching.{unit_refuses, stops_last, if_err}
 use Rattle.automata_hybrid.proofs.Units.{forward_read, forward_end, forward_units}
 use Rattle.automata_hybrid.proofs.dfa.DFA.find_end_fwd.Goals as goal
 
@@ -52,8 +52,8 @@ returns-in_err-last-clause-refusal c =
     let end : c.end-end.result ≡ c.args.input.now.start + k = omega (arith, c.end-end.ensures.end, c.requires.at.undone) in
     let read : next (tape_in Forward c.args.input.now) k ≡ Some _ = forward_read c.args.input.now c.haystack-then-end-haystack.result.now c.args.input.now.end c.end-end.result c.requires.at.undone (omega arith) c.end-end.ensures.within.1 (let h : length c.haystack.result.now ≡ length c.args.input.now.haystack = ap (λ (x : List ℕ). length x) c.haystack.ensures.same in omega (arith, h, c.if-end-haystack.true, c.end-end.ensures.end)) c.haystack-then-end-haystack.ensures.same c.end-end.ensures.end in
     if_err c.from_residual.result _ _ c.from_residual.ensures.1
-    (step_refuses Forward c.args.self.now c.args.cache.now.store.table c.read.new.cache.store c.args.input.now k c.args.id c.end-end.result c.end-end.result _ c.args.found c.in_err-last.field-0.0
-    c.requires.at.at (let u : k ≡ length (tape_in Forward c.args.input.now).bytes = forward_units c.args.input.now c.requires.at.undone c.end-end.ensures.within.1 in omega (arith, u)) c.in_err-last.ensures.effect.alive read (sym end) (sym end) c.in_err-last.ensures.refusal c.requires.at.may.0)
+    (unit_refuses Forward c.args.self.now c.args.cache.now.store.table c.read.new.cache.store c.args.input.now k c.args.id c.end-end.result c.end-end.result _ c.args.found c.in_err-last.field-0.0
+    c.requires.at.at read (sym end) (sym end) c.in_err-last.ensures.refusal)
 
 pub returns-in_err-last-2-clause-refusal : goal.returns-in_err-last-2-clause-refusal
 returns-in_err-last-2-clause-refusal c =
@@ -61,9 +61,9 @@ returns-in_err-last-2-clause-refusal c =
     let end : c.end-end.result ≡ c.args.input.now.start + k = omega (arith, c.end-end.ensures.end, c.requires.at.undone) in
     let past : next (tape_in Forward c.args.input.now) k ≡ None = forward_end c.args.input.now c.requires.at.undone c.end-end.ensures.within.1 (let h : length c.haystack.result.now ≡ length c.args.input.now.haystack = ap (λ (x : List ℕ). length x) c.haystack.ensures.same in omega (arith, h, c.if-end-haystack.false, c.end-end.ensures.end)) in
     if_err c.from_residual-in_err-last-2.result _ _ c.from_residual-in_err-last-2.ensures.1
-    (step_refuses Forward c.args.self.now c.move_search.new.self.store.table c.read_end.new.cache.store c.args.input.now k c.args.id c.end-end.result c.end-end.result None c.args.found c.in_err-last-2.field-0.0
+    (unit_refuses Forward c.args.self.now c.move_search.new.self.store.table c.read_end.new.cache.store c.args.input.now k c.args.id c.end-end.result c.end-end.result None c.args.found c.in_err-last-2.field-0.0
     (subst (λ (t : Rows). IsAt Forward c.args.self.now t c.args.input.now k c.args.id c.args.found) (sym c.move_search.ensures.table) c.requires.at.at)
-    (let u : k ≡ length (tape_in Forward c.args.input.now).bytes = forward_units c.args.input.now c.requires.at.undone c.end-end.ensures.within.1 in omega (arith, u)) c.in_err-last-2.ensures.effect.alive past (sym end) (sym end) c.in_err-last-2.ensures.refusal c.requires.at.may.0)
+    past (sym end) (sym end) c.in_err-last-2.ensures.refusal)
 
 pub returns-in_err-last-clause-effect : goal.returns-in_err-last-clause-effect
 returns-in_err-last-clause-effect c =

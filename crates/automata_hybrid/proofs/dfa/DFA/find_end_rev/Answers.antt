@@ -5,7 +5,7 @@ use Rattle.automata_hybrid.specs.Passed.{IsRestEffect}
 use Rattle.automata_hybrid.specs.Searches.{unit_offset, tape_in}
 use Rattle.automata_hybrid.proofs.Passed.{last_answer, rest_read, rest_refused}
 use Rattle.automata_hybrid.proofs.Reading.{at_err}
-use Rattle.automata_hybrid.proofs.Searching.{step_refuses, stops_last, if_err}
+use Rattle.automata_hybrid.proofs.Searching.{unit_refuses, stops_last, if_err}
 use Rattle.automata_hybrid.proofs.Units.{backward_read, backward_end, backward_units}
 use Rattle.automata_hybrid.proofs.Backward.{end_place, end_unit_offset, end_given_up_offset}
 use Rattle.automata_hybrid.proofs.dfa.DFA.find_end_rev.Goals as goal
@@ -46,20 +46,20 @@ returns-in_err-last-clause-refusal c =
     let past : next (tape_in Backward c.args.input.now) k ≡ None = backward_end c.args.input.now c.requires.at.undone c.start-start.ensures.within.1 (omega (arith, c.start-start.ensures.start, c.if-start-eq0.true)) in
     let first : c.start-start.result - 1 ≡ c.start-start.result = omega (arith, c.if-start-eq0.true) in
     if_err c.from_residual.result _ _ c.from_residual.ensures.1
-    (step_refuses Backward c.args.self.now c.args.cache.now.store.table c.read_end.new.cache.store c.args.input.now k c.args.id c.start-start.result c.start-start.result None c.args.found c.in_err-last.field-0.0
-    c.requires.at.at (let u : k ≡ length (tape_in Backward c.args.input.now).bytes = backward_units c.args.input.now c.requires.at.undone c.start-start.ensures.within.1 in omega (arith, u)) c.in_err-last.ensures.effect.alive past
+    (unit_refuses Backward c.args.self.now c.args.cache.now.store.table c.read_end.new.cache.store c.args.input.now k c.args.id c.start-start.result c.start-start.result None c.args.found c.in_err-last.field-0.0
+    c.requires.at.at past
     (subst (λ (n : ℕ). unit_offset Backward c.args.input.now k ≡ n) first (end_unit_offset c.args.input.now c.start-start.result c.requires.at.undone c.start-start.ensures.start))
-    (end_given_up_offset c.args.input.now c.start-start.result c.requires.at.undone c.start-start.ensures.start) c.in_err-last.ensures.refusal c.requires.at.may.0)
+    (end_given_up_offset c.args.input.now c.start-start.result c.requires.at.undone c.start-start.ensures.start) c.in_err-last.ensures.refusal)
 
 pub returns-in_err-last-2-clause-refusal : goal.returns-in_err-last-2-clause-refusal
 returns-in_err-last-2-clause-refusal c =
     let k : ℕ = c.args.input.now.end - c.args.input.now.start in
     let read : next (tape_in Backward c.args.input.now) k ≡ Some _ = backward_read c.args.input.now c.haystack.result.now c.args.input.now.start (c.start-start.result - 1) (omega arith) c.requires.at.undone c.start-start.ensures.within.1 c.haystack.ensures.same (omega (arith, c.start-start.ensures.start, c.if-start-eq0.false)) in
     if_err c.from_residual-in_err-last-2.result _ _ c.from_residual-in_err-last-2.ensures.1
-    (step_refuses Backward c.args.self.now c.args.cache.now.store.table c.read_before.new.cache.store c.args.input.now k c.args.id (c.start-start.result - 1) c.start-start.result _ c.args.found c.in_err-last-2.field-0.0
-    c.requires.at.at (let u : k ≡ length (tape_in Backward c.args.input.now).bytes = backward_units c.args.input.now c.requires.at.undone c.start-start.ensures.within.1 in omega (arith, u)) c.in_err-last-2.ensures.effect.alive read
+    (unit_refuses Backward c.args.self.now c.args.cache.now.store.table c.read_before.new.cache.store c.args.input.now k c.args.id (c.start-start.result - 1) c.start-start.result _ c.args.found c.in_err-last-2.field-0.0
+    c.requires.at.at read
     (end_unit_offset c.args.input.now c.start-start.result c.requires.at.undone c.start-start.ensures.start)
-    (end_given_up_offset c.args.input.now c.start-start.result c.requires.at.undone c.start-start.ensures.start) c.in_err-last-2.ensures.refusal c.requires.at.may.0)
+    (end_given_up_offset c.args.input.now c.start-start.result c.requires.at.undone c.start-start.ensures.start) c.in_err-last-2.ensures.refusal)
 
 pub returns-in_err-last-clause-effect : goal.returns-in_err-last-clause-effect
 returns-in_err-last-clause-effect c =

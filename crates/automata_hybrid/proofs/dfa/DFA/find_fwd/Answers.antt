@@ -15,7 +15,7 @@ use Rattle.automata_hybrid.proofs.Passed.{dead_answer, dead_stops, first_answer,
 use Rattle.automata_hybrid.proofs.Reading.{at_err}
 use Rattle.automata_hybrid.specs.Passed.{IsRestEffect}
 use Rattle.automata_hybrid.proofs.Searched.{ended_after, last_here, left_here, stays_open}
-use Rattle.automata_hybrid.proofs.Searching.{stops_dead, stops_ends, stops_last, more_leads, more_at, step_refuses, if_err, false_true, some_is, none_is}
+use Rattle.automata_hybrid.proofs.Searching.{stops_dead, stops_ends, stops_last, more_leads, more_at, place_refuses, step_refuses, unit_refuses, if_both, if_err, false_true, some_is, none_is}
 use Rattle.automata_hybrid.proofs.Units.{forward_read, forward_units}
 use Rattle.automata_hybrid.proofs.dfa.DFA.find_fwd.Goals as goal
 use Rattle.automata_hybrid.proofs.dfa.DFA.find_fwd.Goals.{else-get_earliest-via-then-get_earliest+else-is_some, else-get_earliest-via-else-get_earliest}
@@ -32,7 +32,7 @@ loop-at-init c =
       from = omega (arith, c.start-at.ensures.start);
       within = omega (arith, c.start-at.ensures.start, c.requires.at.undone);
       at = subst (λ k. IsAt Forward c.args.self.now c.args.cache.now.store.table c.args.input.now k c.args.start None) z c.requires.at.at;
-      progress = λ s e. (given_up_offset Forward c.args.input.now 0, (s, given_up_offset Forward c.args.input.now 0, inl (refl, refl), e));
+      progress = λ s e. (given_up_offset Forward c.args.input.now 0, (s, given_up_offset Forward c.args.input.now 0, inl (refl, refl, refl), e));
     }
 
 pub find_end_fwd-requires-clause-at : goal.find_end_fwd-requires-clause-at
@@ -215,7 +215,10 @@ returns-in_err-next-clause-left c = λ s e.
     if_err c.from_residual.result _ _ c.from_residual.ensures.1
     (left_here Forward c.args.self.now c.args.input.now s c.args.cache.now c.loop-at.cache c.read.new.cache c.loop-at.invariant.grown c.in_err-next.ensures.effect.grown
     k c.run_fwd-run.result.id c.run_fwd-run.result.at underway.0 (Some _) c.run_fwd-run.result.found at few c.in_err-next.ensures.effect.alive read (sym place) from (omega (arith, inside)) underway.1
-    c.in_err-next.field-0.0 c.in_err-next.ensures.progress.left)
+    c.in_err-next.field-0.0
+    (unit_refuses Forward c.args.self.now c.loop-at.cache.store.table c.read.new.cache.store c.args.input.now k c.run_fwd-run.result.id c.run_fwd-run.result.at c.run_fwd-run.result.at _ c.run_fwd-run.result.found c.in_err-next.field-0.0
+    at read (sym place) (sym place) c.in_err-next.ensures.refusal)
+    (λ none. none) c.in_err-next.ensures.progress.left)
 
 pub returns-then-is_dead-clause-ended : goal.returns-then-is_dead-clause-ended
 returns-then-is_dead-clause-ended c = λ s e.
@@ -231,7 +234,7 @@ returns-then-is_dead-clause-ended c = λ s e.
     let grown : IsGrown c.loop-at.cache c.end_search.new.self = grown_trans c.loop-at.cache c.read.new.cache c.end_search.new.self c.in_ok-next.ensures.effect.grown (grown_moved c.read.new.cache c.end_search.new.self c.end_search.ensures.value) in
     last_here Forward c.args.self.now c.args.input.now s c.args.cache.now c.loop-at.cache c.end_search.new.self c.loop-at.invariant.grown grown
     k c.run_fwd-run.result.id c.run_fwd-run.result.at underway.0 (Some _) c.run_fwd-run.result.found at few c.in_ok-next.ensures.effect.alive read (sym place) from (omega (arith, inside)) underway.1
-    (ended_after c.loop-at.cache c.read.new.cache c.end_search.new.self c.run_fwd-run.result.at c.in_ok-next.ensures.progress.moved c.end_search.ensures.value) (inl stops)
+    (ended_after c.loop-at.cache c.read.new.cache c.end_search.new.self c.run_fwd-run.result.at c.in_ok-next.ensures.progress.moved c.end_search.ensures.value) stops
 
 pub returns-then-is_some-clause-ended : goal.returns-then-is_some-clause-ended
 returns-then-is_some-clause-ended c = λ s e.
@@ -247,7 +250,7 @@ returns-then-is_some-clause-ended c = λ s e.
     let grown : IsGrown c.loop-at.cache c.end_search-then-is_some.new.self = grown_trans c.loop-at.cache c.read.new.cache c.end_search-then-is_some.new.self c.in_ok-next.ensures.effect.grown (grown_moved c.read.new.cache c.end_search-then-is_some.new.self c.end_search-then-is_some.ensures.value) in
     last_here Forward c.args.self.now c.args.input.now s c.args.cache.now c.loop-at.cache c.end_search-then-is_some.new.self c.loop-at.invariant.grown grown
     k c.run_fwd-run.result.id c.run_fwd-run.result.at underway.0 (Some _) c.run_fwd-run.result.found at few c.in_ok-next.ensures.effect.alive read (sym place) from (omega (arith, inside)) underway.1
-    (ended_after c.loop-at.cache c.read.new.cache c.end_search-then-is_some.new.self c.run_fwd-run.result.at c.in_ok-next.ensures.progress.moved c.end_search-then-is_some.ensures.value) (inl stops)
+    (ended_after c.loop-at.cache c.read.new.cache c.end_search-then-is_some.new.self c.run_fwd-run.result.at c.in_ok-next.ensures.progress.moved c.end_search-then-is_some.ensures.value) stops
 
 pub returns-then-run-end-clause-ended : goal.returns-then-run-end-clause-ended
 returns-then-run-end-clause-ended c = λ s e.
@@ -258,7 +261,7 @@ returns-then-run-end-clause-ended c = λ s e.
     let underway : (x : ℕ) × IsOpenAt c.args.input.now s (given_up_offset Forward c.args.input.now 0) x c.args.cache.now.store c.loop-at.cache.store = c.loop-at.invariant.progress s e in
     IfOk-weaker c.find_end_fwd.result _ _
     (λ _ ended. last_here Forward c.args.self.now c.args.input.now s c.args.cache.now c.loop-at.cache c.find_end_fwd.new.cache c.loop-at.invariant.grown c.find_end_fwd.ensures.effect.grown
-    k c.run_fwd-run.result.id c.args.input.now.end underway.0 (next (tape_in Forward c.args.input.now) k) c.run_fwd-run.result.found at (omega (arith, units)) c.find_end_fwd.ensures.alive refl (omega (arith, c.requires.at.undone)) c.requires.at.undone (omega arith) underway.1 ended (inl (λ r. stops_last Forward c.args.self.now c.args.input.now k units (suc k) (omega arith) r)))
+    k c.run_fwd-run.result.id c.args.input.now.end underway.0 (next (tape_in Forward c.args.input.now) k) c.run_fwd-run.result.found at (omega (arith, units)) c.find_end_fwd.ensures.alive refl (omega (arith, c.requires.at.undone)) c.requires.at.undone (omega arith) underway.1 ended (λ r. stops_last Forward c.args.self.now c.args.input.now k units (suc k) (omega arith) r))
     c.find_end_fwd.ensures.progress.ended
 
 pub returns-then-run-end-clause-left : goal.returns-then-run-end-clause-left
@@ -268,10 +271,10 @@ returns-then-run-end-clause-left c = λ s e.
     let at : IsAt Forward c.args.self.now c.loop-at.cache.store.table c.args.input.now k c.run_fwd-run.result.id c.run_fwd-run.result.found = subst (λ k. IsAt Forward c.args.self.now c.loop-at.cache.store.table c.args.input.now k c.run_fwd-run.result.id c.run_fwd-run.result.found) same c.run_fwd-run.ensures.at in
     let units : k ≡ length (tape_in Forward c.args.input.now).bytes = forward_units c.args.input.now c.requires.at.undone c.end-in-loop-at.ensures.within.1 in
     let underway : (x : ℕ) × IsOpenAt c.args.input.now s (given_up_offset Forward c.args.input.now 0) x c.args.cache.now.store c.loop-at.cache.store = c.loop-at.invariant.progress s e in
-    IfErr-weaker c.find_end_fwd.result _ _
-    (λ error left. left_here Forward c.args.self.now c.args.input.now s c.args.cache.now c.loop-at.cache c.find_end_fwd.new.cache c.loop-at.invariant.grown c.find_end_fwd.ensures.effect.grown
-    k c.run_fwd-run.result.id c.args.input.now.end underway.0 (next (tape_in Forward c.args.input.now) k) c.run_fwd-run.result.found at (omega (arith, units)) c.find_end_fwd.ensures.alive refl (omega (arith, c.requires.at.undone)) c.requires.at.undone (omega arith) underway.1 error left)
-    c.find_end_fwd.ensures.progress.left
+    if_both c.find_end_fwd.result _ _ _
+    (λ error refused left. left_here Forward c.args.self.now c.args.input.now s c.args.cache.now c.loop-at.cache c.find_end_fwd.new.cache c.loop-at.invariant.grown c.find_end_fwd.ensures.effect.grown
+    k c.run_fwd-run.result.id c.args.input.now.end underway.0 (next (tape_in Forward c.args.input.now) k) c.run_fwd-run.result.found at (omega (arith, units)) c.find_end_fwd.ensures.alive refl (omega (arith, c.requires.at.undone)) c.requires.at.undone (omega arith) underway.1 error refused (λ none. none) left)
+    c.find_end_fwd.ensures.refusal c.find_end_fwd.ensures.progress.left
 
 pub returns-clause-ended : goal.returns-clause-ended
 returns-clause-ended c = λ s e.
@@ -282,7 +285,7 @@ returns-clause-ended c = λ s e.
     let underway : (x : ℕ) × IsOpenAt c.args.input.now s (given_up_offset Forward c.args.input.now 0) x c.args.cache.now.store c.loop-at.cache.store = c.loop-at.invariant.progress s e in
     IfOk-weaker c.find_end_fwd-2.result _ _
     (λ _ ended. last_here Forward c.args.self.now c.args.input.now s c.args.cache.now c.loop-at.cache c.find_end_fwd-2.new.cache c.loop-at.invariant.grown c.find_end_fwd-2.ensures.effect.grown
-    k c.loop-at.id c.args.input.now.end underway.0 (next (tape_in Forward c.args.input.now) k) c.loop-at.found at (omega (arith, units)) c.find_end_fwd-2.ensures.alive refl (omega (arith, c.requires.at.undone)) c.requires.at.undone (omega arith) underway.1 ended (inl (λ r. stops_last Forward c.args.self.now c.args.input.now k units (suc k) (omega arith) r)))
+    k c.loop-at.id c.args.input.now.end underway.0 (next (tape_in Forward c.args.input.now) k) c.loop-at.found at (omega (arith, units)) c.find_end_fwd-2.ensures.alive refl (omega (arith, c.requires.at.undone)) c.requires.at.undone (omega arith) underway.1 ended (λ r. stops_last Forward c.args.self.now c.args.input.now k units (suc k) (omega arith) r))
     c.find_end_fwd-2.ensures.progress.ended
 
 pub returns-clause-left : goal.returns-clause-left
@@ -292,7 +295,27 @@ returns-clause-left c = λ s e.
     let at : IsAt Forward c.args.self.now c.loop-at.cache.store.table c.args.input.now k c.loop-at.id c.loop-at.found = subst (λ k. IsAt Forward c.args.self.now c.loop-at.cache.store.table c.args.input.now k c.loop-at.id c.loop-at.found) same c.loop-at.invariant.at in
     let units : k ≡ length (tape_in Forward c.args.input.now).bytes = forward_units c.args.input.now c.requires.at.undone c.end.ensures.within.1 in
     let underway : (x : ℕ) × IsOpenAt c.args.input.now s (given_up_offset Forward c.args.input.now 0) x c.args.cache.now.store c.loop-at.cache.store = c.loop-at.invariant.progress s e in
+    if_both c.find_end_fwd-2.result _ _ _
+    (λ error refused left. left_here Forward c.args.self.now c.args.input.now s c.args.cache.now c.loop-at.cache c.find_end_fwd-2.new.cache c.loop-at.invariant.grown c.find_end_fwd-2.ensures.effect.grown
+    k c.loop-at.id c.args.input.now.end underway.0 (next (tape_in Forward c.args.input.now) k) c.loop-at.found at (omega (arith, units)) c.find_end_fwd-2.ensures.alive refl (omega (arith, c.requires.at.undone)) c.requires.at.undone (omega arith) underway.1 error refused (λ none. none) left)
+    c.find_end_fwd-2.ensures.refusal c.find_end_fwd-2.ensures.progress.left
+
+pub returns-then-run-end-clause-refusal : goal.returns-then-run-end-clause-refusal
+returns-then-run-end-clause-refusal c =
+    let same : c.run_fwd-run.result.at - c.args.input.now.start ≡ c.args.input.now.end - c.args.input.now.start = omega (arith, c.if-run-end.true, c.run_fwd-run.ensures.within, c.end-in-loop-at.ensures.end) in
+    let k : ℕ = c.args.input.now.end - c.args.input.now.start in
+    let at : IsAt Forward c.args.self.now c.loop-at.cache.store.table c.args.input.now k c.run_fwd-run.result.id c.run_fwd-run.result.found = subst (λ k. IsAt Forward c.args.self.now c.loop-at.cache.store.table c.args.input.now k c.run_fwd-run.result.id c.run_fwd-run.result.found) same c.run_fwd-run.ensures.at in
+    let units : k ≡ length (tape_in Forward c.args.input.now).bytes = forward_units c.args.input.now c.requires.at.undone c.end-in-loop-at.ensures.within.1 in
+    IfErr-weaker c.find_end_fwd.result _ _
+    (λ error refused. place_refuses Forward c.args.self.now c.loop-at.cache.store.table c.find_end_fwd.new.cache.store c.args.input.now k c.run_fwd-run.result.id c.run_fwd-run.result.found error at (omega (arith, units)) c.find_end_fwd.ensures.alive c.requires.at.may.0 refused)
+    c.find_end_fwd.ensures.refusal
+
+pub returns-clause-refusal : goal.returns-clause-refusal
+returns-clause-refusal c =
+    let same : c.loop-at.at - c.args.input.now.start ≡ c.args.input.now.end - c.args.input.now.start = omega (arith, c.loop-at-test.false, c.loop-at.invariant.within, c.end.ensures.end) in
+    let k : ℕ = c.args.input.now.end - c.args.input.now.start in
+    let at : IsAt Forward c.args.self.now c.loop-at.cache.store.table c.args.input.now k c.loop-at.id c.loop-at.found = subst (λ k. IsAt Forward c.args.self.now c.loop-at.cache.store.table c.args.input.now k c.loop-at.id c.loop-at.found) same c.loop-at.invariant.at in
+    let units : k ≡ length (tape_in Forward c.args.input.now).bytes = forward_units c.args.input.now c.requires.at.undone c.end.ensures.within.1 in
     IfErr-weaker c.find_end_fwd-2.result _ _
-    (λ error left. left_here Forward c.args.self.now c.args.input.now s c.args.cache.now c.loop-at.cache c.find_end_fwd-2.new.cache c.loop-at.invariant.grown c.find_end_fwd-2.ensures.effect.grown
-    k c.loop-at.id c.args.input.now.end underway.0 (next (tape_in Forward c.args.input.now) k) c.loop-at.found at (omega (arith, units)) c.find_end_fwd-2.ensures.alive refl (omega (arith, c.requires.at.undone)) c.requires.at.undone (omega arith) underway.1 error left)
-    c.find_end_fwd-2.ensures.progress.left
+    (λ error refused. place_refuses Forward c.args.self.now c.loop-at.cache.store.table c.find_end_fwd-2.new.cache.store c.args.input.now k c.loop-at.id c.loop-at.found error at (omega (arith, units)) c.find_end_fwd-2.ensures.alive c.requires.at.may.0 refused)
+    c.find_end_fwd-2.ensures.refusal

@@ -1,10 +1,10 @@
-use Rattle.std.proofs.Common.{ℕ, suc, ◌≡◌, ◌∙◌, ◌-◌, ◌<◌, ◌≤◌, ◌⊎◌, inl, true, length, Some, None, refl, sym, subst, arith}
+use Rattle.std.proofs.Common.{ℕ, suc, ◌≡◌, ◌∙◌, ◌-◌, ◌<◌, ◌≤◌, inl, true, length, Some, None, refl, sym, subst, arith}
 use Rattle.automata_base.specs.Paths.{next}
 use Rattle.automata_base.specs.Tapes.{Backward}
 use Rattle.automata_hybrid.specs.Growing.{IsGrown, ClearedNothing}
 use Rattle.automata_hybrid.specs.Knowing.{KnowsPass}
 use Rattle.automata_hybrid.specs.Passing.{HasLearned, IsAt}
-use Rattle.automata_hybrid.specs.Searched.{EndsAtLast, IsLeftOpen, IsOpenAt}
+use Rattle.automata_hybrid.specs.Searched.{EndsAtLast, IsOpenAt}
 use Rattle.automata_hybrid.specs.Searches.{Reads, given_up_offset, tape_in}
 use Rattle.automata_hybrid.specs.Table.{Rows}
 use Rattle.automata_hybrid.proofs.Growing.{grown_moved, grown_same, grown_trans, nothing_first, nothing_second}
@@ -12,9 +12,10 @@ use Rattle.automata_hybrid.proofs.Knowing.{knows_here, knows_still, learned_none
 use Rattle.automata_hybrid.proofs.Passed.{dead_answer, dead_stops, first_answer, first_stops, rest_read, rest_refused, rest_then}
 use Rattle.automata_hybrid.proofs.Reading.{at_err}
 use Rattle.automata_hybrid.specs.Passed.{IsRestEffect}
-use Rattle.automata_hybrid.proofs.Searched.{ended_after, last_here, last_kept, left_here, on_err, on_ok, stays_open}
+use Rattle.automata_hybrid.proofs.Searched.{ended_after, last_here, last_kept, left_here, on_ok, stays_open, stopped_kept}
+use Rattle.std.proofs.lemmas.Result.{IfErr-weaker}
 use Rattle.automata_hybrid.proofs.Units.{backward_units}
-use Rattle.automata_hybrid.proofs.Searching.{stops_dead, stops_ends, stops_last, more_leads, more_at, step_refuses, if_err, false_true, some_is, none_is}
+use Rattle.automata_hybrid.proofs.Searching.{stops_dead, stops_ends, stops_last, more_leads, more_at, place_refuses, step_refuses, unit_refuses, if_err, false_true, some_is, none_is}
 use Rattle.automata_hybrid.proofs.Backward.{end_given_up_offset, span_place, span_unit_offset, span_given_up_offset, span_more, span_few, span_read, quit_free}
 use Rattle.automata_hybrid.proofs.dfa.DFA.find_rev.Goals as goal
 use Rattle.automata_hybrid.proofs.dfa.DFA.find_rev.Goals.{else-get_earliest-via-then-get_earliest+else-is_some, else-get_earliest-via-else-get_earliest}
@@ -31,7 +32,7 @@ loop-at-init c =
       from = omega (arith, c.end-at.ensures.end, c.requires.at.undone);
       within = omega (arith, c.end-at.ensures.end);
       at = subst (λ k. IsAt Backward c.args.self.now c.args.cache.now.store.table c.args.input.now k c.args.start None) z c.requires.at.at;
-      progress = λ s e. (given_up_offset Backward c.args.input.now 0, (s, given_up_offset Backward c.args.input.now 0, inl (refl, refl), e));
+      progress = λ s e. (given_up_offset Backward c.args.input.now 0, (s, given_up_offset Backward c.args.input.now 0, inl (refl, refl, refl), e));
     }
 
 pub find_end_rev-requires-clause-at : goal.find_end_rev-requires-clause-at
@@ -215,7 +216,11 @@ returns-in_err-id-clause-left c = λ s e.
     (left_here Backward c.args.self.now c.args.input.now s c.args.cache.now c.loop-at.cache c.read.new.cache c.loop-at.invariant.grown c.in_err-id.ensures.effect.grown
     k c.run_rev-run.result.id (c.run_rev-run.result.at - 1) underway.0 (Some _) c.run_rev-run.result.found at few c.in_err-id.ensures.effect.alive read
     (span_given_up_offset c.args.input.now c.run_rev-run.result.at above below) (omega (arith, above)) (omega (arith, below)) underway.1
-    c.in_err-id.field-0.0 c.in_err-id.ensures.progress.left)
+    c.in_err-id.field-0.0
+    (unit_refuses Backward c.args.self.now c.loop-at.cache.store.table c.read.new.cache.store c.args.input.now k c.run_rev-run.result.id (c.run_rev-run.result.at - 1) (c.run_rev-run.result.at - 1) _ c.run_rev-run.result.found c.in_err-id.field-0.0
+    at read (span_unit_offset c.args.input.now c.run_rev-run.result.at above below) (span_given_up_offset c.args.input.now c.run_rev-run.result.at above below) c.in_err-id.ensures.refusal)
+    (λ last. (let units : c.args.input.now.end - c.args.input.now.start ≡ length (tape_in Backward c.args.input.now).bytes = backward_units c.args.input.now c.requires.at.undone c.haystack.ensures.within.1 in omega (arith, last, units, above, below)))
+    c.in_err-id.ensures.progress.left)
 
 pub returns-then-is_dead-clause-ended : goal.returns-then-is_dead-clause-ended
 returns-then-is_dead-clause-ended c = λ s e.
@@ -231,7 +236,7 @@ returns-then-is_dead-clause-ended c = λ s e.
     last_here Backward c.args.self.now c.args.input.now s c.args.cache.now c.loop-at.cache c.end_search-then-is_dead.new.self c.loop-at.invariant.grown grown
     k c.run_rev-run.result.id (c.run_rev-run.result.at - 1) underway.0 (Some _) c.run_rev-run.result.found at few c.in_ok-id.ensures.effect.alive read
     (span_given_up_offset c.args.input.now c.run_rev-run.result.at above below) (omega (arith, above)) (omega (arith, below)) underway.1
-    (ended_after c.loop-at.cache c.read.new.cache c.end_search-then-is_dead.new.self (c.run_rev-run.result.at - 1) c.in_ok-id.ensures.progress.moved c.end_search-then-is_dead.ensures.value) (inl stops)
+    (ended_after c.loop-at.cache c.read.new.cache c.end_search-then-is_dead.new.self (c.run_rev-run.result.at - 1) c.in_ok-id.ensures.progress.moved c.end_search-then-is_dead.ensures.value) stops
 
 pub returns-then-is_some-clause-ended : goal.returns-then-is_some-clause-ended
 returns-then-is_some-clause-ended c = λ s e.
@@ -247,7 +252,7 @@ returns-then-is_some-clause-ended c = λ s e.
     last_here Backward c.args.self.now c.args.input.now s c.args.cache.now c.loop-at.cache c.end_search-then-is_some.new.self c.loop-at.invariant.grown grown
     k c.run_rev-run.result.id (c.run_rev-run.result.at - 1) underway.0 (Some _) c.run_rev-run.result.found at few c.in_ok-id.ensures.effect.alive read
     (span_given_up_offset c.args.input.now c.run_rev-run.result.at above below) (omega (arith, above)) (omega (arith, below)) underway.1
-    (ended_after c.loop-at.cache c.read.new.cache c.end_search-then-is_some.new.self (c.run_rev-run.result.at - 1) c.in_ok-id.ensures.progress.moved c.end_search-then-is_some.ensures.value) (inl stops)
+    (ended_after c.loop-at.cache c.read.new.cache c.end_search-then-is_some.new.self (c.run_rev-run.result.at - 1) c.in_ok-id.ensures.progress.moved c.end_search-then-is_some.ensures.value) stops
 
 pub returns-then-run-start-clause-ended : goal.returns-then-run-start-clause-ended
 returns-then-run-start-clause-ended c = λ s e.
@@ -274,12 +279,12 @@ returns-then-run-start-clause-left c = λ s e.
     (subst (λ k. IsAt Backward c.args.self.now c.loop-at.cache.store.table c.args.input.now k c.run_rev-run.result.id c.run_rev-run.result.found) same c.run_rev-run.ensures.at) in
     let units : k ≡ length (tape_in Backward c.args.input.now).bytes = backward_units c.args.input.now c.requires.at.undone c.start-then-run-start.ensures.within.1 in
     let underway : (x : ℕ) × IsOpenAt c.args.input.now s (given_up_offset Backward c.args.input.now 0) x c.args.cache.now.store c.loop-at.cache.store = c.loop-at.invariant.progress s e in
-    let ended : EndsAtLast Backward c.args.self.now c.args.input.now s c.args.cache.now.store c.find_end_rev.new.cache.store =
-    last_kept Backward c.args.self.now c.args.input.now s c.args.cache.now c.loop-at.cache c.end_search.new.self c.find_end_rev.new.cache k c.run_rev-run.result.id c.start-then-run-start.result underway.0 c.run_rev-run.result.found
+    IfErr-weaker c.find_end_rev.result _ _
+    (λ error refused. stopped_kept Backward c.args.self.now c.args.input.now s c.args.cache.now c.loop-at.cache c.end_search.new.self c.find_end_rev.new.cache k c.run_rev-run.result.id c.start-then-run-start.result underway.0 c.run_rev-run.result.found
     c.loop-at.invariant.grown c.end_search.ensures.value c.find_end_rev.ensures.effect.grown (omega (arith, c.start-then-run-start.ensures.start)) (omega (arith, c.start-then-run-start.ensures.start, c.requires.at.undone)) underway.1
     at (omega (arith, units)) c.find_end_rev.ensures.alive (end_given_up_offset c.args.input.now c.start-then-run-start.result c.requires.at.undone c.start-then-run-start.ensures.start)
-    (λ r. stops_last Backward c.args.self.now c.args.input.now k units (suc k) (omega arith) r) c.find_end_rev.ensures.progress in
-    on_err c.find_end_rev.result (λ e. EndsAtLast Backward c.args.self.now c.args.input.now s c.args.cache.now.store c.find_end_rev.new.cache.store ⊎ IsLeftOpen Backward c.args.self.now c.args.input.now s c.args.cache.now.store c.find_end_rev.new.cache.store e) (λ error. inl ended)
+    c.find_end_rev.ensures.progress units error refused)
+    c.find_end_rev.ensures.refusal
 
 pub returns-clause-ended : goal.returns-clause-ended
 returns-clause-ended c = λ s e.
@@ -306,9 +311,33 @@ returns-clause-left c = λ s e.
     (subst (λ k. IsAt Backward c.args.self.now c.loop-at.cache.store.table c.args.input.now k c.loop-at.id c.loop-at.found) same c.loop-at.invariant.at) in
     let units : k ≡ length (tape_in Backward c.args.input.now).bytes = backward_units c.args.input.now c.requires.at.undone c.start-2.ensures.within.1 in
     let underway : (x : ℕ) × IsOpenAt c.args.input.now s (given_up_offset Backward c.args.input.now 0) x c.args.cache.now.store c.loop-at.cache.store = c.loop-at.invariant.progress s e in
-    let ended : EndsAtLast Backward c.args.self.now c.args.input.now s c.args.cache.now.store c.find_end_rev-2.new.cache.store =
-    last_kept Backward c.args.self.now c.args.input.now s c.args.cache.now c.loop-at.cache c.end_search-2.new.self c.find_end_rev-2.new.cache k c.loop-at.id c.start-2.result underway.0 c.loop-at.found
+    IfErr-weaker c.find_end_rev-2.result _ _
+    (λ error refused. stopped_kept Backward c.args.self.now c.args.input.now s c.args.cache.now c.loop-at.cache c.end_search-2.new.self c.find_end_rev-2.new.cache k c.loop-at.id c.start-2.result underway.0 c.loop-at.found
     c.loop-at.invariant.grown c.end_search-2.ensures.value c.find_end_rev-2.ensures.effect.grown (omega (arith, c.start-2.ensures.start)) (omega (arith, c.start-2.ensures.start, c.requires.at.undone)) underway.1
     at (omega (arith, units)) c.find_end_rev-2.ensures.alive (end_given_up_offset c.args.input.now c.start-2.result c.requires.at.undone c.start-2.ensures.start)
-    (λ r. stops_last Backward c.args.self.now c.args.input.now k units (suc k) (omega arith) r) c.find_end_rev-2.ensures.progress in
-    on_err c.find_end_rev-2.result (λ e. EndsAtLast Backward c.args.self.now c.args.input.now s c.args.cache.now.store c.find_end_rev-2.new.cache.store ⊎ IsLeftOpen Backward c.args.self.now c.args.input.now s c.args.cache.now.store c.find_end_rev-2.new.cache.store e) (λ error. inl ended)
+    c.find_end_rev-2.ensures.progress units error refused)
+    c.find_end_rev-2.ensures.refusal
+
+pub returns-then-run-start-clause-refusal : goal.returns-then-run-start-clause-refusal
+returns-then-run-start-clause-refusal c =
+    let same : c.args.input.now.end - c.run_rev-run.result.at ≡ c.args.input.now.end - c.args.input.now.start = omega (arith, c.if-run-start.true, c.run_rev-run.ensures.from, c.start-in-loop-at.ensures.start) in
+    let k : ℕ = c.args.input.now.end - c.args.input.now.start in
+    let at : IsAt Backward c.args.self.now c.end_search.new.self.store.table c.args.input.now k c.run_rev-run.result.id c.run_rev-run.result.found =
+    subst (λ (t : Rows). IsAt Backward c.args.self.now t c.args.input.now k c.run_rev-run.result.id c.run_rev-run.result.found) (sym c.end_search.ensures.table)
+    (subst (λ k. IsAt Backward c.args.self.now c.loop-at.cache.store.table c.args.input.now k c.run_rev-run.result.id c.run_rev-run.result.found) same c.run_rev-run.ensures.at) in
+    let units : k ≡ length (tape_in Backward c.args.input.now).bytes = backward_units c.args.input.now c.requires.at.undone c.start-then-run-start.ensures.within.1 in
+    IfErr-weaker c.find_end_rev.result _ _
+    (λ error refused. place_refuses Backward c.args.self.now c.end_search.new.self.store.table c.find_end_rev.new.cache.store c.args.input.now k c.run_rev-run.result.id c.run_rev-run.result.found error at (omega (arith, units)) c.find_end_rev.ensures.alive c.requires.at.may.0 refused)
+    c.find_end_rev.ensures.refusal
+
+pub returns-clause-refusal : goal.returns-clause-refusal
+returns-clause-refusal c =
+    let same : c.args.input.now.end - c.loop-at.at ≡ c.args.input.now.end - c.args.input.now.start = omega (arith, c.loop-at-test.false, c.loop-at.invariant.from, c.start.ensures.start) in
+    let k : ℕ = c.args.input.now.end - c.args.input.now.start in
+    let at : IsAt Backward c.args.self.now c.end_search-2.new.self.store.table c.args.input.now k c.loop-at.id c.loop-at.found =
+    subst (λ (t : Rows). IsAt Backward c.args.self.now t c.args.input.now k c.loop-at.id c.loop-at.found) (sym c.end_search-2.ensures.table)
+    (subst (λ k. IsAt Backward c.args.self.now c.loop-at.cache.store.table c.args.input.now k c.loop-at.id c.loop-at.found) same c.loop-at.invariant.at) in
+    let units : k ≡ length (tape_in Backward c.args.input.now).bytes = backward_units c.args.input.now c.requires.at.undone c.start-2.ensures.within.1 in
+    IfErr-weaker c.find_end_rev-2.result _ _
+    (λ error refused. place_refuses Backward c.args.self.now c.end_search-2.new.self.store.table c.find_end_rev-2.new.cache.store c.args.input.now k c.loop-at.id c.loop-at.found error at (omega (arith, units)) c.find_end_rev-2.ensures.alive c.requires.at.may.0 refused)
+    c.find_end_rev-2.ensures.refusal

@@ -1,4 +1,4 @@
-use Rattle.std.proofs.Common.{◌≡◌, ◌∙◌, ◌-◌, ap, None, refl, sym, subst, ◌≤◌, inl, inr, arith, ⊎_elim}
+use Rattle.std.proofs.Common.{◌≡◌, ◌∙◌, ◌-◌, ap, None, refl, sym, subst, ◌≤◌, inr, arith}
 use Rattle.automata_base.specs.Powerset.{dead}
 use Rattle.automata_base.specs.Tapes.{Forward, byte_before}
 use Rattle.std.specs.Prelude.{Err}
@@ -14,7 +14,7 @@ use Rattle.automata_hybrid.proofs.Searching.{starts_at, starts_dead, clean_start
 use Rattle.automata_hybrid.proofs.Passed.{pass_rest, pass_unstarted, rest_dead}
 use Rattle.automata_hybrid.proofs.Reading.{at_err}
 use Rattle.automata_hybrid.specs.Passed.{IsPassEffect}
-use Rattle.automata_hybrid.proofs.Searched.{pass_dies, pass_ends, pass_opens}
+use Rattle.automata_hybrid.proofs.Searched.{pass_dies, pass_ends, pass_stops}
 use Rattle.automata_hybrid.proofs.Stepping.{dead_tagged}
 use Rattle.automata_hybrid.proofs.dfa.DFA.pass_fwd.Goals as goal
 
@@ -58,7 +58,7 @@ returns-then-is_dead-clause-effect c =
     (inr (
       λ none. none,
       pass_dies Forward c.args.self.now c.args.input.now low high c.args.cache.now c.start_state_forward.new.cache c.search_start.new.self c.end_search.new.self c.in_ok-start.ensures.effect.grown c.in_ok-start.ensures.effect.progress begins
-          (grown_moved c.search_start.new.self c.end_search.new.self c.end_search.ensures.value) (stops_start Forward c.args.self.now c.args.input.now dies)
+          (grown_moved c.search_start.new.self c.end_search.new.self c.end_search.ensures.value) (stops_start Forward c.args.self.now c.args.input.now dies) (ap (λ (v : CacheView). v.store.clears) c.end_search.ensures.value)
           (subst (λ at. c.end_search.new.self.store.searched ≡ finished c.search_start.new.self.store.searched at) last (ap (λ (v : CacheView). v.store.searched) c.end_search.ensures.value)),
     ))
     tt
@@ -92,7 +92,8 @@ returns-in_err-found-clause-effect c =
     c.in_ok-start.ensures.answer c.in_ok-start.ensures.effect c.search_start.ensures.value
     c.in_err-found.ensures.effect
     tt
-    (inr (⊎_elim
-    (λ ended. inl (inr (λ none. none, pass_ends Forward c.args.self.now c.args.input.now low high c.args.cache.now c.start_state_forward.new.cache c.search_start.new.self c.find_fwd.new.cache c.in_ok-start.ensures.effect.grown c.in_ok-start.ensures.effect.progress begins c.in_err-found.ensures.effect.grown ended)))
-    (λ opened. inr (λ none. none, pass_opens Forward c.args.self.now c.args.input.now low high c.args.cache.now c.start_state_forward.new.cache c.search_start.new.self c.find_fwd.new.cache c.in_ok-start.ensures.effect.grown c.in_ok-start.ensures.effect.progress begins c.in_err-found.ensures.effect.grown c.in_err-found.field-0.0 opened))
-    (c.in_err-found.ensures.left c.start_state_forward.new.cache.store.searched (ap (λ (v : CacheView). v.store.searched) begins)))))
+    (inr (inr (
+      λ none. none,
+      pass_stops Forward c.args.self.now c.args.input.now low high c.args.cache.now c.start_state_forward.new.cache c.search_start.new.self c.find_fwd.new.cache c.in_ok-start.ensures.effect.grown c.in_ok-start.ensures.effect.progress begins c.in_err-found.ensures.effect.grown c.in_err-found.field-0.0
+          (c.in_err-found.ensures.left c.start_state_forward.new.cache.store.searched (ap (λ (v : CacheView). v.store.searched) begins)),
+    ))))

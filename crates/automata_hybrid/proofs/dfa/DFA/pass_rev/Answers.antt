@@ -1,4 +1,4 @@
-use Rattle.std.proofs.Common.{◌≡◌, ◌∙◌, ap, ◌-◌, None, refl, sym, subst, arith, ◌≤◌, inl, inr, ⊎_elim}
+use Rattle.std.proofs.Common.{◌≡◌, ◌∙◌, ap, ◌-◌, None, refl, sym, subst, arith, ◌≤◌, inl, inr, ℕ}
 use Rattle.automata_base.specs.Lists.{nth}
 use Rattle.automata_base.specs.Powerset.{dead}
 use Rattle.automata_base.specs.Tapes.{Backward}
@@ -7,7 +7,7 @@ use Rattle.automata_hybrid.specs.Stores.{with_searched}
 use Rattle.automata_hybrid.specs.Caches.{CacheView, with_store}
 use Rattle.automata_hybrid.specs.Machine.{Machine, slot_count}
 use Rattle.automata_hybrid.specs.Progressing.{finished, started}
-use Rattle.automata_hybrid.specs.Searched.{IsLeft, KeepsNone}
+use Rattle.automata_hybrid.specs.Searched.{KeepsNone}
 use Rattle.automata_hybrid.proofs.Growing.{grown_moved}
 use Rattle.automata_hybrid.specs.Passing.{IsAt}
 use Rattle.automata_hybrid.specs.Searches.{given_up_offset, state_in}
@@ -16,9 +16,10 @@ use Rattle.automata_hybrid.specs.Table.{Rows, Names}
 use Rattle.automata_hybrid.proofs.Passed.{pass_rest, pass_unstarted, rest_dead}
 use Rattle.automata_hybrid.proofs.Reading.{at_err}
 use Rattle.automata_hybrid.specs.Passed.{IsPassEffect, IsRestEffect}
-use Rattle.automata_hybrid.proofs.Searched.{kept_twice, on_err, on_ok, pass_dies, pass_ends, pass_opens}
+use Rattle.automata_hybrid.proofs.Searched.{kept_twice, on_ok, pass_dies, pass_ends, pass_stops}
 use Rattle.automata_hybrid.proofs.Backward.{begins_dead, begins_alive}
-use Rattle.automata_hybrid.proofs.Searching.{stops_start, starts_at, starts_dead, clean_start, false_true}
+use Rattle.std.proofs.lemmas.Result.{IfErr-weaker}
+use Rattle.automata_hybrid.proofs.Searching.{place_refuses, stops_start, starts_at, starts_dead, clean_start, false_true}
 use Rattle.automata_hybrid.proofs.dfa.DFA.pass_rev.Goals as goal
 
 pub returns-then-is_dead-clause-answer : goal.returns-then-is_dead-clause-answer
@@ -86,13 +87,19 @@ returns-then-is_dead-2-clause-effect c =
     (inr (
       apart,
       pass_dies Backward c.args.self.now c.args.input.now low high c.args.cache.now c.start_state_reverse.new.cache c.search_start.new.self c.end_search.new.self c.in_ok-start.ensures.effect.grown c.in_ok-start.ensures.effect.progress begins
-          (grown_moved c.search_start.new.self c.end_search.new.self c.end_search.ensures.value) (stops_start Backward c.args.self.now c.args.input.now dies)
+          (grown_moved c.search_start.new.self c.end_search.new.self c.end_search.ensures.value) (stops_start Backward c.args.self.now c.args.input.now dies) (ap (λ (v : CacheView). v.store.clears) c.end_search.ensures.value)
           (subst (λ at. c.end_search.new.self.store.searched ≡ finished c.search_start.new.self.store.searched at) last (ap (λ (v : CacheView). v.store.searched) c.end_search.ensures.value)),
     ))
     tt
 
 pub returns-then-start-end-clause-effect : goal.returns-then-start-end-clause-effect
 returns-then-start-end-clause-effect c =
+    let k : ℕ = c.args.input.now.end - c.args.input.now.start in
+    let none : 0 ≡ k = omega (arith, c.if-start-end.true, c.start.ensures.start, c.end.ensures.end) in
+    let at : IsAt Backward c.args.self.now c.start_state_reverse.new.cache.store.table c.args.input.now k c.in_ok-start.start None =
+    subst (λ n. IsAt Backward c.args.self.now c.start_state_reverse.new.cache.store.table c.args.input.now n c.in_ok-start.start None) none
+    (starts_at Backward c.args.self.now c.start_state_reverse.new.cache.store.table c.args.input.now c.in_ok-start.start
+    (begins_alive c.args.self.now c.start_state_reverse.new.cache.store.table c.args.input.now c.in_ok-start.start c.in_ok-start.ensures.answer.named (c.see_ids.ensures.low c.in_ok-start.start) c.see_ids.ensures.small (λ b. false_true (c.if-is_dead.ensures.1 b)))) in
     let z : c.args.input.now.end - c.args.input.now.start ≡ 0 = omega (arith, c.if-start-end.true, c.start.ensures.start, c.end.ensures.end) in
     pass_rest Backward c.args.self.now c.args.input.now c.in_ok-start.start c.args.cache.now c.start_state_reverse.new.cache c.start_state_reverse.new.cache c.find_end_rev.new.cache {s = c.start_state_reverse.new.cache.store.searched} c.find_end_rev.result (c.see_slots.ensures ∙ ap (λ (d : Machine). slot_count d) c.requires.of)
     c.in_ok-start.ensures.answer c.in_ok-start.ensures.effect refl
@@ -102,11 +109,13 @@ returns-then-start-end-clause-effect c =
       omega (arith, c.if-start-end.true, c.start.ensures.start, c.end.ensures.end),
       kept_twice c.args.cache.now c.start_state_reverse.new.cache c.find_end_rev.new.cache c.in_ok-start.ensures.effect.grown c.find_end_rev.ensures.effect.grown c.in_ok-start.ensures.effect.progress c.find_end_rev.ensures.progress,
     )))
-    (on_err c.find_end_rev.result (IsLeft Backward c.args.self.now c.args.input.now c.args.cache.now.store c.find_end_rev.new.cache.store)
-    (λ error. inr (inl (inl (
+    (IfErr-weaker c.find_end_rev.result _ _
+    (λ error refused. inr (inl (
       omega (arith, c.if-start-end.true, c.start.ensures.start, c.end.ensures.end),
+      place_refuses Backward c.args.self.now c.start_state_reverse.new.cache.store.table c.find_end_rev.new.cache.store c.args.input.now k c.in_ok-start.start None error at (omega (arith, none)) c.find_end_rev.ensures.alive c.in_ok-start.ensures.answer.may.0 refused,
       kept_twice c.args.cache.now c.start_state_reverse.new.cache c.find_end_rev.new.cache c.in_ok-start.ensures.effect.grown c.find_end_rev.ensures.effect.grown c.in_ok-start.ensures.effect.progress c.find_end_rev.ensures.progress,
-    )))))
+    )))
+    c.find_end_rev.ensures.refusal)
 
 pub returns-clause-effect : goal.returns-clause-effect
 returns-clause-effect c =
@@ -139,7 +148,20 @@ returns-in_err-found-clause-effect c =
     c.in_ok-start.ensures.answer c.in_ok-start.ensures.effect c.search_start.ensures.value
     c.in_err-found.ensures.effect
     tt
-    (inr (⊎_elim
-    (λ ended. inl (inr (apart, pass_ends Backward c.args.self.now c.args.input.now low high c.args.cache.now c.start_state_reverse.new.cache c.search_start.new.self c.find_rev.new.cache c.in_ok-start.ensures.effect.grown c.in_ok-start.ensures.effect.progress begins c.in_err-found.ensures.effect.grown ended)))
-    (λ opened. inr (apart, pass_opens Backward c.args.self.now c.args.input.now low high c.args.cache.now c.start_state_reverse.new.cache c.search_start.new.self c.find_rev.new.cache c.in_ok-start.ensures.effect.grown c.in_ok-start.ensures.effect.progress begins c.in_err-found.ensures.effect.grown c.in_err-found.field-0.0 opened))
-    (c.in_err-found.ensures.left c.start_state_reverse.new.cache.store.searched (ap (λ (v : CacheView). v.store.searched) begins)))))
+    (inr (inr (
+      apart,
+      pass_stops Backward c.args.self.now c.args.input.now low high c.args.cache.now c.start_state_reverse.new.cache c.search_start.new.self c.find_rev.new.cache c.in_ok-start.ensures.effect.grown c.in_ok-start.ensures.effect.progress begins c.in_err-found.ensures.effect.grown c.in_err-found.field-0.0
+          (c.in_err-found.ensures.left c.start_state_reverse.new.cache.store.searched (ap (λ (v : CacheView). v.store.searched) begins)),
+    ))))
+
+pub returns-then-start-end-clause-refusal : goal.returns-then-start-end-clause-refusal
+returns-then-start-end-clause-refusal c =
+    let k : ℕ = c.args.input.now.end - c.args.input.now.start in
+    let none : 0 ≡ k = omega (arith, c.if-start-end.true, c.start.ensures.start, c.end.ensures.end) in
+    let at : IsAt Backward c.args.self.now c.start_state_reverse.new.cache.store.table c.args.input.now k c.in_ok-start.start None =
+    subst (λ n. IsAt Backward c.args.self.now c.start_state_reverse.new.cache.store.table c.args.input.now n c.in_ok-start.start None) none
+    (starts_at Backward c.args.self.now c.start_state_reverse.new.cache.store.table c.args.input.now c.in_ok-start.start
+    (begins_alive c.args.self.now c.start_state_reverse.new.cache.store.table c.args.input.now c.in_ok-start.start c.in_ok-start.ensures.answer.named (c.see_ids.ensures.low c.in_ok-start.start) c.see_ids.ensures.small (λ b. false_true (c.if-is_dead.ensures.1 b)))) in
+    IfErr-weaker c.find_end_rev.result _ _
+    (λ error refused. place_refuses Backward c.args.self.now c.start_state_reverse.new.cache.store.table c.find_end_rev.new.cache.store c.args.input.now k c.in_ok-start.start None error at (omega (arith, none)) c.find_end_rev.ensures.alive c.in_ok-start.ensures.answer.may.0 refused)
+    c.find_end_rev.ensures.refusal

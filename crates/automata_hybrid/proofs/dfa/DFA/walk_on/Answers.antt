@@ -59,6 +59,7 @@ returns-in_err-from-clause-effect c =
       roomy = λ room. walk_clears_none c.args.cache.now c.resume.new.cache w.stage _ e.grown e.there (omega (arith, e.cost, r.left)) room;
       grown = e.grown;
       there = e.there;
+      put_back = λ q at lacks. inl (e.put_back q at lacks).1;
       learned = λ nothing. tt;
       known = λ knows. (let same = e.known (λ may. (knows c.requires.walk.told.0 c.requires.walk.told.1 r may).0) in (still_same c.args.cache.now c.resume.new.cache same.0, known_refusal (keeping_of c.args.held.now) d m input w c.in_err-from.field-0.0 same.1));
       ended = tt;
@@ -126,6 +127,7 @@ returns-then-is_dead-clause-effect c =
       roomy = λ room. walk_clears_none old new w.stage _ grown there (omega (arith, e.cost, count)) room;
       grown = grown;
       there = there;
+      put_back = λ q at lacks. inr (between, (e.put_back q at lacks).0, moved);
       learned = λ nothing k told ready may. (
         state_after d m old between new input w.stage e.grown moved nothing c.in_ok-from.ensures.answer.learned,
         λ j l reads clean by. absurd (reads.1 (dead_more d m input w.units j l dies)),
@@ -140,7 +142,7 @@ returns-then-is_dead-clause-effect c =
         inl (refl, refl, dies),
         dies_at input (given_up_offset d input w.units) (unit_low d input w.units r.undone) (unit_high d input w.units r.undone r.left)
             old.store between.store c.search_start.new.self.store new.store
-            e.grown.clears cleared (omega (arith, after)) e.progress
+            e.grown.clears cleared (omega (arith, after)) e.progress after
             (subst (λ a. new.store.searched ≡ finished (started between.store.searched a) a) first here),
       );
       left = tt;
@@ -192,6 +194,7 @@ returns-in_err-arrival-clause-effect c =
       roomy = λ room. walk_clears_none old new w.stage _ grown there (omega (arith, a.most, e.cost, c.search_start.ensures.counted, c.units-2.ensures, r.left)) room;
       grown = grown;
       there = there;
+      put_back = λ q at lacks. inr (between, (e.put_back q at lacks).0, moved);
       learned = λ nothing. tt;
       known = λ knows. (
           let k : ℕ = c.requires.walk.told.0 in

@@ -1,10 +1,13 @@
 use Rattle.std.proofs.Common.{◌≡◌, ◌∙◌, [], ◌∷◌, ◌++◌, None, Some, Ok, Err, ap, inl, inr, refl, rules, sym, subst, List}
 use Rattle.automata_base.specs.Input.{Input}
 use Rattle.automata_base.specs.Matches.{Match}
-use Rattle.regex_automata.specs.Iterating.{AreFirst, input_at}
+use Rattle.automata_config.specs.declared.error.SearchError.TheVariants as search
+use Rattle.regex_automata.specs.Iterating.{AreFirst, IsNextRefusal, input_at}
 use Rattle.regex_automata.specs.Outcomes.{FindsMatch}
 use Rattle.regex_automata.proofs.Collecting.{collected, comes_first, comes_turn, input_turn, item_match, item_none, turn}
 use Rattle.regex_automata.proofs.MatchLists.{item_refused, match_error, none_error, refused_behind, same_error, untold_turn}
+use Rattle.regex_automata.specs.declared.hybrid.regex.Regex.{Regex}
+use Rattle.regex_automata.proofs.Searched.{effect_turn, searches_end, searches_turn}
 use Rattle.regex_automata.proofs.replay.iteration.take_matches.Goals as goal
 
 pub loop-item-preserved : goal.loop-item-preserved
@@ -25,6 +28,8 @@ loop-item-preserved c =
       untold = λ u. absurd (match_error (untold_turn s.regex.now c.args.regex.now c.args.input now s.ended (Some (Ok c.in-Ok.next)) c.loop-item.found.items
           i.regex i.input i.going steps.4 i.untold u).1);
       going = step.4;
+      made = searches_turn c.args.regex.now c.args.cache.now s.cache.now t.cache.now c.args.input now rest s.last t.last c.loop-item.found.items c.push.new.self.items c.in-Ok.next i.made
+          (effect_turn s.regex.now c.args.regex.now now s.last s.ended s.cache.now t.cache.now (Some (Ok c.in-Ok.next)) i.regex i.going steps.3) step.1 step.2 items;
       same_cache = steps.2 ∙ i.same_cache;
     }
 
@@ -89,3 +94,39 @@ returns-clause-unsupported c =
     let s = c.loop-item.item-iterator in
     let now = input_at s.haystack.now s.start s.end s.anchored s.earliest in
     λ u. absurd (none_error (untold_turn s.regex.now c.args.regex.now c.args.input now s.ended (None) c.loop-item.found.items i.regex i.input i.going c.in-None.ensures.steps.4 i.untold u).1)
+
+pub returns-in_default-clause-made : goal.returns-in_default-clause-made
+returns-in_default-clause-made c =
+    let i = c.loop-item.invariant in
+    let s = c.loop-item.item-iterator in
+    let t = c.next.new.self in
+    let now = input_at s.haystack.now s.start s.end s.anchored s.earliest in
+    let steps = rw c.in-Ok.is at c.in-Some.ensures.steps in
+    let effect = effect_turn s.regex.now c.args.regex.now now s.last s.ended s.cache.now t.cache.now (Some (Ok c.in-Ok.next)) i.regex i.going steps.3 in
+    searches_end c.args.regex.now c.args.cache.now s.cache.now t.cache.now _ c.args.input now s.last c.loop-item.found.items _ (Some search.OutOfMemory) i.made
+    (inr (refl, (c.in-Ok.next, effect))) c.in_default.ensures.items (search rules)
+
+pub returns-in-Err-clause-made : goal.returns-in-Err-clause-made
+returns-in-Err-clause-made c =
+    let i = c.loop-item.invariant in
+    let s = c.loop-item.item-iterator in
+    let t = c.next.new.self in
+    let now = input_at s.haystack.now s.start s.end s.anchored s.earliest in
+    let rest = input_at t.haystack.now t.start t.end t.anchored t.earliest in
+    let steps = rw c.in-Err.is at c.in-Some.ensures.steps in
+    let e = c.in-Err.error in
+    searches_end c.args.regex.now c.args.cache.now s.cache.now t.cache.now _ c.args.input now s.last c.loop-item.found.items c.loop-item.found.items (Some e) i.made
+    (inl (
+      effect_turn s.regex.now c.args.regex.now now s.last s.ended s.cache.now t.cache.now (Some (Err e)) i.regex i.going steps.3,
+      subst (λ (r : Regex). IsNextRefusal r t.cache.now now s.last e) i.regex
+          (item_refused s.regex.now t.cache.now now rest s.last t.last s.ended t.ended e steps.0 i.going),
+    )) refl (search rules)
+
+pub returns-clause-made : goal.returns-clause-made
+returns-clause-made c =
+    let i = c.loop-item.invariant in
+    let s = c.loop-item.item-iterator in
+    let t = c.next.new.self in
+    let now = input_at s.haystack.now s.start s.end s.anchored s.earliest in
+    searches_end c.args.regex.now c.args.cache.now s.cache.now t.cache.now _ c.args.input now s.last c.loop-item.found.items c.loop-item.found.items None i.made
+    (effect_turn s.regex.now c.args.regex.now now s.last s.ended s.cache.now t.cache.now None i.regex i.going c.in-None.ensures.steps.3) refl (search rules)

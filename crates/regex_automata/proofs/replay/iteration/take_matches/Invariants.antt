@@ -5,6 +5,7 @@ use Rattle.regex_automata.specs.Iterating.{input_at}
 use Rattle.automata_base.specs.Tapes.{Forward}
 use Rattle.regex_automata.specs.Outcomes.{FindsMatch}
 use Rattle.regex_automata.proofs.Collecting.{ComesTo}
+use Rattle.regex_automata.proofs.Searched.{Searches}
 use Rattle.regex_automata.proofs.replay.iteration.take_matches.Given as goal
 
 abbrev pub invariant-loop-item : goal.invariant-loop-item
@@ -14,5 +15,6 @@ invariant-loop-item l = record {
   input : input_at l.item-iterator.haystack.now l.item-iterator.start l.item-iterator.end l.item-iterator.anchored l.item-iterator.earliest ≡ from l.item-iterator.start l.fn.input;
   untold : IsUnsupported Forward l.fn.regex.forward l.fn.input → (l.item-iterator.start ≡ l.fn.input.start) × (l.found.items ≡ []);
   going : l.item-iterator.ended ≡ false;
+  made : Searches l.fn.regex l.fn.cache l.fn.input l.found.items l.item-iterator.cache.now (input_at l.item-iterator.haystack.now l.item-iterator.start l.item-iterator.end l.item-iterator.anchored l.item-iterator.earliest) l.item-iterator.last;
   same_cache : l.item-iterator.cache.ghost_name ≡ l.initial.item-iterator.cache.ghost_name;
 }

@@ -1,4 +1,4 @@
-use Rattle.std.proofs.Common.{◌≡◌, ◌∙◌, Bool, List, Option, [], ap, inl, subst, sym, IfSome}
+use Rattle.std.proofs.Common.{◌≡◌, ◌∙◌, Bool, List, Option, [], ap, inl, inr, refl, subst, sym, IfErr, IfSome}
 use Rattle.std.specs.Result.{result_err}
 use Rattle.automata_base.specs.Answers.{ArePatterns, ArePatternsFound}
 use Rattle.automata_base.specs.Engines.{engine_of}
@@ -7,8 +7,10 @@ use Rattle.automata_base.specs.PatternSet.{members}
 use Rattle.automata_base.specs.Tapes.{Forward}
 use Rattle.automata_config.specs.declared.error.SearchError.{SearchError}
 use Rattle.automata_hybrid.specs.Owing.{IsMemory}
+use Rattle.automata_hybrid.specs.OwingWalks.{IsWhichEffect}
 use Rattle.automata_hybrid.specs.SearchedWalks.{EndsSet}
 use Rattle.automata_hybrid.specs.Walking.{AreWalked}
+use Rattle.automata_hybrid.specs.Which.{IsWhichRefusal}
 use Rattle.regex_automata.specs.Owing.{HasToldSet, MayRefusePatterns}
 use Rattle.regex_automata.proofs.SetLists.{members_rise, memory_where, no_patterns, none_where, patterns_told, refused_where, told_set, told_where}
 use Rattle.regex_automata.proofs.replay.patterns.patterns_below.Goals as goal
@@ -49,3 +51,28 @@ returns-in-Ok-list_members-clause-owed c =
 
 pub returns-clause-owed : goal.returns-clause-owed
 returns-clause-owed c = no_patterns c.args.dfa.now c.args.input.now c.args.capacity c.new-in-Err.result.items c.new-in-Err.ensures.items
+
+pub returns-in_default-clause-made : goal.returns-in_default-clause-made
+returns-in_default-clause-made c = inl (refl, refl)
+
+pub returns-in-Ok-list_members-clause-made : goal.returns-in-Ok-list_members-clause-made
+returns-in-Ok-list_members-clause-made c =
+    let told = c.try_which_overlapping_matches-told in
+    inr (
+      told.new.patset,
+      told.result,
+      subst (λ (set : List Bool). IsWhichEffect c.args.dfa.now c.args.input.now set c.args.cache.now told.new.cache told.result) c.in-Ok.ensures.capacity told.ensures.effect,
+      subst (λ (set : List Bool). IfErr told.result (IsWhichRefusal c.args.dfa.now told.new.cache.store c.args.input.now set told.new.patset)) c.in-Ok.ensures.capacity told.ensures.refusal,
+      inl (c.in-Ok-list_members.ensures, c.err.ensures.value),
+    )
+
+pub returns-clause-made : goal.returns-clause-made
+returns-clause-made c =
+    let told = c.try_which_overlapping_matches-told in
+    inr (
+      told.new.patset,
+      told.result,
+      subst (λ (set : List Bool). IsWhichEffect c.args.dfa.now c.args.input.now set c.args.cache.now told.new.cache told.result) c.in-Ok.ensures.capacity told.ensures.effect,
+      subst (λ (set : List Bool). IfErr told.result (IsWhichRefusal c.args.dfa.now told.new.cache.store c.args.input.now set told.new.patset)) c.in-Ok.ensures.capacity told.ensures.refusal,
+      inr refl,
+    )

@@ -1,9 +1,11 @@
-use Rattle.std.proofs.Common.{◌≡◌, ◌∙◌, [], ◌∷◌, ◌++◌, None, Some, Err, Ok, ap, inl, inr, refl, sym, subst, List}
+use Rattle.std.proofs.Common.{ℕ, ◌≡◌, ◌∙◌, [], ◌∷◌, ◌++◌, None, Some, Err, Ok, ap, inl, inr, refl, rules, sym, subst, List}
 use Rattle.automata_base.specs.Matches.{Match}
 use Rattle.automata_config.specs.declared.error.SearchError.TheVariants as search
-use Rattle.regex_automata.specs.Tokens.{AreGiven, match_of}
+use Rattle.regex_automata.specs.Tokens.{AreGiven, IsRefusedAt, match_of}
 use Rattle.regex_automata.specs.declared.tokens.error.TokenError.TheVariants.{Search}
 use Rattle.regex_automata.proofs.Completing.{at_end, completes_end, completes_on, item_turn, match_is}
+use Rattle.regex_automata.specs.declared.hybrid.regex.Regex.{Regex}
+use Rattle.regex_automata.proofs.Searched.{token_made_turn, tokens_end, tokens_left, tokens_turn}
 use Rattle.regex_automata.proofs.replay.tokens.take_tokens.Goals as goal
 
 pub loop-item-preserved : goal.loop-item-preserved
@@ -23,6 +25,9 @@ loop-item-preserved c =
       haystack = steps.3 ∙ i.haystack;
       end = steps.4 ∙ i.end;
       going = steps.0.3;
+      made = tokens_turn p.forward input.haystack input.end input.start c.args.cache.now s.cache.now c.next.new.self.cache.now c.loop-item.found.items c.push.new.self.items s.place c.next.new.self.place c.in-Ok.token i.made
+          (token_made_turn s.regex.now p s.haystack.now input.haystack s.end input.end s.place s.cache.now c.next.new.self.cache.now (Some (Ok c.in-Ok.token)) i.regex i.haystack i.end (steps.5, steps.6))
+          items steps.0.1;
       same_cache = steps.2 ∙ i.same_cache;
     }
 
@@ -51,3 +56,47 @@ returns-clause-given c =
     let input = c.args.input in
     completes_end c.args.regex.now.forward input.haystack input.end input.start c.loop-item.found.items s.place None i.comes
     (at_end s.failed s.end input.end s.place c.in-None.ensures.steps.0.0 i.going i.end)
+
+pub returns-in_default-clause-made : goal.returns-in_default-clause-made
+returns-in_default-clause-made c =
+    let steps = rw c.in-Ok.is at c.in-Some.ensures.steps in
+    let name : c.next.new.self.cache.ghost_name ≡ c.into_iter-item-iterator.result.cache.ghost_name = steps.2 ∙ c.loop-item.invariant.same_cache in
+    tokens_left c.args.regex.now.forward c.args.input.haystack c.args.input.end c.args.input.start c.args.cache.now c.next.new.self.cache.now _ c.push.new.self.items (Some (Search search.OutOfMemory)) (sym (c.cache-in_default-1.given.1 (search rules)))
+    (let i = c.loop-item.invariant in
+    let s = c.loop-item.item-iterator in
+    let input = c.args.input in
+    let p = c.args.regex.now in
+    let new = c.next.new.self.cache.now in
+    tokens_end p.forward input.haystack input.end input.start c.args.cache.now s.cache.now new c.loop-item.found.items c.push.new.self.items s.place (Some (Search search.OutOfMemory)) i.made
+    (inr (refl, (c.in-Ok.token, token_made_turn s.regex.now p s.haystack.now input.haystack s.end input.end s.place s.cache.now new (Some (Ok c.in-Ok.token)) i.regex i.haystack i.end (steps.5, steps.6))))
+    c.in_default.ensures.items)
+
+pub returns-in-Err-clause-made : goal.returns-in-Err-clause-made
+returns-in-Err-clause-made c =
+    let steps = rw c.in-Err.is at c.in-Some.ensures.steps in
+    let name : c.next.new.self.cache.ghost_name ≡ c.into_iter-item-iterator.result.cache.ghost_name = steps.2 ∙ c.loop-item.invariant.same_cache in
+    tokens_left c.args.regex.now.forward c.args.input.haystack c.args.input.end c.args.input.start c.args.cache.now c.next.new.self.cache.now _ c.loop-item.found.items (Some c.in-Err.error) (sym (c.in-Err.cache-in-Err-item-1-own.given.1 (search rules)))
+    (let i = c.loop-item.invariant in
+    let s = c.loop-item.item-iterator in
+    let input = c.args.input in
+    let p = c.args.regex.now in
+    let e = c.in-Err.error in
+    let new = c.next.new.self.cache.now in
+    tokens_end p.forward input.haystack input.end input.start c.args.cache.now s.cache.now new c.loop-item.found.items c.loop-item.found.items s.place (Some e) i.made
+    (inl (
+      token_made_turn s.regex.now p s.haystack.now input.haystack s.end input.end s.place s.cache.now new (Some (Err e)) i.regex i.haystack i.end (steps.5, steps.6),
+      subst (λ (r : Regex). IsRefusedAt r.forward new.forward.store input.haystack input.end s.place e) i.regex
+          (subst (λ (h : List ℕ). IsRefusedAt s.regex.now.forward new.forward.store h input.end s.place e) i.haystack
+          (subst (λ n. IsRefusedAt s.regex.now.forward new.forward.store s.haystack.now n s.place e) i.end steps.0.0.1)),
+    )) refl)
+
+pub returns-clause-made : goal.returns-clause-made
+returns-clause-made c =
+    tokens_left c.args.regex.now.forward c.args.input.haystack c.args.input.end c.args.input.start c.args.cache.now c.next.new.self.cache.now _ c.loop-item.found.items None (search rules)
+    (let i = c.loop-item.invariant in
+    let s = c.loop-item.item-iterator in
+    let input = c.args.input in
+    let p = c.args.regex.now in
+    let new = c.next.new.self.cache.now in
+    tokens_end p.forward input.haystack input.end input.start c.args.cache.now s.cache.now new c.loop-item.found.items c.loop-item.found.items s.place None i.made
+    (token_made_turn s.regex.now p s.haystack.now input.haystack s.end input.end s.place s.cache.now new None i.regex i.haystack i.end (c.in-None.ensures.steps.5, c.in-None.ensures.steps.6)) refl)

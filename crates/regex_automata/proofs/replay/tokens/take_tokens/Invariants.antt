@@ -1,5 +1,6 @@
 use Rattle.std.proofs.Common.{◌≡◌, false}
 use Rattle.regex_automata.proofs.Completing.{Completes}
+use Rattle.regex_automata.proofs.Searched.{TokensSearch}
 use Rattle.regex_automata.proofs.replay.tokens.take_tokens.Given as goal
 
 abbrev pub invariant-loop-item : goal.invariant-loop-item
@@ -9,5 +10,6 @@ invariant-loop-item l = record {
   haystack : l.item-iterator.haystack.now ≡ l.fn.input.haystack;
   end : l.item-iterator.end ≡ l.fn.input.end;
   going : l.item-iterator.failed ≡ false;
+  made : TokensSearch l.fn.regex.forward l.fn.input.haystack l.fn.input.end l.fn.input.start l.fn.cache l.found.items l.item-iterator.cache.now l.item-iterator.place;
   same_cache : l.item-iterator.cache.ghost_name ≡ l.initial.item-iterator.cache.ghost_name;
 }

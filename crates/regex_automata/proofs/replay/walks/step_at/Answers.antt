@@ -1,5 +1,5 @@
 use Rattle.std.proofs.Common.{◌≡◌, ◌∙◌, get_or, refl, subst, sym}
-use Rattle.regex_automata.specs.Players.{Goes}
+use Rattle.regex_automata.specs.Players.{Goes, MakesStep}
 use Rattle.regex_automata.specs.declared.replay.walks.KeptWalk.{KeptWalk}
 use Rattle.regex_automata.proofs.KeptWalks.{any_default}
 use Rattle.regex_automata.proofs.replay.walks.step_at.Goals as goal
@@ -14,3 +14,9 @@ returns-clause-goes c = λ old is.
     let g : Goes r at new c.step.result =
     record { regex = refl; reverse = refl; input = refl; step = s.step; told = s.told; kept = s.kept } in
     (new, subst (λ (x : KeptWalk). Goes r x new c.step.result) e g, refl)
+
+pub returns-clause-made : goal.returns-clause-made
+returns-clause-made c = λ old is.
+    let at = get_or c.args.walks.now c.args.number c.index-walks-number.result in
+    let e : at ≡ old = sym (is ∙ any_default c.args.walks.now c.args.number old c.index-walks-number.result c.requires.number) in
+    subst (λ (x : KeptWalk). MakesStep c.args.regex.now x c.args.cache.now c.step.new.cache c.step.result) e (c.step.ensures.made, c.step.ensures.same)

@@ -1,4 +1,4 @@
-use Rattle.std.proofs.Common.{inl}
+use Rattle.std.proofs.Common.{Err, Ok, inl, refl}
 use Rattle.automata_base.specs.Tapes.{Forward}
 use Rattle.regex_automata.proofs.Results.{ok_err, same_err}
 use Rattle.regex_automata.proofs.WalkCalls.{answered, stayed, step_answers, step_refused}
@@ -31,3 +31,18 @@ returns-in-Err-clause-call c =
       told = λ k h. tt;
       kept = λ k h. stayed Forward m input old k h new s.refused;
     }
+
+pub returns-in-Ok-clause-made : goal.returns-in-Ok-clause-made
+returns-in-Ok-clause-made c = λ k h.
+    (c.args.state.now, c.try_search_overlapping_fwd.new.state, Ok tt, h.told, c.in-Ok.ensures.effect, refl, tt)
+
+pub returns-in-Err-clause-made : goal.returns-in-Err-clause-made
+returns-in-Err-clause-made c = λ k h. (
+  c.args.state.now,
+  c.try_search_overlapping_fwd.new.state,
+  Err c.in-Err.error,
+  h.told,
+  c.in-Err.ensures.effect,
+  refl,
+  c.in-Err.ensures.refusal k h.told,
+)

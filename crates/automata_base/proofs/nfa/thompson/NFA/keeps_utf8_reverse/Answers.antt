@@ -1,4 +1,4 @@
-use Rattle.std.proofs.Common.{◌≡◌, ◌↔◌, ◌∷◌, true, Bool, IfOk, sym, ◌∙◌}
+use Rattle.std.proofs.Common.{◌↔◌, ◌∷◌, sym, ◌∙◌}
 use Rattle.std.specs.Prelude.{IsTrue}
 use Rattle.automata_base.specs.Cuts.{MatchKind}
 use Rattle.automata_base.specs.Decoders.{EndsAtBoundaries}
@@ -6,7 +6,7 @@ use Rattle.automata_base.specs.Engines.{engine_of}
 use Rattle.automata_base.specs.Tapes.{Backward}
 use Rattle.automata_base.specs.TruePairs.{KeepsUtf8}
 use Rattle.automata_base.specs.Utf8.{HasNoLook}
-use Rattle.automata_base.proofs.Utf8.Answering.{IsAnswer, if_ok, answer_bytes, answer_keeps, answer_exact, walked_backward}
+use Rattle.automata_base.proofs.Utf8.Answering.{IsAnswer, if_ok, answer_keeps, answer_exact, walked_backward}
 use Rattle.automata_base.proofs.Utf8.Tables.{backward}
 use Rattle.automata_base.proofs.nfa.thompson.NFA.keeps_utf8_reverse.Goals as goal
 

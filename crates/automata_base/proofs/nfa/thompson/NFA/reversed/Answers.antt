@@ -3,10 +3,10 @@ use Rattle.std.specs.Prelude.{IsTrue}
 use Rattle.automata_base.specs.declared.nfa.thompson.State.{State}
 use Rattle.automata_base.specs.Reach.{ReachesMatch}
 use Rattle.automata_base.specs.Refusals.{states_below, states_ordered}
+use Rattle.automata_base.proofs.Reaching.InRange.{door_below}
 use Rattle.automata_base.proofs.Mirrors.Begins.{alike_begins, apart, begins_alike, skips_begins, together}
 use Rattle.automata_base.proofs.Mirrors.Pairs.{patterns_turned, reversed_true}
 use Rattle.automata_base.proofs.Mirrors.Made.{whole_made}
-use Rattle.automata_base.proofs.Mirrors.Ranges.{door_below}
 use Rattle.automata_base.proofs.nfa.thompson.NFA.reversed.Goals as goal
 
 pub reaches_match-requires-clause-range : goal.reaches_match-requires-clause-range

@@ -10,7 +10,7 @@ use Rattle.automata_base.proofs.Determinizing.Distinct.{Contains-In, In-Contains
 use Rattle.automata_base.proofs.Determinizing.Tests_of_lists.{node_fits}
 use Rattle.automata_base.proofs.Paths.Checked.{children_below}
 use Rattle.automata_base.proofs.Paths.Orders.{none_some}
-use Rattle.automata_base.proofs.Reaching.Searched.{nth_in, nth_below, nth_none, take_next}
+use Rattle.automata_base.proofs.Reaching.DepthFirst.{nth_in, nth_below, nth_none, take_next}
 use Rattle.automata_base.proofs.nfa.thompson.finishing.next_edge.Goals as goal
 
 same_edge : (a b : Edge) → Some a ≡ Some b → a ≡ b

@@ -5,7 +5,7 @@ use Rattle.automata_base.specs.declared.nfa.thompson.reach.Edges.TheVariants.{Ep
 use Rattle.automata_base.specs.Finishing.{IsUnderSearch}
 use Rattle.automata_base.specs.Reach.{targets_of}
 use Rattle.automata_base.proofs.Determinizing.Distinct.{Contains-In, In-Contains}
-use Rattle.automata_base.proofs.Reaching.Searched.{search_starts, stack_top}
+use Rattle.automata_base.proofs.Reaching.DepthFirst.{search_starts, stack_top}
 use Rattle.automata_base.proofs.nfa.thompson.finishing.search_from.Goals as goal
 
 pub returns-then-contains-clause-root : goal.returns-then-contains-clause-root

@@ -6,7 +6,7 @@ use Rattle.automata_base.specs.Lists.{In, nth}
 use Rattle.automata_base.specs.Reach.{targets_of}
 use Rattle.automata_base.specs.Refusals.{states_below}
 use Rattle.automata_base.proofs.Reaching.Adding.{state_at_below}
-use Rattle.automata_base.proofs.Reaching.Searched.{search_done, search_enters, stack_two, read_at, edges_at}
+use Rattle.automata_base.proofs.Reaching.DepthFirst.{search_done, search_enters, stack_two, read_at, edges_at}
 use Rattle.automata_base.proofs.nfa.thompson.finishing.step.Goals as goal
 
 pub next_edge-requires-clause-range : goal.next_edge-requires-clause-range

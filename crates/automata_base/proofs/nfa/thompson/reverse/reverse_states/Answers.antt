@@ -9,10 +9,11 @@ use Rattle.automata_base.specs.Once.{Distinct}
 use Rattle.automata_base.specs.Reach.{IsReached}
 use Rattle.automata_base.specs.Refusals.{alternates_of, states_below, states_ordered}
 use Rattle.automata_base.specs.Turns.{HaveCopies}
+use Rattle.automata_base.proofs.Reaching.InRange.{ids_below}
 use Rattle.automata_base.proofs.Determinizing.Walking.{nodes_length}
 use Rattle.automata_base.proofs.Mirrors.Fits.{made_fits, parts_large, root_large, turned_large}
 use Rattle.automata_base.proofs.Mirrors.Lists.{err_is}
-use Rattle.automata_base.proofs.Mirrors.Ranges.{states_whole, states_in_range, ids_below}
+use Rattle.automata_base.proofs.Mirrors.Ranges.{states_whole, states_in_range}
 use Rattle.automata_base.proofs.Mirrors.Sizes.{turned_length, turned_ordered, turned_alternates}
 use Rattle.automata_base.proofs.nfa.thompson.reverse.reverse_states.Goals as goal
 

@@ -31,8 +31,7 @@ returns-in_err-tell-clause-large c = λ e.
 pub returns-then-len-gt-MAX_STATES-clause-large : goal.returns-then-len-gt-MAX_STATES-clause-large
 returns-then-len-gt-MAX_STATES-clause-large c = λ e.
     let are : AreTurned c.args.states.now c.args.reached.now c.args.first c.in_ok-turned.turned.items = (
-      c.tell.new.self.lists.items,
-      c.tell.new.self.helpers.items,
+      turns_of c.tell.new.self,
       c.in_ok-turned.ensures,
       c.in_ok-tell.ensures.turned
           ∙ ap (λ (t : Turns). turn_by t (Match 0) c.args.first)

@@ -1,13 +1,20 @@
 use Rattle.std.proofs.Common.{false}
+use Rattle.automata_hybrid.specs.declared.dfa.row.Row.{Row}
 use Rattle.automata_hybrid.proofs.Growing.{grown_again}
 use Rattle.automata_hybrid.proofs.Searched.{added_progress}
+use Rattle.automata_hybrid.proofs.StartTags.{again_adds, again_keeps, tagged_none}
 use Rattle.automata_hybrid.proofs.dfa.cache.Cache.add_again.Goals as goal
 
 pub returns-clause-grown : goal.returns-clause-grown
 returns-clause-grown c =
     let added = c.in_ok-id.ensures.answer in
-    grown_again c.args.self.now c.add_start.new.self (record { state = c.args.state; started = false }) added.effect c.in_ok-id.ensures.counted
-    added.of added.starts c.see_cells.ensures.cells c.see_cells.ensures.wide c.see_cells.ensures.clears c.requires.new.cheap
+    let r : Row = record { state = c.args.state; started = false } in
+    grown_again c.args.self.now c.add_start.new.self r added.effect c.in_ok-id.ensures.counted
+    added.of added.starts
+    (tagged_none c.args.self.now.store.table c.add_start.new.self.store.table
+    (again_keeps c.args.self.now.store c.add_start.new.self.store r c.see_ids.ensures.ids c.see_ids-2.ensures.ids c.requires.new.lacks.0 added.effect)
+    (again_adds c.args.self.now.store c.add_start.new.self.store r c.see_ids.ensures.ids c.see_ids-2.ensures.ids c.requires.new.lacks.0 added.effect))
+    c.see_cells.ensures.cells c.see_cells.ensures.wide c.see_cells.ensures.clears c.requires.new.cheap
 
 pub returns-clause-progress : goal.returns-clause-progress
 returns-clause-progress c =

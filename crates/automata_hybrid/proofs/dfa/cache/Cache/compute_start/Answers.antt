@@ -55,7 +55,7 @@ returns-in-Known-clause-effect c =
     computed_effect c.args.dfa.now c.args.mode c.args.prev c.args.self.now c.set_start.new.self c.args.slot c.in-Known.id (known c)
     c.requires.slot c.requires.unknown (c.see_slots.ensures ∙ ap (λ (m : Machine). slot_count m) c.requires.of)
     c.see_cells.ensures.cells c.see_cells.ensures.wide c.see_cells.ensures.clears (cheap c.args.dfa.now c.args.self.now.store.table.of c.in_ok-key.key (start_state_of c.args.dfa.now.nfa c.args.mode c.args.prev) c.requires.of c.in_ok-key.ensures.value c.in_ok-key.ensures.cost)
-    c.see_ids.ensures.ids c.see_ids-in-Known.ensures.ids
+    c.see_ids.ensures.ids c.see_ids-in-Known.ensures.ids c.requires.of
 
 pub returns-in_ok-id-in-New-clause-answer : goal.returns-in_ok-id-in-New-clause-answer
 returns-in_ok-id-in-New-clause-answer c =
@@ -68,7 +68,7 @@ returns-in_ok-id-in-New-clause-effect c =
     computed_effect c.args.dfa.now c.args.mode c.args.prev c.args.self.now c.set_start-in-New.new.self c.args.slot c.in_ok-id-in-New.id (new c)
     c.requires.slot c.requires.unknown (c.see_slots.ensures ∙ ap (λ (m : Machine). slot_count m) c.requires.of)
     c.see_cells.ensures.cells c.see_cells.ensures.wide c.see_cells.ensures.clears (cheap c.args.dfa.now c.args.self.now.store.table.of c.in_ok-key.key (start_state_of c.args.dfa.now.nfa c.args.mode c.args.prev) c.requires.of c.in_ok-key.ensures.value c.in_ok-key.ensures.cost)
-    c.see_ids.ensures.ids c.see_ids-in-New.ensures.ids
+    c.see_ids.ensures.ids c.see_ids-in-New.ensures.ids c.requires.of
 
 pub returns-in_err-key-clause-effect : goal.returns-in_err-key-clause-effect
 returns-in_err-key-clause-effect c =

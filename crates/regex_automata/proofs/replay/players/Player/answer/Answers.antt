@@ -1,11 +1,14 @@
 use Rattle.std.proofs.Common.{refl, sym, subst}
+use Rattle.automata_hybrid.specs.Caches.{CacheView}
 use Rattle.automata_hybrid.specs.Machine.{Machine}
 use Rattle.regex_automata.specs.Owing.{ArePatternsUpto}
+use Rattle.regex_automata.specs.ReplayCaches.{AreMade, ArePatternsSearched}
 use Rattle.regex_automata.specs.Replies.{IsReply}
+use Rattle.regex_automata.specs.declared.hybrid.regex.caches.Cache.{Cache}
 use Rattle.regex_automata.specs.declared.replay.requests.Request.{Request}
 use Rattle.regex_automata.specs.declared.replay.requests.Request.TheVariants as request
 use Rattle.regex_automata.specs.declared.replay.replies.Reply.TheVariants as reply
-use Rattle.regex_automata.proofs.Replying.{is_own}
+use Rattle.regex_automata.proofs.Replying.{is_made, is_own}
 use Rattle.regex_automata.proofs.replay.players.Player.answer.Goals as goal
 
 pub returns-in-Which-clause-reply : goal.returns-in-Which-clause-reply
@@ -29,3 +32,31 @@ returns-in-IsMatch-clause-reply c = λ h a.
     let answer = reply.Truth c.is_match.result in
     subst (λ (q : Request). IsReply s.regexes.now h q answer) (sym c.in-IsMatch.is)
     (is_own s.regexes.now h (request.IsMatch c.in-IsMatch.input) answer s.regex.now a.regex refl c.is_match.ensures.owed)
+
+pub returns-in-Which-clause-made : goal.returns-in-Which-clause-made
+returns-in-Which-clause-made c = λ h a.
+    let s = c.args.self.now in
+    let answer = reply.Patterns c.patterns_below-found.result.0 c.patterns_below-found.result.1 in
+    let found = c.patterns_below-found.result in
+    let next = c.patterns_below-found.new.cache in
+    let new : Cache = record { forward = next; reverse = s.cache.reverse } in
+    subst (λ (q : Request). AreMade s.regexes.now h q answer s.cache new) (sym c.in-Which.is)
+    (is_made s.regexes.now h (request.Which c.in-Which.capacity c.in-Which.input) s.cache new answer s.regex.now a.regex (
+      subst (λ (m : Machine). ArePatternsSearched m c.in-Which.input c.in-Which.capacity s.cache.forward next found.0.items found.1) c.forward-in-Which.ensures
+          (subst (λ (v : CacheView). ArePatternsSearched c.forward-in-Which.result.now c.in-Which.input c.in-Which.capacity v next found.0.items found.1) c.forward_mut-in-Which.ensures.value c.patterns_below-found.ensures.made),
+      refl,
+    ))
+
+pub returns-in-Find-clause-made : goal.returns-in-Find-clause-made
+returns-in-Find-clause-made c = λ h a.
+    let s = c.args.self.now in
+    let answer = reply.Span c.find.result in
+    subst (λ (q : Request). AreMade s.regexes.now h q answer s.cache c.find.new.cache) (sym c.in-Find.is)
+    (is_made s.regexes.now h (request.Find c.in-Find.input) s.cache c.find.new.cache answer s.regex.now a.regex (c.find.ensures.effect, c.find.ensures.refusal))
+
+pub returns-in-IsMatch-clause-made : goal.returns-in-IsMatch-clause-made
+returns-in-IsMatch-clause-made c = λ h a.
+    let s = c.args.self.now in
+    let answer = reply.Truth c.is_match.result in
+    subst (λ (q : Request). AreMade s.regexes.now h q answer s.cache c.is_match.new.cache) (sym c.in-IsMatch.is)
+    (is_made s.regexes.now h (request.IsMatch c.in-IsMatch.input) s.cache c.is_match.new.cache answer s.regex.now a.regex (c.is_match.ensures.effect, c.is_match.ensures.refusal))

@@ -1,7 +1,7 @@
 use Rattle.std.proofs.Common.{◌≡◌, ◌<◌, List, length, get_or, ap, refl, sym, ◌∙◌, arith, rules}
 use Rattle.std.proofs.lemmas.Grind.{common_steps}
 use Rattle.regex_automata.specs.declared.replay.walks.KeptWalk.{KeptWalk}
-use Rattle.regex_automata.proofs.WalkReplies.{told_at, no_walk_reply, other_reply, step_reply, at_stepped}
+use Rattle.regex_automata.proofs.WalkReplies.{told_at, no_walk_reply, other_reply, step_made, step_reply, at_stepped}
 use Rattle.regex_automata.proofs.replay.players.Player.step.Goals as goal
 
 pub returns-in-None-clause-reply : goal.returns-in-None-clause-reply
@@ -35,3 +35,12 @@ returns-clause-at c = λ h a.
     at_stepped h s _ c.args.number k c.deref_mut.result.now c.step_at.new.walks c.step_at.result a lt at c.if-of-self.false c.deref_mut.ensures.value
     (c.step_at.ensures.goes k (at ∙ ap (λ (xs : List KeptWalk). get_or xs c.args.number k) (sym c.deref_mut.ensures.value)))
     refl refl refl c.step_at.ensures.of (grind (arith, common_steps))
+
+pub returns-clause-made : goal.returns-clause-made
+returns-clause-made c = λ h a.
+    let s = c.args.self.now in
+    let k = c.in-Some.walk.now in
+    let lt : c.args.number < length s.walks.items = search rules in
+    let at : k ≡ get_or s.walks.items c.args.number k = search rules in
+    step_made h s c.args.number k s.cache c.step_at.new.cache c.step_at.result a lt at c.if-of-self.false
+    (c.step_at.ensures.made k (at ∙ ap (λ (xs : List KeptWalk). get_or xs c.args.number k) (sym c.deref_mut.ensures.value)))

@@ -1,6 +1,5 @@
-use Rattle.std.proofs.Common.{◌≡◌}
-use Rattle.automata_base.specs.Turns.{unions_of}
+use Rattle.automata_base.specs.Turns.{lists_of, AreHeads}
 use Rattle.automata_base.proofs.nfa.thompson.turn.EdgesByTarget.into_states.Given as goal
 
 abbrev pub invariant-loop-alternates : goal.invariant-loop-alternates
-invariant-loop-alternates l = l.states.items ≡ unions_of l.yielded
+invariant-loop-alternates l = AreHeads l.first l.helpers.items (lists_of l.yielded) l.states.items

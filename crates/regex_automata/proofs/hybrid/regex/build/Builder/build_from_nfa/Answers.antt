@@ -5,3 +5,6 @@ pub returns-in-Ok-build_from_nfas-clause-sound : goal.returns-in-Ok-build_from_n
 returns-in-Ok-build_from_nfas-clause-sound c =
     sound_is c.args.self.now c.args.forward c.in-Ok.reverse c.in-Ok-build_from_nfas.regex c.in-Ok-build_from_nfas.ensures.ok
     c.in-Ok.ensures.pair c.in-Ok.ensures.utf8 c.in-Ok.ensures.acyclic
+
+pub returns-in-Err-clause-refused : goal.returns-in-Err-clause-refused
+returns-in-Err-clause-refused c = c.in-Err.ensures.refused c.args.self.now

@@ -1,4 +1,4 @@
--- What the door answers of states that were built is what it answers of all that say the same.
+-- `NFA::from_states` refuses the states that are built exactly as it refuses all states of the same shapes.
 use Rattle.std.proofs.Common.{ℕ, ◌≡◌, ◌⊎◌, List, [], ◌++◌, map, Some, None, Result, Ok, Err, inl, inr, refl, sym, ap, ◌∙◌, subst}
 use Rattle.std.specs.Prelude.{IsOkUnless}
 use Rattle.automata_base.specs.declared.nfa.thompson.NfaError.{NfaError}
@@ -7,10 +7,10 @@ use Rattle.automata_base.specs.declared.nfa.thompson.State.{State}
 use Rattle.automata_base.specs.declared.nfa.thompson.building.Added.{Added}
 use Rattle.automata_base.specs.declared.nfa.thompson.building.BuildError.{BuildError}
 use Rattle.automata_base.specs.declared.nfa.thompson.building.BuildError.TheVariants.{NFA, OutOfMemory}
-use Rattle.automata_base.specs.Drafts.{told}
+use Rattle.automata_base.specs.Drafts.{build_error}
 use Rattle.automata_base.specs.Refusals.{door_refusal}
 use Rattle.automata_base.specs.Shapes.{Shape, shape_of, shape_added, built_of}
-use Rattle.automata_base.proofs.Building.Shaped.{refused_alike}
+use Rattle.automata_base.proofs.Building.Shapes.{refused_alike}
 
 apart : {A : Type 0} (x : A) (e : NfaError) → ◌≡◌ {A = Result A NfaError} (Ok x) (Err e) → ⊥
 apart x e h = cc
@@ -18,13 +18,13 @@ apart x e h = cc
 same_error : {A : Type 0} (x y : NfaError) → ◌≡◌ {A = Result A NfaError} (Err x) (Err y) → x ≡ y
 same_error x y h = cc
 
-told_is : (x : NfaError) → (told x ≡ NFA x) ⊎ (told x ≡ OutOfMemory)
-told_is door.StateRange = inl refl
-told_is door.StartRange = inl refl
-told_is door.PatternRange = inl refl
-told_is door.Ranges = inl refl
-told_is door.TooLarge = inl refl
-told_is door.OutOfMemory = inr refl
+error_is : (x : NfaError) → (build_error x ≡ NFA x) ⊎ (build_error x ≡ OutOfMemory)
+error_is door.StateRange = inl refl
+error_is door.StartRange = inl refl
+error_is door.PatternRange = inl refl
+error_is door.Ranges = inl refl
+error_is door.TooLarge = inl refl
+error_is door.OutOfMemory = inr refl
 
 pub states_built :
     (none new : List State) (added slice : List Added) (shapes : List Shape) → none ≡ []
@@ -46,29 +46,29 @@ module _
     ok_unrefused r nfa is refused states e h f = apart nfa e (sym is ∙ refused e (alike states h ∙ f))
 
     pub err_refused :
-        {A : Type 0} (r : Result A NfaError) (x : NfaError) (answer : BuildError) → answer ≡ told x → r ≡ Err x
+        {A : Type 0} (r : Result A NfaError) (x : NfaError) (answer : BuildError) → answer ≡ build_error x → r ≡ Err x
         → ((e : NfaError) → door_refusal bs a u starts ≡ Some e → r ≡ Err e)
         → (states : List State) (e : NfaError) → map shape_of states ≡ map built_of shapes → door_refusal states a u own ≡ Some e
         → (answer ≡ NFA e) ⊎ (answer ≡ OutOfMemory)
     err_refused {A} r x answer t is refused states e h f =
-        go (told_is x)
+        go (error_is x)
       where
         one : x ≡ e
         one = same_error {A = A} x e (sym is ∙ refused e (alike states h ∙ f))
 
-        go : (told x ≡ NFA x) ⊎ (told x ≡ OutOfMemory) → (answer ≡ NFA e) ⊎ (answer ≡ OutOfMemory)
+        go : (build_error x ≡ NFA x) ⊎ (build_error x ≡ OutOfMemory) → (answer ≡ NFA e) ⊎ (answer ≡ OutOfMemory)
         go (inl k) = inl (t ∙ (k ∙ ap NFA one))
         go (inr k) = inr (t ∙ k)
 
     pub err_memory :
-        {A : Type 0} (r : Result A NfaError) (x : NfaError) (answer : BuildError) → answer ≡ told x → r ≡ Err x
+        {A : Type 0} (r : Result A NfaError) (x : NfaError) (answer : BuildError) → answer ≡ build_error x → r ≡ Err x
         → (door_refusal bs a u starts ≡ None → IsOkUnless r door.OutOfMemory)
         → (states : List State) → map shape_of states ≡ map built_of shapes → door_refusal states a u own ≡ None → answer ≡ OutOfMemory
     err_memory r x answer t is memory states h f =
-        t ∙ ap told (subst (λ z. IsOkUnless z door.OutOfMemory) is (memory (alike states h ∙ f)))
+        t ∙ ap build_error (subst (λ z. IsOkUnless z door.OutOfMemory) is (memory (alike states h ∙ f)))
 
-pub err_told :
+pub err_either :
     {A : Type 0} (answer : BuildError) (e : NfaError) → (answer ≡ NFA e) ⊎ (answer ≡ OutOfMemory)
     → ◌≡◌ {A = Result A BuildError} (Err answer) (Err (NFA e)) ⊎ ◌≡◌ {A = Result A BuildError} (Err answer) (Err OutOfMemory)
-err_told answer e (inl h) = inl (ap (λ z. Err z) h)
-err_told answer e (inr h) = inr (ap (λ z. Err z) h)
+err_either answer e (inl h) = inl (ap (λ z. Err z) h)
+err_either answer e (inr h) = inr (ap (λ z. Err z) h)

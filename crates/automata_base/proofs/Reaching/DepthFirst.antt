@@ -1,4 +1,4 @@
--- What a depth-first search has done, step by step.
+-- The steps of a depth-first search.
 use Rattle.std.proofs.Common.{ℕ, zero, suc, ◌≡◌, ◌<◌, ◌+◌, ◌⊎◌, Bool, true, false, List, [], ◌∷◌, ◌++◌, length, get_or, take, Some, None, inl, inr, refl, sym, ap, ◌∙◌, subst, arith}
 use Rattle.std.specs.Prelude.{Contains, IsTrue, IsFalse, reverse}
 use Rattle.std.proofs.lemmas.List.{reverse-append}
@@ -172,8 +172,8 @@ module _ (n : ℕ) (G : ℕ → List ℕ) (visited finished : List ℕ) where
         leads q (inl e) = subst (λ z. LeadsBy G z next.state) (sym (e ∙ same)) step
         leads q (inr i) = leads_then G q frame.state next.state (w.chain.0 q i) step
 
-    -- The search is done with a state whose edges were all followed: it leads to a state that it is not done with only
-    -- through one below it on the stack, which leads back to it.
+    -- A state is finished whose edges were all followed: it leads to an unfinished state only through one below it on
+    -- the stack, which leads back to it.
     search_leaves :
         (new : List ℕ) → ((r : ℕ) → In r (G frame.state) → In r visited) → (In frame.state finished → ⊥)
         → new ≡ finished ++ frame.state ∷ [] → IsUnderSearch n G visited new below
@@ -227,7 +227,7 @@ module _ (n : ℕ) (G : ℕ → List ℕ) (visited finished : List ℕ) where
               λ m. w.cyclic p frame.state old fresh (subst (LeadsBy G p) h.0 m),
             )
 
-    -- A state that it was done with before is dropped.
+    -- A state that is finished already is dropped.
     search_drops : (new : List ℕ) → In frame.state finished → new ≡ finished → IsUnderSearch n G visited new below
     search_drops new had e = subst (λ z. IsUnderSearch n G visited z below) (sym e) (record {
       visits = λ q i. leaves q (w.visits q i);

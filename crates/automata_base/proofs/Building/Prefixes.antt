@@ -17,7 +17,7 @@ use Rattle.automata_base.specs.Paths.{all_true}
 use Rattle.automata_base.specs.Shapes.{Shape, EmptyShape, RangeShape, SparseShape, DenseShape, LookShape, UnionShape, UnionReverseShape, BinaryUnionShape, CaptureShape, FailShape, MatchShape, shape_of, built_of}
 use Rattle.automata_base.specs.Visits.{children}
 use Rattle.automata_base.proofs.Paths.FirstVisits.{hop_children}
-use Rattle.automata_base.proofs.Reaching.Searched.{nth_in}
+use Rattle.automata_base.proofs.Reaching.DepthFirst.{nth_in}
 
 abbrev shape_node : Shape → Node
 shape_node (EmptyShape next) = Split []

@@ -1,0 +1,264 @@
+//! Automata that are built state by state.
+
+use super::plans::{Plan, Shape, id};
+use super::{check, exhaust, same_of, same_text};
+use crate::catalogue::Entry;
+use Shape::{Accept, Either, Range};
+use regex_automata::nfa::thompson::{BuildError, Builder, NFA, NfaError, State, Transition};
+use regex_automata::util::primitives::{PatternID, StateID};
+use std::process::Abort;
+
+/// Adds a match of the pattern, which begins where the automaton says.
+fn accept<R: Abort>(rt: &R, builder: &mut Builder, nfa: &NFA, pattern: PatternID) -> StateID {
+    let start = nfa.start_pattern(pattern).expect(rt, "a start");
+    let begun = builder.start_pattern().expect(rt, "no other pattern");
+    check(rt, begun == pattern);
+    let added = builder.add_match().expect(rt, "memory");
+    builder.finish_pattern(start).expect(rt, "memory");
+    added
+}
+
+/// Adds a union of one alternate, and the other by a patch.
+fn either<R: Abort + AllocGlobal>(
+    rt: &R,
+    builder: &mut Builder,
+    alt1: StateID,
+    alt2: StateID,
+) -> StateID {
+    let alternates = Vec::from_slice(rt.alloc(), &[alt1]).expect(rt, "memory");
+    let added = builder.add_union(alternates).expect(rt, "memory");
+    builder.patch(added, alt2).expect(rt, "a union");
+    added
+}
+
+/// Adds a range that leads to state 0, and patches it.
+fn range<R: Abort>(rt: &R, builder: &mut Builder, lo: u8, hi: u8, next: StateID) -> StateID {
+    let anew = Transition {
+        lo,
+        hi,
+        next: StateID::ZERO,
+    };
+    let added = builder.add_range(anew).expect(rt, "memory");
+    builder.patch(added, next).expect(rt, "a range");
+    added
+}
+
+fn sparse<R: Abort + AllocGlobal>(rt: &R, builder: &mut Builder, ranges: &[Transition]) -> StateID {
+    let ranges = Vec::from_slice(rt.alloc(), ranges).expect(rt, "memory");
+    builder.add_sparse(ranges).expect(rt, "memory")
+}
+
+fn add<R: Abort + AllocGlobal>(rt: &R, builder: &mut Builder, nfa: &NFA, state: &State) -> StateID {
+    match state {
+        State::ByteRange { lo, hi, next } => range(rt, builder, *lo, *hi, *next),
+        State::Sparse(ranges) => sparse(rt, builder, ranges),
+        State::Look { look, next } => builder.add_look(*next, *look).expect(rt, "memory"),
+        State::BinaryUnion { alt1, alt2 } => either(rt, builder, *alt1, *alt2),
+        State::Match { pattern } => accept(rt, builder, nfa, *pattern),
+        State::Fail => builder.add_fail().expect(rt, "memory"),
+        State::Dense(_) | State::Union { .. } | State::Capture { .. } => {
+            panic!(rt; "no such state is in the catalogue")
+        }
+    }
+}
+
+fn add_all<R: Abort + AllocGlobal>(rt: &R, builder: &mut Builder, nfa: &NFA) {
+    builder.set_utf8(nfa.is_utf8());
+    builder.set_reverse(nfa.is_reverse());
+    builder.set_line_terminator(nfa.flags().line_terminator);
+    for state in nfa.states() {
+        add(rt, builder, nfa, state);
+    }
+}
+
+/// The same automaton by a builder.
+fn rebuilt<R: Abort + AllocGlobal>(rt: &R, nfa: &NFA) -> NFA {
+    let mut builder = Builder::new(rt.alloc());
+    add_all(rt, &mut builder, nfa);
+    builder
+        .build(nfa.start_anchored(), nfa.start_unanchored())
+        .expect(rt, "an automaton")
+}
+
+fn told<R: Abort + AllocGlobal>(rt: &R, nfa: &NFA) -> String {
+    format!(in rt.alloc();
+        "{:?} {:?} {:?} {:?} {:?}",
+        nfa.states(),
+        nfa.start_anchored(),
+        nfa.start_unanchored(),
+        nfa.pattern_starts(),
+        nfa.flags()
+    )
+    .expect(rt, "memory")
+}
+
+fn rebuild<R: Abort + AllocGlobal>(rt: &R, nfa: &NFA, entry: Entry) {
+    let found = told(rt, &rebuilt(rt, nfa));
+    same_of(rt, &found, &told(rt, nfa), &entry);
+}
+
+/// Each automaton of the catalogue, state by state.
+#[test]
+fn rebuilds_the_catalogue(rt: HostRuntime) {
+    for entry in Entry::ALL {
+        let forward = entry.forward(rt.alloc()).expect(&rt, "an entry");
+        rebuild(&rt, &forward, entry);
+        let reverse = entry.reverse(rt.alloc()).expect(&rt, "an entry");
+        rebuild(&rt, &reverse, entry);
+    }
+}
+
+/// Adds `ab` behind any bytes, and builds it.
+fn build_ab(builder: &mut Builder) -> Result<NFA, BuildError> {
+    builder.start_pattern()?;
+    for (byte, next) in [(b'a', 1u8), (b'b', 2)] {
+        let added = builder.add_range(Transition {
+            lo: byte,
+            hi: byte,
+            next: StateID::ZERO,
+        })?;
+        builder.patch(added, id(next))?;
+    }
+    builder.add_match()?;
+    builder.finish_pattern(id(0))?;
+    let start = builder.add_unanchored_prefix(id(0))?;
+    builder.build(id(0), start)
+}
+
+const ANYWHERE: Plan = Plan {
+    states: &[
+        Range(b'a', b'a', 1),
+        Range(b'b', b'b', 2),
+        Accept(0),
+        Either(0, 4),
+        Range(0x00, 0xFF, 3),
+    ],
+    starts: (0, 3),
+    patterns: &[0],
+};
+
+#[test]
+fn begins_anywhere(rt: HostRuntime) {
+    let mut builder = Builder::new(rt.alloc());
+    let nfa = build_ab(&mut builder).expect(&rt, "an automaton");
+    same_text(
+        &rt,
+        &told(&rt, &nfa),
+        &told(&rt, &ANYWHERE.build(&rt)),
+        "ab",
+    );
+    check(&rt, nfa.skips_lazily());
+}
+
+/// The most memory that a turn finds.
+const ROOM: usize = 1 << 15;
+
+/// Whether `ab` that is built skips lazily.
+fn is_lazy(builder: &mut Builder) -> Result<bool, BuildError> {
+    let nfa = build_ab(builder)?;
+    Ok(nfa.skips_lazily())
+}
+
+/// Builds anew in the memory that is left. Tells whether it failed.
+fn fails<R: Abort>(rt: &R, builder: &mut Builder) -> bool {
+    builder.clear();
+    let built = is_lazy(builder);
+    check(
+        rt,
+        built == Ok(true) || built == Err(BuildError::OutOfMemory),
+    );
+    built.is_err()
+}
+
+/// What is left of memory rises by sixteen bytes a turn, so that each allocation fails in some turn. In the end the same
+/// builder builds.
+#[test]
+fn builds_after_each_refused_growth(rt: HostRuntime) {
+    let room = Vec::<u8>::with_capacity(rt.alloc(), ROOM).expect(&rt, "memory");
+    let mut builder = Builder::new(rt.alloc());
+    let mut failed = false;
+    exhaust(rt.alloc());
+    drop(room);
+    for step in 0..1980usize {
+        let filler = Vec::<u8>::with_capacity(rt.alloc(), ROOM - 16 * step).expect(&rt, "memory");
+        failed |= fails(&rt, &mut builder);
+        drop(filler);
+    }
+    check(&rt, failed);
+    check(&rt, !fails(&rt, &mut builder));
+}
+
+fn add_unions<R: Abort + AllocGlobal>(rt: &R, builder: &mut Builder) {
+    let none = Vec::new(rt.alloc());
+    let reverse = builder.add_union_reverse(none).expect(rt, "memory");
+    for to in [3u8, 4, 5] {
+        builder.patch(reverse, id(to)).expect(rt, "a union");
+    }
+    let none = Vec::new(rt.alloc());
+    builder.add_union(none).expect(rt, "memory");
+    let empty = builder.add_empty().expect(rt, "memory");
+    builder.patch(empty, id(3)).expect(rt, "an empty state");
+    builder.start_pattern().expect(rt, "no other pattern");
+    builder.add_capture_start(id(4), 1).expect(rt, "memory");
+    builder.add_capture_end(id(5), 1).expect(rt, "memory");
+    builder.add_match().expect(rt, "memory");
+    builder.finish_pattern(id(0)).expect(rt, "memory");
+}
+
+const UNIONS: &str =
+    "[Union { alternates: [StateID { id: 5 }, StateID { id: 4 }, StateID { id: 3 }] }, Fail, \
+    Union { alternates: [StateID { id: 3 }] }, \
+    Capture { next: StateID { id: 4 }, pattern_id: PatternID { id: 0 }, group_index: 1, slot: 2 }, \
+    Capture { next: StateID { id: 5 }, pattern_id: PatternID { id: 0 }, group_index: 1, slot: 3 }, \
+    Match { pattern: PatternID { id: 0 } }]";
+
+/// A reversed union, one without alternates, an empty state and a group.
+#[test]
+fn builds_unions(rt: HostRuntime) {
+    let mut builder = Builder::new(rt.alloc());
+    add_unions(&rt, &mut builder);
+    let nfa = builder.build(id(0), id(0)).expect(&rt, "an automaton");
+    let found = format!(in rt.alloc(); "{:?}", nfa.states()).expect(&rt, "memory");
+    same_text(&rt, &found, UNIONS, "unions");
+}
+
+/// Each error in turn. A call that fails changes nothing, so the next one finds the builder as it was.
+fn refuse<R: Abort + AllocGlobal>(rt: &R, builder: &mut Builder) {
+    check(rt, builder.add_match() == Err(BuildError::NoPattern));
+    check(
+        rt,
+        builder.finish_pattern(id(0)) == Err(BuildError::NoPattern),
+    );
+    check(
+        rt,
+        builder.patch(id(0), id(0)) == Err(BuildError::StateRange),
+    );
+    let ranges = sparse(rt, builder, &[]);
+    check(
+        rt,
+        builder.patch(ranges, id(0)) == Err(BuildError::SparsePatch),
+    );
+    check(rt, builder.start_pattern() == Ok(PatternID::ZERO));
+    check(
+        rt,
+        builder.start_pattern() == Err(BuildError::UnfinishedPattern),
+    );
+    check(
+        rt,
+        builder.add_capture_start(id(0), u32::MAX) == Err(BuildError::TooLarge),
+    );
+    let unfinished = builder.build(id(0), id(0)).err();
+    check(rt, unfinished == Some(BuildError::UnfinishedPattern));
+    builder.finish_pattern(id(0)).expect(rt, "memory");
+    let refused = builder.build(id(1), id(0)).err();
+    check(rt, refused == Some(BuildError::NFA(NfaError::StartRange)));
+    builder.clear();
+    let none = builder.build(id(0), id(0)).err();
+    check(rt, none == Some(BuildError::NFA(NfaError::StartRange)));
+}
+
+#[test]
+fn refuses_in_turn(rt: HostRuntime) {
+    let mut builder = Builder::new(rt.alloc());
+    refuse(&rt, &mut builder);
+}
