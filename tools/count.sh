@@ -1,12 +1,16 @@
 #!/bin/sh
 # Counts the instructions of searches by callgrind, here, by the twin and by RE2, in a copy that measure.sh made:
 #     tools/count.sh COPY [WORK..]
-# Only what the searches run is counted, of a first search its DFA and cache too, and of a whole one also its automaton,
-# or RE2's parse and program. What a program doesn't have, or isn't there, has a dash.
+# It needs valgrind, and takes half an hour for all works. These leave out haystacks of 1 MB and 64 MB, whose bytes take
+# the instructions of those in 64 KB. Only what the searches run is counted, of a first search its DFA and cache too, and
+# of a whole one also its automaton, or RE2's parse and program. It prints instructions a unit, by measure/works; what a
+# program doesn't have, or isn't there, has a dash.
 set -eu
 copy=$1
 shift
-[ "$#" -gt 0 ] || set -- scan turns long dense short first first20 whole whole20
+units=$(dirname "$0")/measure/works
+# shellcheck disable=SC2046
+[ "$#" -gt 0 ] || set -- $(cut -d ' ' -f 1 "$units" | grep -Ev '^(memory|scan|dense)(1|64)M$')
 counted() { # WORK PROGRAM FUNCTION..
     work=$1
     program=$2
@@ -17,17 +21,21 @@ counted() { # WORK PROGRAM FUNCTION..
         shift
     done
     valgrind --tool=callgrind --callgrind-out-file="$copy/$work.$(basename "$program")" "$@" "$program" "$work" 2>&1 |
-        awk '/Collected/ { print $NF ? $NF : "-" }'
+        awk -v work="$work" 'FNR == NR { if ($1 == work) units = $2; next } /Collected/ { total = $NF }
+            END { each = total / units; print total ? sprintf(each < 100 ? "%.2f" : "%.0f", each) : "-" }' "$units" -
 }
-printf '%-8s %12s %12s %12s\n' work here twin re2
+printf '%-9s %-6s %12s %12s %12s\n' work a here twin re2
 for work in "$@"; do
     case $work in
     whole*) build=Draft::build parse='re2::RE2::RE2(*' ;;
     *) build='' parse='' ;;
     esac
-    here=$(counted "$work" "$copy/crates/measure/out/measure" 'measure::Searcher::*' 'measure::count_spans' \
-        ${build:+"measure::$build"})
-    twin=$(counted "$work" "$copy/twin" 'twin::Searcher::*' 'twin::count_spans' ${build:+"twin::$build"})
-    re2=$(counted "$work" "$copy/re2" 're2::RE2::Match(*' 're2::RE2::Set::Match(*ErrorInfo*' ${parse:+"$parse"})
-    printf '%-8s %12s %12s %12s\n' "$work" "$here" "$twin" "$re2"
+    here=$(counted "$work" "$copy/crates/measure/out/measure" 'measure::Searcher::*' measure::count_spans \
+        measure::count_from measure::sum_of ${build:+"measure::$build"})
+    twin=$(counted "$work" "$copy/twin" 'twin::Searcher::*' twin::count_spans twin::sum_of \
+        ${build:+"twin::nfa::$build"})
+    re2=$(counted "$work" "$copy/re2" 're2::RE2::Match(*' 're2::RE2::Set::Match(*ErrorInfo*' 'has_byte*' \
+        ${parse:+"$parse"})
+    unit=$(awk -v work="$work" '$1 == work { print $3 }' "$units")
+    printf '%-9s %-6s %12s %12s %12s\n' "$work" "$unit" "$here" "$twin" "$re2"
 done

@@ -1,12 +1,19 @@
 #!/bin/sh
-# Measures the library beside RE2 and a twin in Rust, in a copy of the repository with one crate more, outside the gate:
-#     tools/measure.sh [ROUNDS]
-# It needs g++ and RE2's headers; without rustc the twin is left out. Each round runs all programs once with all works;
-# for each work it prints the middle of the rounds in microseconds of the processor, here, by the twin and by RE2, and
-# the times of these two by ours. What the works are stands in measure/measure.in. The twin, measure/twin, is of the
-# same design, with unchecked loads. MEASURE_COPY names a copy to use again.
+# Measures the library beside a lean twin in unchecked Rust and beside RE2, in a copy of the repository with one crate
+# more, outside the gate:
+#     tools/measure.sh [ROUNDS [WORK..]]
+# It needs rt, g++, RE2's headers and library, and rustc; without rustc the twin is left out. Seven rounds, as by
+# default, take three minutes, and on a busy machine ten. The crate `measure` is proved before that, in five minutes
+# more; so are the library's crates, in half an hour more, unless each has its proofs in `out/` (`rt all check`).
+#
+# A round runs each work by the three programs in turn, so that ratios are of neighbours in time. For each work it prints
+# the middle of the rounds in nanoseconds of the processor a unit, and in brackets the first and the third quarter; and
+# the times of the twin and of RE2 by ours, likewise. A machine that others use moves times by half and more: what it
+# prints is worth as much as these brackets are narrow. The works stand in measure/measure.in, and their units in
+# measure/works. With all works it draws the plot docs/speed.svg. MEASURE_COPY names a copy to use again.
 set -eu
 rounds=${1:-7}
+[ "$#" -eq 0 ] || shift
 top=$(cd "$(dirname "$0")/.." && pwd)
 copy=${MEASURE_COPY:-$(mktemp -d)}
 (cd "$top" && git ls-files -z | tar -c --null -T -) | tar -x -C "$copy"
@@ -29,30 +36,23 @@ else
     echo 'without rustc there is no twin'
 fi
 
-works='scan turns ends back dense sparse long short sets nosets tight first first20 whole whole20'
+all=$(cut -d ' ' -f 1 "$top/tools/measure/works")
+works=${*:-$all}
 : > "$copy/told"
-tell() { # WHO PROGRAM
-    # shellcheck disable=SC2086
-    "$2" $works | sed "s/^/$1 /" >> "$copy/told"
+tell() { # ROUND WHO PROGRAM WORK
+    [ ! -x "$3" ] || "$3" "$4" | sed "s/^/$1 $2 /" >> "$copy/told"
 }
-round=0
-while [ "$round" -lt "$rounds" ]; do
-    tell here "$here"
-    [ ! -x "$copy/twin" ] || tell twin "$copy/twin"
-    tell re2 "$copy/re2"
+round=1
+while [ "$round" -le "$rounds" ]; do
+    for work in $works; do
+        tell "$round" here "$here" "$work"
+        tell "$round" twin "$copy/twin" "$work"
+        tell "$round" re2 "$copy/re2" "$work"
+    done
     round=$((round + 1))
 done
-middle() { # WHO WORK
-    awk -v who="$1" -v work="$2" '$1 == who && $2 == work && $4 ~ /^[0-9]+$/ { print $4 }' "$copy/told" | sort -n |
-        awk '{ t[NR] = $1 } END { if (NR) print t[int((NR + 1) / 2)]; else print "-" }'
-}
-ratio() { awk -v a="$1" -v b="$2" 'BEGIN { if (a == "-" || b == "-") print "-"; else printf "%.2f", b / a }'; }
-printf '%-8s %10s %10s %10s %10s %10s\n' work here twin re2 twin/here re2/here
-for work in $works; do
-    ours=$(middle here "$work")
-    twin=$(middle twin "$work")
-    re2=$(middle re2 "$work")
-    printf '%-8s %10s %10s %10s %10s %10s\n' "$work" "$ours" "$twin" "$re2" \
-        "$(ratio "$ours" "$twin")" "$(ratio "$ours" "$re2")"
-done
+awk -f "$top/tools/measure/table.awk" "$top/tools/measure/works" "$copy/told" | tee "$copy/table"
+if [ "$works" = "$all" ]; then
+    awk -f "$top/tools/measure/plot.awk" "$copy/table" > "$top/docs/speed.svg"
+fi
 echo "the copy, with the programs and all rounds: $copy"

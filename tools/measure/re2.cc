@@ -1,7 +1,9 @@
 // The same works by RE2: for each name of a work what was counted, and the microseconds of the processor.
 #include <re2/re2.h>
 #include <re2/set.h>
+#include <cstdint>
 #include <cstdio>
+#include <cstdlib>
 #include <cstring>
 #include <ctime>
 #include <string>
@@ -10,6 +12,12 @@
 using re2::RE2;
 using re2::StringPiece;
 
+static const size_t kSize = 1 << 24;
+static const char kShort[] = "in 2018, worwx and 12";
+static const char kOne[] = "abcdefghijklmnopqrstuvwxyz .,;-+";
+static const char kLine[] = "aorax then some other text eoreX and more eorex of it, then gorgx and more morm";
+static const char kOther[] = "xxray then some other text yoreX and more zorez of it, then vorgx and more worm";
+
 static long now() {
   timespec t;
   clock_gettime(CLOCK_PROCESS_CPUTIME_ID, &t);
@@ -17,11 +25,44 @@ static long now() {
 }
 
 // As many bytes of a piece, again and again, as fit.
-static std::string text_of(const char* piece) {
+static std::string text_of(const char* piece, size_t size) {
   std::string text;
-  for (size_t n = (1u << 24) / strlen(piece); n > 0; n--) text += piece;
+  for (size_t n = size / strlen(piece); n > 0; n--) text += piece;
   return text;
 }
+
+// Letters that look random, the same ones in each program.
+struct Noise {
+  uint32_t state;
+  char letter() {
+    state = state * 1664525 + 1013904223;
+    return 'a' + (state >> 28);
+  }
+};
+
+static std::vector<std::string> random_words(size_t count) {
+  std::vector<std::string> words(count);
+  Noise noise{1};
+  for (std::string& word : words)
+    for (int i = 0; i < 6; i++) word += noise.letter();
+  return words;
+}
+
+static std::string random_text(size_t size) {
+  std::string text;
+  Noise noise{2};
+  for (size_t i = 0; i < size; i++) text += noise.letter();
+  return text;
+}
+
+static std::string joined(const std::vector<std::string>& words) {
+  std::string all;
+  for (const std::string& word : words) all += (all.empty() ? "" : "|") + word;
+  return all;
+}
+
+// How often a text of a size is searched.
+static size_t turns(size_t size) { return size < kSize ? kSize / size : 1; }
 
 static RE2::Options latin() {
   RE2::Options o;
@@ -33,34 +74,37 @@ static void tell(const char* work, long count, long start) {
   printf("%s %ld %ld\n", work, count, now() - start);
 }
 
-static const char kOne[] = "abcdefghijklmnopqrstuvwxyz .,;-+";
-static const char kLine[] = "aorax then some other text eoreX and more eorex of it, then gorgx and more morm";
-static const char kOther[] = "xxray then some other text yoreX and more zorez of it, then vorgx and more worm";
 
-static void ends(const char* work, const char* piece) {
-  RE2 re("[0-9]{4}", latin());
-  std::string text = text_of(piece);
+// RE2 has no search for an end alone: it is asked for spans here too.
+static void matches(const char* work, const char* pattern, const char* piece, size_t size = kSize) {
+  RE2 re(pattern, latin());
+  std::string text = text_of(piece, size);
   long start = now(), count = 0;
-  size_t at = 0;
-  StringPiece m;
-  // RE2 has no search for an end alone: it is asked for the span.
-  while (re.Match(text, at, text.size(), RE2::UNANCHORED, &m, 1)) {
-    count++;
-    at = m.data() + m.size() - text.data();
+  for (size_t turn = turns(size); turn > 0; turn--) {
+    size_t at = 0;
+    StringPiece m;
+    while (re.Match(text, at, text.size(), RE2::UNANCHORED, &m, 1)) {
+      count++;
+      at = m.data() + m.size() - text.data();
+    }
   }
   tell(work, count, start);
 }
 
-static void spans(const char* work, const char* piece) {
-  RE2 re("[a-z]+", latin());
-  std::string text = text_of(piece);
+static void ends(const char* work, const char* piece, size_t size = kSize) { matches(work, "[0-9]{4}", piece, size); }
+
+static void spans(const char* work, const char* piece, size_t size = kSize) { matches(work, "[a-z]+", piece, size); }
+
+// Not looked into by the compiler, so that a loop keeps each call.
+__attribute__((noipa)) static bool has_byte(const std::string& text) {
+  return memchr(text.data(), '#', text.size()) != nullptr;
+}
+
+// The C library's search for a byte that isn't there.
+static void memory(const char* work, size_t size) {
+  std::string text = text_of(kOne, size);
   long start = now(), count = 0;
-  size_t at = 0;
-  StringPiece m;
-  while (re.Match(text, at, text.size(), RE2::UNANCHORED, &m, 1)) {
-    count++;
-    at = m.data() + m.size() - text.data();
-  }
+  for (size_t turn = turns(size); turn > 0; turn--) count += has_byte(text);
   tell(work, count, start);
 }
 
@@ -87,11 +131,12 @@ static void sets(const char* work, const char* line) {
 }
 
 // The first search of a new regex, without the time of its program, which stands for our automaton.
-static void first(const char* work, const std::string& pattern) {
-  StringPiece text("in 2018, worwx and 12");
+static void first(const char* work, const std::string& pattern, const std::string& text, int turns) {
+  RE2::Options options = latin();
+  options.set_max_mem(1 << 26);
   long count = 0, time = 0;
-  for (int i = 0; i < 20000; i++) {
-    RE2 re(pattern, latin());
+  for (int i = 0; i < turns; i++) {
+    RE2 re(pattern, options);
     long start = now();
     if (re.Match(text, 0, text.size(), RE2::UNANCHORED, nullptr, 0)) count++;
     time += now() - start;
@@ -101,7 +146,7 @@ static void first(const char* work, const std::string& pattern) {
 
 // The same with the time of the parse and the program.
 static void whole(const char* work, const std::string& pattern) {
-  StringPiece text("in 2018, worwx and 12");
+  StringPiece text(kShort);
   long count = 0, time = 0;
   for (int i = 0; i < 20000; i++) {
     long start = now();
@@ -112,10 +157,61 @@ static void whole(const char* work, const std::string& pattern) {
   printf("%s %ld %ld\n", work, count, time);
 }
 
+// The first KB searched for a word, a thousand words in all.
+static void first_words(const char* work, int words) {
+  first(work, joined(random_words(words)), random_text(1 << 10), 1000 / words);
+}
+
+// Which words 256 KB have, by a set whose program is made before, and whose states all fit.
+static void set_words(const char* work, int words) {
+  RE2::Options options = latin();
+  options.set_max_mem(1 << 27);
+  RE2::Set set(options, RE2::UNANCHORED);
+  for (const std::string& word : random_words(words)) set.Add(word, nullptr);
+  set.Compile();
+  std::string text = random_text(1 << 18);
+  std::vector<int> v;
+  long start = now();
+  set.Match(text, &v);
+  tell(work, v.size(), start);
+}
+
+// 4,096 states over 256 KB. Two thirds of RE2's memory are for the search forward.
+static void room(const char* work, size_t capacity) {
+  RE2::Options options = latin();
+  options.set_max_mem(capacity / 2 * 3);
+  options.set_log_errors(false);
+  RE2 re("a[ab]{11}c", options);
+  std::string text = random_text(1 << 18);
+  for (char& letter : text) letter = letter < 'i' ? 'a' : 'b';
+  long start = now();
+  bool found = re.ok() && re.Match(text, 0, text.size(), RE2::UNANCHORED, nullptr, 0);
+  if (re.ok()) tell(work, found, start);
+  else printf("%s -\n", work);
+}
+
 static std::string twenty() {
   std::string p;
   for (char c = 'a'; c < 'u'; c++) p += std::string(p.empty() ? "" : "|") + c + "or" + c + "x";
   return p;
+}
+
+// The works whose names end in a number, with K or M for 1,024 or 1,048,576 of them.
+static bool grow(const char* work) {
+  size_t letters = strcspn(work, "0123456789");
+  char* unit;
+  size_t size = strtoul(work + letters, &unit, 10);
+  if (*unit == 'K') size <<= 10;
+  if (*unit == 'M') size <<= 20;
+  std::string name(work, letters);
+  if (name == "scan") ends(work, kOne, size);
+  else if (name == "dense") spans(work, "word ", size);
+  else if (name == "memory") memory(work, size);
+  else if (name == "words") first_words(work, size);
+  else if (name == "set") set_words(work, size);
+  else if (name == "room" && size > 0) room(work, size);
+  else return false;
+  return true;
 }
 
 int main(int n, char** words) {
@@ -132,9 +228,10 @@ int main(int n, char** words) {
     else if (w == "short") shorts(name, "ab1cd23efghi 456");
     else if (w == "sets") sets(name, kLine);
     else if (w == "nosets") sets(name, kOther);
-    else if (w == "first") first(name, "[0-9]{4}");
-    else if (w == "first20") first(name, twenty());
+    else if (w == "first") first(name, "[0-9]{4}", kShort, 20000);
+    else if (w == "first20") first(name, twenty(), kShort, 20000);
     else if (w == "whole") whole(name, "[0-9]{4}");
     else if (w == "whole20") whole(name, twenty());
+    else if (!grow(name)) printf("%s -\n", name);
   }
 }

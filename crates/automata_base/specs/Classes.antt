@@ -41,7 +41,7 @@ look_bounds terminator look byte = (bounds 48 57 byte || bounds 65 90 byte) || (
 unfoldable pub state_bounds : (terminator : ℕ) → State → ℕ → Bool
 state_bounds terminator (is.ByteRange lo hi next) byte = bounds lo hi byte
 state_bounds terminator (is.Sparse ts) byte = transitions_bound ts.items byte
-state_bounds terminator (is.Dense targets) byte = targets_bound targets byte
+state_bounds terminator (is.Dense targets) byte = targets_bound targets.value byte
 state_bounds terminator (is.Look look next) byte = look_bounds terminator look byte
 state_bounds terminator (is.Union alternates) byte = false
 state_bounds terminator (is.BinaryUnion alt1 alt2) byte = false

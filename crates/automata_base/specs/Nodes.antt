@@ -23,7 +23,7 @@ dense_from u (suc k ∷ rest) = record { lo = u; hi = u; next = suc k } ∷ dens
 abbrev pub node_of : State → Node
 node_of (is.ByteRange lo hi next) = Read (record { lo = lo; hi = hi; next = next } ∷ [])
 node_of (is.Sparse ts) = Read (ranges_of ts.items)
-node_of (is.Dense targets) = Read (dense_from 0 targets)
+node_of (is.Dense targets) = Read (dense_from 0 targets.value)
 node_of (is.Look look next) = Assert look next
 node_of (is.Union alternates) = Split alternates.items
 node_of (is.BinaryUnion alt1 alt2) = Split (alt1 ∷ alt2 ∷ [])

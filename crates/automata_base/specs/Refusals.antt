@@ -17,7 +17,7 @@ transitions_below n (t ∷ ts) = ltb t.next n && transitions_below n ts
 abbrev pub state_below : ℕ → State → Bool
 state_below n (is.ByteRange lo hi next) = ltb next n
 state_below n (is.Sparse ts) = transitions_below n ts.items
-state_below n (is.Dense targets) = all_below n targets
+state_below n (is.Dense targets) = all_below n targets.value
 state_below n (is.Look look next) = ltb next n
 state_below n (is.Union alternates) = all_below n alternates.items
 state_below n (is.BinaryUnion alt1 alt2) = ltb alt1 n && ltb alt2 n

@@ -9,7 +9,7 @@ use Rattle.automata_base.specs.Runs.{runs_from}
 abbrev pub asking_edges : State → ℕ
 asking_edges (is.ByteRange lo hi next) = 1
 asking_edges (is.Sparse ts) = length ts.items
-asking_edges (is.Dense targets) = length (runs_from 0 0 targets)
+asking_edges (is.Dense targets) = length (runs_from 0 0 targets.value)
 asking_edges (is.Look look next) = 1
 asking_edges (is.Union alternates) = 0
 asking_edges (is.BinaryUnion alt1 alt2) = 0

@@ -25,7 +25,7 @@ runs_from lo byte (x ∷ xs) =
 abbrev pub ranged : State → Node
 ranged (is.ByteRange lo hi next) = node_of (is.ByteRange lo hi next)
 ranged (is.Sparse ts) = node_of (is.Sparse ts)
-ranged (is.Dense targets) = Read (ranges_of (runs_from 0 0 targets))
+ranged (is.Dense targets) = Read (ranges_of (runs_from 0 0 targets.value))
 ranged (is.Look look next) = node_of (is.Look look next)
 ranged (is.Union alternates) = node_of (is.Union alternates)
 ranged (is.BinaryUnion alt1 alt2) = node_of (is.BinaryUnion alt1 alt2)

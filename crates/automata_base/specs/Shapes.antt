@@ -24,7 +24,7 @@ pub data Shape : Type 0 where
 abbrev pub shape_of : State → Shape
 shape_of (is.ByteRange lo hi next) = RangeShape lo hi next
 shape_of (is.Sparse ts) = SparseShape ts.items
-shape_of (is.Dense targets) = DenseShape targets
+shape_of (is.Dense targets) = DenseShape targets.value
 shape_of (is.Look look next) = LookShape look next
 shape_of (is.Union alternates) = UnionShape alternates.items
 shape_of (is.BinaryUnion alt1 alt2) = BinaryUnionShape alt1 alt2

@@ -58,7 +58,7 @@ turn_ranges t from (r ∷ rs) = turn_ranges (turn_by t (is.ByteRange r.lo r.hi f
 abbrev pub turn_state : Turns → (from : ℕ) → State → Turns
 turn_state t from (is.ByteRange lo hi next) = turn_by t (is.ByteRange lo hi from) next
 turn_state t from (is.Sparse ts) = turn_ranges t from ts.items
-turn_state t from (is.Dense targets) = turn_ranges t from (runs_from 0 0 targets)
+turn_state t from (is.Dense targets) = turn_ranges t from (runs_from 0 0 targets.value)
 turn_state t from (is.Look look next) = turn_by t (is.Look (flip look) from) next
 turn_state t from (is.Union alternates) = turn_all t from alternates.items
 turn_state t from (is.BinaryUnion alt1 alt2) = turn_free (turn_free t from alt1) from alt2

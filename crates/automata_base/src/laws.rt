@@ -15,8 +15,8 @@ ghost use Rattle.automata_base.specs.Within.{StatesTellOwn, ToldLiesWithin, Walk
 
 use crate::nfa::thompson::NFA;
 
-/// Late is right: the list walk whose matches come one unit late, and whose looks are decided when the next unit is
-/// known, tells what the ordered paths select.
+/// Late is right: the walk over lists of NFA states whose matches are delayed by one byte, and whose looks are decided
+/// when the next byte is known, reports what the ordered paths select.
 pub fn late_is_right()
     ensures searches { SearchesAreRight }
     ensures walks { WalksAreRight }
@@ -57,8 +57,8 @@ pub fn steps_are_alike()
     ensures dead { DeadStaysDead }
 {}
 
-/// What a pass tells, unit by unit, is what the ordered paths through the tape select; and
-/// with split places skipped they tell one answer.
+/// What a pass reports, byte by byte, is what the ordered paths through the tape select; and where offsets inside a
+/// UTF-8 encoded character are skipped, passes report one answer.
 pub fn passes_tell_paths()
     ensures selects { PassesSelect }
     ensures nearest { PassesFindNearest }
@@ -66,8 +66,8 @@ pub fn passes_tell_paths()
     ensures one { ToldIsOne }
 {}
 
-/// What passes tell is the answer of the ordered paths, split places skipped as by these; and for every automaton the
-/// nearest end, or under kind all the farthest one. It lies in the span, and its pattern is one of the automaton's.
+/// What passes report is the answer of the ordered paths, both with offsets inside characters skipped; and for every
+/// NFA the nearest end, or under `MatchKind::All` the farthest one. It lies in the span, and its pattern is the NFA's.
 pub fn told_is_right(nfa: &NFA)
     ensures answer { ToldIsRight nfa.now }
     ensures ends { ToldEndsAreRight nfa.now }
@@ -76,9 +76,9 @@ pub fn told_is_right(nfa: &NFA)
     let _states = nfa.states();
 }
 
-/// What the pass of an overlapping walk tells is one list, and it is the list of the ordered paths; and for every
-/// automaton it has, under kind all, the pairs of all accepting paths. Each pair lies in the span, and its pattern is
-/// one of the automaton's.
+/// What the pass of an overlapping walk reports is one list, and it is the list of the ordered paths; and for every
+/// NFA it has, under `MatchKind::All`, the pairs of all accepting paths. Each pair lies in the span, and its pattern is
+/// the NFA's.
 pub fn walk_is_right(nfa: &NFA)
     ensures told { WalksAreTold nfa.now }
     ensures one { WalksAreOne }

@@ -1,4 +1,4 @@
-//! The base of the lazy DFA: NFAs, inputs, determinisation, and the theory that they stand on.
+//! The base of the lazy DFA: NFAs, inputs, determinization, and the theory that they stand on.
 #![tactic(auto)]
 
 pub mod laws;

@@ -24,7 +24,7 @@ pub const ENTRY_SIZE: usize = 20;
 /// What the states of the three rows cost that every table begins with.
 pub const FIXED_ROWS_COST: usize = 39;
 
-/// What the two sets of NFA states take that a determinisation works in, for each state of the NFA.
+/// What the two sets of NFA states that determinization works in take, for each state of the NFA.
 const SETS_COST: usize = 16;
 
 /// What a place on the stack of a closure takes.
@@ -38,7 +38,7 @@ pub fn max_cost(nfa: &NFA) -> usize
     HEAD_COST + PATTERN_COST * pattern_count(nfa) + ID_COST * nfa.states().len()
 }
 
-/// What every cache takes for determinisation, in accounted bytes.
+/// What every cache takes for determinization, in accounted bytes.
 pub fn fixed_cost(nfa: &NFA) -> usize
     ensures cost { result ≡ bytes.fixed_cost nfa.now }
     ensures few { result ≤ 2 ^ 34 }

@@ -12,7 +12,7 @@ use automata_base::util::look::{Look, LookSet};
 use automata_base::util::search::MatchKind;
 use std::marker::Model;
 
-/// The options of a lazy DFA. What isn't set has its default.
+/// The options of a lazy DFA. An option that is not set has its default.
 #[derive(Clone, Copy, Debug, Default)]
 pub struct Config {
     match_kind: Option<MatchKind>,
@@ -76,7 +76,7 @@ impl Config {
         Config::default()
     }
 
-    /// Which matches a search tells. By default `MatchKind::LeftmostFirst`: that of the path that goes first.
+    /// Which matches a search reports. By default `MatchKind::LeftmostFirst`: that of the path that is preferred.
     pub fn match_kind(self, kind: MatchKind) -> Config
         ensures { result ≡ record self { match_kind = Some kind } }
     {
@@ -87,7 +87,7 @@ impl Config {
     }
 
     /// Whether each pattern has start states of its own, so that it can be searched for alone, by `Anchored::Pattern`.
-    /// By default it hasn't, and such a search is refused.
+    /// By default it has not, and such a search is an error.
     pub fn starts_for_each_pattern(self, yes: bool) -> Config
         ensures { result ≡ record self { starts_for_each_pattern = Some yes } }
     {
@@ -108,8 +108,8 @@ impl Config {
         }
     }
 
-    /// Whether Unicode word boundaries are tried, the bytes from 0x80 on being quit bytes where one occurs. By default
-    /// they aren't: an automaton with one is refused, unless all these bytes are quit bytes.
+    /// Whether Unicode word boundaries are tried: where the NFA has one, the bytes from 0x80 on are quit bytes. By
+    /// default they are not: an NFA with one is an error, unless all these bytes are quit bytes.
     pub fn unicode_word_boundary(self, yes: bool) -> Config
         ensures { result ≡ record self { unicode_word_boundary = Some yes } }
     {
@@ -140,7 +140,8 @@ impl Config {
         }
     }
 
-    /// Whether the IDs of start states are tagged, so that `LazyStateID::is_start` tells them. By default they aren't.
+    /// Whether the IDs of start states are tagged, so that `LazyStateID::is_start` is true of them. By default they are
+    /// not.
     pub fn specialize_start_states(self, yes: bool) -> Config
         ensures { result ≡ record self { specialize_start_states = Some yes } }
     {
@@ -151,7 +152,7 @@ impl Config {
     }
 
     /// How many accounted bytes a cache may have. By default 2 MiB. A capacity below `get_minimum_cache_capacity` is
-    /// refused when a DFA is built, unless `skip_cache_capacity_check` is set.
+    /// an error when a DFA is built, unless `skip_cache_capacity_check` is set.
     pub fn cache_capacity(self, bytes: usize) -> Config
         ensures { result ≡ record self { cache_capacity = Some bytes } }
     {
@@ -161,7 +162,7 @@ impl Config {
         }
     }
 
-    /// Whether the minimum is taken in place of a capacity below it. By default such a capacity is refused.
+    /// Whether the minimum is taken in place of a capacity below it. By default such a capacity is an error.
     pub fn skip_cache_capacity_check(self, yes: bool) -> Config
         ensures { result ≡ record self { skip_cache_capacity_check = Some yes } }
     {
@@ -200,14 +201,14 @@ impl Config {
         self.match_kind.unwrap_or(MatchKind::LeftmostFirst)
     }
 
-    /// Whether each pattern has anchored starts of its own. By default it hasn't.
+    /// Whether each pattern has anchored start states of its own. By default it has not.
     pub fn get_starts_for_each_pattern(&self) -> bool
         ensures { result ≡ options.starts_for_each_pattern_of self.now }
     {
         self.starts_for_each_pattern.unwrap_or(false)
     }
 
-    /// Whether bytes that nothing tells apart share a class. By default they do.
+    /// Whether bytes that the NFA cannot distinguish share a class. By default they do.
     pub fn get_byte_classes(&self) -> bool
         ensures { result ≡ options.byte_classes_of self.now }
     {
@@ -221,7 +222,8 @@ impl Config {
         self.unicode_word_boundary.unwrap_or(false)
     }
 
-    /// Whether the byte was put into the quit set. What the heuristic adds isn't told here.
+    /// Whether the byte was put into the quit set. This does not include what the heuristic for Unicode word boundaries
+    /// adds.
     pub fn get_quit(&self, byte: u8) -> bool
         ensures { result ≡ is_quit (options.quits_of self.now) byte }
     {
@@ -242,21 +244,22 @@ impl Config {
         self.cache_capacity.unwrap_or(2 * (1 << 20))
     }
 
-    /// Whether a capacity below the minimum is raised to it, and not refused. By default it is refused.
+    /// Whether a capacity below the minimum is raised to it. By default it is an error.
     pub fn get_skip_cache_capacity_check(&self) -> bool
         ensures { result ≡ options.skip_cache_capacity_check_of self.now }
     {
         self.skip_cache_capacity_check.unwrap_or(false)
     }
 
-    /// How many clears are allowed before the next one may be refused. By default none is refused.
+    /// How many clears are allowed before a search may give up in place of the next one. By default no search gives up.
     pub fn get_minimum_cache_clear_count(&self) -> Option<usize>
         ensures { result ≡ options.minimum_cache_clear_count_of self.now }
     {
         self.minimum_cache_clear_count.unwrap_or(None)
     }
 
-    /// How many bytes must have been searched for each state since the last clear, so that the next isn't refused.
+    /// How many bytes must have been searched for each state since the last clear, so that a search does not give up in
+    /// place of the next one.
     pub fn get_minimum_bytes_per_state(&self) -> Option<usize>
         ensures { result ≡ options.minimum_bytes_per_state_of self.now }
     {

@@ -18,7 +18,7 @@ pub enum BuildError {
     /// The NFA has a Unicode word look, the heuristic is off, and not every byte above 0x7F is a quit byte.
     #[error("unsupported regex feature for DFAs: cannot build lazy DFAs for regexes with Unicode word boundaries; switch to ASCII word boundaries, or heuristically enable Unicode word boundaries or use a different regex engine")]
     Unsupported,
-    /// The capacity given is below the minimum, and the test isn't skipped.
+    /// The capacity given is below the minimum, and the check is not skipped.
     #[error("given cache capacity ({given}) is smaller than minimum required ({minimum})")]
     InsufficientCacheCapacity { minimum: usize, given: usize },
     /// The least table has an offset that no ID can hold.

@@ -7,8 +7,7 @@ use Rattle.automata_hybrid.specs.Caches.{CacheView}
 use Rattle.automata_hybrid.specs.Clears.{row_of}
 use Rattle.automata_hybrid.specs.Effects.{AddsNext, AddsStart, cleared_saving, grown, put_found}
 use Rattle.automata_hybrid.specs.Founds.{IsLookedUp}
-use Rattle.automata_hybrid.specs.Machine.{Machine, greatest}
-use Rattle.automata_hybrid.specs.Owned.{IsOwn}
+use Rattle.automata_hybrid.specs.Machine.{IsStateOf, Machine, greatest}
 use Rattle.automata_hybrid.specs.Stores.{KeepsStarts, Stored, with_table}
 use Rattle.automata_hybrid.specs.Table.{Has, IsNewState, Lacks, Names, Rows, id_of}
 use Rattle.automata_hybrid.specs.Usage.{Fits, IsCleared}
@@ -16,11 +15,11 @@ use Rattle.automata_hybrid.proofs.Effects.{only-grown}
 
 -- a state to be added, by the machine that a table is of
 pub new_state :
-    (m : Machine) (t : Rows) (q : Powerset) → t.of ≡ m → Lacks t q → cost q ≤ greatest m → IsOwn m.nfa q → IsNewState t q
+    (m : Machine) (t : Rows) (q : Powerset) → t.of ≡ m → Lacks t q → cost q ≤ greatest m → IsStateOf m q → IsNewState t q
 new_state m t q of lacks cheap own = record {
   lacks = lacks;
   cheap = subst (λ (n : Machine). cost q ≤ greatest n) (sym of) cheap;
-  own = subst (λ (n : Machine). IsOwn n.nfa q) (sym of) own;
+  own = subst (λ (n : Machine). IsStateOf n q) (sym of) own;
 }
 
 -- and to be added to another table of that machine

@@ -8,9 +8,8 @@ use Rattle.std.proofs.Math.Nat.{mul-le-mul_right}
 use Rattle.automata_base.specs.Powerset.{Powerset, cost, dead}
 use Rattle.automata_base.specs.Equal.{powerset_eq, powerset_eq-Decides}
 use Rattle.automata_hybrid.specs.declared.dfa.row.Row.{Row}
-use Rattle.automata_hybrid.specs.Owned.{IsOwn}
 use Rattle.automata_hybrid.specs.Ids.{tags}
-use Rattle.automata_hybrid.specs.Machine.{next_of, greatest, template_of, table_stride}
+use Rattle.automata_hybrid.specs.Machine.{IsStateOf, next_of, greatest, template_of, table_stride}
 use Rattle.std.specs.List.{sum_by}
 use Rattle.std.proofs.lemmas.List.Sums.{sum_by-cons}
 use Rattle.automata_hybrid.specs.Table.{Rows, has_patterns, find_id, Names, IsValid, Leads, IsCell, row_id, with_cell, cell_at, HasRowIds, IsTable, IsStepped, HasState, StateMap, row_cost}
@@ -240,11 +239,11 @@ pub Names-alive : (t : Rows) (m : StateMap) (costs id : ℕ) (q : Powerset) → 
 Names-alive t m costs id q i h d =
     let p = Names-Placed t m costs id q i h in (i.alive p.place p.row p.has).0 (p.state ∙ d)
 
--- the states of rows are the automaton's own
-pub Names-own : (t : Rows) (m : StateMap) (costs id : ℕ) (q : Powerset) → IsTable t m costs → Names t id q → IsOwn t.of.nfa q
+-- the states of rows are the DFA's
+pub Names-own : (t : Rows) (m : StateMap) (costs id : ℕ) (q : Powerset) → IsTable t m costs → Names t id q → IsStateOf t.of q
 Names-own t m costs id q i h =
     let p = Names-Placed t m costs id q i h in
-    subst (IsOwn t.of.nfa) p.state (i.alive p.place p.row p.has).2
+    subst (IsStateOf t.of) p.state (i.alive p.place p.row p.has).2
 
 -- each row is found by its state, and stands below the limit of offsets
 pub IsTable-ids : (t : Rows) (m : StateMap) (costs : ℕ) → IsTable t m costs → HasRowIds t

@@ -1,5 +1,5 @@
 -- Units that a search reads from an ID, from what the step on each answers and changes.
-use Rattle.std.proofs.Common.{ℕ, ◌≡◌, ◌∙◌, ◌+◌, ◌<◌, ◌≤◌, Option, None, refl, sym, ap, subst, arith}
+use Rattle.std.proofs.Common.{ℕ, ◌≡◌, ◌∙◌, ◌+◌, ◌<◌, ◌≤◌, inl, Option, None, refl, sym, ap, subst, arith}
 use Rattle.std.specs.Prelude.{Result, Ok, Err}
 use Rattle.std.specs.Result.{IsErrAnd}
 use Rattle.automata_base.specs.Powerset.{Powerset, dead}
@@ -16,12 +16,13 @@ use Rattle.automata_hybrid.specs.Ids.{fixed_from}
 use Rattle.automata_hybrid.specs.Knowing.{IsOfInput}
 use Rattle.automata_hybrid.specs.Machine.{Machine, table_stride}
 use Rattle.automata_hybrid.specs.Passing.{step_refusal}
-use Rattle.automata_hybrid.specs.Reading.{IsReadEffect, IsReadRefusal, IsStepRefusedAt}
+use Rattle.automata_hybrid.specs.Reading.{ClearsForNext, IsReadEffect, IsReadRefusal, IsStepRefusedAt}
 use Rattle.automata_hybrid.specs.Searched.{IsOfRoom}
 use Rattle.automata_hybrid.specs.Searches.{IsStepRefusal}
 use Rattle.automata_hybrid.specs.Stepping.{IsStepAnswer, IsStepEffect, KnowsStep, unit_class}
 use Rattle.automata_hybrid.specs.Stores.{with_searched}
 use Rattle.automata_hybrid.specs.Table.{IsValid, Names}
+use Rattle.automata_hybrid.proofs.Clearing.{clears_closed, clears_moved, step_clears}
 use Rattle.automata_hybrid.proofs.Growing.{grown_moved, grown_trans, nothing_second}
 use Rattle.automata_hybrid.proofs.StepCalls.{no_quit_unit}
 use Rattle.automata_hybrid.proofs.Stepping.{refused}
@@ -82,6 +83,11 @@ module _ (m : Machine) (id : ℕ) (unit : Option ℕ) (old mid next : CacheView)
   still : KnowsStep m old.store id unit → next.count ≡ old.count
   still known = ap (λ (v : CacheView). v.count) (effect.known (here known)) ∙ ap (λ (v : CacheView). v.count) moved
 
+  cleared : (n : ℕ) → id < fixed_from → IsStepAnswer m id unit mid next n → ClearsForNext m id unit old.store next.store
+  cleared n low a =
+      clears_moved m id unit old.store mid.store next.store (ap (λ (v : CacheView). v.store) moved)
+      (step_clears m id unit mid next n low effect a)
+
   -- which is answered
   pub read_answered :
       {T : Type 0} (answer : T) (n : ℕ) → id < fixed_from → IsStepAnswer m id unit mid next n
@@ -91,6 +97,7 @@ module _ (m : Machine) (id : ℕ) (unit : Option ℕ) (old mid next : CacheView)
     below = below;
     counted = counted;
     grown = grown;
+    cleared = cleared n low a;
     known = λ known. (grown.idle (still known), tt);
     learned = λ nothing. a.learned low (nothing_second old mid next first effect.grown nothing);
   }
@@ -104,15 +111,17 @@ module _ (m : Machine) (id : ℕ) (unit : Option ℕ) (old mid next : CacheView)
     below = below;
     counted = counted;
     grown = grown;
+    cleared = λ q n. inl (ap (λ (v : CacheView). v.store.clears) r.refused.unchanged ∙ ap (λ (v : CacheView). v.store.clears) moved);
     known = λ known. absurd (r.refused.unknown (here known));
     learned = λ nothing. tt;
   }
 
   -- or met a quit byte, at which the search may have ended
   pub read_quits :
-      {T : Type 0} (new : CacheView) {s' : Searched} → new ≡ with_store next (with_searched next.store s')
+      {T : Type 0} (n : ℕ) → id < fixed_from → IsStepAnswer m id unit mid next n
+      → (new : CacheView) {s' : Searched} → new ≡ with_store next (with_searched next.store s')
       → (byte at : ℕ) (e : SearchError) → e ≡ search.Match (QuitAt byte at) → IsReadEffect {T = T} m id unit old new (Err e)
-  read_quits new ended byte at e told =
+  read_quits n low a new ended byte at e told =
       let last : IsGrown old new = grown_trans old next new grown (grown_moved next new ended) in
       let same : new.count ≡ next.count = ap (λ (v : CacheView). v.count) ended in
       record {
@@ -120,6 +129,8 @@ module _ (m : Machine) (id : ℕ) (unit : Option ℕ) (old mid next : CacheView)
         below = below;
         counted = omega (arith, counted, same);
         grown = last;
+        cleared =
+            clears_closed m id unit old.store next new ended (cleared n low a);
         known = λ known. (last.idle (same ∙ still known), subst IsOfInput (sym told) tt);
         learned = λ nothing. tt;
       }

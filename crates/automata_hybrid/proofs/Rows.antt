@@ -10,9 +10,8 @@ use Rattle.automata_base.specs.Powerset.{Powerset, cost}
 use Rattle.automata_base.specs.Equal.{powerset_eq, powerset_eq-Decides}
 use Rattle.automata_hybrid.specs.declared.dfa.row.Row.{Row}
 use Rattle.automata_base.specs.Powerset.{dead}
-use Rattle.automata_hybrid.specs.Owned.{IsOwn}
 use Rattle.automata_hybrid.specs.Ids.{quit_id}
-use Rattle.automata_hybrid.specs.Machine.{next_of, greatest, template_of, IsTemplate, table_stride}
+use Rattle.automata_hybrid.specs.Machine.{IsStateOf, next_of, greatest, template_of, IsTemplate, table_stride}
 use Rattle.automata_hybrid.specs.Table.{Rows, find_id, id_of, Names, Leads, IsCell, row_id, row_cost, with_row, IsTable, IsStepped, StateMap}
 
 -- a state that rows have keeps its ID when more come
@@ -87,7 +86,7 @@ IsTable-stepped t r template whole old k class x h l = go (at_push t.rows r k x 
         new (inr u) = inr (u, inl u)
 
 -- a new row, and the map that knows it
-pub IsTable-with_row : (t : Rows) (r : Row) (m n : StateMap) (costs : ℕ) → IsTable t m costs → id_of t r.state ≡ None → (r.state ≡ dead → ⊥) → cost r.state ≤ greatest t.of → IsOwn t.of.nfa r.state → length t.cells < 2 ^ 27
+pub IsTable-with_row : (t : Rows) (r : Row) (m n : StateMap) (costs : ℕ) → IsTable t m costs → id_of t r.state ≡ None → (r.state ≡ dead → ⊥) → cost r.state ≤ greatest t.of → IsStateOf t.of r.state → length t.cells < 2 ^ 27
     → ((p : Powerset) → get powerset_eq n p ≡ cond (powerset_eq r.state p) (Some (row_id (length t.cells) r)) (get powerset_eq m p)) → IsTable (with_row t r) n (costs + cost r.state)
 IsTable-with_row t r m n costs i none live cheap of fits new =
     let more : length (t.cells ++ (template_of t.of)) ≡ length t.cells + table_stride t.of = length-append t.cells (template_of t.of) ∙ ap (λ k. length t.cells + k) i.template.whole in
@@ -108,9 +107,9 @@ IsTable-with_row t r m n costs i none live cheap of fits new =
       distinct k x (inl e) = Names-more t r _ x.state (i.distinct k x e)
       distinct k x (inr (e, f)) = subst (λ y. Names (with_row t r) (row_id ((k + 3) * table_stride t.of) y) y.state) f (subst (λ n. Names (with_row t r) (row_id n r) r.state) (i.whole ∙ rw e refl) (Names-new t r i.whole none))
 
-      alive : (k : ℕ) (x : Row) → (slice_get t.rows k ≡ Some x) ⊎ ((k ≡ length t.rows) × (r ≡ x)) → (x.state ≡ dead → ⊥) × (cost x.state ≤ greatest t.of) × IsOwn t.of.nfa x.state
+      alive : (k : ℕ) (x : Row) → (slice_get t.rows k ≡ Some x) ⊎ ((k ≡ length t.rows) × (r ≡ x)) → (x.state ≡ dead → ⊥) × (cost x.state ≤ greatest t.of) × IsStateOf t.of x.state
       alive k x (inl e) = i.alive k x e
-      alive k x (inr (e, f)) = subst (λ (y : Row). (y.state ≡ dead → ⊥) × (cost y.state ≤ greatest t.of) × IsOwn t.of.nfa y.state) f (live, cheap, of)
+      alive k x (inr (e, f)) = subst (λ (y : Row). (y.state ≡ dead → ⊥) × (cost y.state ≤ greatest t.of) × IsStateOf t.of y.state) f (live, cheap, of)
 
       same : (p : Powerset) → powerset_eq r.state p ≡ true → get powerset_eq n p ≡ id_of (with_row t r) p
       same p e = new p ∙ rw e (sym (subst (λ w. id_of (with_row t r) w ≡ Some (row_id (length t.cells) r)) ((powerset_eq-Decides r.state p).0 e) (Names-new t r i.whole none)))

@@ -1,5 +1,5 @@
 -- What steps, moves and ends make of the progress of a pass.
-use Rattle.std.proofs.Common.{ℕ, suc, ◌≡◌, ◌∙◌, ◌+◌, ◌-◌, ◌≤◌, ◌⊎◌, ⊎_elim, length, Option, None, Some, inl, inr, refl, sym, ap, subst, arith}
+use Rattle.std.proofs.Common.{ℕ, suc, ◌≡◌, ◌∙◌, ◌+◌, ◌-◌, ◌^◌, ◌<◌, ◌≤◌, ◌⊎◌, ⊎_elim, length, Option, None, Some, inl, inr, refl, sym, ap, subst, arith}
 use Rattle.std.specs.Prelude.{Err, IfErr, Ok, OnOk, Result}
 use Rattle.automata_base.specs.Answers.{Tries}
 use Rattle.automata_base.specs.Input.{Input}
@@ -14,13 +14,15 @@ use Rattle.automata_hybrid.specs.declared.dfa.row.Row.{Row}
 use Rattle.automata_hybrid.specs.Stores.{Stored, with_searched}
 use Rattle.automata_hybrid.specs.Effects.{IsAddedStart, IsComputed, IsStarted}
 use Rattle.automata_hybrid.specs.Caches.{CacheView, with_store}
-use Rattle.automata_hybrid.specs.Growing.{IsGrown, IsKeptOrCleared, KeepsProgress}
+use Rattle.automata_hybrid.specs.Growing.{ClearedNothing, IsGrown, IsKeptOrCleared, KeepsProgress}
 use Rattle.automata_hybrid.specs.Machine.{Machine}
 use Rattle.automata_hybrid.specs.Passing.{IsAt}
 use Rattle.automata_hybrid.specs.Progressing.{finished, from_place, progress_cleared, saturated, started, updated}
-use Rattle.automata_hybrid.specs.Searched.{CountsFrom, EndsAtLast, IsBehindEnd, IsEndedAt, IsEndedBy, IsLeftAt, IsMovedTo, IsOfRoom, IsOpenAt, IsQuitUnit, IsStoppedAt, TriesSpans, none_searched}
-use Rattle.automata_hybrid.specs.Searches.{Finds, IsUnitRefusal, Reads, Skips, given_up_offset, tape_in}
+use Rattle.automata_hybrid.specs.Reading.{ClearsForNext, IsLastProgress}
+use Rattle.automata_hybrid.specs.Searched.{CountsFrom, EndsAtLast, IsBehindEnd, IsClearedBetween, IsClearedFor, IsClearedFrom, IsEndedAt, IsEndedBy, IsLeftAt, IsMovedTo, IsOfRoom, IsOpenAt, IsQuitUnit, IsStoppedAt, TriesSpans, none_searched}
+use Rattle.automata_hybrid.specs.Searches.{Finds, IsUnitRefusal, Reads, Skips, given_up_offset, state_in, tape_in}
 use Rattle.automata_hybrid.specs.Table.{Names}
+use Rattle.automata_hybrid.proofs.Clearing.{clears_unit, from_after, from_then}
 use Rattle.automata_hybrid.proofs.Costing.{tries_before}
 use Rattle.automata_hybrid.proofs.Effects.{counts_up}
 use Rattle.automata_hybrid.proofs.Growing.{grown_moved, grown_trans, nothing_first, nothing_second}
@@ -59,45 +61,72 @@ added_progress old new r (inr (full, may, e)) =
     clears_progress old new (ap (λ (s : Stored). s.clears) e) (ap (λ (s : Stored). s.searched) e)
 
 -- what came before a step, a step, and what it left
-module _ (input : Input) (s : Searched) (first : ℕ) (old mid new : CacheView) (before : IsGrown old mid) (after : IsGrown mid new) where
+module _ (way : Direction) (m : Machine) (input : Input) (s : Searched) (first : ℕ) (old mid new : CacheView)
+    (before : IsGrown old mid) (after : IsGrown mid new) where
+  -- nothing was cleared by it, as long as clears are counted
+  uncounted : new.store.clears ≡ mid.store.clears → new.store.clears < 2 ^ 64 - 1 → ClearedNothing mid.store new.store
+  uncounted same few = (same, omega (arith, same, few))
+
   still :
       {beside : Searched} {from : ℕ}
-      → new.store.clears ≡ mid.store.clears → CountsFrom input s first old.store mid.store beside from
-      → CountsFrom input s first old.store new.store beside from
+      → new.store.clears ≡ mid.store.clears → CountsFrom way m input s first old.store mid.store beside from
+      → CountsFrom way m input s first old.store new.store beside from
   still same (inl c) = inl (same ∙ c.0, c.1, c.2)
-  still same (inr c) = inr (λ nothing. c.0 (nothing_first old mid new before after nothing), c.1, c.2, c.3)
-
-  -- an open pass moves to an offset of the span, and a step is made there
-  moves :
-      (x at : ℕ) (to : Searched) → input.start ≤ at → at ≤ input.end
-      → IsOpenAt input s first x old.store mid.store
-      → IsKeptOrCleared mid.store new.store (updated mid.store.searched at) to
-      → (beside : Searched) × (from : ℕ) × CountsFrom input s first old.store new.store beside from
-      × (to ≡ updated (started beside from) at)
-  moves x at to low high (b, from, counts, e) (inl same) =
-      (b, from, still same.0 counts, same.1 ∙ ap (λ (v : Searched). updated v at) e)
-  moves x at to low high (b, from, counts, e) (inr (cleared, same)) = (
-    none_searched,
-    at,
-    inr (λ nothing. cleared (nothing_second old mid new before after nothing), refl, low, high),
-    same ∙ ap (λ (v : Searched). progress_cleared (updated v at)) e,
+  still {from = from} same (inr c) = inr (
+    λ nothing. c.0 (nothing_first old mid new before after nothing),
+    c.1,
+    c.2,
+    c.3,
+    λ few.
+        from_then way m input first from old.store mid.store new.store after.of (after.kept (uncounted same few)) same
+        (c.4 (omega (arith, same, few))),
   )
 
-  pub stays_open :
-      (x at : ℕ) → input.start ≤ at → at ≤ input.end
-      → IsOpenAt input s first x old.store mid.store → IsMovedTo at mid.store new.store
-      → IsOpenAt input s first at old.store new.store
-  stays_open x at low high o moved = moves x at new.store.searched low high o moved
+  -- an open pass moves to the offset of a unit, and makes the step on it there
+  module _ (k at : ℕ) (place : given_up_offset way input k ≡ at)
+      (clears : (new.store.clears ≡ mid.store.clears)
+      ⊎ IsClearedBetween (state_in way m input k) (state_in way m input (suc k)) mid.store new.store) where
+    here : (ClearedNothing mid.store new.store → ⊥) → new.store.clears < 2 ^ 64 - 1 → IsClearedFrom way m input first old.store new.store at
+    here cleared few = go clears where
+      go :
+          (new.store.clears ≡ mid.store.clears)
+          ⊎ IsClearedBetween (state_in way m input k) (state_in way m input (suc k)) mid.store new.store
+          → IsClearedFrom way m input first old.store new.store at
+      go (inl same) = absurd (cleared (uncounted same few))
+      go (inr c) =
+          from_after way m input first at old.store mid.store new.store (mid.count - old.count) before.made
+          (inr (k, sym place, c))
 
-  pub ends_open :
-      (x at : ℕ) → input.start ≤ at → at ≤ input.end
-      → IsOpenAt input s first x old.store mid.store → IsEndedBy at mid.store new.store
-      → IsEndedAt input s first at old.store new.store
-  ends_open x at low high o (left, kept, e) = go (moves x at left low high o kept) where
-    go :
-        ((beside : Searched) × (from : ℕ) × CountsFrom input s first old.store new.store beside from
-        × (left ≡ updated (started beside from) at)) → IsEndedAt input s first at old.store new.store
-    go (b, from, counts, same) = (b, from, counts, e ∙ ap (λ (v : Searched). finished v at) same)
+    moves :
+        (x : ℕ) (to : Searched) → input.start ≤ at → at ≤ input.end
+        → IsOpenAt way m input s first x old.store mid.store
+        → IsKeptOrCleared mid.store new.store (updated mid.store.searched at) to
+        → (beside : Searched) × (from : ℕ) × CountsFrom way m input s first old.store new.store beside from
+        × (to ≡ updated (started beside from) at)
+    moves x to low high (b, from, counts, e) (inl same) =
+        (b, from, still same.0 counts, same.1 ∙ ap (λ (v : Searched). updated v at) e)
+    moves x to low high (b, from, counts, e) (inr (cleared, same)) = (
+      none_searched,
+      at,
+      inr (λ nothing. cleared (nothing_second old mid new before after nothing), refl, low, high, here cleared),
+      same ∙ ap (λ (v : Searched). progress_cleared (updated v at)) e,
+    )
+
+    pub stays_open :
+        (x : ℕ) → input.start ≤ at → at ≤ input.end
+        → IsOpenAt way m input s first x old.store mid.store → IsMovedTo at mid.store new.store
+        → IsOpenAt way m input s first at old.store new.store
+    stays_open x low high o moved = moves x new.store.searched low high o moved
+
+    pub ends_open :
+        (x : ℕ) → input.start ≤ at → at ≤ input.end
+        → IsOpenAt way m input s first x old.store mid.store → IsEndedBy at mid.store new.store
+        → IsEndedAt way m input s first at old.store new.store
+    ends_open x low high o (left, kept, e) = go (moves x left low high o kept) where
+      go :
+          ((beside : Searched) × (from : ℕ) × CountsFrom way m input s first old.store new.store beside from
+          × (left ≡ updated (started beside from) at)) → IsEndedAt way m input s first at old.store new.store
+      go (b, from, counts, same) = (b, from, counts, e ∙ ap (λ (v : Searched). finished v at) same)
 
 -- a search moved to an offset, made a step, and ended there
 pub ended_by :
@@ -165,13 +194,16 @@ module _ (way : Direction) (m : Machine) (input : Input) (s : Searched) (old mid
     (alive : (q : Powerset) → Names mid.store.table id q → q ≡ dead → ⊥)
     (unit : next (tape_in way input) k ≡ u) (place : given_up_offset way input k ≡ at)
     (low : input.start ≤ at) (high : at ≤ input.end)
-    (o : IsOpenAt input s (given_up_offset way input 0) x old.store mid.store) where
-  ended_here :
-      IsEndedBy at mid.store new.store
-      → IsEndedAt input s (given_up_offset way input 0) (given_up_offset way input k) old.store new.store
+    (o : IsOpenAt way m input s 0 x old.store mid.store) (clears : ClearsForNext m id u mid.store new.store) where
+  for_next :
+      (new.store.clears ≡ mid.store.clears)
+      ⊎ IsClearedBetween (state_in way m input k) (state_in way m input (suc k)) mid.store new.store
+  for_next = clears_unit way m input k id u mid.store new.store stands.named unit clears
+
+  ended_here : IsEndedBy at mid.store new.store → IsEndedAt way m input s 0 (given_up_offset way input k) old.store new.store
   ended_here ended =
-      subst (λ a. IsEndedAt input s (given_up_offset way input 0) a old.store new.store) (sym place)
-      (ends_open input s (given_up_offset way input 0) old mid new before after x at low high o ended)
+      subst (λ a. IsEndedAt way m input s 0 a old.store new.store) (sym place)
+      (ends_open way m input s 0 old mid new before after k at place for_next x low high o ended)
 
   -- which is its last one
   pub last_here :
@@ -196,16 +228,16 @@ module _ (way : Direction) (m : Machine) (input : Input) (s : Searched) (old mid
       go :
           IsLeftAt m u at mid.store new.store e
           → ((IsQuitUnit m (next (tape_in way input) k) ⊎ IsBehindEnd way input k)
-          × IsEndedAt input s (given_up_offset way input 0) (given_up_offset way input k) old.store new.store)
+          × IsEndedAt way m input s 0 (given_up_offset way input k) old.store new.store)
           ⊎ ((IsBehindEnd way input k → ⊥) × IsOfRoom (given_up_offset way input k) e
-          × IsOpenAt input s (given_up_offset way input 0) (given_up_offset way input k) old.store new.store)
+          × IsOpenAt way m input s 0 (given_up_offset way input k) old.store new.store)
       go (inl (quits, ended)) = inl (inl (subst (IsQuitUnit m) (sym unit) quits), ended_here ended)
       go (inr (room, moved)) =
           inr (
             inner,
             subst (λ a. IsOfRoom a e) (sym place) room,
-            subst (λ a. IsOpenAt input s (given_up_offset way input 0) a old.store new.store) (sym place)
-                (stays_open input s (given_up_offset way input 0) old mid new before after x at low high o moved),
+            subst (λ a. IsOpenAt way m input s 0 a old.store new.store) (sym place)
+                (stays_open way m input s 0 old mid new before after k at place for_next x low high o moved),
           )
 
 -- a search begins as if nothing had been searched, where a clear came before
@@ -227,55 +259,83 @@ started_cleared s first = go s.running where
 module _ (way : Direction) (m : Machine) (input : Input) (low : input.start ≤ given_up_offset way input 0)
     (high : given_up_offset way input 0 ≤ input.end) (old begun mid new : CacheView) (starts : IsGrown old begun)
     (kept : KeepsProgress old.store begun.store)
+    (clears : (begun.store.clears ≡ old.store.clears) ⊎ IsClearedFor (state_in way m input 0) old.store begun.store)
     (begins : mid ≡ with_store begun (with_searched begun.store (started begun.store.searched (given_up_offset way input 0))))
     (after : IsGrown mid new) where
   moved : IsGrown begun mid
   moved = grown_moved begun mid begins
 
-  recount :
-      (beside : Searched) (from : ℕ)
-      → CountsFrom input begun.store.searched (given_up_offset way input 0) mid.store new.store beside from
-      → (b : Searched) × (f : ℕ) × CountsFrom input old.store.searched (given_up_offset way input 0) old.store new.store b f
+  abbrev Recounted : (beside : Searched) (from : ℕ) → Type 0
+  Recounted beside from =
+      (b : Searched) × (f : ℕ) × CountsFrom way m input old.store.searched 0 old.store new.store b f
       × (started beside from ≡ started b f)
+
+  -- the clear came for the start state, and none after it
+  for_start :
+      (ClearedNothing old.store begun.store → ⊥) → new.store.clears ≡ mid.store.clears → new.store.clears < 2 ^ 64 - 1
+      → IsClearedFrom way m input 0 old.store new.store (given_up_offset way input 0)
+  for_start cleared same few = go clears where
+    none : new.store.clears ≡ begun.store.clears
+    none = same ∙ ap (λ (v : CacheView). v.store.clears) begins
+
+    rest : IsGrown begun new
+    rest = grown_trans begun mid new moved after
+
+    go :
+        (begun.store.clears ≡ old.store.clears) ⊎ IsClearedFor (state_in way m input 0) old.store begun.store
+        → IsClearedFrom way m input 0 old.store new.store (given_up_offset way input 0)
+    go (inl stays) = absurd (cleared (stays, omega (arith, stays, none, few)))
+    go (inr c) =
+        from_then way m input 0 (given_up_offset way input 0) old.store begun.store new.store rest.of
+        (rest.kept (none, omega (arith, none, few))) none (inl (refl, c))
+
+  recount :
+      (beside : Searched) (from : ℕ) → CountsFrom way m input begun.store.searched 0 mid.store new.store beside from
+      → Recounted beside from
   recount beside from (inr c) = (
     beside,
     from,
-    inr (λ nothing. c.0 (nothing_second old mid new (grown_trans old begun mid starts moved) after nothing), c.1, c.2, c.3),
+    inr (
+      λ nothing. c.0 (nothing_second old mid new (grown_trans old begun mid starts moved) after nothing),
+      c.1,
+      c.2,
+      c.3,
+      λ few.
+          from_after way m input 0 from old.store mid.store new.store (mid.count - old.count)
+          (grown_trans old begun mid starts moved).made (c.4 few),
+    ),
     refl,
   )
   recount beside from (inl c) = go kept where
-    go :
-        KeepsProgress old.store begun.store
-        → (b : Searched) × (f : ℕ) × CountsFrom input old.store.searched (given_up_offset way input 0) old.store new.store b f
-        × (started beside from ≡ started b f)
+    go : KeepsProgress old.store begun.store → Recounted beside from
     go (inl same) = (beside, from, inl (c.0 ∙ (ap (λ (v : CacheView). v.store.clears) begins ∙ same.0), c.1 ∙ same.1, c.2), refl)
     go (inr (cleared, same)) = (
       none_searched,
       given_up_offset way input 0,
-      inr (λ nothing. cleared (nothing_first old begun new starts (grown_trans begun mid new moved after) nothing), refl, low, high),
+      inr (
+        λ nothing. cleared (nothing_first old begun new starts (grown_trans begun mid new moved after) nothing),
+        refl,
+        low,
+        high,
+        for_start cleared c.0,
+      ),
       (λ i. started (c.1 i) (c.2 i))
           ∙ (ap (λ (s : Searched). started s (given_up_offset way input 0)) same
           ∙ started_cleared old.store.searched (given_up_offset way input 0)),
     )
 
   ends_again :
-      (at : ℕ) → IsEndedAt input begun.store.searched (given_up_offset way input 0) at mid.store new.store
-      → IsEndedAt input old.store.searched (given_up_offset way input 0) at old.store new.store
+      (at : ℕ) → IsEndedAt way m input begun.store.searched 0 at mid.store new.store
+      → IsEndedAt way m input old.store.searched 0 at old.store new.store
   ends_again at (beside, from, counts, e) = go (recount beside from counts) where
-    go :
-        ((b : Searched) × (f : ℕ) × CountsFrom input old.store.searched (given_up_offset way input 0) old.store new.store b f
-        × (started beside from ≡ started b f))
-        → IsEndedAt input old.store.searched (given_up_offset way input 0) at old.store new.store
+    go : Recounted beside from → IsEndedAt way m input old.store.searched 0 at old.store new.store
     go (b, f, c, same) = (b, f, c, e ∙ ap (λ (s : Searched). finished s at) same)
 
   opens_again :
-      (at : ℕ) → IsOpenAt input begun.store.searched (given_up_offset way input 0) at mid.store new.store
-      → IsOpenAt input old.store.searched (given_up_offset way input 0) at old.store new.store
+      (at : ℕ) → IsOpenAt way m input begun.store.searched 0 at mid.store new.store
+      → IsOpenAt way m input old.store.searched 0 at old.store new.store
   opens_again at (beside, from, counts, e) = go (recount beside from counts) where
-    go :
-        ((b : Searched) × (f : ℕ) × CountsFrom input old.store.searched (given_up_offset way input 0) old.store new.store b f
-        × (started beside from ≡ started b f))
-        → IsOpenAt input old.store.searched (given_up_offset way input 0) at old.store new.store
+    go : Recounted beside from → IsOpenAt way m input old.store.searched 0 at old.store new.store
     go (b, f, c, same) = (b, f, c, e ∙ ap (λ (s : Searched). updated s at) same)
 
   pub pass_ends :
@@ -351,9 +411,13 @@ kept_twice old mid new f g (inr (cleared, a)) (inr (after, b)) =
     )
 
 -- an open pass ended at an offset, and what came after it moved no progress
-module _ (input : Input) (s : Searched) (first : ℕ) (old mid ended new : CacheView) (before : IsGrown old mid) (at x : ℕ)
+module _ (way : Direction) (m : Machine) (input : Input) (s : Searched) (first : ℕ) (old mid ended new : CacheView)
+    (before : IsGrown old mid) (at x : ℕ)
     (ends : ended ≡ with_store mid (with_searched mid.store (finished mid.store.searched at))) (after : IsGrown ended new)
-    (low : input.start ≤ at) (high : at ≤ input.end) (o : IsOpenAt input s first x old.store mid.store) where
+    (low : input.start ≤ at) (high : at ≤ input.end) (o : IsOpenAt way m input s first x old.store mid.store) (k : ℕ)
+    (place : given_up_offset way input k ≡ at)
+    (clears : (new.store.clears ≡ ended.store.clears)
+    ⊎ IsClearedBetween (state_in way m input k) (state_in way m input (suc k)) ended.store new.store) where
   finished_none : finished (started none_searched at) at ≡ none_searched
   finished_none = ap done none where
     none : 0 + ((at - at) + (at - at)) ≡ 0
@@ -362,7 +426,7 @@ module _ (input : Input) (s : Searched) (first : ℕ) (old mid ended new : Cache
     done : ℕ → Searched
     done n = record { bytes = saturated n; running = None }
 
-  pub ends_kept : KeepsProgress ended.store new.store → IsEndedAt input s first at old.store new.store
+  pub ends_kept : KeepsProgress ended.store new.store → IsEndedAt way m input s first at old.store new.store
   ends_kept kept = go kept o where
     same : ended.store.searched ≡ finished mid.store.searched at
     same = ap (λ (v : CacheView). v.store.searched) ends
@@ -371,19 +435,25 @@ module _ (input : Input) (s : Searched) (first : ℕ) (old mid ended new : Cache
     moved = grown_moved mid ended ends
 
     go :
-        KeepsProgress ended.store new.store → IsOpenAt input s first x old.store mid.store
-        → IsEndedAt input s first at old.store new.store
+        KeepsProgress ended.store new.store → IsOpenAt way m input s first x old.store mid.store
+        → IsEndedAt way m input s first at old.store new.store
     go (inl e) (b, from, counts, under) = (
       b,
       from,
-      still input s first old mid new before (grown_trans mid ended new moved after)
+      still way m input s first old mid new before (grown_trans mid ended new moved after)
           (e.0 ∙ ap (λ (v : CacheView). v.store.clears) ends) counts,
       e.1 ∙ (same ∙ ap (λ (v : Searched). finished v at) under),
     )
     go (inr (cleared, e)) (b, from, counts, under) = (
       none_searched,
       at,
-      inr (λ nothing. cleared (nothing_second old ended new (grown_trans old mid ended before moved) after nothing), refl, low, high),
+      inr (
+        λ nothing. cleared (nothing_second old ended new (grown_trans old mid ended before moved) after nothing),
+        refl,
+        low,
+        high,
+        here way m input s first old ended new (grown_trans old mid ended before moved) after k at place clears cleared,
+      ),
       e ∙ (ap (λ (v : Searched). progress_cleared v) same ∙ sym finished_none),
     )
 
@@ -393,20 +463,21 @@ pub last_kept :
     (found : Option HalfMatch) → IsGrown old mid
     → ended ≡ with_store mid (with_searched mid.store (finished mid.store.searched at)) → IsGrown ended new
     → input.start ≤ at → at ≤ input.end
-    → IsOpenAt input s (given_up_offset way input 0) x old.store mid.store
+    → IsOpenAt way m input s 0 x old.store mid.store
     → IsAt way m ended.store.table input k id found → k ≤ length (tape_in way input).bytes
     → ((q : Powerset) → Names ended.store.table id q → q ≡ dead → ⊥)
     → given_up_offset way input k ≡ at → (Reads way m input (suc k) → ⊥)
-    → KeepsProgress ended.store new.store → EndsAtLast way m input s old.store new.store
-last_kept way m input s old mid ended new k id at x found before ends after low high o stands few alive place stops kept = (
+    → IsLastProgress m id (next (tape_in way input) k) ended.store new.store → EndsAtLast way m input s old.store new.store
+last_kept way m input s old mid ended new k id at x found before ends after low high o stands few alive place stops last = (
   k,
   record {
     reads = inr (at_reads way m ended.store.table input k id found stands few alive);
     clean = stands.clean;
     stops = stops;
   },
-  subst (λ a. IsEndedAt input s (given_up_offset way input 0) a old.store new.store) (sym place)
-      (ends_kept input s (given_up_offset way input 0) old mid ended new before at x ends after low high o kept),
+  subst (λ a. IsEndedAt way m input s 0 a old.store new.store) (sym place)
+      (ends_kept way m input s 0 old mid ended new before at x ends after low high o k place
+      (clears_unit way m input k id (next (tape_in way input) k) ended.store new.store stands.named refl last.cleared) last.kept),
 )
 
 -- which was refused
@@ -415,20 +486,22 @@ pub stopped_kept :
     (found : Option HalfMatch) → IsGrown old mid
     → ended ≡ with_store mid (with_searched mid.store (finished mid.store.searched at)) → IsGrown ended new
     → input.start ≤ at → at ≤ input.end
-    → IsOpenAt input s (given_up_offset way input 0) x old.store mid.store
+    → IsOpenAt way m input s 0 x old.store mid.store
     → IsAt way m ended.store.table input k id found → k ≤ length (tape_in way input).bytes
     → ((q : Powerset) → Names ended.store.table id q → q ≡ dead → ⊥)
-    → given_up_offset way input k ≡ at → KeepsProgress ended.store new.store → IsBehindEnd way input k
+    → given_up_offset way input k ≡ at → IsLastProgress m id (next (tape_in way input) k) ended.store new.store
+    → IsBehindEnd way input k
     → (e : SearchError) → IsUnitRefusal way m new.store input k e → IsStoppedAt way m input s old.store new.store e
-stopped_kept way m input s old mid ended new k id at x found before ends after low high o stands few alive place kept behind e refused = (
+stopped_kept way m input s old mid ended new k id at x found before ends after low high o stands few alive place last behind e refused = (
   k,
   at_reads way m ended.store.table input k id found stands few alive,
   stands.clean,
   refused,
   inl (
     inr behind,
-    subst (λ a. IsEndedAt input s (given_up_offset way input 0) a old.store new.store) (sym place)
-        (ends_kept input s (given_up_offset way input 0) old mid ended new before at x ends after low high o kept),
+    subst (λ a. IsEndedAt way m input s 0 a old.store new.store) (sym place)
+        (ends_kept way m input s 0 old mid ended new before at x ends after low high o k place
+        (clears_unit way m input k id (next (tape_in way input) k) ended.store new.store stands.named refl last.cleared) last.kept),
   ),
 )
 

@@ -14,7 +14,7 @@ use Rattle.automata_hybrid.specs.Machine.{Machine, greatest, slot_count, start_o
 use Rattle.automata_hybrid.specs.Table.{Has, HasCells, HasItsMatchTag, HasRowIds, Lacks, Leads, MayLead, Names, Rows, TagsNewStates}
 use Rattle.automata_hybrid.specs.Stores.{Stored, IsKnownStart, KeepsStarts, with_start}
 use Rattle.automata_hybrid.specs.Usage.{GivesUp}
-use Rattle.automata_hybrid.specs.Effects.{AddsStart, IsStarted}
+use Rattle.automata_hybrid.specs.Effects.{AddsStart, IsOneChange, IsStarted, slot_row}
 use Rattle.automata_hybrid.specs.Caches.{CacheView, HasRow, IsCacheOf, counted, with_store}
 use Rattle.automata_hybrid.specs.Progressing.{saturated}
 use Rattle.automata_hybrid.specs.Starting.{IsStartAnswer, IsStartEffect, IsStartRefusal, IsStartRefusalAt, IsStartRefusedAt, IsStartSlot, KnowsStart, known_start, start_row}
@@ -252,6 +252,18 @@ module _ (m : Machine) (mode : Anchored) (behind : Option ℕ) (old new : CacheV
     written = λ _. subst (λ s. slice_index new.store.starts s ≡ id) at.at made.written;
   }
 
+  -- one change
+  change : old.store.table.of ≡ m → IsOneChange old.store new.store
+  change of = inr (inr (inl (record {
+    slot = slot;
+    within = subst (λ (d : Machine). slot < slot_count d) (sym of) at.within;
+    unknown = not_known;
+    id = id;
+    started = subst (λ (r : Row). IsStarted old.store slot r new.store id) (row ∙ ap (λ (d : Machine). slot_row d slot) (sym of)) made.done;
+  }))) where
+    row : start_row m mode behind ≡ slot_row m slot
+    row = λ i. record { state = slot_state m mode behind slot at i; started = specialize_start_states_of m.config }
+
   pub computed_effect :
       HasCells old.store.table → length (template_of old.store.table.of) ≡ table_stride old.store.table.of → old.store.clears < 2 ^ 64
       → cost (start_state_of m.nfa mode behind) ≤ greatest old.store.table.of → HasRowIds old.store.table → HasRowIds new.store.table
@@ -259,7 +271,7 @@ module _ (m : Machine) (mode : Anchored) (behind : Option ℕ) (old new : CacheV
   computed_effect cells wide small cheap ids_old ids_new of = record {
     grown =
         grown_one old new made.of made.counted
-        (started_clears old.store new.store slot id (start_row m mode behind) small made.done) made.starts tagged
+        (started_clears old.store new.store slot id (start_row m mode behind) small made.done) (change of) made.starts tagged
         (λ nothing. Keeps-started old.store new.store slot id (start_row m mode behind) made.done cells not_known nothing)
         (λ states room. roomy-started old.store new.store slot id (start_row m mode behind) made.done states wide cheap room);
     counted = omega (arith, made.counted);

@@ -7,7 +7,7 @@ use Rattle.automata_base.specs.Steps.{successor}
 use Rattle.automata_base.proofs.Paths.Orders.{none_some, some_inj}
 use Rattle.automata_hybrid.specs.Stores.{IsKnownTransition, KeepsStarts, Stored, cell_of, with_next}
 use Rattle.automata_hybrid.specs.Usage.{GivesUp}
-use Rattle.automata_hybrid.specs.Effects.{AddsNext, IsAdded, IsComputed}
+use Rattle.automata_hybrid.specs.Effects.{AddsNext, IsAdded, IsComputed, IsOneChange}
 use Rattle.automata_hybrid.specs.Caches.{CacheView, HasRow, IsCacheOf, counted, with_store}
 use Rattle.automata_hybrid.specs.Growing.{ClearedNothing}
 use Rattle.automata_hybrid.specs.Ids.{fixed_from, quit_id, unknown_id}
@@ -282,14 +282,29 @@ module _ (m : Machine) (id : ℕ) (unit : Option ℕ) (old new : CacheView) (cla
     written = λ _ nothing. written nothing;
   }
 
+  -- one change
+  change : target ≡ next_of m valid.0 class → IsOneChange old.store new.store
+  change same = inr (inl (record {
+    id = id;
+    class = class;
+    below = within;
+    state = valid.0;
+    named = valid.1;
+    unknown = not_known;
+    next = next;
+    computed =
+        subst (λ (q : Powerset). IsComputed old.store id class valid.0 q new.store next)
+        (same ∙ ap (λ (d : Machine). next_of d valid.0 class) (sym of)) done;
+  }))
+
   pub computed_effect :
       length (template_of old.store.table.of) ≡ table_stride old.store.table.of → old.store.clears < 2 ^ 64
       → cost target ≤ greatest old.store.table.of → HasRowIds old.store.table → HasRowIds new.store.table
-      → IsStepEffect m id unit old new
-  computed_effect wide small cheap ids_old ids_new = record {
+      → target ≡ next_of m valid.0 class → IsStepEffect m id unit old new
+  computed_effect wide small cheap ids_old ids_new same = record {
     grown =
         grown_one old new step.of step.counted
-        (computed_clears old.store new.store id class next valid.0 target small done) step.starts
+        (computed_clears old.store new.store id class next valid.0 target small done) (change same) step.starts
         (λ q t. inl (tagged_none old.store.table new.store.table (computed_keeps old.store new.store id class next valid.0 target ids_old ids_new done) (computed_adds old.store new.store id class next valid.0 target ids_old ids_new done) q t))
         (λ nothing. Keeps-computed old.store new.store id class next valid.0 target cells valid.1 within not_known done nothing)
         (λ states room. roomy-computed old.store new.store id class next valid.0 target states wide cheap done room);

@@ -45,7 +45,7 @@ pub Leads-untagged :
 Leads-untagged t id q (inl (e, d)) tagged clear = ap (λ (p : Powerset). p.patterns) d
 Leads-untagged t id q (inr h) tagged clear = no_patterns q.patterns (λ some. clear ((tagged h).1 some))
 
-low_bit : (k n : ℕ) → n < 2 ^ k → IsBitSet n k → ⊥
+pub low_bit : (k n : ℕ) → n < 2 ^ k → IsBitSet n k → ⊥
 low_bit k n l b = let z : n ≡ 0 * 2 ^ k + n = omega arith in zero_one ((bit_of k n 0 n l z).0 b)
 
 -- the bit of quit IDs

@@ -22,23 +22,20 @@ use Rattle.automata_hybrid.specs.declared.search.units.Arrival.{Arrival}
 use Rattle.automata_hybrid.proofs.Growing.{grown_after, grown_moved, grown_trans, nothing_second}
 use Rattle.automata_hybrid.proofs.KnowingWalks.{has_state, nothing_after, state_still, unit_knows, units_all, units_moved}
 use Rattle.automata_hybrid.proofs.Resuming.{refused_on}
-use Rattle.automata_hybrid.proofs.SearchedWalks.{reads_some, recounts_ended, recounts_left, span_ends, unit_high, unit_low}
+use Rattle.automata_hybrid.proofs.SearchedWalks.{call_begun, reads_some, recounts_ended, recounts_left, span_ends, unit_high, unit_low}
 use Rattle.automata_hybrid.proofs.WalkCalls.{told_here, walk_clears_none}
 use Rattle.automata_hybrid.proofs.WalkUnits.{units_in}
 
 -- a walk was gone on with from an ID, a search began at its first unit, and it came to where it tells patterns, or to its end
 module _ (way : Direction) (m : Machine) (input : Input) (w : Walk) (from : ℕ) (old between begun mid : CacheView)
     (inside : input.end ≤ length input.haystack) (skips : Skips m ⊎ (Skips m → ⊥)) (told : IsWalkOf way m input w) (r : IsToRead input w.stage w.units w.told)
-    (e : IsResumeEffect {T = ℕ} way m input w.stage old between (Ok from))
+    (e : IsResumeEffect {T = ℕ} way m input w.stage w.units old between (Ok from))
     (resumes : IsResumeAnswer way m input w between.store from)
     (begins : begun ≡ with_store between (with_searched between.store (started between.store.searched (given_up_offset way input w.units))))
     (arrival : Arrival) (a : IsAdvanceEffect way m input w.units begun mid (Ok arrival))
     (arrives : IsArrival way m mid.store.table input w.units arrival.id arrival.units) where
   counts : begun.count ≡ between.count
   counts = ap (λ (v : CacheView). v.count) begins
-
-  cleared : begun.store.clears ≡ between.store.clears
-  cleared = ap (λ (v : CacheView). v.store.clears) begins
 
   began : IsGrown between begun
   began = grown_moved between begun begins
@@ -55,7 +52,7 @@ module _ (way : Direction) (m : Machine) (input : Input) (w : Walk) (from : ℕ)
   abbrev Last : Type 0
   Last =
       (k : ℕ) × (w.units ≤ k) × (arrival.units ≡ suc k) × WalkReads way m input k
-      × IsOpenAt input between.store.searched (given_up_offset way input w.units) (given_up_offset way input k) begun.store mid.store
+      × IsOpenAt way m input between.store.searched w.units (given_up_offset way input k) begun.store mid.store
 
   pub last : Last
   last = a.moved between.store.searched (ap (λ (v : CacheView). v.store.searched) begins)
@@ -101,11 +98,13 @@ module _ (way : Direction) (m : Machine) (input : Input) (w : Walk) (from : ℕ)
     here_at : at ≡ given_up_offset way input last.0
     here_at = place ∙ ap (given_up_offset way input) (omega (arith, last.2))
 
-    ends_at : EndsAtUnit way input old.store.searched w.units last.0 old.store new.store
+    ends_at : EndsAtUnit way m input old.store.searched w.units last.0 old.store new.store
     ends_at =
-        recounts_ended input (given_up_offset way input w.units) (unit_low way input w.units r.undone) (unit_high way input w.units r.undone r.left)
-        old.store between.store begun.store new.store e.grown.clears cleared (grown_trans begun mid new a.grown (grown_moved mid new ends)).clears e.progress (given_up_offset way input last.0)
-        (span_ends way input between.store.searched w.units last.0 (given_up_offset way input last.0) at begun mid new r.undone last_within a.grown last.4 here_at ends)
+        recounts_ended way m input w.units (unit_low way input w.units r.undone) (unit_high way input w.units r.undone r.left)
+        old.store between.store begun.store new.store
+        (call_begun way m input w.units old between begun new e.grown begins (grown_trans begun mid new a.grown (grown_moved mid new ends)) e.progress e.cleared)
+        (given_up_offset way input last.0)
+        (span_ends way m input between.store.searched w.units last.0 (given_up_offset way input last.0) at begun mid new r.undone last_within a.grown last.4 here_at ends)
 
     pub effect_on : IsCallEffect {T = Unit {0}} keeping way m input w next old new (Ok tt)
     effect_on = record {
@@ -193,6 +192,6 @@ module _ (way : Direction) (m : Machine) (input : Input) (w : Walk) (from : ℕ)
       ended = tt;
       left =
           inr (recounts_left States way m input old.store between.store begun.store mid.store w.units r.undone r.left
-          e.grown.clears cleared a.grown.clears e.progress search.OutOfMemory left_unheld);
+          (call_begun way m input w.units old between begun mid e.grown begins a.grown e.progress e.cleared) search.OutOfMemory left_unheld);
       ready = λ none. absurd (reads_some input w r none);
     }

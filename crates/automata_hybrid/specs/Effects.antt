@@ -1,11 +1,14 @@
 -- What adding a state, a transition or a start does to a cache.
-use Rattle.std.specs.Prelude.{◌≡◌, ℕ, ◌⊎◌, false, Option, None, Some, length}
+use Rattle.std.specs.Prelude.{◌≡◌, ℕ, zero, suc, ◌<◌, ◌⊎◌, false, Option, None, Some, length}
 use Rattle.automata_base.specs.Powerset.{Powerset, cost}
 use Rattle.automata_hybrid.specs.declared.dfa.row.Row.{Row}
 use Rattle.automata_hybrid.specs.Table.{Rows, Leads, Lacks, Has, with_row, Names}
 use Rattle.automata_hybrid.specs.Clears.{put, row_of}
-use Rattle.automata_hybrid.specs.Stores.{Stored, KeepsStarts, with_next, with_start, with_table}
+use Rattle.automata_hybrid.specs.Stores.{Stored, IsKnownStart, IsKnownTransition, KeepsStarts}
+use Rattle.automata_hybrid.specs.Stores.{with_next, with_searched, with_start, with_table}
+use Rattle.automata_hybrid.specs.Machine.{IsReached, Machine, next_of, slot_count, start_of, table_stride}
 use Rattle.automata_hybrid.specs.Usage.{Fits, cleared, refuses_to_clear}
+use Rattle.automata_config.specs.Options.{specialize_start_states_of}
 
 abbrev pub put_found : Rows → Option Row → Rows
 put_found t None = t
@@ -77,3 +80,44 @@ abbrev pub IsStarted : Stored → (slot : ℕ) → Row → Stored → ℕ → Ty
 IsStarted old slot r new id =
     (Leads old.table id r.state × (new ≡ with_start old slot id))
     ⊎ (Lacks old.table r.state × (between : Stored) × IsAddedStart old r between × (new ≡ with_start between slot id))
+
+-- a transition that wasn't known is computed
+pub record IsStepChange (old new : Stored) : Type 0 where
+  pub id : ℕ
+  pub class : ℕ
+  pub below : class < table_stride old.table.of
+  pub state : Powerset
+  pub named : Names old.table id state
+  pub unknown : IsKnownTransition old id class → ⊥
+  pub next : ℕ
+  pub computed : IsComputed old id class state (next_of old.table.of state class) new next
+
+-- the row of the start state of a slot
+abbrev pub slot_row : Machine → ℕ → Row
+slot_row m slot = record { state = start_of m slot; started = specialize_start_states_of m.config }
+
+-- a start that wasn't known is computed
+pub record IsStartChange (old new : Stored) : Type 0 where
+  pub slot : ℕ
+  pub within : slot < slot_count old.table.of
+  pub unknown : IsKnownStart old slot → ⊥
+  pub id : ℕ
+  pub started : IsStarted old slot (slot_row old.table.of slot) new id
+
+-- a state that a clear took is added again, without the start tag
+pub record IsBackChange (old new : Stored) : Type 0 where
+  pub state : Powerset
+  pub lacks : Lacks old.table state
+  pub reached : IsReached old.table.of state
+  pub added : IsAddedStart old (record { state = state; started = false }) new
+
+-- a step, a start or a state that is put back; one that is refused changes nothing
+abbrev pub IsOneChange : Stored → Stored → Type 0
+IsOneChange old new = (new ≡ old) ⊎ (IsStepChange old new ⊎ (IsStartChange old new ⊎ IsBackChange old new))
+
+-- so many of these, one after another, and nothing else but the progress of searches
+abbrev pub AreChanges : ℕ → Stored → Stored → Type 0
+AreChanges zero old new = new ≡ with_searched old new.searched
+AreChanges (suc n) old new =
+    (before : Stored) × (after : Stored) × AreChanges n old before × IsOneChange before after
+    × (new ≡ with_searched after new.searched)

@@ -4,6 +4,7 @@ use Rattle.automata_base.specs.Powerset.{Powerset}
 use Rattle.automata_hybrid.specs.Stores.{Stored, IsKnownStart, IsKnownTransition, KeepsStarts, cell_of, with_searched}
 use Rattle.automata_hybrid.specs.Usage.{row_usage, usage}
 use Rattle.automata_hybrid.specs.Caches.{CacheView}
+use Rattle.automata_hybrid.specs.Effects.{AreChanges}
 use Rattle.automata_hybrid.specs.Ids.{offset_limit}
 use Rattle.automata_config.specs.Options.{specialize_start_states_of}
 use Rattle.automata_hybrid.specs.Machine.{greatest, slot_count, start_of, table_stride}
@@ -56,6 +57,8 @@ pub record IsGrown (old new : CacheView) : Type 0 where
   pub of : new.store.table.of ≡ old.store.table.of
   pub counted : old.count ≤ new.count
   pub clears : old.store.clears ≤ new.store.clears
+  -- each determinisation made one change: so a state that was added fitted, or the cache was cleared for it
+  pub made : AreChanges (new.count - old.count) old.store new.store
   -- a start that is known stays known, across clears too
   pub starts : KeepsStarts old.store.starts new.store.starts
   -- a state that hadn't the start tag is given it only as a start, where starts are specialised

@@ -20,6 +20,7 @@ pub mod Searched
 pub mod Costs
 pub mod Knowing
 pub mod Passing
+pub mod SelfLoops
 pub mod Reading
 pub mod Passed
 pub mod Walks
@@ -32,3 +33,5 @@ pub mod Within
 pub mod Owing
 pub mod OwingWalks
 pub mod Resuming
+pub mod Standing
+pub mod Accepting

@@ -1,16 +1,16 @@
 -- Units that a search reads from an ID: what the ID is that reading one answers, and what it makes of the cache.
-use Rattle.std.specs.Prelude.{ℕ, ◌≡◌, ◌+◌, ◌<◌, ◌≤◌, false, Option, Result, IfErr, OnOk}
+use Rattle.std.specs.Prelude.{ℕ, ◌≡◌, ◌+◌, ◌<◌, ◌≤◌, ◌⊎◌, false, Option, Result, IfErr, OnOk}
 use Rattle.automata_base.specs.Powerset.{Powerset, dead}
 use Rattle.automata_base.specs.Steps.{successor}
 use Rattle.automata_config.specs.Options.{match_kind_of}
 use Rattle.automata_config.specs.declared.error.StepError.{StepError}
 use Rattle.automata_config.specs.declared.error.SearchError.{SearchError}
 use Rattle.automata_hybrid.specs.Caches.{CacheView}
-use Rattle.automata_hybrid.specs.Growing.{ClearedNothing, IsGrown, IsStill}
+use Rattle.automata_hybrid.specs.Growing.{ClearedNothing, IsGrown, IsStill, KeepsProgress}
 use Rattle.automata_hybrid.specs.Knowing.{IsOfInput}
 use Rattle.automata_hybrid.specs.Machine.{Machine, table_stride}
 use Rattle.automata_hybrid.specs.Passing.{step_refusal}
-use Rattle.automata_hybrid.specs.Searched.{IsEndedBy, IsLeftAt, IsMovedTo}
+use Rattle.automata_hybrid.specs.Searched.{IsClearedBetween, IsEndedBy, IsLeftAt, IsMovedTo}
 use Rattle.automata_hybrid.specs.Searches.{IsStepRefusal}
 use Rattle.automata_hybrid.specs.Stepping.{IsStepRefused, KnowsStep, quits_on, unit_class}
 use Rattle.automata_hybrid.specs.Stores.{Stored}
@@ -42,6 +42,12 @@ abbrev pub IsReadRefusal :
 IsReadRefusal m id unit quit_at given_up_at old new e =
     (q : Powerset) → Names old.store.table id q → IsStepRefusal m new.store q unit quit_at given_up_at e
 
+-- a step from an ID on a unit cleared nothing, or for the next state
+abbrev pub ClearsForNext : Machine → (id : ℕ) → (unit : Option ℕ) → (old new : Stored) → Type 0
+ClearsForNext m id unit old new =
+    (q : Powerset) → Names old.table id q
+    → (new.clears ≡ old.clears) ⊎ IsClearedBetween q (successor m.nfa (match_kind_of m.config) q unit) old new
+
 -- what reading a unit from an ID makes of the cache, answered or refused
 pub record IsReadEffect {T : Type 0} (m : Machine) (id : ℕ) (unit : Option ℕ) (old new : CacheView)
     (result : Result T SearchError) : Type 0 where
@@ -53,6 +59,8 @@ pub record IsReadEffect {T : Type 0} (m : Machine) (id : ℕ) (unit : Option ℕ
   pub counted : new.count ≤ old.count + 1
   -- The cache has grown; where the call cleared nothing, nothing is lost.
   pub grown : IsGrown old new
+  -- What was cleared was cleared for the next state.
+  pub cleared : ClearsForNext m id unit old.store new.store
   -- A known transition takes no memory, and nothing changes but the progress of searches.
   pub known : KnowsStep m old.store id unit → IsStill old new × IfErr result IsOfInput
   -- Where the call cleared nothing, the transition is known from then on.
@@ -67,9 +75,18 @@ pub record IsReadProgress {T : Type 0} (m : Machine) (unit : Option ℕ) (at : �
   pub left : IfErr result (IsLeftAt m unit at old new)
 
 -- what reading the last unit, at an offset, makes of the progress
-pub record IsEndProgress {T : Type 0} (m : Machine) (unit : Option ℕ) (at : ℕ) (old new : Stored)
+pub record IsEndProgress {T : Type 0} (m : Machine) (id : ℕ) (unit : Option ℕ) (at : ℕ) (old new : Stored)
     (result : Result T SearchError) : Type 0 where
+  -- What was cleared was cleared for the next state.
+  pub cleared : ClearsForNext m id unit old new
   -- Answered, it has ended the search at the offset.
   pub ended : OnOk result (IsEndedBy at old new)
   -- Refused, it has ended the search there at a quit byte, and else leaves it there.
   pub left : IfErr result (IsLeftAt m unit at old new)
+
+-- what reading the last unit of a pass back, which has ended before, makes of the progress
+pub record IsLastProgress (m : Machine) (id : ℕ) (unit : Option ℕ) (old new : Stored) : Type 0 where
+  -- What was cleared was cleared for the next state.
+  pub cleared : ClearsForNext m id unit old new
+  -- The progress of searches stays, but for a clear.
+  pub kept : KeepsProgress old new

@@ -1,5 +1,5 @@
 -- Going on with a walk: what the functions under its calls ask, what they answer, and what they make of their cache.
-use Rattle.std.specs.Prelude.{ℕ, suc, ◌≡◌, ◌+◌, ◌-◌, ◌≤◌, Result}
+use Rattle.std.specs.Prelude.{ℕ, suc, ◌≡◌, ◌+◌, ◌-◌, ◌≤◌, ◌⊎◌, Result}
 use Rattle.std.specs.Prelude.{IfErr, IfOk, OnErr, OnOk}
 use Rattle.automata_base.specs.Input.{Input}
 use Rattle.automata_base.specs.Paths.{next}
@@ -19,7 +19,7 @@ use Rattle.automata_hybrid.specs.OwingWalks.{IsPutBack}
 use Rattle.automata_hybrid.specs.Passing.{HasLearnedUnit}
 use Rattle.automata_hybrid.specs.Progressing.{started}
 use Rattle.automata_hybrid.specs.Reading.{IsReadProgress}
-use Rattle.automata_hybrid.specs.Searched.{IsOpenAt}
+use Rattle.automata_hybrid.specs.Searched.{IsClearedBetween, IsClearedFor, IsOpenAt}
 use Rattle.automata_hybrid.specs.SearchedWalks.{IsLeftAtUnit, ReadsNoUnit}
 use Rattle.automata_hybrid.specs.Searches.{given_up_offset, state_in, tape_in}
 use Rattle.automata_hybrid.specs.Starting.{MayStart}
@@ -89,7 +89,7 @@ pub record IsResumeAnswer (way : Direction) (m : Machine) (input : Input) (walk 
   pub learned : KnowsItsState way m new input walk.stage
 
 -- what asking for it makes of the cache
-pub record IsResumeEffect {T : Type 0} (way : Direction) (m : Machine) (input : Input) (stage : Stage)
+pub record IsResumeEffect {T : Type 0} (way : Direction) (m : Machine) (input : Input) (stage : Stage) (units : ℕ)
     (old new : CacheView) (result : Result T SearchError) : Type 0 where
   -- it makes at most one determinisation, for a start
   pub cost : new.count ≤ old.count + start_count stage
@@ -106,6 +106,8 @@ pub record IsResumeEffect {T : Type 0} (way : Direction) (m : Machine) (input : 
   -- the progress of searches stays, but for a clear; and where it is refused
   pub progress : KeepsProgress old.store new.store
   pub err : OnErr result (new.store.searched ≡ old.store.searched)
+  -- what was cleared was cleared for the state that it goes on from
+  pub cleared : (new.store.clears ≡ old.store.clears) ⊎ IsClearedFor (state_in way m input units) old.store new.store
 
 -- what putting the state of a walk back makes of the cache
 pub record IsPutBackEffect {T E : Type 0} (q : Powerset) (old new : CacheView) (result : Result T E) : Type 0 where
@@ -132,6 +134,10 @@ pub record IsUnitEffect {T : Type 0} (way : Direction) (m : Machine) (input : In
   pub counted : new.count ≤ old.count + 1
   -- the cache has grown; where nothing was cleared, nothing is lost
   pub grown : IsGrown old new
+  -- what was cleared was cleared for the next state
+  pub cleared :
+      (new.store.clears ≡ old.store.clears)
+      ⊎ IsClearedBetween (state_in way m input place) (state_in way m input (suc place)) old.store new.store
   -- where its transition is known, it determinises nothing, and isn't refused for want of room
   pub known : KnowsUnit way m old.store input place → (new.count ≡ old.count) × IfErr result IsOfInput
   -- where nothing was cleared it is known from then on
@@ -159,7 +165,7 @@ pub record IsAdvanceEffect (way : Direction) (m : Machine) (input : Input) (unit
   pub moved :
       (before : Searched) → old.store.searched ≡ started before (given_up_offset way input units)
       → IfOk result (λ a. (k : ℕ) × (units ≤ k) × (a.units ≡ suc k) × WalkReads way m input k
-      × IsOpenAt input before (given_up_offset way input units) (given_up_offset way input k) old.store new.store)
+      × IsOpenAt way m input before units (given_up_offset way input k) old.store new.store)
   -- or is left at the one that was refused
   pub left :
       (before : Searched) → old.store.searched ≡ started before (given_up_offset way input units)

@@ -1,21 +1,25 @@
 -- What the passes of a search leave of the progress: the searched bytes, and the search that is open.
-use Rattle.std.specs.Prelude.{ℕ, zero, suc, ◌≡◌, ◌<◌, ◌≤◌, ◌+◌, ◌⊎◌, length, true, Option, None, Some}
+use Rattle.std.specs.Prelude.{ℕ, zero, suc, ◌≡◌, ◌<◌, ◌≤◌, ◌+◌, ◌-◌, ◌^◌, ◌⊎◌, length, true, Option, None, Some}
 use Rattle.automata_base.specs.Answers.{Tries, later, offset_in}
 use Rattle.automata_base.specs.Classes.{is_quit}
 use Rattle.automata_base.specs.Input.{Input}
 use Rattle.automata_base.specs.Paths.{next}
+use Rattle.automata_base.specs.Powerset.{Powerset, cost}
 use Rattle.automata_base.specs.Tapes.{Direction, Forward, Backward}
 use Rattle.automata_base.specs.declared.util.search.MatchErrorKind.TheVariants.{GaveUp}
 use Rattle.automata_config.specs.declared.error.SearchError.{SearchError}
 use Rattle.automata_config.specs.declared.error.SearchError.TheVariants as search
 use Rattle.automata_hybrid.specs.declared.dfa.progress.Searched.{Searched}
 use Rattle.automata_hybrid.specs.Stores.{Stored}
-use Rattle.automata_hybrid.specs.Growing.{ClearedNothing, IsKeptOrCleared, KeepsProgress}
+use Rattle.automata_hybrid.specs.Effects.{AreChanges}
+use Rattle.automata_hybrid.specs.Growing.{ClearedNothing, IsKeptOrCleared, Keeps, KeepsProgress}
 use Rattle.automata_hybrid.specs.Machine.{Machine}
 use Rattle.automata_hybrid.specs.Progressing.{finished, started, updated}
 use Rattle.automata_hybrid.specs.Searches.{Finds, HasReadNoQuit, IsPassRefusal, IsUnitRefusal, Reads, Skips}
-use Rattle.automata_hybrid.specs.Searches.{behind_offset, given_up_offset, tape_in}
+use Rattle.automata_hybrid.specs.Searches.{behind_offset, given_up_offset, state_in, tape_in}
 use Rattle.automata_hybrid.specs.Starting.{IsStartRefusalAt}
+use Rattle.automata_hybrid.specs.Table.{Has, Lacks}
+use Rattle.automata_hybrid.specs.Usage.{Fits}
 
 -- a step from an offset leaves a search at that offset
 abbrev pub IsMovedTo : (at : ℕ) → (old new : Stored) → Type 0
@@ -46,24 +50,55 @@ IsLeftAt m unit at old new e =
 abbrev pub none_searched : Searched
 none_searched = record { bytes = 0; running = None }
 
--- while the count of clears stays, an open search counts its bytes from its first one, beside those that were searched
--- before; once a clear came, from a place of the span, beside none
-abbrev pub CountsFrom :
-    Input → (before : Searched) (first : ℕ) → (old new : Stored) → (beside : Searched) (from : ℕ) → Type 0
-CountsFrom input before first old new beside from =
-    ((new.clears ≡ old.clears) × (beside ≡ before) × (from ≡ first))
-    ⊎ ((ClearedNothing old new → ⊥) × (beside ≡ none_searched) × (input.start ≤ from) × (from ≤ input.end))
+-- the last clear came for a state
+pub record IsClearedFor (q : Powerset) (old new : Stored) : Type 0 where
+  -- Some changes made this cache,
+  pub changes : ℕ
+  pub before : Stored
+  pub made : AreChanges changes old before
+  -- which hadn't the state, and had no room for it.
+  pub lacks : Lacks before.table q
+  pub full : Fits before (cost q) → ⊥
+  -- One change more made this one, which has it,
+  pub after : Stored
+  pub change : AreChanges 1 before after
+  pub has : Has after.table q
+  -- and nothing was cleared from there on.
+  pub of : new.table.of ≡ after.table.of
+  pub kept : Keeps after new
+  pub same : new.clears ≡ after.clears
 
--- a pass that began at `first` is open at an offset
-abbrev pub IsOpenAt : Input → (before : Searched) (first at : ℕ) → (old new : Stored) → Type 0
-IsOpenAt input before first at old new =
-    (beside : Searched) × (from : ℕ) × CountsFrom input before first old new beside from
+-- the last clear came with a step from one state to another
+abbrev pub IsClearedBetween : (p q : Powerset) → (old new : Stored) → Type 0
+IsClearedBetween p q old new = (clear : IsClearedFor q old new) × Has clear.before.table p
+
+-- the last clear of a pass came for the state that it began from, or with the step on a unit; from there bytes count
+abbrev pub IsClearedFrom : Direction → Machine → Input → (first : ℕ) → (old new : Stored) → (from : ℕ) → Type 0
+IsClearedFrom way m input first old new from =
+    ((from ≡ given_up_offset way input first) × IsClearedFor (state_in way m input first) old new)
+    ⊎ ((k : ℕ) × (from ≡ given_up_offset way input k)
+    × IsClearedBetween (state_in way m input k) (state_in way m input (suc k)) old new)
+
+-- while the count of clears stays, an open search counts its bytes from its first place, beside those that were
+-- searched before; once a clear came, from the place in the span where the last one came, beside none
+abbrev pub CountsFrom :
+    Direction → Machine → Input → (before : Searched) (first : ℕ) → (old new : Stored) → (beside : Searched) (from : ℕ)
+    → Type 0
+CountsFrom way m input before first old new beside from =
+    ((new.clears ≡ old.clears) × (beside ≡ before) × (from ≡ given_up_offset way input first))
+    ⊎ ((ClearedNothing old new → ⊥) × (beside ≡ none_searched) × (input.start ≤ from) × (from ≤ input.end)
+    × (new.clears < 2 ^ 64 - 1 → IsClearedFrom way m input first old new from))
+
+-- a pass that began at its place `first` is open at an offset
+abbrev pub IsOpenAt : Direction → Machine → Input → (before : Searched) (first at : ℕ) → (old new : Stored) → Type 0
+IsOpenAt way m input before first at old new =
+    (beside : Searched) × (from : ℕ) × CountsFrom way m input before first old new beside from
     × (new.searched ≡ updated (started beside from) at)
 
--- a pass that began at `first` has ended at an offset
-abbrev pub IsEndedAt : Input → (before : Searched) (first at : ℕ) → (old new : Stored) → Type 0
-IsEndedAt input before first at old new =
-    (beside : Searched) × (from : ℕ) × CountsFrom input before first old new beside from
+-- a pass that began at its place `first` has ended at an offset
+abbrev pub IsEndedAt : Direction → Machine → Input → (before : Searched) (first at : ℕ) → (old new : Stored) → Type 0
+IsEndedAt way m input before first at old new =
+    (beside : Searched) × (from : ℕ) × CountsFrom way m input before first old new beside from
     × (new.searched ≡ finished (started beside from) at)
 
 -- the place of the last unit that a pass reads, past which it reads none; 0 where the start is dead, so that it reads
@@ -77,7 +112,7 @@ pub record IsLastPlace (way : Direction) (m : Machine) (input : Input) (k : ℕ)
 abbrev pub EndsAtLast : Direction → Machine → Input → (before : Searched) → (old new : Stored) → Type 0
 EndsAtLast way m input before old new =
     (k : ℕ) × IsLastPlace way m input k
-    × IsEndedAt input before (given_up_offset way input 0) (given_up_offset way input k) old new
+    × IsEndedAt way m input before 0 (given_up_offset way input k) old new
 
 -- the last unit of a pass back, behind its span: the pass has ended before it reads it
 abbrev pub IsBehindEnd : Direction → Input → ℕ → Type 0
@@ -91,9 +126,9 @@ abbrev pub IsStoppedAt :
 IsStoppedAt way m input before old new e =
     (k : ℕ) × Reads way m input k × HasReadNoQuit way m input k × IsUnitRefusal way m new input k e
     × (((IsQuitUnit m (next (tape_in way input) k) ⊎ IsBehindEnd way input k)
-    × IsEndedAt input before (given_up_offset way input 0) (given_up_offset way input k) old new)
+    × IsEndedAt way m input before 0 (given_up_offset way input k) old new)
     ⊎ ((IsBehindEnd way input k → ⊥) × IsOfRoom (given_up_offset way input k) e
-    × IsOpenAt input before (given_up_offset way input 0) (given_up_offset way input k) old new))
+    × IsOpenAt way m input before 0 (given_up_offset way input k) old new))
 
 -- a pass back over an empty span keeps no progress
 abbrev pub KeepsNone : Direction → Input → Type 0

@@ -36,9 +36,8 @@ IsLastUnit way m input walk next k =
     × (next.stage ≡ Ended → (next.found ≡ None) × (WalkReads way m input (suc k) → ⊥)))
 
 -- a search that began at the unit at one place has ended at that at another
-abbrev pub EndsAtUnit : Direction → Input → (before : Searched) → (from k : ℕ) → (old new : Stored) → Type 0
-EndsAtUnit way input before from k old new =
-    IsEndedAt input before (given_up_offset way input from) (given_up_offset way input k) old new
+abbrev pub EndsAtUnit : Direction → Machine → Input → (before : Searched) → (from k : ℕ) → (old new : Stored) → Type 0
+EndsAtUnit way m input before from k old new = IsEndedAt way m input before from (given_up_offset way input k) old new
 
 -- a call was refused at a unit, the first one from a place on to be: a quit byte ended the search there, and else it is
 -- left open there
@@ -48,9 +47,9 @@ abbrev pub IsLeftAtUnit :
 IsLeftAtUnit keeping way m input before from old new e =
     (k : ℕ) × (from ≤ k) × WalkReads way m input k × HasReadNoQuit way m input k × IsSilent way m input from k
     × IsRefusalAt keeping way m new input k e
-    × ((IsQuitUnit m (next (tape_in way input) k) × EndsAtUnit way input before from k old new)
+    × ((IsQuitUnit m (next (tape_in way input) k) × EndsAtUnit way m input before from k old new)
     ⊎ (IsOfRoom (given_up_offset way input k) e
-    × IsOpenAt input before (given_up_offset way input from) (given_up_offset way input k) old new))
+    × IsOpenAt way m input before from (given_up_offset way input k) old new))
 
 -- a call that answers has ended at the last unit that it reads, counted from its first; one that reads none has changed
 -- nothing
@@ -58,7 +57,7 @@ abbrev pub EndsCall : Direction → Machine → Input → (walk next : Walk) →
 EndsCall way m input walk next old new =
     (ReadsNoUnit input walk × (new.searched ≡ old.searched))
     ⊎ ((ReadsNoUnit input walk → ⊥) × (k : ℕ) × IsLastUnit way m input walk next k
-    × EndsAtUnit way input old.searched walk.units k old new)
+    × EndsAtUnit way m input old.searched walk.units k old new)
 
 -- a call was refused: the walk isn't gone on with, which changed nothing, or at a unit
 abbrev pub LeavesCall : Keeping → Direction → Machine → Input → Walk → (old new : Stored) → SearchError → Type 0

@@ -9,9 +9,8 @@ use Rattle.automata_base.specs.Powerset.{Powerset, cost}
 use Rattle.automata_base.specs.Equal.{powerset_eq}
 use Rattle.automata_hybrid.specs.declared.dfa.row.Row.{Row}
 use Rattle.automata_base.specs.Powerset.{dead}
-use Rattle.automata_hybrid.specs.Owned.{IsOwn}
 use Rattle.automata_hybrid.specs.Ids.{tags, dead_id, quit_id, unknown_id, offset_limit}
-use Rattle.automata_hybrid.specs.Machine.{Machine, next_of, greatest, template_of, IsTemplate, table_stride}
+use Rattle.automata_hybrid.specs.Machine.{Machine, next_of, greatest, template_of, IsStateOf, IsTemplate, table_stride}
 
 -- a state has patterns
 abbrev pub has_patterns : Powerset → Bool
@@ -113,11 +112,11 @@ HasRowIds t =
     (k : ℕ) (r : Row) → slice_get t.rows k ≡ Some r
     → Names t (row_id ((k + 3) * table_stride t.of) r) r.state × ((k + 3) * table_stride t.of < offset_limit)
 
--- no row has the dead state; each costs no more than a state may, and is of the automaton
+-- no row has the dead state; each costs no more than a state may, and is a state of the DFA
 abbrev pub IsAlive : Rows → Type 0
 IsAlive t =
     (k : ℕ) (r : Row) → slice_get t.rows k ≡ Some r
-    → (r.state ≡ dead → ⊥) × (cost r.state ≤ greatest t.of) × IsOwn t.of.nfa r.state
+    → (r.state ≡ dead → ⊥) × (cost r.state ≤ greatest t.of) × IsStateOf t.of r.state
 
 -- rows and cells fit each other: the fixed rows come first, no state has two rows, and each known cell leads where its
 -- row's state goes
@@ -159,8 +158,8 @@ pub record IsNewState (t : Rows) (q : Powerset) : Type 0 where
   pub lacks : Lacks t q
   -- It costs no more than a state may.
   pub cheap : cost q ≤ greatest t.of
-  -- Its states, its looks and its patterns are the automaton's.
-  pub own : IsOwn t.of.nfa q
+  -- It is a state of the DFA.
+  pub own : IsStateOf t.of q
 
 -- each row has a cell for each class
 abbrev pub HasCells : Rows → Type 0

@@ -15,8 +15,7 @@ use Rattle.automata_config.specs.declared.error.SearchError.{SearchError}
 use Rattle.automata_config.specs.declared.error.SearchError.TheVariants as search
 use Rattle.automata_hybrid.specs.Stores.{Stored}
 use Rattle.automata_hybrid.specs.Usage.{GivesUp}
-use Rattle.automata_hybrid.specs.Machine.{Machine, greatest}
-use Rattle.automata_hybrid.specs.Owned.{IsOwn}
+use Rattle.automata_hybrid.specs.Machine.{IsStateOf, Machine, greatest}
 use Rattle.automata_hybrid.specs.Searches.{HasReadNoQuit, IsNoQuit, IsUnitRefusal, Skips, behind_offset, given_up_offset}
 use Rattle.automata_hybrid.specs.Searches.{state_in, tape_in}
 use Rattle.automata_hybrid.specs.Starting.{IsStartRefusalAt, MayStart}
@@ -55,7 +54,7 @@ WalkMeetsNoQuit way m input =
 
 -- a state that a row may have
 pub record IsRowState (m : Machine) (q : Powerset) : Type 0 where
-  pub own : IsOwn m.nfa q
+  pub own : IsStateOf m q
   pub cheap : cost q ≤ greatest m
   pub alive : q ≡ dead → ⊥
 

@@ -66,7 +66,7 @@ impl LazyStateID {
         self.id > LazyStateID::MAX
     }
 
-    /// Whether the transition to it isn't computed yet.
+    /// Whether it stands for a transition that is not computed yet.
     pub fn is_unknown(self) -> bool
         ensures bit { IsTrue result ↔ IsBitSet self 31 }
         ensures size { IsTrue result ↔ (unknown_id ≤ self) }

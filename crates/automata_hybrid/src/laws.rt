@@ -1,10 +1,12 @@
 //! Laws that searches and walks stand on. The contract of each function is the law; what it does is to cite others.
+ghost use Rattle.automata_hybrid.specs.Accepting.{SetsHaveMatching};
 ghost use Rattle.automata_hybrid.specs.Agreeing.{AnswersAgree, WalksAgree};
 ghost use Rattle.automata_hybrid.specs.Costs.{SearchesCostFew};
 ghost use Rattle.automata_hybrid.specs.Knowing.{KnownStays};
+ghost use Rattle.automata_hybrid.specs.Standing.{FirstMatchIsFound};
 
 use crate::dfa::DFA;
-use automata_base::laws::{passes_tell_paths, walk_is_right};
+use automata_base::laws::{passes_tell_paths, told_is_right, walk_is_right};
 
 /// What was searched before, and how large the cache is, shows in no answer: two searches that find something for one
 /// automaton, kind and input find the same.
@@ -14,7 +16,7 @@ pub fn answers_agree()
     passes_tell_paths();
 }
 
-/// Nor does it show in what a walk tells: two walks of one automaton, kind and input tell one list, pair by pair.
+/// Nor does it show in an overlapping search: two of one NFA, match kind and input report one list, match by match.
 pub fn walks_agree(dfa: &DFA)
     ensures { WalksAgree dfa.now }
 {
@@ -32,4 +34,20 @@ pub fn known_stays(dfa: &DFA)
     ensures { KnownStays dfa.now }
 {
     dfa.see_classes();
+}
+
+/// Where no place is skipped, what a search by steps answers at its first match, or at the end of the span, is what
+/// `try_search_fwd` finds with an earliest input.
+pub fn first_match_is_found(dfa: &DFA)
+    ensures { FirstMatchIsFound dfa.now }
+{
+    told_is_right(dfa.get_nfa());
+}
+
+/// Under `MatchKind::All` a set has, after `try_which_overlapping_matches`, exactly the patterns that match: those of which
+/// some path through the span ends in a match.
+pub fn sets_have_matching(dfa: &DFA)
+    ensures { SetsHaveMatching dfa.now }
+{
+    walk_is_right(dfa.get_nfa());
 }

@@ -1,4 +1,4 @@
-//! A lazy DFA: its states are determinised while it searches, into a cache whose accounted bytes never pass its
+//! A lazy DFA: its states are determinized while it searches, into a cache whose accounted bytes never pass its
 //! capacity.
 #![tactic(auto)]
 

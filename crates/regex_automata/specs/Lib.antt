@@ -22,3 +22,4 @@ pub mod Histories
 pub mod Replies
 pub mod ReplayCaches
 pub mod Players
+pub mod Promises

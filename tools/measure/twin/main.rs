@@ -1,70 +1,22 @@
-//! The works of measure.in by a lazy DFA of the library's design, with unchecked loads in the loops of its searches.
+//! The works of measure.in by a lean lazy DFA of the library's design in unchecked Rust: it keeps no progress, and has no
+//! quit bytes, no modes and no limits.
 
-// What it does for states, looks and settings that no work has is here so that it is asked for them, as the library is.
+// What it does for looks and sparse states, which no work has, is here so that it is asked for them, as the library is.
 #![allow(dead_code)]
 
 mod cache;
-mod determinize;
 mod dfa;
-mod input;
 mod nfa;
-mod overlapping;
-mod regex;
 mod search;
 
 use std::iter;
-use std::rc::Rc;
 use std::time::Duration;
 
 use crate::cache::Cache;
-use crate::dfa::{Config, DFA};
-use crate::input::{Input, MatchKind, PatternSet};
-use crate::nfa::{NFA, PatternID, State, StateID, Transition};
-use crate::regex::{Regex, RegexCache};
+use crate::dfa::{Config, Dfa};
+use crate::nfa::{Draft, Nfa};
 
-/// States of an automaton, joined one behind another.
-#[derive(Default)]
-struct Draft {
-    states: Vec<State>,
-    starts: Vec<StateID>,
-}
-
-impl Draft {
-    fn len(&self) -> StateID {
-        self.states.len() as StateID
-    }
-
-    /// Reads one byte of a range, and goes on at the next state.
-    fn read(&mut self, lo: u8, hi: u8) {
-        let next = self.len() + 1;
-        self.states.push(State::ByteRange(Transition { lo, hi, next }));
-    }
-
-    /// Goes on at a state, or else at the next one.
-    fn again(&mut self, from: StateID) {
-        let next = self.len() + 1;
-        self.states.push(State::BinaryUnion(from, next));
-    }
-
-    /// The match of the next pattern, which begins at a state.
-    fn accept(&mut self, start: StateID) {
-        let pattern = self.starts.len() as PatternID;
-        self.states.push(State::Match(pattern));
-        self.starts.push(start);
-    }
-
-    /// A start that prefers the patterns, and else reads a byte.
-    #[inline(never)]
-    fn build(self) -> Option<Rc<NFA>> {
-        let Draft { mut states, starts } = self;
-        let anchored = states.len() as StateID;
-        let (unanchored, skip) = (anchored + 1, anchored + 2);
-        states.push(State::Union(starts.as_slice().into()));
-        states.push(State::BinaryUnion(anchored, skip));
-        states.push(State::ByteRange(Transition { lo: 0, hi: 255, next: unanchored }));
-        NFA::from_states(states, anchored, unanchored, starts, false, b'\n')
-    }
-}
+const SIZE: usize = 1 << 24;
 
 /// A byte of a range, so many times.
 fn times(count: usize, lo: u8, hi: u8) -> Draft {
@@ -88,63 +40,111 @@ fn letters() -> Draft {
     draft
 }
 
-/// Twenty words of five letters, a pattern each.
-fn words() -> Draft {
+/// `a[ab]{11}c`.
+fn blown() -> Draft {
     let mut draft = Draft::default();
-    for first in b'a'..b'u' {
+    draft.read(b'a', b'a');
+    (0..11).for_each(|_| draft.read(b'a', b'b'));
+    draft.read(b'c', b'c');
+    draft.accept(0);
+    draft
+}
+
+fn words_of(words: impl Iterator<Item = Vec<u8>>) -> Draft {
+    let mut draft = Draft::default();
+    for word in words {
         let start = draft.len();
-        for byte in [first, b'o', b'r', first, b'x'] {
-            draft.read(byte, byte);
-        }
+        word.iter().for_each(|byte| draft.read(*byte, *byte));
         draft.accept(start);
     }
     draft
 }
 
+/// Twenty words of five letters, a pattern each.
+fn words() -> Draft {
+    words_of((b'a'..b'u').map(|first| vec![first, b'o', b'r', first, b'x']))
+}
+
+/// Letters that look random, the same ones in each program.
+fn noise(mut state: u32) -> impl Iterator<Item = u8> {
+    iter::repeat_with(move || {
+        state = state.wrapping_mul(1_664_525).wrapping_add(1_013_904_223);
+        b'a' + (state >> 28) as u8
+    })
+}
+
+/// Words of six letters, a pattern each.
+fn random_words(count: usize) -> Draft {
+    let mut letters = noise(1);
+    words_of((0..count).map(|_| letters.by_ref().take(6).collect()))
+}
+
+fn random_text(size: usize) -> Vec<u8> {
+    noise(2).take(size).collect()
+}
+
+fn two_letters(size: usize) -> Vec<u8> {
+    noise(2).take(size).map(|letter| if letter < b'i' { b'a' } else { b'b' }).collect()
+}
+
 /// As many bytes of a piece, again and again, as fit.
-fn text_of(piece: &[u8]) -> Vec<u8> {
-    piece.repeat((1 << 24) / piece.len())
+fn text_of(piece: &[u8], size: usize) -> Vec<u8> {
+    piece.repeat(size / piece.len())
+}
+
+/// How often a text of a size is searched.
+fn turns(size: usize) -> usize {
+    (SIZE / size).max(1)
 }
 
 /// A DFA, and a cache of its own.
 struct Searcher {
-    dfa: DFA,
+    dfa: Dfa,
     cache: Cache,
 }
 
 impl Searcher {
     #[inline(never)]
-    fn new(nfa: Rc<NFA>, config: Config) -> Option<Searcher> {
-        let dfa = DFA::new(nfa, config)?;
-        let cache = Cache::new(&dfa);
-        Some(Searcher { dfa, cache })
+    fn new(nfa: Nfa, config: Config) -> Searcher {
+        let dfa = Dfa::new(nfa, config);
+        let cache = dfa.cache();
+        Searcher { dfa, cache }
     }
 
-    /// The end of the first match from a place on.
+    /// The end of the first match from an offset on.
     #[inline(never)]
     fn end_from(&mut self, text: &[u8], at: usize) -> Option<usize> {
-        let input = Input::new(text).range(at, text.len());
-        let found = self.dfa.try_search::<false>(&mut self.cache, &input).ok()?;
-        found.map(|half| half.offset)
+        self.dfa.find_fwd(&mut self.cache, text, at).map(|(_, end)| end)
     }
 
     #[inline(never)]
     fn start_of(&mut self, text: &[u8]) -> Option<usize> {
-        let found = self.dfa.try_search::<true>(&mut self.cache, &Input::new(text)).ok()?;
-        found.map(|half| half.offset)
+        self.dfa.find_rev(&mut self.cache, text, 0, text.len(), false)
     }
 
     #[inline(never)]
-    fn which(&mut self, line: &[u8], set: &mut PatternSet) -> Option<()> {
-        let input = Input::new(line);
-        self.dfa.try_which_overlapping_matches(&mut self.cache, &input, set).ok()
+    fn which(&mut self, line: &[u8], marks: &mut [bool]) {
+        self.dfa.which(&mut self.cache, line, marks);
     }
+}
+
+/// Two searchers, forward and backward, which find spans.
+struct Regex {
+    forward: Searcher,
+    back: Searcher,
 }
 
 /// How many spans a text has.
 #[inline(never)]
-fn count_spans(regex: &Regex, cache: &mut RegexCache, text: &[u8]) -> usize {
-    regex.find_iter(cache, Input::new(text)).filter(Result::is_ok).count()
+fn count_spans(regex: &mut Regex, text: &[u8]) -> usize {
+    let Regex { forward, back } = regex;
+    let (mut count, mut at) = (0, 0);
+    while let Some((_, end)) = forward.dfa.find_fwd(&mut forward.cache, text, at) {
+        let start = back.dfa.find_rev(&mut back.cache, text, at, end, true);
+        count += usize::from(start.is_some());
+        at = if start == Some(end) { end + 1 } else { end };
+    }
+    count
 }
 
 /// What a work has counted, and its time.
@@ -175,78 +175,123 @@ fn timed(work: impl FnOnce() -> usize) -> Told {
     (count, now() - start)
 }
 
-/// Searches from the end of each match on.
-fn forward(piece: &[u8]) -> Option<Told> {
-    let mut searcher = Searcher::new(digits().build()?, Config::default())?;
-    let text = text_of(piece);
+/// Adds the bytes to a sum: a pass over memory that does nothing else. What it begins with keeps it in a loop.
+#[inline(never)]
+fn sum_of(text: &[u8], begin: usize) -> usize {
+    text.iter().fold(begin, |sum, byte| sum + usize::from(*byte))
+}
+
+fn memory(size: usize) -> Told {
+    let text = text_of(ONE_STATE, size);
+    timed(|| (0..turns(size)).fold(0, |sum, _| sum_of(&text, sum)))
+}
+
+/// The ends of all matches in a text of a size.
+fn forward(piece: &[u8], size: usize) -> Told {
+    let mut searcher = Searcher::new(digits().build(), Config::default());
+    let text = text_of(piece, size);
     let mut next = |&end: &usize| searcher.end_from(&text, end);
-    Some(timed(|| iter::successors(next(&0), next).count()))
+    timed(|| (0..turns(size)).map(|_| iter::successors(next(&0), &mut next).count()).sum())
 }
 
 /// Reads back over text without a match.
-fn backward(piece: &[u8]) -> Option<Told> {
-    let mut searcher = Searcher::new(digits().build()?, Config::default())?;
-    let text = text_of(piece);
-    Some(timed(|| usize::from(searcher.start_of(&text).is_some())))
+fn backward(piece: &[u8]) -> Told {
+    let mut searcher = Searcher::new(digits().build(), Config::default());
+    let text = text_of(piece, SIZE);
+    timed(|| usize::from(searcher.start_of(&text).is_some()))
 }
 
 /// All spans of runs of letters.
-fn spans(piece: &[u8]) -> Option<Told> {
-    let regex = Regex::new(letters().build()?, letters().build()?)?;
-    let mut cache = regex.create_cache();
-    let text = text_of(piece);
-    Some(timed(|| count_spans(&regex, &mut cache, &text)))
+fn spans(piece: &[u8], size: usize) -> Told {
+    let forward = Searcher::new(letters().build(), Config::default());
+    let back = Searcher::new(letters().build(), Config { all: true, ..Config::default() });
+    let mut regex = Regex { forward, back };
+    let text = text_of(piece, size);
+    timed(|| (0..turns(size)).map(|_| count_spans(&mut regex, &text)).sum())
 }
 
 /// A million haystacks of one text.
-fn short(text: &[u8]) -> Option<Told> {
-    let mut searcher = Searcher::new(digits().build()?, Config::default())?;
-    Some(timed(|| (0..1 << 20).filter(|_| searcher.end_from(text, 0).is_some()).count()))
+fn short(text: &[u8]) -> Told {
+    let mut searcher = Searcher::new(digits().build(), Config::default());
+    timed(|| (0..1 << 20).filter(|_| searcher.end_from(text, 0).is_some()).count())
+}
+
+fn count_marks(marks: &[bool]) -> usize {
+    marks.iter().filter(|mark| **mark).count()
 }
 
 /// Which of twenty words a line has, line by line.
-fn sets(line: &[u8]) -> Option<Told> {
-    let config = Config { kind: MatchKind::All, ..Config::default() };
-    let mut searcher = Searcher::new(words().build()?, config)?;
-    let mut set = PatternSet::new(20);
+fn sets(line: &[u8]) -> Told {
+    let mut searcher = Searcher::new(words().build(), Config { all: true, ..Config::default() });
+    let mut marks = [false; 20];
     let mut which = || {
-        set.clear();
-        searcher.which(line, &mut set).map_or(0, |()| set.len)
+        marks.fill(false);
+        searcher.which(line, &mut marks);
+        count_marks(&marks)
     };
-    Some(timed(|| (0..200_000).map(|_| which()).sum()))
+    timed(|| (0..200_000).map(|_| which()).sum())
 }
 
 /// Sixteen bytes that each want a new state, in the least capacity. It counts the clears.
-fn tight() -> Option<Told> {
-    let config =
-        Config { byte_classes: false, cache_capacity: 0, skip_cache_capacity_check: true, ..Config::default() };
-    let mut searcher = Searcher::new(times(16, b'a', b'a').build()?, config)?;
-    Some(timed(|| {
+fn tight() -> Told {
+    let config = Config { byte_classes: false, capacity: 0, ..Config::default() };
+    let mut searcher = Searcher::new(times(16, b'a', b'a').build(), config);
+    timed(|| {
         for _ in 0..60_000 {
             searcher.end_from(b"aaaaaaaaaaaaaaaa", 0);
         }
         searcher.cache.clears
-    }))
+    })
 }
 
 /// A search by a new DFA and a new cache of it, again and again, with or without the time of the automaton, which begins
 /// at the list of its states.
-fn first(draft: fn() -> Draft, whole: bool) -> Option<Told> {
+fn first(draft: impl Fn() -> Draft, text: &[u8], turns: usize, whole: bool) -> Told {
     let mut count = 0;
     let mut time = Duration::ZERO;
-    for _ in 0..20_000 {
+    for _ in 0..turns {
         let draft = draft();
         let mut start = now();
-        let nfa = draft.build()?;
+        let nfa = draft.build();
         if !whole {
             start = now();
         }
-        let mut searcher = Searcher::new(nfa, Config::default())?;
-        count += usize::from(searcher.end_from(b"in 2018, worwx and 12", 0).is_some());
+        let mut searcher = Searcher::new(nfa, Config::default());
+        count += usize::from(searcher.end_from(text, 0).is_some());
         time += now() - start;
     }
-    Some((count, time))
+    (count, time)
 }
+
+/// The first KB searched for the first end of a word, by a new DFA, a thousand words in all.
+fn first_words(words: usize) -> Told {
+    first(|| random_words(words), &random_text(1 << 10), 1_000 / words, false)
+}
+
+/// Which words 256 KB have, by a new DFA whose states all fit.
+fn set_words(words: usize) -> Told {
+    let nfa = random_words(words).build();
+    let text = random_text(1 << 18);
+    let mut marks = vec![false; words];
+    timed(|| {
+        let mut searcher = Searcher::new(nfa, Config { all: true, capacity: 1 << 26, ..Config::default() });
+        searcher.which(&text, &mut marks);
+        count_marks(&marks)
+    })
+}
+
+/// 4,096 states over 256 KB in a capacity, or in the least one. It counts the clears.
+fn room(capacity: usize) -> Told {
+    let nfa = blown().build();
+    let text = two_letters(1 << 18);
+    timed(|| {
+        let mut searcher = Searcher::new(nfa, Config { capacity, ..Config::default() });
+        searcher.end_from(&text, 0);
+        searcher.cache.clears
+    })
+}
+
+const SHORT: &[u8] = b"in 2018, worwx and 12";
 
 const ONE_STATE: &[u8] = b"abcdefghijklmnopqrstuvwxyz .,;-+";
 
@@ -255,31 +300,54 @@ const LINE: &[u8] = b"aorax then some other text eoreX and more eorex of it, the
 const OTHER: &[u8] = b"xxray then some other text yoreX and more zorez of it, then vorgx and more worm";
 
 fn measure(work: &str) -> Option<Told> {
-    match work {
-        "scan" => forward(ONE_STATE),
-        "turns" => forward(b"a1b2c3d4"),
-        "ends" => forward(b"1234abcd"),
+    Some(match work {
+        "scan" => forward(ONE_STATE, SIZE),
+        "turns" => forward(b"a1b2c3d4", SIZE),
+        "ends" => forward(b"1234abcd", SIZE),
         "back" => backward(ONE_STATE),
-        "dense" => spans(b"word "),
-        "sparse" => spans(&[&[b'.'; 232], b"wordword".as_slice()].concat()),
-        "long" => spans(b"abcdefghijklmnopqrstuvwxyz"),
+        "dense" => spans(b"word ", SIZE),
+        "sparse" => spans(&[&[b'.'; 232], b"wordword".as_slice()].concat(), SIZE),
+        "long" => spans(b"abcdefghijklmnopqrstuvwxyz", SIZE),
         "short" => short(b"ab1cd23efghi 456"),
         "sets" => sets(LINE),
         "nosets" => sets(OTHER),
         "tight" => tight(),
-        "first" => first(digits, false),
-        "first20" => first(words, false),
-        "whole" => first(digits, true),
-        "whole20" => first(words, true),
-        _ => None,
-    }
+        "first" => first(digits, SHORT, 20_000, false),
+        "first20" => first(words, SHORT, 20_000, false),
+        "whole" => first(digits, SHORT, 20_000, true),
+        "whole20" => first(words, SHORT, 20_000, true),
+        _ => return grow(work),
+    })
+}
+
+/// The works whose names end in a number, with K or M for 1,024 or 1,048,576 of them.
+fn grow(work: &str) -> Option<Told> {
+    let (name, size) = work.split_at(work.find(|digit: char| digit.is_ascii_digit())?);
+    let number = size.trim_end_matches(['K', 'M']);
+    let unit = if size.ends_with('K') {
+        1 << 10
+    } else if size.ends_with('M') {
+        1 << 20
+    } else {
+        1
+    };
+    let size = number.parse::<usize>().ok()? * unit;
+    Some(match name {
+        "scan" => forward(ONE_STATE, size),
+        "dense" => spans(b"word ", size),
+        "memory" => memory(size),
+        "words" => first_words(size),
+        "set" => set_words(size),
+        "room" => room(size),
+        _ => return None,
+    })
 }
 
 fn main() {
     for work in std::env::args().skip(1) {
         match measure(&work) {
             Some((count, time)) => println!("{} {} {}", work, count, time.as_micros()),
-            None => println!("{} was not measured", work),
+            None => println!("{work} -"),
         }
     }
 }

@@ -1,266 +1,183 @@
-//! Searches for one match, forward, or else back.
+//! Searches, whose loops read the table and the haystack without checks. They keep no progress, and know no quit bytes
+//! and no modes but the anchored one.
 
-use crate::cache::Cache;
-use crate::dfa::{DFA, LazyStateID};
-use crate::input::{Anchored, Found, HalfMatch, Input, MatchError, Why};
+use crate::cache::{Cache, DEAD, MATCH, MAX_UNTAGGED, UNKNOWN};
+use crate::dfa::Dfa;
 
-/// How many bytes are followed before a self-loop is looked for again, where one was looked for in vain.
-const PATIENCE: usize = 256;
-
-/// How many bytes of a match are followed one by one, before a self-loop is looked for.
-const FEW: usize = 8;
-
-/// Where known transitions were followed to.
-type Stop = (usize, LazyStateID);
-
-/// The place that comes some bytes after another on the way, or before it.
+/// The byte that is read after so many others, forward or backward.
+///
+/// # Safety
+///
+/// The haystack has so many bytes from the offset on, or before it.
 #[inline(always)]
-fn on<const BACK: bool>(at: usize, count: usize) -> usize {
-    if BACK { at - count } else { at + count }
+unsafe fn byte<const BACK: bool>(hay: &[u8], from: usize, read: usize) -> u8 {
+    unsafe { *hay.get_unchecked(if BACK { from - 1 - read } else { from + read }) }
 }
 
-/// The same where there may be no such place.
-#[inline(always)]
-fn far<const BACK: bool>(at: usize, count: usize) -> usize {
-    if BACK { at.saturating_sub(count) } else { at.saturating_add(count) }
-}
+impl Dfa {
+    /// # Safety
+    ///
+    /// The ID is one of this cache, and has no tag.
+    #[inline(always)]
+    unsafe fn entry(&self, cache: &Cache, id: u32, byte: u8) -> u32 {
+        let class = self.classes[byte as usize] as usize;
+        unsafe { *cache.trans.get_unchecked(id as usize + class) }
+    }
 
-/// Whether a place is another or comes after it on the way.
-#[inline(always)]
-fn is_past<const BACK: bool>(at: usize, other: usize) -> bool {
-    if BACK { at <= other } else { at >= other }
-}
+    #[inline(always)]
+    fn next(&self, cache: &mut Cache, id: u32, unit: Option<u8>) -> u32 {
+        let class = unit.map_or(self.end, |byte| self.classes[byte as usize] as usize);
+        // SAFETY: an ID in a cache is the offset of a row, and a class is less than the stride.
+        let next = unsafe { *cache.trans.get_unchecked((id & MAX_UNTAGGED) as usize + class) };
+        if next & UNKNOWN == 0 { next } else { self.make_next(cache, id, unit) }
+    }
 
-/// Where the byte is that is read from a place on.
-#[inline(always)]
-fn place<const BACK: bool>(at: usize) -> usize {
-    if BACK { at - 1 } else { at }
-}
+    fn pattern_of(&self, cache: &Cache, id: u32) -> u32 {
+        if self.nfa.patterns == 1 { 0 } else { cache.states[self.row(id)][4] }
+    }
 
-/// How many bytes are left of a span.
-#[inline(always)]
-fn left<const BACK: bool>(input: &Input<'_>, at: usize) -> usize {
-    if BACK { at - input.start } else { input.end - at }
-}
-
-impl DFA {
-    /// The end of the first match, or back the start of the match that a search from the span's end to its start finds.
-    pub(crate) fn try_search<const BACK: bool>(&self, cache: &mut Cache, input: &Input<'_>) -> Found {
-        if input.is_done() {
-            return Ok(None);
-        }
-        let found = self.find_half::<BACK>(cache, input)?;
-        match found {
-            Some(half) if self.nfa.skips_splits && input.splits(half.offset) => self.skip_splits::<BACK>(cache, input),
-            _ => Ok(found),
+    /// Follows transitions, four at a time, up to a tagged ID or the last byte. It returns the ID before the last one,
+    /// the last one, and how many bytes were read before it.
+    ///
+    /// # Safety
+    ///
+    /// The ID is one of this cache and has no tag; there is a byte to read, and the haystack has `count` of them.
+    #[inline(always)]
+    unsafe fn follow<const BACK: bool>(
+        &self,
+        cache: &Cache,
+        (hay, from, count): (&[u8], usize, usize),
+        mut id: u32,
+        mut at: usize,
+    ) -> (u32, u32, usize) {
+        unsafe {
+            loop {
+                let one = self.entry(cache, id, byte::<BACK>(hay, from, at));
+                if one > MAX_UNTAGGED || at + 4 > count {
+                    return (id, one, at);
+                }
+                let two = self.entry(cache, one, byte::<BACK>(hay, from, at + 1));
+                if two > MAX_UNTAGGED {
+                    return (one, two, at + 1);
+                }
+                let three = self.entry(cache, two, byte::<BACK>(hay, from, at + 2));
+                if three > MAX_UNTAGGED {
+                    return (two, three, at + 2);
+                }
+                let four = self.entry(cache, three, byte::<BACK>(hay, from, at + 3));
+                if four > MAX_UNTAGGED || at + 4 == count {
+                    return (three, four, at + 3);
+                }
+                id = four;
+                at += 4;
+            }
         }
     }
 
-    #[cold]
-    fn skip_splits<const BACK: bool>(&self, cache: &mut Cache, input: &Input<'_>) -> Found {
-        let mut later = *input;
-        while later.anchored == Anchored::No && later.start < later.end {
-            if BACK {
-                later.end -= 1;
+    /// The last match's pattern, and how many bytes it has read.
+    #[inline(always)]
+    fn find<const BACK: bool>(
+        &self,
+        cache: &mut Cache,
+        (hay, from, count): (&[u8], usize, usize),
+        start: u32,
+        after: Option<u8>,
+    ) -> Option<(u32, usize)> {
+        let (mut id, mut at, mut found) = (start, 0, None);
+        while at < count {
+            if id <= MAX_UNTAGGED {
+                // SAFETY: the ID is one of this cache, and `at` is less than the number of bytes.
+                let (before, next, read) = unsafe { self.follow::<BACK>(cache, (hay, from, count), id, at) };
+                (id, at) = (next, read);
+                if id & UNKNOWN != 0 {
+                    // SAFETY: as above.
+                    id = self.make_next(cache, before, Some(unsafe { byte::<BACK>(hay, from, at) }));
+                }
             } else {
-                later.start += 1;
-            }
-            match self.find_half::<BACK>(cache, &later)? {
-                Some(half) if later.splits(half.offset) => {}
-                found => return Ok(found),
-            }
-        }
-        Ok(None)
-    }
-
-    fn find_half<const BACK: bool>(&self, cache: &mut Cache, input: &Input<'_>) -> Found {
-        let mut id = self.start::<BACK>(cache, input)?;
-        let mut at = if BACK { input.end } else { input.start };
-        let mut found = None;
-        cache.search_start(at);
-        if id.is_dead() {
-            cache.search_finish(at);
-            return Ok(None);
-        }
-        while left::<BACK>(input, at) > 0 {
-            if !id.is_tagged() {
-                (at, id) = self.follow::<BACK>(cache, input, at, id);
-            }
-            if !input.earliest {
-                let (stop, last) = self.follow_matches::<BACK>(cache, input, at, id);
-                if stop != at {
-                    let offset = if BACK { stop + 1 } else { stop - 1 };
-                    found = Some(HalfMatch { pattern: self.match_pattern(cache, last, 0), offset });
-                    (at, id) = (stop, last);
-                }
-            }
-            if left::<BACK>(input, at) == 0 {
-                break;
-            }
-            let here = place::<BACK>(at);
-            let byte = input.haystack[here];
-            cache.search_update(here);
-            id = self.next_unit(cache, id, Some(byte)).map_err(|_| MatchError::new(Why::GaveUp(here)))?;
-            if id.is_tagged() {
-                if id.is_dead() {
-                    cache.search_finish(here);
-                    return Ok(found);
-                }
-                if id.is_quit() {
-                    cache.search_finish(here);
-                    return Err(MatchError::new(Why::Quit(byte, here)));
-                }
-                if id.is_match() {
-                    found = Some(HalfMatch { pattern: self.match_pattern(cache, id, 0), offset: at });
-                    if input.earliest {
-                        cache.search_finish(here);
-                        return Ok(found);
+                // A run of one match state is followed at once.
+                // SAFETY: as above.
+                unsafe {
+                    while at < count && self.entry(cache, id & MAX_UNTAGGED, byte::<BACK>(hay, from, at)) == id {
+                        at += 1;
                     }
+                    if let Some((_, end)) = &mut found {
+                        *end = at - 1;
+                    }
+                    if at == count {
+                        break;
+                    }
+                    id = self.next(cache, id, Some(byte::<BACK>(hay, from, at)));
                 }
             }
-            at = on::<BACK>(at, 1);
+            if id & MATCH != 0 {
+                found = Some((self.pattern_of(cache, id), at));
+            } else if id & DEAD != 0 {
+                return found;
+            }
+            at += 1;
         }
-        cache.search_update(at);
-        let last = self.end::<BACK>(cache, input, id)?;
-        cache.search_finish(at);
-        if last.is_row_match() {
-            found = Some(HalfMatch { pattern: self.match_pattern(cache, last, 0), offset: at });
-        }
-        Ok(found)
+        id = self.next(cache, id, after);
+        if id & MATCH != 0 { Some((self.pattern_of(cache, id), count)) } else { found }
     }
 
-    #[inline(always)]
-    pub(crate) fn start<const BACK: bool>(
+    /// The pattern and the end of the leftmost match that starts at an offset or later.
+    #[inline(never)]
+    pub(crate) fn find_fwd(&self, cache: &mut Cache, hay: &[u8], from: usize) -> Option<(u32, usize)> {
+        let count = hay.len().checked_sub(from)?;
+        let start = self.start(cache, from.checked_sub(1).map(|before| hay[before]), false);
+        let (pattern, read) = self.find::<false>(cache, (hay, from, count), start, None)?;
+        Some((pattern, from + read))
+    }
+
+    /// The start of the longest match that is read backward from an offset, down to another one.
+    #[inline(never)]
+    pub(crate) fn find_rev(
         &self,
         cache: &mut Cache,
-        input: &Input<'_>,
-    ) -> Result<LazyStateID, MatchError> {
-        let at = if BACK { input.end } else { input.start };
-        let here = if BACK { at } else { at.wrapping_sub(1) };
-        self.start_state(cache, input.anchored, input.haystack.get(here).copied(), here, at)
+        hay: &[u8],
+        least: usize,
+        from: usize,
+        anchored: bool,
+    ) -> Option<usize> {
+        let hay_before = &hay[..from];
+        let count = from.checked_sub(least)?;
+        let start = self.start(cache, hay.get(from).copied(), anchored);
+        let after = least.checked_sub(1).map(|before| hay_before[before]);
+        let (_, read) = self.find::<true>(cache, (hay_before, from, count), start, after)?;
+        Some(from - read)
     }
 
-    /// The state behind the byte that comes after the span on the way, or behind the haystack.
-    #[inline(always)]
-    pub(crate) fn end<const BACK: bool>(
-        &self,
-        cache: &mut Cache,
-        input: &Input<'_>,
-        id: LazyStateID,
-    ) -> Result<LazyStateID, MatchError> {
-        let at = if BACK { input.start } else { input.end };
-        let here = if BACK { at.wrapping_sub(1) } else { at };
-        let unit = input.haystack.get(here).copied();
-        let last = self.next_unit(cache, id, unit).map_err(|_| MatchError::new(Why::GaveUp(at)))?;
-        if last.is_quit() {
-            cache.search_finish(at);
-            return Err(MatchError::new(Why::Quit(unit.unwrap_or(0), here)));
-        }
-        Ok(last)
-    }
-
-    /// Follows known transitions without a tag, from an ID without one.
-    #[inline(always)]
-    pub(crate) fn follow<const BACK: bool>(
-        &self,
-        cache: &Cache,
-        input: &Input<'_>,
-        start: usize,
-        from: LazyStateID,
-    ) -> Stop {
-        let next = |id: LazyStateID, at: usize| {
-            // SAFETY: the bytes are within the span, and the IDs are of the cache and have no tag.
-            unsafe { self.cell(cache, id.0 as usize, *input.haystack.get_unchecked(place::<BACK>(at))) }
-        };
-        let (mut at, mut id, mut again) = (start, from, start);
-        while left::<BACK>(input, at) >= 4 {
-            let one = next(id, at);
-            if one.is_tagged() {
-                return (at, id);
-            }
-            let two = next(one, on::<BACK>(at, 1));
-            if two.is_tagged() {
-                return (on::<BACK>(at, 1), one);
-            }
-            let three = next(two, on::<BACK>(at, 2));
-            if three.is_tagged() {
-                return (on::<BACK>(at, 2), two);
-            }
-            let four = next(three, on::<BACK>(at, 3));
-            if four.is_tagged() {
-                return (on::<BACK>(at, 3), three);
-            }
-            let same = four == id;
-            at = on::<BACK>(at, 4);
-            id = four;
-            if same && is_past::<BACK>(at, again) {
-                let stop = self.stay::<BACK>(cache, input, at, id);
-                if stop == at {
-                    again = far::<BACK>(at, PATIENCE);
+    /// Marks each pattern that matches somewhere in the haystack.
+    #[inline(never)]
+    pub(crate) fn which(&self, cache: &mut Cache, hay: &[u8], marks: &mut [bool]) {
+        let (mut id, mut at) = (self.start(cache, None, false), 0);
+        while at < hay.len() {
+            if id <= MAX_UNTAGGED {
+                // SAFETY: the ID is one of this cache, and `at` is less than the number of bytes.
+                let (before, next, read) = unsafe { self.follow::<false>(cache, (hay, 0, hay.len()), id, at) };
+                (id, at) = (next, read);
+                if id & UNKNOWN != 0 {
+                    id = self.make_next(cache, before, Some(hay[at]));
                 }
-                at = stop;
+            } else {
+                id = self.next(cache, id, Some(hay[at]));
             }
-        }
-        while left::<BACK>(input, at) > 0 {
-            let one = next(id, at);
-            if one.is_tagged() {
-                break;
+            if id & MATCH != 0 {
+                self.mark(cache, id, marks);
+            } else if id & DEAD != 0 {
+                return;
             }
-            at = on::<BACK>(at, 1);
-            id = one;
+            at += 1;
         }
-        (at, id)
+        id = self.next(cache, id, None);
+        if id & MATCH != 0 {
+            self.mark(cache, id, marks);
+        }
     }
 
-    /// Follows the transition of an ID to itself, eight bytes at once.
     #[inline(always)]
-    fn stay<const BACK: bool>(&self, cache: &Cache, input: &Input<'_>, start: usize, id: LazyStateID) -> usize {
-        let row = id.offset();
-        let mut at = start;
-        while left::<BACK>(input, at) >= 8 {
-            for k in 0..8 {
-                let here = place::<BACK>(on::<BACK>(at, k));
-                // SAFETY: the byte is within the span, and the ID is of the cache.
-                let next = unsafe { self.cell(cache, row, *input.haystack.get_unchecked(here)) };
-                if next != id {
-                    return at;
-                }
-            }
-            at = on::<BACK>(at, 8);
-        }
-        at
-    }
-
-    /// Follows known transitions into states that have patterns: a few one by one, since most matches are short, and
-    /// then, where such a state leads back to itself, eight bytes at once.
-    #[inline(always)]
-    fn follow_matches<const BACK: bool>(
-        &self,
-        cache: &Cache,
-        input: &Input<'_>,
-        start: usize,
-        from: LazyStateID,
-    ) -> Stop {
-        let (mut at, mut id) = (start, from);
-        let mut again = far::<BACK>(start, FEW);
-        while left::<BACK>(input, at) > 0 {
-            let here = place::<BACK>(at);
-            // SAFETY: the byte is within the span, and the ID is of the cache.
-            let next = unsafe { self.cell(cache, id.offset(), *input.haystack.get_unchecked(here)) };
-            if !next.is_row_match() {
-                break;
-            }
-            let same = next == id;
-            at = on::<BACK>(at, 1);
-            id = next;
-            if same && is_past::<BACK>(at, again) {
-                let stop = self.stay::<BACK>(cache, input, at, id);
-                if stop == at {
-                    again = far::<BACK>(at, PATIENCE);
-                }
-                at = stop;
-            }
-        }
-        (at, id)
+    fn mark(&self, cache: &Cache, id: u32, marks: &mut [bool]) {
+        let state = &cache.states[self.row(id)];
+        state[4..4 + state[3] as usize].iter().for_each(|pattern| marks[*pattern as usize] = true);
     }
 }

@@ -132,7 +132,7 @@ state_next : (t : ℕ) (s : State) (b : ℕ) → state_bounds t s (suc b) ≡ fa
 unfolding state_bounds
 state_next t (is.ByteRange lo hi next) b h = ap (λ z. cond z (Some next) None) (within_next lo hi b h)
 state_next t (is.Sparse ts) b h = ranges_next ts.items b h
-state_next t (is.Dense targets) b h = dense_next targets b h
+state_next t (is.Dense targets) b h = dense_next targets.value b h
 state_next t (is.Look look next) b h = refl
 state_next t (is.Union alternates) b h = refl
 state_next t (is.BinaryUnion alt1 alt2) b h = refl

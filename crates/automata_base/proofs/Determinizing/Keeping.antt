@@ -14,6 +14,8 @@ use Rattle.automata_base.specs.Once.{once_from, Distinct}
 use Rattle.automata_base.specs.Computed.{once_past}
 use Rattle.automata_base.specs.Cuts.{IsOnce}
 use Rattle.automata_base.proofs.Paths.Machines.{once_right}
+use Rattle.automata_base.specs.Made.{AreMatched}
+use Rattle.automata_base.specs.Nodes.{Automaton, nfa_of}
 use Rattle.automata_base.proofs.Paths.Fuels.{is_in_false}
 use Rattle.std.specs.Prelude.{All}
 use Rattle.std.proofs.Common.{inl, inr, ◌⊎◌}
@@ -107,6 +109,45 @@ pub cut_done : (n : Nfa) (xs : List ℕ) (i : ℕ) → length xs ≤ i → cut n
 cut_done n xs i l h =
     take_all (length xs) xs (omega arith)
     ∙ sym (h ∙ (ap (λ z. take i xs ++ cut n z) (drop_all i xs l) ∙ (append-nil (take i xs) ∙ take_all i xs l)))
+
+-- The patterns of what counts are those of the rest, as long as no match state came, then that of the first one.
+pub cut_picks_next :
+    (n : Nfa) (xs : List ℕ) (i x : ℕ) → i < length xs → x ≡ get_or xs i x → accepts n x ≡ None
+    → pick (accepts n) (cut n xs) ≡ pick (accepts n) (cut n (drop i xs))
+    → pick (accepts n) (cut n xs) ≡ pick (accepts n) (cut n (drop (i + 1) xs))
+cut_picks_next n xs i x l e none h =
+    h ∙ (ap (λ z. pick (accepts n) (cut n z)) (next_drop xs i x l e)
+    ∙ (ap (λ z. pick (accepts n) (cut_behind z x (cut n (drop (i + 1) xs)))) none
+    ∙ ap (λ z. cons_some z (pick (accepts n) (cut n (drop (i + 1) xs)))) none))
+
+pub cut_picks_here :
+    (n : Nfa) (xs : List ℕ) (i x p : ℕ) → i < length xs → x ≡ get_or xs i x → accepts n x ≡ Some p
+    → pick (accepts n) (cut n xs) ≡ pick (accepts n) (cut n (drop i xs)) → pick (accepts n) (cut n xs) ≡ p ∷ []
+cut_picks_here n xs i x p l e some h =
+    h ∙ (ap (λ z. pick (accepts n) (cut n z)) (next_drop xs i x l e)
+    ∙ (ap (λ z. pick (accepts n) (cut_behind z x (cut n (drop (i + 1) xs)))) some
+    ∙ ap (λ z. cons_some z []) some))
+
+pub cut_picks_done :
+    (n : Nfa) (xs : List ℕ) (i : ℕ) → length xs ≤ i
+    → pick (accepts n) (cut n xs) ≡ pick (accepts n) (cut n (drop i xs)) → pick (accepts n) (cut n xs) ≡ []
+cut_picks_done n xs i l h = h ∙ ap (λ z. pick (accepts n) (cut n z)) (drop_all i xs l)
+
+-- One pattern, or none, is a list in which no pattern stands twice.
+pub matched_one : (a : Automaton) (list : List ℕ) (p : ℕ) → p < length a.start_pattern
+    → pick (accepts (nfa_of a)) list ≡ p ∷ [] → AreMatched a list (p ∷ [])
+matched_one a list p l e = record {
+  once = subst (λ z. IsOnce z (p ∷ [])) (sym e) (once_right (p ∷ []));
+  distinct = ((λ i. i), tt);
+  few = omega arith;
+}
+
+pub matched_none : (a : Automaton) (list : List ℕ) → pick (accepts (nfa_of a)) list ≡ [] → AreMatched a list []
+matched_none a list e = record {
+  once = subst (λ z. IsOnce z []) (sym e) (once_right []);
+  distinct = tt;
+  few = omega arith;
+}
 
 pub in_next : (p : ℕ) (xs : List ℕ) (i x : ℕ) (w : Bool) → i < length xs → x ≡ get_or xs i x → eqb p x ≡ false → w ≡ is_in p (drop i xs) → w ≡ is_in p (drop (i + 1) xs)
 in_next p xs i x w l e f h = h ∙ (ap (is_in p) (next_drop xs i x l e) ∙ ap (λ z. z || is_in p (drop (i + 1) xs)) f)

@@ -80,7 +80,7 @@ dense_fit n k (suc m ∷ xs) h =
 pub node_fits : (n : ℕ) (s : State) → state_below n s ≡ true → node_below n (node_of s) ≡ true
 node_fits n (ByteRange lo hi next) h = and_true (ltb next n) true h refl
 node_fits n (Sparse ts) h = ranges_fit n ts.items h
-node_fits n (Dense targets) h = dense_fit n 0 targets h
+node_fits n (Dense targets) h = dense_fit n 0 targets.value h
 node_fits n (LookState look next) h = h
 node_fits n (Union alternates) h = h
 node_fits n (BinaryUnion alt1 alt2) h =

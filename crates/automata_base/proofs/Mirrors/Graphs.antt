@@ -348,7 +348,7 @@ module _ (M : ℕ → Type 0) (size from : ℕ) where
       (inl (refl, refl, refl)) (step_read P t lo hi next (ltb-true next size b) i)
   graph_state (is.Sparse ts) P t b i = graph_ranges ts.items P t b i
   graph_state (is.Dense targets) P t b i =
-      graph_ranges (runs_from 0 0 targets) P t (runs_below size targets 0 0 b) i
+      graph_ranges (runs_from 0 0 targets.value) P t (runs_below size targets.value 0 0 b) i
   graph_state (is.Look look next) P t b i =
       only P (turn_by t (is.Look (flip look) from) next) (Assert look next) (Asks look) next (look_only look next) (refl, refl)
       (step_by P M size t from next (Asks look) (is.Look (flip look) from) (ltb-true next size b) (λ t x h. h) i)

@@ -91,7 +91,7 @@ state_apart : (s : State) → state_ordered s ≡ true → IsApartAt (ranged s)
 state_apart (is.ByteRange lo hi next) o = byte_apart lo hi next
 state_apart (is.Sparse ts) o = sparse_apart 0 ts.items o
 state_apart (is.Dense targets) o =
-    sparse_apart 0 (runs_from 0 0 targets) (runs_ordered targets 0 0 0 (omega arith) (omega arith))
+    sparse_apart 0 (runs_from 0 0 targets.value) (runs_ordered targets.value 0 0 0 (omega arith) (omega arith))
 state_apart (is.Look look next) o = tt
 state_apart (is.Union alternates) o = tt
 state_apart (is.BinaryUnion alt1 alt2) o = tt

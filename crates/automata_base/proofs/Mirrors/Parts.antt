@@ -61,7 +61,7 @@ ranged_length (x ∷ xs) = ap suc (ranged_length xs)
 target_same : (s : State) (r : ℕ) → In r (targets_at Every (ranged s)) → In r (targets_at Every (node_of s))
 target_same (is.ByteRange lo hi next) r i = i
 target_same (is.Sparse ts) r i = i
-target_same (is.Dense targets) r i = runs_next targets 0 0 r i
+target_same (is.Dense targets) r i = runs_next targets.value 0 0 r i
 target_same (is.Look look next) r i = i
 target_same (is.Union alternates) r i = i
 target_same (is.BinaryUnion alt1 alt2) r i = i

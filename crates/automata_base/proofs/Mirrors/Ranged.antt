@@ -24,7 +24,7 @@ hop_same (is.Match pattern) A e = refl
 takes_same : (s : State) (u : ℕ) → takes_at (ranged s) u ≡ takes_at (node_of s) u
 takes_same (is.ByteRange lo hi next) u = refl
 takes_same (is.Sparse ts) u = refl
-takes_same (is.Dense targets) u = dense_takes targets u
+takes_same (is.Dense targets) u = dense_takes targets.value u
 takes_same (is.Look look next) u = refl
 takes_same (is.Union alternates) u = refl
 takes_same (is.BinaryUnion alt1 alt2) u = refl

@@ -37,7 +37,7 @@ module _ (n from : ℕ) (l : from < n) where
   helpers_state : (s : State) (t : Turns) → states_below n t.helpers ≡ true → states_below n (turn_state t from s).helpers ≡ true
   helpers_state (is.ByteRange lo hi next) t b = range_on t lo hi next b
   helpers_state (is.Sparse ts) t b = helpers_ranges ts.items t b
-  helpers_state (is.Dense targets) t b = helpers_ranges (runs_from 0 0 targets) t b
+  helpers_state (is.Dense targets) t b = helpers_ranges (runs_from 0 0 targets.value) t b
   helpers_state (is.Look look next) t b = states_last n t.helpers (is.Look (flip look) from) b (lt-ltb from n l)
   helpers_state (is.Union alternates) t b = helpers_all alternates.items t b
   helpers_state (is.BinaryUnion alt1 alt2) t b = b

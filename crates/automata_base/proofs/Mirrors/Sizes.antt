@@ -52,7 +52,7 @@ size_ranges t from (r ∷ rs) =
 pub size_state : (t : Turns) (from : ℕ) (s : State) → size (turn_state t from s) ≡ size t + asking_edges s
 size_state t from (is.ByteRange lo hi next) = let a = size_by t (is.ByteRange lo hi from) next in omega (arith, a)
 size_state t from (is.Sparse ts) = size_ranges t from ts.items
-size_state t from (is.Dense targets) = size_ranges t from (runs_from 0 0 targets)
+size_state t from (is.Dense targets) = size_ranges t from (runs_from 0 0 targets.value)
 size_state t from (is.Look look next) = let a = size_by t (is.Look (flip look) from) next in omega (arith, a)
 size_state t from (is.Union alternates) = let a = size_all t from alternates.items in omega (arith, a)
 size_state t from (is.BinaryUnion alt1 alt2) = let a = size_all t from (alt1 ∷ alt2 ∷ []) in omega (arith, a)
@@ -95,7 +95,7 @@ total_ranges t from (r ∷ rs) =
 total_state : (t : Turns) (from : ℕ) (s : State) → total (turn_state t from s).lists ≤ total t.lists + (asking_edges s + free_edges s)
 total_state t from (is.ByteRange lo hi next) = let a = total_by t (is.ByteRange lo hi from) next in omega (arith, a)
 total_state t from (is.Sparse ts) = let a = total_ranges t from ts.items in omega (arith, a)
-total_state t from (is.Dense targets) = let a = total_ranges t from (runs_from 0 0 targets) in omega (arith, a)
+total_state t from (is.Dense targets) = let a = total_ranges t from (runs_from 0 0 targets.value) in omega (arith, a)
 total_state t from (is.Look look next) = let a = total_by t (is.Look (flip look) from) next in omega (arith, a)
 total_state t from (is.Union alternates) = let a = total_all t from alternates.items in omega (arith, a)
 total_state t from (is.BinaryUnion alt1 alt2) = let a = total_all t from (alt1 ∷ alt2 ∷ []) in omega (arith, a)
@@ -154,7 +154,7 @@ module _ (from : ℕ) where
   helpers_state (is.ByteRange lo hi next) t o a = helpers_more t.helpers (is.ByteRange lo hi from) a (refl, o)
   helpers_state (is.Sparse ts) t o a = helpers_ranges ts.items 0 t o a
   helpers_state (is.Dense targets) t o a =
-      helpers_ranges (runs_from 0 0 targets) 0 t (runs_ordered targets 0 0 0 (omega arith) (omega arith)) a
+      helpers_ranges (runs_from 0 0 targets.value) 0 t (runs_ordered targets.value 0 0 0 (omega arith) (omega arith)) a
   helpers_state (is.Look look next) t o a = helpers_more t.helpers (is.Look (flip look) from) a (refl, refl)
   helpers_state (is.Union alternates) t o a = helpers_all alternates.items t a
   helpers_state (is.BinaryUnion alt1 alt2) t o a = helpers_all (alt1 ∷ alt2 ∷ []) t a

@@ -46,7 +46,7 @@ pub state_is_below :
     (n : ℕ) (x : State) → 0 < n → ((r : ℕ) → In r (targets_at Every (node_of x)) → r < n) → state_below n x ≡ true
 state_is_below n (is.ByteRange lo hi next) z f = lt-ltb next n (f next (inl refl))
 state_is_below n (is.Sparse ts) z f = below_ranges n ts.items f
-state_is_below n (is.Dense targets) z f = below_dense n 0 targets z f
+state_is_below n (is.Dense targets) z f = below_dense n 0 targets.value z f
 state_is_below n (is.Look look next) z f = lt-ltb next n (f next (inl refl))
 state_is_below n (is.Union alternates) z f = ids_below n alternates.items (λ r i. f r (In-left r alternates.items [] i))
 state_is_below n (is.BinaryUnion alt1 alt2) z f = two alt1 alt2 n (f alt1 (inl refl)) (f alt2 (inr (inl refl)))

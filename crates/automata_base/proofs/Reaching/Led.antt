@@ -157,7 +157,7 @@ state_takes (is.ByteRange lo hi next) r o (inl e) =
     (lo, ap (λ b. cond b (Some next) None) (within_low lo hi o) ∙ ap (λ z. Some z) (sym e))
 state_takes (is.ByteRange lo hi next) r o (inr i) = absurd i
 state_takes (is.Sparse ts) r o i = let w = next_takes 0 ts.items r o i in (w.0, w.2)
-state_takes (is.Dense targets) r o i = let w = dense_takes_next 0 targets r i in (w.0, w.2)
+state_takes (is.Dense targets) r o i = let w = dense_takes_next 0 targets.value r i in (w.0, w.2)
 state_takes (is.Look look next) r o i = absurd i
 state_takes (is.Union alternates) r o i = absurd i
 state_takes (is.BinaryUnion alt1 alt2) r o i = absurd i

@@ -177,7 +177,7 @@ module _ (cs : List Class) (chain : chained 0 cs ≡ true) (s y : ℕ) where
           (led_first 0 (record { lo = lo; hi = hi; next = next }) [] (omega arith) (leb-true lo hi o) j)
       go (inr j) = absurd j
   state_led (is.Sparse ts) o i = of_led (ranges_of ts.items) (sparse_led 0 ts.items o i)
-  state_led (is.Dense targets) o i = of_led (dense_from 0 targets) (dense_led 0 targets i)
+  state_led (is.Dense targets) o i = of_led (dense_from 0 targets.value) (dense_led 0 targets.value i)
   state_led (is.Look look next) o i = absurd i
   state_led (is.Union alternates) o i = absurd i
   state_led (is.BinaryUnion alt1 alt2) o i = absurd i

@@ -8,9 +8,9 @@ use crate::util::look::Look;
 use crate::util::primitives::StateID;
 use std::marker::Model;
 
-/// Which bytes no automaton tells apart: each byte has a class, and bytes of one class lead to the same states.
+/// Which bytes the NFA cannot distinguish: each byte has a class, and bytes of one class lead to the same states.
 ///
-/// One class more, behind the last one, is that of the end of the input.
+/// One more class, after the last one, is that of the end of the input.
 #[derive(Clone, Copy, Debug, PartialEq, Eq)]
 pub struct ByteClasses {
     map: [u8; 256],
@@ -31,7 +31,7 @@ impl Model for ByteClasses {
 
 impl ByteClasses {
     ghost use Rattle.std.specs.Prelude.{◌≡◌, ◌+◌, ◌<◌, ◌≤◌, ◌^◌, ℕ, false, true, length};
-    ghost use Rattle.automata_base.specs.Classes.{class_of, class_in, eoi_class, alphabet_length, stride_of, is_quit};
+    ghost use Rattle.automata_base.specs.Classes.{AreClasses, class_of, class_in, eoi_class, alphabet_length, stride_of, is_quit};
 
     /// The classes of an automaton's bytes, for these quit bytes. Where `on` is false each byte is its own class.
     pub fn of(nfa: &NFA, quits: &[bool; 256], on: bool) -> ByteClasses
@@ -52,6 +52,13 @@ impl ByteClasses {
         ensures below { result < eoi_class self.now }
     {
         self.map[usize::from(byte)]
+    }
+
+    /// Classes rise by at most one from byte to byte.
+    pub fn see_rising(&self)
+        ensures { AreClasses self.now }
+    {
+        let _map = &self.map;
     }
 
     /// The number of classes, that of the end of the input being one of them: 2 to 257.
@@ -126,7 +133,7 @@ fn mark_if(marks: &mut [bool; 257], byte: usize, yes: bool)
     }
 }
 
-// Before the first of the bytes, and behind the last.
+// Before the first of the bytes, and after the last.
 fn mark_range(marks: &mut [bool; 257], lo: u8, hi: u8)
     ensures { Adds marks.old marks.new (bounds lo hi) }
 {

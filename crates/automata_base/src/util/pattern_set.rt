@@ -53,7 +53,8 @@ impl PatternSet {
         Ok(PatternSet { len: 0, which })
     }
 
-    /// Whether the pattern is new. A pattern that isn't below the capacity is refused, and the set stays as it is.
+    /// Inserts a pattern, and returns whether it is new. A pattern that is not below the capacity is an error, and the
+    /// set is unchanged.
     pub fn try_insert(&mut self, pattern: PatternID) -> Result<bool, PatternSetInsertError>
         ensures refused { IsErr result ↔ (length self.old ≤ pattern) }
         ensures error { IfErr result (λ e. e ≡ record { attempted = pattern; capacity = length self.old }) }
@@ -87,7 +88,7 @@ impl PatternSet {
         self.len = 0;
     }
 
-    /// Whether a pattern is in the set. One past the capacity isn't.
+    /// Whether a pattern is in the set. One past the capacity is not.
     pub fn contains(&self, pattern: PatternID) -> bool
         ensures { result ≡ has self.now pattern }
     {

@@ -14,14 +14,14 @@ pub struct Span {
 impl Span {
     ghost use Rattle.std.specs.Prelude.{◌≡◌, ◌<◌, ◌≤◌, ◌+◌, ◌-◌, ◌^◌, ◌↔◌, IsTrue};
 
-    /// The bytes between its offsets. There are none where it starts behind its end.
+    /// The bytes between its offsets. There are none if it starts after its end.
     pub fn len(&self) -> usize
         ensures { result ≡ self.now.end - self.now.start }
     {
         self.end.saturating_sub(self.start)
     }
 
-    /// Whether it holds no byte: its start isn't below its end.
+    /// Whether it holds no byte: its start is not below its end.
     pub fn is_empty(&self) -> bool
         ensures { IsTrue result ↔ (self.now.end ≤ self.now.start) }
     {
@@ -122,7 +122,7 @@ impl Model for Match {
 impl Match {
     ghost use Rattle.std.specs.Prelude.{◌≡◌, ◌≤◌};
 
-    /// A match of a pattern. The span's start isn't behind its end.
+    /// A match of a pattern. The span's start is at most its end.
     pub fn new(pattern: PatternID, span: Span) -> Match
         requires { span.start ≤ span.end }
         ensures { result ≡ record { pattern = pattern; start = span.start; end = span.end } }
@@ -154,7 +154,7 @@ impl Match {
         self.span.start
     }
 
-    /// The offset behind its last byte.
+    /// The offset after its last byte.
     pub fn end(&self) -> usize
         ensures end { result ≡ self.now.end }
         ensures ordered { self.now.start ≤ self.now.end }
@@ -163,7 +163,7 @@ impl Match {
     }
 }
 
-/// Which matches a search tells: all of them, or those that a backtracking matcher would find first.
+/// Which matches a search reports: all of them, or those that a backtracking matcher would find first.
 #[derive(Clone, Copy, Debug, PartialEq, Eq)]
 pub enum MatchKind {
     All,
@@ -324,7 +324,7 @@ impl<'h> Input<'h> {
         end <= self.haystack.len() && start <= end + 1
     }
 
-    /// With this span of the haystack. By default it is the whole one. `allows` tells whether a span may be given.
+    /// With this span of the haystack. By default it is the whole haystack. `allows` tests whether a span may be given.
     pub fn span(self, span: Span) -> Input<'h>
         requires { Allows self.haystack span.start span.end }
         ensures { result ≡ record self.entry { start = span.start; end = span.end } }
@@ -361,7 +361,7 @@ impl<'h> Input<'h> {
     }
 
     /// Whether a search may stop at the first end that it comes to. By default it may not. Where split places are
-    /// skipped, an earliest search doesn't tell whether there is a match: `Regex::is_match` does.
+    /// skipped, an earliest search does not tell whether there is a match: `Regex::is_match` does.
     pub fn earliest(self, yes: bool) -> Input<'h>
         ensures { result ≡ record self.entry { earliest = yes } }
     {
@@ -392,7 +392,7 @@ impl<'h> Input<'h> {
         };
     }
 
-    /// Moves the span's start; at most one behind its end, as `allows` tells.
+    /// Moves the span's start, at most to one after its end; `allows` tests that.
     pub fn set_start(&mut self, start: usize)
         requires { Allows self.old.haystack start self.old.end }
         ensures { self.new ≡ record self.old { start = start } }
@@ -400,7 +400,7 @@ impl<'h> Input<'h> {
         self.span.start = start;
     }
 
-    /// Moves the span's end; at most one before its start, and within the haystack, as `allows` tells.
+    /// Moves the span's end, at least to one before its start, and within the haystack; `allows` tests that.
     pub fn set_end(&mut self, end: usize)
         requires { Allows self.old.haystack self.old.start end }
         ensures { self.new ≡ record self.old { end = end } }
@@ -440,7 +440,7 @@ impl<'h> Input<'h> {
         self.span.start
     }
 
-    /// The offset behind the span's last byte.
+    /// The offset after the span's last byte.
     pub fn end(&self) -> usize
         ensures end { result ≡ self.now.end }
         ensures within { IsAllowed self.now }

@@ -4,7 +4,7 @@ ghost use Rattle.automata_base.specs.Lists.{nth};
 use crate::util::search::{Anchored, Input};
 use std::marker::Model;
 
-/// What a start state depends on: the byte behind the search's start, in its direction, and the mode.
+/// What a start state depends on: the byte before the search's start, in its direction, and the anchored mode.
 #[derive(Clone, Copy, Debug)]
 pub struct Config {
     look_behind: Option<u8>,
@@ -68,7 +68,7 @@ impl Config {
         }
     }
 
-    /// With this byte behind the start, or none, as at the haystack's edge.
+    /// With this look-behind byte, or none, as at the haystack's edge.
     pub fn look_behind(self, byte: Option<u8>) -> Config
         ensures { result ≡ record self { look_behind = byte } }
     {
@@ -88,7 +88,7 @@ impl Config {
         }
     }
 
-    /// The byte behind the start: the one before it going forward, the one at the span's end going backward.
+    /// The look-behind byte: the one before the span's start in a forward search, the one at its end in a reverse search.
     pub fn get_look_behind(&self) -> Option<u8>
         ensures { result ≡ self.now.look_behind }
     {

@@ -27,6 +27,17 @@ impl Model for Builder {
     ghost inverse = { λ o. record { config = o } };
 }
 
+impl Default for Builder {
+    ghost use Rattle.std.specs.Prelude.{◌≡◌};
+    ghost use Rattle.automata_config.specs.Options.{unset};
+
+    fn default() -> Builder
+        ensures { result ≡ unset }
+    {
+        Builder::new()
+    }
+}
+
 impl Builder {
     ghost use Rattle.std.specs.Result.{result_err};
 
@@ -39,7 +50,7 @@ impl Builder {
         }
     }
 
-    /// Sets what is set in these settings, and keeps the rest; the builder holds it from then on.
+    /// Sets the options that are set in `config`, and keeps the others.
     pub fn configure(&mut self, config: Config) -> &mut Builder
         ensures same { result.ghost_name ≡ self.entry.ghost_name }
         ensures value { result.now ≡ overwritten self.old config }
@@ -48,7 +59,7 @@ impl Builder {
         self
     }
 
-    /// The lazy DFA of an automaton. It takes no memory. A refusal hands the automaton not back: clone it before.
+    /// The lazy DFA of an NFA. It allocates nothing. An error does not give the NFA back: clone it before.
     pub fn build_from_nfa(&self, nfa: NFA) -> Result<DFA, BuildError>
         ensures ok { IfOk result (Builds self.now nfa) }
         ensures refused { result_err result ≡ settling_refusal self.now nfa }
@@ -59,7 +70,7 @@ impl Builder {
     }
 }
 
-/// The DFA of an automaton of one state, by the default settings. It is refused for want of memory alone.
+/// The DFA of an NFA of one state, with the default settings. The only error is out of memory.
 fn of_state(alloc: Global, state: State, starts: Vec<StateID>) -> Result<DFA, BuildError>
     requires { settling_refusal unset (one_state state starts.items) ≡ None }
     ensures refused { IfErr result (λ e. e ≡ BuildError.OutOfMemory) }
@@ -82,7 +93,7 @@ fn of_state(alloc: Global, state: State, starts: Vec<StateID>) -> Result<DFA, Bu
 }
 
 impl DFA {
-    /// A DFA of one pattern, which matches everywhere. It is refused for want of memory alone.
+    /// A DFA of one pattern, which matches at every offset. The only error is out of memory.
     pub fn always_match(alloc: Global) -> Result<DFA, BuildError>
         ensures refused { IfErr result (λ e. e ≡ BuildError.OutOfMemory) }
         ensures built { IfOk result (Builds unset always_matching) }
@@ -99,7 +110,7 @@ impl DFA {
         Ok(dfa)
     }
 
-    /// A DFA of no pattern, which matches nowhere. It is refused for want of memory alone.
+    /// A DFA of no pattern, which never matches. The only error is out of memory.
     pub fn never_match(alloc: Global) -> Result<DFA, BuildError>
         ensures refused { IfErr result (λ e. e ≡ BuildError.OutOfMemory) }
         ensures built { IfOk result (Builds unset never_matching) }

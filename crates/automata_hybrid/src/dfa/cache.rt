@@ -3,7 +3,8 @@ ghost use Rattle.std.specs.Prelude.{length, is_some, IsSome, IsTrue, ◌↔◌, 
 ghost use Rattle.automata_base.specs.Powerset.{Powerset, cost, dead};
 ghost use Rattle.automata_base.specs.Steps.{successor, start_state_of};
 ghost use Rattle.automata_hybrid.specs.Owned.{IsOwn};
-ghost use Rattle.automata_hybrid.specs.Machine.{next_of, start_of, greatest, template_of, table_stride, slot_count};
+ghost use Rattle.automata_hybrid.specs.Machine.{IsClassOf, IsStateOf, greatest, next_of, slot_count, start_of};
+ghost use Rattle.automata_hybrid.specs.Machine.{table_stride, template_of};
 ghost use Rattle.automata_hybrid.specs.Ids.{dead_id, unknown_id, fixed_from, offset_limit};
 ghost use Rattle.automata_hybrid.specs.Table.{id_of, Names, IsValid, Leads, MayLead, IsCell, HasCells, HasItsMatchTag};
 ghost use Rattle.automata_hybrid.specs.Table.{HasRowIds, IsNewState};
@@ -14,6 +15,7 @@ ghost use Rattle.automata_hybrid.specs.Effects.{AddsNext, AddsStart, IsAddedStar
 ghost use Rattle.automata_hybrid.specs.Caches.{IsRow, IsCacheOf, fresh_cache, counted, with_store};
 ghost use Rattle.automata_hybrid.specs.Growing.{IsGrown, KeepsProgress};
 ghost use Rattle.automata_hybrid.specs.Owing.{IsStoreOf};
+ghost use Rattle.automata_hybrid.specs.Starting.{IsStartSlot};
 ghost use Rattle.automata_hybrid.specs.Walking.{IsRowState};
 ghost use Rattle.automata_hybrid.specs.Walks.{IsHandle};
 ghost use Rattle.automata_hybrid.specs.Progressing.{started, updated, finished, total_len};
@@ -22,12 +24,14 @@ ghost use Rattle.automata_config.specs.Options.{match_kind_of};
 use crate::dfa::store::Store;
 use crate::dfa::{DFA, row};
 use crate::id::LazyStateID;
+use crate::search::self_loop::KnownLoop;
 use crate::search::walk::Handle;
 use automata_base::util::determinize::{Key, Scratch, State, next_key, start_key};
 use automata_base::util::primitives::PatternID;
 use automata_base::util::search::Anchored;
 use automata_config::error::StepError;
 use std::alloc::AllocError;
+use std::cell::Cell;
 use std::marker::Model;
 use std::snapshot::Snapshot;
 
@@ -40,11 +44,13 @@ pub(crate) enum Found {
     New(State),
 }
 
-/// The states that a lazy DFA has found, and the room to find more.
+/// The states that a lazy DFA has determinized, their transitions, and the buffers to determinize more. Its accounted
+/// bytes, `memory_usage`, never exceed the capacity of the DFA's settings.
 #[derive(Drop)]
 pub struct Cache {
     store: Store,
     scratch: Scratch,
+    self_loop: Cell<KnownLoop>,
 }
 
 impl Model for Cache {
@@ -67,10 +73,14 @@ impl Cache {
     {
         let scratch = Scratch::new(dfa.get_nfa())?;
         let store = dfa.fresh_store()?;
-        Ok(Cache { store, scratch })
+        Ok(Cache {
+            store,
+            scratch,
+            self_loop: Cell::new(KnownLoop::default()),
+        })
     }
 
-    /// A fresh cache, of this DFA from now on. A refusal changes nothing.
+    /// Makes it a fresh cache of this DFA. An error changes nothing.
     pub fn reset(&mut self, dfa: &DFA) -> Result<(), AllocError>
         ensures ok { OnOk result (self.new ≡ fresh_cache dfa.now) }
         ensures err { OnErr result (self.new ≡ self.old) }
@@ -89,14 +99,13 @@ impl Cache {
     ) -> Result<Key, AllocError>
         requires of { IsCacheOf self.old dfa.now }
         requires valid { IsValid self.old.store.table id }
-        requires alike { (q : Powerset) → IsOwn dfa.now.nfa q
-            → successor dfa.now.nfa (match_kind_of dfa.now.config) q unit ≡ next_of dfa.now q class }
+        requires class { IsClassOf dfa.now class unit }
         ensures value { IfOk result (λ k. (q : Powerset) → Names self.old.store.table id q
             → k ≡ next_of dfa.now q class) }
         ensures successor { IfOk result (λ k. (q : Powerset) → Names self.old.store.table id q
             → k ≡ successor dfa.now.nfa (match_kind_of dfa.now.config) q unit) }
         ensures cost { IfOk result (λ k. cost k ≤ greatest dfa.now) }
-        ensures is_of { IfOk result (λ k. IsOwn dfa.now.nfa k) }
+        ensures is_of { IfOk result (λ k. IsStateOf dfa.now k) }
         ensures counted { self.new ≡ counted self.old }
     {
         let from = self.store.state(id);
@@ -122,14 +131,14 @@ impl Cache {
         Ok(Found::New(state))
     }
 
-    /// The ID of a state, where the cache has it.
+    /// The ID of a state, if the cache has it.
     pub(crate) fn find(&self, key: &Key) -> Option<LazyStateID>
         ensures { result ≡ id_of self.now.store.table key.now }
     {
         self.store.get(key)
     }
 
-    /// A handle on the state of a row. It takes no memory. It is refused only where no user more can be counted.
+    /// A handle on the state of a row. It allocates nothing. It fails only if the state cannot be shared once more.
     pub(crate) fn handle(&self, id: LazyStateID) -> Result<Handle, AllocError>
         requires { IsValid self.now.store.table id }
         ensures { IfOk result (λ handle. (q : Powerset) → Names self.now.store.table id q → IsHandle handle q) }
@@ -137,7 +146,7 @@ impl Cache {
         Handle::of(self.store.state(id))
     }
 
-    /// The state of a row, which contracts alone see.
+    /// The state of a row, which only contracts see.
     pub(crate) fn snapshot(&self, id: LazyStateID) -> Snapshot<State>
         requires { IsValid self.now.store.table id }
         ensures state { (q : Powerset) → Names self.now.store.table id q → result.value ≡ q }
@@ -147,7 +156,7 @@ impl Cache {
         Snapshot::of(self.store.state(id))
     }
 
-    /// Adds a state again that a clear took. A refusal changes nothing.
+    /// Adds a state again that a clear dropped. An error changes nothing.
     pub(crate) fn add_again(&mut self, dfa: &DFA, state: State) -> Result<LazyStateID, StepError>
         requires dfa { IsCacheOf self.old dfa.now }
         requires new { IsNewState self.old.store.table state }
@@ -174,7 +183,7 @@ impl Cache {
         self.store.is_valid(id)
     }
 
-    /// The cell of a row at a class, which may not be known yet.
+    /// The cell of a row at a class, which may not be computed yet.
     #[inline(always)]
     pub(crate) fn cell(&self, id: LazyStateID, class: usize) -> LazyStateID
         requires row { IsValid self.now.store.table id }
@@ -234,7 +243,7 @@ impl Cache {
         Ok(added)
     }
 
-    /// The ID of a start slot, which may not be known yet.
+    /// The ID of a start slot, which may not be computed yet.
     pub(crate) fn start_slot(&self, slot: usize) -> LazyStateID
         requires { slot < length self.now.store.starts }
         ensures value { result ≡ slice_index self.now.store.starts slot }
@@ -245,7 +254,7 @@ impl Cache {
         self.store.start_slot(slot)
     }
 
-    /// The start of a mode, as a key.
+    /// The start state of an anchored mode, as a key.
     pub(crate) fn determinise_start(
         &mut self,
         dfa: &DFA,
@@ -253,16 +262,17 @@ impl Cache {
         prev: Option<u8>,
     ) -> Result<Key, AllocError>
         requires of { IsCacheOf self.old dfa.now }
+        requires slot { (slot : ℕ) × IsStartSlot dfa.now mode prev slot }
         ensures value { IfOk result (λ k. k ≡ start_state_of dfa.now.nfa mode prev) }
         ensures cost { IfOk result (λ k. cost k ≤ greatest dfa.now) }
-        ensures is_of { IfOk result (λ k. IsOwn dfa.now.nfa k) }
+        ensures is_of { IfOk result (λ k. IsStateOf dfa.now k) }
         ensures counted { self.new ≡ counted self.old }
     {
         let key = start_key(dfa.get_nfa(), &mut self.scratch, mode, prev)?;
         Ok(key)
     }
 
-    /// Writes a start.
+    /// Writes a start slot.
     pub(crate) fn set_start(&mut self, slot: usize, id: LazyStateID)
         requires slot { slot < length self.old.store.starts }
         requires leads { Leads self.old.store.table id (start_of self.old.store.table.of slot) }
@@ -314,8 +324,7 @@ impl Cache {
         self.store.see_cells();
     }
 
-    /// IDs of rows have no high tag, and the match tag exactly where their state has patterns; no row has the dead
-    /// state.
+    /// IDs of rows have no high tag, and the match tag exactly if their state has patterns; no row has the dead state.
     pub(crate) fn see_ids(&self)
         ensures ids { HasRowIds self.now.store.table }
         ensures low { (id : ℕ) (q : Powerset) → Names self.now.store.table id q → id < fixed_from }
@@ -327,7 +336,7 @@ impl Cache {
         self.store.see_ids();
     }
 
-    /// The states of rows are the automaton's own.
+    /// The states of rows are the NFA's own.
     pub(crate) fn see_state(&self, id: LazyStateID)
         requires { IsValid self.now.store.table id }
         ensures { (q : Powerset) → Names self.now.store.table id q → IsOwn self.now.store.table.of.nfa q }
@@ -352,6 +361,16 @@ impl Cache {
         self.store.state(id).match_pattern(index)
     }
 
+    /// What was found of the self-loop that was followed last. No contract knows it, so it is tested before it is used.
+    #[inline(always)]
+    pub(crate) fn self_loop(&self) -> KnownLoop {
+        self.self_loop.get()
+    }
+
+    pub(crate) fn set_self_loop(&self, found: KnownLoop) {
+        self.self_loop.set(found);
+    }
+
     /// How often the cache was cleared.
     pub fn clear_count(&self) -> usize
         ensures { result ≡ self.now.store.clears }
@@ -359,7 +378,7 @@ impl Cache {
         self.store.clear_count()
     }
 
-    /// Whether a search was started and isn't finished.
+    /// Whether a search was started and has not finished.
     pub fn in_progress(&self) -> bool
         ensures { result ≡ is_some self.now.store.searched.running }
     {
@@ -419,7 +438,8 @@ impl Cache {
         self.store.search_finish(at);
     }
 
-    /// The accounted bytes.
+    /// The accounted bytes: rows of cells, states, start slots and the buffers of determinization. They never exceed the
+    /// capacity, or the minimum capacity if that was raised to.
     pub fn memory_usage(&self) -> usize
         ensures usage { result ≡ usage self.now.store }
         ensures within { result ≤ self.now.store.table.of.capacity }
@@ -427,7 +447,7 @@ impl Cache {
         self.store.memory_usage()
     }
 
-    /// The cache is within the settings of the DFA that it is of. It does nothing.
+    /// The cache is within the settings of the DFA that it belongs to. It does nothing.
     pub fn see_bounds(&self)
         ensures { IsStoreOf self.now.store self.now.store.table.of }
     {

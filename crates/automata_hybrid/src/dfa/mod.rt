@@ -1,12 +1,12 @@
 ghost use Rattle.std.specs.Prelude.{ℕ, ◌≡◌, ◌<◌, ◌≤◌, ◌^◌, IfOk, OnOk, OnErr, Some, None, true, false, slice_index};
 ghost use Rattle.std.specs.Prelude.{length};
 ghost use Rattle.automata_base.specs.Powerset.{Powerset};
-ghost use Rattle.automata_base.specs.Classes.{class_in, eoi_class, is_quit};
+ghost use Rattle.automata_base.specs.Classes.{AreClasses, class_in, eoi_class, is_quit};
 ghost use Rattle.automata_base.specs.Steps.{successor};
 ghost use Rattle.automata_hybrid.specs.Owned.{IsOwn};
 ghost use Rattle.automata_base.specs.Accounting.{start_slots};
 ghost use Rattle.automata_hybrid.specs.Ids.{quit_id, unknown_id};
-ghost use Rattle.automata_hybrid.specs.Machine.{next_of, template_of, table_stride, slot_count};
+ghost use Rattle.automata_hybrid.specs.Machine.{IsMachine, next_of, template_of, table_stride, slot_count};
 ghost use Rattle.automata_config.specs.Settling.{IsSettled};
 ghost use Rattle.automata_config.specs.Options.{unset, match_kind_of, specialize_start_states_of};
 ghost use Rattle.automata_hybrid.specs.Caches.{fresh_cache};
@@ -39,8 +39,8 @@ use automata_config::config::{Config, Settled};
 use std::alloc::{AllocError, Global};
 use std::marker::Model;
 
-/// A lazy DFA: an automaton, its settings, and what these make of it.
-#[derive(Drop)]
+/// A lazy DFA: an NFA with its settings, byte classes and start slots. States and transitions are in a `Cache`.
+#[derive(Debug, Drop)]
 pub struct DFA {
     nfa: NFA,
     config: Config,
@@ -91,7 +91,7 @@ impl DFA {
         Builder::new()
     }
 
-    /// The DFA of an automaton and of what its settings make of it.
+    /// The DFA of an NFA and of what its settings make of it.
     pub(crate) fn of_settled(nfa: NFA, config: Config, settled: Settled) -> DFA
         requires { IsSettled config nfa settled }
         ensures { result ≡ built config nfa settled }
@@ -115,7 +115,7 @@ impl DFA {
         Cache::new(self)
     }
 
-    /// Makes a cache a fresh one of this DFA. A refusal changes nothing.
+    /// Makes a cache a fresh one of this DFA. An error changes nothing.
     pub fn reset_cache(&self, cache: &mut Cache) -> Result<(), AllocError>
         ensures ok { OnOk result (cache.new ≡ fresh_cache self.now) }
         ensures err { OnErr result (cache.new ≡ cache.old) }
@@ -123,7 +123,7 @@ impl DFA {
         cache.reset(self)
     }
 
-    /// The classes of bytes that it tells apart.
+    /// The classes of bytes that it distinguishes.
     pub fn byte_classes(&self) -> &ByteClasses
         ensures { result.now ≡ self.now.classes }
     {
@@ -137,26 +137,26 @@ impl DFA {
         &self.config
     }
 
-    /// The bytes beside its automaton: none.
+    /// The bytes that it takes on the heap beside its NFA: none.
     pub fn memory_usage(&self) -> usize
         ensures { result ≡ 0 }
     {
         0
     }
 
-    /// The allocator of its automaton.
+    /// The allocator of its NFA.
     pub(crate) fn alloc(&self) -> Global {
         self.nfa.alloc()
     }
 
-    /// The automaton.
+    /// The NFA.
     pub fn get_nfa(&self) -> &NFA
         ensures { result.now ≡ self.now.nfa }
     {
         &self.nfa
     }
 
-    /// Whether each pattern has starts of its own.
+    /// Whether each pattern has start states of its own.
     pub(crate) fn starts_each_pattern(&self) -> bool
         ensures { result ≡ starts_for_each_pattern_of self.now.config }
     {
@@ -235,6 +235,14 @@ impl DFA {
     {
         let _ = self.end_class();
         let _ = self.classes.eoi();
+    }
+
+    /// Classes rise from byte to byte, and the bytes of each one step alike.
+    pub(crate) fn see_alike(&self)
+        ensures rising { AreClasses self.now.classes }
+        ensures machine { IsMachine self.now }
+    {
+        self.classes.see_rising();
     }
 
     /// The start slots are as many as the modes give.

@@ -8,7 +8,7 @@ use crate::id::LazyStateID;
 use automata_base::util::determinize::State;
 use automata_config::accounting::{HEAD_COST, ID_COST, PATTERN_COST};
 
-/// A row's state, and whether it was added as a start with its tag.
+/// A row's state, and whether it was added as a start state with the start tag.
 #[derive(Drop)]
 pub struct Row {
     pub state: State,
@@ -36,7 +36,7 @@ pub fn cost(state: &State) -> usize
     HEAD_COST + PATTERN_COST * state.match_len() + ID_COST * state.nfa().count()
 }
 
-/// Whether nothing can match behind a state.
+/// Whether nothing can match after a state.
 pub fn is_dead(state: &State) -> bool
     ensures { IsTrue result ↔ (state.now ≡ dead) }
 {

@@ -9,6 +9,7 @@ ghost use Rattle.automata_base.specs.Lists.{nth};
 ghost use Rattle.automata_hybrid.specs.Starting.{quit_behind, start_refusal, search_refusal, KnowsStart, IsStartSlot};
 ghost use Rattle.automata_hybrid.specs.Starting.{IsStartAnswer, IsStartRefused, IsStartRefusedAt, IsStartEffect};
 ghost use Rattle.automata_hybrid.specs.Slots.{supports, slot_of};
+ghost use Rattle.automata_hybrid.specs.Standing.{StartsAt};
 ghost use Rattle.automata_hybrid.specs.Caches.{IsCacheOf};
 
 use crate::dfa::DFA;
@@ -19,7 +20,7 @@ use automata_base::util::start;
 use automata_config::error::{SearchError, StartError, StepError};
 
 impl Cache {
-    /// The start state of a mode's slot. A known one takes no memory.
+    /// The start state of an anchored mode's slot. A cached one allocates nothing.
     #[inline(always)]
     fn start(
         &mut self,
@@ -46,7 +47,7 @@ impl Cache {
         }
     }
 
-    /// Computes a start that isn't known.
+    /// Computes a start state that is not cached.
     #[inline(never)]
     fn compute_start(
         &mut self,
@@ -84,8 +85,8 @@ impl Cache {
 }
 
 impl DFA {
-    /// The kind of what is behind a start: 0 for any byte that isn't said here, 1 for a word byte, 2 for none, 3 for a
-    /// line feed, 4 for a carriage return, 5 for a line terminator that is none of these two.
+    /// The kind of a look-behind byte: 0 for any byte that is not named here, 1 for a word byte, 2 for none, 3 for a
+    /// line feed, 4 for a carriage return, 5 for a line terminator that is neither of these two.
     #[inline(always)]
     fn behind(&self, prev: Option<u8>) -> usize
         ensures { result ≡ behind_of self.now.nfa.flags.line_terminator prev }
@@ -108,7 +109,7 @@ impl DFA {
         0
     }
 
-    /// The start slot of a group, behind a byte or behind none.
+    /// The start slot of a group, after a look-behind byte or after none.
     #[inline(always)]
     fn slot(&self, group: usize, prev: Option<u8>) -> usize
         requires { group * 6 + 6 ≤ slot_count self.now }
@@ -119,7 +120,7 @@ impl DFA {
         group * 6 + self.behind(prev)
     }
 
-    /// The start slot of a mode. Past the last pattern there is none.
+    /// The start slot of an anchored mode. A pattern past the last one has none.
     #[inline(always)]
     fn mode_slot(&self, mode: Anchored, prev: Option<u8>) -> Result<Option<usize>, StartError>
         ensures within { IfOk result (λ o. IfSome o (λ slot. slot < slot_count self.now)) }
@@ -151,7 +152,7 @@ impl DFA {
     }
 }
 
-/// Why a start is refused.
+/// The error of a start state.
 fn start_refusal(error: StepError) -> StartError
     ensures { result ≡ start_refusal error }
 {
@@ -180,9 +181,9 @@ impl DFA {
         }
     }
 
-    /// The start state of a mode behind a byte. Refused where that is a quit byte, where the mode isn't supported,
-    /// where the state finds no room and the settings allow no clear, and where memory is out. A quit byte behind is
-    /// told first, and a mode that isn't supported then.
+    /// The start state of an anchored mode after a look-behind byte. It fails if that is a quit byte, if the mode is not
+    /// supported, if the state does not fit and the settings allow no clear, and if memory runs out. A quit byte is
+    /// reported before a mode that is not supported.
     #[inline(always)]
     pub fn start_state(
         &self,
@@ -208,8 +209,8 @@ impl DFA {
         }
     }
 
-    /// The start state of a forward search. The byte behind is the one before the span. A quit byte is told at its own
-    /// offset, and giving up at the span's start.
+    /// The start state of a forward search. The look-behind byte is the one before the span. The error of a quit byte has
+    /// that byte's offset, and the "gave up" error the span's start.
     #[inline(always)]
     pub fn start_state_forward(
         &self,
@@ -226,10 +227,15 @@ impl DFA {
             (input.now.start - 1) input.now.start cache.old cache.new) }
         ensures effect { IsStartEffect self.now input.now.anchored
             (byte_before input.now.haystack input.now.start) cache.old cache.new }
+        ensures stands { IfOk result (StartsAt self.now cache.new input.now) }
     {
+        let _haystack = input.haystack();
         let config = start::Config::from_input_forward(input);
         match self.start_state(cache, &config) {
-            Ok(id) => Ok(id),
+            Ok(id) => {
+                cache.see_ids();
+                Ok(id)
+            }
             Err(error) => Err(search_refusal(
                 error,
                 input.start().saturating_sub(1),
@@ -238,8 +244,8 @@ impl DFA {
         }
     }
 
-    /// The start state of a reverse search. The byte behind is the one at the span's end. A quit byte is told at its
-    /// own offset, the span's end, and giving up there too.
+    /// The start state of a reverse search. The look-behind byte is the one at the span's end. The error of a quit byte
+    /// and the "gave up" error both have the span's end as their offset.
     #[inline(always)]
     pub fn start_state_reverse(
         &self,
@@ -264,7 +270,7 @@ impl DFA {
     }
 }
 
-/// A start's refusal as a search tells it: a quit byte and the giving up each at an offset.
+/// A start state's error as a search reports it: a quit byte at one offset, giving up at another.
 fn search_refusal(error: StartError, behind: usize, at: usize) -> SearchError
     ensures { result ≡ search_refusal error behind at }
 {

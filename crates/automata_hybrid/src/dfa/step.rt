@@ -8,6 +8,7 @@ ghost use Rattle.automata_hybrid.specs.Stores.{cell_of};
 ghost use Rattle.automata_hybrid.specs.Caches.{IsCacheOf, HasRow};
 ghost use Rattle.automata_hybrid.specs.Ids.{quit_id, unknown_id, offset_limit};
 ghost use Rattle.automata_base.specs.Classes.{class_in, is_quit};
+ghost use Rattle.automata_hybrid.specs.Standing.{HoldsRow, StepsOn};
 ghost use Rattle.automata_hybrid.specs.Stepping.{IsStepAnswer, IsStepRefused, IsStepEffect, KnowsStep, quits_on};
 ghost use Rattle.automata_config.specs.Options.{match_kind_of};
 
@@ -18,7 +19,8 @@ use automata_base::util::primitives::PatternID;
 use automata_config::error::StepError;
 
 impl Cache {
-    /// The state after a unit, by its ID. Dead leads to dead, and quit to quit. A known transition takes no memory.
+    /// The ID of the state after a byte or the end. Dead leads to dead, and quit to quit. A cached transition allocates
+    /// nothing.
     #[inline(always)]
     fn next(
         &mut self,
@@ -32,6 +34,7 @@ impl Cache {
         ensures answer { IfOk result (IsStepAnswer dfa.now id unit self.old self.new) }
         ensures refusal { IfErr result (IsStepRefused dfa.now id unit self.old self.new) }
         ensures effect { IsStepEffect dfa.now id unit self.old self.new }
+        ensures stands { IfOk result (StepsOn dfa.now self.old self.new id unit) }
     {
         self.see_ids();
         if id.is_fixed() {
@@ -44,10 +47,11 @@ impl Cache {
             return Ok(cell);
         }
         let next = self.compute_next(dfa, id, unit)?;
+        self.see_ids();
         Ok(next)
     }
 
-    /// Computes a transition that isn't known.
+    /// Computes a transition that is not cached.
     #[inline(never)]
     fn compute_next(
         &mut self,
@@ -85,10 +89,10 @@ impl Cache {
 }
 
 impl DFA {
-    /// The state after a byte, by its ID, which is of a row that is there and isn't unknown: `Cache::is_valid` and
-    /// `LazyStateID::is_unknown` are the tests. Dead leads to dead, and quit to quit; a quit byte leads to quit. A
-    /// known transition takes no memory. Refused where the state finds no room and the settings allow no clear, and
-    /// where memory is out; then nothing has changed.
+    /// The ID of the state after a byte. The given ID has to name a row of the cache and not be the unknown one:
+    /// `Cache::is_valid` and `LazyStateID::is_unknown` are the tests. Dead leads to dead, and quit to quit; a quit byte
+    /// leads to quit. A cached transition allocates nothing. It fails if the state does not fit and the settings allow
+    /// no clear, and if memory runs out; then nothing has changed.
     pub fn next_state(
         &self,
         cache: &mut Cache,
@@ -96,39 +100,43 @@ impl DFA {
         byte: u8,
     ) -> Result<LazyStateID, StepError>
         requires of { IsCacheOf cache.old self.now }
-        requires row { HasRow cache.old.store.table id }
+        requires row { HoldsRow cache.old id }
         ensures of { IsCacheOf cache.new self.now }
         ensures answer { IfOk result (IsStepAnswer self.now id (Some byte) cache.old cache.new) }
         ensures refusal { IfErr result (IsStepRefused self.now id (Some byte) cache.old cache.new) }
         ensures effect { IsStepEffect self.now id (Some byte) cache.old cache.new }
+        ensures stands { IfOk result (StepsOn self.now cache.old cache.new id (Some byte)) }
     {
         cache.next(self, id, Some(byte))
     }
 
-    /// The state after the haystack's end, by its ID, on the same condition. Dead leads to dead, and quit to quit. A
-    /// known transition takes no memory. Refused where the state finds no room and the settings allow no clear, and
-    /// where memory is out; then nothing has changed.
+    /// The ID of the state after the haystack's end, on the same condition. Take this step once, after the last byte, also
+    /// where the state is dead: matches are delayed by one byte. Dead leads to dead, and quit to quit. A cached
+    /// transition allocates nothing. It fails if the state does not fit and the settings allow no clear, and if memory
+    /// runs out; then nothing has changed.
     pub fn next_eoi_state(
         &self,
         cache: &mut Cache,
         id: LazyStateID,
     ) -> Result<LazyStateID, StepError>
         requires of { IsCacheOf cache.old self.now }
-        requires row { HasRow cache.old.store.table id }
+        requires row { HoldsRow cache.old id }
         ensures of { IsCacheOf cache.new self.now }
         ensures answer { IfOk result (IsStepAnswer self.now id None cache.old cache.new) }
         ensures refusal { IfErr result (IsStepRefused self.now id None cache.old cache.new) }
         ensures effect { IsStepEffect self.now id None cache.old cache.new }
+        ensures stands { IfOk result (StepsOn self.now cache.old cache.new id None) }
     {
         cache.next(self, id, None)
     }
 
-    /// The state after a byte as far as the cache knows it, and else an unknown ID. It takes no memory. The ID is of a
-    /// row that is there, and has no tag: `Cache::is_valid` and `LazyStateID::is_tagged` are the tests.
+    /// The ID of the state after a byte if the transition is cached, and else the unknown ID. It allocates nothing. The
+    /// given ID has to name a row of the cache and have no tag: `Cache::is_valid` and `LazyStateID::is_tagged` are the
+    /// tests.
     #[inline(always)]
     pub fn next_state_untagged(&self, cache: &Cache, id: LazyStateID, byte: u8) -> LazyStateID
         requires of { IsCacheOf cache.now self.now }
-        requires row { HasRow cache.now.store.table id }
+        requires row { HoldsRow cache.now id }
         requires untagged { id < offset_limit }
         ensures value { result ≡ cell_of cache.now.store id (class_in self.now.classes byte) }
         ensures quit { is_quit self.now.quits byte ≡ true → result ≡ quit_id (table_stride self.now) }
@@ -160,11 +168,11 @@ impl DFA {
         cache.cell(id, self.class_of(byte))
     }
 
-    /// How many patterns match at a match state: at least one. The ID is of a row that is there, with the match tag:
-    /// `Cache::is_valid` and `LazyStateID::is_match` are the tests.
+    /// How many patterns match at a match state: at least one. The ID has to name a row of the cache and have the match
+    /// tag: `Cache::is_valid` and `LazyStateID::is_match` are the tests.
     pub fn match_len(&self, cache: &Cache, id: LazyStateID) -> usize
         requires of { IsCacheOf cache.now self.now }
-        requires row { HasRow cache.now.store.table id }
+        requires row { HoldsRow cache.now id }
         requires tagged { IsBitSet id 27 }
         ensures number { (q : Powerset) → Names cache.now.store.table id q → result ≡ length q.patterns }
         ensures some { 0 < result }
@@ -177,7 +185,7 @@ impl DFA {
     /// patterns stand in the order in which the automaton's paths prefer them.
     pub fn match_pattern(&self, cache: &Cache, id: LazyStateID, index: usize) -> PatternID
         requires of { IsCacheOf cache.now self.now }
-        requires row { HasRow cache.now.store.table id }
+        requires row { HoldsRow cache.now id }
         requires tagged { IsBitSet id 27 }
         requires index { (q : Powerset) → Names cache.now.store.table id q → index < length q.patterns }
         ensures { (q : Powerset) → Names cache.now.store.table id q → result ≡ slice_index q.patterns index }

@@ -2,9 +2,9 @@ ghost use Rattle.std.specs.Prelude.{ℕ, ◌≡◌, ◌+◌, ◌-◌, ◌*◌, �
 ghost use Rattle.std.specs.Prelude.{length, slice_index, IsTrue, IfErr, is_some, true, IsBitSet};
 ghost use Rattle.automata_base.specs.Powerset.{Powerset, cost, dead};
 ghost use Rattle.automata_base.specs.Accounting.{minimum_capacity};
-ghost use Rattle.automata_hybrid.specs.Owned.{IsOwn};
 ghost use Rattle.automata_hybrid.specs.Ids.{dead_id, unknown_id, fixed_from, offset_limit};
-ghost use Rattle.automata_hybrid.specs.Machine.{next_of, start_of, greatest, template_of, IsTemplate, table_stride};
+ghost use Rattle.automata_hybrid.specs.Machine.{IsStateOf, IsTemplate, greatest, next_of, slot_count, start_of};
+ghost use Rattle.automata_hybrid.specs.Machine.{table_stride, template_of};
 ghost use Rattle.automata_hybrid.specs.Table.{id_of, Names, IsValid, Leads, MayLead, IsCell, HasCells, HasRowIds};
 ghost use Rattle.automata_hybrid.specs.Table.{AreRows, IsNewState};
 ghost use Rattle.automata_hybrid.specs.Clears.{AllStarts, row_of};
@@ -14,7 +14,6 @@ ghost use Rattle.automata_hybrid.specs.Usage.{usage, Fits, GivesUp, IsCleared, r
 ghost use Rattle.automata_hybrid.specs.Effects.{grown, put_found, AddsNext, AddsStart};
 ghost use Rattle.automata_hybrid.specs.Caches.{IsRow};
 ghost use Rattle.automata_hybrid.specs.Progressing.{started, updated, finished, total_len};
-ghost use Rattle.automata_hybrid.specs.Machine.{slot_count};
 
 use crate::dfa::clears::{keep_row, keep_starts};
 use crate::dfa::progress::Searched;
@@ -208,12 +207,12 @@ impl Store {
         self.table.see_rows();
     }
 
-    /// Rows are of one width, each has a cell for each class, and their states are the automaton's own; the count of
-    /// clears is a number of 64 bits.
+    /// Rows are of one width, each has a cell for each class, and their states are the DFA's; the count of clears is
+    /// a number of 64 bits.
     pub fn see_cells(&self)
         ensures wide { length (template_of self.now.table.of) ≡ table_stride self.now.table.of }
         ensures cells { HasCells self.now.table }
-        ensures own { (id : ℕ) (q : Powerset) → Names self.now.table id q → IsOwn self.now.table.of.nfa q }
+        ensures own { (id : ℕ) (q : Powerset) → Names self.now.table id q → IsStateOf self.now.table.of q }
         ensures clears { self.now.clears < 2 ^ 64 }
     {
         let _clears = self.clears;
@@ -227,7 +226,7 @@ impl Store {
         let _ = self.starts.len();
     }
 
-    /// Whether the clear rule refuses.
+    /// Whether a search gives up in place of a clear.
     pub fn refuses(&self) -> bool
         ensures { result ≡ refuses_to_clear self.now }
     {
@@ -244,7 +243,7 @@ impl Store {
         self.searched.total_len() < bytes.saturating_mul(self.table.len() + 3)
     }
 
-    /// What a clear makes of the cache, unless the clear rule refuses one. It changes nothing here.
+    /// What a clear leaves of the cache, unless the search gives up. It changes nothing here.
     pub fn cleared(&self, dfa: &DFA) -> Result<Store, StepError>
         requires { dfa.now ≡ self.now.table.of }
         ensures cleared { IfOk result (IsCleared self.now) }
@@ -272,7 +271,7 @@ impl Store {
         self.table.get(state)
     }
 
-    /// Whether some row has exactly this ID, tags included: one of the three fixed ones, or one behind them.
+    /// Whether some row has exactly this ID, tags included: one of the three fixed ones, or one after them.
     pub fn is_valid(&self, id: LazyStateID) -> bool
         ensures { IsTrue result ↔ IsRow self.now.table id }
     {
@@ -332,7 +331,7 @@ impl Store {
     pub fn state(&self, id: LazyStateID) -> &State
         requires { IsValid self.now.table id }
         ensures named { (q : Powerset) → Names self.now.table id q → result.now ≡ q }
-        ensures of { IsOwn self.now.table.of.nfa result.now }
+        ensures of { IsStateOf self.now.table.of result.now }
         ensures cost { cost result.now ≤ greatest self.now.table.of }
     {
         self.table.state(id)
@@ -380,7 +379,7 @@ impl Store {
         Ok(kept)
     }
 
-    /// Puts what a clear made in place of the cache, with a row for a state. A refusal changes nothing.
+    /// Puts what a clear left in place of the cache, with a row for a state. An error changes nothing.
     fn replace(
         &mut self,
         mut fresh: Store,
@@ -427,7 +426,7 @@ impl Store {
         Ok((from, to))
     }
 
-    /// Adds a start state that the cache lacks; clears first where it doesn't fit. A refusal changes nothing.
+    /// Adds a start state that the cache lacks; clears first if it does not fit. An error changes nothing.
     pub fn add_start(
         &mut self,
         dfa: &DFA,

@@ -4,9 +4,8 @@ ghost use Rattle.std.specs.Prelude.{IsBitSet};
 ghost use Rattle.automata_base.specs.Powerset.{Powerset, cost};
 ghost use Rattle.automata_base.specs.Classes.{eoi_class};
 ghost use Rattle.automata_base.specs.Powerset.{dead};
-ghost use Rattle.automata_hybrid.specs.Owned.{IsOwn};
 ghost use Rattle.automata_hybrid.specs.Ids.{unknown_id, fixed_from, offset_limit};
-ghost use Rattle.automata_hybrid.specs.Machine.{next_of, greatest, template_of, IsTemplate, marked, table_stride};
+ghost use Rattle.automata_hybrid.specs.Machine.{IsStateOf, IsTemplate, greatest, marked, next_of, table_stride, template_of};
 ghost use Rattle.automata_hybrid.specs.Table.{id_of, with_row, fresh, Names, Leads, row_cost, IsValid, HasState};
 ghost use Rattle.automata_hybrid.specs.Table.{AreRows, IsNewState};
 ghost use Rattle.automata_hybrid.specs.Table.{IsCell, cell_at, with_cell, HasCells, HasRowIds};
@@ -90,11 +89,11 @@ impl Table {
         let _ = self.rows.len();
     }
 
-    /// Rows are of one width, each has a cell for each class, and their states are the automaton's own.
+    /// Rows are of one width, each has a cell for each class, and their states are the DFA's.
     pub fn see_cells(&self)
         ensures wide { length (template_of self.now.of) ≡ table_stride self.now.of }
         ensures cells { HasCells self.now }
-        ensures own { (id : ℕ) (q : Powerset) → Names self.now id q → IsOwn self.now.of.nfa q }
+        ensures own { (id : ℕ) (q : Powerset) → Names self.now id q → IsStateOf self.now.of q }
     {
         let _ = self.rows.len();
     }
@@ -117,7 +116,7 @@ impl Table {
     pub fn state(&self, id: LazyStateID) -> &State
         requires { IsValid self.now id }
         ensures named { (q : Powerset) → Names self.now id q → result.now ≡ q }
-        ensures of { IsOwn self.now.of.nfa result.now }
+        ensures of { IsStateOf self.now.of result.now }
         ensures cost { cost result.now ≤ greatest self.now.of }
     {
         let index = self.row_index(id);
@@ -193,7 +192,7 @@ impl Table {
     }
 
     /// A table of the same shape, with the fixed rows alone, and with room for as many rows as are here: a cache that
-    /// clears often doesn't grow again each time.
+    /// clears often does not grow again each time.
     pub fn emptied(&self, dfa: &DFA) -> Result<Table, AllocError>
         requires { dfa.now ≡ self.now.of }
         ensures { IfOk result (λ t. t ≡ fresh self.now.of) }
@@ -204,7 +203,7 @@ impl Table {
         Table::fresh(dfa, self.stride, template, self.rows.len())
     }
 
-    /// The place of the row that has this ID.
+    /// The index of the row that has this ID.
     pub fn row_index(&self, id: LazyStateID) -> usize
         requires { IsValid self.now id }
         ensures value { result ≡ (id % offset_limit) / table_stride self.now.of - 3 }
@@ -214,7 +213,7 @@ impl Table {
         id.offset() as usize / self.stride - 3
     }
 
-    /// Whether a row behind the fixed ones has exactly this ID, tags included.
+    /// Whether a row after the fixed ones has exactly this ID, tags included.
     pub fn has_row(&self, id: LazyStateID) -> bool
         ensures { IsTrue result ↔ IsValid self.now id }
     {
@@ -272,7 +271,7 @@ impl Table {
         ensures alive { IfOk result (λ r. r.state ≡ dead → ⊥) }
         ensures had { IfOk result (λ r. id_of self.now r.state ≡ None → ⊥) }
         ensures cost { IfOk result (λ r. cost r.state ≤ greatest self.now.of) }
-        ensures of { IfOk result (λ r. IsOwn self.now.of.nfa r.state) }
+        ensures of { IfOk result (λ r. IsStateOf self.now.of r.state) }
     {
         let row = &self.rows[row];
         let state = row.state.clone()?;

@@ -17,22 +17,27 @@ ghost use Rattle.automata_hybrid.specs.Searched.{EndsAtLast, IsStoppedAt};
 ghost use Rattle.automata_hybrid.specs.declared.dfa.progress.Searched.{Searched};
 ghost use Rattle.automata_hybrid.specs.Searches.{given_up_offset, IsFound, IsPassRefusal, IsRefused, IsUnitRefusal};
 ghost use Rattle.automata_hybrid.specs.Searches.{state_in, tape_in};
+ghost use Rattle.automata_hybrid.specs.SelfLoops.{IsSelfLoop};
 ghost use Rattle.automata_hybrid.specs.Table.{IsValid, Names};
 
 use crate::dfa::DFA;
 use crate::dfa::cache::Cache;
 use crate::id::LazyStateID;
+use crate::search::walk::Way;
 use crate::search::{FEW, PATIENCE, Place, Stop, is_anchored, with_span};
 use automata_base::laws::told_is_right;
 use automata_base::util::search::{HalfMatch, Input};
 use automata_config::error::SearchError;
 
 impl DFA {
-    /// The pattern and the end of the first match, by the DFA's kind; with an earliest input, of the match that ends
-    /// first.
+    /// The pattern and the end of the first match, by the DFA's match kind; with an earliest input, of the match that
+    /// ends first.
     ///
-    /// A quit byte is told at its own offset, and the giving up at the offset of the byte that was to be read, or at
-    /// the span's start. After a refusal the cache serves other searches as before.
+    /// The error of a quit byte has the byte's offset; the "gave up" error has the offset of the byte that was to be
+    /// read, or the span's start. After an error the cache serves other searches as before.
+    ///
+    /// It takes time linear in the span. Only where empty matches inside a UTF-8 encoded character are skipped it can
+    /// take the square of it, since each such match is skipped by a search from one offset later.
     pub fn try_search_fwd(
         &self,
         cache: &mut Cache,
@@ -41,11 +46,11 @@ impl DFA {
         requires { IsCacheOf cache.old self.now }
         ensures of { IsCacheOf cache.new self.now }
 
-        // What it answers, whatever the cache; and why this one refuses.
+        // What it returns, whatever the cache; and why it fails.
         ensures half { IsHalf Forward self.now input.now result }
         ensures refusal { IfErr result (IsRefused Forward self.now cache.new.store input.now) }
 
-        // What it makes of the cache.
+        // What it does to the cache.
         ensures effect { IsSearchEffect Forward self.now input.now cache.old cache.new result }
     {
         match self.try_search_fwd_base(cache, input)? {
@@ -54,8 +59,8 @@ impl DFA {
         }
     }
 
-    /// What `try_search_fwd` answers, and where the span began that gave it: an end that splits a character is skipped
-    /// by searching again from one place later.
+    /// What `try_search_fwd` returns, and where the span that gave it began: an end inside a UTF-8 encoded character is
+    /// skipped by searching again from one offset later.
     pub fn try_search_fwd_base(
         &self,
         cache: &mut Cache,
@@ -64,11 +69,11 @@ impl DFA {
         requires { IsCacheOf cache.old self.now }
         ensures of { IsCacheOf cache.new self.now }
 
-        // What it answers, whatever the cache; and why this one refuses.
+        // What it returns, whatever the cache; and why it fails.
         ensures based { IsBased self.now input.now result }
         ensures refusal { IfErr result (IsRefused Forward self.now cache.new.store input.now) }
 
-        // What it makes of the cache; with an answer it costs no pass behind the span that gave it.
+        // What it does to the cache; with an answer it makes no pass after the one over the span that gave it.
         ensures effect { IsSearchEffect Forward self.now input.now cache.old cache.new result }
         ensures upto { IfOk result (λ o. IfSome o (λ p. IsCostUpto self.now input.now p.1 cache.old cache.new)) }
     {
@@ -242,30 +247,7 @@ impl DFA {
         Stop { at: start + 4, id }
     }
 
-    /// Whether the ID's row leads back to itself on the eight bytes from an offset on. None of them waits for another.
-    #[inline(always)]
-    fn stays_fwd(&self, cache: &Cache, input: &Input<'_>, start: usize, id: LazyStateID) -> bool
-        requires of { IsCacheOf cache.now self.now }
-        requires valid { IsValid cache.now.store.table id }
-        requires untagged { id < offset_limit }
-        requires from { input.now.start ≤ start }
-        requires within { start + 8 ≤ input.now.end }
-        ensures followed { IsTrue result
-            → Names cache.now.store.table id (state_in Forward self.now input.now (start - input.now.start))
-            → IsFollowed Forward self.now cache.now.store input.now
-            (start - input.now.start) (start + 8 - input.now.start) id }
-    {
-        let _haystack = input.haystack();
-        for k in 0..8usize {
-            let next = self.follow_byte_fwd(cache, input, start + k, id);
-            if next != id {
-                return false;
-            }
-        }
-        true
-    }
-
-    /// Follows the transition of an ID to itself, eight bytes at once.
+    /// Follows the self-loop of an ID that may have a tag, where it has one.
     #[inline(always)]
     fn follow_loop_fwd(
         &self,
@@ -276,25 +258,16 @@ impl DFA {
     ) -> usize
         requires of { IsCacheOf cache.now self.now }
         requires valid { IsValid cache.now.store.table id }
-        requires untagged { id < offset_limit }
+        requires plain { id < fixed_from }
         requires from { input.now.start ≤ start }
         requires within { start ≤ input.now.end }
         ensures from { start ≤ result }
         ensures within { result ≤ input.now.end }
-        ensures followed { Names cache.now.store.table id (state_in Forward self.now input.now
-            (start - input.now.start))
-            → IsFollowed Forward self.now cache.now.store input.now
-            (start - input.now.start) (result - input.now.start) id }
+        ensures loops { IsSelfLoop Forward self.now cache.now.store input.now id
+            (start - input.now.start) (result - input.now.start) }
     {
-        let end = input.end();
-        let mut at = start;
-        'eights: while end - at >= 8 {
-            if !self.stays_fwd(cache, input, at, id) {
-                return at;
-            }
-            at += 8;
-        }
-        at
+        let haystack = input.haystack();
+        start + self.follow_self_loop(cache, id, Way::Forward, &haystack[start..input.end()])
     }
 
     /// Follows known transitions without a tag one by one.
@@ -354,60 +327,6 @@ impl DFA {
         self.see_classes();
         let haystack = input.haystack();
         self.next_state_known(cache, id, haystack[at])
-    }
-
-    /// Whether the row of an ID that may have a tag leads back to itself on the eight bytes from an offset on.
-    #[inline(always)]
-    fn stays_led_fwd(&self, cache: &Cache, input: &Input<'_>, start: usize, id: LazyStateID) -> bool
-        requires of { IsCacheOf cache.now self.now }
-        requires valid { IsValid cache.now.store.table id }
-        requires plain { id < fixed_from }
-        requires from { input.now.start ≤ start }
-        requires within { start + 8 ≤ input.now.end }
-        ensures led { IsTrue result
-            → Names cache.now.store.table id (state_in Forward self.now input.now (start - input.now.start))
-            → IsLed Forward self.now cache.now.store input.now
-            (start - input.now.start) (start + 8 - input.now.start) id }
-    {
-        let _haystack = input.haystack();
-        for k in 0..8usize {
-            let next = self.lead_byte_fwd(cache, input, start + k, id);
-            if next != id {
-                return false;
-            }
-        }
-        true
-    }
-
-    /// Follows the transition of an ID that may have a tag to itself, eight bytes at once.
-    #[inline(always)]
-    fn lead_loop_fwd(
-        &self,
-        cache: &Cache,
-        input: &Input<'_>,
-        start: usize,
-        id: LazyStateID,
-    ) -> usize
-        requires of { IsCacheOf cache.now self.now }
-        requires valid { IsValid cache.now.store.table id }
-        requires plain { id < fixed_from }
-        requires from { input.now.start ≤ start }
-        requires within { start ≤ input.now.end }
-        ensures from { start ≤ result }
-        ensures within { result ≤ input.now.end }
-        ensures led { Names cache.now.store.table id (state_in Forward self.now input.now (start - input.now.start))
-            → IsLed Forward self.now cache.now.store input.now
-            (start - input.now.start) (result - input.now.start) id }
-    {
-        let end = input.end();
-        let mut at = start;
-        'eights: while end - at >= 8 {
-            if !self.stays_led_fwd(cache, input, at, id) {
-                return at;
-            }
-            at += 8;
-        }
-        at
     }
 
     /// Follows known transitions into states that have patterns, one by one, up to a place.
@@ -485,7 +404,7 @@ impl DFA {
             if !same || at < again {
                 continue;
             }
-            let stop = self.lead_loop_fwd(cache, input, at, id);
+            let stop = self.follow_loop_fwd(cache, input, at, id);
             if stop == at {
                 again = at.saturating_add(PATIENCE);
             }
@@ -630,7 +549,7 @@ impl DFA {
         ensures effect { IsRestEffect Forward self.now input.now (input.now.end - input.now.start) cache.old cache.new
             result }
         ensures alive { (q : Powerset) → Names cache.old.store.table id q → q ≡ dead → ⊥ }
-        ensures progress { IsEndProgress self.now
+        ensures progress { IsEndProgress self.now id
             (next (tape_in Forward input.now) (input.now.end - input.now.start)) input.now.end
             cache.old.store cache.new.store result }
     {

@@ -14,8 +14,11 @@ ghost use Rattle.automata_hybrid.specs.Stepping.{IsStepAnswer, IsStepEffect};
 ghost use Rattle.automata_hybrid.specs.Table.{IsValid, Leads, Names};
 
 mod forward;
+mod lanes;
+mod loop_range;
 mod overlapping;
 mod reverse;
+pub(crate) mod self_loop;
 mod units;
 pub mod walk;
 mod which;
@@ -33,7 +36,7 @@ const PATIENCE: usize = 256;
 /// How many bytes of a match are followed one by one, before a self-loop is looked for.
 const FEW: usize = 8;
 
-/// Where known transitions without a tag were followed to.
+/// Where cached transitions without a tag were followed to.
 #[derive(Clone, Copy)]
 struct Stop {
     at: usize,
@@ -48,7 +51,7 @@ struct Place {
     found: Option<HalfMatch>,
 }
 
-/// A refused step, at an offset.
+/// The error of a step, at an offset.
 fn refusal(error: StepError, at: usize) -> SearchError
     ensures { result ≡ step_refusal error at }
 {
@@ -87,7 +90,7 @@ fn is_anchored(mode: Anchored) -> bool
     }
 }
 
-/// Whether a place splits a character.
+/// Whether an offset is inside a UTF-8 encoded character.
 fn splits(input: &Input<'_>, offset: usize) -> bool
     ensures { result ≡ is_split input.now.haystack offset }
 {
@@ -98,7 +101,7 @@ fn splits(input: &Input<'_>, offset: usize) -> bool
 }
 
 impl DFA {
-    /// Whether a match at an offset is left out, since it splits a character.
+    /// Whether a match at an offset is skipped, since the offset is inside a character.
     fn skips_at(&self, input: &Input<'_>, offset: usize) -> bool
         ensures yes { result ≡ true → Skips self.now × (is_split input.now.haystack offset ≡ true) }
         ensures no { result ≡ false → Skips self.now → is_split input.now.haystack offset ≡ false }
@@ -113,7 +116,7 @@ impl DFA {
         splits(input, offset)
     }
 
-    /// The state after a byte, which is the quit state at a quit byte. A refusal is told at an offset.
+    /// The state after a byte, which is the quit state at a quit byte. An error is at this offset.
     fn step(
         &self,
         cache: &mut Cache,
@@ -134,7 +137,7 @@ impl DFA {
         }
     }
 
-    /// The state after a byte of the span or the one behind it, to which the search moves. A quit byte ends it.
+    /// The state after a byte of the span or the one after it, to which the search moves. A quit byte ends it.
     #[inline(always)]
     fn read(
         &self,
@@ -164,7 +167,7 @@ impl DFA {
         Ok(next)
     }
 
-    /// The state after the haystack's end. A refusal is told at an offset.
+    /// The state after the haystack's end. An error is at this offset.
     fn read_end(
         &self,
         cache: &mut Cache,
@@ -187,7 +190,7 @@ impl DFA {
         }
     }
 
-    /// The first pattern of a match state. An automaton with one pattern needs no look-up.
+    /// The first pattern of a match state. An NFA of one pattern needs no look-up.
     fn first_pattern(&self, cache: &Cache, id: LazyStateID) -> PatternID
         requires of { IsCacheOf cache.now self.now }
         requires valid { IsValid cache.now.store.table id }
@@ -202,7 +205,7 @@ impl DFA {
         cache.match_pattern(id, 0)
     }
 
-    /// What was found last, once the state of an ID told its patterns at an offset.
+    /// What was found last, once the state of an ID has matched at an offset.
     fn found_at(
         &self,
         cache: &Cache,

@@ -1,4 +1,4 @@
-//! Overlapping walks: each call tells the next match, over whatever caches of the DFA.
+//! Overlapping searches: each call reports the next match, with any cache of the DFA.
 ghost use Rattle.std.specs.Prelude.{ℕ, ◌≡◌, ◌+◌, ◌-◌, ◌<◌, ◌≤◌, ◌^◌, IfOk, IfErr, IfNone, IfSome, OnOk, OnErr};
 ghost use Rattle.std.specs.Prelude.{length, slice_index};
 ghost use Rattle.automata_base.specs.Powerset.{Powerset};
@@ -28,11 +28,12 @@ use automata_base::util::search::{HalfMatch, Input};
 use automata_config::error::{SearchError, StepError};
 
 impl DFA {
-    /// Tells the next of all overlapping matches of a forward walk, by `OverlappingState::get_match`; none where none
-    /// is left, and so from then on. The state is of one DFA and one input, over whatever caches of that DFA.
+    /// Goes on to the next of all overlapping matches, which `OverlappingState::get_match` returns; when none is left it
+    /// returns none, then and after each later call. Use the state with one DFA and one input alone, and with any
+    /// cache of that DFA.
     ///
-    /// A quit byte is told at its own offset, and the giving up at the offset of the byte that was to be read, or at
-    /// the span's start or its end. After a refusal the walk is as before, but for its match, which is none.
+    /// The error of a quit byte has the byte's offset; the "gave up" error has the offset of the byte that was to be
+    /// read, or the span's start or end. After an error the state is unchanged, except that it has no match.
     pub fn try_search_overlapping_fwd(
         &self,
         cache: &mut Cache,
@@ -44,19 +45,18 @@ impl DFA {
         ensures of { IsCacheOf cache.new self.now }
         ensures walk { IsWalkOf Forward self.now input.now state.new }
 
-        // What it answers, whatever the cache; and why this one refuses.
+        // What it reports, whatever the cache; and why it fails.
         ensures call { IsWalkCall Forward self.now input.now state.old state.new result }
         ensures refusal { (k : ℕ) → HasTold Forward self.now input.now state.old k
             → IfErr result (IsWalkRefusal States Forward self.now cache.new.store input.now state.old k) }
 
-        // What it makes of the cache.
+        // What it does to the cache.
         ensures effect { IsCallEffect States Forward self.now input.now state.old state.new cache.old cache.new result }
     {
         self.call(cache, input, Way::Forward, state)
     }
 
-    /// The same of a walk from the span's end to its start. The DFA is of an automaton that reads its regular
-    /// expressions backward.
+    /// The same from the span's end to its start. The DFA has to be of a reversed NFA.
     pub fn try_search_overlapping_rev(
         &self,
         cache: &mut Cache,
@@ -68,18 +68,18 @@ impl DFA {
         ensures of { IsCacheOf cache.new self.now }
         ensures walk { IsWalkOf Backward self.now input.now state.new }
 
-        // What it answers, whatever the cache; and why this one refuses.
+        // What it reports, whatever the cache; and why it fails.
         ensures call { IsWalkCall Backward self.now input.now state.old state.new result }
         ensures refusal { (k : ℕ) → HasTold Backward self.now input.now state.old k
             → IfErr result (IsWalkRefusal States Backward self.now cache.new.store input.now state.old k) }
 
-        // What it makes of the cache.
+        // What it does to the cache.
         ensures effect { IsCallEffect States Backward self.now input.now state.old state.new cache.old cache.new result }
     {
         self.call(cache, input, Way::Backward, state)
     }
 
-    /// The ID of a state that a walk holds, which is added again where the cache lacks it.
+    /// The ID of a state that a walk holds, which is added again if the cache lacks it.
     fn put_back(&self, cache: &mut Cache, handle: &Handle) -> Result<LazyStateID, StepError>
         requires of { IsCacheOf cache.old self.now }
         requires key { handle.now.key ≡ handle.now.state }
@@ -98,7 +98,7 @@ impl DFA {
         Ok(id)
     }
 
-    /// The ID of the state that a walk goes on from: its start, or what is held of its state.
+    /// The ID of the state that a walk goes on from: its start state, or what is held of its state.
     fn resume(
         &self,
         cache: &mut Cache,
@@ -114,7 +114,8 @@ impl DFA {
             (IsResumeAnswer (way_of way) self.now input.now walk.now cache.new.store) }
         ensures refusal { IfErr result
             (IsResumeRefusal (way_of way) self.now cache.new.store input.now walk.now.stage walk.now.units) }
-        ensures effect { IsResumeEffect (way_of way) self.now input.now walk.now.stage cache.old cache.new result }
+        ensures effect { IsResumeEffect (way_of way) self.now input.now walk.now.stage walk.now.units
+            cache.old cache.new result }
     {
         if walk.is_fresh() {
             cache.see_slots();
@@ -130,8 +131,8 @@ impl DFA {
         }
     }
 
-    /// Goes on with a walk that has told all of where it stands, to the next pair. Its new state is held before the
-    /// search ends.
+    /// Goes on with a walk that has reported all patterns of its state, to the next match. Its new state is held before
+    /// the search ends.
     fn walk_on(
         &self,
         cache: &mut Cache,
@@ -177,7 +178,7 @@ impl DFA {
         Ok(())
     }
 
-    /// Takes a walk to a state that tells patterns, and tells the first one.
+    /// Takes a walk to a state whose patterns match, and reports the first one.
     fn stand(
         &self,
         cache: &Cache,
@@ -224,7 +225,7 @@ impl DFA {
         self.call_held(cache, input, way, &mut walk.cursor, &mut walk.held)
     }
 
-    /// The same of its two parts.
+    /// The same for its two parts.
     fn call_held(
         &self,
         cache: &mut Cache,
@@ -298,7 +299,7 @@ impl DFA {
         self.walk_on(cache, input, way, walk, held)
     }
 
-    /// The pattern that a walk tells next at the state where it stands.
+    /// The pattern that a walk reports next at its state.
     fn next_pattern(&self, cache: &Cache, walk: &Cursor, held: &Held) -> Option<PatternID>
         requires on { walk.now.stage ≡ Ended → ⊥ }
         requires held { IsHeldAt cache.now.store.table walk.now.stage held.now }

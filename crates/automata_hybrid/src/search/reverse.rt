@@ -1,6 +1,7 @@
 ghost use Rattle.std.specs.Prelude.{◌≡◌, ◌+◌, ◌-◌, ◌<◌, ◌≤◌, ◌⊎◌, IfOk, IfErr, IsBitSet, IsTrue, OnOk, Option, None};
 ghost use Rattle.std.specs.Prelude.{Some, true, false, Err, Ok};
 ghost use Rattle.automata_base.specs.Matches as matches;
+ghost use Rattle.automata_base.specs.Paths.{next};
 ghost use Rattle.automata_base.specs.Powerset.{Powerset, dead};
 ghost use Rattle.automata_base.specs.Tapes.{Backward};
 ghost use Rattle.automata_hybrid.specs.Caches.{IsCacheOf};
@@ -10,16 +11,18 @@ ghost use Rattle.automata_hybrid.specs.Owing.{IsHalf, IsSearchEffect, IsUnsuppor
 ghost use Rattle.automata_hybrid.specs.Passed.{IsPassAnswer, IsPassEffect, IsRestEffect, IsUnderway};
 ghost use Rattle.automata_hybrid.specs.Passing.{HasLearned, IsAt, IsBetween, IsFollowed, IsLed, IsUntagged};
 ghost use Rattle.automata_hybrid.specs.Progressing.{started};
-ghost use Rattle.automata_hybrid.specs.Reading.{IsReadAnswer, IsReadEffect, IsReadRefusal};
+ghost use Rattle.automata_hybrid.specs.Reading.{IsLastProgress, IsReadAnswer, IsReadEffect, IsReadRefusal};
 ghost use Rattle.automata_hybrid.specs.Searched.{EndsAtLast, IsStoppedAt};
 ghost use Rattle.automata_hybrid.specs.declared.dfa.progress.Searched.{Searched};
 ghost use Rattle.automata_hybrid.specs.Searches.{given_up_offset, IsFound, IsPassRefusal, IsRefused, IsUnitRefusal};
-ghost use Rattle.automata_hybrid.specs.Searches.{WithoutBase, state_in};
+ghost use Rattle.automata_hybrid.specs.Searches.{WithoutBase, state_in, tape_in};
+ghost use Rattle.automata_hybrid.specs.SelfLoops.{IsSelfLoop};
 ghost use Rattle.automata_hybrid.specs.Table.{IsValid, Names};
 
 use crate::dfa::DFA;
 use crate::dfa::cache::Cache;
 use crate::id::LazyStateID;
+use crate::search::walk::Way;
 use crate::search::{FEW, PATIENCE, Place, Stop, is_anchored, quit, with_span};
 use automata_base::laws::told_is_right;
 use automata_base::util::search::{HalfMatch, Input};
@@ -27,13 +30,16 @@ use automata_config::error::SearchError;
 
 impl DFA {
     /// The pattern and the start of the match that a search from the span's end to its start finds: of the longest one
-    /// that ends there under kind all, and with an earliest input of the shortest one.
+    /// that ends there under `MatchKind::All`, and with an earliest input of the shortest one.
     ///
-    /// The DFA is of an automaton that reads its regular expressions backward. A start that splits a character is
-    /// skipped by searching again from one place before.
+    /// The DFA has to be of a reversed NFA. A start inside a UTF-8 encoded character is skipped by searching again from
+    /// one offset before.
     ///
-    /// A quit byte is told at its own offset, and the giving up at the offset of the byte that was to be read, or at
-    /// the span's end or its start. After a refusal the cache serves other searches as before.
+    /// The error of a quit byte has the byte's offset; the "gave up" error has the offset of the byte that was to be
+    /// read, or the span's end or start. After an error the cache serves other searches as before.
+    ///
+    /// It takes time linear in the span. Only where empty matches inside a UTF-8 encoded character are skipped it can
+    /// take the square of it, as `try_search_fwd`.
     pub fn try_search_rev(
         &self,
         cache: &mut Cache,
@@ -42,11 +48,11 @@ impl DFA {
         requires { IsCacheOf cache.old self.now }
         ensures of { IsCacheOf cache.new self.now }
 
-        // What it answers, whatever the cache; and why this one refuses.
+        // What it returns, whatever the cache; and why it fails.
         ensures half { IsHalf Backward self.now input.now result }
         ensures refusal { IfErr result (IsRefused Backward self.now cache.new.store input.now) }
 
-        // What it makes of the cache.
+        // What it does to the cache.
         ensures effect { IsSearchEffect Backward self.now input.now cache.old cache.new result }
     {
         told_is_right(self.get_nfa());
@@ -226,29 +232,7 @@ impl DFA {
         Stop { at: start - 4, id }
     }
 
-    /// Whether the ID's row leads back to itself on the eight bytes before an offset. None of them waits for another.
-    #[inline(always)]
-    fn stays_rev(&self, cache: &Cache, input: &Input<'_>, start: usize, id: LazyStateID) -> bool
-        requires of { IsCacheOf cache.now self.now }
-        requires valid { IsValid cache.now.store.table id }
-        requires untagged { id < offset_limit }
-        requires from { input.now.start + 8 ≤ start }
-        requires within { start ≤ input.now.end }
-        ensures followed { IsTrue result
-            → Names cache.now.store.table id (state_in Backward self.now input.now (input.now.end - start))
-            → IsFollowed Backward self.now cache.now.store input.now
-            (input.now.end - start) (input.now.end - (start - 8)) id }
-    {
-        for k in 0..8usize {
-            let next = self.follow_byte_rev(cache, input, start - k, id);
-            if next != id {
-                return false;
-            }
-        }
-        true
-    }
-
-    /// Follows the transition of an ID to itself, eight bytes at once.
+    /// Follows the self-loop of an ID that may have a tag, where it has one.
     #[inline(always)]
     fn follow_loop_rev(
         &self,
@@ -259,24 +243,16 @@ impl DFA {
     ) -> usize
         requires of { IsCacheOf cache.now self.now }
         requires valid { IsValid cache.now.store.table id }
-        requires untagged { id < offset_limit }
+        requires plain { id < fixed_from }
         requires from { input.now.start ≤ start }
         requires within { start ≤ input.now.end }
         ensures from { input.now.start ≤ result }
         ensures within { result ≤ start }
-        ensures followed { Names cache.now.store.table id (state_in Backward self.now input.now (input.now.end - start))
-            → IsFollowed Backward self.now cache.now.store input.now
-            (input.now.end - start) (input.now.end - result) id }
+        ensures loops { IsSelfLoop Backward self.now cache.now.store input.now id
+            (input.now.end - start) (input.now.end - result) }
     {
-        let first = input.start();
-        let mut at = start;
-        'eights: while at - first >= 8 {
-            if !self.stays_rev(cache, input, at, id) {
-                return at;
-            }
-            at -= 8;
-        }
-        at
+        let haystack = input.haystack();
+        start - self.follow_self_loop(cache, id, Way::Backward, &haystack[input.start()..start])
     }
 
     /// Follows known transitions without a tag one by one.
@@ -336,59 +312,6 @@ impl DFA {
         self.see_classes();
         let haystack = input.haystack();
         self.next_state_known(cache, id, haystack[at - 1])
-    }
-
-    /// Whether the row of an ID that may have a tag leads back to itself on the eight bytes before an offset.
-    #[inline(always)]
-    fn stays_led_rev(&self, cache: &Cache, input: &Input<'_>, start: usize, id: LazyStateID) -> bool
-        requires of { IsCacheOf cache.now self.now }
-        requires valid { IsValid cache.now.store.table id }
-        requires plain { id < fixed_from }
-        requires from { input.now.start + 8 ≤ start }
-        requires within { start ≤ input.now.end }
-        ensures led { IsTrue result
-            → Names cache.now.store.table id (state_in Backward self.now input.now (input.now.end - start))
-            → IsLed Backward self.now cache.now.store input.now
-            (input.now.end - start) (input.now.end - (start - 8)) id }
-    {
-        for k in 0..8usize {
-            let next = self.lead_byte_rev(cache, input, start - k, id);
-            if next != id {
-                return false;
-            }
-        }
-        true
-    }
-
-    /// Follows the transition of an ID that may have a tag to itself, eight bytes at once.
-    #[inline(always)]
-    fn lead_loop_rev(
-        &self,
-        cache: &Cache,
-        input: &Input<'_>,
-        start: usize,
-        id: LazyStateID,
-    ) -> usize
-        requires of { IsCacheOf cache.now self.now }
-        requires valid { IsValid cache.now.store.table id }
-        requires plain { id < fixed_from }
-        requires from { input.now.start ≤ start }
-        requires within { start ≤ input.now.end }
-        ensures from { input.now.start ≤ result }
-        ensures within { result ≤ start }
-        ensures led { Names cache.now.store.table id (state_in Backward self.now input.now (input.now.end - start))
-            → IsLed Backward self.now cache.now.store input.now
-            (input.now.end - start) (input.now.end - result) id }
-    {
-        let first = input.start();
-        let mut at = start;
-        'eights: while at - first >= 8 {
-            if !self.stays_led_rev(cache, input, at, id) {
-                return at;
-            }
-            at -= 8;
-        }
-        at
     }
 
     /// Follows known transitions into states that have patterns, one by one, down to a place.
@@ -466,7 +389,7 @@ impl DFA {
             if !same || at > again {
                 continue;
             }
-            let stop = self.lead_loop_rev(cache, input, at, id);
+            let stop = self.follow_loop_rev(cache, input, at, id);
             if stop == at {
                 again = at.saturating_sub(PATIENCE);
             }
@@ -612,7 +535,8 @@ impl DFA {
         ensures effect { IsRestEffect Backward self.now input.now (input.now.end - input.now.start) cache.old cache.new
             result }
         ensures alive { (q : Powerset) → Names cache.old.store.table id q → q ≡ dead → ⊥ }
-        ensures progress { KeepsProgress cache.old.store cache.new.store }
+        ensures progress { IsLastProgress self.now id
+            (next (tape_in Backward input.now) (input.now.end - input.now.start)) cache.old.store cache.new.store }
     {
         let start = input.start();
         if start == 0 {

@@ -1,4 +1,4 @@
-//! The units of a walk, in either direction, and going on over them to the next state that tells patterns.
+//! The bytes of a walk and the end, in either direction, and going on over them to the next state whose patterns match.
 ghost use Rattle.std.specs.Prelude.{ℕ, ◌≡◌, ◌-◌, ◌<◌, ◌≤◌, ◌⊎◌, IfOk, IfErr, OnOk, Some, []};
 ghost use Rattle.std.specs.Prelude.{true, false, suc, length};
 ghost use Rattle.automata_base.specs.Answers.{offset_in};
@@ -47,7 +47,7 @@ pub(crate) fn place_offset(input: &Input<'_>, way: Way, place: usize) -> usize
     }
 }
 
-/// The unit at a place of a walk: a byte, or none behind the haystack.
+/// What a walk reads at a place: a byte, or none after the haystack.
 fn unit_at(input: &Input<'_>, way: Way, place: usize) -> Option<u8>
     requires open { input.now.start ≤ input.now.end }
     requires within { place ≤ input.now.end - input.now.start }
@@ -73,7 +73,7 @@ fn unit_at(input: &Input<'_>, way: Way, place: usize) -> Option<u8>
     }
 }
 
-/// The offset of the unit at a place of a walk.
+/// The offset of the byte at a place of a walk.
 fn unit_offset(input: &Input<'_>, way: Way, place: usize) -> usize
     requires open { input.now.start ≤ input.now.end }
     requires within { place ≤ input.now.end - input.now.start }
@@ -99,7 +99,7 @@ pub(crate) fn span_offset(input: &Input<'_>, way: Way, place: usize) -> usize
     }
 }
 
-/// Where a walk has come to: a state that tells patterns, or none at its end; and the units that it has read.
+/// Where a walk has come to: a state whose patterns match, or none at its end; and how much it has read.
 #[derive(Clone, Copy)]
 pub(crate) struct Arrival {
     pub(crate) id: Option<LazyStateID>,
@@ -107,7 +107,7 @@ pub(crate) struct Arrival {
 }
 
 impl DFA {
-    /// Split places are skipped, or they aren't.
+    /// Offsets inside a character are skipped, or they are not.
     pub(crate) fn see_skips(&self)
         ensures { Skips self.now ⊎ (Skips self.now → ⊥) }
     {
@@ -139,7 +139,7 @@ impl DFA {
         }
     }
 
-    /// The state after a byte. A quit byte and a refusal are each told at an offset.
+    /// The state after a byte. A quit byte is an error at one offset, any other error is at another.
     fn read_byte(
         &self,
         cache: &mut Cache,
@@ -168,7 +168,7 @@ impl DFA {
         Ok(next)
     }
 
-    /// The state after the unit at a place of a walk, to which the search moves.
+    /// The state after what a walk reads at a place, to which the search moves.
     fn read_unit(
         &self,
         cache: &mut Cache,
@@ -198,7 +198,7 @@ impl DFA {
         }
     }
 
-    /// Whether a state tells patterns at a place of a walk that isn't skipped.
+    /// Whether a state's patterns match at a place of a walk that is not skipped.
     fn tells(
         &self,
         cache: &Cache,
@@ -225,7 +225,7 @@ impl DFA {
         !self.skips_at(input, place_offset(input, way, place))
     }
 
-    /// Follows known transitions without a tag, over units of a walk.
+    /// Follows cached transitions without a tag, over the bytes of a walk.
     fn follow(
         &self,
         cache: &Cache,
@@ -260,8 +260,8 @@ impl DFA {
         }
     }
 
-    /// Goes on over the units of a walk from a state that it stands at, to the next one that tells patterns. The search
-    /// stays open at the last unit that is read.
+    /// Goes on with a walk from its state to the next one whose patterns match. The search stays open at the last byte
+    /// that is read.
     pub(crate) fn advance(
         &self,
         cache: &mut Cache,

@@ -28,7 +28,7 @@ pub(crate) struct Handle {
 }
 
 impl Handle {
-    /// It takes no memory. It is refused only where no user more of the state can be counted.
+    /// It allocates nothing. It fails only if the state cannot be shared once more.
     pub(crate) fn of(state: &State) -> Result<Handle, AllocError>
         ensures { IfOk result (λ handle. IsHandle handle state.now) }
     {
@@ -38,8 +38,7 @@ impl Handle {
     }
 }
 
-/// What is held of the state where a walk stands: the state itself; or the ID of its row, in a walk that is over with its
-/// call.
+/// What is held of a walk's state: the state itself, or, in a walk that lasts for one call only, the ID of its row.
 #[derive(Drop)]
 pub(crate) enum Held {
     State(Option<Handle>),
@@ -91,7 +90,7 @@ impl Held {
     }
 }
 
-/// Where a walk stands. Its state contracts alone know.
+/// Where a walk is. Only contracts know its state.
 #[derive(Drop)]
 enum Stage {
     Fresh,
@@ -117,7 +116,7 @@ impl Model for Cursor {
 }
 
 impl Cursor {
-    /// A walk that hasn't begun.
+    /// A walk that has not begun.
     pub(crate) fn start() -> Cursor
         ensures { result ≡ fresh_walk }
     {
@@ -136,14 +135,14 @@ impl Cursor {
         self.found
     }
 
-    /// The units read.
+    /// How many bytes it has read, the end of the haystack counted as one.
     pub(crate) fn units(&self) -> usize
         ensures { result ≡ self.now.units }
     {
         self.units
     }
 
-    /// How many patterns of its state it has told.
+    /// How many patterns of its state it has reported.
     pub(crate) fn told(&self) -> usize
         ensures { result ≡ self.now.told }
     {
@@ -177,7 +176,7 @@ impl Cursor {
         self.found = None;
     }
 
-    /// Tells the next pattern of its state.
+    /// Reports the next pattern of its state.
     pub(crate) fn tell(&mut self, half: HalfMatch)
         requires { self.old.told + 1 < 2 ^ 64 }
         ensures { self.new ≡ with_match self.old half }
@@ -186,7 +185,7 @@ impl Cursor {
         self.found = Some(half);
     }
 
-    /// Goes to a state, of which it has told nothing.
+    /// Goes to a state of which it has reported nothing.
     pub(crate) fn go_to(&mut self, state: Snapshot<State>, units: usize)
         ensures { self.new ≡ record { stage = At state.value; units = units; told = 0; found = None } }
     {
@@ -206,7 +205,7 @@ impl Cursor {
         self.found = None;
     }
 
-    /// The same once more, where its state is held.
+    /// A copy of it, if its state is held.
     fn copy(&self, held: &Held) -> Cursor
         requires { IsHeldItself self.now.stage held.now }
         ensures { result ≡ self.now }
@@ -228,7 +227,8 @@ impl Cursor {
     }
 }
 
-/// How far an overlapping walk is: of one DFA, one input and one direction, over whatever cache of that DFA.
+/// How far an overlapping search is. It belongs to one DFA, one input and one direction, and goes on with any cache of
+/// that DFA: it holds its powerset state, which a clear cannot take.
 #[derive(Drop)]
 pub struct OverlappingState {
     pub(crate) cursor: Cursor,
@@ -246,7 +246,7 @@ impl Model for OverlappingState {
 }
 
 impl OverlappingState {
-    /// A walk that hasn't begun.
+    /// The state of a search that has not begun.
     pub fn start() -> OverlappingState
         ensures { result ≡ fresh_walk }
     {
@@ -267,7 +267,7 @@ impl OverlappingState {
 impl Clone for OverlappingState {
     ghost is_clone = { λ a b. b ≡ a };
 
-    /// It takes no memory: states are shared. It is refused only where no user more can be counted.
+    /// It allocates nothing, since states are shared. It fails only if the state cannot be shared once more.
     fn clone(&self) -> Result<OverlappingState, AllocError> {
         let held = self.held.share()?;
         Ok(OverlappingState {

@@ -1,4 +1,4 @@
-//! The set of the patterns that match, told by one walk forward.
+//! The set of the patterns that match, found by one overlapping search forward.
 ghost use Rattle.std.specs.Prelude.{IfErr};
 ghost use Rattle.automata_hybrid.specs.Caches.{IsCacheOf};
 ghost use Rattle.automata_hybrid.specs.OwingWalks.{IsSetTold, IsWhich, IsWhichEffect};
@@ -13,8 +13,8 @@ use automata_base::util::search::Input;
 use automata_config::error::SearchError;
 
 impl DFA {
-    /// Adds to a set the patterns of all overlapping matches, as far as they are below its capacity, or that of the
-    /// first match alone where the input is earliest. After a refusal the set has those that were told before.
+    /// Adds to a set the patterns of all overlapping matches that are below its capacity; with an earliest input, that
+    /// of the first match alone. After an error the set has those that were reported before it.
     pub fn try_which_overlapping_matches(
         &self,
         cache: &mut Cache,
@@ -24,11 +24,11 @@ impl DFA {
         requires { IsCacheOf cache.old self.now }
         ensures of { IsCacheOf cache.new self.now }
 
-        // What the set is joined with, whatever the cache; and why this one refuses.
+        // What the set is joined with, whatever the cache; and why the call fails.
         ensures which { IsWhich self.now input.now patset.old patset.new result }
         ensures refusal { IfErr result (IsWhichRefusal self.now cache.new.store input.now patset.old patset.new) }
 
-        // What it makes of the cache.
+        // What it does to the cache.
         ensures effect { IsWhichEffect self.now input.now patset.old cache.old cache.new result }
     {
         let _haystack = input.haystack();

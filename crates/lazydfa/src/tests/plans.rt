@@ -110,13 +110,17 @@ fn state_of<R: Abort + AllocGlobal>(rt: &R, shape: Shape) -> State {
     match shape {
         Shape::Range(lo, hi, next) => State::ByteRange { lo, hi, next: id(next) },
         Shape::Sparse(ranges) => State::Sparse(transitions(rt, ranges)),
-        Shape::Dense(bytes) => State::Dense(targets(bytes)),
+        Shape::Dense(bytes) => dense(rt, targets(bytes)),
         Shape::Either(alt1, alt2) => State::BinaryUnion { alt1: id(alt1), alt2: id(alt2) },
         Shape::Union => State::Union { alternates: Vec::new(rt.alloc()) },
         Shape::Assert(look, next) => State::Look { look, next: id(next) },
         Shape::Capture(next) => capture(id(next)),
         Shape::Accept(pattern) => State::Match { pattern: pattern_id(pattern) },
     }
+}
+
+pub fn dense<R: Abort + AllocGlobal>(rt: &R, targets: [StateID; 256]) -> State {
+    State::Dense(Box::new(rt.alloc(), targets).expect(rt, "memory"))
 }
 
 pub fn capture(next: StateID) -> State {

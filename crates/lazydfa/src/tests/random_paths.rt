@@ -3,7 +3,7 @@
 
 use super::dice::Dice;
 use super::paths::{MODES, half};
-use super::plans::{capture, id, pattern_id};
+use super::plans::{capture, dense, id, pattern_id};
 use super::same_of;
 use super::walk_paths::{Listed, Name, list, prepare};
 use regex_automata::hybrid::dfa::DFA;
@@ -116,7 +116,7 @@ impl Maker {
         match self.roll(16) {
             0..=4 => self.range(),
             5..=6 => State::Sparse(self.transitions(rt)),
-            7 => State::Dense(self.targets()),
+            7 => dense(rt, self.targets()),
             8..=9 => State::Look { look: self.look(), next: self.target() },
             10 => State::Union { alternates: self.alternates(rt) },
             11..=12 => State::BinaryUnion { alt1: self.target(), alt2: self.target() },

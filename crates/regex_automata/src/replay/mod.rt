@@ -21,22 +21,22 @@ use std::alloc::{AllocError, Global};
 
 /// One reply for each request, in order, each its request's own value, whatever came before.
 ///
-/// One cache serves them all. At first it is of regex 0, which is the current one. Want of memory is an error only
-/// where that cache or the list of replies found none; inside a request it is told in its reply.
+/// One cache serves them all. At first it belongs to regex 0, which is the current one. Out of memory is an error of this
+/// call only if that cache or the list of replies cannot be allocated; inside a request it is in its reply.
 pub fn replay(
     alloc: Global,
     regexes: &[Regex],
     script: &[Request<'_>],
 ) -> Result<Vec<Reply>, AllocError>
-    // Each reply is its request's own value, or a refusal that its own call may give; bad requests are told, and change
-    // nothing.
+    // Each reply is its request's own value, or an error that its own call may give; a bad request has a reply of its
+    // own, and changes nothing.
     ensures replies { IfOk result (λ replies. AreReplies regexes.now script.now replies.items) }
 
     // The Ok replies to the steps of a walk are, in order, the pairs of its list, and then none.
     ensures walks { IfOk result (λ replies. TellWalks regexes.now script.now replies.items) }
 
-    // One cache serves them all, fresh at first and after an Ok reset; a refusal is of the cache as the request before
-    // left it.
+    // One cache serves them all, fresh at first and after an Ok reset; an error is that of a call on the cache as the
+    // request before left it.
     ensures made { IfOk result (λ replies. AreAnswered regexes.now script.now replies.items) }
 {
     match regexes.first() {

@@ -18,7 +18,7 @@ use automata_base::util::search::Input;
 use automata_config::error::SearchError;
 use std::alloc::{AllocError, Global};
 
-/// The current regex, the caches that are of it, and the walks so far.
+/// The current regex, its caches, and the walks so far.
 #[derive(Drop)]
 pub struct Player<'r, 'h> {
     alloc: Global,
@@ -139,7 +139,7 @@ impl<'r, 'h> Player<'r, 'h> {
         Reply::Half(step_at(&mut self.walks, number, regex, &mut self.cache))
     }
 
-    /// Makes another regex current. A refusal changes nothing.
+    /// Makes another regex current. An error changes nothing.
     #[tactic(auto, using(crate::proofs::Owed::fresh_caches))]
     fn reset(&mut self, number: usize) -> Reply
         requires { (h : History) × HasPlayed h self.old }
@@ -163,7 +163,7 @@ impl<'r, 'h> Player<'r, 'h> {
     }
 }
 
-/// The same input. Its clone could be refused; this takes no memory.
+/// The same input. A clone's type allows an error; this has none.
 fn same<'h>(input: &Input<'h>) -> Input<'h>
     ensures { result ≡ input.now }
 {

@@ -10,11 +10,11 @@ pub enum Fault {
     NoRegex,
     /// There is no walk of this number.
     NoWalk,
-    /// The walk isn't of the current regex.
+    /// The walk belongs to another regex than the current one.
     OtherRegex,
 }
 
-/// The answer to a request. Its refusals stand in it, want of memory among them.
+/// The answer to a request, or its error; out of memory is one.
 #[derive(Debug, PartialEq, Eq, Drop)]
 pub enum Reply {
     /// What a search of one DFA found, or the match of a walk after one step.
@@ -35,7 +35,7 @@ pub enum Reply {
     },
     /// The number of the walk that was begun.
     Begun(Result<usize, SearchError>),
-    /// The patterns in increasing order, and the error before which they were told, if any.
+    /// The patterns in increasing order, and the error that ended the search after them, if any.
     Patterns {
         found: Vec<PatternID>,
         error: Option<SearchError>,

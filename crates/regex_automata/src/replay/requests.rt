@@ -13,13 +13,13 @@ pub enum Request<'h> {
     IsMatch(Input<'h>),
     /// The matches, one after another.
     Iterate(Input<'h>),
-    /// The tokens, one behind another, anchored and in full whatever the input says of both.
+    /// The tokens, one after another, anchored and not earliest whatever the input says of both.
     Tokenise(Input<'h>),
-    /// Begins an overlapping walk of the current regex. Walks are numbered from 0.
+    /// Begins an overlapping search with the current regex, called a walk. Walks are numbered from 0.
     BeginWalk { reverse: bool, input: Input<'h> },
     /// One step of a walk of the current regex.
     StepWalk(usize),
-    /// The patterns below the capacity of all overlapping matches.
+    /// The patterns of all overlapping matches, as far as they are below the capacity.
     Which { capacity: usize, input: Input<'h> },
     /// Makes the caches fresh ones of this regex, which becomes the current one.
     Reset(usize),

@@ -1,4 +1,4 @@
-//! The tokens of an input, one behind another, as a list.
+//! The tokens of an input, one after another, as a list.
 ghost use Rattle.automata_hybrid.specs.Caches.{IsCacheOf};
 ghost use Rattle.regex_automata.specs.RegexCaches.{AreCachesOf};
 ghost use Rattle.regex_automata.specs.ReplayCaches.{AreTokensSearched};
@@ -10,7 +10,7 @@ use automata_base::util::search::{Input, Match};
 use automata_config::error::SearchError;
 use std::alloc::Global;
 
-/// The patterns and spans of the tokens, until an error: no token, a refused search, or want of memory for the list.
+/// The patterns and spans of the tokens, up to an error: no token, a search that fails, or no memory for the list.
 pub fn tokens_upto(
     alloc: Global,
     regex: &Regex,
@@ -27,7 +27,7 @@ pub fn tokens_upto(
     take_tokens(alloc, regex, cache, input)
 }
 
-/// The same, by what each search owes.
+/// The same, by what each search returns.
 fn take_tokens(
     alloc: Global,
     regex: &Regex,

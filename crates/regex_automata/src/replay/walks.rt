@@ -62,7 +62,7 @@ fn step_rev(
     }
 }
 
-/// The match of a walk of a regex after one more call. A refused call leaves the walk as it was.
+/// The match of a walk of a regex after one more call. An error leaves the walk unchanged.
 fn step(
     reverse: bool,
     regex: &Regex,

@@ -1,7 +1,7 @@
 use automata_config::error::SearchError;
 use thiserror::Error;
 
-/// Why no token comes.
+/// Why there is no next token.
 #[derive(Clone, Copy, Debug, PartialEq, Eq, Error)]
 pub enum TokenError {
     /// At this offset no pattern matches, or only the empty string does.

@@ -1,4 +1,4 @@
-//! A tokeniser: the matches of a regex one behind another, each anchored where the one before ended, so that they leave
+//! A tokenizer: the matches of a regex one after another, each anchored where the one before ended, so that they leave
 //! no gap.
 
 mod error;

@@ -1,9 +1,10 @@
-ghost use Rattle.std.specs.Prelude.{◌≤◌};
+ghost use Rattle.std.specs.Prelude.{◌≤◌, ◌-◌, ◌↔◌, IsTrue};
 ghost use Rattle.automata_base.specs.Powerset.{IsId};
 
 use automata_base::util::primitives::PatternID;
 use automata_base::util::search::Span;
 use std::alloc::AllocError;
+use std::ops::Range;
 
 /// A pattern, and the bytes that it matches. They are borrowed from the haystack alone, so that a token may be kept
 /// when the iterator that gave it and its cache are gone.
@@ -49,6 +50,44 @@ impl<'h> Token<'h> {
         ensures ordered { result.start ≤ result.end }
     {
         self.span
+    }
+
+    /// Where it starts.
+    pub fn start(&self) -> usize
+        ensures start { result ≡ self.now.span.start }
+        ensures ordered { self.now.span.start ≤ self.now.span.end }
+    {
+        self.span.start
+    }
+
+    /// Where it ends.
+    pub fn end(&self) -> usize
+        ensures end { result ≡ self.now.span.end }
+        ensures ordered { self.now.span.start ≤ self.now.span.end }
+    {
+        self.span.end
+    }
+
+    /// Where it stands in the haystack, as a range.
+    pub fn range(&self) -> Range<usize>
+        ensures start { result.start ≡ self.now.span.start }
+        ensures end { result.end ≡ self.now.span.end }
+    {
+        self.span.range()
+    }
+
+    /// How many bytes it matches.
+    pub fn len(&self) -> usize
+        ensures { result ≡ self.now.span.end - self.now.span.start }
+    {
+        self.span.len()
+    }
+
+    /// Whether it matches no byte. No token that an iterator gives is empty.
+    pub fn is_empty(&self) -> bool
+        ensures { IsTrue result ↔ (self.now.span.end ≤ self.now.span.start) }
+    {
+        self.span.is_empty()
     }
 
     /// The bytes that it matches: the part of the haystack at its span.

@@ -9,7 +9,7 @@ use std::marker::Model;
 /// A builder of an NFA. States are added one by one; each call returns the ID of its state, which the NFA keeps. A
 /// target may be a state that does not exist yet, and can be patched later. Matches and groups belong to the pattern
 /// that was started last. A call that returns an error changes nothing.
-#[derive(Drop)]
+#[derive(Debug, Drop)]
 pub struct Builder {
     alloc: Global,
     states: Vec<Added>,

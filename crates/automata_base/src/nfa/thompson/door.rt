@@ -67,7 +67,7 @@ fn is_state_below(state: &State, n: usize) -> bool
     match state {
         State::ByteRange { next, .. } => is_below(*next, n),
         State::Sparse(transitions) => targets_below(transitions, n),
-        State::Dense(targets) => ids_below(targets, n),
+        State::Dense(targets) => ids_below(targets.as_slice(), n),
         State::Look { next, .. } => is_below(*next, n),
         State::Union { alternates } => ids_below(alternates, n),
         State::BinaryUnion { alt1, alt2 } => is_below(*alt1, n) && is_below(*alt2, n),

@@ -50,7 +50,7 @@ pub enum State {
     /// Reads one byte, by the range that has it. The ranges are sorted, and no two overlap.
     Sparse(Vec<Transition>),
     /// Reads one byte, by the target at its index. Target 0 stands for no edge.
-    Dense([StateID; 256]),
+    Dense(Box<[StateID; 256]>),
     /// Goes on without reading where the look holds.
     Look {
         /// What has to hold.
@@ -112,13 +112,13 @@ impl Default for Flags {
     }
 }
 
-/// Why an NFA is refused.
+/// Why states are not accepted as an NFA.
 #[derive(Clone, Copy, Debug, PartialEq, Eq, Error)]
 pub enum NfaError {
-    /// A state leads to a state that isn't there.
+    /// A state leads to a state that does not exist.
     #[error("a state leads to a state that is out of range")]
     StateRange,
-    /// A start is a state that isn't there: an NFA has at least one state.
+    /// A start is a state that does not exist: an NFA has at least one state.
     #[error("a start state is out of range")]
     StartRange,
     /// A match state has a pattern without a start.
@@ -173,7 +173,7 @@ impl From<AllocError> for ReverseError {
 }
 
 // What the clones of an NFA share.
-#[derive(Drop)]
+#[derive(Debug, Drop)]
 struct Data {
     states: Vec<State>,
     start_anchored: StateID,
@@ -188,7 +188,7 @@ struct Data {
 }
 
 /// A Thompson NFA: its states, its starts and its flags. Cloning shares them and takes no memory.
-#[derive(Drop)]
+#[derive(Debug, Drop)]
 pub struct NFA {
     data: Rc<Data>,
     alloc: Global,
@@ -248,8 +248,8 @@ impl NFA {
     /// An NFA of these states. Searches start at the anchored or the unanchored start, and those for pattern k at
     /// `start_pattern[k]`, so there are as many patterns as such starts. The tests are made in this order, each of the
     /// whole list: its size, the starts, the states that edges lead to, the order of ranges, the patterns. The first
-    /// that fails refuses it. A refusal hands neither list back. It takes time linear in the states, their edges and
-    /// the starts, a dense state having 256 edges.
+    /// test that fails names the error. An error gives neither list back. It takes time linear in the states, their
+    /// edges and the starts; a dense state has 256 edges.
     pub fn from_states(
         alloc: Global,
         states: Vec<State>,

@@ -108,7 +108,7 @@ fn add_byte_targets(set: &mut SparseSet, state: &State)
     match state {
         State::ByteRange { next, .. } => add(set, *next),
         State::Sparse(transitions) => add_nexts(set, transitions),
-        State::Dense(targets) => add_all_dense(set, targets),
+        State::Dense(targets) => add_all_dense(set, targets.as_slice()),
         State::Look { .. } => {}
         State::Capture { .. } => {}
         State::Union { .. } => {}

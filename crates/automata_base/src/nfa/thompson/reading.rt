@@ -133,8 +133,7 @@ fn is_zero(id: StateID) -> bool
     id.as_usize() == 0
 }
 
-fn dense_target(targets: &[StateID], u: u8) -> Option<StateID>
-    requires { length targets.now ≡ 256 }
+fn dense_target(targets: &[StateID; 256], u: u8) -> Option<StateID>
     ensures { result ≡ takes_in (dense_from 0 targets.now) u }
 {
     let at = usize::from(u);

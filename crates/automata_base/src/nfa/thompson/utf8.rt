@@ -170,10 +170,9 @@ fn add_target(set: &mut SparseSet, byte: usize, target: StateID, classes: &[Clas
     add_range(set, &range, classes, decoder);
 }
 
-fn add_targets(set: &mut SparseSet, targets: &[StateID], classes: &[Class], decoder: usize)
+fn add_targets(set: &mut SparseSet, targets: &[StateID; 256], classes: &[Class], decoder: usize)
     requires few { set.old.capacity ≤ 2 ^ 27 * 11 }
     requires decoder { decoder < 11 }
-    requires bytes { length targets.now ≡ 256 }
     requires below { all_below (set.old.capacity / 11) targets.now ≡ true }
     requires classes { classes_below classes.now ≡ true }
     ensures items { set.new.items

@@ -75,17 +75,17 @@ pub fn close_one(
         → IsUnderWay (nfa_of nfa.now) (truth_of looks) roots tail set.new.items }
     ensures room { IsClosureRoom nfa.now stack.new set.new }
 {
-    stack.push(start).unwrap();
-    while let Some(top) = stack.pop() {
-        let mut id = top;
-        'follow: loop {
-            if !set.insert(id) {
-                break;
+    let mut id = start;
+    'visit: loop {
+        if set.insert(id) {
+            if let Some(next) = expand(nfa.state(id), looks, stack) {
+                id = next;
+                continue;
             }
-            match expand(nfa.state(id), looks, stack) {
-                Some(next) => id = next,
-                None => break,
-            }
+        }
+        match stack.pop() {
+            Some(top) => id = top,
+            None => break,
         }
     }
 }

@@ -17,16 +17,16 @@ ghost use Rattle.automata_base.specs.Truths.{truth_of};
 ghost use Rattle.automata_base.specs.Visits.{IsUnderWay};
 
 use crate::nfa::thompson::NFA;
-use crate::nfa::thompson::reading::{pattern_of, target};
+use crate::nfa::thompson::reading::target;
 use crate::util::determinize::closure::{close, close_one};
 use crate::util::determinize::deciding::{
     first_of, has_news, is_unit, is_word_unit, known_behind, news,
 };
-use crate::util::determinize::lists::{cut_length, has_pattern, keep_states};
+use crate::util::determinize::lists::{cut_length, keep_states};
 use crate::util::determinize::sparse_set::SparseSet;
 use crate::util::determinize::state::{Parts, State};
 use crate::util::look::LookSet;
-use crate::util::primitives::{PatternID, StateID};
+use crate::util::primitives::StateID;
 use crate::util::search::{Anchored, MatchKind};
 
 fn has_word(nfa: &NFA) -> bool
@@ -156,33 +156,6 @@ fn close_targets(
     }
 }
 
-// The patterns of the match states of a list, each once.
-fn read_patterns(nfa: &NFA, list: &[StateID], patterns: &mut Vec<PatternID>)
-    requires below { (q : ℕ) → In q list.now → q < length nfa.now.states }
-    requires room { length nfa.now.start_pattern ≤ vec_capacity patterns.old }
-    ensures matched { AreMatched nfa.now list.now patterns.new.items }
-    ensures room { vec_capacity patterns.old ≤ vec_capacity patterns.new }
-{
-    patterns.clear();
-    for i in 0..list.len() {
-        add_maybe(patterns, pattern_of(nfa.state(list[i])));
-    }
-}
-
-fn add_maybe(patterns: &mut Vec<PatternID>, pattern: Option<PatternID>)
-    requires { (p : ℕ) → pattern ≡ Some p → is_in p patterns.old.items ≡ false
-        → vec_len patterns.old < vec_capacity patterns.old }
-    ensures some { (p : ℕ) → pattern ≡ Some p → patterns.new.items
-        ≡ patterns.old.items ++ cond (is_in p patterns.old.items) [] (p ∷ []) }
-    ensures none { pattern ≡ None → patterns.new.items ≡ patterns.old.items }
-    ensures room { vec_capacity patterns.old ≤ vec_capacity patterns.new }
-{
-    match pattern {
-        Some(p) => add_pattern(patterns, p),
-        None => {}
-    }
-}
-
 fn close_maybe(
     nfa: &NFA,
     start: Option<StateID>,
@@ -200,16 +173,6 @@ fn close_maybe(
     match start {
         Some(q) => close_one(nfa, q, looks, stack, set),
         None => {}
-    }
-}
-
-fn add_pattern(patterns: &mut Vec<PatternID>, p: PatternID)
-    requires { (is_in p patterns.old.items ≡ false) → vec_len patterns.old < vec_capacity patterns.old }
-    ensures added { patterns.new.items ≡ patterns.old.items ++ cond (is_in p patterns.old.items) [] (p ∷ []) }
-    ensures room { vec_capacity patterns.old ≤ vec_capacity patterns.new }
-{
-    if !has_pattern(patterns.as_slice(), p) {
-        patterns.push(p).unwrap();
     }
 }
 
@@ -300,10 +263,8 @@ fn advance(
     ensures room { IsClosureRoom nfa.now stack.new set.new }
     ensures parts { IsPartsRoom nfa.now parts.new }
 {
-    let end = cut_length(nfa, kind, list);
-    let upto = &list[..end];
-    read_patterns(nfa, upto, &mut parts.patterns);
-    arrive(nfa, upto, unit, stack, set, parts);
+    let end = cut_length(nfa, kind, list, &mut parts.patterns);
+    arrive(nfa, &list[..end], unit, stack, set, parts);
 }
 
 /// The state that follows on a unit.

@@ -18,7 +18,7 @@ pub fn is_word_u8(u: u8) -> bool
     48 <= u && u <= 57 || 65 <= u && u <= 90 || u == 95 || 97 <= u && u <= 122
 }
 
-/// Whether a unit is an ASCII word byte. The end isn't.
+/// Whether a unit is an ASCII word byte. The end is not.
 pub fn is_word_unit(u: Option<u8>) -> bool
     ensures { result ≡ is_word u }
 {
@@ -52,7 +52,7 @@ pub fn second_of(reverse: bool) -> u8
     if reverse { 13 } else { 10 }
 }
 
-// Whether the look holds behind `prev` whatever comes next.
+// Whether the look holds after `prev` whatever comes next.
 fn is_always(look: Look, terminator: u8, reverse: bool, prev: Option<u8>) -> bool
     ensures { result ≡ always terminator reverse look prev }
 {
@@ -113,7 +113,7 @@ fn is_decided(
     }
 }
 
-// Whether the look occurs in the NFA and holds behind `prev` whatever comes next.
+// Whether the look occurs in the NFA and holds after `prev` whatever comes next.
 fn is_known(nfa: &NFA, look: Look, prev: Option<u8>) -> bool
     ensures { result ≡ known_looks (nfa_of nfa.now) prev look }
 {
@@ -129,7 +129,7 @@ fn insert_if(set: LookSet, look: Look, passes: bool) -> LookSet
     if passes { set.insert(look) } else { set }
 }
 
-/// The looks of the NFA that hold behind `prev` whatever comes next.
+/// The looks of the NFA that hold after `prev` whatever comes next.
 pub fn known_behind(nfa: &NFA, prev: Option<u8>) -> LookSet
     ensures { (look : Look) → truth_of result look ≡ known_looks (nfa_of nfa.now) prev look }
 {

@@ -1,10 +1,11 @@
 ghost use Rattle.std.specs.Prelude.{◌≡◌, ◌+◌, ◌<◌, ◌≤◌, ◌||◌, [], ◌∷◌, ◌++◌, List, ℕ, length, take, eqb, Bool, Some};
-ghost use Rattle.std.specs.Prelude.{None, option_map};
+ghost use Rattle.std.specs.Prelude.{None, option_map, false};
 ghost use Rattle.automata_base.specs.Lists.{In, pick};
 ghost use Rattle.automata_base.specs.Nfa.{stays_at, accepts_at, takes_at, accepts, takes, keep};
 ghost use Rattle.automata_base.specs.Computed.{looks_at, any_state};
 ghost use Rattle.automata_base.specs.Looks.{look_index};
 ghost use Rattle.automata_base.specs.Cuts.{cut_for, cut};
+ghost use Rattle.automata_base.specs.Made.{AreMatched};
 ghost use Rattle.automata_base.specs.Nodes.{node_of, nfa_of, ranges_of, dense_from};
 ghost use Rattle.automata_base.specs.Truths.{truth_of};
 ghost use Rattle.automata_base.specs.Looks.{Look};
@@ -50,30 +51,75 @@ pub fn keep_states(nfa: &NFA, states: &[StateID], kept: &mut Vec<StateID>) -> Lo
     looks
 }
 
-// How many states of a list stand up to the first match state.
-fn cut_first(nfa: &NFA, states: &[StateID]) -> usize
+// The patterns of the match states of a list, each once.
+fn read_patterns(nfa: &NFA, list: &[StateID], patterns: &mut Vec<PatternID>)
+    requires below { (q : ℕ) → In q list.now → q < length nfa.now.states }
+    requires room { length nfa.now.start_pattern ≤ vec_capacity patterns.old }
+    ensures matched { AreMatched nfa.now list.now patterns.new.items }
+    ensures room { vec_capacity patterns.old ≤ vec_capacity patterns.new }
+{
+    patterns.clear();
+    for i in 0..list.len() {
+        add_maybe(patterns, pattern_of(nfa.state(list[i])));
+    }
+}
+
+fn add_maybe(patterns: &mut Vec<PatternID>, pattern: Option<PatternID>)
+    requires { (p : ℕ) → pattern ≡ Some p → is_in p patterns.old.items ≡ false
+        → vec_len patterns.old < vec_capacity patterns.old }
+    ensures some { (p : ℕ) → pattern ≡ Some p → patterns.new.items
+        ≡ patterns.old.items ++ cond (is_in p patterns.old.items) [] (p ∷ []) }
+    ensures none { pattern ≡ None → patterns.new.items ≡ patterns.old.items }
+    ensures room { vec_capacity patterns.old ≤ vec_capacity patterns.new }
+{
+    match pattern {
+        Some(p) => add_pattern(patterns, p),
+        None => {}
+    }
+}
+
+// How many states of a list stand up to the first match state, whose pattern is the one that matches.
+fn cut_first(nfa: &NFA, states: &[StateID], patterns: &mut Vec<PatternID>) -> usize
     requires below { (q : ℕ) → In q states.now → q < length nfa.now.states }
+    requires room { length nfa.now.start_pattern ≤ vec_capacity patterns.old }
     ensures below { result ≤ length states.now }
     ensures cut { take result states.now ≡ cut (nfa_of nfa.now) states.now }
+    ensures matched { AreMatched nfa.now (cut (nfa_of nfa.now) states.now) patterns.new.items }
+    ensures room { vec_capacity patterns.old ≤ vec_capacity patterns.new }
 {
+    patterns.clear();
     for i in 0..states.len() {
         match pattern_of(nfa.state(states[i])) {
-            Some(_) => return i + 1,
+            Some(pattern) => {
+                patterns.push(pattern).unwrap();
+                return i + 1;
+            }
             None => {}
         }
     }
     states.len()
 }
 
-/// How many states of a list count under the kind.
-pub fn cut_length(nfa: &NFA, kind: MatchKind, states: &[StateID]) -> usize
+/// How many states of a list count under the kind. The patterns are those that these match.
+pub fn cut_length(
+    nfa: &NFA,
+    kind: MatchKind,
+    states: &[StateID],
+    patterns: &mut Vec<PatternID>,
+) -> usize
     requires below { (q : ℕ) → In q states.now → q < length nfa.now.states }
+    requires room { length nfa.now.start_pattern ≤ vec_capacity patterns.old }
     ensures below { result ≤ length states.now }
     ensures cut { take result states.now ≡ cut_for kind (nfa_of nfa.now) states.now }
+    ensures matched { AreMatched nfa.now (cut_for kind (nfa_of nfa.now) states.now) patterns.new.items }
+    ensures room { vec_capacity patterns.old ≤ vec_capacity patterns.new }
 {
     match kind {
-        MatchKind::All => states.len(),
-        MatchKind::LeftmostFirst => cut_first(nfa, states),
+        MatchKind::All => {
+            read_patterns(nfa, states, patterns);
+            states.len()
+        }
+        MatchKind::LeftmostFirst => cut_first(nfa, states, patterns),
     }
 }
 
@@ -83,8 +129,8 @@ fn is_same(p: PatternID, q: PatternID) -> bool
     p.as_usize() == q.as_usize()
 }
 
-/// Whether the pattern is in the list.
-pub fn has_pattern(patterns: &[PatternID], p: PatternID) -> bool
+// Whether the pattern is in the list.
+fn has_pattern(patterns: &[PatternID], p: PatternID) -> bool
     ensures { result ≡ is_in p patterns.now }
 {
     for i in 0..patterns.len() {
@@ -93,4 +139,14 @@ pub fn has_pattern(patterns: &[PatternID], p: PatternID) -> bool
         }
     }
     false
+}
+
+fn add_pattern(patterns: &mut Vec<PatternID>, p: PatternID)
+    requires { (is_in p patterns.old.items ≡ false) → vec_len patterns.old < vec_capacity patterns.old }
+    ensures added { patterns.new.items ≡ patterns.old.items ++ cond (is_in p patterns.old.items) [] (p ∷ []) }
+    ensures room { vec_capacity patterns.old ≤ vec_capacity patterns.new }
+{
+    if !has_pattern(patterns.as_slice(), p) {
+        patterns.push(p).unwrap();
+    }
 }

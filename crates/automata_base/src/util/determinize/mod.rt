@@ -25,8 +25,8 @@ pub use scratch::{Scratch, next_key, start_key};
 pub use state::{Parts, State};
 use std::alloc::AllocError;
 
-/// The powerset state where the searches of a mode start behind a byte, or behind none. Past the last pattern it is
-/// the dead state. It is refused for want of memory alone, and counts one in either case.
+/// The start state of an anchored mode after this look-behind byte, or after none. For a pattern past the last one it
+/// is the dead state. The only error is out of memory. Either way it counts as one determinization.
 pub fn start(
     nfa: &NFA,
     scratch: &mut Scratch,
@@ -45,8 +45,8 @@ pub fn start(
 }
 
 /// The powerset state that a state of the automaton leads to on a byte, or on the end of the haystack; `State::is_of`
-/// is the test. Its patterns are the automaton's. It is refused for want of memory alone, and counts one in either
-/// case.
+/// is the test. Its patterns are the NFA's. The only error is out of memory. Either way it counts as one
+/// determinization.
 pub fn next(
     nfa: &NFA,
     scratch: &mut Scratch,

@@ -93,7 +93,7 @@ pub fn pattern_at(bytes: &[u8], index: usize) -> PatternID
     }
 }
 
-/// What comes behind the patterns.
+/// What comes after the patterns.
 pub fn ids_in(bytes: &[u8]) -> &[u8]
     requires { IsCode bytes.now }
     ensures { result.now ≡ ids_bytes bytes.now }

@@ -1,4 +1,4 @@
-//! The room that determinisation works in, made once for an NFA.
+//! The buffers that determinization works in, allocated once for an NFA.
 ghost use Rattle.std.specs.Prelude.{◌≡◌, ◌+◌, IfOk};
 ghost use Rattle.automata_base.specs.Made.{IsStartMade, IsStepMade};
 ghost use Rattle.automata_base.specs.Once.{Distinct};
@@ -19,7 +19,7 @@ use std::marker::Model;
 use std::mem;
 use std::snapshot::Snapshot;
 
-/// The room of determinisation, made once for an NFA. It also carries a count that contracts alone see: how often
+/// The buffers of determinization, allocated once for an NFA. It also carries a count that only contracts see: how often
 /// it was used.
 #[derive(Drop)]
 pub struct Scratch {
@@ -45,7 +45,7 @@ impl Model for Scratch {
 }
 
 impl Scratch {
-    /// Room for an NFA, which is refused for want of memory alone.
+    /// Buffers for an NFA. The only error is out of memory.
     pub fn new(nfa: &NFA) -> Result<Scratch, AllocError>
         ensures of { IfOk result (λ s. s.of ≡ nfa.now) }
         ensures count { IfOk result (λ s. s.count ≡ 0) }
@@ -95,7 +95,7 @@ fn key_of(alloc: Global, parts: &Parts, bytes: &mut Vec<u8>) -> Result<Key, Allo
     Ok(Key::own(room))
 }
 
-/// The start of a mode behind a byte, as a key to look it up by.
+/// The start state of an anchored mode after a byte, as a key to look it up by.
 pub fn start_key(
     nfa: &NFA,
     scratch: &mut Scratch,

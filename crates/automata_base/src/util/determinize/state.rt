@@ -123,8 +123,8 @@ impl Clone for State {
 impl State {
     ghost use Rattle.automata_base.specs.Parts.{powerset_of};
 
-    /// The state of these parts, in which no pattern stands twice: `Parts::is_without_repeats` is the test. It is
-    /// refused for want of memory alone.
+    /// The state of these parts, in which no pattern stands twice: `Parts::is_without_repeats` is the test. The only
+    /// error is out of memory.
     pub fn encode(alloc: Global, parts: &Parts) -> Result<State, AllocError>
         requires { IsDistinct nat_eq parts.now.patterns.items }
         ensures { IfOk result (λ s. s ≡ powerset_of parts.now) }
@@ -231,7 +231,7 @@ impl State {
         read_ids(self.nfa(), &mut parts.nfa)
     }
 
-    /// The six parts. It is refused for want of memory alone.
+    /// The six parts. The only error is out of memory.
     pub fn decode(&self, alloc: Global) -> Result<Parts, AllocError>
         ensures { IfOk result (λ parts. powerset_of parts ≡ self.now) }
     {

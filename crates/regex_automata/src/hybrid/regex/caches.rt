@@ -26,7 +26,7 @@ impl Cache {
         Ok(Cache { forward, reverse })
     }
 
-    /// A fresh cache, of this regex from now on. A refusal changes neither part.
+    /// Makes it a fresh cache of this regex. An error changes neither part.
     pub fn reset(&mut self, regex: &Regex) -> Result<(), AllocError>
         ensures ok { OnOk result (AreFresh regex.now self.new) }
         ensures err { OnErr result (self.new ≡ self.old) }
@@ -85,7 +85,7 @@ impl Cache {
         (&mut self.forward, &mut self.reverse)
     }
 
-    /// Each part is within the settings of the DFA that it is of. It does nothing.
+    /// Each part is within the settings of the DFA that it belongs to. It does nothing.
     pub fn see_bounds(&self)
         ensures forward { IsStoreOf self.now.forward.store self.now.forward.store.table.of }
         ensures reverse { IsStoreOf self.now.reverse.store self.now.reverse.store.table.of }
@@ -94,7 +94,7 @@ impl Cache {
         self.reverse.see_bounds();
     }
 
-    /// The accounted bytes of both, or the greatest number.
+    /// The accounted bytes of both; the greatest `usize` if the sum is above it.
     pub fn memory_usage(&self) -> usize
         ensures { result ≡ min (usage self.now.forward.store + usage self.now.reverse.store) (2 ^ 64 - 1) }
     {

@@ -16,7 +16,7 @@ use automata_base::util::search::{Anchored, Input, Match};
 use automata_config::error::SearchError;
 use automata_hybrid::laws::known_stays;
 
-/// The input from a place on.
+/// The input from an offset on.
 fn from<'h>(input: &Input<'h>, start: usize) -> Input<'h>
     requires { Allows input.now.haystack start input.now.end }
     ensures { result ≡ from start input.now }
@@ -27,7 +27,7 @@ fn from<'h>(input: &Input<'h>, start: usize) -> Input<'h>
         .earliest(input.get_earliest())
 }
 
-/// Whether a match is empty, where the last one ended.
+/// Whether a match is empty and at the end of the last one.
 fn is_empty_at(last: Option<usize>, found: &Match) -> bool
     ensures yes { result ≡ true → IsEmptyAt last found.now }
     ensures no { result ≡ false → IsEmptyAt last found.now → ⊥ }
@@ -36,7 +36,7 @@ fn is_empty_at(last: Option<usize>, found: &Match) -> bool
 }
 
 impl Regex {
-    /// The match after one that ended at `last`: an empty one there is replaced by that of the search from one place
+    /// The match after one that ended at `last`: an empty one there is replaced by that of the search from one offset
     /// later.
     fn next_match(
         &self,
@@ -68,9 +68,9 @@ impl Regex {
         self.try_search(cache, &rest)
     }
 
-    /// The matches of an input, one after another. It takes no memory.
+    /// The matches of an input, one after another. The iterator itself allocates nothing.
     ///
-    /// A refused search is the last item, behind the matches that were found before:
+    /// The error of a search is the last item, after the matches that were found before it:
     ///
     /// ```rust
     /// for found in regex.find_iter(&mut cache, Input::new(text)) {
@@ -106,9 +106,8 @@ impl Regex {
     }
 }
 
-/// The matches that are left of an input, until an error, which is the last item. After the end it gives none for good.
-/// Over a mode that isn't supported its one item is the error that tells it.
-/// It holds the parts of its input.
+/// The matches that are left of an input, up to an error, which is the last item. After the last item it returns none
+/// each time. If the anchored mode is not supported, its one item is that error.
 #[derive(Drop)]
 pub struct FindMatches<'r, 'c, 'h> {
     regex: &'r Regex,

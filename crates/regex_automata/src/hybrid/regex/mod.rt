@@ -28,7 +28,7 @@ use std::alloc::AllocError;
 ///     None => skip(line),
 /// }
 /// ```
-#[derive(Drop)]
+#[derive(Debug, Drop)]
 pub struct Regex {
     forward: DFA,
     reverse: DFA,

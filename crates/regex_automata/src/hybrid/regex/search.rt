@@ -19,7 +19,7 @@ use automata_base::util::search::{Anchored, HalfMatch, Input, Match, Span};
 use automata_config::error::SearchError;
 use automata_hybrid::laws::answers_agree;
 
-/// What a search back is given: the span that the forward search left, anchored and in full.
+/// The input of a search back: the span up to the match's end, anchored and not earliest.
 fn backward<'h>(input: &Input<'h>, half: HalfMatch, base: usize) -> Input<'h>
     requires ordered { base ≤ half.offset }
     requires within { half.offset ≤ input.now.end }
@@ -30,7 +30,7 @@ fn backward<'h>(input: &Input<'h>, half: HalfMatch, base: usize) -> Input<'h>
         .anchored(Anchored::Yes)
 }
 
-/// Whether a mode is the one that isn't anchored.
+/// Whether a mode is the one that is not anchored.
 fn is_unanchored(mode: Anchored) -> bool
     ensures yes { result ≡ true → mode ≡ Anchored.No }
     ensures no { result ≡ false → mode ≡ Anchored.No → ⊥ }
@@ -42,11 +42,11 @@ fn is_unanchored(mode: Anchored) -> bool
 }
 
 impl Regex {
-    /// The first match, by the kind of the forward DFA; with an earliest input, the one that ends first. Its start is
-    /// where the search back from its end, by the reverse DFA, comes to.
+    /// The first match, by the match kind of the forward DFA; with an earliest input, the one that ends first. The search
+    /// back from its end, by the reverse DFA, finds its start.
     ///
-    /// A refusal is of the forward search or of the one back, told as these tell it; or the two are no pair: the one
-    /// back finds no start. After a refusal the cache serves other searches as before.
+    /// An error is that of the forward search or of the one back, as these report it; or the two DFAs are no pair, if
+    /// the one back finds no start. After an error the cache serves other searches as before.
     pub fn try_search(
         &self,
         cache: &mut Cache,
@@ -55,11 +55,11 @@ impl Regex {
         requires { AreCachesOf cache.old self.now }
         ensures of { AreCachesOf cache.new self.now }
 
-        // What it answers, whatever the caches; and why these refuse.
+        // What it returns, whatever the caches; and why it fails.
         ensures owed { IsSpanOf self.now input.now result }
         ensures refusal { IfErr result (IsRegexRefusal self.now cache.new input.now) }
 
-        // What it makes of the caches.
+        // What it does to the caches.
         ensures effect { IsSpanEffect self.now input.now cache.old cache.new result }
     {
         told_is_right(self.forward.get_nfa());
@@ -71,23 +71,23 @@ impl Regex {
         found
     }
 
-    /// What `try_search` answers.
+    /// What `try_search` returns.
     pub fn find(&self, cache: &mut Cache, input: &Input<'_>) -> Result<Option<Match>, SearchError>
         requires { AreCachesOf cache.old self.now }
         ensures of { AreCachesOf cache.new self.now }
 
-        // What it answers, whatever the caches; and why these refuse.
+        // What it returns, whatever the caches; and why it fails.
         ensures owed { IsSpanOf self.now input.now result }
         ensures refusal { IfErr result (IsRegexRefusal self.now cache.new input.now) }
 
-        // What it makes of the caches.
+        // What it does to the caches.
         ensures effect { IsSpanEffect self.now input.now cache.old cache.new result }
     {
         self.try_search(cache, input)
     }
 
-    /// Whether a match starts where the span began that gave it, so that no search back is made: where it is empty
-    /// there, or the search is anchored by its mode or by its automaton.
+    /// Whether a match starts where the span that gave it began, so that no search back is made: if it is empty there, or
+    /// if the search is anchored by its mode or by the NFA.
     fn is_short(&self, input: &Input<'_>, half: HalfMatch, base: usize) -> bool
         ensures yes { result ≡ true → IsShort (forward_engine self.now) input.now (with_base half base) }
         ensures no { result ≡ false → IsShort (forward_engine self.now) input.now (with_base half base) → ⊥ }
@@ -101,7 +101,7 @@ impl Regex {
         self.forward.get_nfa().is_always_start_anchored()
     }
 
-    /// Where the match starts that a forward search found the end of.
+    /// The start of the match whose end a forward search found.
     fn find_start(
         &self,
         cache: &mut dfa::Cache,
@@ -130,7 +130,7 @@ impl Regex {
         }
     }
 
-    /// The match that the passes of the two DFAs tell.
+    /// The match that the passes of the two DFAs find.
     fn search(&self, cache: &mut Cache, input: &Input<'_>) -> Result<Option<Match>, SearchError>
         requires { AreCachesOf cache.old self.now }
         ensures of { AreCachesOf cache.new self.now }

@@ -16,7 +16,7 @@ returns-in-Sparse c =
 
 pub returns-in-Dense : goal.returns-in-Dense
 unfolding state_bounds
-returns-in-Dense c = rw c.in-Dense.is c.mark_targets.ensures
+returns-in-Dense c = rw c.in-Dense.is (rw c.deref-in-Dense.ensures at c.mark_targets.ensures)
 
 pub returns-in-Look : goal.returns-in-Look
 unfolding state_bounds

@@ -77,7 +77,7 @@ loop-read-preserved c =
           (let underway = c.loop-read.invariant.progress s e in (
             given_up_offset d c.args.input.now k,
             unit_open d c.args.self.now c.args.input.now s c.args.units k underway.0 c.args.cache.now c.loop-read.cache c.read_unit.new.cache c.requires.from.undone c.follow-stop.ensures.within
-                c.loop-read.invariant.grown c.in_ok-next.ensures.effect.grown underway.1 c.in_ok-next.ensures.effect.progress.moved,
+                c.loop-read.invariant.grown c.in_ok-next.ensures.effect.grown underway.1 c.in_ok-next.ensures.effect.cleared c.in_ok-next.ensures.effect.progress.moved,
             λ less. ap (given_up_offset d c.args.input.now) (omega (arith, more)),
           ));
       reads = λ less. (k, sym more, c.in_ok-next.ensures.reads);
@@ -149,7 +149,7 @@ returns-in_err-next-clause-effect c =
       left = λ s e. (
           let underway = c.loop-read.invariant.progress s e in
           unit_left d c.args.self.now c.args.input.now s c.args.units k underway.0 c.args.cache.now c.loop-read.cache c.read_unit.new.cache c.requires.from.undone c.follow-stop.ensures.within
-          c.loop-read.invariant.grown c.in_err-next.ensures.effect.grown underway.1 c.in_err-next.field-0.0 from c.in_err-next.ensures.reads
+          c.loop-read.invariant.grown c.in_err-next.ensures.effect.grown underway.1 c.in_err-next.ensures.effect.cleared c.in_err-next.field-0.0 from c.in_err-next.ensures.reads
           (followed_clean f c.loop-read.invariant.clean) (followed_silent f c.loop-read.invariant.silent) c.in_err-next.ensures.refusal c.in_err-next.ensures.effect.progress.left);
     })
 
@@ -181,7 +181,7 @@ returns-then-is_dead-clause-effect c =
             sym more,
             c.in_ok-next.ensures.reads,
             unit_open d c.args.self.now c.args.input.now s c.args.units k underway.0 c.args.cache.now c.loop-read.cache c.read_unit.new.cache c.requires.from.undone c.follow-stop.ensures.within
-                c.loop-read.invariant.grown c.in_ok-next.ensures.effect.grown underway.1 c.in_ok-next.ensures.effect.progress.moved,
+                c.loop-read.invariant.grown c.in_ok-next.ensures.effect.grown underway.1 c.in_ok-next.ensures.effect.cleared c.in_ok-next.ensures.effect.progress.moved,
           ));
       left = λ s e. tt;
     }
@@ -214,7 +214,7 @@ returns-then-tells-clause-effect c =
             sym more,
             c.in_ok-next.ensures.reads,
             unit_open d c.args.self.now c.args.input.now s c.args.units k underway.0 c.args.cache.now c.loop-read.cache c.read_unit.new.cache c.requires.from.undone c.follow-stop.ensures.within
-                c.loop-read.invariant.grown c.in_ok-next.ensures.effect.grown underway.1 c.in_ok-next.ensures.effect.progress.moved,
+                c.loop-read.invariant.grown c.in_ok-next.ensures.effect.grown underway.1 c.in_ok-next.ensures.effect.cleared c.in_ok-next.ensures.effect.progress.moved,
           ));
       left = λ s e. tt;
     }
@@ -237,7 +237,7 @@ returns-clause-effect c =
             omega (arith, less, last.1),
             last.1,
             last.2,
-            subst (λ x. IsOpenAt c.args.input.now s (given_up_offset d c.args.input.now c.args.units) x c.args.cache.now.store c.loop-read.cache.store)
+            subst (λ x. IsOpenAt d c.args.self.now c.args.input.now s c.args.units x c.args.cache.now.store c.loop-read.cache.store)
                 (underway.2 less ∙ ap (given_up_offset d c.args.input.now) place) underway.1,
           ));
       left = λ s e. tt;

@@ -23,7 +23,7 @@ invariant-loop-read l = record {
   idle : (k : ℕ) → HasToldBy (way_of l.way) l.self l.input l.units k → KnowsUnits (way_of l.way) l.self l.fn.cache.store l.input l.units k → l.cache.count ≡ l.fn.cache.count;
   learned : ClearedNothing l.fn.cache.store l.cache.store → HasLearnedUnits (way_of l.way) l.self l.cache.store l.input l.units l.read;
   silent : IsSilent (way_of l.way) l.self l.input l.units l.read;
-  progress : (before : Searched) → l.fn.cache.store.searched ≡ started before (given_up_offset (way_of l.way) l.input l.units) → (x : ℕ) × IsOpenAt l.input before (given_up_offset (way_of l.way) l.input l.units) x l.fn.cache.store l.cache.store × (l.units < l.read → x ≡ given_up_offset (way_of l.way) l.input (l.read - 1));
+  progress : (before : Searched) → l.fn.cache.store.searched ≡ started before (given_up_offset (way_of l.way) l.input l.units) → (x : ℕ) × IsOpenAt (way_of l.way) l.self l.input before l.units x l.fn.cache.store l.cache.store × (l.units < l.read → x ≡ given_up_offset (way_of l.way) l.input (l.read - 1));
   reads : l.units < l.read → (k : ℕ) × (l.read ≡ suc k) × WalkReads (way_of l.way) l.self l.input k;
 }
 

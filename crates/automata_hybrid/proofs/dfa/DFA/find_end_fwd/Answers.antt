@@ -1,12 +1,14 @@
 use Rattle.std.proofs.Common.{ℕ, ◌≡◌, ◌+◌, ◌-◌, inr, List, length, refl, Some, None, sym, ap, subst, arith}
 use Rattle.automata_base.specs.Paths.{next}
 use Rattle.automata_base.specs.Tapes.{Forward}
+use Rattle.automata_hybrid.specs.Caches.{CacheView}
 use Rattle.automata_hybrid.specs.Passing.{IsAt}
 use Rattle.automata_hybrid.specs.Passed.{IsRestEffect}
-use Rattle.automata_hybrid.specs.Reading.{IsEndProgress}
+use Rattle.automata_hybrid.specs.Reading.{ClearsForNext, IsEndProgress}
 use Rattle.automata_hybrid.specs.Searched.{IsEndedBy, IsLeftAt}
 use Rattle.automata_hybrid.specs.Searches.{state_in, tape_in}
 use Rattle.automata_hybrid.specs.Table.{Rows, Leads, Names}
+use Rattle.automata_hybrid.proofs.Clearing.{clears_closed, clears_moved}
 use Rattle.automata_hybrid.proofs.Passed.{last_answer, rest_read, rest_refused, stands_alive}
 use Rattle.automata_hybrid.proofs.Reading.{at_err, end_room}
 use Rattle.automata_hybrid.proofs.Searched.{ended_after, ended_by, moved_by}
@@ -95,7 +97,12 @@ returns-clause-alive c =
 
 pub returns-then-end-haystack-clause-progress : goal.returns-then-end-haystack-clause-progress
 returns-then-end-haystack-clause-progress c =
+    let k : ℕ = c.args.input.now.end - c.args.input.now.start in
+    let read : next (tape_in Forward c.args.input.now) k ≡ Some _ = forward_read c.args.input.now c.haystack-then-end-haystack.result.now c.args.input.now.end c.end-end.result c.requires.at.undone (omega arith) c.end-end.ensures.within.1 (let h : length c.haystack.result.now ≡ length c.args.input.now.haystack = ap (λ (x : List ℕ). length x) c.haystack.ensures.same in omega (arith, h, c.if-end-haystack.true, c.end-end.ensures.end)) c.haystack-then-end-haystack.ensures.same c.end-end.ensures.end in
     record {
+      cleared =
+          subst (λ u. ClearsForNext c.args.self.now c.args.id u c.args.cache.now.store c.end_search.new.self.store) (sym read)
+          (clears_closed c.args.self.now c.args.id (Some _) c.args.cache.now.store c.read.new.cache c.end_search.new.self c.end_search.ensures.value c.in_ok-last.ensures.effect.cleared);
       ended =
           subst (λ at. IsEndedBy at c.args.cache.now.store c.end_search.new.self.store) c.end-end.ensures.end
           (ended_after c.args.cache.now c.read.new.cache c.end_search.new.self c.end-end.result c.in_ok-last.ensures.progress.moved c.end_search.ensures.value);
@@ -104,7 +111,13 @@ returns-then-end-haystack-clause-progress c =
 
 pub returns-clause-progress : goal.returns-clause-progress
 returns-clause-progress c =
+    let k : ℕ = c.args.input.now.end - c.args.input.now.start in
+    let past : next (tape_in Forward c.args.input.now) k ≡ None = forward_end c.args.input.now c.requires.at.undone c.end-end.ensures.within.1 (let h : length c.haystack.result.now ≡ length c.args.input.now.haystack = ap (λ (x : List ℕ). length x) c.haystack.ensures.same in omega (arith, h, c.if-end-haystack.false, c.end-end.ensures.end)) in
     record {
+      cleared =
+          subst (λ u. ClearsForNext c.args.self.now c.args.id u c.args.cache.now.store c.end_search-2.new.self.store) (sym past)
+          (clears_closed c.args.self.now c.args.id None c.args.cache.now.store c.read_end.new.cache c.end_search-2.new.self c.end_search-2.ensures.value
+          (clears_moved c.args.self.now c.args.id None c.args.cache.now.store c.move_search.new.self.store c.read_end.new.cache.store (ap (λ (v : CacheView). v.store) c.move_search.ensures.value) c.in_ok-last-2.ensures.effect.cleared));
       ended =
           subst (λ at. IsEndedBy at c.args.cache.now.store c.end_search-2.new.self.store) c.end-end.ensures.end
           (ended_by c.args.cache.now c.move_search.new.self c.read_end.new.cache c.end_search-2.new.self c.end-end.result c.move_search.ensures.value c.in_ok-last-2.ensures.progress c.end_search-2.ensures.value);
@@ -115,7 +128,9 @@ pub returns-in_err-last-clause-progress : goal.returns-in_err-last-clause-progre
 returns-in_err-last-clause-progress c =
     let k : ℕ = c.args.input.now.end - c.args.input.now.start in
     let read : next (tape_in Forward c.args.input.now) k ≡ Some _ = forward_read c.args.input.now c.haystack-then-end-haystack.result.now c.args.input.now.end c.end-end.result c.requires.at.undone (omega arith) c.end-end.ensures.within.1 (let h : length c.haystack.result.now ≡ length c.args.input.now.haystack = ap (λ (x : List ℕ). length x) c.haystack.ensures.same in omega (arith, h, c.if-end-haystack.true, c.end-end.ensures.end)) c.haystack-then-end-haystack.ensures.same c.end-end.ensures.end in
-    at_err c.from_residual.result _ (IsEndProgress c.args.self.now (next (tape_in Forward c.args.input.now) k) c.args.input.now.end c.args.cache.now.store c.read.new.cache.store) c.from_residual.ensures.1 (record {
+    at_err c.from_residual.result _ (IsEndProgress c.args.self.now c.args.id (next (tape_in Forward c.args.input.now) k) c.args.input.now.end c.args.cache.now.store c.read.new.cache.store) c.from_residual.ensures.1 (record {
+      cleared = subst (λ u. ClearsForNext c.args.self.now c.args.id u c.args.cache.now.store c.read.new.cache.store) (sym read)
+          c.in_err-last.ensures.effect.cleared;
       ended = tt;
       left =
           (subst (λ at. IsLeftAt c.args.self.now (next (tape_in Forward c.args.input.now) k) at c.args.cache.now.store c.read.new.cache.store c.in_err-last.field-0.0) c.end-end.ensures.end
@@ -125,9 +140,13 @@ returns-in_err-last-clause-progress c =
 pub returns-in_err-last-2-clause-progress : goal.returns-in_err-last-2-clause-progress
 returns-in_err-last-2-clause-progress c =
     let k : ℕ = c.args.input.now.end - c.args.input.now.start in
+    let past : next (tape_in Forward c.args.input.now) k ≡ None = forward_end c.args.input.now c.requires.at.undone c.end-end.ensures.within.1 (let h : length c.haystack.result.now ≡ length c.args.input.now.haystack = ap (λ (x : List ℕ). length x) c.haystack.ensures.same in omega (arith, h, c.if-end-haystack.false, c.end-end.ensures.end)) in
     let named : Names c.move_search.new.self.store.table c.args.id (state_in Forward c.args.self.now c.args.input.now k) =
     subst (λ (t : Rows). Names t c.args.id (state_in Forward c.args.self.now c.args.input.now k)) (sym c.move_search.ensures.table) c.requires.at.at.named in
-    at_err c.from_residual-in_err-last-2.result _ (IsEndProgress c.args.self.now (next (tape_in Forward c.args.input.now) k) c.args.input.now.end c.args.cache.now.store c.read_end.new.cache.store) c.from_residual-in_err-last-2.ensures.1 (record {
+    at_err c.from_residual-in_err-last-2.result _ (IsEndProgress c.args.self.now c.args.id (next (tape_in Forward c.args.input.now) k) c.args.input.now.end c.args.cache.now.store c.read_end.new.cache.store) c.from_residual-in_err-last-2.ensures.1 (record {
+      cleared =
+          subst (λ u. ClearsForNext c.args.self.now c.args.id u c.args.cache.now.store c.read_end.new.cache.store) (sym past)
+          (clears_moved c.args.self.now c.args.id None c.args.cache.now.store c.move_search.new.self.store c.read_end.new.cache.store (ap (λ (v : CacheView). v.store) c.move_search.ensures.value) c.in_err-last-2.ensures.effect.cleared);
       ended = tt;
       left =
           (subst (λ at. IsLeftAt c.args.self.now (next (tape_in Forward c.args.input.now) k) at c.args.cache.now.store c.read_end.new.cache.store c.in_err-last-2.field-0.0) c.end-end.ensures.end

@@ -1,7 +1,8 @@
-use Rattle.std.proofs.Common.{ℕ, ◌≡◌, ◌-◌, length, Some, None, refl, subst, arith}
+use Rattle.std.proofs.Common.{ℕ, ◌≡◌, ◌-◌, length, Some, None, refl, sym, subst, arith}
 use Rattle.automata_base.specs.Paths.{next}
 use Rattle.automata_base.specs.Tapes.{Backward}
 use Rattle.automata_hybrid.specs.Passed.{IsRestEffect}
+use Rattle.automata_hybrid.specs.Reading.{ClearsForNext}
 use Rattle.automata_hybrid.specs.Searches.{unit_offset, tape_in}
 use Rattle.automata_hybrid.proofs.Passed.{last_answer, rest_read, rest_refused}
 use Rattle.automata_hybrid.proofs.Reading.{at_err}
@@ -76,3 +77,43 @@ returns-in_err-last-2-clause-effect c =
     let units : k ≡ length (tape_in Backward c.args.input.now).bytes = backward_units c.args.input.now c.requires.at.undone c.start-start.ensures.within.1 in
     at_err c.from_residual-in_err-last-2.result _ (IsRestEffect Backward c.args.self.now c.args.input.now k c.args.cache.now c.read_before.new.cache) c.from_residual-in_err-last-2.ensures.1
     (rest_refused Backward c.args.self.now c.args.input.now k c.args.id (Some _) c.args.found c.args.cache.now c.args.cache.now c.read_before.new.cache c.read_before.new.cache {s = c.args.cache.now.store.searched} {s' = c.read_before.new.cache.store.searched} refl refl c.requires.at read c.in_err-last-2.field-0.0 c.in_err-last-2.ensures.effect (omega arith) (omega (arith, units)))
+
+pub returns-then-start-eq0-clause-progress : goal.returns-then-start-eq0-clause-progress
+returns-then-start-eq0-clause-progress c =
+    let k : ℕ = c.args.input.now.end - c.args.input.now.start in
+    let past : next (tape_in Backward c.args.input.now) k ≡ None = backward_end c.args.input.now c.requires.at.undone c.start-start.ensures.within.1 (omega (arith, c.start-start.ensures.start, c.if-start-eq0.true)) in
+    record {
+      cleared = subst (λ u. ClearsForNext c.args.self.now c.args.id u c.args.cache.now.store c.read_end.new.cache.store) (sym past)
+          c.in_ok-last.ensures.effect.cleared;
+      kept = c.in_ok-last.ensures.progress;
+    }
+
+pub returns-clause-progress : goal.returns-clause-progress
+returns-clause-progress c =
+    let k : ℕ = c.args.input.now.end - c.args.input.now.start in
+    let read : next (tape_in Backward c.args.input.now) k ≡ Some _ = backward_read c.args.input.now c.haystack.result.now c.args.input.now.start (c.start-start.result - 1) (omega arith) c.requires.at.undone c.start-start.ensures.within.1 c.haystack.ensures.same (omega (arith, c.start-start.ensures.start, c.if-start-eq0.false)) in
+    record {
+      cleared = subst (λ u. ClearsForNext c.args.self.now c.args.id u c.args.cache.now.store c.read_before.new.cache.store) (sym read)
+          c.in_ok-last-2.ensures.effect.cleared;
+      kept = c.in_ok-last-2.ensures.progress;
+    }
+
+pub returns-in_err-last-clause-progress : goal.returns-in_err-last-clause-progress
+returns-in_err-last-clause-progress c =
+    let k : ℕ = c.args.input.now.end - c.args.input.now.start in
+    let past : next (tape_in Backward c.args.input.now) k ≡ None = backward_end c.args.input.now c.requires.at.undone c.start-start.ensures.within.1 (omega (arith, c.start-start.ensures.start, c.if-start-eq0.true)) in
+    record {
+      cleared = subst (λ u. ClearsForNext c.args.self.now c.args.id u c.args.cache.now.store c.read_end.new.cache.store) (sym past)
+          c.in_err-last.ensures.effect.cleared;
+      kept = c.in_err-last.ensures.progress;
+    }
+
+pub returns-in_err-last-2-clause-progress : goal.returns-in_err-last-2-clause-progress
+returns-in_err-last-2-clause-progress c =
+    let k : ℕ = c.args.input.now.end - c.args.input.now.start in
+    let read : next (tape_in Backward c.args.input.now) k ≡ Some _ = backward_read c.args.input.now c.haystack.result.now c.args.input.now.start (c.start-start.result - 1) (omega arith) c.requires.at.undone c.start-start.ensures.within.1 c.haystack.ensures.same (omega (arith, c.start-start.ensures.start, c.if-start-eq0.false)) in
+    record {
+      cleared = subst (λ u. ClearsForNext c.args.self.now c.args.id u c.args.cache.now.store c.read_before.new.cache.store) (sym read)
+          c.in_err-last-2.ensures.effect.cleared;
+      kept = c.in_err-last-2.ensures.progress;
+    }

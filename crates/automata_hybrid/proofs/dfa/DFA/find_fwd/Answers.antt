@@ -8,6 +8,7 @@ use Rattle.automata_hybrid.specs.Knowing.{KnowsPass}
 use Rattle.automata_hybrid.specs.Passing.{HasLearned, IsAt}
 use Rattle.automata_hybrid.specs.Searched.{IsOpenAt}
 use Rattle.automata_hybrid.specs.Searches.{Reads, given_up_offset, tape_in}
+use Rattle.automata_hybrid.proofs.Clearing.{clears_closed, clears_unit}
 use Rattle.automata_hybrid.proofs.Growing.{grown_moved, grown_same, grown_trans, nothing_first, nothing_second}
 use Rattle.automata_hybrid.proofs.Knowing.{knows_here, knows_still, learned_none, learned_step}
 use Rattle.std.proofs.lemmas.Result.{IfErr-weaker, IfOk-weaker}
@@ -160,10 +161,11 @@ loop-at-preserved c =
       within = omega (arith, inside);
       at = subst (λ n. IsAt Forward c.args.self.now c.read.new.cache.store.table c.args.input.now n c.in_ok-next.next c.found_at-found.result) more (more_at Forward c.args.self.now c.loop-at.cache.store.table c.read.new.cache.store.table c.args.input.now k c.run_fwd-run.result.id c.in_ok-next.next _ c.run_fwd-run.result.found c.found_at-found.result at read c.in_ok-next.ensures.answer.named (λ byte e. subst (λ v. is_quit c.args.self.now.quits v ≡ false) (some_inj e) c.in_ok-next.ensures.answer.clean) (c.run_fwd-run.result.at, place, c.found_at-found.ensures) first (λ l. (c.in_ok-next.ensures.dead _ l).1 (λ b. false_true (c.if-is_dead.ensures.1 b))));
       progress = λ s e.
-          (let underway : (x : ℕ) × IsOpenAt c.args.input.now s (given_up_offset Forward c.args.input.now 0) x c.args.cache.now.store c.loop-at.cache.store = c.loop-at.invariant.progress s e in (
+          (let underway : (x : ℕ) × IsOpenAt Forward c.args.self.now c.args.input.now s 0 x c.args.cache.now.store c.loop-at.cache.store = c.loop-at.invariant.progress s e in (
             c.run_fwd-run.result.at,
-            stays_open c.args.input.now s (given_up_offset Forward c.args.input.now 0) c.args.cache.now c.loop-at.cache c.read.new.cache c.loop-at.invariant.grown c.in_ok-next.ensures.effect.grown
-                underway.0 c.run_fwd-run.result.at from (omega (arith, inside)) underway.1 c.in_ok-next.ensures.progress.moved,
+            stays_open Forward c.args.self.now c.args.input.now s 0 c.args.cache.now c.loop-at.cache c.read.new.cache c.loop-at.invariant.grown c.in_ok-next.ensures.effect.grown
+                k c.run_fwd-run.result.at (sym place) (clears_unit Forward c.args.self.now c.args.input.now k c.run_fwd-run.result.id (Some _) c.loop-at.cache.store c.read.new.cache.store at.named read c.in_ok-next.ensures.effect.cleared)
+                underway.0 from (omega (arith, inside)) underway.1 c.in_ok-next.ensures.progress.moved,
           ));
     }
 
@@ -211,10 +213,10 @@ returns-in_err-next-clause-left c = λ s e.
     let at : IsAt Forward c.args.self.now c.loop-at.cache.store.table c.args.input.now k c.run_fwd-run.result.id c.run_fwd-run.result.found = c.run_fwd-run.ensures.at in
     let read : next (tape_in Forward c.args.input.now) k ≡ Some _ = forward_read c.args.input.now c.haystack.result.now c.run_fwd-run.result.at c.run_fwd-run.result.at from (omega (arith, inside)) c.end-in-loop-at.ensures.within.1 (omega (arith, inside, c.end-in-loop-at.ensures.within.1)) c.haystack.ensures.same refl in
     let few : k ≤ length (tape_in Forward c.args.input.now).bytes = (let u : c.args.input.now.end - c.args.input.now.start ≡ length (tape_in Forward c.args.input.now).bytes = forward_units c.args.input.now c.requires.at.undone c.end-in-loop-at.ensures.within.1 in omega (arith, u, inside)) in
-    let underway : (x : ℕ) × IsOpenAt c.args.input.now s (given_up_offset Forward c.args.input.now 0) x c.args.cache.now.store c.loop-at.cache.store = c.loop-at.invariant.progress s e in
+    let underway : (x : ℕ) × IsOpenAt Forward c.args.self.now c.args.input.now s 0 x c.args.cache.now.store c.loop-at.cache.store = c.loop-at.invariant.progress s e in
     if_err c.from_residual.result _ _ c.from_residual.ensures.1
     (left_here Forward c.args.self.now c.args.input.now s c.args.cache.now c.loop-at.cache c.read.new.cache c.loop-at.invariant.grown c.in_err-next.ensures.effect.grown
-    k c.run_fwd-run.result.id c.run_fwd-run.result.at underway.0 (Some _) c.run_fwd-run.result.found at few c.in_err-next.ensures.effect.alive read (sym place) from (omega (arith, inside)) underway.1
+    k c.run_fwd-run.result.id c.run_fwd-run.result.at underway.0 (Some _) c.run_fwd-run.result.found at few c.in_err-next.ensures.effect.alive read (sym place) from (omega (arith, inside)) underway.1 c.in_err-next.ensures.effect.cleared
     c.in_err-next.field-0.0
     (unit_refuses Forward c.args.self.now c.loop-at.cache.store.table c.read.new.cache.store c.args.input.now k c.run_fwd-run.result.id c.run_fwd-run.result.at c.run_fwd-run.result.at _ c.run_fwd-run.result.found c.in_err-next.field-0.0
     at read (sym place) (sym place) c.in_err-next.ensures.refusal)
@@ -229,11 +231,12 @@ returns-then-is_dead-clause-ended c = λ s e.
     let at : IsAt Forward c.args.self.now c.loop-at.cache.store.table c.args.input.now k c.run_fwd-run.result.id c.run_fwd-run.result.found = c.run_fwd-run.ensures.at in
     let read : next (tape_in Forward c.args.input.now) k ≡ Some _ = forward_read c.args.input.now c.haystack.result.now c.run_fwd-run.result.at c.run_fwd-run.result.at from (omega (arith, inside)) c.end-in-loop-at.ensures.within.1 (omega (arith, inside, c.end-in-loop-at.ensures.within.1)) c.haystack.ensures.same refl in
     let few : k ≤ length (tape_in Forward c.args.input.now).bytes = (let u : c.args.input.now.end - c.args.input.now.start ≡ length (tape_in Forward c.args.input.now).bytes = forward_units c.args.input.now c.requires.at.undone c.end-in-loop-at.ensures.within.1 in omega (arith, u, inside)) in
-    let underway : (x : ℕ) × IsOpenAt c.args.input.now s (given_up_offset Forward c.args.input.now 0) x c.args.cache.now.store c.loop-at.cache.store = c.loop-at.invariant.progress s e in
+    let underway : (x : ℕ) × IsOpenAt Forward c.args.self.now c.args.input.now s 0 x c.args.cache.now.store c.loop-at.cache.store = c.loop-at.invariant.progress s e in
     let stops : Reads Forward c.args.self.now c.args.input.now (suc k) → ⊥ = stops_dead Forward c.args.self.now c.loop-at.cache.store.table c.read.new.cache.store.table c.args.input.now k c.run_fwd-run.result.id c.in_ok-next.next _ c.run_fwd-run.result.found None at read c.in_ok-next.ensures.answer.named (λ byte e. subst (λ v. is_quit c.args.self.now.quits v ≡ false) (some_inj e) c.in_ok-next.ensures.answer.clean) (λ l. (c.in_ok-next.ensures.dead _ l).0 (c.if-is_dead.ensures.0 refl)) (suc k) (omega arith) in
     let grown : IsGrown c.loop-at.cache c.end_search.new.self = grown_trans c.loop-at.cache c.read.new.cache c.end_search.new.self c.in_ok-next.ensures.effect.grown (grown_moved c.read.new.cache c.end_search.new.self c.end_search.ensures.value) in
     last_here Forward c.args.self.now c.args.input.now s c.args.cache.now c.loop-at.cache c.end_search.new.self c.loop-at.invariant.grown grown
     k c.run_fwd-run.result.id c.run_fwd-run.result.at underway.0 (Some _) c.run_fwd-run.result.found at few c.in_ok-next.ensures.effect.alive read (sym place) from (omega (arith, inside)) underway.1
+    (clears_closed c.args.self.now c.run_fwd-run.result.id (Some _) c.loop-at.cache.store c.read.new.cache c.end_search.new.self c.end_search.ensures.value c.in_ok-next.ensures.effect.cleared)
     (ended_after c.loop-at.cache c.read.new.cache c.end_search.new.self c.run_fwd-run.result.at c.in_ok-next.ensures.progress.moved c.end_search.ensures.value) stops
 
 pub returns-then-is_some-clause-ended : goal.returns-then-is_some-clause-ended
@@ -245,11 +248,12 @@ returns-then-is_some-clause-ended c = λ s e.
     let at : IsAt Forward c.args.self.now c.loop-at.cache.store.table c.args.input.now k c.run_fwd-run.result.id c.run_fwd-run.result.found = c.run_fwd-run.ensures.at in
     let read : next (tape_in Forward c.args.input.now) k ≡ Some _ = forward_read c.args.input.now c.haystack.result.now c.run_fwd-run.result.at c.run_fwd-run.result.at from (omega (arith, inside)) c.end-in-loop-at.ensures.within.1 (omega (arith, inside, c.end-in-loop-at.ensures.within.1)) c.haystack.ensures.same refl in
     let few : k ≤ length (tape_in Forward c.args.input.now).bytes = (let u : c.args.input.now.end - c.args.input.now.start ≡ length (tape_in Forward c.args.input.now).bytes = forward_units c.args.input.now c.requires.at.undone c.end-in-loop-at.ensures.within.1 in omega (arith, u, inside)) in
-    let underway : (x : ℕ) × IsOpenAt c.args.input.now s (given_up_offset Forward c.args.input.now 0) x c.args.cache.now.store c.loop-at.cache.store = c.loop-at.invariant.progress s e in
+    let underway : (x : ℕ) × IsOpenAt Forward c.args.self.now c.args.input.now s 0 x c.args.cache.now.store c.loop-at.cache.store = c.loop-at.invariant.progress s e in
     let stops : Reads Forward c.args.self.now c.args.input.now (suc k) → ⊥ = stops_ends Forward c.args.self.now c.loop-at.cache.store.table c.read.new.cache.store.table c.args.input.now k c.run_fwd-run.result.id c.in_ok-next.next _ c.run_fwd-run.result.found c.found_at-found.result at read c.in_ok-next.ensures.answer.named (λ byte e. subst (λ v. is_quit c.args.self.now.quits v ≡ false) (some_inj e) c.in_ok-next.ensures.answer.clean) (c.run_fwd-run.result.at, place, c.found_at-found.ensures) (sym c.get_earliest.ensures ∙ c.if-get_earliest.true) (some_is c.found_at-found.result c.if-is_some.ensures) (suc k) (omega arith) in
     let grown : IsGrown c.loop-at.cache c.end_search-then-is_some.new.self = grown_trans c.loop-at.cache c.read.new.cache c.end_search-then-is_some.new.self c.in_ok-next.ensures.effect.grown (grown_moved c.read.new.cache c.end_search-then-is_some.new.self c.end_search-then-is_some.ensures.value) in
     last_here Forward c.args.self.now c.args.input.now s c.args.cache.now c.loop-at.cache c.end_search-then-is_some.new.self c.loop-at.invariant.grown grown
     k c.run_fwd-run.result.id c.run_fwd-run.result.at underway.0 (Some _) c.run_fwd-run.result.found at few c.in_ok-next.ensures.effect.alive read (sym place) from (omega (arith, inside)) underway.1
+    (clears_closed c.args.self.now c.run_fwd-run.result.id (Some _) c.loop-at.cache.store c.read.new.cache c.end_search-then-is_some.new.self c.end_search-then-is_some.ensures.value c.in_ok-next.ensures.effect.cleared)
     (ended_after c.loop-at.cache c.read.new.cache c.end_search-then-is_some.new.self c.run_fwd-run.result.at c.in_ok-next.ensures.progress.moved c.end_search-then-is_some.ensures.value) stops
 
 pub returns-then-run-end-clause-ended : goal.returns-then-run-end-clause-ended
@@ -258,10 +262,10 @@ returns-then-run-end-clause-ended c = λ s e.
     let k : ℕ = c.args.input.now.end - c.args.input.now.start in
     let at : IsAt Forward c.args.self.now c.loop-at.cache.store.table c.args.input.now k c.run_fwd-run.result.id c.run_fwd-run.result.found = subst (λ k. IsAt Forward c.args.self.now c.loop-at.cache.store.table c.args.input.now k c.run_fwd-run.result.id c.run_fwd-run.result.found) same c.run_fwd-run.ensures.at in
     let units : k ≡ length (tape_in Forward c.args.input.now).bytes = forward_units c.args.input.now c.requires.at.undone c.end-in-loop-at.ensures.within.1 in
-    let underway : (x : ℕ) × IsOpenAt c.args.input.now s (given_up_offset Forward c.args.input.now 0) x c.args.cache.now.store c.loop-at.cache.store = c.loop-at.invariant.progress s e in
+    let underway : (x : ℕ) × IsOpenAt Forward c.args.self.now c.args.input.now s 0 x c.args.cache.now.store c.loop-at.cache.store = c.loop-at.invariant.progress s e in
     IfOk-weaker c.find_end_fwd.result _ _
     (λ _ ended. last_here Forward c.args.self.now c.args.input.now s c.args.cache.now c.loop-at.cache c.find_end_fwd.new.cache c.loop-at.invariant.grown c.find_end_fwd.ensures.effect.grown
-    k c.run_fwd-run.result.id c.args.input.now.end underway.0 (next (tape_in Forward c.args.input.now) k) c.run_fwd-run.result.found at (omega (arith, units)) c.find_end_fwd.ensures.alive refl (omega (arith, c.requires.at.undone)) c.requires.at.undone (omega arith) underway.1 ended (λ r. stops_last Forward c.args.self.now c.args.input.now k units (suc k) (omega arith) r))
+    k c.run_fwd-run.result.id c.args.input.now.end underway.0 (next (tape_in Forward c.args.input.now) k) c.run_fwd-run.result.found at (omega (arith, units)) c.find_end_fwd.ensures.alive refl (omega (arith, c.requires.at.undone)) c.requires.at.undone (omega arith) underway.1 c.find_end_fwd.ensures.progress.cleared ended (λ r. stops_last Forward c.args.self.now c.args.input.now k units (suc k) (omega arith) r))
     c.find_end_fwd.ensures.progress.ended
 
 pub returns-then-run-end-clause-left : goal.returns-then-run-end-clause-left
@@ -270,10 +274,10 @@ returns-then-run-end-clause-left c = λ s e.
     let k : ℕ = c.args.input.now.end - c.args.input.now.start in
     let at : IsAt Forward c.args.self.now c.loop-at.cache.store.table c.args.input.now k c.run_fwd-run.result.id c.run_fwd-run.result.found = subst (λ k. IsAt Forward c.args.self.now c.loop-at.cache.store.table c.args.input.now k c.run_fwd-run.result.id c.run_fwd-run.result.found) same c.run_fwd-run.ensures.at in
     let units : k ≡ length (tape_in Forward c.args.input.now).bytes = forward_units c.args.input.now c.requires.at.undone c.end-in-loop-at.ensures.within.1 in
-    let underway : (x : ℕ) × IsOpenAt c.args.input.now s (given_up_offset Forward c.args.input.now 0) x c.args.cache.now.store c.loop-at.cache.store = c.loop-at.invariant.progress s e in
+    let underway : (x : ℕ) × IsOpenAt Forward c.args.self.now c.args.input.now s 0 x c.args.cache.now.store c.loop-at.cache.store = c.loop-at.invariant.progress s e in
     if_both c.find_end_fwd.result _ _ _
     (λ error refused left. left_here Forward c.args.self.now c.args.input.now s c.args.cache.now c.loop-at.cache c.find_end_fwd.new.cache c.loop-at.invariant.grown c.find_end_fwd.ensures.effect.grown
-    k c.run_fwd-run.result.id c.args.input.now.end underway.0 (next (tape_in Forward c.args.input.now) k) c.run_fwd-run.result.found at (omega (arith, units)) c.find_end_fwd.ensures.alive refl (omega (arith, c.requires.at.undone)) c.requires.at.undone (omega arith) underway.1 error refused (λ none. none) left)
+    k c.run_fwd-run.result.id c.args.input.now.end underway.0 (next (tape_in Forward c.args.input.now) k) c.run_fwd-run.result.found at (omega (arith, units)) c.find_end_fwd.ensures.alive refl (omega (arith, c.requires.at.undone)) c.requires.at.undone (omega arith) underway.1 c.find_end_fwd.ensures.progress.cleared error refused (λ none. none) left)
     c.find_end_fwd.ensures.refusal c.find_end_fwd.ensures.progress.left
 
 pub returns-clause-ended : goal.returns-clause-ended
@@ -282,10 +286,10 @@ returns-clause-ended c = λ s e.
     let k : ℕ = c.args.input.now.end - c.args.input.now.start in
     let at : IsAt Forward c.args.self.now c.loop-at.cache.store.table c.args.input.now k c.loop-at.id c.loop-at.found = subst (λ k. IsAt Forward c.args.self.now c.loop-at.cache.store.table c.args.input.now k c.loop-at.id c.loop-at.found) same c.loop-at.invariant.at in
     let units : k ≡ length (tape_in Forward c.args.input.now).bytes = forward_units c.args.input.now c.requires.at.undone c.end.ensures.within.1 in
-    let underway : (x : ℕ) × IsOpenAt c.args.input.now s (given_up_offset Forward c.args.input.now 0) x c.args.cache.now.store c.loop-at.cache.store = c.loop-at.invariant.progress s e in
+    let underway : (x : ℕ) × IsOpenAt Forward c.args.self.now c.args.input.now s 0 x c.args.cache.now.store c.loop-at.cache.store = c.loop-at.invariant.progress s e in
     IfOk-weaker c.find_end_fwd-2.result _ _
     (λ _ ended. last_here Forward c.args.self.now c.args.input.now s c.args.cache.now c.loop-at.cache c.find_end_fwd-2.new.cache c.loop-at.invariant.grown c.find_end_fwd-2.ensures.effect.grown
-    k c.loop-at.id c.args.input.now.end underway.0 (next (tape_in Forward c.args.input.now) k) c.loop-at.found at (omega (arith, units)) c.find_end_fwd-2.ensures.alive refl (omega (arith, c.requires.at.undone)) c.requires.at.undone (omega arith) underway.1 ended (λ r. stops_last Forward c.args.self.now c.args.input.now k units (suc k) (omega arith) r))
+    k c.loop-at.id c.args.input.now.end underway.0 (next (tape_in Forward c.args.input.now) k) c.loop-at.found at (omega (arith, units)) c.find_end_fwd-2.ensures.alive refl (omega (arith, c.requires.at.undone)) c.requires.at.undone (omega arith) underway.1 c.find_end_fwd-2.ensures.progress.cleared ended (λ r. stops_last Forward c.args.self.now c.args.input.now k units (suc k) (omega arith) r))
     c.find_end_fwd-2.ensures.progress.ended
 
 pub returns-clause-left : goal.returns-clause-left
@@ -294,10 +298,10 @@ returns-clause-left c = λ s e.
     let k : ℕ = c.args.input.now.end - c.args.input.now.start in
     let at : IsAt Forward c.args.self.now c.loop-at.cache.store.table c.args.input.now k c.loop-at.id c.loop-at.found = subst (λ k. IsAt Forward c.args.self.now c.loop-at.cache.store.table c.args.input.now k c.loop-at.id c.loop-at.found) same c.loop-at.invariant.at in
     let units : k ≡ length (tape_in Forward c.args.input.now).bytes = forward_units c.args.input.now c.requires.at.undone c.end.ensures.within.1 in
-    let underway : (x : ℕ) × IsOpenAt c.args.input.now s (given_up_offset Forward c.args.input.now 0) x c.args.cache.now.store c.loop-at.cache.store = c.loop-at.invariant.progress s e in
+    let underway : (x : ℕ) × IsOpenAt Forward c.args.self.now c.args.input.now s 0 x c.args.cache.now.store c.loop-at.cache.store = c.loop-at.invariant.progress s e in
     if_both c.find_end_fwd-2.result _ _ _
     (λ error refused left. left_here Forward c.args.self.now c.args.input.now s c.args.cache.now c.loop-at.cache c.find_end_fwd-2.new.cache c.loop-at.invariant.grown c.find_end_fwd-2.ensures.effect.grown
-    k c.loop-at.id c.args.input.now.end underway.0 (next (tape_in Forward c.args.input.now) k) c.loop-at.found at (omega (arith, units)) c.find_end_fwd-2.ensures.alive refl (omega (arith, c.requires.at.undone)) c.requires.at.undone (omega arith) underway.1 error refused (λ none. none) left)
+    k c.loop-at.id c.args.input.now.end underway.0 (next (tape_in Forward c.args.input.now) k) c.loop-at.found at (omega (arith, units)) c.find_end_fwd-2.ensures.alive refl (omega (arith, c.requires.at.undone)) c.requires.at.undone (omega arith) underway.1 c.find_end_fwd-2.ensures.progress.cleared error refused (λ none. none) left)
     c.find_end_fwd-2.ensures.refusal c.find_end_fwd-2.ensures.progress.left
 
 pub returns-then-run-end-clause-refusal : goal.returns-then-run-end-clause-refusal

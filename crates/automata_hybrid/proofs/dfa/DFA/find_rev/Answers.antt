@@ -7,6 +7,7 @@ use Rattle.automata_hybrid.specs.Passing.{HasLearned, IsAt}
 use Rattle.automata_hybrid.specs.Searched.{EndsAtLast, IsOpenAt}
 use Rattle.automata_hybrid.specs.Searches.{Reads, given_up_offset, tape_in}
 use Rattle.automata_hybrid.specs.Table.{Rows}
+use Rattle.automata_hybrid.proofs.Clearing.{clears_closed, clears_unit}
 use Rattle.automata_hybrid.proofs.Growing.{grown_moved, grown_same, grown_trans, nothing_first, nothing_second}
 use Rattle.automata_hybrid.proofs.Knowing.{knows_here, knows_still, learned_none, learned_step}
 use Rattle.automata_hybrid.proofs.Passed.{dead_answer, dead_stops, first_answer, first_stops, rest_read, rest_refused, rest_then}
@@ -162,10 +163,12 @@ loop-at-preserved c =
           at read c.in_ok-id.ensures.answer.named (quit_free c.args.self.now _ c.in_ok-id.ensures.answer.clean)
           (c.run_rev-run.result.at, span_place c.args.input.now c.run_rev-run.result.at above below, c.found_at-found.ensures) first (λ l. (c.in_ok-id.ensures.dead _ l).1 (λ b. false_true (c.if-is_dead.ensures.1 b))));
       progress = λ s e.
-          (let underway : (x : ℕ) × IsOpenAt c.args.input.now s (given_up_offset Backward c.args.input.now 0) x c.args.cache.now.store c.loop-at.cache.store = c.loop-at.invariant.progress s e in (
+          (let underway : (x : ℕ) × IsOpenAt Backward c.args.self.now c.args.input.now s 0 x c.args.cache.now.store c.loop-at.cache.store = c.loop-at.invariant.progress s e in (
             c.run_rev-run.result.at - 1,
-            stays_open c.args.input.now s (given_up_offset Backward c.args.input.now 0) c.args.cache.now c.loop-at.cache c.read.new.cache c.loop-at.invariant.grown c.in_ok-id.ensures.effect.grown
-                underway.0 (c.run_rev-run.result.at - 1) (omega (arith, above)) (omega (arith, below)) underway.1 c.in_ok-id.ensures.progress.moved,
+            stays_open Backward c.args.self.now c.args.input.now s 0 c.args.cache.now c.loop-at.cache c.read.new.cache c.loop-at.invariant.grown c.in_ok-id.ensures.effect.grown
+                k (c.run_rev-run.result.at - 1) (span_given_up_offset c.args.input.now c.run_rev-run.result.at above below)
+                (clears_unit Backward c.args.self.now c.args.input.now k c.run_rev-run.result.id (Some _) c.loop-at.cache.store c.read.new.cache.store at.named read c.in_ok-id.ensures.effect.cleared)
+                underway.0 (omega (arith, above)) (omega (arith, below)) underway.1 c.in_ok-id.ensures.progress.moved,
           ));
     }
 
@@ -211,11 +214,11 @@ returns-in_err-id-clause-left c = λ s e.
     let at : IsAt Backward c.args.self.now c.loop-at.cache.store.table c.args.input.now k c.run_rev-run.result.id c.run_rev-run.result.found = c.run_rev-run.ensures.at in
     let read : next (tape_in Backward c.args.input.now) k ≡ Some _ = span_read c.args.input.now c.run_rev-run.result.at above below c.haystack.result.now c.haystack.ensures.within.1 c.haystack.ensures.same in
     let few : k ≤ length (tape_in Backward c.args.input.now).bytes = span_few c.args.input.now c.run_rev-run.result.at above below c.haystack.ensures.within.1 in
-    let underway : (x : ℕ) × IsOpenAt c.args.input.now s (given_up_offset Backward c.args.input.now 0) x c.args.cache.now.store c.loop-at.cache.store = c.loop-at.invariant.progress s e in
+    let underway : (x : ℕ) × IsOpenAt Backward c.args.self.now c.args.input.now s 0 x c.args.cache.now.store c.loop-at.cache.store = c.loop-at.invariant.progress s e in
     if_err c.from_residual.result _ _ c.from_residual.ensures.1
     (left_here Backward c.args.self.now c.args.input.now s c.args.cache.now c.loop-at.cache c.read.new.cache c.loop-at.invariant.grown c.in_err-id.ensures.effect.grown
     k c.run_rev-run.result.id (c.run_rev-run.result.at - 1) underway.0 (Some _) c.run_rev-run.result.found at few c.in_err-id.ensures.effect.alive read
-    (span_given_up_offset c.args.input.now c.run_rev-run.result.at above below) (omega (arith, above)) (omega (arith, below)) underway.1
+    (span_given_up_offset c.args.input.now c.run_rev-run.result.at above below) (omega (arith, above)) (omega (arith, below)) underway.1 c.in_err-id.ensures.effect.cleared
     c.in_err-id.field-0.0
     (unit_refuses Backward c.args.self.now c.loop-at.cache.store.table c.read.new.cache.store c.args.input.now k c.run_rev-run.result.id (c.run_rev-run.result.at - 1) (c.run_rev-run.result.at - 1) _ c.run_rev-run.result.found c.in_err-id.field-0.0
     at read (span_unit_offset c.args.input.now c.run_rev-run.result.at above below) (span_given_up_offset c.args.input.now c.run_rev-run.result.at above below) c.in_err-id.ensures.refusal)
@@ -230,12 +233,13 @@ returns-then-is_dead-clause-ended c = λ s e.
     let at : IsAt Backward c.args.self.now c.loop-at.cache.store.table c.args.input.now k c.run_rev-run.result.id c.run_rev-run.result.found = c.run_rev-run.ensures.at in
     let read : next (tape_in Backward c.args.input.now) k ≡ Some _ = span_read c.args.input.now c.run_rev-run.result.at above below c.haystack.result.now c.haystack.ensures.within.1 c.haystack.ensures.same in
     let few : k ≤ length (tape_in Backward c.args.input.now).bytes = span_few c.args.input.now c.run_rev-run.result.at above below c.haystack.ensures.within.1 in
-    let underway : (x : ℕ) × IsOpenAt c.args.input.now s (given_up_offset Backward c.args.input.now 0) x c.args.cache.now.store c.loop-at.cache.store = c.loop-at.invariant.progress s e in
+    let underway : (x : ℕ) × IsOpenAt Backward c.args.self.now c.args.input.now s 0 x c.args.cache.now.store c.loop-at.cache.store = c.loop-at.invariant.progress s e in
     let stops : Reads Backward c.args.self.now c.args.input.now (suc k) → ⊥ = stops_dead Backward c.args.self.now c.loop-at.cache.store.table c.read.new.cache.store.table c.args.input.now k c.run_rev-run.result.id c.in_ok-id.id _ c.run_rev-run.result.found None at read c.in_ok-id.ensures.answer.named (quit_free c.args.self.now _ c.in_ok-id.ensures.answer.clean) (λ l. (c.in_ok-id.ensures.dead _ l).0 (c.if-is_dead.ensures.0 refl)) (suc k) (omega arith) in
     let grown : IsGrown c.loop-at.cache c.end_search-then-is_dead.new.self = grown_trans c.loop-at.cache c.read.new.cache c.end_search-then-is_dead.new.self c.in_ok-id.ensures.effect.grown (grown_moved c.read.new.cache c.end_search-then-is_dead.new.self c.end_search-then-is_dead.ensures.value) in
     last_here Backward c.args.self.now c.args.input.now s c.args.cache.now c.loop-at.cache c.end_search-then-is_dead.new.self c.loop-at.invariant.grown grown
     k c.run_rev-run.result.id (c.run_rev-run.result.at - 1) underway.0 (Some _) c.run_rev-run.result.found at few c.in_ok-id.ensures.effect.alive read
     (span_given_up_offset c.args.input.now c.run_rev-run.result.at above below) (omega (arith, above)) (omega (arith, below)) underway.1
+    (clears_closed c.args.self.now c.run_rev-run.result.id (Some _) c.loop-at.cache.store c.read.new.cache c.end_search-then-is_dead.new.self c.end_search-then-is_dead.ensures.value c.in_ok-id.ensures.effect.cleared)
     (ended_after c.loop-at.cache c.read.new.cache c.end_search-then-is_dead.new.self (c.run_rev-run.result.at - 1) c.in_ok-id.ensures.progress.moved c.end_search-then-is_dead.ensures.value) stops
 
 pub returns-then-is_some-clause-ended : goal.returns-then-is_some-clause-ended
@@ -246,12 +250,13 @@ returns-then-is_some-clause-ended c = λ s e.
     let at : IsAt Backward c.args.self.now c.loop-at.cache.store.table c.args.input.now k c.run_rev-run.result.id c.run_rev-run.result.found = c.run_rev-run.ensures.at in
     let read : next (tape_in Backward c.args.input.now) k ≡ Some _ = span_read c.args.input.now c.run_rev-run.result.at above below c.haystack.result.now c.haystack.ensures.within.1 c.haystack.ensures.same in
     let few : k ≤ length (tape_in Backward c.args.input.now).bytes = span_few c.args.input.now c.run_rev-run.result.at above below c.haystack.ensures.within.1 in
-    let underway : (x : ℕ) × IsOpenAt c.args.input.now s (given_up_offset Backward c.args.input.now 0) x c.args.cache.now.store c.loop-at.cache.store = c.loop-at.invariant.progress s e in
+    let underway : (x : ℕ) × IsOpenAt Backward c.args.self.now c.args.input.now s 0 x c.args.cache.now.store c.loop-at.cache.store = c.loop-at.invariant.progress s e in
     let stops : Reads Backward c.args.self.now c.args.input.now (suc k) → ⊥ = stops_ends Backward c.args.self.now c.loop-at.cache.store.table c.read.new.cache.store.table c.args.input.now k c.run_rev-run.result.id c.in_ok-id.id _ c.run_rev-run.result.found c.found_at-found.result at read c.in_ok-id.ensures.answer.named (quit_free c.args.self.now _ c.in_ok-id.ensures.answer.clean) (c.run_rev-run.result.at, span_place c.args.input.now c.run_rev-run.result.at above below, c.found_at-found.ensures) (sym c.get_earliest.ensures ∙ c.if-get_earliest.true) (some_is c.found_at-found.result c.if-is_some.ensures) (suc k) (omega arith) in
     let grown : IsGrown c.loop-at.cache c.end_search-then-is_some.new.self = grown_trans c.loop-at.cache c.read.new.cache c.end_search-then-is_some.new.self c.in_ok-id.ensures.effect.grown (grown_moved c.read.new.cache c.end_search-then-is_some.new.self c.end_search-then-is_some.ensures.value) in
     last_here Backward c.args.self.now c.args.input.now s c.args.cache.now c.loop-at.cache c.end_search-then-is_some.new.self c.loop-at.invariant.grown grown
     k c.run_rev-run.result.id (c.run_rev-run.result.at - 1) underway.0 (Some _) c.run_rev-run.result.found at few c.in_ok-id.ensures.effect.alive read
     (span_given_up_offset c.args.input.now c.run_rev-run.result.at above below) (omega (arith, above)) (omega (arith, below)) underway.1
+    (clears_closed c.args.self.now c.run_rev-run.result.id (Some _) c.loop-at.cache.store c.read.new.cache c.end_search-then-is_some.new.self c.end_search-then-is_some.ensures.value c.in_ok-id.ensures.effect.cleared)
     (ended_after c.loop-at.cache c.read.new.cache c.end_search-then-is_some.new.self (c.run_rev-run.result.at - 1) c.in_ok-id.ensures.progress.moved c.end_search-then-is_some.ensures.value) stops
 
 pub returns-then-run-start-clause-ended : goal.returns-then-run-start-clause-ended
@@ -262,7 +267,7 @@ returns-then-run-start-clause-ended c = λ s e.
     subst (λ (t : Rows). IsAt Backward c.args.self.now t c.args.input.now k c.run_rev-run.result.id c.run_rev-run.result.found) (sym c.end_search.ensures.table)
     (subst (λ k. IsAt Backward c.args.self.now c.loop-at.cache.store.table c.args.input.now k c.run_rev-run.result.id c.run_rev-run.result.found) same c.run_rev-run.ensures.at) in
     let units : k ≡ length (tape_in Backward c.args.input.now).bytes = backward_units c.args.input.now c.requires.at.undone c.start-then-run-start.ensures.within.1 in
-    let underway : (x : ℕ) × IsOpenAt c.args.input.now s (given_up_offset Backward c.args.input.now 0) x c.args.cache.now.store c.loop-at.cache.store = c.loop-at.invariant.progress s e in
+    let underway : (x : ℕ) × IsOpenAt Backward c.args.self.now c.args.input.now s 0 x c.args.cache.now.store c.loop-at.cache.store = c.loop-at.invariant.progress s e in
     let ended : EndsAtLast Backward c.args.self.now c.args.input.now s c.args.cache.now.store c.find_end_rev.new.cache.store =
     last_kept Backward c.args.self.now c.args.input.now s c.args.cache.now c.loop-at.cache c.end_search.new.self c.find_end_rev.new.cache k c.run_rev-run.result.id c.start-then-run-start.result underway.0 c.run_rev-run.result.found
     c.loop-at.invariant.grown c.end_search.ensures.value c.find_end_rev.ensures.effect.grown (omega (arith, c.start-then-run-start.ensures.start)) (omega (arith, c.start-then-run-start.ensures.start, c.requires.at.undone)) underway.1
@@ -278,7 +283,7 @@ returns-then-run-start-clause-left c = λ s e.
     subst (λ (t : Rows). IsAt Backward c.args.self.now t c.args.input.now k c.run_rev-run.result.id c.run_rev-run.result.found) (sym c.end_search.ensures.table)
     (subst (λ k. IsAt Backward c.args.self.now c.loop-at.cache.store.table c.args.input.now k c.run_rev-run.result.id c.run_rev-run.result.found) same c.run_rev-run.ensures.at) in
     let units : k ≡ length (tape_in Backward c.args.input.now).bytes = backward_units c.args.input.now c.requires.at.undone c.start-then-run-start.ensures.within.1 in
-    let underway : (x : ℕ) × IsOpenAt c.args.input.now s (given_up_offset Backward c.args.input.now 0) x c.args.cache.now.store c.loop-at.cache.store = c.loop-at.invariant.progress s e in
+    let underway : (x : ℕ) × IsOpenAt Backward c.args.self.now c.args.input.now s 0 x c.args.cache.now.store c.loop-at.cache.store = c.loop-at.invariant.progress s e in
     IfErr-weaker c.find_end_rev.result _ _
     (λ error refused. stopped_kept Backward c.args.self.now c.args.input.now s c.args.cache.now c.loop-at.cache c.end_search.new.self c.find_end_rev.new.cache k c.run_rev-run.result.id c.start-then-run-start.result underway.0 c.run_rev-run.result.found
     c.loop-at.invariant.grown c.end_search.ensures.value c.find_end_rev.ensures.effect.grown (omega (arith, c.start-then-run-start.ensures.start)) (omega (arith, c.start-then-run-start.ensures.start, c.requires.at.undone)) underway.1
@@ -294,7 +299,7 @@ returns-clause-ended c = λ s e.
     subst (λ (t : Rows). IsAt Backward c.args.self.now t c.args.input.now k c.loop-at.id c.loop-at.found) (sym c.end_search-2.ensures.table)
     (subst (λ k. IsAt Backward c.args.self.now c.loop-at.cache.store.table c.args.input.now k c.loop-at.id c.loop-at.found) same c.loop-at.invariant.at) in
     let units : k ≡ length (tape_in Backward c.args.input.now).bytes = backward_units c.args.input.now c.requires.at.undone c.start-2.ensures.within.1 in
-    let underway : (x : ℕ) × IsOpenAt c.args.input.now s (given_up_offset Backward c.args.input.now 0) x c.args.cache.now.store c.loop-at.cache.store = c.loop-at.invariant.progress s e in
+    let underway : (x : ℕ) × IsOpenAt Backward c.args.self.now c.args.input.now s 0 x c.args.cache.now.store c.loop-at.cache.store = c.loop-at.invariant.progress s e in
     let ended : EndsAtLast Backward c.args.self.now c.args.input.now s c.args.cache.now.store c.find_end_rev-2.new.cache.store =
     last_kept Backward c.args.self.now c.args.input.now s c.args.cache.now c.loop-at.cache c.end_search-2.new.self c.find_end_rev-2.new.cache k c.loop-at.id c.start-2.result underway.0 c.loop-at.found
     c.loop-at.invariant.grown c.end_search-2.ensures.value c.find_end_rev-2.ensures.effect.grown (omega (arith, c.start-2.ensures.start)) (omega (arith, c.start-2.ensures.start, c.requires.at.undone)) underway.1
@@ -310,7 +315,7 @@ returns-clause-left c = λ s e.
     subst (λ (t : Rows). IsAt Backward c.args.self.now t c.args.input.now k c.loop-at.id c.loop-at.found) (sym c.end_search-2.ensures.table)
     (subst (λ k. IsAt Backward c.args.self.now c.loop-at.cache.store.table c.args.input.now k c.loop-at.id c.loop-at.found) same c.loop-at.invariant.at) in
     let units : k ≡ length (tape_in Backward c.args.input.now).bytes = backward_units c.args.input.now c.requires.at.undone c.start-2.ensures.within.1 in
-    let underway : (x : ℕ) × IsOpenAt c.args.input.now s (given_up_offset Backward c.args.input.now 0) x c.args.cache.now.store c.loop-at.cache.store = c.loop-at.invariant.progress s e in
+    let underway : (x : ℕ) × IsOpenAt Backward c.args.self.now c.args.input.now s 0 x c.args.cache.now.store c.loop-at.cache.store = c.loop-at.invariant.progress s e in
     IfErr-weaker c.find_end_rev-2.result _ _
     (λ error refused. stopped_kept Backward c.args.self.now c.args.input.now s c.args.cache.now c.loop-at.cache c.end_search-2.new.self c.find_end_rev-2.new.cache k c.loop-at.id c.start-2.result underway.0 c.loop-at.found
     c.loop-at.invariant.grown c.end_search-2.ensures.value c.find_end_rev-2.ensures.effect.grown (omega (arith, c.start-2.ensures.start)) (omega (arith, c.start-2.ensures.start, c.requires.at.undone)) underway.1

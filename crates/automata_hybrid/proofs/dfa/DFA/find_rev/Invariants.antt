@@ -20,7 +20,7 @@ invariant-loop-at l = record {
   idle : KnowsPass Backward l.self l.fn.cache.store l.input → l.cache.count ≡ l.fn.cache.count;
   learned : KnowsItsStart Backward l.self l.fn.cache.store l.input → ClearedNothing l.fn.cache.store l.cache.store → KnowsItsStart Backward l.self l.cache.store l.input × HasLearned Backward l.self l.cache.store l.input (l.input.end - l.at);
   at : IsAt Backward l.self l.cache.store.table l.input (l.input.end - l.at) l.id l.found;
-  progress : (before : Searched) → l.fn.cache.store.searched ≡ started before (given_up_offset Backward l.input 0) → (x : ℕ) × IsOpenAt l.input before (given_up_offset Backward l.input 0) x l.fn.cache.store l.cache.store;
+  progress : (before : Searched) → l.fn.cache.store.searched ≡ started before (given_up_offset Backward l.input 0) → (x : ℕ) × IsOpenAt Backward l.self l.input before 0 x l.fn.cache.store l.cache.store;
 }
 
 abbrev pub decreases-loop-at : goal.decreases-loop-at

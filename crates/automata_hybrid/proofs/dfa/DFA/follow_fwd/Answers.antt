@@ -2,6 +2,7 @@ use Rattle.std.proofs.Common.{◌-◌, arith}
 use Rattle.std.proofs.lemmas.Grind.{common_steps}
 use Rattle.automata_base.specs.Tapes.{Forward}
 use Rattle.automata_hybrid.proofs.Following.{followed_none, followed_on}
+use Rattle.automata_hybrid.proofs.SelfLoops.{followed_loop}
 use Rattle.automata_hybrid.proofs.dfa.DFA.follow_fwd.Goals as goal
 
 pub fours-preserved-then-not-same : goal.fours-preserved-then-not-same
@@ -40,7 +41,7 @@ fours-preserved c =
       untagged = c.follow_four_fwd-four.ensures.untagged.untagged;
       from = omega (arith, c.fours.invariant.from, c.follow_four_fwd-four.ensures.at.from, c.follow_loop_fwd-stop.ensures.from);
       within = omega (arith, c.end-end.ensures.end, c.follow_loop_fwd-stop.ensures.within);
-      followed = λ n. followed_on (followed_on (c.fours.invariant.followed n) c.follow_four_fwd-four.ensures.followed) c.follow_loop_fwd-stop.ensures.followed;
+      followed = λ n. followed_on (followed_on (c.fours.invariant.followed n) c.follow_four_fwd-four.ensures.followed) (followed_loop c.follow_four_fwd-four.ensures.untagged.untagged c.follow_loop_fwd-stop.ensures.loops);
     }
 
 pub fours-preserved-then-stop-at : goal.fours-preserved-then-stop-at
@@ -50,5 +51,5 @@ fours-preserved-then-stop-at c =
       untagged = c.follow_four_fwd-four.ensures.untagged.untagged;
       from = omega (arith, c.fours.invariant.from, c.follow_four_fwd-four.ensures.at.from, c.follow_loop_fwd-stop.ensures.from);
       within = omega (arith, c.end-end.ensures.end, c.follow_loop_fwd-stop.ensures.within);
-      followed = λ n. followed_on (followed_on (c.fours.invariant.followed n) c.follow_four_fwd-four.ensures.followed) c.follow_loop_fwd-stop.ensures.followed;
+      followed = λ n. followed_on (followed_on (c.fours.invariant.followed n) c.follow_four_fwd-four.ensures.followed) (followed_loop c.follow_four_fwd-four.ensures.untagged.untagged c.follow_loop_fwd-stop.ensures.loops);
     }

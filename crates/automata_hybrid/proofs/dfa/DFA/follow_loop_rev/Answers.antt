@@ -1,20 +1,12 @@
-use Rattle.std.proofs.Common.{◌-◌, refl, arith}
+use Rattle.std.proofs.Common.{◌-◌, ℕ, take, drop, subst}
 use Rattle.automata_base.specs.Tapes.{Backward}
-use Rattle.automata_hybrid.proofs.Following.{followed_none, followed_on}
+use Rattle.automata_hybrid.specs.SelfLoops.{IsLoopRun}
+use Rattle.automata_hybrid.proofs.SelfLoops.{backward_loop}
 use Rattle.automata_hybrid.proofs.dfa.DFA.follow_loop_rev.Goals as goal
 
-pub eights-preserved : goal.eights-preserved
-eights-preserved c =
-    record {
-      from = omega (arith, c.eights-test.true);
-      within = omega (arith, c.eights.invariant.within);
-      followed = λ n. followed_on (c.eights.invariant.followed n) (c.if-not-stays_rev.ensures.followed refl);
-    }
-
-pub eights-init : goal.eights-init
-eights-init c =
-    record {
-      from = omega (arith, c.requires.from, c.start-first.ensures.start);
-      within = omega arith;
-      followed = λ n. followed_none Backward c.args.self.now c.args.cache.now.store c.args.input.now (c.args.input.now.end - c.args.start) c.args.id n;
-    }
+pub returns-clause-loops : goal.returns-clause-loops
+returns-clause-loops c =
+    backward_loop c.args.self.now c.args.cache.now.store c.args.input.now c.args.id c.args.start c.follow_self_loop.result c.haystack-haystack.result.now
+    c.haystack-haystack.ensures.same c.haystack-haystack.ensures.within.1 c.requires.from c.requires.within
+    (subst (λ (first : ℕ). IsLoopRun c.args.self.now c.args.cache.now.store c.args.id Backward (take (c.args.start - first) (drop first c.haystack-haystack.result.now)) 0 c.follow_self_loop.result)
+    c.start.ensures.start c.follow_self_loop.ensures)

@@ -2,6 +2,7 @@ use Rattle.std.proofs.Common.{◌<◌, ◌^◌, ◌-◌, refl, arith}
 use Rattle.std.proofs.lemmas.Grind.{common_steps}
 use Rattle.automata_base.specs.Tapes.{Backward}
 use Rattle.automata_hybrid.proofs.Leading.{led_none, led_on}
+use Rattle.automata_hybrid.proofs.SelfLoops.{led_loop}
 use Rattle.automata_hybrid.proofs.dfa.DFA.lead_many_rev.Goals as goal
 
 pub many-init : goal.many-init
@@ -30,9 +31,9 @@ many-preserved-then-stop-at c =
     let low : c.lead_byte_rev-next.result < 2 ^ 29 = grind (arith, common_steps, c.if-is_fixed.ensures) in
     record {
       valid = c.lead_byte_rev-next.ensures.valid low;
-      from = omega (arith, c.start-first.ensures.start, c.lead_loop_rev-stop.ensures.from);
-      within = omega (arith, c.many.invariant.within, c.lead_loop_rev-stop.ensures.within);
-      led = λ n. led_on (led_on (c.many.invariant.led n) (c.lead_byte_rev-next.ensures.led low)) c.lead_loop_rev-stop.ensures.led;
+      from = omega (arith, c.start-first.ensures.start, c.follow_loop_rev-stop.ensures.from);
+      within = omega (arith, c.many.invariant.within, c.follow_loop_rev-stop.ensures.within);
+      led = λ n. led_on (led_on (c.many.invariant.led n) (c.lead_byte_rev-next.ensures.led low)) (led_loop low c.follow_loop_rev-stop.ensures.loops);
       tells = λ l. c.if-not-is_match.ensures.0 refl;
     }
 
@@ -41,9 +42,9 @@ many-preserved c =
     let low : c.lead_byte_rev-next.result < 2 ^ 29 = grind (arith, common_steps, c.if-is_fixed.ensures) in
     record {
       valid = c.lead_byte_rev-next.ensures.valid low;
-      from = omega (arith, c.start-first.ensures.start, c.lead_loop_rev-stop.ensures.from);
-      within = omega (arith, c.many.invariant.within, c.lead_loop_rev-stop.ensures.within);
-      led = λ n. led_on (led_on (c.many.invariant.led n) (c.lead_byte_rev-next.ensures.led low)) c.lead_loop_rev-stop.ensures.led;
+      from = omega (arith, c.start-first.ensures.start, c.follow_loop_rev-stop.ensures.from);
+      within = omega (arith, c.many.invariant.within, c.follow_loop_rev-stop.ensures.within);
+      led = λ n. led_on (led_on (c.many.invariant.led n) (c.lead_byte_rev-next.ensures.led low)) (led_loop low c.follow_loop_rev-stop.ensures.loops);
       tells = λ l. c.if-not-is_match.ensures.0 refl;
     }
 

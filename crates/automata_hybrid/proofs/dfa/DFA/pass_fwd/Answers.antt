@@ -6,6 +6,7 @@ use Rattle.automata_hybrid.specs.Stores.{with_searched}
 use Rattle.automata_hybrid.specs.Caches.{CacheView, with_store}
 use Rattle.automata_hybrid.specs.Machine.{Machine, slot_count}
 use Rattle.automata_hybrid.specs.Progressing.{finished, started}
+use Rattle.automata_hybrid.proofs.Clearing.{begin_clears}
 use Rattle.automata_hybrid.proofs.Growing.{grown_moved}
 use Rattle.automata_hybrid.specs.Searches.{given_up_offset, state_in}
 use Rattle.automata_hybrid.specs.Starting.{quit_behind}
@@ -57,7 +58,8 @@ returns-then-is_dead-clause-effect c =
     (rest_dead Forward c.args.self.now c.args.input.now c.search_start.new.self c.end_search.new.self _ c.end_search.ensures.value dies)
     (inr (
       λ none. none,
-      pass_dies Forward c.args.self.now c.args.input.now low high c.args.cache.now c.start_state_forward.new.cache c.search_start.new.self c.end_search.new.self c.in_ok-start.ensures.effect.grown c.in_ok-start.ensures.effect.progress begins
+      pass_dies Forward c.args.self.now c.args.input.now low high c.args.cache.now c.start_state_forward.new.cache c.search_start.new.self c.end_search.new.self c.in_ok-start.ensures.effect.grown c.in_ok-start.ensures.effect.progress
+          (begin_clears Forward c.args.self.now c.args.input.now c.args.cache.now c.start_state_forward.new.cache c.in_ok-start.start c.in_ok-start.ensures.effect c.in_ok-start.ensures.answer) begins
           (grown_moved c.search_start.new.self c.end_search.new.self c.end_search.ensures.value) (stops_start Forward c.args.self.now c.args.input.now dies) (ap (λ (v : CacheView). v.store.clears) c.end_search.ensures.value)
           (subst (λ at. c.end_search.new.self.store.searched ≡ finished c.search_start.new.self.store.searched at) last (ap (λ (v : CacheView). v.store.searched) c.end_search.ensures.value)),
     ))
@@ -75,7 +77,8 @@ returns-clause-effect c =
     c.in_ok-found.ensures.effect
     (inr (
       λ none. none,
-      pass_ends Forward c.args.self.now c.args.input.now low high c.args.cache.now c.start_state_forward.new.cache c.search_start.new.self c.find_fwd.new.cache c.in_ok-start.ensures.effect.grown c.in_ok-start.ensures.effect.progress begins c.in_ok-found.ensures.effect.grown
+      pass_ends Forward c.args.self.now c.args.input.now low high c.args.cache.now c.start_state_forward.new.cache c.search_start.new.self c.find_fwd.new.cache c.in_ok-start.ensures.effect.grown c.in_ok-start.ensures.effect.progress
+          (begin_clears Forward c.args.self.now c.args.input.now c.args.cache.now c.start_state_forward.new.cache c.in_ok-start.start c.in_ok-start.ensures.effect c.in_ok-start.ensures.answer) begins c.in_ok-found.ensures.effect.grown
           (c.in_ok-found.ensures.ended c.start_state_forward.new.cache.store.searched (ap (λ (v : CacheView). v.store.searched) begins)),
     ))
     tt
@@ -94,6 +97,7 @@ returns-in_err-found-clause-effect c =
     tt
     (inr (inr (
       λ none. none,
-      pass_stops Forward c.args.self.now c.args.input.now low high c.args.cache.now c.start_state_forward.new.cache c.search_start.new.self c.find_fwd.new.cache c.in_ok-start.ensures.effect.grown c.in_ok-start.ensures.effect.progress begins c.in_err-found.ensures.effect.grown c.in_err-found.field-0.0
+      pass_stops Forward c.args.self.now c.args.input.now low high c.args.cache.now c.start_state_forward.new.cache c.search_start.new.self c.find_fwd.new.cache c.in_ok-start.ensures.effect.grown c.in_ok-start.ensures.effect.progress
+          (begin_clears Forward c.args.self.now c.args.input.now c.args.cache.now c.start_state_forward.new.cache c.in_ok-start.start c.in_ok-start.ensures.effect c.in_ok-start.ensures.answer) begins c.in_err-found.ensures.effect.grown c.in_err-found.field-0.0
           (c.in_err-found.ensures.left c.start_state_forward.new.cache.store.searched (ap (λ (v : CacheView). v.store.searched) begins)),
     ))))

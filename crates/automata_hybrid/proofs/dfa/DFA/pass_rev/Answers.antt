@@ -8,6 +8,7 @@ use Rattle.automata_hybrid.specs.Caches.{CacheView, with_store}
 use Rattle.automata_hybrid.specs.Machine.{Machine, slot_count}
 use Rattle.automata_hybrid.specs.Progressing.{finished, started}
 use Rattle.automata_hybrid.specs.Searched.{KeepsNone}
+use Rattle.automata_hybrid.proofs.Clearing.{begin_clears}
 use Rattle.automata_hybrid.proofs.Growing.{grown_moved}
 use Rattle.automata_hybrid.specs.Passing.{IsAt}
 use Rattle.automata_hybrid.specs.Searches.{given_up_offset, state_in}
@@ -86,7 +87,8 @@ returns-then-is_dead-2-clause-effect c =
     (rest_dead Backward c.args.self.now c.args.input.now c.search_start.new.self c.end_search.new.self _ c.end_search.ensures.value dies)
     (inr (
       apart,
-      pass_dies Backward c.args.self.now c.args.input.now low high c.args.cache.now c.start_state_reverse.new.cache c.search_start.new.self c.end_search.new.self c.in_ok-start.ensures.effect.grown c.in_ok-start.ensures.effect.progress begins
+      pass_dies Backward c.args.self.now c.args.input.now low high c.args.cache.now c.start_state_reverse.new.cache c.search_start.new.self c.end_search.new.self c.in_ok-start.ensures.effect.grown c.in_ok-start.ensures.effect.progress
+          (begin_clears Backward c.args.self.now c.args.input.now c.args.cache.now c.start_state_reverse.new.cache c.in_ok-start.start c.in_ok-start.ensures.effect c.in_ok-start.ensures.answer) begins
           (grown_moved c.search_start.new.self c.end_search.new.self c.end_search.ensures.value) (stops_start Backward c.args.self.now c.args.input.now dies) (ap (λ (v : CacheView). v.store.clears) c.end_search.ensures.value)
           (subst (λ at. c.end_search.new.self.store.searched ≡ finished c.search_start.new.self.store.searched at) last (ap (λ (v : CacheView). v.store.searched) c.end_search.ensures.value)),
     ))
@@ -107,13 +109,13 @@ returns-then-start-end-clause-effect c =
     (on_ok c.find_end_rev.result
     (inl (
       omega (arith, c.if-start-end.true, c.start.ensures.start, c.end.ensures.end),
-      kept_twice c.args.cache.now c.start_state_reverse.new.cache c.find_end_rev.new.cache c.in_ok-start.ensures.effect.grown c.find_end_rev.ensures.effect.grown c.in_ok-start.ensures.effect.progress c.find_end_rev.ensures.progress,
+      kept_twice c.args.cache.now c.start_state_reverse.new.cache c.find_end_rev.new.cache c.in_ok-start.ensures.effect.grown c.find_end_rev.ensures.effect.grown c.in_ok-start.ensures.effect.progress c.find_end_rev.ensures.progress.kept,
     )))
     (IfErr-weaker c.find_end_rev.result _ _
     (λ error refused. inr (inl (
       omega (arith, c.if-start-end.true, c.start.ensures.start, c.end.ensures.end),
       place_refuses Backward c.args.self.now c.start_state_reverse.new.cache.store.table c.find_end_rev.new.cache.store c.args.input.now k c.in_ok-start.start None error at (omega (arith, none)) c.find_end_rev.ensures.alive c.in_ok-start.ensures.answer.may.0 refused,
-      kept_twice c.args.cache.now c.start_state_reverse.new.cache c.find_end_rev.new.cache c.in_ok-start.ensures.effect.grown c.find_end_rev.ensures.effect.grown c.in_ok-start.ensures.effect.progress c.find_end_rev.ensures.progress,
+      kept_twice c.args.cache.now c.start_state_reverse.new.cache c.find_end_rev.new.cache c.in_ok-start.ensures.effect.grown c.find_end_rev.ensures.effect.grown c.in_ok-start.ensures.effect.progress c.find_end_rev.ensures.progress.kept,
     )))
     c.find_end_rev.ensures.refusal)
 
@@ -130,7 +132,8 @@ returns-clause-effect c =
     c.in_ok-found.ensures.effect
     (inr (
       apart,
-      pass_ends Backward c.args.self.now c.args.input.now low high c.args.cache.now c.start_state_reverse.new.cache c.search_start.new.self c.find_rev.new.cache c.in_ok-start.ensures.effect.grown c.in_ok-start.ensures.effect.progress begins c.in_ok-found.ensures.effect.grown
+      pass_ends Backward c.args.self.now c.args.input.now low high c.args.cache.now c.start_state_reverse.new.cache c.search_start.new.self c.find_rev.new.cache c.in_ok-start.ensures.effect.grown c.in_ok-start.ensures.effect.progress
+          (begin_clears Backward c.args.self.now c.args.input.now c.args.cache.now c.start_state_reverse.new.cache c.in_ok-start.start c.in_ok-start.ensures.effect c.in_ok-start.ensures.answer) begins c.in_ok-found.ensures.effect.grown
           (c.in_ok-found.ensures.ended c.start_state_reverse.new.cache.store.searched (ap (λ (v : CacheView). v.store.searched) begins)),
     ))
     tt
@@ -150,7 +153,8 @@ returns-in_err-found-clause-effect c =
     tt
     (inr (inr (
       apart,
-      pass_stops Backward c.args.self.now c.args.input.now low high c.args.cache.now c.start_state_reverse.new.cache c.search_start.new.self c.find_rev.new.cache c.in_ok-start.ensures.effect.grown c.in_ok-start.ensures.effect.progress begins c.in_err-found.ensures.effect.grown c.in_err-found.field-0.0
+      pass_stops Backward c.args.self.now c.args.input.now low high c.args.cache.now c.start_state_reverse.new.cache c.search_start.new.self c.find_rev.new.cache c.in_ok-start.ensures.effect.grown c.in_ok-start.ensures.effect.progress
+          (begin_clears Backward c.args.self.now c.args.input.now c.args.cache.now c.start_state_reverse.new.cache c.in_ok-start.start c.in_ok-start.ensures.effect c.in_ok-start.ensures.answer) begins c.in_err-found.ensures.effect.grown c.in_err-found.field-0.0
           (c.in_err-found.ensures.left c.start_state_reverse.new.cache.store.searched (ap (λ (v : CacheView). v.store.searched) begins)),
     ))))
 

@@ -69,6 +69,7 @@ pub returns-then-is_quit-clause-effect : goal.returns-then-is_quit-clause-effect
 returns-then-is_quit-clause-effect c =
     read_quits c.args.self.now c.args.id _ c.args.cache.now c.move_search.new.self c.step.new.cache c.move_search.ensures.value
     (c.see_ids.ensures.alive c.args.id) (c.see_classes.ensures.bytes c.args.byte (omega arith)) c.in_ok-next.ensures.effect
+    c.in_ok-next.next (c.see_ids.ensures.low c.args.id c.requires.valid.0 c.requires.valid.1) c.in_ok-next.ensures.answer
     c.end_search.new.self c.end_search.ensures.value c.args.byte c.args.at c.quit.result c.quit.ensures
 
 pub returns-then-is_quit-clause-progress : goal.returns-then-is_quit-clause-progress

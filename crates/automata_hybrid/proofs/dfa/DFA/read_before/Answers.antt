@@ -43,4 +43,5 @@ pub returns-then-is_quit-clause-effect : goal.returns-then-is_quit-clause-effect
 returns-then-is_quit-clause-effect c =
     read_quits c.args.self.now c.args.id _ c.args.cache.now c.args.cache.now c.step.new.cache {s = c.args.cache.now.store.searched} refl
     (c.see_ids.ensures.alive c.args.id) (c.see_classes.ensures.bytes c.args.byte (omega arith)) c.in_ok-next.ensures.effect
+    c.in_ok-next.next (c.see_ids.ensures.low c.args.id c.requires.valid.0 c.requires.valid.1) c.in_ok-next.ensures.answer
     c.step.new.cache {s' = c.step.new.cache.store.searched} refl c.args.byte _ c.quit.result c.quit.ensures

@@ -1,6 +1,7 @@
 use Rattle.std.proofs.Common.{ℕ, ◌≡◌, ◌-◌, ◌∙◌, ap, subst}
 use Rattle.automata_base.specs.StartConfig.{StartConfig}
 use Rattle.automata_hybrid.specs.Starting.{IsStartAnswer, IsStartEffect, IsStartRefused, search_refusal}
+use Rattle.automata_hybrid.proofs.Standing.{stands_first}
 use Rattle.automata_hybrid.proofs.dfa.DFA.start_state_forward.Goals as goal
 
 pub returns-in-Ok-clause-answer : goal.returns-in-Ok-clause-answer
@@ -31,3 +32,11 @@ returns-in-Err-clause-refusal c =
           c.search_refusal.ensures
           ∙ (ap (λ (n : ℕ). search_refusal e n c.start-in-Err.result) behind ∙ ap (search_refusal e (c.args.input.now.start - 1)) c.start-in-Err.ensures.start);
     }
+
+pub returns-in-Ok-clause-stands : goal.returns-in-Ok-clause-stands
+returns-in-Ok-clause-stands c = λ early undone.
+    stands_first c.args.self.now c.args.input.now c.args.cache.now c.start_state.new.cache c.in-Ok.id
+    (record { of = c.in-Ok.ensures.of; low = c.see_ids.ensures.low; small = c.see_ids.ensures.small })
+    early undone c.haystack-haystack.ensures.within.1
+    (subst (λ (s : StartConfig). IsStartAnswer c.args.self.now s.anchored s.look_behind c.args.cache.now c.start_state.new.cache c.in-Ok.id)
+    c.from_input_forward-config.ensures c.in-Ok.ensures.answer)

@@ -22,7 +22,7 @@ use Rattle.automata_hybrid.proofs.Growing.{grown_after, grown_moved, grown_trans
 use Rattle.automata_hybrid.proofs.KnowingWalks.{has_state, state_after, still_same, unit_knows, units_none}
 use Rattle.automata_hybrid.proofs.Reading.{at_err}
 use Rattle.automata_hybrid.proofs.Resuming.{known_refusal, refused_on}
-use Rattle.automata_hybrid.proofs.SearchedWalks.{dies_at, reads_some, recounts_left, step_leaves, step_refuses, unit_high, unit_low}
+use Rattle.automata_hybrid.proofs.SearchedWalks.{call_begun, dies_at, reads_some, recounts_left, step_leaves, step_refuses, unit_high, unit_low}
 use Rattle.automata_hybrid.proofs.Searching.{dead_more, if_err}
 use Rattle.automata_hybrid.proofs.Stepping.{dead_tagged}
 use Rattle.automata_hybrid.proofs.WalkCalls.{clean_here, ended_at, next_finishes, told_here, walk_clears_none}
@@ -108,7 +108,6 @@ returns-then-is_dead-clause-effect c =
     let dies : state_in d m input w.units ≡ dead = (dead_tagged c.search_start.new.self.store.table c.in_ok-from.from (c.see_ids.ensures.low c.in_ok-from.from) c.see_ids.ensures.small _ leads).0 (c.if-is_dead.ensures.0 refl) in
     let here : new.store.searched ≡ finished (started between.store.searched c.span_offset-place.result) c.span_offset-place.result =
     ap (λ (v : CacheView). v.store.searched) c.end_search.ensures.value ∙ ap (λ (v : CacheView). finished v.store.searched c.span_offset-place.result) c.search_start.ensures.value in
-    let cleared : c.search_start.new.self.store.clears ≡ between.store.clears = ap (λ (v : CacheView). v.store.clears) c.search_start.ensures.value in
     let after : new.store.clears ≡ c.search_start.new.self.store.clears = ap (λ (v : CacheView). v.store.clears) c.end_search.ensures.value in
     let moved : IsGrown between new = grown_trans between c.search_start.new.self new
     (grown_moved between c.search_start.new.self c.search_start.ensures.value)
@@ -140,9 +139,10 @@ returns-then-is_dead-clause-effect c =
         reads_some input w r,
         w.units,
         inl (refl, refl, dies),
-        dies_at input (given_up_offset d input w.units) (unit_low d input w.units r.undone) (unit_high d input w.units r.undone r.left)
+        dies_at d m input w.units (unit_low d input w.units r.undone) (unit_high d input w.units r.undone r.left)
             old.store between.store c.search_start.new.self.store new.store
-            e.grown.clears cleared (omega (arith, after)) e.progress after
+            (call_begun d m input w.units old between c.search_start.new.self new e.grown c.search_start.ensures.value
+            (grown_moved c.search_start.new.self new c.end_search.ensures.value) e.progress e.cleared) after
             (subst (λ a. new.store.searched ≡ finished (started between.store.searched a) a) first here),
       );
       left = tt;
@@ -175,7 +175,6 @@ returns-in_err-arrival-clause-effect c =
     let first : c.span_offset-place.result ≡ given_up_offset d input c.units-2.result = c.span_offset-place.ensures ∙ ap (given_up_offset d input) (c.units.ensures ∙ sym c.units-2.ensures) in
     let begins : begun.store.searched ≡ started between.store.searched (given_up_offset d input c.units-2.result) =
     ap (λ (v : CacheView). v.store.searched) c.search_start.ensures.value ∙ ap (started between.store.searched) first in
-    let cleared : begun.store.clears ≡ between.store.clears = ap (λ (v : CacheView). v.store.clears) c.search_start.ensures.value in
     let began : IsGrown between begun = grown_moved between begun c.search_start.ensures.value in
     let moved : IsGrown between new = grown_trans between begun new began a.grown in
     let grown = grown_after old between new e.grown moved in
@@ -209,7 +208,8 @@ returns-in_err-arrival-clause-effect c =
       ended = tt;
       left =
           inr (recounts_left (keeping_of c.args.held.now) d m input old.store between.store begun.store new.store w.units r.undone r.left
-          e.grown.clears cleared a.grown.clears e.progress c.in_err-arrival.field-0.0 (step_leaves (keeping_of c.args.held.now) d m input between.store.searched w.units begun.store new.store c.in_err-arrival.field-0.0 left));
+          (call_begun d m input w.units old between begun new e.grown c.search_start.ensures.value a.grown e.progress e.cleared)
+          c.in_err-arrival.field-0.0 (step_leaves (keeping_of c.args.held.now) d m input between.store.searched w.units begun.store new.store c.in_err-arrival.field-0.0 left));
       ready = λ none. absurd (reads_some input w r none);
     })
 

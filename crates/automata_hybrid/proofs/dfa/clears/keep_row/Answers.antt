@@ -1,7 +1,6 @@
 use Rattle.std.proofs.Common.{◌≡◌, ◌≤◌, sym, None, subst, rules}
 use Rattle.automata_base.specs.Powerset.{cost}
-use Rattle.automata_hybrid.specs.Owned.{IsOwn}
-use Rattle.automata_hybrid.specs.Machine.{Machine, greatest}
+use Rattle.automata_hybrid.specs.Machine.{IsStateOf, Machine, greatest}
 use Rattle.automata_hybrid.specs.Table.{Rows, id_of}
 use Rattle.automata_hybrid.proofs.Keeping.{absent-more}
 use Rattle.automata_hybrid.proofs.dfa.clears.keep_row.Goals as goal
@@ -15,5 +14,5 @@ add-requires-clause-new c =
     record {
       lacks = (lacks, c.in_ok-row.ensures.alive);
       cheap = subst (λ (m : Machine). cost c.in_ok-row.row.state ≤ greatest m) (sym c.requires.of) c.in_ok-row.ensures.cost;
-      own = subst (λ (m : Machine). IsOwn m.nfa c.in_ok-row.row.state) (sym c.requires.of) c.in_ok-row.ensures.of;
+      own = subst (λ (m : Machine). IsStateOf m c.in_ok-row.row.state) (sym c.requires.of) c.in_ok-row.ensures.of;
     }

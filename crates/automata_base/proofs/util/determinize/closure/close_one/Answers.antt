@@ -1,116 +1,135 @@
-use Rattle.std.proofs.Common.{arith, ◌≡◌, ◌+◌, ◌<◌, ◌≤◌, [], ◌∷◌, ◌++◌, length, reverse, vec_len, vec_capacity, refl, sym, ap, ◌∙◌, subst, inl, rules}
+use Rattle.std.proofs.Common.{arith, ◌≡◌, ◌+◌, ◌<◌, ◌≤◌, [], ◌∷◌, ◌++◌, List, ℕ, length, reverse, Vec, vec_len, vec_capacity, refl, sym, ap, ◌∙◌, subst, inl, rules}
 use Rattle.std.proofs.lemmas.List.{nil_from_length}
-use Rattle.automata_base.specs.Nodes.{stack_room, node_of}
+use Rattle.std.specs.declared.alloc.Global.{Global}
+use Rattle.automata_base.specs.Nodes.{Automaton, stack_room, node_of}
 use Rattle.automata_base.specs.Truths.{truth_of}
 use Rattle.automata_base.specs.Visits.{children_at}
-use Rattle.automata_base.proofs.Determinizing.Walking.{Walking, work, walk_begins, walk_ends, pushed_top, new_step, old_step, step_room, room_positive}
+use Rattle.automata_base.proofs.Determinizing.Walking.{Walking, work, walk_begins, walk_ends, pushed_top, new_step, old_step, step_room}
 use Rattle.automata_base.proofs.util.determinize.closure.close_one.Goals as goal
+use Rattle.automata_base.proofs.util.determinize.closure.close_one.Goals.{then-insert+in_default, else-insert}
 
-pub unwrap-requires : goal.unwrap-requires
-unwrap-requires c =
-    let len : vec_len c.args.stack.now ≡ length c.args.stack.now.items = c.args.stack.now.ok.0 in
-    let none : length c.args.stack.now.items ≡ 0 = ap length c.requires.room.empty in
-    let some : 0 < stack_room c.args.nfa.now.states = room_positive c.args.nfa.now.states in
-    let room : stack_room c.args.nfa.now.states ≤ vec_capacity c.args.stack.now = c.requires.room.places in
-    c.push.ensures.succeeds (omega arith)
-
-pub loop-top-init : goal.loop-top-init
-loop-top-init c =
-    let items : c.push.new.self.items ≡ c.args.stack.now.items ++ c.args.start ∷ [] = rw c.unwrap.ensures at c.push.ensures.items in
-    let turned : reverse c.push.new.self.items ≡ c.args.start ∷ [] = ap reverse (items ∙ ap (λ z. z ++ c.args.start ∷ []) c.requires.room.empty) in (
-      subst (Walking c.args.nfa.now c.args.looks c.args.set.now.items c.args.start c.args.set.now.items) (sym turned)
-          (walk_begins c.args.nfa.now c.args.looks c.args.set.now.items c.args.start c.requires.start),
-      c.requires.room.whole,
-      c.push.ensures.capacity,
-    )
+pub visit-init : goal.visit-init
+visit-init c = (
+  subst (λ s. Walking c.args.nfa.now c.args.looks c.args.set.now.items c.args.start c.args.set.now.items (c.args.start ∷ reverse s))
+      (sym c.requires.room.empty)
+      (walk_begins c.args.nfa.now c.args.looks c.args.set.now.items c.args.start c.requires.start),
+  c.requires.room.whole,
+  omega arith,
+)
 
 pub insert-requires : goal.insert-requires
 insert-requires c =
-    let below : c.follow.id < length c.args.nfa.now.states = c.follow.invariant.0.below c.follow.id (inl refl) in
-    let whole : c.follow.set.capacity ≡ length c.args.nfa.now.states = c.follow.invariant.2 in
+    let below : c.visit.id < length c.args.nfa.now.states = c.visit.invariant.0.below c.visit.id (inl refl) in
+    let whole : c.visit.set.capacity ≡ length c.args.nfa.now.states = c.visit.invariant.1 in
     omega arith
 
-skipped : (c : goal.Then-not-insert) →
-    Walking c.args.nfa.now c.args.looks c.args.set.now.items c.args.start c.insert.new.self.items (reverse c.follow.stack.items)
-    × (work c.args.nfa.now c.insert.new.self.items (reverse c.follow.stack.items) < work c.args.nfa.now c.follow.set.items (c.follow.id ∷ reverse c.follow.stack.items))
-skipped c =
-    old_step c.args.nfa.now c.args.looks c.args.set.now.items c.args.start c.follow.set.items c.insert.new.self.items (reverse c.follow.stack.items) c.follow.id
-    (c.if-not-insert.ensures.had refl) (c.if-not-insert.ensures.unchanged refl) c.follow.invariant.0
-
-pub loop-top-smaller-then-not-insert : goal.loop-top-smaller-then-not-insert
-loop-top-smaller-then-not-insert c =
-    let less : work c.args.nfa.now c.insert.new.self.items (reverse c.follow.stack.items) < work c.args.nfa.now c.follow.set.items (c.follow.id ∷ reverse c.follow.stack.items) = (skipped c).1 in
-    let most : work c.args.nfa.now c.follow.set.items (c.follow.id ∷ reverse c.follow.stack.items) ≤ work c.args.nfa.now c.loop-top.set.items (c.in-Some.top ∷ reverse c.pop.new.self.items) = c.follow.invariant.1 in
-    let top : work c.args.nfa.now c.loop-top.set.items (reverse c.loop-top.stack.items) ≡ work c.args.nfa.now c.loop-top.set.items (c.in-Some.top ∷ reverse c.pop.new.self.items) =
-    ap (work c.args.nfa.now c.loop-top.set.items) (pushed_top c.loop-top.stack.items c.pop.new.self.items c.in-Some.top c.in-Some.ensures.items) in
-    let smaller : work c.args.nfa.now c.insert.new.self.items (reverse c.follow.stack.items) < work c.args.nfa.now c.loop-top.set.items (reverse c.loop-top.stack.items) = omega arith in
-    smaller
-
-pub loop-top-preserved-then-not-insert : goal.loop-top-preserved-then-not-insert
-loop-top-preserved-then-not-insert c =
-    ((skipped c).0, c.if-not-insert.ensures.capacity ∙ c.follow.invariant.2, c.follow.invariant.3)
-
 pub state-requires : goal.state-requires
-state-requires c = c.follow.invariant.0.below c.follow.id (inl refl)
+state-requires c = c.visit.invariant.0.below c.visit.id (inl refl)
 
 pub expand-requires : goal.expand-requires
 expand-requires c =
-    let room : length c.follow.stack.items + length (children_at (node_of c.state.result.now) (truth_of c.args.looks)) ≤ stack_room c.args.nfa.now.states =
-    step_room c.args.nfa.now c.args.looks c.args.set.now.items c.args.start c.follow.set.items c.follow.stack.items c.follow.id c.state.result.now
-    c.state.ensures.same (c.if-not-insert.ensures.new refl) c.follow.invariant.0 in
-    let len : vec_len c.follow.stack ≡ length c.follow.stack.items = c.follow.stack.ok.0 in
-    let kept : vec_capacity c.args.stack.now ≤ vec_capacity c.follow.stack = c.follow.invariant.3 in
+    let room : length c.visit.stack.items + length (children_at (node_of c.state.result.now) (truth_of c.args.looks)) ≤ stack_room c.args.nfa.now.states =
+    step_room c.args.nfa.now c.args.looks c.args.set.now.items c.args.start c.visit.set.items c.visit.stack.items c.visit.id c.state.result.now
+    c.state.ensures.same (c.if-insert.ensures.new refl) c.visit.invariant.0 in
+    let len : vec_len c.visit.stack ≡ length c.visit.stack.items = c.visit.stack.ok.0 in
+    let kept : vec_capacity c.args.stack.now ≤ vec_capacity c.visit.stack = c.visit.invariant.2 in
     let enough : stack_room c.args.nfa.now.states ≤ vec_capacity c.args.stack.now = c.requires.room.places in
     omega arith
 
-followed : (c : goal.In-Some-expand) →
-    Walking c.args.nfa.now c.args.looks c.args.set.now.items c.args.start c.insert.new.self.items (c.in-Some-expand.next ∷ reverse c.expand.new.stack.items)
-    × (work c.args.nfa.now c.insert.new.self.items (c.in-Some-expand.next ∷ reverse c.expand.new.stack.items) < work c.args.nfa.now c.follow.set.items (c.follow.id ∷ reverse c.follow.stack.items))
+-- a new state with a child
+followed : (c : goal.In-Some) →
+    Walking c.args.nfa.now c.args.looks c.args.set.now.items c.args.start c.insert.new.self.items (c.in-Some.next ∷ reverse c.expand.new.stack.items)
+    × (work c.args.nfa.now c.insert.new.self.items (c.in-Some.next ∷ reverse c.expand.new.stack.items) < work c.args.nfa.now c.visit.set.items (c.visit.id ∷ reverse c.visit.stack.items))
 followed c =
-    new_step c.args.nfa.now c.args.looks c.args.set.now.items c.args.start c.follow.set.items c.insert.new.self.items (reverse c.follow.stack.items) (c.in-Some-expand.next ∷ reverse c.expand.new.stack.items) c.follow.id c.state.result.now
-    c.state.ensures.door c.state.ensures.same (c.if-not-insert.ensures.new refl) (c.if-not-insert.ensures.added refl) c.in-Some-expand.ensures.pushed c.follow.invariant.0
+    new_step c.args.nfa.now c.args.looks c.args.set.now.items c.args.start c.visit.set.items c.insert.new.self.items (reverse c.visit.stack.items) (c.in-Some.next ∷ reverse c.expand.new.stack.items) c.visit.id c.state.result.now
+    c.state.ensures.door c.state.ensures.same (c.if-insert.ensures.new refl) (c.if-insert.ensures.added refl) c.in-Some.ensures.pushed c.visit.invariant.0
 
-pub follow-smaller : goal.follow-smaller
-follow-smaller c = (followed c).1
+pub visit-smaller-in-Some : goal.visit-smaller-in-Some
+visit-smaller-in-Some c = (followed c).1
 
-pub follow-preserved : goal.follow-preserved
-follow-preserved c =
-    let less : work c.args.nfa.now c.insert.new.self.items (c.in-Some-expand.next ∷ reverse c.expand.new.stack.items) < work c.args.nfa.now c.follow.set.items (c.follow.id ∷ reverse c.follow.stack.items) = (followed c).1 in
-    let most : work c.args.nfa.now c.follow.set.items (c.follow.id ∷ reverse c.follow.stack.items) ≤ work c.args.nfa.now c.loop-top.set.items (c.in-Some.top ∷ reverse c.pop.new.self.items) = c.follow.invariant.1 in
-    let kept : vec_capacity c.args.stack.now ≤ vec_capacity c.follow.stack = c.follow.invariant.3 in
-    let more : vec_capacity c.follow.stack ≤ vec_capacity c.expand.new.stack = c.in-Some-expand.ensures.capacity in
-    ((followed c).0, omega arith, c.if-not-insert.ensures.capacity ∙ c.follow.invariant.2, omega arith)
+pub visit-preserved-in-Some : goal.visit-preserved-in-Some
+visit-preserved-in-Some c =
+    let kept : vec_capacity c.args.stack.now ≤ vec_capacity c.visit.stack = c.visit.invariant.2 in
+    let more : vec_capacity c.visit.stack ≤ vec_capacity c.expand.new.stack = c.in-Some.ensures.capacity in
+    ((followed c).0, c.if-insert.ensures.capacity ∙ c.visit.invariant.1, omega arith)
 
-ended : (c : goal.In-None) →
-    Walking c.args.nfa.now c.args.looks c.args.set.now.items c.args.start c.insert.new.self.items (reverse c.expand.new.stack.items)
-    × (work c.args.nfa.now c.insert.new.self.items (reverse c.expand.new.stack.items) < work c.args.nfa.now c.follow.set.items (c.follow.id ∷ reverse c.follow.stack.items))
-ended c =
-    new_step c.args.nfa.now c.args.looks c.args.set.now.items c.args.start c.follow.set.items c.insert.new.self.items (reverse c.follow.stack.items) (reverse c.expand.new.stack.items) c.follow.id c.state.result.now
-    c.state.ensures.door c.state.ensures.same (c.if-not-insert.ensures.new refl) (c.if-not-insert.ensures.added refl) c.in-None.ensures.pushed c.follow.invariant.0
+-- what a visit without a child leaves, before the next state is taken off the stack
+record Visited (a : Automaton) (looks : ℕ) (old : List ℕ) (start : ℕ) (before after : List ℕ) (id capacity : ℕ)
+    (was stack : Vec ℕ Global) : Type 0 where
+  pub walking : Walking a looks old start after (reverse stack.items)
+  pub less : work a after (reverse stack.items) < work a before (id ∷ reverse was.items)
+  pub room : capacity ≤ vec_capacity stack
 
-pub loop-top-smaller : goal.loop-top-smaller
-loop-top-smaller c =
-    let less : work c.args.nfa.now c.insert.new.self.items (reverse c.expand.new.stack.items) < work c.args.nfa.now c.follow.set.items (c.follow.id ∷ reverse c.follow.stack.items) = (ended c).1 in
-    let most : work c.args.nfa.now c.follow.set.items (c.follow.id ∷ reverse c.follow.stack.items) ≤ work c.args.nfa.now c.loop-top.set.items (c.in-Some.top ∷ reverse c.pop.new.self.items) = c.follow.invariant.1 in
-    let top : work c.args.nfa.now c.loop-top.set.items (reverse c.loop-top.stack.items) ≡ work c.args.nfa.now c.loop-top.set.items (c.in-Some.top ∷ reverse c.pop.new.self.items) =
-    ap (work c.args.nfa.now c.loop-top.set.items) (pushed_top c.loop-top.stack.items c.pop.new.self.items c.in-Some.top c.in-Some.ensures.items) in
-    let smaller : work c.args.nfa.now c.insert.new.self.items (reverse c.expand.new.stack.items) < work c.args.nfa.now c.loop-top.set.items (reverse c.loop-top.stack.items) = omega arith in
-    smaller
+next_way : (a : Automaton) (looks : ℕ) (old : List ℕ) (start : ℕ) (before after : List ℕ) (id capacity : ℕ)
+    (was stack rest : Vec ℕ Global) (top : ℕ) → stack.items ≡ rest.items ++ top ∷ []
+    → Visited a looks old start before after id capacity was stack
+    → Walking a looks old start after (top ∷ reverse rest.items)
+    × (work a after (top ∷ reverse rest.items) < work a before (id ∷ reverse was.items))
+next_way a looks old start before after id capacity was stack rest top e v =
+    let P : List ℕ → Type 0 = λ s. Walking a looks old start after s × (work a after s < work a before (id ∷ reverse was.items)) in
+    subst P (pushed_top stack.items rest.items top e) (v.walking, v.less)
 
-pub loop-top-preserved : goal.loop-top-preserved
-loop-top-preserved c =
-    let kept : vec_capacity c.args.stack.now ≤ vec_capacity c.follow.stack = c.follow.invariant.3 in
-    let more : vec_capacity c.follow.stack ≤ vec_capacity c.expand.new.stack = c.in-None.ensures.capacity in
-    ((ended c).0, c.if-not-insert.ensures.capacity ∙ c.follow.invariant.2, omega arith)
+visited : (c : goal.In-Some-pop) →
+    Visited c.args.nfa.now c.args.looks c.args.set.now.items c.args.start c.visit.set.items c.insert.new.self.items c.visit.id
+    (vec_capacity c.args.stack.now) c.visit.stack c.if-insert.stack
+visited c = elim c.if-insert.branch [
+  | then-insert+in_default w ↦
+      let step = new_step c.args.nfa.now c.args.looks c.args.set.now.items c.args.start c.visit.set.items c.insert.new.self.items (reverse c.visit.stack.items) (reverse w.expand.new.stack.items) c.visit.id w.state.result.now
+      w.state.ensures.door w.state.ensures.same (w.if-insert.ensures.new refl) (w.if-insert.ensures.added refl) w.in_default.ensures.pushed c.visit.invariant.0 in
+      let kept : vec_capacity c.args.stack.now ≤ vec_capacity c.visit.stack = c.visit.invariant.2 in
+      let more : vec_capacity c.visit.stack ≤ vec_capacity w.expand.new.stack = w.in_default.ensures.capacity in
+      subst (Visited c.args.nfa.now c.args.looks c.args.set.now.items c.args.start c.visit.set.items c.insert.new.self.items c.visit.id (vec_capacity c.args.stack.now) c.visit.stack)
+      (sym w.stack-is) (record { walking = step.0; less = step.1; room = omega arith })
+  | else-insert w ↦
+      let step = old_step c.args.nfa.now c.args.looks c.args.set.now.items c.args.start c.visit.set.items c.insert.new.self.items (reverse c.visit.stack.items) c.visit.id
+      (w.if-insert.ensures.had refl) (w.if-insert.ensures.unchanged refl) c.visit.invariant.0 in
+      subst (Visited c.args.nfa.now c.args.looks c.args.set.now.items c.args.start c.visit.set.items c.insert.new.self.items c.visit.id (vec_capacity c.args.stack.now) c.visit.stack)
+      (sym w.stack-is) (record { walking = step.0; less = step.1; room = c.visit.invariant.2 })
+]
+
+pub visit-smaller : goal.visit-smaller
+visit-smaller c =
+    (next_way c.args.nfa.now c.args.looks c.args.set.now.items c.args.start c.visit.set.items c.insert.new.self.items c.visit.id (vec_capacity c.args.stack.now) c.visit.stack c.if-insert.stack
+    c.pop.new.self c.in-Some-pop.top c.in-Some-pop.ensures.items (visited c)).1
+
+pub visit-preserved : goal.visit-preserved
+visit-preserved c =
+    let v = visited c in
+    let kept : vec_capacity c.args.stack.now ≤ vec_capacity c.if-insert.stack = v.room in
+    let same : vec_capacity c.pop.new.self ≡ vec_capacity c.if-insert.stack = c.in-Some-pop.ensures.capacity in (
+      (next_way c.args.nfa.now c.args.looks c.args.set.now.items c.args.start c.visit.set.items c.insert.new.self.items c.visit.id (vec_capacity c.args.stack.now) c.visit.stack c.if-insert.stack
+          c.pop.new.self c.in-Some-pop.top c.in-Some-pop.ensures.items v).0,
+      c.insert.ensures.capacity ∙ c.visit.invariant.1,
+      omega arith,
+    )
+
+done : (c : goal.In-None) →
+    Visited c.args.nfa.now c.args.looks c.args.set.now.items c.args.start c.visit.set.items c.insert.new.self.items c.visit.id
+    (vec_capacity c.args.stack.now) c.visit.stack c.if-insert.stack
+done c = elim c.if-insert.branch [
+  | then-insert+in_default w ↦
+      let step = new_step c.args.nfa.now c.args.looks c.args.set.now.items c.args.start c.visit.set.items c.insert.new.self.items (reverse c.visit.stack.items) (reverse w.expand.new.stack.items) c.visit.id w.state.result.now
+      w.state.ensures.door w.state.ensures.same (w.if-insert.ensures.new refl) (w.if-insert.ensures.added refl) w.in_default.ensures.pushed c.visit.invariant.0 in
+      let kept : vec_capacity c.args.stack.now ≤ vec_capacity c.visit.stack = c.visit.invariant.2 in
+      let more : vec_capacity c.visit.stack ≤ vec_capacity w.expand.new.stack = w.in_default.ensures.capacity in
+      subst (Visited c.args.nfa.now c.args.looks c.args.set.now.items c.args.start c.visit.set.items c.insert.new.self.items c.visit.id (vec_capacity c.args.stack.now) c.visit.stack)
+      (sym w.stack-is) (record { walking = step.0; less = step.1; room = omega arith })
+  | else-insert w ↦
+      let step = old_step c.args.nfa.now c.args.looks c.args.set.now.items c.args.start c.visit.set.items c.insert.new.self.items (reverse c.visit.stack.items) c.visit.id
+      (w.if-insert.ensures.had refl) (w.if-insert.ensures.unchanged refl) c.visit.invariant.0 in
+      subst (Visited c.args.nfa.now c.args.looks c.args.set.now.items c.args.start c.visit.set.items c.insert.new.self.items c.visit.id (vec_capacity c.args.stack.now) c.visit.stack)
+      (sym w.stack-is) (record { walking = step.0; less = step.1; room = c.visit.invariant.2 })
+]
 
 pub returns-clause-way : goal.returns-clause-way
 returns-clause-way c =
-    let none : c.loop-top.stack.items ≡ [] = nil_from_length c.loop-top.stack.items (sym c.loop-top.stack.ok.0 ∙ c.in_default.ensures.cases.0) in
-    walk_ends c.args.nfa.now c.args.looks c.args.set.now.items c.args.start c.loop-top.set.items
-    (subst (Walking c.args.nfa.now c.args.looks c.args.set.now.items c.args.start c.loop-top.set.items) (ap reverse none) c.loop-top.invariant.0)
+    let none : c.if-insert.stack.items ≡ [] = nil_from_length c.if-insert.stack.items (sym c.if-insert.stack.ok.0 ∙ c.in-None.ensures.cases.0) in
+    walk_ends c.args.nfa.now c.args.looks c.args.set.now.items c.args.start c.insert.new.self.items
+    (subst (Walking c.args.nfa.now c.args.looks c.args.set.now.items c.args.start c.insert.new.self.items) (ap reverse none) (done c).walking)
 
 pub returns-clause-room : goal.returns-clause-room
 returns-clause-room c =
-    let kept : vec_capacity c.args.stack.now ≤ vec_capacity c.loop-top.stack = c.loop-top.invariant.2 in
+    let kept : vec_capacity c.args.stack.now ≤ vec_capacity c.if-insert.stack = (done c).room in
+    let same : vec_capacity c.pop.new.self ≡ vec_capacity c.if-insert.stack = c.in-None.ensures.capacity in
     let enough : stack_room c.args.nfa.now.states ≤ vec_capacity c.args.stack.now = c.requires.room.places in
-    record { whole = c.loop-top.invariant.1; empty = search rules; places = search rules }
+    record { whole = c.insert.ensures.capacity ∙ c.visit.invariant.1; empty = search rules; places = omega arith }

@@ -23,12 +23,24 @@ new c =
     computes_new c.args.dfa.now c.args.id c.args.unit c.args.self.now c.resolve.new.self c.add_next.new.self c.set_next-in-New.new.self c.unit_class-class.result c.in_ok-from-in-New.from c.in_ok-from-in-New.to c.in-New.state c.in_ok-key.key
     (c.resolve.ensures.same ∙ c.determinise.ensures.counted) c.in_ok-from-in-New.ensures.answer c.in_ok-from-in-New.ensures.counted c.set_next-in-New.ensures found.0 found.1 c.in_ok-key.ensures.successor
 
+pub determinise-requires-clause-class : goal.determinise-requires-clause-class
+determinise-requires-clause-class c = record {
+  below = c.unit_class-class.ensures.below;
+  free = c.unit_class-class.ensures.free c.requires.clean;
+  alike = c.unit_class-class.ensures.alike;
+}
+
 pub add_next-requires-clause-new : goal.add_next-requires-clause-new
 add_next-requires-clause-new c =
     let found : IsLookedUp c.resolve.new.self.store.table c.in_ok-key.key (New c.in-New.state) = looked_up c.determinise.new.self c.resolve.new.self c.in_ok-key.key _ (New c.in-New.state) c.resolve.ensures.same c.in-New.is c.in_ok-to.ensures.found in
     let of : c.resolve.new.self.store.table.of ≡ c.args.dfa.now = ap (λ (v : CacheView). v.store.table.of) (c.resolve.ensures.same ∙ c.determinise.ensures.counted) ∙ c.requires.of in
     let key : IsNewState c.resolve.new.self.store.table c.in_ok-key.key = new_state c.args.dfa.now c.resolve.new.self.store.table c.in_ok-key.key of found.1 c.in_ok-key.ensures.cost c.in_ok-key.ensures.is_of in
     subst (λ (q : Powerset). IsNewState c.resolve.new.self.store.table q) (sym found.0) key
+
+pub returns-in_err-key-clause-effect : goal.returns-in_err-key-clause-effect
+returns-in_err-key-clause-effect c =
+    refused_effect c.args.dfa.now c.args.id c.args.unit c.args.self.now c.determinise.new.self (c.see_ids.ensures.low c.args.id c.requires.valid.0 c.requires.valid.1) c.requires.clean c.requires.unknown
+    c.determinise.ensures.counted
 
 pub returns-in_err-to-clause-effect : goal.returns-in_err-to-clause-effect
 returns-in_err-to-clause-effect c =
@@ -52,6 +64,7 @@ returns-in-Known-clause-effect c =
     c.requires.of c.requires.valid (c.see_ids.ensures.low c.args.id c.requires.valid.0 c.requires.valid.1) c.requires.clean c.requires.unknown c.unit_class-class.ensures.value c.unit_class-class.ensures.below c.see_cells.ensures.cells
     c.see_cells.ensures.wide c.see_cells.ensures.clears (cheap c.args.dfa.now c.args.self.now.store.table.of c.in_ok-key.key (successor c.args.dfa.now.nfa (match_kind_of c.args.dfa.now.config) c.requires.valid.0 c.args.unit) c.requires.of (c.in_ok-key.ensures.successor c.requires.valid.0 c.requires.valid.1) c.in_ok-key.ensures.cost)
     c.see_ids.ensures.ids c.see_ids-in-Known.ensures.ids
+    (sym (c.in_ok-key.ensures.successor c.requires.valid.0 c.requires.valid.1) ∙ c.in_ok-key.ensures.value c.requires.valid.0 c.requires.valid.1)
 
 pub returns-in_ok-from-in-New-clause-answer : goal.returns-in_ok-from-in-New-clause-answer
 returns-in_ok-from-in-New-clause-answer c =
@@ -65,3 +78,4 @@ returns-in_ok-from-in-New-clause-effect c =
     c.requires.of c.requires.valid (c.see_ids.ensures.low c.args.id c.requires.valid.0 c.requires.valid.1) c.requires.clean c.requires.unknown c.unit_class-class.ensures.value c.unit_class-class.ensures.below c.see_cells.ensures.cells
     c.see_cells.ensures.wide c.see_cells.ensures.clears (cheap c.args.dfa.now c.args.self.now.store.table.of c.in_ok-key.key (successor c.args.dfa.now.nfa (match_kind_of c.args.dfa.now.config) c.requires.valid.0 c.args.unit) c.requires.of (c.in_ok-key.ensures.successor c.requires.valid.0 c.requires.valid.1) c.in_ok-key.ensures.cost)
     c.see_ids.ensures.ids c.see_ids-in-New.ensures.ids
+    (sym (c.in_ok-key.ensures.successor c.requires.valid.0 c.requires.valid.1) ∙ c.in_ok-key.ensures.value c.requires.valid.0 c.requires.valid.1)

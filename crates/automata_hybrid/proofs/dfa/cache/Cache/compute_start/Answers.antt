@@ -24,6 +24,9 @@ new c =
     (c.resolve.ensures.same ∙ c.determinise_start.ensures.counted) c.in_ok-id-in-New.ensures.answer c.in_ok-id-in-New.ensures.counted c.set_start-in-New.ensures.value found.0 found.1 c.in_ok-key.ensures.value c.specializes.ensures
     c.set_start-in-New.ensures.written c.set_start-in-New.ensures.found
 
+pub determinise_start-requires-clause-slot : goal.determinise_start-requires-clause-slot
+determinise_start-requires-clause-slot c = (c.args.slot, c.requires.slot)
+
 pub set_start-requires-clause-leads : goal.set_start-requires-clause-leads
 set_start-requires-clause-leads c =
     let leads : Leads c.resolve.new.self.store.table c.in-Known.id c.in_ok-key.key = looked_up c.determinise_start.new.self c.resolve.new.self c.in_ok-key.key _ (Known c.in-Known.id) c.resolve.ensures.same c.in-Known.is c.in_ok-id.ensures.found in

@@ -4,6 +4,7 @@ use Rattle.automata_base.specs.Powerset.{Powerset}
 use Rattle.automata_hybrid.specs.Machine.{Machine}
 use Rattle.automata_hybrid.specs.Owned.{IsOwn}
 use Rattle.automata_hybrid.specs.Table.{IsValid, Names}
+use Rattle.automata_hybrid.proofs.Standing.{stands_step}
 use Rattle.automata_hybrid.proofs.StepCalls.{cell_known, fixed_answer, known_answer, same_effect, unknown_clean, unknown_free}
 use Rattle.automata_hybrid.proofs.Stepping.{HasRow-valid}
 use Rattle.automata_hybrid.proofs.dfa.cache.Cache.next.Goals as goal
@@ -56,3 +57,24 @@ compute_next-requires-clause-unknown c =
     unknown_free c.args.dfa.now c.args.id c.args.unit c.args.self.now c.unit_class-class.result c.cell-cell.result c.requires.of valid
     c.unit_class-class.ensures.value c.unit_class-class.ensures.small c.unit_class-class.ensures.quit c.unit_class-class.ensures.free
     c.cell-cell.ensures.value c.cell-cell.ensures.named unknown
+
+pub returns-then-is_fixed-clause-stands : goal.returns-then-is_fixed-clause-stands
+returns-then-is_fixed-clause-stands c = λ input at stands unit.
+    stands_step c.args.dfa.now input c.args.self.now c.args.self.now at c.args.id c.args.id c.args.unit
+    (record { of = c.requires.of; low = c.see_ids.ensures.low; small = c.see_ids.ensures.small })
+    (record { of = c.requires.of; low = c.see_ids.ensures.low; small = c.see_ids.ensures.small })
+    stands unit (returns-then-is_fixed-clause-answer c)
+
+pub returns-then-not-is_unknown-clause-stands : goal.returns-then-not-is_unknown-clause-stands
+returns-then-not-is_unknown-clause-stands c = λ input at stands unit.
+    stands_step c.args.dfa.now input c.args.self.now c.args.self.now at c.args.id c.cell-cell.result c.args.unit
+    (record { of = c.requires.of; low = c.see_ids.ensures.low; small = c.see_ids.ensures.small })
+    (record { of = c.requires.of; low = c.see_ids.ensures.low; small = c.see_ids.ensures.small })
+    stands unit (returns-then-not-is_unknown-clause-answer c)
+
+pub returns-clause-stands : goal.returns-clause-stands
+returns-clause-stands c = λ input at stands unit.
+    stands_step c.args.dfa.now input c.args.self.now c.compute_next.new.self at c.args.id c.in_ok-next.next c.args.unit
+    (record { of = c.requires.of; low = c.see_ids.ensures.low; small = c.see_ids.ensures.small })
+    (record { of = c.in_ok-next.ensures.of; low = c.see_ids-2.ensures.low; small = c.see_ids-2.ensures.small })
+    stands unit c.in_ok-next.ensures.answer

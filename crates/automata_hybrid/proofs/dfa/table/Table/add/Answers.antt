@@ -3,8 +3,7 @@ use Rattle.std.specs.HashMap.{get}
 use Rattle.std.proofs.lemmas.Grind.{common_steps}
 use Rattle.automata_hybrid.proofs.Rows.{IsTable-with_row, IsTable-map, Names-new, Names-more}
 use Rattle.automata_hybrid.proofs.Keeping.{AllStarts-more}
-use Rattle.automata_hybrid.specs.Owned.{IsOwn}
-use Rattle.automata_hybrid.specs.Machine.{greatest, template_of}
+use Rattle.automata_hybrid.specs.Machine.{IsStateOf, greatest, template_of}
 use Rattle.automata_hybrid.specs.Clears.{AllStarts}
 use Rattle.automata_hybrid.specs.Table.{Rows, Names, id_of, row_id}
 use Rattle.automata_hybrid.specs.declared.dfa.row.Row.{Row}
@@ -40,7 +39,7 @@ invariant_of-self-2 c =
     let fits : length c.self.inside.cells.items < 2 ^ 27 = rw (← c.self.view_is) at c.requires.fits in
     let map : (p : Powerset) → get powerset_eq c.insert-inserted.new.self p ≡ cond (powerset_eq q p) (Some (row_id (length c.self.inside.cells.items) r)) (get powerset_eq c.self.inside.map p) = λ p. grind (arith, common_steps, c.in_ok-reserve-3.ensures.entries.2 p) in
     let cheap : cost q ≤ greatest c.self.inside.of.value = rw (← c.self.view_is) at c.requires.new.cheap in
-    let of : IsOwn c.self.inside.of.value.nfa q = rw (← c.self.view_is) at c.requires.new.own in
+    let of : IsStateOf c.self.inside.of.value q = rw (← c.self.view_is) at c.requires.new.own in
     record {
       table = rw (cells, rows, c.cost-cost.ensures) (IsTable-with_row _ r c.self.inside.map c.insert-inserted.new.self c.self.inside.costs c.self.invariant.table absent c.requires.new.lacks.1 cheap of fits map);
       stride = c.self.invariant.stride;

@@ -1,8 +1,7 @@
 use Rattle.std.proofs.Common.{◌≡◌, ◌∙◌, sym, ap, ◌+◌, ◌*◌, ◌≤◌, length, None, Some, slice_get, get_or, subst, refl}
 use Rattle.std.proofs.lemmas.Option.{slice_get_read}
 use Rattle.automata_base.specs.Powerset.{Powerset, cost}
-use Rattle.automata_hybrid.specs.Owned.{IsOwn}
-use Rattle.automata_hybrid.specs.Machine.{greatest, table_stride}
+use Rattle.automata_hybrid.specs.Machine.{IsStateOf, greatest, table_stride}
 use Rattle.automata_hybrid.specs.Table.{Rows, IsTable, id_of, row_id}
 use Rattle.automata_hybrid.specs.declared.dfa.row.Row.{Row}
 use Rattle.automata_hybrid.proofs.dfa.table.Table.copied_row.Goals as goal
@@ -34,4 +33,4 @@ pub returns-clause-of : goal.returns-clause-of
 returns-clause-of c =
     let t : Rows = c.args.self.now in
     let i : IsTable t c.self.inside.map c.self.inside.costs = subst (λ (v : Rows). IsTable v c.self.inside.map c.self.inside.costs) c.self.view_is c.self.invariant.table in
-    subst (λ (q : Powerset). IsOwn t.of.nfa q) (sym c.in_ok-state.ensures.cases) (i.alive c.args.row c.index-row.result.now (at c)).2
+    subst (λ (q : Powerset). IsStateOf t.of q) (sym c.in_ok-state.ensures.cases) (i.alive c.args.row c.index-row.result.now (at c)).2

@@ -1,0 +1,10 @@
+use Rattle.std.proofs.Common.{◌≤◌, length, vec_capacity}
+use Rattle.automata_base.specs.Nfa.{accepts}
+use Rattle.automata_base.specs.Nodes.{nfa_of}
+use Rattle.automata_base.proofs.Determinizing.Keeping.{Patterns}
+use Rattle.automata_base.proofs.util.determinize.lists.read_patterns.Given as goal
+
+abbrev pub invariant-loop-i : goal.invariant-loop-i
+invariant-loop-i l =
+    (Patterns (accepts (nfa_of l.nfa)) l.list l.i (length l.nfa.start_pattern) l.patterns.items)
+    × (vec_capacity l.fn.patterns ≤ vec_capacity l.patterns)

@@ -1,0 +1,9 @@
+use Rattle.std.proofs.Common.{◌<◌}
+use Rattle.automata_hybrid.specs.Machine.{table_stride}
+use Rattle.automata_hybrid.proofs.dfa.DFA.classes_around.Given as goal
+
+abbrev pub invariant-down : goal.invariant-down
+invariant-down l = l.first < table_stride l.self
+
+abbrev pub invariant-up : goal.invariant-up
+invariant-up l = l.after < table_stride l.self

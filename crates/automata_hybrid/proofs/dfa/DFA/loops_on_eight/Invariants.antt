@@ -1,0 +1,7 @@
+use Rattle.std.proofs.Common.{◌+◌}
+use Rattle.automata_hybrid.specs.SelfLoops.{LoopsOver}
+use Rattle.automata_hybrid.specs.Walks.{way_of}
+use Rattle.automata_hybrid.proofs.dfa.DFA.loops_on_eight.Given as goal
+
+abbrev pub invariant-loop-k : goal.invariant-loop-k
+invariant-loop-k l = LoopsOver l.self l.cache.store l.id (way_of l.way) l.bytes l.at (l.at + l.k)

@@ -1,0 +1,19 @@
+use Rattle.std.proofs.Common.{◌≡◌, ◌∙◌, ◌≤◌, subst, sym}
+use Rattle.automata_base.specs.Powerset.{Powerset, cost}
+use Rattle.automata_hybrid.specs.Caches.{CacheView}
+use Rattle.automata_hybrid.specs.Machine.{IsStateOf, greatest}
+use Rattle.automata_hybrid.specs.Table.{Names}
+use Rattle.automata_hybrid.proofs.dfa.cache.Cache.snapshot.Goals as goal
+
+pub returns-clause-row : goal.returns-clause-row
+returns-clause-row c =
+    let q : Powerset = c.requires.0 in
+    let named : c.state.result.now ≡ q =
+    c.state.ensures.named q (subst (λ (v : CacheView). Names v.store.table c.args.id q) (sym c.self.view_is) c.requires.1) in
+    record {
+      own = subst (λ (p : Powerset). IsStateOf c.args.self.now.store.table.of p) (sym c.of.ensures)
+          (subst (λ (v : CacheView). IsStateOf v.store.table.of c.state.result.now) c.self.view_is c.state.ensures.of);
+      cheap = subst (λ (p : Powerset). cost p ≤ greatest c.args.self.now.store.table.of) (sym c.of.ensures)
+          (subst (λ (v : CacheView). cost c.state.result.now ≤ greatest v.store.table.of) c.self.view_is c.state.ensures.cost);
+      alive = λ dies. c.see_ids.ensures.alive c.args.id q c.requires.1 (sym named ∙ (sym c.of.ensures ∙ dies));
+    }

@@ -1,0 +1,7 @@
+use Rattle.std.proofs.Common.{subst}
+use Rattle.automata_base.specs.Told.{ToldEndsAreRight}
+use Rattle.automata_hybrid.proofs.Standing.{first_match_is_found}
+use Rattle.automata_hybrid.proofs.laws.first_match_is_found.Goals as goal
+
+pub returns : goal.returns
+returns c = first_match_is_found c.args.dfa.now (subst ToldEndsAreRight c.get_nfa.ensures c.told_is_right.ensures.ends)

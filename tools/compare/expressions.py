@@ -1,0 +1,203 @@
+"""Random regular expressions, compiled to NFAs, and how these are written in a case of compare.in."""
+from __future__ import annotations
+
+from dataclasses import dataclass
+from random import Random
+from typing import Optional, Union
+
+from model import LOOKS, Accept, Ask, Free, Nfa, Read, State
+
+CHARACTERS = ("a", "b", "-", "\n", "\r", "\u00e9", "\u2603")
+BYTES = (0x61, 0x62, 0x98, 0xE2, 0xFF)
+CLASSES = (((0x61, 0x62),), ((0x61, 0x61), (0x62, 0x7A)), ((0x0A, 0x0A), (0x0D, 0x0D)), ((0x00, 0x60), (0x63, 0x7F)))
+
+
+@dataclass(frozen=True)
+class Text:
+    """These bytes one after another; none match the empty text."""
+    bytes: bytes
+
+
+@dataclass(frozen=True)
+class Class:
+    """One byte of these ranges; without one it matches nothing."""
+    ranges: tuple[tuple[int, int], ...]
+
+
+@dataclass(frozen=True)
+class Look:
+    """A look by its number."""
+    number: int
+
+
+@dataclass(frozen=True)
+class Group:
+    """The same as its part, as a capture group."""
+    part: Expression
+
+
+@dataclass(frozen=True)
+class Joined:
+    """The parts one after another."""
+    parts: tuple[Expression, ...]
+
+
+@dataclass(frozen=True)
+class Either:
+    """One of the parts, the first preferred."""
+    parts: tuple[Expression, ...]
+
+
+@dataclass(frozen=True)
+class Repeat:
+    """The part again and again, at least so often (0 or 1), or at most once; more is preferred if greedy."""
+    part: Expression
+    least: int
+    once: bool
+    greedy: bool
+
+
+Expression = Union[Text, Class, Look, Group, Joined, Either, Repeat]
+
+
+def random_leaf(random: Random, utf8: bool) -> Expression:
+    """An expression without parts. In UTF-8 mode it rarely reads what is not UTF-8."""
+    kind = random.random()
+    if kind < 0.25:
+        unicode = random.random() < 0.2
+        return Look(random.choice([number for number, name in enumerate(LOOKS) if ("Unicode" in name) == unicode]))
+    if kind < 0.32:
+        return Text(b"")
+    if kind < 0.34:
+        return Class(())
+    if kind < 0.5:
+        return Class(random.choice(CLASSES))
+    if random.random() < (0.02 if utf8 else 0.3):
+        return Text(bytes(random.choice(BYTES) for _ in range(random.randint(1, 2))))
+    return Text("".join(random.choice(CHARACTERS) for _ in range(random.randint(1, 2))).encode())
+
+
+def random_expression(random: Random, depth: int, utf8: bool) -> Expression:
+    """An expression whose parts are nested so deep at most."""
+    kind = random.random()
+    if depth == 0 or kind < 0.25:
+        return random_leaf(random, utf8)
+    if kind < 0.8:
+        parts = tuple(random_expression(random, depth - 1, utf8) for _ in range(random.randint(2, 3)))
+        return Joined(parts) if kind < 0.55 else Either(parts)
+    part = random_expression(random, depth - 1, utf8)
+    if kind < 0.85:
+        return Group(part)
+    return Repeat(part, random.randint(0, 1), random.random() < 0.3, random.random() < 0.6)
+
+
+class Compiler:
+    """Compiles expressions to states, each from what comes after it."""
+
+    def __init__(self, random: Random) -> None:
+        self.random = random
+        self.states: list[Optional[State]] = []
+
+    def add(self, state: Optional[State]) -> int:
+        """Adds a state, and returns its number."""
+        self.states.append(state)
+        return len(self.states) - 1
+
+    def free(self, targets: list[int]) -> Free:
+        """A state that reads nothing and leads to these states."""
+        letters = {0: "FU", 1: "EUC", 2: "UW"}.get(len(targets), "U")
+        return Free(self.random.choice(letters), tuple(targets))
+
+    def read(self, ranges: tuple[tuple[int, int], ...], to: int) -> State:
+        """A state that reads a byte of these ranges. Only one range fits `B`, and a dense state can't lead to 0."""
+        letters = ("B" if len(ranges) == 1 else "") + "S" + ("D" if to > 0 and self.random.random() < 0.3 else "")
+        letter = self.random.choice(letters)
+        return Read(letter, tuple((lo, hi, to) for lo, hi in ranges))
+
+    def compile(self, expression: Expression, after: int) -> int:
+        """The state where an expression begins that goes on at a state."""
+        if isinstance(expression, Text):
+            for byte in reversed(expression.bytes):
+                after = self.add(self.read(((byte, byte),), after))
+            return after if expression.bytes or self.random.random() < 0.5 else self.add(self.free([after]))
+        if isinstance(expression, Class):
+            return self.add(self.read(expression.ranges, after) if expression.ranges else self.free([]))
+        if isinstance(expression, Look):
+            return self.add(Ask(expression.number, after))
+        if isinstance(expression, Group):
+            return self.add(Free("C", (self.compile(expression.part, self.add(Free("C", (after,)))),)))
+        if isinstance(expression, Joined):
+            for part in reversed(expression.parts):
+                after = self.compile(part, after)
+            return after
+        if isinstance(expression, Either):
+            return self.add(self.free([self.compile(part, after) for part in expression.parts]))
+        return self.compile_repeat(expression, after)
+
+    def compile_repeat(self, expression: Repeat, after: int) -> int:
+        """A union before the part, to which the part leads back unless it is read once."""
+        union = self.add(None)
+        part = self.compile(expression.part, after if expression.once else union)
+        self.states[union] = self.free([part, after] if expression.greedy else [after, part])
+        return part if expression.least == 1 else union
+
+
+def random_nfa(random: Random) -> Nfa:
+    """The NFA of up to four random expressions, a pattern each. A few have starts that no regex can be made of."""
+    utf8 = random.random() < 0.4
+    compiler = Compiler(random)
+    count = random.choices((0, 1, 2, 3, 4), (1, 40, 30, 20, 9))[0]
+    starts: list[int] = []
+    for pattern in range(count):
+        expression = random_expression(random, random.choice((1, 2, 2, 3)), utf8)
+        starts.append(compiler.compile(expression, random_end(random, compiler, pattern, starts)))
+    led = starts if random.random() < 0.9 else random.sample(starts, random.randint(0, count))
+    anchored = led[0] if len(led) == 1 and random.random() < 0.5 else compiler.add(compiler.free(led))
+    unanchored = random_prefix(random, compiler, anchored)
+    terminator = 0x0A if random.random() < 0.8 else random.choice((0x00, 0x0D, 0x61, 0xFF))
+    states = tuple(state for state in compiler.states if state is not None)
+    if starts and random.random() < 0.03:
+        starts[random.randrange(count)] = random.randrange(anchored + 1)
+    return Nfa(states, anchored, unanchored, tuple(starts), utf8, random.random() < 0.1, terminator)
+
+
+def random_end(random: Random, compiler: Compiler, pattern: int, starts: list[int]) -> int:
+    """Where a pattern ends: a match state, or now and then a union of it and a state of an earlier pattern."""
+    end = compiler.add(Accept(pattern))
+    if not starts or random.random() < 0.85:
+        return end
+    earlier = starts[-1] if random.random() < 0.5 else random.randrange(end)
+    return compiler.add(compiler.free([end, earlier]))
+
+
+def random_prefix(random: Random, compiler: Compiler, start: int) -> int:
+    """The unanchored start: a lazy loop before the start, which is written as one word, or the start itself."""
+    kind = random.random()
+    if kind < 0.15:
+        return start
+    union = len(compiler.states)
+    targets = (start, union + 1) if kind < 0.97 else (union + 1, start)
+    compiler.add(Free("P" if kind < 0.9 else "U", targets))
+    compiler.add(Read("B", ((0, 255, union),)))
+    return union
+
+
+def word(state: State) -> str:
+    """A state, as a case of compare.in has it."""
+    if isinstance(state, Accept):
+        return f"M{state.pattern}"
+    if isinstance(state, Ask):
+        return f"L{state.look},{state.target}"
+    if isinstance(state, Read):
+        return state.letter + ",".join(f"{lo},{hi},{to}" for lo, hi, to in state.ranges)
+    targets = state.targets[:1] if state.letter == "P" else state.targets
+    return state.letter + ",".join(map(str, targets))
+
+
+def written(nfa: Nfa) -> str:
+    """An NFA, as a case of compare.in has it: a `P` stands for its state and the next one."""
+    words = [f"{nfa.utf8:d},{nfa.reverse:d},{nfa.terminator}", f"{nfa.anchored},{nfa.unanchored}",
+             ",".join(map(str, nfa.patterns))]
+    loops = [number for number, state in enumerate(nfa.states) if isinstance(state, Free) and state.letter == "P"]
+    words += [word(state) for number, state in enumerate(nfa.states) if number - 1 not in loops]
+    return " ".join(words)

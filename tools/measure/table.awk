@@ -1,0 +1,61 @@
+# Reads the works with their units, and then a line `ROUND WHO WORK COUNT TIME` for each run. For each work it prints the
+# middle of the rounds in nanoseconds a unit, here, by the twin and by RE2, with the first and the third quarter in
+# brackets; then the other two's time by ours, of the same round, likewise. It says where two programs counted different
+# matches.
+
+FNR == NR { works[++last] = $1; units[$1] = $2; unit[$1] = $3; next }
+
+$5 ~ /^[0-9]+$/ {
+    n = ++runs[$2, $3]
+    times[$2, $3, n] = $5
+    at[$1, $2, $3] = $5
+    if ($1 > rounds) rounds = $1
+    if ($3 !~ /^(tight|room|memory)/) {
+        if ($3 in counts && counts[$3] != $4) differs[$3] = 1
+        counts[$3] = $4
+    }
+    met[$3] = 1
+}
+
+function sort(list, n,    i, j, x) {
+    for (i = 2; i <= n; i++) {
+        x = list[i]
+        for (j = i - 1; j > 0 && list[j] > x; j--) list[j + 1] = list[j]
+        list[j + 1] = x
+    }
+}
+
+function shown(x) { return sprintf(x < 0.1 ? "%.3f" : x < 10 ? "%.2f" : x < 100 ? "%.1f" : "%.0f", x) }
+
+# The middle, and the quarters on both sides.
+function spread(list, n) {
+    if (n == 0) return "-"
+    sort(list, n)
+    return shown(list[int((n + 1) / 2)]) " (" shown(list[int((n + 3) / 4)]) "-" shown(list[n - int((n + 3) / 4) + 1]) ")"
+}
+
+function time(who, work,    list, n) {
+    split("", list)
+    for (n = 1; n <= runs[who, work]; n++) list[n] = times[who, work, n] * 1000 / units[work]
+    return spread(list, n - 1)
+}
+
+function ratio(who, work,    list, n, round) {
+    split("", list)
+    for (round = 1; round <= rounds; round++)
+        if ((round, who, work) in at && at[round, "here", work] > 0)
+            list[++n] = at[round, who, work] / at[round, "here", work]
+    return spread(list, n + 0)
+}
+
+END {
+    line = "%-9s %-6s %22s %22s %22s %18s %18s\n"
+    printf line, "work", "ns a", "here", "twin", "re2", "twin/here", "re2/here"
+    for (k = 1; k <= last; k++) {
+        work = works[k]
+        if (!(work in met)) continue
+        printf line, work, unit[work], time("here", work), time("twin", work), time("re2", work),
+            ratio("twin", work), ratio("re2", work)
+        if (work in differs) print work ": the programs counted different numbers"
+    }
+}
