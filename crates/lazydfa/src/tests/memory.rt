@@ -3,7 +3,7 @@
 
 use super::tells::Automaton::{Forward, Reverse};
 use super::tells::lazy;
-use super::turns::ROOM;
+use super::turns::Turns;
 use super::{Sink, Source, check, exhaust, same_of};
 use crate::catalogue::Entry;
 use crate::error::RunError;
@@ -127,25 +127,25 @@ fn refused_by<R: Abort>(rt: &R, output: &[u8], answer: &str) -> Refused {
     Refused::Nothing
 }
 
-/// Runs a script while what is left of memory rises by sixteen bytes a turn, so that each growth
-/// is the refused one in some turn. What is refused is told, or the regex or the request in which
-/// it was refused says so; no other answer changes.
+/// Runs a script in the memory of each turn until nothing is refused, so that each growth is the refused one in some
+/// turn. What is refused is told, or the regex or the request in which it was refused says so; no other answer changes.
 fn refuse_each_growth<R: Abort + AllocGlobal>(rt: &R, script: &str, answer: &str) {
-    let room = Vec::<u8>::with_capacity(rt.alloc(), ROOM).expect(rt, "memory");
     let mut output = Sink {
         bytes: Vec::with_capacity(rt.alloc(), 1 << 10).expect(rt, "memory"),
         most: 1 << 10,
         calls: 0,
         fails_at: 0,
     };
+    let mut turns = Turns::new(rt);
     let mut seen = [false; 4];
-    exhaust(rt.alloc());
-    drop(room);
-    for step in 0..4000usize {
-        let filler = Vec::<u8>::with_capacity(rt.alloc(), ROOM - 16 * step).expect(rt, "memory");
+    for _ in 0..16384u32 {
+        turns.lend(rt);
         let refused = run_in(rt, script, answer, &mut output);
         seen[refused as usize] = true;
-        drop(filler);
+        if seen[Refused::Nothing as usize] {
+            break;
+        }
+        turns.lend_more();
     }
     check(rt, seen == [true; 4]);
 }

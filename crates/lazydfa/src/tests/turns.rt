@@ -9,7 +9,7 @@ use std::fmt::Write;
 use std::process::Abort;
 
 /// How many bytes of memory a block of the room takes.
-pub const ROOM: usize = 1 << 16;
+const ROOM: usize = 1 << 16;
 
 /// A call, and what it tells once there is memory.
 pub type Owed<C> = (C, &'static str);
