@@ -90,7 +90,7 @@ fn are_copied(dfa: &DFA, walk: &OverlappingState) -> (bool, bool, bool, bool) {
     (nfa, lazy, state, dfa.create_cache().is_ok())
 }
 
-/// What was refused memory in a run of a script of one request, if anything was.
+/// What was refused memory in a run of a script of one regex and at most one request, if anything was.
 #[derive(Clone, Copy)]
 enum Refused {
     Run,
@@ -117,7 +117,7 @@ fn run_in<R: Abort + AllocGlobal>(
 
 /// What an output tells.
 fn refused_by<R: Abort>(rt: &R, output: &[u8], answer: &str) -> Refused {
-    if output == b"refused out of memory\nbad regex\n".as_slice() {
+    if output == b"refused out of memory\n".as_slice() {
         return Refused::Regex;
     }
     if output == b"regex 0\nmemory\n".as_slice() {
@@ -128,8 +128,9 @@ fn refused_by<R: Abort>(rt: &R, output: &[u8], answer: &str) -> Refused {
 }
 
 /// Runs a script in the memory of each turn until nothing is refused, so that each growth is the refused one in some
-/// turn. What is refused is told, or the regex or the request in which it was refused says so; no other answer changes.
-fn refuse_each_growth<R: Abort + AllocGlobal>(rt: &R, script: &str, answer: &str) {
+/// turn. What is refused is told, or this part in which it was refused says so; no other answer changes. A regex that
+/// was refused is seen without a request alone: what it gives back does not serve the request behind it.
+fn refuse_each_growth<R: Abort + AllocGlobal>(rt: &R, script: &str, answer: &str, part: Refused) {
     let mut output = Sink {
         bytes: Vec::with_capacity(rt.alloc(), 1 << 10).expect(rt, "memory"),
         most: 1 << 10,
@@ -147,15 +148,24 @@ fn refuse_each_growth<R: Abort + AllocGlobal>(rt: &R, script: &str, answer: &str
         }
         turns.lend_more();
     }
-    check(rt, seen == [true; 4]);
+    let mut want = [true, false, false, true];
+    want[part as usize] = true;
+    same_of(rt, &seen, &want, &script);
 }
 
 #[test]
 fn tells_each_refused_growth(rt: HostRuntime) {
-    refuse_each_growth(&rt, "regex ab\nfwd 6162\n", "regex 0\nhalf 0 2\n");
+    let script = "regex words\nfwd 6162\n";
+    refuse_each_growth(&rt, script, "regex 0\nhalf 0 2\n", Refused::Request);
 }
 
 #[test]
 fn tells_each_refused_growth_in_reverse(rt: HostRuntime) {
-    refuse_each_growth(&rt, "regex ab\nrev 6162\n", "regex 0\nhalf 0 0\n");
+    let script = "regex words\nrev 6162\n";
+    refuse_each_growth(&rt, script, "regex 0\nhalf 0 0\n", Refused::Request);
+}
+
+#[test]
+fn tells_each_refused_growth_of_a_regex(rt: HostRuntime) {
+    refuse_each_growth(&rt, "regex words\n", "regex 0\n", Refused::Regex);
 }
