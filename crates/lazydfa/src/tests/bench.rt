@@ -3,10 +3,10 @@
 ghost use Rattle.std.specs.Prelude.{◌≡◌, ◌<◌, ◌^◌, IsTrue};
 ghost use Rattle.regex_automata.specs.Caches.{IsCacheOf, HasRow};
 
-use super::plans::{Mode, pattern_id};
-use super::tells::{Automaton, Caller, built};
-use super::told::{Brief, Told, letter};
-use super::turns::{InTurns, Short, Turns, call_short};
+use super::Host;
+use super::plans::Mode;
+use super::tells::{Automaton, Caller};
+use super::told::{Brief, Counted, Told, letter};
 use crate::catalogue::Entry;
 use regex_automata::hybrid::dfa::{Cache, DFA};
 use regex_automata::hybrid::{BuildError, LazyStateID, SearchError, StartError, StepError};
@@ -14,7 +14,6 @@ use regex_automata::util::primitives::PatternID;
 use regex_automata::util::search::{Anchored, HalfMatch, Input};
 use regex_automata::util::start;
 use std::alloc::{AllocError, Global};
-use std::process::Abort;
 
 /// A call.
 #[derive(Clone, Copy)]
@@ -28,15 +27,11 @@ pub enum Call {
     /// The same as `FindIn`, forward, with the place where the last of its searches began.
     FindBased(&'static str, usize, usize),
     /// The start of a search of a haystack, and whether it has a tag.
-    StartOn(&'static str),
-    /// The same in a mode.
-    StartOnIn(Mode, &'static str),
+    StartOn(Mode, &'static str),
     /// The start that isn't anchored, behind this byte.
     Start(Option<u8>),
-    /// The start of a mode, behind no byte.
-    StartIn(Mode),
-    /// The start of a pattern.
-    StartOf(u8, Option<u8>),
+    /// The start of a mode.
+    StartIn(Mode, Option<u8>),
     Step(u8),
     Steps(&'static str),
     End,
@@ -89,28 +84,14 @@ pub struct Bench {
 
 impl Bench {
     /// Before any start.
-    pub fn new<R: Abort>(rt: &R, dfa: DFA) -> Bench {
+    pub fn new(rt: &impl Host, dfa: DFA) -> Bench {
         let cache = dfa.create_cache().expect(rt, "a cache");
-        Bench::over(dfa, cache)
-    }
-
-    /// The same, if the automaton isn't refused.
-    pub fn built<R: Abort>(rt: &R, dfa: Result<DFA, BuildError>) -> Result<Bench, BuildError> {
-        match dfa {
-            Ok(dfa) => Ok(Bench::new(rt, dfa)),
-            Err(error) => Err(error),
-        }
-    }
-
-    /// Over a cache that is there.
-    pub fn over(dfa: DFA, cache: Cache) -> Bench
-        requires { IsCacheOf cache dfa }
-    {
+        let at = LazyStateID::default();
         Bench {
             dfa,
             cache,
-            at: LazyStateID::default(),
-            told: [LazyStateID::default(); 8],
+            at,
+            told: [at; 8],
             count: 0,
         }
     }
@@ -131,15 +112,11 @@ impl Bench {
                 self.find(&within(haystack, start, end).anchored(Anchored::Yes))
             }
             Call::FindBased(haystack, start, end) => self.find_based(&within(haystack, start, end)),
-            Call::StartOn(haystack) => self.start_on(&Input::new(haystack.as_bytes())),
-            Call::StartOnIn(mode, haystack) => {
+            Call::StartOn(mode, haystack) => {
                 self.start_on(&Input::new(haystack.as_bytes()).anchored(mode.anchored()))
             }
             Call::Start(behind) => Told::of_start(self.start(Anchored::No, behind)),
-            Call::StartIn(mode) => Told::of_start(self.start(mode.anchored(), None)),
-            Call::StartOf(number, behind) => {
-                Told::of_start(self.start(Anchored::Pattern(pattern_id(number)), behind))
-            }
+            Call::StartIn(mode, behind) => Told::of_start(self.start(mode.anchored(), behind)),
             Call::Step(byte) => Told::of_step(self.step(byte)),
             Call::Steps(bytes) => Told::of_step(self.steps(bytes)),
             Call::End => Told::of_step(self.end()),
@@ -292,30 +269,15 @@ impl Bench {
     }
 
     fn counts(&self) -> Told {
-        Told::Counts(
-            self.cache.clear_count(),
-            self.cache.memory_usage(),
-            self.cache.search_total_len(),
-            if self.cache.in_progress() {
-                " open"
-            } else {
-                ""
-            },
-        )
-    }
-
-    pub fn clears_and_memory(&self) -> (usize, usize) {
-        (self.cache.clear_count(), self.cache.memory_usage())
+        let (clears, memory, searched, in_progress) = self.totals();
+        let behind = if in_progress { " open" } else { "" };
+        Told::Counts((clears, memory, searched), behind)
     }
 
     /// How often the cache was cleared, its memory, the bytes searched, and whether a search is in progress.
     pub fn totals(&self) -> (usize, usize, usize, bool) {
-        (
-            self.cache.clear_count(),
-            self.cache.memory_usage(),
-            self.cache.search_total_len(),
-            self.cache.in_progress(),
-        )
+        let (clears, memory, searched) = counted(&self.cache);
+        (clears, memory, searched, self.cache.in_progress())
     }
 
     pub fn is_reverse(&self) -> bool {
@@ -411,11 +373,8 @@ impl Bench {
     }
 
     fn minimum(&self) -> Told {
-        match self
-            .dfa
-            .get_config()
-            .get_minimum_cache_capacity(self.dfa.get_nfa())
-        {
+        let config = self.dfa.get_config();
+        match config.get_minimum_cache_capacity(self.dfa.get_nfa()) {
             Ok(minimum) => Told::Number("", minimum, ""),
             Err(error) => Told::Refused(error),
         }
@@ -427,12 +386,11 @@ impl Caller for Bench {
 
     type Call = Call;
 
-    fn make<R: Abort + AllocGlobal>(
-        rt: &R,
-        of: Automaton,
-        options: &str,
-    ) -> Result<Bench, BuildError> {
-        Bench::built(rt, built(rt, of, options))
+    fn make(rt: &impl Host, of: Automaton, options: &str) -> Result<Bench, BuildError> {
+        match of.build(rt, options) {
+            Ok(dfa) => Ok(Bench::new(rt, dfa)),
+            Err(error) => Err(error),
+        }
     }
 
     fn answer(&mut self, alloc: Global, call: Call) -> Told {
@@ -446,14 +404,10 @@ impl Caller for Bench {
     }
 }
 
-impl InTurns for Bench {
-    type Of = Automaton;
-
-    type Call = Call;
-
-    fn take_turn<R: Abort + AllocGlobal>(rt: &R, row: &Short<Automaton, Call>, turns: &mut Turns) {
-        call_short::<Bench, R>(rt, row, turns);
-    }
+/// How often a cache was cleared, its memory, and the bytes searched.
+pub fn counted(cache: &Cache) -> Counted {
+    let (memory, searched) = (cache.memory_usage(), cache.search_total_len());
+    (cache.clear_count(), memory, searched)
 }
 
 /// An input over a part of a haystack, or over all of it where it has no such part.

@@ -1,15 +1,18 @@
 //! Automata that are built state by state.
 
 use super::plans::{Plan, Shape, id};
-use super::{check, exhaust, same_of, same_text};
+use super::tells::{Caller, ONCE, Short, refuse_each};
+use super::told::Told;
+use super::{Host, check, same_of, same_text};
 use crate::catalogue::Entry;
 use Shape::{Accept, Either, Range};
+use regex_automata::hybrid;
 use regex_automata::nfa::thompson::{BuildError, Builder, NFA, NfaError, State, Transition};
 use regex_automata::util::primitives::{PatternID, StateID};
-use std::process::Abort;
+use std::alloc::Global;
 
 /// Adds a match of the pattern, which begins where the automaton says.
-fn accept<R: Abort>(rt: &R, builder: &mut Builder, nfa: &NFA, pattern: PatternID) -> StateID {
+fn accept(rt: &impl Host, builder: &mut Builder, nfa: &NFA, pattern: PatternID) -> StateID {
     let start = nfa.start_pattern(pattern).expect(rt, "a start");
     let begun = builder.start_pattern().expect(rt, "no other pattern");
     check(rt, begun == pattern);
@@ -19,12 +22,7 @@ fn accept<R: Abort>(rt: &R, builder: &mut Builder, nfa: &NFA, pattern: PatternID
 }
 
 /// Adds a union of one alternate, and the other by a patch.
-fn either<R: Abort + AllocGlobal>(
-    rt: &R,
-    builder: &mut Builder,
-    alt1: StateID,
-    alt2: StateID,
-) -> StateID {
+fn either(rt: &impl Host, builder: &mut Builder, alt1: StateID, alt2: StateID) -> StateID {
     let alternates = Vec::from_slice(rt.alloc(), &[alt1]).expect(rt, "memory");
     let added = builder.add_union(alternates).expect(rt, "memory");
     builder.patch(added, alt2).expect(rt, "a union");
@@ -32,23 +30,21 @@ fn either<R: Abort + AllocGlobal>(
 }
 
 /// Adds a range that leads to state 0, and patches it.
-fn range<R: Abort>(rt: &R, builder: &mut Builder, lo: u8, hi: u8, next: StateID) -> StateID {
-    let anew = Transition {
-        lo,
-        hi,
-        next: StateID::ZERO,
-    };
-    let added = builder.add_range(anew).expect(rt, "memory");
+fn range(rt: &impl Host, builder: &mut Builder, lo: u8, hi: u8, next: StateID) -> StateID {
+    let zero = StateID::ZERO;
+    let added = builder
+        .add_range(Transition { lo, hi, next: zero })
+        .expect(rt, "memory");
     builder.patch(added, next).expect(rt, "a range");
     added
 }
 
-fn sparse<R: Abort + AllocGlobal>(rt: &R, builder: &mut Builder, ranges: &[Transition]) -> StateID {
+fn sparse(rt: &impl Host, builder: &mut Builder, ranges: &[Transition]) -> StateID {
     let ranges = Vec::from_slice(rt.alloc(), ranges).expect(rt, "memory");
     builder.add_sparse(ranges).expect(rt, "memory")
 }
 
-fn add<R: Abort + AllocGlobal>(rt: &R, builder: &mut Builder, nfa: &NFA, state: &State) -> StateID {
+fn add(rt: &impl Host, builder: &mut Builder, nfa: &NFA, state: &State) -> StateID {
     match state {
         State::ByteRange { lo, hi, next } => range(rt, builder, *lo, *hi, *next),
         State::Sparse(ranges) => sparse(rt, builder, ranges),
@@ -62,7 +58,7 @@ fn add<R: Abort + AllocGlobal>(rt: &R, builder: &mut Builder, nfa: &NFA, state: 
     }
 }
 
-fn add_all<R: Abort + AllocGlobal>(rt: &R, builder: &mut Builder, nfa: &NFA) {
+fn add_all(rt: &impl Host, builder: &mut Builder, nfa: &NFA) {
     builder.set_utf8(nfa.is_utf8());
     builder.set_reverse(nfa.is_reverse());
     builder.set_line_terminator(nfa.flags().line_terminator);
@@ -72,7 +68,7 @@ fn add_all<R: Abort + AllocGlobal>(rt: &R, builder: &mut Builder, nfa: &NFA) {
 }
 
 /// The same automaton by a builder.
-fn rebuilt<R: Abort + AllocGlobal>(rt: &R, nfa: &NFA) -> NFA {
+fn rebuilt(rt: &impl Host, nfa: &NFA) -> NFA {
     let mut builder = Builder::new(rt.alloc());
     add_all(rt, &mut builder, nfa);
     builder
@@ -80,7 +76,7 @@ fn rebuilt<R: Abort + AllocGlobal>(rt: &R, nfa: &NFA) -> NFA {
         .expect(rt, "an automaton")
 }
 
-fn told<R: Abort + AllocGlobal>(rt: &R, nfa: &NFA) -> String {
+fn told(rt: &impl Host, nfa: &NFA) -> String {
     format!(in rt.alloc();
         "{:?} {:?} {:?} {:?} {:?}",
         nfa.states(),
@@ -92,7 +88,7 @@ fn told<R: Abort + AllocGlobal>(rt: &R, nfa: &NFA) -> String {
     .expect(rt, "memory")
 }
 
-fn rebuild<R: Abort + AllocGlobal>(rt: &R, nfa: &NFA, entry: Entry) {
+fn rebuild(rt: &impl Host, nfa: &NFA, entry: Entry) {
     let found = told(rt, &rebuilt(rt, nfa));
     same_of(rt, &found, &told(rt, nfa), &entry);
 }
@@ -111,11 +107,11 @@ fn rebuilds_the_catalogue(rt: HostRuntime) {
 /// Adds `ab` behind any bytes, and builds it.
 fn build_ab(builder: &mut Builder) -> Result<NFA, BuildError> {
     builder.start_pattern()?;
-    for (byte, next) in [(b'a', 1u8), (b'b', 2)] {
+    for (lo, hi, next) in [(b'a', b'a', 1u8), (b'b', b'b', 2)] {
         let added = builder.add_range(Transition {
-            lo: byte,
-            hi: byte,
-            next: StateID::ZERO,
+            lo,
+            hi,
+            next: id(0),
         })?;
         builder.patch(added, id(next))?;
     }
@@ -125,70 +121,58 @@ fn build_ab(builder: &mut Builder) -> Result<NFA, BuildError> {
     builder.build(id(0), start)
 }
 
+#[rattlefmt::skip]
 const ANYWHERE: Plan = Plan {
-    states: &[
-        Range(b'a', b'a', 1),
-        Range(b'b', b'b', 2),
-        Accept(0),
-        Either(0, 4),
-        Range(0x00, 0xFF, 3),
-    ],
-    starts: (0, 3),
-    patterns: &[0],
+    states: &[Range(b'a', b'a', 1), Range(b'b', b'b', 2), Accept(0), Either(0, 4), Range(0x00, 0xFF, 3)],
+    starts: (0, 3), patterns: &[0],
 };
 
 #[test]
 fn begins_anywhere(rt: HostRuntime) {
     let mut builder = Builder::new(rt.alloc());
     let nfa = build_ab(&mut builder).expect(&rt, "an automaton");
-    same_text(
-        &rt,
-        &told(&rt, &nfa),
-        &told(&rt, &ANYWHERE.build(&rt)),
-        "ab",
-    );
+    let want = told(&rt, &ANYWHERE.build(&rt));
+    same_text(&rt, &told(&rt, &nfa), &want, "ab");
     check(&rt, nfa.skips_lazily());
 }
 
-/// The most memory that a turn finds.
-const ROOM: usize = 1 << 15;
-
-/// Whether `ab` that is built skips lazily.
-fn is_lazy(builder: &mut Builder) -> Result<bool, BuildError> {
-    let nfa = build_ab(builder)?;
-    Ok(nfa.skips_lazily())
+/// A builder that is used again.
+#[derive(Drop)]
+struct Again {
+    builder: Builder,
 }
 
-/// Builds anew in the memory that is left. Tells whether it failed.
-fn fails<R: Abort>(rt: &R, builder: &mut Builder) -> bool {
-    builder.clear();
-    let built = is_lazy(builder);
-    check(
-        rt,
-        built == Ok(true) || built == Err(BuildError::OutOfMemory),
-    );
-    built.is_err()
+impl Caller for Again {
+    type Of = ();
+
+    type Call = ();
+
+    fn make(rt: &impl Host, _of: (), _options: &str) -> Result<Again, hybrid::BuildError> {
+        let builder = Builder::new(rt.alloc());
+        Ok(Again { builder })
+    }
+
+    /// Whether `ab` that is built anew skips lazily.
+    fn answer(&mut self, _alloc: Global, _call: ()) -> Told {
+        self.builder.clear();
+        match build_ab(&mut self.builder) {
+            Ok(nfa) => Told::of_flag(nfa.skips_lazily()),
+            Err(BuildError::OutOfMemory) => Told::Word("out of memory"),
+            Err(_) => Told::Word("another error"),
+        }
+    }
 }
 
-/// What is left of memory rises by sixteen bytes a turn, so that each allocation fails in some turn. In the end the same
-/// builder builds.
+/// Each allocation fails in some turn. In the end the same builder builds.
+#[rattlefmt::skip]
+const AGAIN: &[Short<(), ()>] = &[("a builder", (), "", &[], &[((), "true")], ONCE)];
+
 #[test]
 fn builds_after_each_refused_growth(rt: HostRuntime) {
-    let room = Vec::<u8>::with_capacity(rt.alloc(), ROOM).expect(&rt, "memory");
-    let mut builder = Builder::new(rt.alloc());
-    let mut failed = false;
-    exhaust(rt.alloc());
-    drop(room);
-    for step in 0..1980usize {
-        let filler = Vec::<u8>::with_capacity(rt.alloc(), ROOM - 16 * step).expect(&rt, "memory");
-        failed |= fails(&rt, &mut builder);
-        drop(filler);
-    }
-    check(&rt, failed);
-    check(&rt, !fails(&rt, &mut builder));
+    refuse_each::<Again>(&rt, AGAIN);
 }
 
-fn add_unions<R: Abort + AllocGlobal>(rt: &R, builder: &mut Builder) {
+fn add_unions(rt: &impl Host, builder: &mut Builder) {
     let none = Vec::new(rt.alloc());
     let reverse = builder.add_union_reverse(none).expect(rt, "memory");
     for to in [3u8, 4, 5] {
@@ -223,38 +207,27 @@ fn builds_unions(rt: HostRuntime) {
 }
 
 /// Each error in turn. A call that fails changes nothing, so the next one finds the builder as it was.
-fn refuse<R: Abort + AllocGlobal>(rt: &R, builder: &mut Builder) {
+fn refuse(rt: &impl Host, builder: &mut Builder) {
+    let start_range = Some(BuildError::NFA(NfaError::StartRange));
     check(rt, builder.add_match() == Err(BuildError::NoPattern));
-    check(
-        rt,
-        builder.finish_pattern(id(0)) == Err(BuildError::NoPattern),
-    );
-    check(
-        rt,
-        builder.patch(id(0), id(0)) == Err(BuildError::StateRange),
-    );
+    let finished = builder.finish_pattern(id(0));
+    check(rt, finished == Err(BuildError::NoPattern));
+    let patched = builder.patch(id(0), id(0));
+    check(rt, patched == Err(BuildError::StateRange));
     let ranges = sparse(rt, builder, &[]);
-    check(
-        rt,
-        builder.patch(ranges, id(0)) == Err(BuildError::SparsePatch),
-    );
+    let patched = builder.patch(ranges, id(0));
+    check(rt, patched == Err(BuildError::SparsePatch));
     check(rt, builder.start_pattern() == Ok(PatternID::ZERO));
-    check(
-        rt,
-        builder.start_pattern() == Err(BuildError::UnfinishedPattern),
-    );
-    check(
-        rt,
-        builder.add_capture_start(id(0), u32::MAX) == Err(BuildError::TooLarge),
-    );
+    let started = builder.start_pattern();
+    check(rt, started == Err(BuildError::UnfinishedPattern));
+    let captured = builder.add_capture_start(id(0), u32::MAX);
+    check(rt, captured == Err(BuildError::TooLarge));
     let unfinished = builder.build(id(0), id(0)).err();
     check(rt, unfinished == Some(BuildError::UnfinishedPattern));
     builder.finish_pattern(id(0)).expect(rt, "memory");
-    let refused = builder.build(id(1), id(0)).err();
-    check(rt, refused == Some(BuildError::NFA(NfaError::StartRange)));
+    check(rt, builder.build(id(1), id(0)).err() == start_range);
     builder.clear();
-    let none = builder.build(id(0), id(0)).err();
-    check(rt, none == Some(BuildError::NFA(NfaError::StartRange)));
+    check(rt, builder.build(id(0), id(0)).err() == start_range);
 }
 
 #[test]

@@ -3,14 +3,13 @@
 use super::bench::{Bench, Call};
 use super::plans::{Mode, Shape};
 use super::regex_bench::{Ask, Pair, RegexBench};
-use super::tells::Automaton;
-use super::turns::{Short, refuse_each};
-use super::walker::{Over, ShortRow, Turn, Walked, Walker};
+use super::tells::{Automaton, ONCE, Refusal, Short, refuse_each};
+use super::walker::{Over, Turn, Walked, Walker};
 use crate::catalogue::Entry;
 use Automaton::{Chain, Forward, Reverse};
 use Call::{
     Brief, Classes, Counts, End, Find, FindIn, Known, Matched, Memory, Minimum, Patterns, Replace,
-    Reset, Room, Start, StartIn, StartOn, StartOnIn, State, Step, Steps,
+    Reset, Room, Start, StartIn, StartOn, State, Step, Steps,
 };
 use Mode::{Every, First, Of};
 use Over::{Span, Text};
@@ -22,153 +21,163 @@ type Lazy = Short<Automaton, Call>;
 
 type Regex = Short<Pair, Ask>;
 
+type Walk = Short<Walked, Turn>;
+
 const AB: Automaton = Forward(Entry::Ab);
+
+const WORDS: Automaton = Forward(Entry::Words);
+
+const WORDS_BACK: Automaton = Reverse(Entry::Words);
+
+const A16: Automaton = Forward(Entry::A16);
+
+/// Sixteen bytes.
+const AS: &str = "aaaaaaaaaaaaaaaa";
+
+/// The first call of a turn is refused.
+const AT_ONCE: &[Refusal] = &[(0, "memory")];
 
 /// What takes no memory.
 #[rattlefmt::skip]
 const KNOWN: &[Lazy] = &[
-    ("a search over known transitions grows nothing", AB, "limit=0", &[Find("ab")],
-        &[(Find("ab"), "half 0 2"), (Counts, "0 678 4"), (Room, "false")], &[]),
-    ("nor does a reverse one", Reverse(Entry::Ab), "limit=0", &[Find("ab")],
-        &[(Find("ab"), "half 0 0"), (Room, "false")], &[]),
+    ("a search over known transitions grows nothing", AB, "limit=0", &[Find("ab")], &[(Find("ab"), "half 0 2"),
+        (Counts, "0 678 4"), (Room, "false")], &[]),
+    ("nor does a reverse one", Reverse(Entry::Ab), "limit=0", &[Find("ab")], &[(Find("ab"), "half 0 0"),
+        (Room, "false")], &[]),
     ("nor a search over no span, though nothing is known yet", Forward(Entry::Always), "", &[],
         &[(FindIn("ab", 2, 1), "none"), (Find("ab"), "memory")], &[]),
     ("steps that are known take no memory, and others are refused", AB, "", &[Start(None), Steps("ab"), End, State],
         &[(Start(None), "-"), (Steps("ab"), "-"), (End, "-"), (State, "state 0m"), (Start(None), "-"),
         (Step(b'x'), "out of memory")], &[]),
-    ("patterns of a match, a known step, and what is counted", Forward(Entry::Aa), "all",
-        &[Start(None), State, Steps("aa")],
-        &[(Matched, "patterns 2 last 1"), (Start(None), "-"), (Known(b'a'), "state 1"), (Counts, "0 651 0"),
-        (Classes, "4"), (Minimum, "1895"), (Patterns, "2"), (Memory, "0"), (Room, "false")], &[]),
-    ("a start that is known, though the cache is full", Forward(Entry::A16), "noclasses capacity=37281",
-        &[Find("aaaaaaaaaaaaaaaa")], &[(StartOn("aaaaaaaaaaaaaaaa"), "false"), (Counts, "1 19288 3")], &[]),
+    ("patterns of a match, a known step, and what is counted", Forward(Entry::Aa), "all", &[Start(None), State,
+        Steps("aa")], &[(Matched, "patterns 2 last 1"), (Start(None), "-"), (Known(b'a'), "state 1"),
+        (Counts, "0 651 0"), (Classes, "4"), (Minimum, "1895"), (Patterns, "2"), (Memory, "0"), (Room, "false")], &[]),
+    ("a start that is known, though the cache is full", A16, "noclasses capacity=37281", &[Find(AS)],
+        &[(StartOn(Every, AS), "false"), (Counts, "1 19288 3")], &[]),
 ];
 
 #[test]
 fn goes_known_ways_without_memory(rt: HostRuntime) {
-    refuse_each::<Bench, _>(&rt, KNOWN);
+    refuse_each::<Bench>(&rt, KNOWN);
 }
 
 const FULL: &str = "noclasses capacity=37281";
 
 #[rattlefmt::skip]
 const CALLS: &[Lazy] = &[
-    ("a cache", Forward(Entry::Words), "", &[], &[(Replace, "-"), (Find("@foo bar"), "half 1 4")], &[(0, "out of memory")]),
-    ("a search", Forward(Entry::Words), "", &[], &[(Find("@foo bar"), "half 1 4"), (Brief, "1082")], &[(0, "memory")]),
-    ("a cache of a reverse DFA", Reverse(Entry::Words), "", &[],
-        &[(Replace, "-"), (Find("@foo bar"), "half 0 5")], &[(0, "out of memory")]),
-    ("a reverse search", Reverse(Entry::Words), "", &[], &[(Find("@foo bar"), "half 0 5"), (Brief, "1087")],
-        &[(0, "memory")]),
-    ("a start, though it was made before a reset", Forward(Entry::A16), FULL, &[Start(None), Reset],
-        &[(Counts, "0 6677 0"), (Start(None), "-")], &[(1, "out of memory")]),
-    ("a reset", Forward(Entry::A16), FULL, &[Start(None)],
-        &[(Reset, "-"), (Counts, "0 6677 0"), (Start(None), "-")], &[(0, "out of memory")]),
-    ("thirteen steps that fill the cache", Forward(Entry::A16), FULL, &[Start(None)],
-        &[(Step(b'a'), "-"), (Step(b'a'), "-"), (Step(b'a'), "-"), (Step(b'a'), "-"), (Step(b'a'), "-"),
+    ("a cache", WORDS, "", &[], &[(Replace, "-"), (Find("@foo bar"), "half 1 4")], &[(0, "out of memory")]),
+    ("a search", WORDS, "", &[], &[(Find("@foo bar"), "half 1 4"), (Brief, "1082")], AT_ONCE),
+    ("a cache of a reverse DFA", WORDS_BACK, "", &[], &[(Replace, "-"), (Find("@foo bar"), "half 0 5")], ONCE),
+    ("a reverse search", WORDS_BACK, "", &[], &[(Find("@foo bar"), "half 0 5"), (Brief, "1087")], &[(0, "memory")]),
+    ("a start, though it was made before a reset", A16, FULL, &[Start(None), Reset], &[(Counts, "0 6677 0"),
+        (Start(None), "-")], &[(1, "out of memory")]),
+    ("a reset", A16, FULL, &[Start(None)], &[(Reset, "-"), (Counts, "0 6677 0"), (Start(None), "-")], ONCE),
+    ("thirteen steps that fill the cache", A16, FULL, &[Start(None)], &[(Step(b'a'), "-"), (Step(b'a'), "-"),
         (Step(b'a'), "-"), (Step(b'a'), "-"), (Step(b'a'), "-"), (Step(b'a'), "-"), (Step(b'a'), "-"),
-        (Step(b'a'), "-"), (Step(b'a'), "-"), (Step(b'a'), "-"), (Counts, "0 36105 0")], &[(0, "out of memory")]),
-    ("a step that clears, and two more", Forward(Entry::A16), FULL, &[Start(None), Steps("aaaaaaaaaaaaa")],
-        &[(Step(b'a'), "-"), (Step(b'a'), "-"), (Step(b'a'), "-"), (Counts, "1 17187 0")], &[(0, "out of memory")]),
-    ("a start that clears", Chain(Shape::Assert(Look::WordAscii, 1)), "noclasses capacity=37645",
-        &[Start(None), Steps("aaaaaaaaaaaaa"), Counts], &[(Start(Some(b'a')), "-"), (Counts, "1 10965 0")],
-        &[(0, "out of memory")]),
+        (Step(b'a'), "-"), (Step(b'a'), "-"), (Step(b'a'), "-"), (Step(b'a'), "-"), (Step(b'a'), "-"),
+        (Step(b'a'), "-"), (Counts, "0 36105 0")], ONCE),
+    ("a step that clears, and two more", A16, FULL, &[Start(None), Steps("aaaaaaaaaaaaa")], &[(Step(b'a'), "-"),
+        (Step(b'a'), "-"), (Step(b'a'), "-"), (Counts, "1 17187 0")], ONCE),
+    ("a start that clears", Chain(Shape::Assert(Look::WordAscii, 1)), "noclasses capacity=37645", &[Start(None),
+        Steps("aaaaaaaaaaaaa"), Counts], &[(Start(Some(b'a')), "-"), (Counts, "1 10965 0")], ONCE),
 ];
 
 #[test]
 fn calls_after_each_refused_growth(rt: HostRuntime) {
-    refuse_each::<Bench, _>(&rt, CALLS);
+    refuse_each::<Bench>(&rt, CALLS);
 }
 
 /// Starts by each call and of each mode, each with a step that is dead or not. Past the last pattern none is refused.
 #[rattlefmt::skip]
 const STARTS: &[Lazy] = &[
-    ("at each place", Forward(Entry::Words), "starts", &[],
-        &[(StartIn(Every), "-"), (Brief, "753"), (Step(b'@'), "-"), (Brief, "886")], &[(0, "out of memory")]),
-    ("anchored", Forward(Entry::Words), "starts", &[],
-        &[(StartIn(First), "-"), (Brief, "748"), (Step(b'@'), "-"), (Brief, "871")], &[(0, "out of memory")]),
-    ("of a pattern", Forward(Entry::Words), "starts", &[],
-        &[(StartIn(Of(0)), "-"), (Brief, "743"), (Step(b'@'), "-"), (Brief, "743d")], &[(0, "out of memory")]),
-    ("of another", Forward(Entry::Words), "starts", &[],
-        &[(StartIn(Of(1)), "-"), (Brief, "743"), (Step(b'@'), "-"), (Brief, "866")], &[(0, "out of memory")]),
-    ("of none", Forward(Entry::Words), "starts", &[],
-        &[(StartIn(Of(2)), "-"), (Brief, "625d"), (Step(b'@'), "-"), (Brief, "625d")], &[]),
-    ("by an input, at each place", Forward(Entry::Words), "starts", &[],
-        &[(StartOnIn(Every, "@"), "false"), (Brief, "753"), (Step(b'@'), "-"), (Brief, "886")], &[(0, "out of memory")]),
-    ("by an input, anchored", Forward(Entry::Words), "starts", &[],
-        &[(StartOnIn(First, "@"), "false"), (Brief, "748"), (Step(b'@'), "-"), (Brief, "871")], &[(0, "out of memory")]),
-    ("by an input, of a pattern", Forward(Entry::Words), "starts", &[],
-        &[(StartOnIn(Of(0), "@"), "false"), (Brief, "743"), (Step(b'@'), "-"), (Brief, "743d")],
-        &[(0, "out of memory")]),
-    ("by an input, of another", Forward(Entry::Words), "starts", &[],
-        &[(StartOnIn(Of(1), "@"), "false"), (Brief, "743"), (Step(b'@'), "-"), (Brief, "866")], &[(0, "out of memory")]),
-    ("by an input, of none", Forward(Entry::Words), "starts", &[],
-        &[(StartOnIn(Of(2), "@"), "true"), (Brief, "625d"), (Step(b'@'), "-"), (Brief, "625d")], &[]),
-    ("in reverse, at each place", Reverse(Entry::Words), "starts", &[],
-        &[(StartOnIn(Every, "@"), "false"), (Brief, "753"), (Step(b'@'), "-"), (Brief, "886")], &[(0, "out of memory")]),
-    ("in reverse, anchored", Reverse(Entry::Words), "starts", &[],
-        &[(StartOnIn(First, "@"), "false"), (Brief, "748"), (Step(b'@'), "-"), (Brief, "871")], &[(0, "out of memory")]),
-    ("in reverse, of a pattern", Reverse(Entry::Words), "starts", &[],
-        &[(StartOnIn(Of(0), "@"), "false"), (Brief, "743"), (Step(b'@'), "-"), (Brief, "743d")],
-        &[(0, "out of memory")]),
-    ("in reverse, of another", Reverse(Entry::Words), "starts", &[],
-        &[(StartOnIn(Of(1), "@"), "false"), (Brief, "743"), (Step(b'@'), "-"), (Brief, "866")], &[(0, "out of memory")]),
-    ("in reverse, of none", Reverse(Entry::Words), "starts", &[],
-        &[(StartOnIn(Of(2), "@"), "true"), (Brief, "625d"), (Step(b'@'), "-"), (Brief, "625d")], &[]),
+    ("at each place", WORDS, "starts", &[], &[(StartIn(Every, None), "-"), (Brief, "753"), (Step(b'@'), "-"),
+        (Brief, "886")], ONCE),
+    ("anchored", WORDS, "starts", &[], &[(StartIn(First, None), "-"), (Brief, "748"), (Step(b'@'), "-"),
+        (Brief, "871")], ONCE),
+    ("of a pattern", WORDS, "starts", &[], &[(StartIn(Of(0), None), "-"), (Brief, "743"), (Step(b'@'), "-"),
+        (Brief, "743d")], ONCE),
+    ("of another", WORDS, "starts", &[], &[(StartIn(Of(1), None), "-"), (Brief, "743"), (Step(b'@'), "-"),
+        (Brief, "866")], ONCE),
+    ("of none", WORDS, "starts", &[], &[(StartIn(Of(2), None), "-"), (Brief, "625d"), (Step(b'@'), "-"),
+        (Brief, "625d")], &[]),
+    ("by an input, at each place", WORDS, "starts", &[], &[(StartOn(Every, "@"), "false"), (Brief, "753"),
+        (Step(b'@'), "-"), (Brief, "886")], ONCE),
+    ("by an input, anchored", WORDS, "starts", &[], &[(StartOn(First, "@"), "false"), (Brief, "748"),
+        (Step(b'@'), "-"), (Brief, "871")], ONCE),
+    ("by an input, of a pattern", WORDS, "starts", &[], &[(StartOn(Of(0), "@"), "false"), (Brief, "743"),
+        (Step(b'@'), "-"), (Brief, "743d")], ONCE),
+    ("by an input, of another", WORDS, "starts", &[], &[(StartOn(Of(1), "@"), "false"), (Brief, "743"),
+        (Step(b'@'), "-"), (Brief, "866")], ONCE),
+    ("by an input, of none", WORDS, "starts", &[], &[(StartOn(Of(2), "@"), "true"), (Brief, "625d"), (Step(b'@'), "-"),
+        (Brief, "625d")], &[]),
+    ("in reverse, at each place", WORDS_BACK, "starts", &[], &[(StartOn(Every, "@"), "false"), (Brief, "753"),
+        (Step(b'@'), "-"), (Brief, "886")], ONCE),
+    ("in reverse, anchored", WORDS_BACK, "starts", &[], &[(StartOn(First, "@"), "false"), (Brief, "748"),
+        (Step(b'@'), "-"), (Brief, "871")], ONCE),
+    ("in reverse, of a pattern", WORDS_BACK, "starts", &[], &[(StartOn(Of(0), "@"), "false"), (Brief, "743"),
+        (Step(b'@'), "-"), (Brief, "743d")], ONCE),
+    ("in reverse, of another", WORDS_BACK, "starts", &[], &[(StartOn(Of(1), "@"), "false"), (Brief, "743"),
+        (Step(b'@'), "-"), (Brief, "866")], ONCE),
+    ("in reverse, of none", WORDS_BACK, "starts", &[], &[(StartOn(Of(2), "@"), "true"), (Brief, "625d"),
+        (Step(b'@'), "-"), (Brief, "625d")], &[]),
 ];
 
 #[test]
 fn starts_after_each_refused_growth(rt: HostRuntime) {
-    refuse_each::<Bench, _>(&rt, STARTS);
+    refuse_each::<Bench>(&rt, STARTS);
 }
+
+const OVER_WORDS: Walked = Walked(WORDS, Text("@a b"));
 
 /// Where memory is refused, a call has no match, and the next one has the pair that was owed.
 #[rattlefmt::skip]
-const WALKS: &[ShortRow] = &[
-    ("over known transitions a walk takes no memory", Walked(Forward(Entry::Aa), Text("aa")), "all",
-        &[Next, Next, Next, Next, Next], &[(Begin, "-"), (Next, "half 0 1"), (Next, "half 1 1"), (Next, "half 0 2"),
+const WALKS: &[Walk] = &[
+    ("over known transitions a walk takes no memory", Walked(Forward(Entry::Aa), Text("aa")), "all", &[Next, Next,
+        Next, Next, Next], &[(Begin, "-"), (Next, "half 0 1"), (Next, "half 1 1"), (Next, "half 0 2"),
         (Next, "half 1 2"), (Next, "none"), (Turn::Room, "false")], &[]),
-    ("nor does one in reverse", Walked(Reverse(Entry::Aa), Text("aa")), "all limit=0",
-        &[Next, Next, Next, Next, Next], &[(Begin, "-"), (Next, "half 0 1"), (Next, "half 1 1"), (Next, "half 0 0"),
-        (Next, "half 1 0"), (Next, "none"), (Turn::Room, "false")], &[]),
-    ("nor from a state that it holds and that the cache has, else it owes its pair", Walked(Forward(Entry::Aa), Text("aa")),
-        "all", &[Next, Next, Next, Next, Next, Begin, Next, Next],
-        &[(Switch, "-"), (Next, "memory"), (Match, "none"), (Switch, "-"), (Next, "memory"), (Switch, "-"),
-        (Next, "half 0 2"), (Next, "half 1 2"), (Next, "none"), (Switch, "-"), (Next, "none"), (Match, "none")], &[]),
-    ("nor for another pattern of a place", Walked(Forward(Entry::Aa), Text("aa")), "all", &[Next],
-        &[(Switch, "-"), (Next, "half 1 1"), (Next, "memory"), (Match, "none"), (Switch, "-"), (Next, "memory"),
+    ("nor does one in reverse", Walked(Reverse(Entry::Aa), Text("aa")), "all limit=0", &[Next, Next, Next, Next, Next],
+        &[(Begin, "-"), (Next, "half 0 1"), (Next, "half 1 1"), (Next, "half 0 0"), (Next, "half 1 0"), (Next, "none"),
+        (Turn::Room, "false")], &[]),
+    ("nor from a state that it holds and that the cache has, else it owes its pair", Walked(Forward(Entry::Aa),
+        Text("aa")), "all", &[Next, Next, Next, Next, Next, Begin, Next, Next], &[(Switch, "-"), (Next, "memory"),
+        (Match, "none"), (Switch, "-"), (Next, "memory"), (Switch, "-"), (Next, "half 0 2"), (Next, "half 1 2"),
+        (Next, "none"), (Switch, "-"), (Next, "none"), (Match, "none")], &[]),
+    ("nor for another pattern of a place", Walked(Forward(Entry::Aa), Text("aa")), "all", &[Next], &[(Switch, "-"),
+        (Next, "half 1 1"), (Next, "memory"), (Match, "none"), (Switch, "-"), (Next, "memory"),
         (Turn::Counts, "0 383 0")], &[]),
-    ("nor over a done span", Walked(Forward(Entry::Always), Span("ab", 2, 1)), "all", &[],
-        &[(Next, "none"), (Next, "none"), (Turn::Counts, "0 221 0")], &[]),
-    ("over known transitions a search for a set takes none", Walked(Forward(Entry::Words), Text("@a b")), "all", &[Which(4)],
-        &[(Fill, "{0 1}")], &[]),
-    ("each call over another cache", Walked(Forward(Entry::Words), Text("@a b")), "all", &[],
-        &[(Next, "half 1 1"), (Switch, "-"), (Next, "half 1 2"), (Switch, "-"), (Next, "half 0 2"), (Switch, "-"),
-        (Next, "half 0 4"), (Switch, "-"), (Next, "half 1 4"), (Switch, "-"), (Next, "none")], &[(0, "memory")]),
-    ("each call over another cache in reverse", Walked(Reverse(Entry::Words), Text("@a b")), "all", &[],
-        &[(Next, "half 0 3"), (Switch, "-"), (Next, "half 1 3"), (Switch, "-"), (Next, "half 0 1"), (Switch, "-"),
-        (Next, "half 1 1"), (Switch, "-"), (Next, "half 1 0"), (Switch, "-"), (Next, "none")], &[(0, "memory")]),
-    ("across a clear", Walked(Forward(Entry::A16), Text("aaaaaaaaaaaaaaaa")), "all noclasses capacity=37281", &[],
-        &[(Next, "half 0 16"), (Switch, "-"), (Next, "none")], &[(0, "memory")]),
-    ("a set that has a pattern keeps it, and with memory it gets the rest", Walked(Forward(Entry::Words), Text("@a b")),
-        "all", &[Insert(2)], &[(Fill, "{0 1 2}")], &[(0, "{2} memory"), (0, "{1 2} memory")]),
+    ("nor over a done span", Walked(Forward(Entry::Always), Span("ab", 2, 1)), "all", &[], &[(Next, "none"),
+        (Next, "none"), (Turn::Counts, "0 221 0")], &[]),
+    ("over known transitions a search for a set takes none", OVER_WORDS, "all", &[Which(4)], &[(Fill, "{0 1}")], &[]),
+    ("each call over another cache", OVER_WORDS, "all", &[], &[(Next, "half 1 1"), (Switch, "-"), (Next, "half 1 2"),
+        (Switch, "-"), (Next, "half 0 2"), (Switch, "-"), (Next, "half 0 4"), (Switch, "-"), (Next, "half 1 4"),
+        (Switch, "-"), (Next, "none")], AT_ONCE),
+    ("each call over another cache in reverse", Walked(WORDS_BACK, Text("@a b")), "all", &[], &[(Next, "half 0 3"),
+        (Switch, "-"), (Next, "half 1 3"), (Switch, "-"), (Next, "half 0 1"), (Switch, "-"), (Next, "half 1 1"),
+        (Switch, "-"), (Next, "half 1 0"), (Switch, "-"), (Next, "none")], AT_ONCE),
+    ("across a clear", Walked(A16, Text(AS)), "all noclasses capacity=37281", &[], &[(Next, "half 0 16"),
+        (Switch, "-"), (Next, "none")], AT_ONCE),
+    ("a set that has a pattern keeps it, and with memory it gets the rest", Walked(WORDS, Text("@a b")), "all",
+        &[Insert(2)], &[(Fill, "{0 1 2}")], &[(0, "{2} memory"), (0, "{1 2} memory")]),
 ];
 
 #[test]
 fn walks_after_each_refused_growth(rt: HostRuntime) {
-    refuse_each::<Walker, _>(&rt, WALKS);
+    refuse_each::<Walker>(&rt, WALKS);
 }
 
-const WORDS: &[u8] = b"@foo bar";
+const FOO: &[u8] = b"@foo bar";
 
 /// Each of its items takes a new state, and so does the end.
 const ITEMS: &[u8] = b"\xE2xaaa\xE2 a";
 
-const ITEMS_TOLD: &str = "match 0 0..0; match 1 1..2; match 0 3..3; match 0 4..4; match 0 6..6";
+const ITEMS_TOLD: &str = "0 0..0; 1 1..2; 0 3..3; 0 4..4; 0 6..6";
 
 /// Each of its tokens takes a new state. The last place has none.
 const TOKENS: &[u8] = b"1a23bc!";
 
 const TOKENS_TOLD: &str = "1 0..1; 0 1..2; 1 2..4; 0 4..6; no token at 6";
+
+const PAIR: Pair = Pair::Of(Entry::Words);
 
 const RUNS: Pair = Pair::Of(Entry::Runs);
 
@@ -176,48 +185,45 @@ const SNOWX: Pair = Pair::Of(Entry::Snowx);
 
 #[rattlefmt::skip]
 const REGEXES: &[Regex] = &[
-    ("searches that are known take no memory", Pair::Of(Entry::Words), "", &[Ask::Find(WORDS), Ask::Is(WORDS)],
-        &[(Ask::Find(WORDS), "match 1 0..4"), (Ask::Is(WORDS), "true")], &[]),
-    ("others are refused", Pair::Of(Entry::Words), "", &[], &[(Ask::Find(WORDS), "memory"), (Ask::Is(WORDS), "memory"),
-        (Ask::Items(WORDS), "memory"), (Ask::Reset, "out of memory")], &[]),
-    ("the items so far", RUNS, "", &[Ask::Items(b"ab 1")],
-        &[(Ask::Items(b"ab 1_"), "match 0 0..2; memory"), (Ask::Items(b"ab 1"), "match 0 0..2; match 1 3..4")], &[]),
+    ("searches that are known take no memory", PAIR, "", &[Ask::Find(FOO), Ask::Is(FOO)],
+        &[(Ask::Find(FOO), "match 1 0..4"), (Ask::Is(FOO), "true")], &[]),
+    ("others are refused", PAIR, "", &[], &[(Ask::Find(FOO), "memory"), (Ask::Is(FOO), "memory"),
+        (Ask::Items(FOO), "memory"), (Ask::Reset, "out of memory")], &[]),
+    ("the items so far", RUNS, "", &[Ask::Items(b"ab 1")], &[(Ask::Items(b"ab 1_"), "0 0..2; memory"),
+        (Ask::Items(b"ab 1"), "0 0..2; 1 3..4")], &[]),
     ("tokens that are known", RUNS, "", &[Ask::Tokens(b"12ab3", 0)],
         &[(Ask::Tokens(b"12ab3", 0), "1 0..2; 0 2..4; 1 4..5")], &[]),
-    ("caches, of which either part is refused", Pair::Of(Entry::Words), "noclasses", &[],
-        &[(Ask::Replace, "-"), (Ask::Find(WORDS), "match 1 0..4")], &[(0, "out of memory"), (0, "reverse memory")]),
-    ("a reset, of which either part is refused", Pair::Of(Entry::Words), "noclasses", &[Ask::Find(WORDS)],
-        &[(Ask::ResetOrFind(WORDS), "-"), (Ask::Counts, "(0, 6529, 0) (0, 6529, 0)"), (Ask::Find(WORDS), "match 1 0..4")],
-        &[(0, "match 1 0..4; memory"), (0, "match 1 0..4; reverse memory")]),
-    ("a search", Pair::Of(Entry::Words), "noclasses", &[],
-        &[(Ask::Search(WORDS), "match 1 0..4")], &[(0, "memory")]),
-    ("a search back", Pair::Of(Entry::Words), "noclasses", &[Ask::Forward(WORDS)],
-        &[(Ask::Find(WORDS), "match 1 0..4")], &[(0, "memory")]),
-    ("whether there is a match", Pair::Of(Entry::Words), "noclasses", &[], &[(Ask::Is(WORDS), "true")],
-        &[(0, "memory")]),
+    ("caches, of which either part is refused", PAIR, "noclasses", &[], &[(Ask::Replace, "-"),
+        (Ask::Find(FOO), "match 1 0..4")], &[(0, "out of memory"), (0, "reverse memory")]),
+    ("a reset, of which either part is refused", PAIR, "noclasses", &[Ask::Find(FOO)], &[(Ask::ResetOrFind(FOO), "-"),
+        (Ask::Counts, "(0, 6529, 0) (0, 6529, 0)"), (Ask::Find(FOO), "match 1 0..4")], &[(0, "match 1 0..4; memory"),
+        (0, "match 1 0..4; reverse memory")]),
+    ("a search", PAIR, "noclasses", &[], &[(Ask::Search(FOO), "match 1 0..4")], AT_ONCE),
+    ("a search back", PAIR, "noclasses", &[Ask::Forward(FOO)], &[(Ask::Find(FOO), "match 1 0..4")], AT_ONCE),
+    ("whether there is a match", PAIR, "noclasses", &[], &[(Ask::Is(FOO), "true")], &[(0, "memory")]),
     ("the first item", SNOWX, "", &[Ask::Learn(ITEMS, &[], Every)], &[(Ask::Items(ITEMS), ITEMS_TOLD)],
         &[(0, "memory")]),
     ("the second", SNOWX, "", &[Ask::Learn(ITEMS, &[0], Every)], &[(Ask::Items(ITEMS), ITEMS_TOLD)],
-        &[(0, "match 0 0..0; memory")]),
+        &[(0, "0 0..0; memory")]),
     ("the third", SNOWX, "", &[Ask::Learn(ITEMS, &[0, 1], Every)], &[(Ask::Items(ITEMS), ITEMS_TOLD)],
-        &[(0, "match 0 0..0; match 1 1..2; memory")]),
+        &[(0, "0 0..0; 1 1..2; memory")]),
     ("the fourth", SNOWX, "", &[Ask::Learn(ITEMS, &[0, 1, 2], Every)], &[(Ask::Items(ITEMS), ITEMS_TOLD)],
-        &[(0, "match 0 0..0; match 1 1..2; match 0 3..3; memory")]),
+        &[(0, "0 0..0; 1 1..2; 0 3..3; memory")]),
     ("the fifth", SNOWX, "", &[Ask::Learn(ITEMS, &[0, 1, 2, 3, 4], Every)], &[(Ask::Items(ITEMS), ITEMS_TOLD)],
-        &[(0, "match 0 0..0; match 1 1..2; match 0 3..3; match 0 4..4; memory")]),
-    ("the end of an iteration", SNOWX, "", &[Ask::Learn(ITEMS, &[0, 1, 2, 3, 4, 5], Every)], &[(Ask::Items(ITEMS), ITEMS_TOLD)],
-        &[(0, "match 0 0..0; match 1 1..2; match 0 3..3; match 0 4..4; match 0 6..6; memory")]),
+        &[(0, "0 0..0; 1 1..2; 0 3..3; 0 4..4; memory")]),
+    ("the end of an iteration", SNOWX, "", &[Ask::Learn(ITEMS, &[0, 1, 2, 3, 4, 5], Every)],
+        &[(Ask::Items(ITEMS), ITEMS_TOLD)], &[(0, "0 0..0; 1 1..2; 0 3..3; 0 4..4; 0 6..6; memory")]),
     ("the first token", RUNS, "", &[Ask::Learn(TOKENS, &[], First)], &[(Ask::Tokens(TOKENS, 0), TOKENS_TOLD)],
-        &[(0, "out of memory")]),
+        &[(0, "memory")]),
     ("the second", RUNS, "", &[Ask::Learn(TOKENS, &[0], First)], &[(Ask::Tokens(TOKENS, 0), TOKENS_TOLD)],
-        &[(0, "1 0..1; out of memory")]),
+        &[(0, "1 0..1; memory")]),
     ("the third", RUNS, "", &[Ask::Learn(TOKENS, &[0, 1], First)], &[(Ask::Tokens(TOKENS, 0), TOKENS_TOLD)],
-        &[(0, "1 0..1; 0 1..2; out of memory")]),
+        &[(0, "1 0..1; 0 1..2; memory")]),
     ("the fourth", RUNS, "", &[Ask::Learn(TOKENS, &[0, 1, 2], First)], &[(Ask::Tokens(TOKENS, 0), TOKENS_TOLD)],
-        &[(0, "1 0..1; 0 1..2; 1 2..4; out of memory")]),
+        &[(0, "1 0..1; 0 1..2; 1 2..4; memory")]),
 ];
 
 #[test]
 fn asks_after_each_refused_growth(rt: HostRuntime) {
-    refuse_each::<RegexBench, _>(&rt, REGEXES);
+    refuse_each::<RegexBench>(&rt, REGEXES);
 }

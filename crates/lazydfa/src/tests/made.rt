@@ -1,14 +1,237 @@
-//! What is made of no cache, in ample memory and while growths are refused: automata that match always or never, sets
-//! and coded states.
+//! What is made of no cache: powerset states, automata that match always or never, sets, copies and replays.
 
-use super::check;
-use super::states::{THREE, parts_of};
-use super::turns::Turns;
+ghost use Rattle.std.specs.Prelude.{◌≡◌};
+
+use super::plans::{Mode, ids_of, pattern_id};
+use super::regex_bench::Pair;
+use super::tells::{Automaton, Caller, ONCE, RowOf, Short, config, refuse_each, tells_all};
+use super::told::Told;
+use super::{Host, check, same_of};
+use crate::catalogue::Entry;
+use Automaton::{Forward, Reverse};
+use Lead::{End, Is, Room, Start, Step, Steps};
+use Made::{Always, Decode, Encode, Never, Set};
+use Mode::{Every, First, Of};
 use regex_automata::hybrid::BuildError;
-use regex_automata::hybrid::dfa::DFA;
-use regex_automata::util::determinize::{Parts, State};
-use regex_automata::util::search::PatternSet;
-use std::process::Abort;
+use regex_automata::hybrid::dfa::{DFA, OverlappingState};
+use regex_automata::nfa::thompson::NFA;
+use regex_automata::replay::{Reply, Request, replay};
+use regex_automata::util::determinize;
+use regex_automata::util::determinize::{Parts, Scratch, State};
+use regex_automata::util::primitives::PatternID;
+use regex_automata::util::search::{Input, Match, MatchKind, PatternSet, Span};
+use std::alloc::{AllocError, Global};
+
+/// What the row shows, the NFA states, the patterns, the looks needed, and the bytes.
+type Coded = (
+    &'static str,
+    &'static [u8],
+    &'static [u8],
+    u32,
+    &'static [u8],
+);
+
+#[rattlefmt::skip]
+const THREE: Coded = ("three states and two patterns", &[3, 4, 1], &[0, 1], 0,
+    &[3, 0, 0, 0, 0, 0, 0, 0, 0, 2, 0, 0, 0, 0, 0, 0, 0, 1, 0, 0, 0, 6, 2, 5]);
+
+#[rattlefmt::skip]
+const CODED: &[Coded] = &[
+    ("pattern 0 alone", &[], &[0], 0, &[1, 0, 0, 0, 0, 0, 0, 0, 0]),
+    ("one state", &[1], &[], 0, &[0, 0, 0, 0, 0, 0, 0, 0, 0, 2]),
+    THREE,
+    ("two patterns, and states that fall", &[3, 4, 1, 2, 6], &[0, 1], 0,
+        &[3, 0, 0, 0, 0, 0, 0, 0, 0, 2, 0, 0, 0, 0, 0, 0, 0, 1, 0, 0, 0, 6, 2, 5, 2, 8]),
+    ("a Unicode word boundary is needed", &[0, 6], &[], 1 << 8, &[0, 0, 0, 0, 0, 0, 1, 0, 0, 0, 12]),
+];
+
+/// The parts of a row, no look known and no flag set.
+fn parts_of(rt: &impl Host, row: Coded) -> Parts {
+    let patterns = patterns_of(rt, row.2);
+    let (known, needed, word, half) = (0, row.3, false, false);
+    Parts {
+        nfa: ids_of(rt, row.1),
+        patterns,
+        known,
+        needed,
+        word,
+        half,
+    }
+}
+
+fn patterns_of(rt: &impl Host, numbers: &[u8]) -> Vec<PatternID> {
+    let mut patterns = Vec::new(rt.alloc());
+    for number in numbers {
+        patterns.push(pattern_id(*number)).expect(rt, "memory");
+    }
+    patterns
+}
+
+#[test]
+fn codes_states(rt: HostRuntime) {
+    for row in CODED {
+        let row = *row;
+        code(&rt, row);
+    }
+}
+
+fn code(rt: &impl Host, row: Coded) {
+    let parts = parts_of(rt, row);
+    assert!(rt; parts.is_without_repeats());
+    let state = State::encode(rt.alloc(), &parts).expect(rt, "memory");
+    same_of(rt, &state.as_bytes(), &row.4, &row.0);
+    let decoded = state.decode(rt.alloc()).expect(rt, "memory");
+    same_parts(rt, &decoded, &parts, row.0);
+}
+
+fn same_parts(rt: &impl Host, found: &Parts, want: &Parts, shows: &str) {
+    same_of(rt, &found.nfa, &want.nfa, &shows);
+    same_of(rt, &found.patterns, &want.patterns, &shows);
+    let flags = (found.known, found.needed, found.word, found.half);
+    same_of(rt, &flags, &(0, want.needed, false, false), &shows);
+}
+
+/// A call.
+#[derive(Clone, Copy)]
+enum Lead {
+    /// New room to make states in.
+    Room,
+    /// The start of a mode, behind this byte.
+    Start(Mode, Option<u8>),
+    Step(u8),
+    Steps(&'static str),
+    End,
+    /// Whether the state has these bytes.
+    Is(&'static [u8]),
+}
+
+/// A row of calls to an automaton, of the kind that the options say.
+type Row = RowOf<Automaton, Lead>;
+
+/// Of two patterns, with all ways on.
+const TWO: Lead = Is(&[
+    3, 0, 0, 0, 0, 0, 0, 0, 0, 2, 0, 0, 0, 0, 0, 0, 0, 1, 0, 0, 0, 6, 2, 5, 2, 8,
+]);
+
+#[rattlefmt::skip]
+const LED: &[Row] = &[
+    ("a byte of two", Forward(Entry::Ab), "", &[Steps("a"), Is(&[0, 0, 0, 0, 0, 0, 0, 0, 0, 2])], "-, true"),
+    ("the end behind a match", Forward(Entry::Ab), "", &[Steps("ab"), End, Is(&[1, 0, 0, 0, 0, 0, 0, 0, 0])],
+        "-, -, true"),
+    ("a byte that leads nowhere", Forward(Entry::Ab), "", &[Steps("ax"), Is(&[0, 0, 0, 0, 0, 0, 0, 0, 0])], "-, true"),
+    ("matches of two patterns, and all ways on", Forward(Entry::Aa), "all", &[Steps("aa"), TWO], "-, true"),
+    ("the first match cuts off the rest", Forward(Entry::Aa), "", &[Steps("aa"), Is(&[1, 0, 0, 0, 0, 0, 0, 0, 0])],
+        "-, true"),
+    ("a start that needs a word boundary", Forward(Entry::Bnum), "", &[Is(&[0, 0, 0, 0, 0, 0, 1, 0, 0, 0, 12])],
+        "true"),
+    ("the same behind a word byte", Forward(Entry::Bnum), "", &[Start(Every, Some(b'a')),
+        Is(&[4, 0, 0, 0, 0, 0, 1, 0, 0, 0, 12])], "-, true"),
+    ("a boundary that holds once the byte is read", Forward(Entry::Bnum), "", &[Start(First, None), Steps("1"),
+        Is(&[4, 0, 0, 0, 0, 0, 1, 0, 0, 2, 4])], "-, -, true"),
+    ("a boundary that holds at the end", Forward(Entry::Bnum), "", &[Steps("1"), End,
+        Is(&[1, 0, 0, 0, 0, 0, 0, 0, 0])], "-, -, true"),
+    ("states in the order of their paths", Forward(Entry::Words), "", &[Steps("@"),
+        Is(&[0, 0, 0, 0, 0, 0, 0, 0, 0, 6, 6, 9, 14])], "-, true"),
+    ("the start of a pattern", Forward(Entry::Words), "", &[Start(Of(1), None), Is(&[0, 0, 0, 0, 0, 0, 0, 0, 0, 6])],
+        "-, true"),
+    ("past the last pattern", Forward(Entry::Words), "", &[Start(Of(2), None), Is(&[0, 0, 0, 0, 0, 0, 0, 0, 0])],
+        "-, true"),
+    ("half way through a CRLF", Forward(Entry::Crlf), "all", &[Steps("\r"), Is(&[9, 0, 0, 0, 0, 32, 0, 0, 0, 0, 6])],
+        "-, true"),
+    ("half way through it in reverse", Reverse(Entry::Crlf), "all", &[Steps("\n"),
+        Is(&[9, 0, 0, 0, 0, 16, 0, 0, 0, 0, 6])], "-, true"),
+    ("a start half way through it", Reverse(Entry::Crlf), "all", &[Start(Every, Some(b'\n')),
+        Is(&[8, 0, 0, 0, 0, 16, 0, 0, 0, 0, 6])], "-, true"),
+];
+
+/// An automaton of a kind, the room to make its states in, and the state that was made last, at first the start.
+#[derive(Drop)]
+struct Maker {
+    nfa: NFA,
+    kind: MatchKind,
+    scratch: Scratch,
+    state: State,
+    ghost of: { scratch.of ≡ nfa },
+}
+
+impl Maker {
+    fn room(&mut self) -> Result<(), AllocError> {
+        self.scratch = Scratch::new(&self.nfa)?;
+        Ok(())
+    }
+
+    fn start(&mut self, mode: Mode, behind: Option<u8>) -> Result<(), AllocError> {
+        let (nfa, scratch) = (&self.nfa, &mut self.scratch);
+        self.state = determinize::start(nfa, scratch, mode.anchored(), behind)?;
+        Ok(())
+    }
+
+    /// The state that the state leads to. One of another automaton leads to none.
+    fn next(&mut self, unit: Option<u8>) -> Result<(), AllocError> {
+        if !self.state.is_of(&self.nfa) {
+            return Ok(());
+        }
+        let (nfa, scratch, from) = (&self.nfa, &mut self.scratch, &self.state);
+        self.state = determinize::next(nfa, scratch, self.kind, from, unit)?;
+        Ok(())
+    }
+
+    fn steps(&mut self, bytes: &str) -> Result<(), AllocError> {
+        for byte in bytes.as_bytes() {
+            self.next(Some(*byte))?;
+        }
+        Ok(())
+    }
+}
+
+impl Caller for Maker {
+    type Of = Automaton;
+
+    type Call = Lead;
+
+    fn make(rt: &impl Host, of: Automaton, options: &str) -> Result<Maker, BuildError> {
+        let nfa = of.nfa(rt);
+        let kind = config(rt, options).get_match_kind();
+        let mut scratch = Scratch::new(&nfa).expect(rt, "room");
+        let state = determinize::start(&nfa, &mut scratch, Every.anchored(), None);
+        let state = state.expect(rt, "a start");
+        Ok(Maker {
+            nfa,
+            kind,
+            scratch,
+            state,
+        })
+    }
+
+    fn answer(&mut self, _alloc: Global, call: Lead) -> Told {
+        match call {
+            Room => Told::of_growth(self.room()),
+            Start(mode, behind) => Told::of_growth(self.start(mode, behind)),
+            Step(byte) => Told::of_growth(self.next(Some(byte))),
+            Steps(bytes) => Told::of_growth(self.steps(bytes)),
+            End => Told::of_growth(self.next(None)),
+            Is(bytes) => Told::of_flag(self.state.as_bytes() == bytes),
+        }
+    }
+}
+
+#[test]
+fn makes_states_one_by_one(rt: HostRuntime) {
+    tells_all::<Maker>(&rt, LED);
+}
+
+#[rattlefmt::skip]
+const SHORT: &[Short<Automaton, Lead>] = &[
+    ("room", Forward(Entry::Aa), "all", &[], &[(Room, "-"), (Steps("aa"), "-"), (TWO, "true")], ONCE),
+    ("a start", Forward(Entry::Aa), "all", &[], &[(Start(Every, None), "-"), (Steps("aa"), "-"), (TWO, "true")], ONCE),
+    ("a step", Forward(Entry::Aa), "all", &[], &[(Step(b'a'), "-"), (Step(b'a'), "-"), (TWO, "true")], ONCE),
+    ("another", Forward(Entry::Aa), "all", &[Step(b'a')], &[(Step(b'a'), "-"), (TWO, "true")], ONCE),
+];
+
+#[test]
+fn makes_states_after_each_refused_growth(rt: HostRuntime) {
+    refuse_each::<Maker>(&rt, SHORT);
+}
 
 /// A call that can be refused memory.
 #[derive(Clone, Copy)]
@@ -20,106 +243,106 @@ enum Made {
     Decode,
 }
 
-const ALL: [Made; 5] = [
-    Made::Always,
-    Made::Never,
-    Made::Set,
-    Made::Encode,
-    Made::Decode,
-];
+/// The parts of a state, and the state.
+#[derive(Drop)]
+struct Making {
+    parts: Parts,
+    state: State,
+}
 
-impl Made {
-    /// Whether it is answered, which it is right. A refusal is for want of memory.
-    fn is_answered<R: Abort + AllocGlobal>(self, rt: &R, parts: &Parts, state: &State) -> bool {
-        match self {
-            Made::Always => is_built(rt, &DFA::always_match(rt.alloc()), 1),
-            Made::Never => is_built(rt, &DFA::never_match(rt.alloc()), 0),
-            Made::Set => is_set(rt),
-            Made::Encode => is_coded(rt, parts),
-            Made::Decode => is_decoded(rt, parts, state),
+impl Making {
+    fn set(&self, alloc: Global) -> Result<bool, AllocError> {
+        let set = PatternSet::new(alloc, 9)?;
+        Ok(set.capacity() == 9 && set.is_empty())
+    }
+
+    fn encode(&self, alloc: Global) -> Result<bool, AllocError> {
+        if !self.parts.is_without_repeats() {
+            return Ok(false);
+        }
+        Ok(State::encode(alloc, &self.parts)?.as_bytes() == THREE.4)
+    }
+
+    fn decode(&self, alloc: Global) -> Result<bool, AllocError> {
+        let decoded = self.state.decode(alloc)?;
+        Ok(decoded.nfa == self.parts.nfa && decoded.patterns == self.parts.patterns)
+    }
+}
+
+/// Whether what was made is right.
+fn told_of(is_right: Result<bool, AllocError>) -> Told {
+    match is_right {
+        Ok(is_right) => Told::of_flag(is_right),
+        Err(_) => Told::Refused(BuildError::OutOfMemory),
+    }
+}
+
+fn count_patterns(built: Result<DFA, BuildError>) -> Told {
+    match built {
+        Ok(dfa) => Told::Number("patterns ", dfa.pattern_len(), ""),
+        Err(error) => Told::Refused(error),
+    }
+}
+
+impl Caller for Making {
+    type Of = ();
+
+    type Call = Made;
+
+    fn make(rt: &impl Host, _of: (), _options: &str) -> Result<Making, BuildError> {
+        let parts = parts_of(rt, THREE);
+        let state = coded(rt, &parts);
+        Ok(Making { parts, state })
+    }
+
+    fn answer(&mut self, alloc: Global, made: Made) -> Told {
+        match made {
+            Always => count_patterns(DFA::always_match(alloc)),
+            Never => count_patterns(DFA::never_match(alloc)),
+            Set => told_of(self.set(alloc)),
+            Encode => told_of(self.encode(alloc)),
+            Decode => told_of(self.decode(alloc)),
         }
     }
 }
 
-fn is_built<R: Abort>(rt: &R, built: &Result<DFA, BuildError>, patterns: usize) -> bool {
-    match built {
-        Ok(dfa) => check(rt, dfa.pattern_len() == patterns),
-        Err(error) => check(rt, *error == BuildError::OutOfMemory),
-    }
-    built.is_ok()
-}
-
-fn is_set<R: Abort + AllocGlobal>(rt: &R) -> bool {
-    let Ok(set) = PatternSet::new(rt.alloc(), 9) else {
-        return false;
-    };
-    check(rt, set.capacity() == 9 && set.is_empty());
-    true
-}
-
-fn is_coded<R: Abort + AllocGlobal>(rt: &R, parts: &Parts) -> bool {
-    assert!(rt; parts.is_without_repeats());
-    let Ok(state) = State::encode(rt.alloc(), parts) else {
-        return false;
-    };
-    check(rt, state.as_bytes() == THREE.4);
-    true
-}
-
-fn is_decoded<R: Abort + AllocGlobal>(rt: &R, parts: &Parts, state: &State) -> bool {
-    let Ok(decoded) = state.decode(rt.alloc()) else {
-        return false;
-    };
-    check(
-        rt,
-        decoded.nfa == parts.nfa && decoded.patterns == parts.patterns,
-    );
-    true
-}
-
 /// The state of these parts.
-pub fn coded<R: Abort + AllocGlobal>(rt: &R, parts: &Parts) -> State {
+fn coded(rt: &impl Host, parts: &Parts) -> State {
     assert!(rt; parts.is_without_repeats());
     State::encode(rt.alloc(), parts).expect(rt, "memory")
 }
 
-#[test]
-fn makes_in_ample_memory(rt: HostRuntime) {
-    let parts = parts_of(&rt, THREE);
-    let state = coded(&rt, &parts);
-    for made in ALL {
-        check(&rt, made.is_answered(&rt, &parts, &state));
-    }
-}
+#[rattlefmt::skip]
+const MADE: &[Short<(), Made>] = &[
+    ("always", (), "", &[], &[(Always, "patterns 1")], ONCE), ("never", (), "", &[], &[(Never, "patterns 0")], ONCE),
+    ("a set", (), "", &[], &[(Set, "true")], ONCE), ("encode", (), "", &[], &[(Encode, "true")], ONCE),
+    ("decode", (), "", &[], &[(Decode, "true")], ONCE),
+];
 
-/// Makes it in ever more memory until it is there, which it isn't at first.
-fn make_in_turn<R: Abort + AllocGlobal>(
-    rt: &R,
-    made: Made,
-    (parts, state): (&Parts, &State),
-    turns: &mut Turns,
-) {
-    turns.lend_from(0);
-    for turn in 0..4096u32 {
-        turns.lend(rt);
-        let is_answered = made.is_answered(rt, parts, state);
-        turns.release();
-        if is_answered {
-            return check(rt, turn > 0);
-        }
-        turns.lend_more();
-    }
-    check(rt, false);
-}
-
-/// The test is a process of its own, so it may use up all memory for good.
 #[test]
 fn makes_after_each_refused_growth(rt: HostRuntime) {
-    let parts = parts_of(&rt, THREE);
-    let state = coded(&rt, &parts);
-    let mut turns = Turns::new(&rt);
-    turns.release();
-    for made in ALL {
-        make_in_turn(&rt, made, (&parts, &state), &mut turns);
-    }
+    refuse_each::<Making>(&rt, MADE);
+}
+
+#[test]
+fn replays(rt: HostRuntime) {
+    let regexes = [Pair::Of(Entry::Ab).regex(&rt, "")];
+    let requests = [Request::Find(Input::new(b"ab")), Request::StepWalk(0)];
+    let replies = replay(rt.alloc(), &regexes, &requests).expect(&rt, "memory");
+    let found = Match::new(pattern_id(0), Span { start: 0, end: 2 });
+    let is_right = replies.first() == Some(&Reply::Span(Ok(Some(found))));
+    check(&rt, is_right && replies.len() == 2);
+}
+
+#[test]
+fn copies(rt: HostRuntime) {
+    let dfa = Automaton::Forward(Entry::Ab).lazy(&rt, "");
+    let copy = dfa.clone().expect(&rt, "memory");
+    check(&rt, copy.pattern_len() == 1);
+    let copy = dfa.get_nfa().clone().expect(&rt, "memory");
+    check(&rt, copy.pattern_len() == 1);
+    let state = coded(&rt, &parts_of(&rt, THREE));
+    check(&rt, state.clone().expect(&rt, "memory") == state);
+    let walk = OverlappingState::start().clone().expect(&rt, "memory");
+    check(&rt, walk.get_match().is_none());
 }

@@ -1,10 +1,9 @@
-//! Refused growths in scripts, and what takes no memory. Each test is a process of its own, so it may use up all memory
-//! for good.
+//! Refused growths in scripts, and what takes no memory. Each test may use up all memory for good.
 
 use super::tells::Automaton::{Forward, Reverse};
-use super::tells::lazy;
-use super::turns::Turns;
-use super::{Sink, Source, check, exhaust, same_of};
+use super::tells::{Caller, Short, refuse_each};
+use super::told::Told;
+use super::{Host, Sink, Source, exhaust, same_of};
 use crate::catalogue::Entry;
 use crate::error::RunError;
 use crate::run::run;
@@ -14,7 +13,7 @@ use regex_automata::hybrid::regex::Regex;
 use regex_automata::nfa::thompson::NFA;
 use regex_automata::util::primitives::PatternID;
 use regex_automata::util::search::PatternSet;
-use std::process::Abort;
+use std::alloc::Global;
 
 /// Settings and builders take no memory.
 #[test]
@@ -22,12 +21,8 @@ fn builds_without_memory(rt: HostRuntime) {
     let nfa = Forward(Entry::Bound).nfa(&rt);
     exhaust(rt.alloc());
     let config = Config::new().unicode_word_boundary(true).quit(b'x', true);
-    same_of(
-        &rt,
-        &capacities(config, &nfa),
-        &(Ok(2374), Ok(2097152)),
-        &"capacities",
-    );
+    let found = capacities(config, &nfa);
+    same_of(&rt, &found, &(Ok(2374), Ok(2097152)), &"capacities");
     let built = DFA::builder().configure(config).build_from_nfa(nfa);
     let found = classes(&built.expect(&rt, "an automaton"));
     same_of(&rt, &found, &(13, true), &"classes, and no cache");
@@ -74,7 +69,7 @@ fn builds_regexes_without_memory(rt: HostRuntime) {
 /// Copies share what they are of.
 #[test]
 fn copies_without_memory(rt: HostRuntime) {
-    let dfa = lazy(&rt, Forward(Entry::Words), "");
+    let dfa = Forward(Entry::Words).lazy(&rt, "");
     let walk = OverlappingState::start();
     exhaust(rt.alloc());
     let copied = are_copied(&dfa, &walk);
@@ -90,82 +85,64 @@ fn are_copied(dfa: &DFA, walk: &OverlappingState) -> (bool, bool, bool, bool) {
     (nfa, lazy, state, dfa.create_cache().is_ok())
 }
 
-/// What was refused memory in a run of a script of one regex and at most one request, if anything was.
-#[derive(Clone, Copy)]
-enum Refused {
-    Run,
-    Regex,
-    Request,
-    Nothing,
-}
-
-/// Runs a script, its output in the room that is there.
-fn run_in<R: Abort + AllocGlobal>(
-    rt: &R,
-    script: &str,
-    answer: &str,
-    output: &mut Sink,
-) -> Refused {
-    output.bytes.clear();
-    let result = run(rt.alloc(), &mut Source::new(script.as_bytes()), output);
-    if result == Err(RunError::OutOfMemory) && output.bytes.is_empty() {
-        return Refused::Run;
-    }
-    check(rt, result.is_ok());
-    refused_by(rt, output.bytes.as_slice(), answer)
+/// A script, and an output that has room.
+#[derive(Drop)]
+struct Runner {
+    script: &'static str,
+    output: Sink,
 }
 
 /// What an output tells.
-fn refused_by<R: Abort>(rt: &R, output: &[u8], answer: &str) -> Refused {
-    if output == b"refused out of memory\n".as_slice() {
-        return Refused::Regex;
+#[rattlefmt::skip]
+const HEARD: &[(&str, &str)] = &[
+    ("refused out of memory\n", "regex memory"), ("regex 0\nmemory\n", "request memory"),
+    ("regex 0\n", "regex 0"), ("regex 0\nhalf 0 2\n", "half 0 2"), ("regex 0\nhalf 0 0\n", "half 0 0"),
+];
+
+impl Caller for Runner {
+    type Of = &'static str;
+
+    type Call = ();
+
+    fn make(rt: &impl Host, script: &'static str, _options: &str) -> Result<Runner, BuildError> {
+        let mut output = Sink::new(rt.alloc());
+        output.bytes.reserve(1 << 10).expect(rt, "memory");
+        output.most = 1 << 10;
+        Ok(Runner { script, output })
     }
-    if output == b"regex 0\nmemory\n".as_slice() {
-        return Refused::Request;
+
+    /// Runs the script.
+    fn answer(&mut self, alloc: Global, _call: ()) -> Told {
+        self.output.bytes.clear();
+        let mut input = Source::new(self.script.as_bytes());
+        if let Err(error) = run(alloc, &mut input, &mut self.output) {
+            let is_refused = error == RunError::OutOfMemory && self.output.bytes.is_empty();
+            return Told::Word(if is_refused {
+                "run memory"
+            } else {
+                "another error"
+            });
+        }
+        for (output, told) in HEARD {
+            if output.as_bytes() == self.output.bytes.as_slice() {
+                return Told::Word(*told);
+            }
+        }
+        Told::Word("another output")
     }
-    check(rt, output == answer.as_bytes());
-    Refused::Nothing
 }
 
-/// Runs a script in the memory of each turn until nothing is refused, so that each growth is the refused one in some
-/// turn. What is refused is told, or this part in which it was refused says so; no other answer changes. A regex that
-/// was refused is seen without a request alone: what it gives back does not serve the request behind it.
-fn refuse_each_growth<R: Abort + AllocGlobal>(rt: &R, script: &str, answer: &str, part: Refused) {
-    let mut output = Sink {
-        bytes: Vec::with_capacity(rt.alloc(), 1 << 10).expect(rt, "memory"),
-        most: 1 << 10,
-        calls: 0,
-        fails_at: 0,
-    };
-    let mut turns = Turns::new(rt);
-    let mut seen = [false; 4];
-    for _ in 0..16384u32 {
-        turns.lend(rt);
-        let refused = run_in(rt, script, answer, &mut output);
-        seen[refused as usize] = true;
-        if seen[Refused::Nothing as usize] {
-            break;
-        }
-        turns.lend_more();
-    }
-    let mut want = [true, false, false, true];
-    want[part as usize] = true;
-    same_of(rt, &seen, &want, &script);
-}
+/// What is refused is told, or the regex or the request in which it was refused says so; no other answer changes. A
+/// regex that was refused is seen without a request alone: what it gives back does not serve the request behind it.
+#[rattlefmt::skip]
+const RUNS: &[Short<&'static str, ()>] = &[
+    ("forward", "regex words\nfwd 6162\n", "", &[], &[((), "half 0 2")], &[(0, "run memory"), (0, "request memory")]),
+    ("in reverse", "regex words\nrev 6162\n", "", &[], &[((), "half 0 0")],
+        &[(0, "run memory"), (0, "request memory")]),
+    ("a regex", "regex words\n", "", &[], &[((), "regex 0")], &[(0, "run memory"), (0, "regex memory")]),
+];
 
 #[test]
 fn tells_each_refused_growth(rt: HostRuntime) {
-    let script = "regex words\nfwd 6162\n";
-    refuse_each_growth(&rt, script, "regex 0\nhalf 0 2\n", Refused::Request);
-}
-
-#[test]
-fn tells_each_refused_growth_in_reverse(rt: HostRuntime) {
-    let script = "regex words\nrev 6162\n";
-    refuse_each_growth(&rt, script, "regex 0\nhalf 0 0\n", Refused::Request);
-}
-
-#[test]
-fn tells_each_refused_growth_of_a_regex(rt: HostRuntime) {
-    refuse_each_growth(&rt, "regex words\n", "regex 0\n", Refused::Regex);
+    refuse_each::<Runner>(&rt, RUNS);
 }

@@ -8,44 +8,37 @@ use std::io::{Read, Write};
 use std::process::Abort;
 use std::{io, mem};
 
-mod ample;
-mod automata;
 mod bench;
 mod builder;
 mod calling;
-mod classes;
-mod clears;
 mod config;
-mod dfa;
-mod dice;
-mod exits;
 mod growths;
-mod long_runs;
+mod long;
 mod made;
 mod memory;
 mod nfa;
 mod one_step;
 mod paths;
 mod plans;
-mod powersets;
 mod random_paths;
 mod regex;
 mod regex_bench;
 mod replay_turns;
 mod reversed;
+mod rows;
 mod scripts;
-mod sets;
 mod span_paths;
-mod states;
-mod steps;
 mod tells;
 mod texts;
-mod tokens;
 mod told;
-mod turns;
 mod walk_paths;
 mod walker;
 mod walks;
+
+/// What a helper takes: it ends the process where something fails, and it allocates.
+trait Host: Abort + AllocGlobal {}
+
+impl<R: Abort + AllocGlobal> Host for R {}
 
 /// A reader over memory that takes few bytes a call and fails at a chosen call, counted from 1.
 #[derive(Drop)]
@@ -121,17 +114,17 @@ impl Write for Sink {
 }
 
 /// Stops the test unless what was found is what is wanted, and tells what the values belong to.
-fn same_of<T: PartialEq + Debug, D: Debug, R: Abort>(rt: &R, found: &T, want: &T, of: &D) {
+fn same_of<T: PartialEq + Debug, D: Debug>(rt: &impl Host, found: &T, want: &T, of: &D) {
     assert_eq!(rt; found, want, "{of:?}");
 }
 
 /// As `same_of`, of texts.
-fn same_text<R: Abort>(rt: &R, found: &str, want: &str, of: &str) {
+fn same_text(rt: &impl Host, found: &str, want: &str, of: &str) {
     assert_eq!(rt; found, want, "{of}");
 }
 
 /// Stops the test unless this holds.
-fn check<R: Abort>(rt: &R, is_right: bool) {
+fn check(rt: &impl Host, is_right: bool) {
     assert!(rt; is_right, "another answer");
 }
 
@@ -150,7 +143,7 @@ fn exhaust(alloc: Global) {
 }
 
 /// What a script prints, and its fault.
-fn printed<R: Abort + AllocGlobal>(rt: &R, script: &str) -> (String, Option<RunError>) {
+fn printed(rt: &impl Host, script: &str) -> (String, Option<RunError>) {
     let mut output = Sink::new(rt.alloc());
     output.most = 1 << 16;
     let mut input = Source::new(script.as_bytes());
@@ -161,7 +154,7 @@ fn printed<R: Abort + AllocGlobal>(rt: &R, script: &str) -> (String, Option<RunE
 }
 
 /// Runs a script that has no fault.
-fn prints<R: Abort + AllocGlobal>(rt: &R, script: &str, want: &str, shows: &str) {
+fn prints(rt: &impl Host, script: &str, want: &str, shows: &str) {
     let (text, fault) = printed(rt, script);
     same_of(rt, &fault, &None, &shows);
     same_text(rt, text.as_str(), want, shows);

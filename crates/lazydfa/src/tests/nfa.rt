@@ -1,13 +1,12 @@
-//! What automata say of themselves.
+//! What automata say of themselves, and malformed ones.
 
 use super::plans::{Plan, Shape};
-use super::same_of;
+use super::{Host, check, same_of};
 use crate::catalogue::Entry;
-use Shape::{Accept, Assert, Either, Range};
-use regex_automata::nfa::thompson::NFA;
+use Shape::{Accept, Assert, Either, Range, Sparse};
+use regex_automata::nfa::thompson::NfaError;
 use regex_automata::util::look::Look;
 use regex_automata::util::primitives::{PatternID, StateID};
-use std::process::Abort;
 
 /// The entries that have an empty match.
 #[rattlefmt::skip]
@@ -15,57 +14,37 @@ const EMPTY: &[Entry] = &[
     Entry::Always, Entry::Empty, Entry::Snow, Entry::Snowx, Entry::Bound, Entry::Crlf, Entry::Any,
 ];
 
-/// What an automaton of the catalogue says of itself.
+/// What the automata of the catalogue say of themselves. Only `any` reads bytes in UTF-8 mode that are not UTF-8.
 #[test]
 fn describes_the_catalogue(rt: HostRuntime) {
     for entry in Entry::ALL {
-        let forward = entry.forward(rt.alloc()).expect(&rt, "an entry");
-        let reverse = entry.reverse(rt.alloc()).expect(&rt, "an entry");
-        let forward_says = (
-            forward.has_empty(),
-            forward.skips_lazily(),
-            forward.is_reverse(),
-        );
-        let want = (EMPTY.contains(&entry), true, false);
-        same_of(&rt, &forward_says, &want, &entry);
-        let are_acyclic = (forward.is_look_acyclic(), reverse.is_look_acyclic());
-        same_of(&rt, &are_acyclic, &(true, true), &entry);
-        let is_pair = forward.is_utf8() == reverse.is_utf8()
-            && forward.pattern_len() == reverse.pattern_len();
-        same_of(&rt, &(reverse.is_reverse(), is_pair), &(true, true), &entry);
+        let (forward, reverse) = (describe_forward(&rt, entry), describe_reverse(&rt, entry));
+        same_of(&rt, &forward, &reverse, &entry);
     }
 }
 
-/// Only `any` reads bytes in UTF-8 mode that are not UTF-8.
-#[test]
-fn tests_utf8(rt: HostRuntime) {
-    compare_utf8(&rt);
-}
-
-fn compare_utf8<R: Abort + AllocGlobal>(rt: &R) {
-    for entry in Entry::ALL {
-        let is_kept = entry != Entry::Any;
-        same_of(rt, &keep_utf8(rt, entry), &(is_kept, is_kept), &entry);
-    }
-}
-
-/// Whether the two automata of an entry read only UTF-8.
-fn keep_utf8<R: Abort + AllocGlobal>(rt: &R, entry: Entry) -> (bool, bool) {
-    (forward_keeps(rt, entry), reverse_keeps(rt, entry))
-}
-
-fn forward_keeps<R: Abort + AllocGlobal>(rt: &R, entry: Entry) -> bool {
+/// It tells whether the automaton is in UTF-8 mode, and how many patterns there are.
+fn describe_forward(rt: &impl Host, entry: Entry) -> (bool, usize) {
     let nfa = entry.forward(rt.alloc()).expect(rt, "an entry");
-    nfa.keeps_utf8().expect(rt, "memory")
+    let is_empty = EMPTY.contains(&entry);
+    same_of(rt, &nfa.has_empty(), &is_empty, &entry);
+    let says = (nfa.skips_lazily(), nfa.is_reverse(), nfa.is_look_acyclic());
+    same_of(rt, &says, &(true, false, true), &entry);
+    let keeps_utf8 = nfa.keeps_utf8().expect(rt, "memory");
+    same_of(rt, &keeps_utf8, &(entry != Entry::Any), &entry);
+    (nfa.is_utf8(), nfa.pattern_len())
 }
 
-fn reverse_keeps<R: Abort + AllocGlobal>(rt: &R, entry: Entry) -> bool {
+fn describe_reverse(rt: &impl Host, entry: Entry) -> (bool, usize) {
     let nfa = entry.reverse(rt.alloc()).expect(rt, "an entry");
-    nfa.keeps_utf8_reverse().expect(rt, "memory")
+    let says = (nfa.is_reverse(), nfa.is_look_acyclic());
+    same_of(rt, &says, &(true, true), &entry);
+    let keeps_utf8 = nfa.keeps_utf8_reverse().expect(rt, "memory");
+    same_of(rt, &keeps_utf8, &(entry != Entry::Any), &entry);
+    (nfa.is_utf8(), nfa.pattern_len())
 }
 
-/// What the row shows, the states, the unanchored start, and whether the automaton skips lazily.
-/// Byte `a` leads to the match, if the row doesn't say otherwise.
+/// What the row shows, the states, the unanchored start, and whether it skips lazily. Byte `a` leads to the match.
 type Skip = (&'static str, &'static [Shape], u8, bool);
 
 #[rattlefmt::skip]
@@ -87,12 +66,7 @@ const SKIPS: &[Skip] = &[
 fn tells_lazy_skipping(rt: HostRuntime) {
     for row in SKIPS {
         let (shows, states, start, want) = *row;
-        let plan = Plan {
-            states,
-            starts: (0, start),
-            patterns: &[0],
-        };
-        let nfa = plan.build(&rt);
+        let nfa = Plan::of(states, start).build(&rt);
         same_of(&rt, &nfa.skips_lazily(), &want, &shows);
     }
 }
@@ -106,8 +80,7 @@ const CYCLES: &[Cycle] = &[
     ("a look before a byte", &[Assert(Look::WordAscii, 1), Range(b'a', b'a', 2), Accept(0)], true),
     ("a look that leads to itself", &[Assert(Look::Start, 0), Accept(0)], false),
     ("a look repeated", &[Either(1, 2), Assert(Look::WordAscii, 0), Accept(0)], false),
-    ("a look and a byte repeated", &[Either(1, 3), Assert(Look::WordAscii, 2), Range(b'a', b'a', 0), Accept(0)],
-        true),
+    ("a look and a byte repeated", &[Either(1, 3), Assert(Look::WordAscii, 2), Range(b'a', b'a', 0), Accept(0)], true),
     ("a look behind a cycle", &[Either(0, 1), Assert(Look::Start, 2), Accept(0)], true),
     ("a look before a cycle", &[Assert(Look::Start, 1), Either(1, 2), Accept(0)], true),
 ];
@@ -116,12 +89,7 @@ const CYCLES: &[Cycle] = &[
 fn tells_cycles_of_looks(rt: HostRuntime) {
     for row in CYCLES {
         let (shows, states, want) = *row;
-        let plan = Plan {
-            states,
-            starts: (0, 0),
-            patterns: &[0],
-        };
-        let nfa = plan.build(&rt);
+        let nfa = Plan::of(states, 0).build(&rt);
         same_of(&rt, &nfa.is_look_acyclic(), &want, &shows);
     }
 }
@@ -135,24 +103,66 @@ const EAGER: Plan = Plan {
 
 #[test]
 fn tells_eager_skipping(rt: HostRuntime) {
-    let said = said_by(&EAGER.build(&rt));
-    same_of(
-        &rt,
-        &said,
-        &((false, false), (false, false), Some(StateID::ZERO)),
-        &"eager skipping",
-    );
+    let nfa = EAGER.build(&rt);
+    let looks_at_start = nfa.look_set_any().contains(Look::Start);
+    let said = (nfa.skips_lazily(), nfa.has_empty(), looks_at_start);
+    same_of(&rt, &said, &(false, false, false), &"eager skipping");
+    check(&rt, !nfa.is_always_start_anchored());
+    let start = nfa.start_pattern(PatternID::ZERO);
+    same_of(&rt, &start, &Some(StateID::ZERO), &"a start");
 }
 
-/// Whether the automaton skips lazily, has an empty match, is always start anchored, and looks at the start; and
-/// the start of its first pattern.
-fn said_by(nfa: &NFA) -> ((bool, bool), (bool, bool), Option<StateID>) {
-    (
-        (nfa.skips_lazily(), nfa.has_empty()),
-        (
-            nfa.is_always_start_anchored(),
-            nfa.look_set_any().contains(Look::Start),
-        ),
-        nfa.start_pattern(PatternID::ZERO),
-    )
+/// What the row shows, the states, where all starts are, and why the automaton is refused. Each
+/// test of the door stands here, the ones before it being passed, and those behind it not.
+type Refused = (
+    &'static str,
+    &'static [Shape],
+    &'static [u8],
+    Option<NfaError>,
+);
+
+#[rattlefmt::skip]
+const REFUSED: &[Refused] = &[
+    ("a byte", &[Range(b'a', b'a', 1), Accept(0)], &[0], None),
+    ("no state", &[], &[0], Some(NfaError::StartRange)),
+    ("a start that isn't there", &[Range(b'b', b'a', 9)], &[5], Some(NfaError::StartRange)),
+    ("a target that isn't there", &[Range(b'b', b'a', 9)], &[0], Some(NfaError::StateRange)),
+    ("a range that ends before it begins", &[Range(b'b', b'a', 0)], &[0], Some(NfaError::Ranges)),
+    ("a range", &[Range(b'a', b'b', 0)], &[0], None),
+    ("the state past the last", &[Range(b'a', b'a', 1)], &[0], Some(NfaError::StateRange)),
+    ("a pattern that isn't there", &[Accept(3)], &[0], Some(NfaError::PatternRange)),
+    ("ranges before patterns", &[Accept(3), Range(b'b', b'a', 0)], &[0], Some(NfaError::Ranges)),
+    ("ranges in order", &[Sparse(&[(b'a', b'c', 0), (b'd', b'd', 0)])], &[0], None),
+    ("ranges that share a byte", &[Sparse(&[(b'a', b'c', 0), (b'c', b'd', 0)])], &[0], Some(NfaError::Ranges)),
+    ("ranges out of order", &[Sparse(&[(b'd', b'd', 0), (b'a', b'c', 0)])], &[0], Some(NfaError::Ranges)),
+    ("a second range that ends before it begins", &[Sparse(&[(b'a', b'c', 0), (b'f', b'e', 0)])], &[0],
+        Some(NfaError::Ranges)),
+];
+
+#[test]
+fn refuses_malformed_automata(rt: HostRuntime) {
+    for row in REFUSED {
+        let row = *row;
+        refuse(&rt, row);
+    }
+}
+
+fn refuse(rt: &impl Host, row: Refused) {
+    let (shows, states, patterns, want) = row;
+    let start = patterns.first().copied().unwrap_or(0);
+    let starts = (start, start);
+    match (Plan {
+        states,
+        starts,
+        patterns,
+    })
+    .door(rt)
+    {
+        Ok(nfa) => {
+            let counts = (nfa.states().len(), nfa.pattern_len());
+            same_of(rt, &counts, &(states.len(), patterns.len()), &shows);
+            same_of(rt, &None, &want, &shows);
+        }
+        Err(error) => same_of(rt, &Some(error), &want, &shows),
+    }
 }

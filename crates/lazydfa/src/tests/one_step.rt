@@ -1,14 +1,16 @@
-//! Plain searches beside a loop of one step a byte, each over a cache of its own: the same replies, clears, memory and
-//! searched bytes.
+//! Plain searches beside a loop of one step a byte: the same replies, clears, memory and searched bytes.
 
 use super::bench::Bench;
-use super::paths::MODES;
-use super::same_of;
-use super::tells::{Automaton, lazy};
+use super::paths::{MODES, spell};
+use super::tells::Automaton;
+use super::{Host, same_of};
 use crate::catalogue::Entry;
+use History::{All, Fresh, Haystack};
 use regex_automata::hybrid::{SearchError, StepError};
 use regex_automata::util::search::{Anchored, HalfMatch, Input, MatchError};
-use std::process::Abort;
+
+/// What a search answers.
+type Answer = Result<Option<HalfMatch>, SearchError>;
 
 /// A refused step, at an offset.
 fn refused(error: StepError, at: usize) -> SearchError {
@@ -70,7 +72,7 @@ fn offset_of(input: &Input<'_>, is_reverse: bool, number: usize) -> usize {
 }
 
 /// One pass over a span, with one step a byte. In reverse no search of an empty span is in progress.
-fn pass(bench: &mut Bench, input: &Input<'_>) -> Result<Option<HalfMatch>, SearchError> {
+fn pass(bench: &mut Bench, input: &Input<'_>) -> Answer {
     let is_reverse = bench.is_reverse();
     bench.begin(input)?;
     let first = offset_of(input, is_reverse, 0);
@@ -100,11 +102,7 @@ fn pass(bench: &mut Bench, input: &Input<'_>) -> Result<Option<HalfMatch>, Searc
     end_pass(bench, input, found)
 }
 
-fn end_pass(
-    bench: &mut Bench,
-    input: &Input<'_>,
-    found: Option<HalfMatch>,
-) -> Result<Option<HalfMatch>, SearchError> {
+fn end_pass(bench: &mut Bench, input: &Input<'_>, found: Option<HalfMatch>) -> Answer {
     if !bench.is_reverse() {
         return end_forward(bench, input, found);
     }
@@ -115,11 +113,7 @@ fn end_pass(
 }
 
 /// The step behind the span.
-fn end_forward(
-    bench: &mut Bench,
-    input: &Input<'_>,
-    found: Option<HalfMatch>,
-) -> Result<Option<HalfMatch>, SearchError> {
+fn end_forward(bench: &mut Bench, input: &Input<'_>, found: Option<HalfMatch>) -> Answer {
     let end = input.end();
     match input.haystack().get(end) {
         Some(byte) => read(bench, *byte, end)?,
@@ -133,11 +127,7 @@ fn end_forward(
 }
 
 /// The step before the span.
-fn end_reverse(
-    bench: &mut Bench,
-    input: &Input<'_>,
-    found: Option<HalfMatch>,
-) -> Result<Option<HalfMatch>, SearchError> {
+fn end_reverse(bench: &mut Bench, input: &Input<'_>, found: Option<HalfMatch>) -> Answer {
     let start = input.start();
     let Some(before) = start.checked_sub(1) else {
         read_end(bench, start)?;
@@ -168,15 +158,12 @@ fn next_span<'h>(input: &Input<'h>, is_reverse: bool) -> Option<Input<'h>> {
     if start > end || !input.allows(start, end) {
         return None;
     }
-    Some(
-        Input::new(input.haystack())
-            .range(start..end)
-            .earliest(input.get_earliest()),
-    )
+    let next = Input::new(input.haystack()).range(start..end);
+    Some(next.earliest(input.get_earliest()))
 }
 
 /// Searches with one step a byte, over one span after another.
-fn find_by_steps(bench: &mut Bench, input: &Input<'_>) -> Result<Option<HalfMatch>, SearchError> {
+fn find_by_steps(bench: &mut Bench, input: &Input<'_>) -> Answer {
     let is_reverse = bench.is_reverse();
     let mut half = pass(bench, input)?;
     let mut later = next_span(input, is_reverse);
@@ -208,6 +195,9 @@ enum History {
 /// Settings as a script has them, and what a cache has been through.
 type Run = (&'static str, History);
 
+/// What is compared: an entry in a run.
+type Of = (Entry, Run);
+
 /// Two caches of one automaton, for the search and for the loop.
 #[derive(Drop)]
 struct Pair {
@@ -216,18 +206,18 @@ struct Pair {
 }
 
 impl Pair {
-    fn new<R: Abort + AllocGlobal>(rt: &R, automaton: Automaton, options: &str) -> Pair {
-        let search = Bench::new(rt, lazy(rt, automaton, options));
-        let steps = Bench::new(rt, lazy(rt, automaton, options));
+    fn new(rt: &impl Host, automaton: Automaton, options: &str) -> Pair {
+        let search = Bench::new(rt, automaton.lazy(rt, options));
+        let steps = Bench::new(rt, automaton.lazy(rt, options));
         Pair { search, steps }
     }
 
-    fn reset<R: Abort>(&mut self, rt: &R) {
+    fn reset(&mut self, rt: &impl Host) {
         self.search.reset().expect(rt, "a reset");
         self.steps.reset().expect(rt, "a reset");
     }
 
-    fn compare<R: Abort>(&mut self, rt: &R, input: &Input<'_>, of: &(Entry, Run)) {
+    fn compare(&mut self, rt: &impl Host, input: &Input<'_>, of: &Of) {
         let found = self.search.search(input);
         let want = find_by_steps(&mut self.steps, input);
         let found = (found, self.search.totals());
@@ -236,7 +226,7 @@ impl Pair {
     }
 
     /// A search behind what its history has.
-    fn compare_behind<R: Abort>(&mut self, rt: &R, input: &Input<'_>, of: &(Entry, Run)) {
+    fn compare_behind(&mut self, rt: &impl Host, input: &Input<'_>, of: &Of) {
         let (_, (_, history)) = of;
         if *history == History::Fresh {
             self.reset(rt);
@@ -246,7 +236,7 @@ impl Pair {
     }
 
     /// Each span of a haystack.
-    fn compare_spans<R: Abort>(&mut self, rt: &R, haystack: &[u8], of: &(Entry, Run)) {
+    fn compare_spans(&mut self, rt: &impl Host, haystack: &[u8], of: &Of) {
         let (_, (_, history)) = of;
         if *history == History::Haystack {
             self.reset(rt);
@@ -260,19 +250,20 @@ impl Pair {
     }
 
     /// Each haystack of two letters.
-    fn compare_haystacks<R: Abort>(&mut self, rt: &R, letters: [u8; 2], of: &(Entry, Run)) {
+    fn compare_haystacks(&mut self, rt: &impl Host, letters: [u8; 2], of: &Of) {
+        let [zero, one] = letters;
         let mut count = 1usize;
         for length in 0..LONGEST + 1 {
             for number in 0..count {
-                let haystack = spell(number, letters);
-                self.compare_spans(rt, &haystack[..length], of);
+                let haystack = spell(rt, number, length, &[&[zero], &[one]]);
+                self.compare_spans(rt, haystack.as_slice(), of);
             }
             count = count.saturating_mul(2);
         }
     }
 
     /// Each long haystack that has the second letter from a place to a place, and the first around it.
-    fn compare_long<R: Abort>(&mut self, rt: &R, letters: [u8; 2], of: &(Entry, Run)) {
+    fn compare_long(&mut self, rt: &impl Host, letters: [u8; 2], of: &Of) {
         for end in 0..LONG + 1 {
             for start in 0..end + 1 {
                 let haystack = long(letters, start, end);
@@ -282,7 +273,7 @@ impl Pair {
     }
 
     /// The whole of a haystack in each mode.
-    fn compare_modes<R: Abort>(&mut self, rt: &R, haystack: &[u8], of: &(Entry, Run)) {
+    fn compare_modes(&mut self, rt: &impl Host, haystack: &[u8], of: &Of) {
         for (mode, earliest) in MODES {
             let input = Input::new(haystack).anchored(mode).earliest(earliest);
             self.compare_behind(rt, &input, of);
@@ -299,20 +290,6 @@ fn long([around, within]: [u8; 2], start: usize, end: usize) -> [u8; LONG] {
     haystack
 }
 
-/// The letters that the binary digits of a number choose, the lowest first.
-fn spell(number: usize, letters: [u8; 2]) -> [u8; LONGEST] {
-    let [zero, one] = letters;
-    let mut haystack = [zero; LONGEST];
-    let mut rest = number;
-    for place in 0..LONGEST {
-        if rest % 2 == 1 {
-            haystack[place] = one;
-        }
-        rest /= 2;
-    }
-    haystack
-}
-
 /// How many bytes the longest haystack of all letters has.
 const LONGEST: usize = 9;
 
@@ -325,38 +302,31 @@ type Letters = (Entry, [u8; 2]);
 /// Entries without looks, with looks, and in UTF-8 mode where they may match nothing, and one of any bytes.
 #[rattlefmt::skip]
 const ENTRIES: &[Letters] = &[
-    (Entry::Ab, *b"ab"), (Entry::Always, *b"ab"), (Entry::Never, *b"ab"), (Entry::Date, *b"1-"), (Entry::Abc, *b"ca"),
-    (Entry::Aa, *b"ab"), (Entry::Runs, *b"a1"), (Entry::A16, *b"ab"),
-    (Entry::Words, *b"a!"), (Entry::Bnum, *b"1 "), (Entry::Wordend, *b"a "), (Entry::Bound, *b"a\xCE"),
-    (Entry::Crlf, *b"\r\n"),
+    (Entry::Ab, *b"ab"), (Entry::Always, *b"ab"), (Entry::Never, *b"ab"), (Entry::Date, *b"1-"),
+    (Entry::Abc, *b"ca"), (Entry::Aa, *b"ab"), (Entry::Runs, *b"a1"), (Entry::A16, *b"ab"), (Entry::Words, *b"a!"),
+    (Entry::Bnum, *b"1 "), (Entry::Wordend, *b"a "), (Entry::Bound, *b"a\xCE"), (Entry::Crlf, *b"\r\n"),
     (Entry::Empty, *b"a\x83"), (Entry::Snow, *b"x\x83"), (Entry::Snowx, *b"x\x83"), (Entry::Any, *b"a\x83"),
 ];
 
 /// At the default capacity, with no clear count that a refusal waits for, and with one.
-const AMPLE: &[Run] = &[
-    ("unicode", History::Fresh),
-    ("unicode limit=1", History::Fresh),
-];
+#[rattlefmt::skip]
+const AMPLE: &[Run] = &[("unicode", Fresh), ("unicode limit=1", Fresh)];
 
 /// The same at the least capacity.
 #[rattlefmt::skip]
-const TIGHT: &[Run] = &[
-    ("unicode capacity=0 skip", History::Fresh), ("unicode capacity=0 skip limit=1", History::Fresh),
-];
+const TIGHT: &[Run] = &[("unicode capacity=0 skip", Fresh), ("unicode capacity=0 skip limit=1", Fresh)];
 
 #[rattlefmt::skip]
 const USED: &[Run] = &[
-    ("unicode", History::Haystack), ("unicode", History::All),
-    ("unicode limit=1", History::Haystack), ("unicode limit=1", History::All),
-    ("unicode capacity=0 skip", History::Haystack), ("unicode capacity=0 skip", History::All),
-    ("unicode capacity=0 skip limit=1", History::Haystack), ("unicode capacity=0 skip limit=1", History::All),
+    ("unicode", Haystack), ("unicode", All), ("unicode limit=1", Haystack), ("unicode limit=1", All),
+    ("unicode capacity=0 skip", Haystack), ("unicode capacity=0 skip", All),
+    ("unicode capacity=0 skip limit=1", Haystack), ("unicode capacity=0 skip limit=1", All),
 ];
 
 #[rattlefmt::skip]
 const KINDS: &[Run] = &[
-    ("unicode", History::Fresh), ("unicode all", History::Fresh), ("unicode tags starts", History::Fresh),
-    ("unicode all tags", History::All), ("unicode capacity=0 skip", History::All),
-    ("unicode capacity=0 skip limit=1", History::Fresh),
+    ("unicode", Fresh), ("unicode all", Fresh), ("unicode tags starts", Fresh), ("unicode all tags", All),
+    ("unicode capacity=0 skip", All), ("unicode capacity=0 skip limit=1", Fresh),
 ];
 
 /// Which haystacks are searched.
@@ -367,7 +337,7 @@ enum Texts {
 }
 
 /// Each entry, by its automata of both directions.
-fn compare_all<R: Abort + AllocGlobal>(rt: &R, texts: Texts, runs: &[Run]) {
+fn compare_all(rt: &impl Host, texts: Texts, runs: &[Run]) {
     for (entry, letters) in ENTRIES {
         for run in runs {
             let of = (*entry, *run);
@@ -377,25 +347,13 @@ fn compare_all<R: Abort + AllocGlobal>(rt: &R, texts: Texts, runs: &[Run]) {
     }
 }
 
-fn compare_entry<R: Abort + AllocGlobal>(
-    rt: &R,
-    automaton: Automaton,
-    letters: [u8; 2],
-    texts: Texts,
-    of: &(Entry, Run),
-) {
+fn compare_entry(rt: &impl Host, over: Automaton, letters: [u8; 2], texts: Texts, of: &Of) {
     let (_, (options, _)) = of;
-    let mut pair = Pair::new(rt, automaton, *options);
+    let mut pair = Pair::new(rt, over, *options);
     compare_texts(rt, &mut pair, letters, texts, of);
 }
 
-fn compare_texts<R: Abort>(
-    rt: &R,
-    pair: &mut Pair,
-    letters: [u8; 2],
-    texts: Texts,
-    of: &(Entry, Run),
-) {
+fn compare_texts(rt: &impl Host, pair: &mut Pair, letters: [u8; 2], texts: Texts, of: &Of) {
     match texts {
         Texts::Short => pair.compare_haystacks(rt, letters, of),
         Texts::Long => {

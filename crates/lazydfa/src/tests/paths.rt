@@ -1,27 +1,25 @@
 //! A slow search that lists the paths of an automaton one by one, beside the search of the lazy
 //! automaton. An automaton for reverse searches is walked from the span's end to its start.
 
+use super::Host;
 use crate::catalogue::Entry;
 use regex_automata::nfa::thompson::{NFA, State};
 use regex_automata::util::look::Look;
 use regex_automata::util::primitives::{PatternID, StateID};
 use regex_automata::util::search::{Anchored, HalfMatch, Input, MatchKind};
-use std::process::Abort;
 
 /// A state at a place.
 type Stand = (StateID, usize);
+
+/// Paths that may go on, the one that is preferred last.
+type Open = Vec<Vec<Stand>>;
 
 /// An accepting path: its pattern and end, and its start.
 pub type Path = (HalfMatch, usize);
 
 /// The answer of a search: what is selected over the span, or where that splits a character and
 /// the automaton is in UTF-8 mode and has an empty match, over the span without its first place.
-pub fn answer<R: Abort + AllocGlobal>(
-    rt: &R,
-    nfa: &NFA,
-    kind: MatchKind,
-    input: &Input<'_>,
-) -> Option<Path> {
+pub fn answer(rt: &impl Host, nfa: &NFA, kind: MatchKind, input: &Input<'_>) -> Option<Path> {
     let haystack = input.haystack();
     let skips = nfa.is_utf8() && nfa.has_empty();
     let (mut start, mut end) = (input.start(), input.end());
@@ -48,25 +46,13 @@ pub fn answer<R: Abort + AllocGlobal>(
 
 /// Whether a place is inside a character.
 pub fn splits(haystack: &[u8], place: usize) -> bool {
-    haystack
-        .get(place)
-        .is_some_and(|byte| 0x80 <= *byte && *byte <= 0xBF)
+    matches!(haystack.get(place), Some(0x80..=0xBF))
 }
 
 /// The selected path.
-fn select<R: Abort + AllocGlobal>(
-    rt: &R,
-    nfa: &NFA,
-    kind: MatchKind,
-    input: &Input<'_>,
-) -> Option<Path> {
-    let found = listed(rt, nfa, input);
-    best(
-        found.as_slice(),
-        nfa.is_reverse(),
-        kind,
-        input.get_earliest(),
-    )
+fn select(rt: &impl Host, nfa: &NFA, kind: MatchKind, input: &Input<'_>) -> Option<Path> {
+    let (found, is_reverse) = (listed(rt, nfa, input), nfa.is_reverse());
+    best(found.as_slice(), is_reverse, kind, input.get_earliest())
 }
 
 /// The first of these paths, or the first of those with the nearest or the farthest end.
@@ -74,17 +60,9 @@ fn best(paths: &[Path], is_reverse: bool, kind: MatchKind, earliest: bool) -> Op
     let mut best = *paths.first()?;
     for path in paths.iter().copied() {
         let (at, best_at) = (path.0.offset(), best.0.offset());
-        let is_nearer = if is_reverse {
-            at > best_at
-        } else {
-            at < best_at
-        };
-        let is_better = if earliest {
-            is_nearer
-        } else {
-            kind == MatchKind::All && at != best_at && !is_nearer
-        };
-        if is_better {
+        let is_nearer = at != best_at && (at < best_at) != is_reverse;
+        let is_farther = at != best_at && !is_nearer;
+        if earliest && is_nearer || !earliest && kind == MatchKind::All && is_farther {
             best = path;
         }
     }
@@ -92,7 +70,7 @@ fn best(paths: &[Path], is_reverse: bool, kind: MatchKind, earliest: bool) -> Op
 }
 
 /// The patterns and ends of all accepting paths, in the order of the paths.
-pub fn accepting<R: Abort + AllocGlobal>(rt: &R, nfa: &NFA, input: &Input<'_>) -> Vec<HalfMatch> {
+pub fn accepting(rt: &impl Host, nfa: &NFA, input: &Input<'_>) -> Vec<HalfMatch> {
     let mut halves = Vec::new(rt.alloc());
     for path in listed(rt, nfa, input).as_slice() {
         halves.push(path.0).expect(rt, "memory");
@@ -101,7 +79,7 @@ pub fn accepting<R: Abort + AllocGlobal>(rt: &R, nfa: &NFA, input: &Input<'_>) -
 }
 
 /// All accepting paths, in their order.
-fn listed<R: Abort + AllocGlobal>(rt: &R, nfa: &NFA, input: &Input<'_>) -> Vec<Path> {
+fn listed(rt: &impl Host, nfa: &NFA, input: &Input<'_>) -> Vec<Path> {
     let mut found = Vec::new(rt.alloc());
     let mut open = Vec::new(rt.alloc());
     begin(rt, nfa, input, &mut open);
@@ -130,16 +108,10 @@ fn accepted(nfa: &NFA, input: &Input<'_>, path: &[Stand]) -> Option<Path> {
 }
 
 /// The path longer by each of its edges, but for those to where it was, the preferred one last.
-fn go_on<R: Abort + AllocGlobal>(
-    rt: &R,
-    nfa: &NFA,
-    input: &Input<'_>,
-    path: &Vec<Stand>,
-    open: &mut Vec<Vec<Stand>>,
-) {
-    if let Some((state, place)) = path.last().copied() {
+fn go_on(rt: &impl Host, nfa: &NFA, input: &Input<'_>, path: &Vec<Stand>, open: &mut Open) {
+    if let Some(stand) = path.last().copied() {
         let mut next = Vec::new(rt.alloc());
-        list_edges(rt, nfa, input, state, place, &mut next);
+        list_edges(rt, nfa, input, stand, &mut next);
         for stand in next.iter().rev() {
             if !path.contains(stand) {
                 open.push(longer(rt, path, *stand)).expect(rt, "memory");
@@ -161,7 +133,7 @@ fn start_of(nfa: &NFA, input: &Input<'_>, path: &[Stand]) -> usize {
 }
 
 /// The path of the start alone, if there is a start.
-fn begin<R: Abort + AllocGlobal>(rt: &R, nfa: &NFA, input: &Input<'_>, open: &mut Vec<Vec<Stand>>) {
+fn begin(rt: &impl Host, nfa: &NFA, input: &Input<'_>, open: &mut Open) {
     if input.is_done() {
         return;
     }
@@ -171,19 +143,18 @@ fn begin<R: Abort + AllocGlobal>(rt: &R, nfa: &NFA, input: &Input<'_>, open: &mu
         input.start()
     };
     if let Some(start) = nfa.start(input.get_anchored()) {
-        open.push(longer(rt, &Vec::new(rt.alloc()), (start, first)))
-            .expect(rt, "memory");
+        let path = longer(rt, &Vec::new(rt.alloc()), (start, first));
+        open.push(path).expect(rt, "memory");
     }
 }
 
-fn longer<R: Abort>(rt: &R, path: &Vec<Stand>, next: Stand) -> Vec<Stand> {
+fn longer(rt: &impl Host, path: &Vec<Stand>, next: Stand) -> Vec<Stand> {
     let mut longer = path.clone().expect(rt, "memory");
     longer.push(next).expect(rt, "memory");
     longer
 }
 
-/// What is beside a place: the byte that was walked over last, the one that comes next, that one
-/// as far as the span goes, and the place behind it.
+/// The byte walked over last, the one that comes next, that one as far as the span goes, and the place behind.
 #[derive(Clone, Copy)]
 struct Sides {
     before: Option<u8>,
@@ -195,32 +166,23 @@ struct Sides {
 fn beside(nfa: &NFA, input: &Input<'_>, place: usize) -> Sides {
     let left = input.haystack().get(place.wrapping_sub(1)).copied();
     let right = input.haystack().get(place).copied();
-    if nfa.is_reverse() {
-        Sides {
-            before: right,
-            after: left,
-            read: if input.start() < place { left } else { None },
-            behind: place.saturating_sub(1),
-        }
+    let (before, after, reads, behind) = if nfa.is_reverse() {
+        (right, left, input.start() < place, place.saturating_sub(1))
     } else {
-        Sides {
-            before: left,
-            after: right,
-            read: if place < input.end() { right } else { None },
-            behind: place.saturating_add(1),
-        }
+        (left, right, place < input.end(), place.saturating_add(1))
+    };
+    let read = if reads { after } else { None };
+    Sides {
+        before,
+        after,
+        read,
+        behind,
     }
 }
 
 /// Where a path may go on from a state at a place, the preferred way first.
-fn list_edges<R: Abort>(
-    rt: &R,
-    nfa: &NFA,
-    input: &Input<'_>,
-    state: StateID,
-    place: usize,
-    next: &mut Vec<Stand>,
-) {
+fn list_edges(rt: &impl Host, nfa: &NFA, input: &Input<'_>, from: Stand, next: &mut Vec<Stand>) {
+    let (state, place) = from;
     let Some(state) = nfa.states().get(state.as_usize()) else {
         return;
     };
@@ -270,8 +232,7 @@ fn target(state: &State, byte: u8) -> Option<StateID> {
     }
 }
 
-/// Whether a look holds, by the bytes beside a place in the direction of the walk. For reverse searches a CRLF begins
-/// with its line feed.
+/// Whether a look holds, by the bytes beside a place in the direction of the walk.
 fn holds(nfa: &NFA, look: Look, before: Option<u8>, after: Option<u8>) -> bool {
     let terminator = nfa.flags().line_terminator;
     match look {
@@ -321,8 +282,7 @@ fn is_word(byte: Option<u8>) -> bool {
     byte.is_some_and(|byte| byte.is_ascii_alphanumeric() || byte == b'_')
 }
 
-/// Three pieces to make haystacks of. The first two are of different classes, where not all bytes are
-/// of one.
+/// Three pieces to make haystacks of. The first two are of different classes, where there are several.
 pub type Pieces = [&'static [u8]; 3];
 
 /// An entry, pieces to make haystacks of, and how many bytes these have at most.
@@ -361,12 +321,7 @@ pub const CHARACTERS: &[Row] = &[
 ];
 
 /// The pattern and the end of the answer.
-pub fn half<R: Abort + AllocGlobal>(
-    rt: &R,
-    nfa: &NFA,
-    kind: MatchKind,
-    input: &Input<'_>,
-) -> Option<HalfMatch> {
+pub fn half(rt: &impl Host, nfa: &NFA, kind: MatchKind, input: &Input<'_>) -> Option<HalfMatch> {
     let (half, _) = answer(rt, nfa, kind, input)?;
     Some(half)
 }
@@ -381,7 +336,7 @@ pub const MODES: [(Anchored, bool); 5] = [
 ];
 
 /// All haystacks of up to six of the first two pieces, and of up to four of all three, that have no more bytes.
-pub fn haystacks<R: Abort + AllocGlobal>(rt: &R, pieces: Pieces, most: usize) -> Vec<Vec<u8>> {
+pub fn haystacks(rt: &impl Host, pieces: Pieces, most: usize) -> Vec<Vec<u8>> {
     let mut haystacks = Vec::new(rt.alloc());
     for (choices, lengths) in [(2usize, 7usize), (3, 5)] {
         let mut count = 1usize;
@@ -399,12 +354,7 @@ pub fn haystacks<R: Abort + AllocGlobal>(rt: &R, pieces: Pieces, most: usize) ->
 }
 
 /// The pieces that the digits of a number to the base of their count stand for, the last digit first.
-fn spell<R: Abort + AllocGlobal>(
-    rt: &R,
-    number: usize,
-    length: usize,
-    pieces: &[&[u8]],
-) -> Vec<u8> {
+pub fn spell(rt: &impl Host, number: usize, length: usize, pieces: &[&[u8]]) -> Vec<u8> {
     let mut haystack = Vec::new(rt.alloc());
     let mut rest = number;
     for _ in 0..length {

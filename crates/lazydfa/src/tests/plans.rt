@@ -1,10 +1,10 @@
 //! Automata that are in no catalogue, by tables of their states.
 
+use super::Host;
 use regex_automata::nfa::thompson::{Flags, NFA, NfaError, State, Transition};
 use regex_automata::util::look::Look;
 use regex_automata::util::primitives::{PatternID, StateID};
 use regex_automata::util::search::Anchored;
-use std::process::Abort;
 
 /// Which searches a start is for.
 #[derive(Clone, Copy)]
@@ -54,36 +54,49 @@ pub struct Plan {
 }
 
 impl Plan {
+    #[rattlefmt::skip]
+    pub fn new(states: &'static [Shape], starts: (u8, u8), patterns: &'static [u8]) -> Plan {
+        Plan { states, starts, patterns }
+    }
+
+    /// One pattern, which starts at the first state, and the unanchored start.
+    pub fn of(states: &'static [Shape], unanchored: u8) -> Plan {
+        Plan::new(states, (0, unanchored), &[0])
+    }
+
     /// The automaton, if the door lets it in.
-    pub fn door<R: Abort + AllocGlobal>(&self, rt: &R) -> Result<NFA, NfaError> {
+    pub fn door(&self, rt: &impl Host) -> Result<NFA, NfaError> {
         let patterns = ids_of(rt, self.patterns);
         let states = states_of(rt, self.states);
         let (anchored, unanchored) = self.starts;
         let flags = Flags::default();
-        NFA::from_states(
-            rt.alloc(),
-            states,
-            id(anchored),
-            id(unanchored),
-            patterns,
-            flags,
-        )
+        let (anchored, unanchored) = (id(anchored), id(unanchored));
+        NFA::from_states(rt.alloc(), states, anchored, unanchored, patterns, flags)
     }
 
-    pub fn build<R: Abort + AllocGlobal>(&self, rt: &R) -> NFA {
+    pub fn build(&self, rt: &impl Host) -> NFA {
         self.door(rt).expect(rt, "an automaton")
     }
 }
 
 /// A state, and behind it nineteen bytes `a` to the one match. All starts are at the first.
-pub fn chain<R: Abort + AllocGlobal>(rt: &R, first: Shape) -> NFA {
+pub fn chain(rt: &impl Host, first: Shape) -> NFA {
     let starts = ids_of(rt, &[0]);
     let states = chained(rt, first);
     let flags = Flags::default();
     NFA::from_states(rt.alloc(), states, id(0), id(0), starts, flags).expect(rt, "a chain")
 }
 
-fn chained<R: Abort + AllocGlobal>(rt: &R, first: Shape) -> Vec<State> {
+/// One match state, at which many patterns start.
+pub fn crowd(rt: &impl Host, patterns: usize) -> NFA {
+    let (zero, pattern) = (StateID::ZERO, PatternID::ZERO);
+    let starts = vec![in rt.alloc(); zero; patterns].expect(rt, "memory");
+    let states = vec![in rt.alloc(); State::Match { pattern }].expect(rt, "memory");
+    let nfa = NFA::from_states(rt.alloc(), states, zero, zero, starts, Flags::default());
+    nfa.expect(rt, "an automaton")
+}
+
+fn chained(rt: &impl Host, first: Shape) -> Vec<State> {
     let mut states = Vec::new(rt.alloc());
     push(rt, &mut states, first);
     for next in 2..21u8 {
@@ -93,7 +106,7 @@ fn chained<R: Abort + AllocGlobal>(rt: &R, first: Shape) -> Vec<State> {
     states
 }
 
-fn states_of<R: Abort + AllocGlobal>(rt: &R, shapes: &[Shape]) -> Vec<State> {
+fn states_of(rt: &impl Host, shapes: &[Shape]) -> Vec<State> {
     let mut states = Vec::new(rt.alloc());
     for shape in shapes {
         push(rt, &mut states, *shape);
@@ -101,12 +114,12 @@ fn states_of<R: Abort + AllocGlobal>(rt: &R, shapes: &[Shape]) -> Vec<State> {
     states
 }
 
-fn push<R: Abort + AllocGlobal>(rt: &R, states: &mut Vec<State>, shape: Shape) {
+fn push(rt: &impl Host, states: &mut Vec<State>, shape: Shape) {
     states.push(state_of(rt, shape)).expect(rt, "memory");
 }
 
 #[rattlefmt::skip]
-fn state_of<R: Abort + AllocGlobal>(rt: &R, shape: Shape) -> State {
+fn state_of(rt: &impl Host, shape: Shape) -> State {
     match shape {
         Shape::Range(lo, hi, next) => State::ByteRange { lo, hi, next: id(next) },
         Shape::Sparse(ranges) => State::Sparse(transitions(rt, ranges)),
@@ -119,7 +132,7 @@ fn state_of<R: Abort + AllocGlobal>(rt: &R, shape: Shape) -> State {
     }
 }
 
-pub fn dense<R: Abort + AllocGlobal>(rt: &R, targets: [StateID; 256]) -> State {
+pub fn dense(rt: &impl Host, targets: [StateID; 256]) -> State {
     State::Dense(Box::new(rt.alloc(), targets).expect(rt, "memory"))
 }
 
@@ -132,7 +145,7 @@ pub fn capture(next: StateID) -> State {
     }
 }
 
-fn transitions<R: Abort + AllocGlobal>(rt: &R, ranges: &[(u8, u8, u8)]) -> Vec<Transition> {
+fn transitions(rt: &impl Host, ranges: &[(u8, u8, u8)]) -> Vec<Transition> {
     let mut transitions = Vec::new(rt.alloc());
     for row in ranges {
         let (lo, hi, next) = *row;
@@ -153,7 +166,7 @@ fn targets(bytes: &[(u8, u8)]) -> [StateID; 256] {
     targets
 }
 
-pub fn ids_of<R: Abort + AllocGlobal>(rt: &R, numbers: &[u8]) -> Vec<StateID> {
+pub fn ids_of(rt: &impl Host, numbers: &[u8]) -> Vec<StateID> {
     let mut ids = Vec::new(rt.alloc());
     for number in numbers {
         ids.push(id(*number)).expect(rt, "memory");

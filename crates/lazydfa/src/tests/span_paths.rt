@@ -2,23 +2,17 @@
 
 use super::paths::{CHARACTERS, EMPTY, LITERALS, LOOKS, MODES, REPEATED, Row, answer, haystacks};
 use super::regex_bench::{Pair, RegexBench};
-use super::same_of;
 use super::told::Item;
+use super::{Host, same_of};
 use crate::catalogue::Entry;
-use regex_automata::hybrid::dfa::Config;
-use regex_automata::hybrid::regex::Regex;
 use regex_automata::nfa::thompson::NFA;
 use regex_automata::util::search::{Input, Match, MatchKind, Span};
-use std::process::Abort;
+
+/// A slow search: its automaton, and of which kind it is.
+type Slow<'a> = (&'a NFA, MatchKind);
 
 /// The span of the selected path, from a place on.
-fn span_from<R: Abort + AllocGlobal>(
-    rt: &R,
-    nfa: &NFA,
-    kind: MatchKind,
-    input: &Input<'_>,
-    start: usize,
-) -> Option<Match> {
+fn span_from(rt: &impl Host, slow: Slow<'_>, input: &Input<'_>, start: usize) -> Option<Match> {
     if start > input.end() {
         return None;
     }
@@ -26,51 +20,42 @@ fn span_from<R: Abort + AllocGlobal>(
         .range(start..input.end())
         .anchored(input.get_anchored())
         .earliest(input.get_earliest());
-    let (half, start) = answer(rt, nfa, kind, &rest)?;
+    let (half, start) = answer(rt, slow.0, slow.1, &rest)?;
     let end = half.offset();
     let start = start.min(end);
     Some(Match::new(half.pattern(), Span { start, end }))
 }
 
 /// The next span: an empty one where the last one ended gives way to what is found from one place later.
-fn next_span<R: Abort + AllocGlobal>(
-    rt: &R,
-    nfa: &NFA,
-    kind: MatchKind,
+fn next_span(
+    rt: &impl Host,
+    slow: Slow<'_>,
     input: &Input<'_>,
-    start: usize,
-    last: Option<usize>,
+    (start, last): (usize, Option<usize>),
 ) -> Option<Match> {
-    let next = span_from(rt, nfa, kind, input, start)?;
+    let next = span_from(rt, slow, input, start)?;
     if next.start() < next.end() || last != Some(next.end()) {
         return Some(next);
     }
-    span_from(rt, nfa, kind, input, start.saturating_add(1))
+    span_from(rt, slow, input, start.saturating_add(1))
 }
 
 /// The spans of an input, each from where the last one ended.
-fn list<R: Abort + AllocGlobal>(
-    rt: &R,
-    nfa: &NFA,
-    kind: MatchKind,
-    input: &Input<'_>,
-    spans: &mut Vec<Match>,
-) {
-    spans.clear();
-    let mut start = input.start();
-    let mut last = None;
+fn list(rt: &impl Host, slow: Slow<'_>, input: &Input<'_>) -> Vec<Match> {
+    let mut spans = Vec::new(rt.alloc());
+    let mut at = (input.start(), None);
     for _ in 0..input.haystack().len() + 2 {
-        let Some(next) = next_span(rt, nfa, kind, input, start, last) else {
-            return;
+        let Some(next) = next_span(rt, slow, input, at) else {
+            return spans;
         };
-        start = next.end();
-        last = Some(next.end());
+        at = (next.end(), Some(next.end()));
         spans.push(next).expect(rt, "memory");
     }
+    spans
 }
 
 /// Whether a path is found, were it not for the nearest end.
-fn has_path<R: Abort + AllocGlobal>(rt: &R, nfa: &NFA, kind: MatchKind, input: &Input<'_>) -> bool {
+fn has_path(rt: &impl Host, nfa: &NFA, kind: MatchKind, input: &Input<'_>) -> bool {
     let whole = Input::new(input.haystack())
         .range(input.start()..input.end())
         .anchored(input.get_anchored());
@@ -84,18 +69,17 @@ struct Listed {
     kind: MatchKind,
     tight: RegexBench,
     ample: RegexBench,
-    want: Vec<Match>,
 }
 
 impl Listed {
-    /// Every span of each haystack, and the whole of it in each mode. Of a short one every span is compared in each mode.
-    fn compare_all<R: Abort + AllocGlobal>(&mut self, rt: &R, haystacks: &[Vec<u8>]) {
+    /// Every span of each haystack, and the whole of it in each mode; of a short one every span in each mode.
+    fn compare_all(&mut self, rt: &impl Host, haystacks: &[Vec<u8>]) {
         for haystack in haystacks {
             self.compare_haystack(rt, haystack.as_slice());
         }
     }
 
-    fn compare_haystack<R: Abort + AllocGlobal>(&mut self, rt: &R, haystack: &[u8]) {
+    fn compare_haystack(&mut self, rt: &impl Host, haystack: &[u8]) {
         for end in 0..haystack.len() + 1 {
             for start in 0..end + 1 {
                 let is_full = haystack.len() < 6 || start == 0 && end == haystack.len();
@@ -108,11 +92,10 @@ impl Listed {
         }
     }
 
-    fn compare<R: Abort + AllocGlobal>(&mut self, rt: &R, input: &Input<'_>) {
+    fn compare(&mut self, rt: &impl Host, input: &Input<'_>) {
         let nfa = self.ample.regex().forward().get_nfa();
-        list(rt, nfa, self.kind, input, &mut self.want);
-        let has_path = has_path(rt, nfa, self.kind, input);
-        let want = (self.want.as_slice(), has_path);
+        let spans = list(rt, (nfa, self.kind), input);
+        let want = (spans.as_slice(), has_path(rt, nfa, self.kind, input));
         let of = (self.entry, self.kind, input);
         compare_with(rt, &mut self.tight, input, want, &of);
         compare_with(rt, &mut self.ample, input, want, &of);
@@ -120,8 +103,8 @@ impl Listed {
 }
 
 /// The first match, whether there is one, and all, each over what the ones before left in the cache.
-fn compare_with<R: Abort>(
-    rt: &R,
+fn compare_with(
+    rt: &impl Host,
     bench: &mut RegexBench,
     input: &Input<'_>,
     (want, has_path): (&[Match], bool),
@@ -129,12 +112,7 @@ fn compare_with<R: Abort>(
 ) {
     same_of(rt, &bench.search(input), &Ok(want.first().copied()), of);
     same_of(rt, &bench.holds(input), &Ok(has_path), of);
-    let found = bench.first_items(
-        Input::new(input.haystack())
-            .range(input.start()..input.end())
-            .anchored(input.get_anchored())
-            .earliest(input.get_earliest()),
-    );
+    let found = bench.first_items(input.clone().expect(rt, "an input"));
     same_of(rt, &found, &items_of(want), of);
 }
 
@@ -147,50 +125,39 @@ fn items_of(spans: &[Match]) -> [Item; 8] {
     items
 }
 
-fn prepare<R: Abort + AllocGlobal>(rt: &R, entry: Entry, kind: MatchKind) -> Listed {
-    let config = Config::new()
-        .match_kind(kind)
-        .unicode_word_boundary(true)
-        .starts_for_each_pattern(true);
-    let least = config.cache_capacity(0).skip_cache_capacity_check(true);
-    let tight = bench(rt, entry, least);
-    let ample = bench(rt, entry, config);
+/// A kind, and its options for caches of the least capacity and of an ample one.
+type Kind = (MatchKind, &'static str, &'static str);
+
+#[rattlefmt::skip]
+const KINDS: [Kind; 2] = [
+    (MatchKind::LeftmostFirst, "unicode starts capacity=0 skip", "unicode starts"),
+    (MatchKind::All, "all unicode starts capacity=0 skip", "all unicode starts"),
+];
+
+fn prepare(rt: &impl Host, entry: Entry, (kind, least, config): Kind) -> Listed {
+    let tight = RegexBench::new(rt, Pair::Of(entry).regex(rt, least));
+    let ample = RegexBench::new(rt, Pair::Of(entry).regex(rt, config));
     Listed {
         entry,
         kind,
         tight,
         ample,
-        want: Vec::new(rt.alloc()),
     }
 }
 
-fn bench<R: Abort + AllocGlobal>(rt: &R, entry: Entry, config: Config) -> RegexBench {
-    let forward = Pair::Of(entry).forward(rt);
-    let reverse = Pair::Of(entry).reverse(rt);
-    let built = Regex::builder()
-        .dfa(config)
-        .build_from_nfas(forward, reverse);
-    RegexBench::new(rt, built.expect(rt, "a regex"))
-}
-
 /// The spans of both kinds are those that the listed paths of each entry say.
-fn agree<R: Abort + AllocGlobal>(rt: &R, rows: &[Row]) {
+fn agree(rt: &impl Host, rows: &[Row]) {
     for row in rows {
         let (entry, pieces, most) = *row;
         let haystacks = haystacks(rt, pieces, most);
-        for kind in [MatchKind::LeftmostFirst, MatchKind::All] {
-            compare_kind(rt, entry, kind, haystacks.as_slice());
+        for kind in KINDS {
+            compare(rt, prepare(rt, entry, kind), haystacks.as_slice());
         }
     }
 }
 
-fn compare_kind<R: Abort + AllocGlobal>(
-    rt: &R,
-    entry: Entry,
-    kind: MatchKind,
-    haystacks: &[Vec<u8>],
-) {
-    let mut listed = prepare(rt, entry, kind);
+fn compare(rt: &impl Host, listed: Listed, haystacks: &[Vec<u8>]) {
+    let mut listed = listed;
     listed.compare_all(rt, haystacks);
 }
 

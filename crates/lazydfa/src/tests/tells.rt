@@ -1,9 +1,9 @@
-//! Rows of calls over one automaton and one cache, with what they tell.
+//! Rows of calls over one cache, with what they tell: in ample memory, and while what is left of memory rises, so that
+//! each growth is the refused one in some turn. A test that takes turns uses up all memory for good.
 
-use super::bench::{Bench, Call};
-use super::plans::{Plan, Shape, chain};
+use super::plans::{Plan, Shape, chain, crowd};
 use super::told::Told;
-use super::{automata, clears, dfa, exits, same_text, steps};
+use super::{Host, check, exhaust, same_of, same_text};
 use crate::catalogue::Entry;
 use crate::script::Script;
 use regex_automata::hybrid::BuildError;
@@ -11,7 +11,6 @@ use regex_automata::hybrid::dfa::{Config, DFA};
 use regex_automata::nfa::thompson::NFA;
 use std::alloc::Global;
 use std::fmt::Write;
-use std::process::Abort;
 
 /// An automaton.
 #[derive(Clone, Copy)]
@@ -19,29 +18,47 @@ pub enum Automaton {
     Forward(Entry),
     Reverse(Entry),
     Planned(&'static Plan),
+    /// One match state, at which so many patterns start.
+    Crowd(usize),
     /// A state, and behind it nineteen bytes `a` to the one match.
     Chain(Shape),
+    /// Those of `DFA::always_match` and `DFA::never_match`.
+    Always,
+    Never,
 }
 
-use Automaton::{Chain, Forward, Planned, Reverse};
-
 impl Automaton {
-    pub fn nfa<R: Abort + AllocGlobal>(self, rt: &R) -> NFA {
+    pub fn nfa(self, rt: &impl Host) -> NFA {
         match self {
-            Forward(entry) => entry.forward(rt.alloc()).expect(rt, "an entry"),
-            Reverse(entry) => entry.reverse(rt.alloc()).expect(rt, "an entry"),
-            Planned(plan) => plan.build(rt),
-            Chain(first) => chain(rt, first),
+            Automaton::Forward(entry) => entry.forward(rt.alloc()).expect(rt, "an entry"),
+            Automaton::Reverse(entry) => entry.reverse(rt.alloc()).expect(rt, "an entry"),
+            Automaton::Planned(plan) => plan.build(rt),
+            Automaton::Crowd(patterns) => crowd(rt, patterns),
+            Automaton::Always | Automaton::Never => panic!(rt; "it is built by the library"),
+            Automaton::Chain(first) => chain(rt, first),
         }
+    }
+
+    pub fn build(self, rt: &impl Host, options: &str) -> Result<DFA, BuildError> {
+        let config = config(rt, options);
+        match self {
+            Automaton::Always => DFA::always_match(rt.alloc()),
+            Automaton::Never => DFA::never_match(rt.alloc()),
+            _ => DFA::builder()
+                .configure(config)
+                .build_from_nfa(self.nfa(rt)),
+        }
+    }
+
+    /// The lazy automaton, which isn't refused.
+    pub fn lazy(self, rt: &impl Host, options: &str) -> DFA {
+        self.build(rt, options).expect(rt, "an automaton")
     }
 }
 
 /// What the row shows, what is called, its options as a script has them, the calls, and what they tell, or why what is
 /// called is refused.
 pub type RowOf<O, C> = (&'static str, O, &'static str, &'static [C], &'static str);
-
-/// A row of calls over an automaton and a cache.
-pub type Row = RowOf<Automaton, Call>;
 
 /// What is called, with a cache of its own.
 pub trait Caller: Drop {
@@ -51,60 +68,46 @@ pub trait Caller: Drop {
     type Call: Copy;
 
     /// Before any call.
-    fn make<R: Abort + AllocGlobal>(
-        rt: &R,
-        of: Self::Of,
-        options: &str,
-    ) -> Result<Self, BuildError>;
+    fn make(rt: &impl Host, of: Self::Of, options: &str) -> Result<Self, BuildError>;
 
     /// Makes a call. Where a refused one has to leave the cache as it was and doesn't, it says so.
     fn answer(&mut self, alloc: Global, call: Self::Call) -> Told;
-}
 
-#[test]
-fn searches_tell_their_rows(rt: HostRuntime) {
-    tells_all::<Bench, _>(&rt, dfa::SEARCHED);
-    tells_all::<Bench, _>(&rt, dfa::SEARCHED_BACK);
-    tells_all::<Bench, _>(&rt, exits::FORWARD);
-    tells_all::<Bench, _>(&rt, exits::REVERSE);
-    tells_all::<Bench, _>(&rt, automata::SEARCHED);
-}
+    /// Makes calls, and writes what they tell.
+    fn tell(&mut self, rt: &impl Host, calls: &[Self::Call], text: &mut String) {
+        for call in calls {
+            write_told(rt, text, self.answer(rt.alloc(), *call));
+        }
+    }
 
-#[test]
-fn settings_tell_their_rows(rt: HostRuntime) {
-    tells_all::<Bench, _>(&rt, dfa::SETTLED);
-    tells_all::<Bench, _>(&rt, dfa::REFUSED);
-}
-
-#[test]
-fn steps_tell_their_rows(rt: HostRuntime) {
-    tells_all::<Bench, _>(&rt, steps::STEPPED);
-    tells_all::<Bench, _>(&rt, steps::WALKED);
-    tells_all::<Bench, _>(&rt, steps::STARTED);
-}
-
-#[test]
-fn clears_tell_their_rows(rt: HostRuntime) {
-    tells_all::<Bench, _>(&rt, clears::COUNTS);
-    tells_all::<Bench, _>(&rt, clears::STARTS);
-}
-
-/// Makes the calls of each row.
-pub fn tells_all<T: Caller, R: Abort + AllocGlobal>(rt: &R, rows: &[RowOf<T::Of, T::Call>]) {
-    for row in rows {
-        tells::<T, R>(rt, row);
+    /// Makes the calls of a turn.
+    fn take(&mut self, rt: &impl Host, row: &Short<Self::Of, Self::Call>, turns: &mut Turns) {
+        for call in row.3 {
+            turns.hear(rt, self.answer(rt.alloc(), *call));
+        }
+        turns.lend(rt);
+        for (number, owed) in row.4.iter().enumerate() {
+            turns.hear(rt, self.answer(rt.alloc(), owed.0));
+            if turns.refuses(rt, number, owed.1, row.5) {
+                turns.hear(rt, self.answer(rt.alloc(), owed.0));
+            }
+            turns.has_told(rt, owed.1, row.0);
+        }
+        turns.release();
     }
 }
 
-/// Makes the calls of a row.
-fn tells<T: Caller, R: Abort + AllocGlobal>(rt: &R, row: &RowOf<T::Of, T::Call>) {
-    let text = text_of(rt, T::make(rt, row.1, row.2), row.3);
-    same_text(rt, text.as_str(), row.4, row.0);
+/// Makes the calls of each row.
+pub fn tells_all<T: Caller>(rt: &impl Host, rows: &[RowOf<T::Of, T::Call>]) {
+    for row in rows {
+        let text = text_of(rt, T::make(rt, row.1, row.2), row.3);
+        same_text(rt, text.as_str(), row.4, row.0);
+    }
 }
 
 /// What the calls tell, or why what is called is refused.
-pub fn text_of<T: Caller, R: Abort + AllocGlobal>(
-    rt: &R,
+pub fn text_of<T: Caller>(
+    rt: &impl Host,
     made: Result<T, BuildError>,
     calls: &[T::Call],
 ) -> String {
@@ -116,51 +119,202 @@ pub fn text_of<T: Caller, R: Abort + AllocGlobal>(
     text
 }
 
-fn tell_into<T: Caller, R: Abort + AllocGlobal>(
-    rt: &R,
-    caller: T,
-    calls: &[T::Call],
-    text: &mut String,
-) {
+fn tell_into<T: Caller>(rt: &impl Host, caller: T, calls: &[T::Call], text: &mut String) {
     let mut caller = caller;
-    tell_calls(rt, &mut caller, calls, text);
+    caller.tell(rt, calls, text);
 }
 
-/// Writes what the calls tell.
-pub fn tell_calls<T: Caller, R: Abort + AllocGlobal>(
-    rt: &R,
-    caller: &mut T,
-    calls: &[T::Call],
-    text: &mut String,
-) {
-    for call in calls {
-        if !text.is_empty() {
-            text.push_str(", ").expect(rt, "memory");
-        }
-        let told = caller.answer(rt.alloc(), *call);
-        write!(text, "{told}").expect(rt, "memory");
-    }
-}
-
-pub fn built<R: Abort + AllocGlobal>(
-    rt: &R,
-    automaton: Automaton,
-    options: &str,
-) -> Result<DFA, BuildError> {
-    let config = config(rt, options);
-    DFA::builder()
-        .configure(config)
-        .build_from_nfa(automaton.nfa(rt))
-}
-
-/// An automaton that isn't refused.
-pub fn lazy<R: Abort + AllocGlobal>(rt: &R, automaton: Automaton, options: &str) -> DFA {
-    built(rt, automaton, options).expect(rt, "an automaton")
+/// Writes what a call tells behind what others did.
+pub fn write_told(rt: &impl Host, text: &mut String, told: Told) {
+    let before = if text.is_empty() { "" } else { ", " };
+    write!(text, "{before}{told}").expect(rt, "memory");
 }
 
 /// The settings of these options.
-pub fn config<R: Abort + AllocGlobal>(rt: &R, options: &str) -> Config {
+pub fn config(rt: &impl Host, options: &str) -> Config {
     let line = format!(in rt.alloc(); "regex ab {options}").expect(rt, "memory");
     let script = Script::parse(rt.alloc(), line.trim_end().as_bytes()).expect(rt, "a line");
     script.definitions.first().expect(rt, "a regex").config
+}
+
+/// How many bytes of memory a block of the room takes.
+const ROOM: usize = 1 << 16;
+
+/// A call, and what it tells once there is memory.
+pub type Owed<C> = (C, &'static str);
+
+/// A refused call, by its number, and what it tells. What comes before the word `memory` was done all the same.
+pub type Refusal = (usize, &'static str);
+
+/// What a row shows, what is called, its options as a script has them, calls in ample memory, calls in the memory of a
+/// turn, and the refusals that are seen. A refused call is made again with memory. Where no refusal is named, none
+/// comes, though nothing is left of memory.
+pub type Short<O, C> = (
+    &'static str,
+    O,
+    &'static str,
+    &'static [C],
+    &'static [Owed<C>],
+    &'static [Refusal],
+);
+
+/// The first call of a turn is refused.
+pub const ONCE: &[Refusal] = &[(0, "out of memory")];
+
+/// All memory but what a turn lends, in blocks; what the last call told, and which refusals of a row were seen.
+#[derive(Drop)]
+pub struct Turns {
+    blocks: Vec<Vec<u8>>,
+    lent: usize,
+    told: String,
+    is_refused: bool,
+    seen: [bool; 8],
+}
+
+impl Turns {
+    pub fn new(rt: &impl Host) -> Turns {
+        let blocks = Vec::with_capacity(rt.alloc(), 1 << 14).expect(rt, "memory");
+        let told = String::with_capacity(rt.alloc(), 1 << 10).expect(rt, "memory");
+        let mut turns = Turns {
+            blocks,
+            lent: 0,
+            told,
+            is_refused: false,
+            seen: [false; 8],
+        };
+        for _ in 0..512u32 {
+            let block = Vec::with_capacity(rt.alloc(), ROOM).expect(rt, "memory");
+            turns.blocks.push(block).expect(rt, "memory");
+        }
+        exhaust(rt.alloc());
+        turns
+    }
+
+    /// From here on there is memory.
+    pub fn release(&mut self) {
+        self.blocks.clear();
+    }
+
+    /// The next turn lends so many bytes, and nothing has been refused.
+    pub fn lend_from(&mut self, lent: usize) {
+        self.lent = lent;
+        self.seen = [false; 8];
+    }
+
+    /// The next turn lends more.
+    pub fn lend_more(&mut self) {
+        self.lent = self.lent.saturating_add(16);
+    }
+
+    /// Takes all memory, and then lends some.
+    pub fn lend(&mut self, rt: &impl Host) {
+        self.blocks.clear();
+        self.is_refused = false;
+        let lent = Vec::<u8>::with_capacity(rt.alloc(), self.lent).expect(rt, "memory");
+        let mut size = ROOM;
+        for _ in 0..12u32 {
+            self.take(rt.alloc(), size);
+            size /= 2;
+        }
+        for count in 0..65usize {
+            self.take(rt.alloc(), 1032 - 16 * count.min(64));
+        }
+        drop(lent);
+    }
+
+    /// Takes blocks of a size while there are any.
+    fn take(&mut self, alloc: Global, size: usize) {
+        for _ in 0..u64::MAX {
+            let Ok(block) = Vec::with_capacity(alloc, size) else {
+                return;
+            };
+            if self.blocks.push(block).is_err() {
+                return;
+            }
+        }
+    }
+
+    /// Whether so many refusals were seen.
+    fn have_seen(&self, rt: &impl Host, count: usize, shows: &str) {
+        for at in 0..count.min(8) {
+            same_of(rt, &self.seen[at], &true, &(shows, at));
+        }
+    }
+
+    /// Whether the first turn, which lends nothing, has seen the first refusal, or none where none is named.
+    fn has_begun(&self, rt: &impl Host, shows: &str, refusals: &[Refusal]) {
+        let want = !refusals.is_empty();
+        same_of(rt, &(self.is_refused, self.seen[0]), &(want, want), &shows);
+    }
+
+    pub fn has_told(&self, rt: &impl Host, owed: &str, shows: &str) {
+        same_text(rt, self.told.as_str(), owed, shows);
+    }
+
+    pub fn hear(&mut self, rt: &impl Host, told: Told) {
+        self.told.clear();
+        write!(self.told, "{told}").expect(rt, "memory");
+    }
+
+    /// Whether memory is wanting for a call that owes an answer. Then there is memory from here on.
+    pub fn refuses(&mut self, rt: &impl Host, call: usize, owed: &str, named: &[Refusal]) -> bool {
+        let is_refused = self.told.as_str().ends_with("memory") && !owed.ends_with("memory");
+        if is_refused {
+            self.blocks.clear();
+            self.is_refused = true;
+            let is_right = self.sees(call, named) || is_beginning(self.told.as_str(), owed);
+            same_of(rt, &is_right, &true, &(self.told.as_str(), owed));
+        }
+        is_refused
+    }
+
+    /// Whether this refusal is named. It has been seen from here on.
+    fn sees(&mut self, number: usize, refusals: &[Refusal]) -> bool {
+        for (at, refusal) in refusals.iter().copied().enumerate() {
+            let (refused, told) = refusal;
+            if refused == number && self.told.as_str() == told {
+                self.seen[at.min(7)] = true;
+                return true;
+            }
+        }
+        false
+    }
+}
+
+/// Whether it tells nothing but want of memory, or that behind a beginning of what is owed.
+fn is_beginning(told: &str, owed: &str) -> bool {
+    let done = told.strip_suffix("memory").unwrap_or("no refusal");
+    let done = done.strip_suffix("out of ").unwrap_or(done).trim_end();
+    owed.starts_with(done.strip_suffix(";").unwrap_or(done))
+}
+
+/// Takes turns with each row.
+pub fn refuse_each<T: Caller>(rt: &impl Host, rows: &[Short<T::Of, T::Call>]) {
+    let mut turns = Turns::new(rt);
+    for row in rows {
+        turns.lend_from(0);
+        refuse_in_turn::<T>(rt, row, &mut turns);
+    }
+}
+
+/// Calls turn by turn until nothing is refused, and looks whether the named refusals were seen, the first one where no
+/// memory was lent.
+fn refuse_in_turn<T: Caller>(rt: &impl Host, row: &Short<T::Of, T::Call>, turns: &mut Turns) {
+    take_turn::<T>(rt, row, turns);
+    turns.has_begun(rt, row.0, row.5);
+    for _ in 0..16384u32 {
+        if !turns.is_refused {
+            return turns.have_seen(rt, row.5.len(), row.0);
+        }
+        turns.lend_more();
+        take_turn::<T>(rt, row, turns);
+    }
+    check(rt, false);
+}
+
+/// One turn, over a cache of its own.
+fn take_turn<T: Caller>(rt: &impl Host, row: &Short<T::Of, T::Call>, turns: &mut Turns) {
+    turns.release();
+    let mut caller = T::make(rt, row.1, row.2).expect(rt, "what is called");
+    caller.take(rt, row, turns);
 }

@@ -1,44 +1,31 @@
 //! The texts of errors.
 
-use super::same_text;
+use super::{Host, same_text};
 use crate::error::RunError;
 use regex_automata::hybrid::{BuildError, CacheError, SearchError, StartError, StepError};
 use regex_automata::tokens::TokenError;
 use regex_automata::util::primitives::PatternID;
 use regex_automata::util::search::{Anchored, MatchError};
 use std::fmt::Display;
-use std::process::Abort;
 
-const UNSUPPORTED: &str =
+pub const UNSUPPORTED: &str =
     "unsupported regex feature for DFAs: cannot build lazy DFAs for regexes with Unicode word boundaries; switch to ASCII word boundaries, or heuristically enable Unicode word boundaries or use a different regex engine";
 
 #[test]
 fn prints_refused_builds(rt: HostRuntime) {
-    let minimum = 1735;
-    let capacity = BuildError::InsufficientCacheCapacity {
-        minimum,
-        given: 1734,
-    };
-    let attempted = 134217728;
-    let patterns = BuildError::PatternCounts {
-        forward: 2,
-        reverse: 1,
-    };
-    let too_small = "given cache capacity (1734) is smaller than minimum required (1735)";
-    let too_many = "failed to create LazyStateID from 134217728, which exceeds 134217727";
+    let (minimum, given, attempted) = (1735, 1734, 134217728);
+    let (forward, reverse) = (2, 1);
+    let too_small = BuildError::InsufficientCacheCapacity { minimum, given };
+    let too_many = BuildError::InsufficientStateIDCapacity { attempted };
+    let unequal = BuildError::PatternCounts { forward, reverse };
+    let small = "given cache capacity (1734) is smaller than minimum required (1735)";
+    let many = "failed to create LazyStateID from 134217728, which exceeds 134217727";
     prints(&rt, &BuildError::Unsupported, UNSUPPORTED);
-    prints(&rt, &capacity, too_small);
-    prints(
-        &rt,
-        &BuildError::InsufficientStateIDCapacity { attempted },
-        too_many,
-    );
+    prints(&rt, &too_small, small);
+    prints(&rt, &too_many, many);
     prints(&rt, &BuildError::OutOfMemory, "out of memory");
-    prints(
-        &rt,
-        &patterns,
-        "forward DFA has 2 patterns and reverse DFA has 1",
-    );
+    let counts = "forward DFA has 2 patterns and reverse DFA has 1";
+    prints(&rt, &unequal, counts);
 }
 
 /// The byte of a quit start, as its text shows it.
@@ -64,23 +51,18 @@ fn prints_quit_starts(rt: HostRuntime) {
 #[test]
 fn prints_refused_starts(rt: HostRuntime) {
     let pattern = PatternID::new(5).expect(&rt, "a pattern");
+    let specific = "anchored searches for a specific pattern (5)";
     for (mode, shown) in [
         (Anchored::No, "unanchored searches"),
         (Anchored::Yes, "anchored searches"),
-        (
-            Anchored::Pattern(pattern),
-            "anchored searches for a specific pattern (5)",
-        ),
+        (Anchored::Pattern(pattern), specific),
     ] {
         let text = format!(in rt.alloc();
             "error computing start state because {shown} are not supported or enabled"
         );
         let text = text.expect(&rt, "memory");
-        prints(
-            &rt,
-            &StartError::UnsupportedAnchored { mode },
-            text.as_str(),
-        );
+        let error = StartError::UnsupportedAnchored { mode };
+        prints(&rt, &error, text.as_str());
     }
     let inefficient = "error computing start state because of cache inefficiency";
     let err = CacheError;
@@ -100,23 +82,22 @@ fn prints_refused_steps_and_searches(rt: HostRuntime) {
 }
 
 #[test]
-fn prints_missing_tokens(rt: HostRuntime) {
+fn prints_missing_tokens_and_faults_of_a_run(rt: HostRuntime) {
     prints(&rt, &TokenError::NoToken(7), "no token at 7");
     let refused = TokenError::Search(SearchError::OutOfMemory);
     prints(&rt, &refused, "out of memory");
     let quit = SearchError::Match(MatchError::quit(0x78, 4));
     let text = "quit search after observing byte 0x78 at offset 4";
     prints(&rt, &TokenError::Search(quit), text);
-}
-
-#[test]
-fn prints_faults_of_a_run(rt: HostRuntime) {
+    let gave_up = SearchError::Match(MatchError::gave_up(24));
+    let text = "gave up searching at offset 24";
+    prints(&rt, &TokenError::Search(gave_up), text);
     prints(&rt, &RunError::BadLine(17), "line 17: bad line");
     prints(&rt, &RunError::Failed, "input or output failed");
     prints(&rt, &RunError::OutOfMemory, "out of memory");
 }
 
-fn prints<R: Abort + AllocGlobal, E: Display>(rt: &R, error: &E, text: &str) {
+fn prints<E: Display>(rt: &impl Host, error: &E, text: &str) {
     let printed = error.to_string(rt.alloc()).expect(rt, "memory");
     same_text(rt, printed.as_str(), text, "an error");
 }

@@ -5,19 +5,18 @@ use regex_automata::hybrid::{BuildError, LazyStateID, SearchError, StartError, S
 use regex_automata::replay::Reply;
 use regex_automata::tokens::TokenError;
 use regex_automata::util::primitives::PatternID;
-use regex_automata::util::search::{HalfMatch, Match, Span};
+use regex_automata::util::search::{HalfMatch, Match};
 use std::alloc::AllocError;
 use std::fmt;
 
-/// An item of an iteration, if it hasn't ended.
-pub type Item = Option<Result<Match, SearchError>>;
+/// An item of an iteration, or a token.
+type Token = Result<Match, TokenError>;
 
-/// The pattern and the span of a token, and whether its bytes are those of the span, or why none comes, if the tokens
-/// haven't ended.
-pub type TokenItem = Option<Result<(PatternID, Span, bool), TokenError>>;
+/// The same, if there is one.
+pub type Item = Option<Token>;
 
-/// What is counted of each part of a cache: clears, memory, and bytes searched.
-pub type Counts = [(usize, usize, usize); 2];
+/// What is counted of a cache: clears, memory, and bytes searched.
+pub type Counted = (usize, usize, usize);
 
 /// The memory of a cache, and the state that was stepped to.
 pub type Brief = (usize, LazyStateID);
@@ -26,7 +25,8 @@ pub type Brief = (usize, LazyStateID);
 #[derive(Drop)]
 pub enum Told {
     Word(&'static str),
-    Found(Reply),
+    /// A reply, with what stands before it and behind it.
+    Found(&'static str, Reply, &'static str),
     NoStart(StartError),
     NoStep(StepError),
     Refused(BuildError),
@@ -34,21 +34,16 @@ pub enum Told {
     Number(&'static str, usize, &'static str),
     /// How many patterns, and the last one.
     Patterns(usize, PatternID),
-    /// Which of the first patterns a set has, and why it has no more.
-    Short(&'static str, Reply),
-    /// What is still found, and what was refused.
-    Kept(Reply, &'static str),
     /// The match of a search, and where the last of its spans began.
     Based(HalfMatch, usize),
-    Counts(usize, usize, usize, &'static str),
+    /// Three numbers, with what stands behind them.
+    Counts(Counted, &'static str),
     /// The counts of both parts.
-    Parts(Counts),
-    /// The memory of both parts, and of each.
-    Memory(usize, usize, usize),
+    Parts([Counted; 2]),
     /// At each of some first steps.
     Briefs([Option<Brief>; 12]),
+    /// Items or tokens.
     Items([Item; 8]),
-    Tokens([TokenItem; 8]),
 }
 
 impl Told {
@@ -56,8 +51,12 @@ impl Told {
         Told::Word(if yes { "true" } else { "false" })
     }
 
+    pub fn of_reply(reply: Reply) -> Told {
+        Told::Found("", reply, "")
+    }
+
     pub fn of_half(found: Result<Option<HalfMatch>, SearchError>) -> Told {
-        Told::Found(Reply::Half(found))
+        Told::of_reply(Reply::Half(found))
     }
 
     pub fn of_start(started: Result<(), StartError>) -> Told {
@@ -96,95 +95,66 @@ impl fmt::Display for Told {
     fn fmt<W: fmt::Write>(&self, f: &mut fmt::Formatter<W>) -> fmt::Result {
         match self {
             Told::Word(word) => write!(f, "{word}"),
-            Told::Found(reply) => write!(f, "{}", Line(reply)),
+            Told::Found(before, reply, behind) => {
+                let between = if before.is_empty() { "" } else { " " };
+                write!(f, "{before}{between}{}{behind}", Line(reply))
+            }
             Told::NoStart(error) => write!(f, "{error}"),
             Told::NoStep(error) => write!(f, "{error}"),
             Told::Refused(error) => write!(f, "{error}"),
             Told::Number(before, number, behind) => write!(f, "{before}{number}{behind}"),
             Told::Patterns(count, last) => write!(f, "patterns {count} last {}", last.as_usize()),
-            Told::Short(names, reply) => write!(f, "{names} {}", Line(reply)),
-            Told::Kept(reply, refused) => write!(f, "{}{refused}", Line(reply)),
-            Told::Based(half, place) => write!(
-                f,
-                "{} {} at {place}",
-                half.pattern().as_usize(),
-                half.offset()
-            ),
-            Told::Counts(clears, memory, searched, behind) => {
-                write!(f, "{clears} {memory} {searched}{behind}")
+            Told::Based(half, place) => {
+                let (pattern, end) = (half.pattern().as_usize(), half.offset());
+                write!(f, "{pattern} {end} at {place}")
+            }
+            Told::Counts((first, second, third), behind) => {
+                write!(f, "{first} {second} {third}{behind}")
             }
             Told::Parts([forward, reverse]) => write!(f, "{forward:?} {reverse:?}"),
-            Told::Memory(both, forward, reverse) => write!(f, "{both} {forward} {reverse}"),
             Told::Briefs(briefs) => write_briefs(f, briefs),
             Told::Items(items) => write_items(f, items),
-            Told::Tokens(tokens) => write_tokens(f, tokens),
         }
     }
 }
 
-fn write_briefs<W: fmt::Write>(
-    f: &mut fmt::Formatter<W>,
-    briefs: &[Option<Brief>; 12],
-) -> fmt::Result {
+fn write_briefs<W: fmt::Write>(f: &mut fmt::Formatter<W>, briefs: &[Option<Brief>]) -> fmt::Result {
     for (number, brief) in briefs.iter().copied().enumerate() {
         if let Some((memory, id)) = brief {
-            write_between(f, number > 0, ", ")?;
-            write!(f, "{memory}{}", letter(id))?;
+            let before = if number > 0 { ", " } else { "" };
+            write!(f, "{before}{memory}{}", letter(id))?;
         }
-    }
-    Ok(())
-}
-
-fn write_between<W: fmt::Write>(
-    f: &mut fmt::Formatter<W>,
-    is_between: bool,
-    text: &str,
-) -> fmt::Result {
-    if is_between {
-        write!(f, "{text}")?;
     }
     Ok(())
 }
 
 /// The items before the end, if any. What comes behind the end or an error is told apart.
 fn write_items<W: fmt::Write>(f: &mut fmt::Formatter<W>, items: &[Item; 8]) -> fmt::Result {
-    write_between(f, items[0].is_none(), "-")?;
-    let mut is_over = false;
-    for (number, item) in items.iter().enumerate() {
+    if items[0].is_none() {
+        write!(f, "-")?;
+    }
+    let mut before = "";
+    for item in items {
         if let Some(item) = item {
-            write_between(f, number > 0, "; ")?;
-            write_between(f, is_over, "and then ")?;
-            write!(f, "{}", Line(&Reply::Span(item.map(Some))))?;
+            write!(f, "{before}")?;
+            write_item(f, item)?;
         }
-        is_over = !matches!(item, Some(Ok(_)));
+        before = if matches!(item, Some(Ok(_))) {
+            "; "
+        } else {
+            "; and then "
+        };
     }
     Ok(())
 }
 
-/// The same of tokens.
-fn write_tokens<W: fmt::Write>(f: &mut fmt::Formatter<W>, tokens: &[TokenItem; 8]) -> fmt::Result {
-    write_between(f, tokens[0].is_none(), "-")?;
-    let mut is_over = false;
-    for (number, token) in tokens.iter().enumerate() {
-        if let Some(token) = token {
-            write_between(f, number > 0, "; ")?;
-            write_between(f, is_over, "and then ")?;
-            write_token(f, token)?;
+fn write_item<W: fmt::Write>(f: &mut fmt::Formatter<W>, item: &Token) -> fmt::Result {
+    match item {
+        Ok(found) => {
+            let (pattern, span) = (found.pattern().as_usize(), found.span());
+            write!(f, "{pattern} {}..{}", span.start, span.end)
         }
-        is_over = !matches!(token, Some(Ok(_)));
-    }
-    Ok(())
-}
-
-fn write_token<W: fmt::Write>(
-    f: &mut fmt::Formatter<W>,
-    token: &Result<(PatternID, Span, bool), TokenError>,
-) -> fmt::Result {
-    match token {
-        Ok((pattern, span, is_right)) => {
-            write!(f, "{} {}..{}", pattern.as_usize(), span.start, span.end)?;
-            write_between(f, !*is_right, " of other bytes")
-        }
+        Err(TokenError::Search(error)) => write!(f, "{}", Line(&Reply::Half(Err(*error)))),
         Err(error) => write!(f, "{error}"),
     }
 }

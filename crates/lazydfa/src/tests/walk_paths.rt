@@ -4,45 +4,37 @@
 use super::paths::{
     CHARACTERS, EMPTY, LITERALS, LOOKS, MODES, REPEATED, Row, accepting, half, haystacks, splits,
 };
-use super::same_of;
 use super::tells::Automaton;
-use super::walker::Walker;
+use super::walker::{Over, Walker};
+use super::{Host, same_of};
 use crate::catalogue::Entry;
 use regex_automata::hybrid::dfa::{Config, DFA};
 use regex_automata::nfa::thompson::NFA;
 use regex_automata::util::search::{HalfMatch, Input, MatchKind};
-use std::process::Abort;
 
 /// Under kind all the pairs of pattern and end of the accepting paths, each once, by place and then
 /// by its first path. Leftmost first, at each place the first path that ends there, where it comes
 /// before every path that ends at a place before. Then without the places that split a character,
 /// where those are passed.
-pub fn list<R: Abort + AllocGlobal>(
-    rt: &R,
-    nfa: &NFA,
-    kind: MatchKind,
-    input: &Input<'_>,
-    pairs: &mut Vec<HalfMatch>,
-) {
-    pairs.clear();
+pub fn list(rt: &impl Host, nfa: &NFA, kind: MatchKind, input: &Input<'_>) -> Vec<HalfMatch> {
+    let mut pairs = Vec::new(rt.alloc());
     let paths = accepting(rt, nfa, input);
     let haystack = input.haystack();
     let mut least = paths.len();
     for step in 0..haystack.len() + 1 {
-        let place = if nfa.is_reverse() {
-            haystack.len() - step
-        } else {
-            step
-        };
+        let last = haystack.len() - step;
+        let place = if nfa.is_reverse() { last } else { step };
         let is_passed = nfa.is_utf8() && nfa.has_empty() && splits(haystack, place);
-        least = list_at(rt, paths.as_slice(), kind, (place, is_passed), least, pairs);
+        let at = (place, is_passed);
+        least = list_at(rt, paths.as_slice(), kind, at, least, &mut pairs);
     }
+    pairs
 }
 
 /// The pairs of one place, unless it is passed. The least number of a path that ends before goes
 /// in, and comes out with those that end here.
-fn list_at<R: Abort>(
-    rt: &R,
+fn list_at(
+    rt: &impl Host,
     paths: &[HalfMatch],
     kind: MatchKind,
     (place, is_passed): (usize, bool),
@@ -87,7 +79,7 @@ pub enum Name {
     Numbered(u8),
 }
 
-/// What is compared: an automaton in one direction, of one kind, with caches of the least capacity and of an ample one.
+/// What is compared: an automaton of one direction and kind, with caches of the least capacity and of an ample one.
 #[derive(Drop)]
 pub struct Listed {
     pub name: Name,
@@ -99,14 +91,14 @@ pub struct Listed {
 
 impl Listed {
     /// Every span of each haystack, and the whole of it in each mode.
-    fn compare_all<R: Abort + AllocGlobal>(&mut self, rt: &R, haystacks: &[Vec<u8>]) {
+    fn compare_all(&mut self, rt: &impl Host, haystacks: &[Vec<u8>]) {
         for haystack in haystacks {
             self.compare_spans(rt, haystack.as_slice());
             self.compare_modes(rt, haystack.as_slice());
         }
     }
 
-    fn compare_spans<R: Abort + AllocGlobal>(&mut self, rt: &R, haystack: &[u8]) {
+    fn compare_spans(&mut self, rt: &impl Host, haystack: &[u8]) {
         for end in 0..haystack.len() + 1 {
             for start in 0..end + 1 {
                 self.compare_both(rt, &Input::new(haystack).range(start..end));
@@ -115,24 +107,20 @@ impl Listed {
         }
     }
 
-    fn compare_modes<R: Abort + AllocGlobal>(&mut self, rt: &R, haystack: &[u8]) {
+    fn compare_modes(&mut self, rt: &impl Host, haystack: &[u8]) {
         for (mode, earliest) in MODES {
             self.compare_both(rt, &Input::new(haystack).anchored(mode).earliest(earliest));
         }
     }
 
     /// Searches, and what walks and sets tell.
-    fn compare_both<R: Abort + AllocGlobal>(&mut self, rt: &R, input: &Input<'_>) {
+    fn compare_both(&mut self, rt: &impl Host, input: &Input<'_>) {
         self.compare_halves(rt, input);
         self.compare(rt, input);
     }
 
     /// Plain searches. It tells their answer.
-    pub fn compare_halves<R: Abort + AllocGlobal>(
-        &mut self,
-        rt: &R,
-        input: &Input<'_>,
-    ) -> Option<HalfMatch> {
+    pub fn compare_halves(&mut self, rt: &impl Host, input: &Input<'_>) -> Option<HalfMatch> {
         let dfa = self.ample.dfa();
         let kind = dfa.get_config().get_match_kind();
         let want = half(rt, dfa.get_nfa(), kind, input);
@@ -145,11 +133,11 @@ impl Listed {
     }
 
     /// Walks, and forward the sets of their patterns.
-    pub fn compare<R: Abort + AllocGlobal>(&mut self, rt: &R, input: &Input<'_>) {
+    pub fn compare(&mut self, rt: &impl Host, input: &Input<'_>) {
         let dfa = self.ample.dfa();
         let kind = dfa.get_config().get_match_kind();
         let is_reverse = dfa.get_nfa().is_reverse();
-        list(rt, dfa.get_nfa(), kind, input, &mut self.want);
+        self.want = list(rt, dfa.get_nfa(), kind, input);
         let of = (self.name, kind, input);
         self.ample.walk(rt, input, &mut self.found);
         same_of(rt, &self.found.as_slice(), &self.want.as_slice(), &of);
@@ -160,7 +148,7 @@ impl Listed {
         }
     }
 
-    fn compare_sets<R: Abort + AllocGlobal>(&mut self, rt: &R, input: &Input<'_>) {
+    fn compare_sets(&mut self, rt: &impl Host, input: &Input<'_>) {
         for capacity in 1..4usize {
             let want = patterns_of(self.want.as_slice(), input.get_earliest(), capacity);
             let of = (self.name, capacity, input);
@@ -170,7 +158,7 @@ impl Listed {
     }
 }
 
-pub fn prepare<R: Abort + AllocGlobal>(rt: &R, name: Name, nfa: NFA, kind: MatchKind) -> Listed {
+pub fn prepare(rt: &impl Host, name: Name, nfa: NFA, kind: MatchKind) -> Listed {
     let config = Config::new()
         .match_kind(kind)
         .unicode_word_boundary(true)
@@ -178,52 +166,38 @@ pub fn prepare<R: Abort + AllocGlobal>(rt: &R, name: Name, nfa: NFA, kind: Match
     let least = config.cache_capacity(0).skip_cache_capacity_check(true);
     let tight = walker(rt, nfa.clone().expect(rt, "a copy"), least);
     let ample = walker(rt, nfa, config);
+    let (want, found) = (Vec::new(rt.alloc()), Vec::new(rt.alloc()));
     Listed {
         name,
         tight,
         ample,
-        want: Vec::new(rt.alloc()),
-        found: Vec::new(rt.alloc()),
+        want,
+        found,
     }
 }
 
-fn walker<R: Abort + AllocGlobal>(rt: &R, nfa: NFA, config: Config) -> Walker {
+fn walker(rt: &impl Host, nfa: NFA, config: Config) -> Walker {
     let built = DFA::builder().configure(config).build_from_nfa(nfa);
-    Walker::new(rt, built.expect(rt, "an automaton"))
+    Walker::new(rt, built.expect(rt, "an automaton"), Over::Text(""))
 }
 
 /// Searches, walks and sets of both kinds in both directions tell what the listed paths of each entry say.
-fn agree<R: Abort + AllocGlobal>(rt: &R, rows: &[Row]) {
+fn agree(rt: &impl Host, rows: &[Row]) {
     for row in rows {
         let (entry, pieces, most) = *row;
-        let haystacks = haystacks(rt, pieces, most);
+        let (name, haystacks) = (Name::Of(entry), haystacks(rt, pieces, most));
         for kind in [MatchKind::LeftmostFirst, MatchKind::All] {
-            compare(
-                rt,
-                Automaton::Forward(entry),
-                entry,
-                kind,
-                haystacks.as_slice(),
-            );
-            compare(
-                rt,
-                Automaton::Reverse(entry),
-                entry,
-                kind,
-                haystacks.as_slice(),
-            );
+            let (forward, reverse) = (Automaton::Forward(entry), Automaton::Reverse(entry));
+            let listed = prepare(rt, name, forward.nfa(rt), kind);
+            compare(rt, listed, haystacks.as_slice());
+            let listed = prepare(rt, name, reverse.nfa(rt), kind);
+            compare(rt, listed, haystacks.as_slice());
         }
     }
 }
 
-fn compare<R: Abort + AllocGlobal>(
-    rt: &R,
-    automaton: Automaton,
-    entry: Entry,
-    kind: MatchKind,
-    haystacks: &[Vec<u8>],
-) {
-    let mut listed = prepare(rt, Name::Of(entry), automaton.nfa(rt), kind);
+fn compare(rt: &impl Host, listed: Listed, haystacks: &[Vec<u8>]) {
+    let mut listed = listed;
     listed.compare_all(rt, haystacks);
 }
 

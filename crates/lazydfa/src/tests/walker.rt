@@ -4,20 +4,17 @@ ghost use Rattle.std.specs.Prelude.{◌≡◌};
 ghost use Rattle.lazydfa.specs.Walks.{IsWalkOver};
 ghost use Rattle.regex_automata.specs.Caches.{IsCacheOf};
 
-use super::bench::within;
+use super::bench::{counted, within};
 use super::plans::pattern_id;
-use super::tells::{Automaton, RowOf, lazy};
+use super::tells::{Automaton, Caller, Short, Turns, write_told};
 use super::told::Told;
-use super::turns::{InTurns, Short, Turns};
-use super::{check, same_text};
+use super::{Host, check};
 use regex_automata::hybrid::dfa::{Cache, DFA, OverlappingState};
 use regex_automata::hybrid::{BuildError, SearchError};
 use regex_automata::replay::Reply;
 use regex_automata::util::search::{Anchored, HalfMatch, Input, PatternSet};
 use std::alloc::Global;
-use std::fmt::Write;
 use std::mem;
-use std::process::Abort;
 
 /// What is walked over.
 #[derive(Clone, Copy)]
@@ -25,9 +22,8 @@ pub enum Over {
     Text(&'static str),
     /// A haystack from a place to a place.
     Span(&'static str, usize, usize),
-    Anchored(&'static str),
+    /// For a pattern alone.
     Pattern(&'static str, u8),
-    Earliest(&'static str),
 }
 
 impl Over {
@@ -35,11 +31,9 @@ impl Over {
         match self {
             Over::Text(haystack) => Input::new(haystack.as_bytes()),
             Over::Span(haystack, start, end) => within(haystack, start, end),
-            Over::Anchored(haystack) => Input::new(haystack.as_bytes()).anchored(Anchored::Yes),
             Over::Pattern(haystack, number) => {
                 Input::new(haystack.as_bytes()).anchored(Anchored::Pattern(pattern_id(number)))
             }
-            Over::Earliest(haystack) => Input::new(haystack.as_bytes()).earliest(true),
         }
     }
 }
@@ -76,11 +70,6 @@ pub enum Turn {
 #[derive(Clone, Copy)]
 pub struct Walked(pub Automaton, pub Over);
 
-/// A row of calls over a walk.
-pub type Row = RowOf<Walked, Turn>;
-
-pub type ShortRow = Short<Walked, Turn>;
-
 /// A set of some of the first three patterns.
 fn names(has: [bool; 4]) -> &'static str {
     match has {
@@ -105,7 +94,7 @@ fn firsts_of(set: &PatternSet) -> [bool; 4] {
     has
 }
 
-/// A lazy automaton with three caches, of which calls use the first, and a set of up to four patterns.
+/// A lazy automaton with three caches, of which calls use the first, a set of patterns, and what is walked over.
 #[derive(Drop)]
 pub struct Walker {
     dfa: DFA,
@@ -113,13 +102,14 @@ pub struct Walker {
     second: Cache,
     third: Cache,
     set: PatternSet,
+    over: Over,
     ghost first_of: { IsCacheOf first dfa },
     ghost second_of: { IsCacheOf second dfa },
     ghost third_of: { IsCacheOf third dfa },
 }
 
 impl Walker {
-    pub fn new<R: Abort + AllocGlobal>(rt: &R, dfa: DFA) -> Walker {
+    pub fn new(rt: &impl Host, dfa: DFA, over: Over) -> Walker {
         let first = dfa.create_cache().expect(rt, "a cache");
         let second = dfa.create_cache().expect(rt, "a cache");
         let third = dfa.create_cache().expect(rt, "a cache");
@@ -130,6 +120,7 @@ impl Walker {
             second,
             third,
             set,
+            over,
         }
     }
 
@@ -138,15 +129,15 @@ impl Walker {
     }
 
     /// All matches of a walk. Each call is made over another cache, after a search of the same input.
-    pub fn walk<R: Abort>(&mut self, rt: &R, input: &Input<'_>, found: &mut Vec<HalfMatch>) {
+    pub fn walk(&mut self, rt: &impl Host, input: &Input<'_>, found: &mut Vec<HalfMatch>) {
         found.clear();
         let mut walk = OverlappingState::start();
         self.walk_on(rt, input, &mut walk, found);
     }
 
-    fn walk_on<R: Abort>(
+    fn walk_on(
         &mut self,
-        rt: &R,
+        rt: &impl Host,
         input: &Input<'_>,
         walk: &mut OverlappingState,
         found: &mut Vec<HalfMatch>,
@@ -155,7 +146,8 @@ impl Walker {
     {
         for _call in 0..1000u32 {
             self.find(input).expect(rt, "a search");
-            let Some(half) = self.next(input, walk).expect(rt, "a call") else {
+            step(&self.dfa, &mut self.first, input, walk).expect(rt, "a call");
+            let Some(half) = walk.get_match() else {
                 return;
             };
             found.push(half).expect(rt, "memory");
@@ -165,9 +157,9 @@ impl Walker {
     }
 
     /// Writes what the calls of a walk over this input tell, and those between them.
-    fn tell_turns<R: Abort + AllocGlobal>(
+    fn tell_turns(
         &mut self,
-        rt: &R,
+        rt: &impl Host,
         input: &Input<'_>,
         turns: &[Turn],
         walk: &mut OverlappingState,
@@ -176,53 +168,38 @@ impl Walker {
         requires { IsWalkOver self.old.dfa input.now walk.old }
     {
         for turn in turns {
-            let told = self.answer(rt.alloc(), input, *turn, walk);
-            if !text.is_empty() {
-                text.push_str(", ").expect(rt, "memory");
-            }
-            write!(text, "{told}").expect(rt, "memory");
+            let told = self.turn(rt.alloc(), input, *turn, walk);
+            write_told(rt, text, told);
         }
     }
 
-    /// Makes the calls before those in the memory of a turn.
-    fn make<R: Abort + AllocGlobal>(
+    /// Makes the calls of a turn.
+    fn take_turns(
         &mut self,
-        rt: &R,
+        rt: &impl Host,
         input: &Input<'_>,
-        before: &[Turn],
-        walk: &mut OverlappingState,
-        turns: &mut Turns,
-    )
-        requires { IsWalkOver self.old.dfa input.now walk.old }
-        ensures { IsWalkOver self.new.dfa input.now walk.new }
-    {
-        for turn in before {
-            turns.hear(rt, self.answer(rt.alloc(), input, *turn, walk));
-        }
-    }
-
-    /// Makes those, and each that is refused once more with memory.
-    fn make_short<R: Abort + AllocGlobal>(
-        &mut self,
-        rt: &R,
-        input: &Input<'_>,
-        row: &ShortRow,
+        row: &Short<Walked, Turn>,
         walk: &mut OverlappingState,
         turns: &mut Turns,
     )
         requires { IsWalkOver self.old.dfa input.now walk.old }
     {
+        for turn in row.3 {
+            turns.hear(rt, self.turn(rt.alloc(), input, *turn, walk));
+        }
+        turns.lend(rt);
         for (number, owed) in row.4.iter().enumerate() {
             let (turn, want) = *owed;
-            turns.hear(rt, self.answer(rt.alloc(), input, turn, walk));
+            turns.hear(rt, self.turn(rt.alloc(), input, turn, walk));
             if turns.refuses(rt, number, want, row.5) {
-                turns.hear(rt, self.answer(rt.alloc(), input, turn, walk));
+                turns.hear(rt, self.turn(rt.alloc(), input, turn, walk));
             }
             turns.has_told(rt, want, row.0);
         }
+        turns.release();
     }
 
-    fn answer(
+    fn turn(
         &mut self,
         alloc: Global,
         input: &Input<'_>,
@@ -233,7 +210,7 @@ impl Walker {
         ensures { IsWalkOver self.new.dfa input.now walk.new }
     {
         match turn {
-            Turn::Next => self.tell_next(input, walk),
+            Turn::Next => self.next(input, walk),
             Turn::Begin => {
                 *walk = OverlappingState::start();
                 Told::Word("-")
@@ -260,49 +237,20 @@ impl Walker {
                 Told::Word("-")
             }
             Turn::Reset => Told::of_growth(self.dfa.reset_cache(&mut self.first)),
-            Turn::Counts => self.counts(),
+            Turn::Counts => Told::Counts(counted(&self.first), ""),
             _ => Told::of_flag(Vec::<u8>::with_capacity(alloc, 1).is_ok()),
         }
     }
 
     /// The walk's next. Where it is refused, the walk has no match.
-    fn tell_next(&mut self, input: &Input<'_>, walk: &mut OverlappingState) -> Told
+    fn next(&mut self, input: &Input<'_>, walk: &mut OverlappingState) -> Told
         requires { IsWalkOver self.old.dfa input.now walk.old }
         ensures { IsWalkOver self.new.dfa input.now walk.new }
     {
-        let next = self.next(input, walk);
-        if next.is_err() && walk.get_match().is_some() {
-            return Told::Word("a refusal with a match");
-        }
-        Told::of_half(next)
-    }
-
-    /// One call of a walk, and the match that it then has.
-    pub fn next(
-        &mut self,
-        input: &Input<'_>,
-        walk: &mut OverlappingState,
-    ) -> Result<Option<HalfMatch>, SearchError>
-        requires { IsWalkOver self.old.dfa input.now walk.old }
-        ensures dfa { self.new.dfa ≡ self.old.dfa }
-        ensures walk { IsWalkOver self.new.dfa input.now walk.new }
-    {
-        self.step(input, walk)?;
-        Ok(walk.get_match())
-    }
-
-    /// One call of a walk.
-    fn step(&mut self, input: &Input<'_>, walk: &mut OverlappingState) -> Result<(), SearchError>
-        requires { IsWalkOver self.old.dfa input.now walk.old }
-        ensures dfa { self.new.dfa ≡ self.old.dfa }
-        ensures walk { IsWalkOver self.new.dfa input.now walk.new }
-    {
-        if self.dfa.get_nfa().is_reverse() {
-            self.dfa
-                .try_search_overlapping_rev(&mut self.first, input, walk)
-        } else {
-            self.dfa
-                .try_search_overlapping_fwd(&mut self.first, input, walk)
+        match step(&self.dfa, &mut self.first, input, walk) {
+            Err(_) if walk.get_match().is_some() => Told::Word("a refusal with a match"),
+            Err(error) => Told::of_half(Err(error)),
+            Ok(()) => Told::of_half(Ok(walk.get_match())),
         }
     }
 
@@ -317,6 +265,7 @@ impl Walker {
         }
     }
 
+    /// The patterns of all matches, in a set of this capacity that may have one.
     fn which(
         &mut self,
         alloc: Global,
@@ -332,54 +281,53 @@ impl Walker {
         if let Some(pattern) = given {
             let _ = set.try_insert(pattern_id(pattern));
         }
-        let filled = self.collect(input, &mut set);
+        let dfa = &self.dfa;
+        let filled = dfa.try_which_overlapping_matches(&mut self.first, input, &mut set);
         told_of(filled, &set)
     }
 
     fn fill(&mut self, input: &Input<'_>) -> Told
         ensures { self.new.dfa ≡ self.old.dfa }
     {
-        let filled = self
-            .dfa
-            .try_which_overlapping_matches(&mut self.first, input, &mut self.set);
+        let dfa = &self.dfa;
+        let filled = dfa.try_which_overlapping_matches(&mut self.first, input, &mut self.set);
         told_of(filled, &self.set)
     }
 
     /// Which of the first patterns all matches have, as far as they are below a capacity.
-    pub fn patterns<R: Abort + AllocGlobal>(
-        &mut self,
-        rt: &R,
-        input: &Input<'_>,
-        capacity: usize,
-    ) -> [bool; 4] {
+    pub fn patterns(&mut self, rt: &impl Host, input: &Input<'_>, capacity: usize) -> [bool; 4] {
         let mut set = PatternSet::new(rt.alloc(), capacity).expect(rt, "memory");
-        self.collect(input, &mut set).expect(rt, "a set");
+        let dfa = &self.dfa;
+        let filled = dfa.try_which_overlapping_matches(&mut self.first, input, &mut set);
+        filled.expect(rt, "a set");
         firsts_of(&set)
     }
 
-    /// Adds the patterns of all matches to a set.
-    pub fn collect(&mut self, input: &Input<'_>, set: &mut PatternSet) -> Result<(), SearchError>
-        ensures { self.new.dfa ≡ self.old.dfa }
-    {
-        self.dfa
-            .try_which_overlapping_matches(&mut self.first, input, set)
-    }
-
     /// Puts the next of the three caches first.
-    pub fn switch(&mut self)
+    fn switch(&mut self)
         ensures { self.new.dfa ≡ self.old.dfa }
     {
         mem::swap(&mut self.first, &mut self.second);
         mem::swap(&mut self.second, &mut self.third);
     }
+}
 
-    fn counts(&self) -> Told {
-        Told::Counts(
-            self.first.clear_count(),
-            self.first.memory_usage(),
-            self.first.search_total_len(),
-            "",
-        )
+/// One call of a walk in the direction of the automaton.
+fn step(
+    dfa: &DFA,
+    cache: &mut Cache,
+    input: &Input<'_>,
+    walk: &mut OverlappingState,
+) -> Result<(), SearchError>
+    requires of { IsCacheOf cache.old dfa.now }
+    requires walk { IsWalkOver dfa.now input.now walk.old }
+    ensures of { IsCacheOf cache.new dfa.now }
+    ensures walk { IsWalkOver dfa.now input.now walk.new }
+{
+    if dfa.get_nfa().is_reverse() {
+        dfa.try_search_overlapping_rev(cache, input, walk)
+    } else {
+        dfa.try_search_overlapping_fwd(cache, input, walk)
     }
 }
 
@@ -388,65 +336,36 @@ fn told_of(filled: Result<(), SearchError>, set: &PatternSet) -> Told {
     let names = names(firsts_of(set));
     match filled {
         Ok(()) => Told::Word(names),
-        Err(error) => Told::Short(names, Reply::Half(Err(error))),
+        Err(error) => Told::Found(names, Reply::Half(Err(error)), ""),
     }
 }
 
-impl InTurns for Walker {
+impl Caller for Walker {
     type Of = Walked;
 
     type Call = Turn;
 
-    fn take_turn<R: Abort + AllocGlobal>(rt: &R, row: &ShortRow, turns: &mut Turns) {
-        turns.release();
-        let Walked(automaton, over) = row.1;
-        let mut walker = Walker::new(rt, lazy(rt, automaton, row.2));
-        walk_short(rt, &mut walker, &over.input(), row, turns);
+    fn make(rt: &impl Host, of: Walked, options: &str) -> Result<Walker, BuildError> {
+        let Walked(automaton, over) = of;
+        let dfa = automaton.lazy(rt, options);
+        Ok(Walker::new(rt, dfa, over))
     }
-}
 
-fn walk_short<R: Abort + AllocGlobal>(
-    rt: &R,
-    walker: &mut Walker,
-    input: &Input<'_>,
-    row: &ShortRow,
-    turns: &mut Turns,
-) {
-    let mut walk = OverlappingState::start();
-    walker.make(rt, input, row.3, &mut walk, turns);
-    turns.lend(rt);
-    walker.make_short(rt, input, row, &mut walk, turns);
-    turns.release();
-}
-
-/// Makes the calls of each row.
-pub fn tells_all<R: Abort + AllocGlobal>(rt: &R, rows: &[Row]) {
-    for row in rows {
-        let mut text = String::with_capacity(rt.alloc(), 1 << 10).expect(rt, "memory");
-        let Walked(automaton, over) = row.1;
-        tell_into(rt, lazy(rt, automaton, row.2), over, row.3, &mut text);
-        same_text(rt, text.as_str(), row.4, row.0);
+    /// A call that leaves the walk alone.
+    fn answer(&mut self, alloc: Global, turn: Turn) -> Told {
+        let input = self.over.input();
+        self.call(alloc, &input, turn)
     }
-}
 
-fn tell_into<R: Abort + AllocGlobal>(
-    rt: &R,
-    dfa: DFA,
-    over: Over,
-    turns: &[Turn],
-    text: &mut String,
-) {
-    let mut walker = Walker::new(rt, dfa);
-    tell_over(rt, &mut walker, &over.input(), turns, text);
-}
+    fn tell(&mut self, rt: &impl Host, turns: &[Turn], text: &mut String) {
+        let input = self.over.input();
+        let mut walk = OverlappingState::start();
+        self.tell_turns(rt, &input, turns, &mut walk, text);
+    }
 
-fn tell_over<R: Abort + AllocGlobal>(
-    rt: &R,
-    walker: &mut Walker,
-    input: &Input<'_>,
-    turns: &[Turn],
-    text: &mut String,
-) {
-    let mut walk = OverlappingState::start();
-    walker.tell_turns(rt, input, turns, &mut walk, text);
+    fn take(&mut self, rt: &impl Host, row: &Short<Walked, Turn>, turns: &mut Turns) {
+        let input = self.over.input();
+        let mut walk = OverlappingState::start();
+        self.take_turns(rt, &input, row, &mut walk, turns);
+    }
 }

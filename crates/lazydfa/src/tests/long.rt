@@ -1,0 +1,183 @@
+//! Long haystacks and many states.
+
+ghost use Rattle.regex_automata.specs.RegexCaches.{AreCachesOf};
+
+use super::bench::Bench;
+use super::plans::{Plan, Shape};
+use super::random_paths::Dice;
+use super::regex_bench::Pair;
+use super::tells::Automaton;
+use super::{Host, same_of};
+use crate::catalogue::Entry;
+use Shape::{Accept, Either, Range};
+use regex_automata::hybrid::SearchError;
+use regex_automata::hybrid::dfa::DFA;
+use regex_automata::hybrid::regex::{Cache, Regex};
+use regex_automata::nfa::thompson::{Flags, NFA, State};
+use regex_automata::util::primitives::{PatternID, StateID};
+use regex_automata::util::search::{HalfMatch, Input};
+
+/// Three thousand bytes, each with a state of its own.
+#[test]
+fn searches_a_long_chain(rt: HostRuntime) {
+    let haystack = vec![in rt.alloc(); b'a'; 3000].expect(&rt, "memory");
+    let built = DFA::builder().build_from_nfa(long_chain(&rt));
+    let mut bench = Bench::new(&rt, built.expect(&rt, "an automaton"));
+    ends_at(&rt, &mut bench, haystack.as_slice(), 3000);
+    let want = (0, 273384, 3000, false);
+    same_of(&rt, &bench.totals(), &want, &"what is counted");
+}
+
+/// Searches, and looks where the last match ends.
+fn ends_at(rt: &impl Host, bench: &mut Bench, haystack: &[u8], end: usize) {
+    let found = bench.search(&Input::new(haystack));
+    let last = HalfMatch::new(PatternID::ZERO, end);
+    same_of(rt, &found, &Ok(Some(last)), &"the last end");
+}
+
+fn long_chain(rt: &impl Host) -> NFA {
+    let zero = StateID::ZERO;
+    let starts = vec![in rt.alloc(); zero].expect(rt, "memory");
+    let mut states = Vec::new(rt.alloc());
+    link(rt, &mut states);
+    let nfa = NFA::from_states(rt.alloc(), states, zero, zero, starts, Flags::default());
+    nfa.expect(rt, "an automaton")
+}
+
+fn link(rt: &impl Host, states: &mut Vec<State>) {
+    for number in 1..3001usize {
+        let next = StateID::new(number).unwrap_or(StateID::ZERO);
+        let (lo, hi) = (b'a', b'a');
+        let range = State::ByteRange { lo, hi, next };
+        states.push(range).expect(rt, "memory");
+    }
+    let pattern = PatternID::ZERO;
+    states.push(State::Match { pattern }).expect(rt, "memory");
+}
+
+/// Any bytes, an `a`, and eleven bytes more. Its states tell which of the last twelve bytes were `a`.
+#[rattlefmt::skip]
+const TWELFTH: Automaton = Automaton::Planned(&Plan {
+    states: &[Either(1, 2), Range(0, 255, 0), Range(b'a', b'a', 3), Range(0, 255, 4), Range(0, 255, 5),
+        Range(0, 255, 6), Range(0, 255, 7), Range(0, 255, 8), Range(0, 255, 9), Range(0, 255, 10), Range(0, 255, 11),
+        Range(0, 255, 12), Range(0, 255, 13), Range(0, 255, 14), Accept(0)], starts: (0, 0), patterns: &[0],
+});
+
+/// Bytes `a` and `b` of a fixed generator.
+fn letters(rt: &impl Host) -> Vec<u8> {
+    let mut text = Vec::with_capacity(rt.alloc(), 1 << 20).expect(rt, "memory");
+    let mut dice = Dice::new(0);
+    for _ in 0..1u32 << 20 {
+        let letter = if dice.roll(2) == 0 { b'a' } else { b'b' };
+        text.push(letter).expect(rt, "memory");
+    }
+    text
+}
+
+/// A mebibyte of which nearly each byte makes a new state, over a cache of the least capacity.
+#[test]
+fn makes_states_over_a_mebibyte(rt: HostRuntime) {
+    let text = letters(&rt);
+    let dfa = TWELFTH.lazy(&rt, "all capacity=0 skip");
+    let mut bench = Bench::new(&rt, dfa);
+    ends_at(&rt, &mut bench, text.as_slice(), 1_048_574);
+    let (clears, memory, ..) = bench.totals();
+    same_of(&rt, &(clears, memory), &(62_993, 1468), &"counts");
+}
+
+fn repeated(rt: &impl Host, text: &str, count: usize) -> Vec<u8> {
+    let mut haystack = Vec::new(rt.alloc());
+    for _ in 0..count {
+        let pushed = haystack.extend_from_slice(text.as_bytes());
+        pushed.expect(rt, "memory");
+    }
+    haystack
+}
+
+/// Ten thousand dates, each found from the end of the one before.
+#[test]
+fn finds_date_after_date(rt: HostRuntime) {
+    let haystack = repeated(&rt, "2018-12-24 ", 10_000);
+    let mut bench = Bench::new(&rt, Automaton::Forward(Entry::Date).lazy(&rt, ""));
+    find_dates(&rt, &mut bench, haystack.as_slice());
+}
+
+fn find_dates(rt: &impl Host, bench: &mut Bench, dates: &[u8]) {
+    let mut end = 0usize;
+    for number in 0..10_000usize {
+        let start = end.min(dates.len());
+        let found = bench.search(&Input::new(dates).range(start..dates.len()));
+        end = 11 * number + 10;
+        let want = HalfMatch::new(PatternID::ZERO, end);
+        same_of(rt, &found, &Ok(Some(want)), &number);
+    }
+    let want = (0, 1745, 119999, false);
+    same_of(rt, &bench.totals(), &want, &"what is counted");
+}
+
+/// The same by an iteration.
+#[test]
+fn iterates_over_ten_thousand_dates(rt: HostRuntime) {
+    let haystack = repeated(&rt, "2018-12-24 ", 10_000);
+    let found = finds_dates(&rt, haystack.as_slice());
+    same_of(&rt, &found, &Ok(10_000), &"dates");
+}
+
+fn finds_dates(rt: &impl Host, haystack: &[u8]) -> Result<usize, SearchError> {
+    let regex = Pair::Of(Entry::Date).regex(rt, "");
+    let mut cache = regex.create_cache().expect(rt, "a cache");
+    count_dates(&regex, &mut cache, haystack)
+}
+
+/// How many dates are found, each eleven bytes behind the one before. Another match isn't counted.
+fn count_dates(regex: &Regex, cache: &mut Cache, haystack: &[u8]) -> Result<usize, SearchError>
+    requires { AreCachesOf cache.old regex.now }
+{
+    let mut count = 0usize;
+    let mut start = 0usize;
+    for item in regex.find_iter(cache, Input::new(haystack)) {
+        let found = item?;
+        let is_next = found.start() == start && found.end() == start.saturating_add(10);
+        if is_next && found.pattern() == PatternID::ZERO {
+            count = count.saturating_add(1);
+        }
+        start = start.saturating_add(11);
+    }
+    Ok(count)
+}
+
+/// Tokens over a mebibyte, each of two bytes, joined again.
+#[test]
+fn tokenises_a_mebibyte(rt: HostRuntime) {
+    let haystack = repeated(&rt, "ab12", 1 << 18);
+    let mut bytes = Vec::new(rt.alloc());
+    let count = join_all(&rt, haystack.as_slice(), &mut bytes);
+    same_of(&rt, &count, &(1 << 19), &"how many");
+    same_of(&rt, &(bytes == haystack), &true, &"joined");
+}
+
+fn join_all(rt: &impl Host, haystack: &[u8], bytes: &mut Vec<u8>) -> usize {
+    let regex = Pair::Of(Entry::Runs).regex(rt, "");
+    let mut cache = regex.create_cache().expect(rt, "a cache");
+    join(rt, &regex, &mut cache, haystack, bytes)
+}
+
+/// Joins the bytes of the tokens before an error, and counts these.
+fn join(
+    rt: &impl Host,
+    regex: &Regex,
+    cache: &mut Cache,
+    haystack: &[u8],
+    bytes: &mut Vec<u8>,
+) -> usize
+    requires { AreCachesOf cache.old regex.now }
+{
+    let mut count = 0usize;
+    for item in regex.tokens(cache, Input::new(haystack)) {
+        if let Ok(token) = item {
+            bytes.extend_from_slice(token.bytes()).expect(rt, "memory");
+            count = count.saturating_add(1);
+        }
+    }
+    count
+}

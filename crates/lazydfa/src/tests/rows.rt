@@ -1,0 +1,338 @@
+//! Calls of the lazy automaton over one cache, by rows with what they tell and count.
+
+use super::bench::{Bench, Call};
+use super::plans::{Mode, Plan, Shape};
+use super::tells::{Automaton, Caller, RowOf, tells_all, text_of};
+use super::texts::UNSUPPORTED;
+use super::{Host, same_of, same_text};
+use crate::catalogue::Entry;
+use Automaton::{Always, Chain, Crowd, Forward, Never, Planned, Reverse};
+use Call::{
+    Brief, Classes, Close, Counts, End, Find, FindAnchored, FindBased, FindEarliest, FindIn, Known,
+    Matched, Memory, Minimum, MoveTo, Open, Patterns, ReplaceByNew, Reset, ResetByCache, ResetTo,
+    Start, StartIn, StartOn, State, Step, Steps, Walk,
+};
+use Mode::{Every, Of};
+use Shape::{Accept, Assert, Capture, Dense, Either, Range, Sparse, Union};
+use regex_automata::util::look::Look;
+use std::fmt::Write;
+
+/// A row of calls over an automaton and a cache.
+type Row = RowOf<Automaton, Call>;
+
+const AB: Automaton = Forward(Entry::Ab);
+
+const AB_BACK: Automaton = Reverse(Entry::Ab);
+
+const WORDS: Automaton = Forward(Entry::Words);
+
+const WORDS_BACK: Automaton = Reverse(Entry::Words);
+
+const A16: Automaton = Forward(Entry::A16);
+
+/// Sixteen bytes.
+const AS: &str = "aaaaaaaaaaaaaaaa";
+
+/// Each call that may be refused memory, in ample memory.
+#[rattlefmt::skip]
+const AMPLE: &[Row] = &[
+    ("Cache::new", AB, "", &[ReplaceByNew, Brief], "-, 335"),
+    ("Cache::reset", AB, "", &[ReplaceByNew, Find("ab"), Brief, ResetByCache, Brief], "-, half 0 2, 678, -, 335"),
+    ("start_state", AB, "", &[Start(None), State, Counts], "-, state 0, 0 421 0"),
+    ("start_state_forward", AB, "", &[StartOn(Every, "ab"), Counts], "false, 0 421 0"),
+    ("start_state_reverse", AB_BACK, "", &[StartOn(Every, "ab"), Counts], "false, 0 421 0"),
+    ("next_state", AB, "", &[Start(None), Steps("a"), State, Counts], "-, -, state 0, 0 507 0"),
+    ("try_search_fwd_base, where two places split the character, so that the third one gives the match",
+        Forward(Entry::Empty), "", &[FindBased("\u{2603}", 1, 3)], "0 3 at 3"),
+    // The classes of bytes, with the one of the end, and the least capacity that may be asked for; or why none may be.
+    ("", AB, "", &[Classes, Minimum], "5, 1735"), ("", AB, "noclasses", &[Classes, Minimum], "257, 36007"),
+    ("", AB, "starts", &[Minimum], "2359"), ("", AB, "quit=63", &[Minimum], "1735"),
+    ("", Forward(Entry::Always), "", &[Classes, Minimum], "2, 1145"),
+    ("", Forward(Entry::Never), "", &[Minimum], "1085"), ("", Forward(Entry::Date), "", &[Minimum], "2649"),
+    ("", WORDS, "", &[Classes, Minimum], "12, 2901"), ("", Forward(Entry::Aa), "all", &[Classes, Minimum], "4, 1895"),
+    ("", Forward(Entry::Bnum), "unicode", &[Minimum], "2651"), ("", Forward(Entry::Wordend), "", &[Classes], "10"),
+    ("", Forward(Entry::Crlf), "", &[Classes], "6"), ("", Forward(Entry::Snow), "", &[Classes], "19"),
+    ("", Forward(Entry::Snowx), "starts", &[Minimum], "7397"), ("", A16, "noclasses", &[Minimum], "37281"),
+    ("word boundaries", Forward(Entry::Bound), "", &[], UNSUPPORTED),
+    ("before the capacity", Forward(Entry::Bnum), "capacity=0", &[], UNSUPPORTED),
+    ("one byte too few", AB, "capacity=1734", &[],
+        "given cache capacity (1734) is smaller than minimum required (1735)"),
+];
+
+/// `ab`, as the README's example has it.
+#[rattlefmt::skip]
+const EXAMPLE: Plan = Plan {
+    states: &[Range(b'a', b'a', 1), Range(b'b', b'b', 2), Accept(0)], starts: (0, 0),
+        patterns: &[0],
+};
+
+const TWICE: &[Call] = &[Find("ab"), Counts, Find("ab"), Counts];
+
+#[rattlefmt::skip]
+const SEARCHED: &[Row] = &[
+    ("at its minimum capacity the automaton needs no clear", AB, "capacity=1735", TWICE,
+        "half 0 2, 0 678 2, half 0 2, 0 678 4"),
+    ("nor where a smaller one is raised to it", AB, "capacity=0 skip limit=0", TWICE,
+        "half 0 2, 0 678 2, half 0 2, 0 678 4"),
+    ("and needs none with no limit on clears", AB, "capacity=0 skip", TWICE, "half 0 2, 0 678 2, half 0 2, 0 678 4"),
+    ("a reset forgets it all", AB, "capacity=1735", &[Find("ab"), Find("ab"), Reset, Counts],
+        "half 0 2, half 0 2, -, 0 335 0"),
+    ("the example", Planned(&EXAMPLE), "capacity=65536", &[Find("abc"), FindAnchored("cab", 1, 3)],
+        "half 0 2, half 0 3"),
+    ("the start of a search over no bytes is there, though the search begins no progress", AB_BACK, "all",
+        &[StartOn(Every, ""), Counts, Find(""), Counts], "false, 0 421 0, none, 0 421 0"),
+    ("a cache of one automaton serves another once it is reset to it", Forward(Entry::Date), "",
+        &[Find("2018-12-24 2016-10-08"), ResetTo(Entry::Ab), Counts, Find("ab"), Counts, Find("ab"), Counts],
+        "half 0 10, -, 0 335 0, half 0 2, 0 678 2, half 0 2, 0 678 4"),
+    ("one search after another, each from a place to a place, and the bytes searched by then", AB, "", &[Open(3),
+        Close(7), Counts, Open(10), Close(2), Counts, Open(5), Close(5), Counts, Open(0), Close(usize::MAX), Counts,
+        Open(0), Close(1), Counts],
+        "-, -, 0 335 4, -, -, 0 335 12, -, -, 0 335 12, -, -, 0 335 18446744073709551615, -, -, 0 335 18446744073709551615"),
+    ("a search in progress has searched so far", AB, "", &[Open(3), Counts, MoveTo(7), Counts],
+        "-, 0 335 0 open, -, 0 335 4 open"),
+    ("in reverse: the first path's start under leftmost-first", Reverse(Entry::Crlf), "", &[Find("a\r\n"),
+        FindEarliest("a\r\n")], "half 0 3, half 0 3"),
+    // In reverse by the default settings, so under leftmost-first.
+    ("the first byte is read at the end step", AB_BACK, "", &[Counts, Find("ab"), Counts],
+        "0 335 0, half 0 0, 0 678 1"),
+    ("the start of a search over no bytes is there, though the search begins no progress", AB_BACK, "",
+        &[StartOn(Every, ""), Find(""), Counts], "false, none, 0 421 0"),
+    ("a letter before the span, and one behind it", Reverse(Entry::Bnum), "unicode", &[FindIn("\u{3b2}123", 2, 5),
+        FindIn("123\u{3b2}", 0, 3)], "quit b2 1, quit ce 3"),
+    ("a quit byte before the start is known", Reverse(Entry::Wordend), "quit=78", &[Find("abcxyz")], "quit 78 3"),
+    ("a place that splits a character is passed, unless anchored there", Reverse(Entry::Empty), "",
+        &[FindIn("\u{2603}", 0, 2), FindAnchored("\u{2603}", 0, 2)], "half 0 0, none"),
+    // The bytes searched, by each way out of a search, and that no search is in progress behind it.
+    ("at a quit byte", AB, "quit=63", &[Find("abc"), Counts], "quit 63 2, 0 593 2"),
+    ("at a quit byte behind the span", AB, "quit=63", &[FindIn("abc", 0, 2), Counts], "quit 63 2, 0 593 2"),
+    ("at the byte behind the span", AB, "", &[FindIn("xabz", 1, 3), Counts], "half 0 3, 0 678 2"),
+    ("at the dead state", AB, "", &[Find("abxyz"), Counts], "half 0 2, 0 678 3"),
+    ("at the first match", WORDS, "", &[FindEarliest("@foo bar"), Counts], "half 1 1, 0 965 1"),
+    ("at a quit byte", AB_BACK, "all quit=61", &[Find("zab"), Counts], "quit 61 1, 0 507 1"),
+    ("at a quit byte before the span", AB_BACK, "all quit=63", &[FindIn("cab", 1, 3), Counts], "quit 63 0, 0 593 1"),
+    ("at the dead state", AB_BACK, "all", &[Find("zyxab"), Counts], "half 0 3, 0 678 3"),
+    ("at the first match", WORDS_BACK, "all", &[FindEarliest("@foo bar"), Counts], "half 0 7, 0 989 1"),
+];
+
+#[rattlefmt::skip]
+const NOTHING: Plan = Plan { states: &[Union], starts: (0, 0), patterns: &[] };
+
+#[rattlefmt::skip]
+const ONE_STATE_TWICE: Plan = Plan { states: &[Either(1, 1), Accept(0)], starts: (0, 0), patterns: &[0] };
+
+#[rattlefmt::skip]
+const DENSE: Plan = Plan { states: &[Dense(&[(b'a', 1)]), Accept(0)], starts: (0, 0), patterns: &[0] };
+
+#[rattlefmt::skip]
+const CAPTURE: Plan = Plan { states: &[Capture(1), Range(b'a', b'a', 2), Accept(0)], starts: (0, 0), patterns: &[0] };
+
+/// A cycle of epsilon edges that passes a look.
+#[rattlefmt::skip]
+const LOOK_CYCLE: Plan = Plan {
+    states: &[Either(1, 4), Either(2, 5), Assert(Look::WordAscii, 3), Either(0, 6), Range(b'b', b'b', 7),
+        Range(b'a', b'a', 8), Range(b'c', b'c', 9), Accept(0), Accept(1), Accept(2)], starts: (0, 0),
+        patterns: &[0, 0, 0],
+};
+
+/// How many patterns there are, the memory, the least capacity, what searches from the first place to the second
+/// answer, of which one is over a part of a character, the memory of the cache, and what a search of a byte answers.
+#[rattlefmt::skip]
+const DULL: &[Call] = &[
+    Patterns, Memory, Minimum, FindIn("abc", 1, 2), FindIn("\u{2603}", 1, 2), Counts, Find("a"),
+];
+
+/// Automata of no catalogue. With starts for each pattern, many patterns need more start states than have IDs.
+#[rattlefmt::skip]
+const ODD: &[Row] = &[
+    ("DFA::always_match", Always, "", DULL, "1, 0, 1145, half 0 1, half 0 1, 0 344 2, half 0 0"),
+    ("DFA::never_match", Never, "", DULL, "0, 0, 1085, none, none, 0 217 0, none"),
+    ("as many starts as there may be", Crowd(43687), "noclasses skip starts", &[], ""),
+    ("a pattern more", Crowd(43688), "noclasses skip starts", &[],
+        "failed to create LazyStateID from 134217728, which exceeds 134217727"),
+    ("a union of nothing", Planned(&NOTHING), "all", &[Minimum, Find("ab")], "1085, none"),
+    ("a union of nothing adds no state to the cache", Planned(&NOTHING), "", &[Find("ab"), Counts], "none, 0 217 0"),
+    ("a union of one state twice", Planned(&ONE_STATE_TWICE), "", &[Find("")], "half 0 0"),
+    ("a union of one pattern twice", Planned(&TWO_WAYS), "all", &[Find("")], "half 0 0"),
+    ("a dense state", Planned(&DENSE), "", &[Find("a"), Find("b")], "half 0 1, none"),
+    ("a capture", Planned(&CAPTURE), "", &[Find("a"), Find("b")], "half 0 1, none"),
+    ("a cycle of epsilon edges that passes a look", Planned(&LOOK_CYCLE), "all", &[Find("a"), Find("b"), Find("c"),
+        FindIn("xc", 1, 2), Brief], "half 1 1, half 0 1, half 2 1, none, 1559"),
+];
+
+/// Two ways to one pattern.
+#[rattlefmt::skip]
+pub const TWO_WAYS: Plan = Plan { states: &[Either(1, 2), Accept(0), Accept(0)], starts: (0, 0), patterns: &[0] };
+
+#[rattlefmt::skip]
+const STEPPED: &[Row] = &[
+    ("a match", AB, "", &[Start(None), Steps("ab"), End, Matched], "-, -, -, patterns 1 last 0"),
+    ("a step is known once it was made", AB, "", &[Start(None), Known(b'a'), State, Step(b'a'), State, Start(None),
+        State, Known(b'a')], "-, state 0u, state 1, -, state 2, -, state 1, state 2"),
+    ("dead leads to dead", AB, "", &[Start(None), Step(b'x'), State, Steps("ab"), End, State, Brief],
+        "-, -, state 0d, -, -, state 0d, 421d"),
+    ("a quit byte leads to quit, which leads to itself", AB, "quit=63", &[Start(None), Known(b'c'), Step(b'c'), State,
+        Step(b'a'), State], "-, state 0q, -, state 0q, -, state 0q"),
+    ("the patterns of a match", Forward(Entry::Aa), "all", &[Start(None), Steps("aa"), State, Matched],
+        "-, -, state 0m, patterns 2 last 1"),
+    ("two ways to one pattern match once", Planned(&TWO_WAYS), "all", &[Start(None), End, Matched],
+        "-, -, patterns 1 last 0"),
+    ("no tag", AB, "", &[Start(None), State], "-, state 0"),
+    ("a tag where asked", AB, "tags", &[Start(None), State], "-, state 0s"),
+    ("the byte behind is looked at first, and then the mode", AB, "quit=63", &[StartIn(Of(0), None),
+        StartIn(Of(0), Some(b'c'))],
+        "error computing start state because anchored searches for a specific pattern (0) are not supported or enabled, error computing start state because the look-behind byte c triggered a quit state"),
+    ("a letter behind a word boundary in reverse", Reverse(Entry::Bnum), "unicode", &[Start(Some(0xB2)),
+        Start(Some(b'a')), State],
+        "error computing start state because the look-behind byte \\xB2 triggered a quit state, -, state 0"),
+    ("dead past the last pattern", WORDS, "starts", &[StartIn(Of(0), None), State, StartIn(Of(1), None), State,
+        StartIn(Of(2), None), State, StartIn(Of(7), None), State], "-, state 0, -, state 1, -, state 2d, -, state 2d"),
+];
+
+/// The memory at the start, after each byte and at the end, and whether the state is dead, quit or a match.
+#[rattlefmt::skip]
+const WALKED: &[Row] = &[
+    ("always anchored", AB, "quit=21", &[Walk("axb")], "421, 507, 507d, 507d, 507d"),
+    ("the first of two words", WORDS, "quit=21", &[Walk("@foo bar")],
+        "705, 838, 965m, 965m, 965m, 1082m, 1082d, 1082d, 1082d, 1082d"),
+    ("all words", WORDS, "all quit=21", &[Walk("@foo b")], "705, 838, 980m, 1126m, 1126m, 1262m, 1400, 1521m"),
+    ("equal patterns", Forward(Entry::Aa), "all quit=21", &[Walk("aab")], "527, 633, 747m, 851m, 851d"),
+    ("ends of lines", Forward(Entry::Crlf), "all quit=21", &[Walk("\r\n\n")], "451, 546m, 546, 641m, 726m"),
+    ("a character and its neighbours", Forward(Entry::Snow), "quit=21", &[Walk("a\u{2603}x")],
+        "970, 1167, 1364, 1550m, 1732, 1914, 2095m"),
+    ("a date", Forward(Entry::Date), "quit=21", &[Walk("2018-12-24")],
+        "640, 736, 837, 943, 1054, 1150, 1251, 1357, 1453, 1554, 1660, 1745m"),
+    ("a quit byte", Forward(Entry::Runs), "quit=21", &[Walk("a1!b")], "577, 678, 763m, 763q, 763q, 763q"),
+];
+
+/// `b`, or else twenty bytes `a`.
+const FORK: Automaton = Chain(Sparse(&[(b'a', b'a', 1), (b'b', b'b', 20)]));
+
+/// Twenty bytes `a` from a word boundary on, so that the starts differ by the byte behind.
+const WORD: Automaton = Chain(Assert(Look::WordAscii, 1));
+
+#[rattlefmt::skip]
+const TWO_SEARCHES: &[Call] = &[Counts, Find(AS), Counts, Find(AS), Counts];
+
+/// Full caches: clears, memory, and bytes searched.
+#[rattlefmt::skip]
+const CLEARED: &[Row] = &[
+    ("each search clears once", A16, "noclasses capacity=37281", TWO_SEARCHES,
+        "0 6677 0, half 0 16, 1 19288 3, half 0 16, 2 29798 8"),
+    ("each reverse search clears once", Reverse(Entry::A16), "all noclasses capacity=37281", TWO_SEARCHES,
+        "0 6677 0, half 0 0, 1 19288 2, half 0 0, 2 29798 7"),
+    ("where a search gives up, it is still in progress", A16, "noclasses capacity=37281 limit=0", &[Find(AS), Counts],
+        "gaveup 13, 0 36105 13 open"),
+    ("all states fit into as much as they take", A16, "noclasses capacity=44512", &[Find(AS), Counts],
+        "half 0 16, 0 44512 16"),
+    ("and not into a byte less", A16, "noclasses capacity=44511", &[Find(AS), Counts], "half 0 16, 1 12982 0"),
+    // What a clear keeps of the starts.
+    ("a start state outlives a clear, with its tag", A16, "noclasses capacity=37281 tags", &[Start(None), State,
+        Steps("aaaaaaaaaaaaaaaa"), End, State, Counts, Start(None), State, Counts],
+        "-, state 0s, -, -, state 1m, 1 19288 0, -, state 0s, 1 19288 0"),
+    ("a clear in a step from the start state keeps that state once, and forgets its other steps", FORK,
+        "noclasses capacity=37645", &[Start(None), State, Steps("aaaaaaaaaaaaa"), Counts, Start(None), Step(b'b'),
+        Counts, State, Start(None), State, Known(b'b'), Known(b'a')],
+        "-, state 0, -, 0 36189 0, -, -, 1 10965 0, state 1, -, state 0, state 1, state 2u"),
+    ("a clear keeps the starts in the order of the bytes behind them, a word byte before none", WORD,
+        "noclasses capacity=37645", &[Start(None), State, Start(Some(b'a')), State, Counts, Start(None),
+        Steps("aaaaaaaaaaaaa"), Counts, Start(None), State, Start(Some(b'a')), State, Counts],
+        "-, state 0, -, state 1, 0 10965 0, -, -, 1 15169 0, -, state 1, -, state 0, 1 15169 0"),
+    ("the cache has no room for a start, and may not be cleared", WORD, "noclasses capacity=37645 limit=0",
+        &[Start(None), Steps("aaaaaaaaaaaaa"), Step(b'a'), Start(Some(b'a')), Counts],
+        "-, -, lazy DFA cache has been cleared too many times, error computing start state because of cache inefficiency, 0 36189 0"),
+];
+
+#[test]
+fn searches_tell_their_rows(rt: HostRuntime) {
+    tells_all::<Bench>(&rt, AMPLE);
+    tells_all::<Bench>(&rt, SEARCHED);
+    tells_all::<Bench>(&rt, ODD);
+}
+
+#[test]
+fn steps_tell_their_rows(rt: HostRuntime) {
+    tells_all::<Bench>(&rt, STEPPED);
+    tells_all::<Bench>(&rt, WALKED);
+    tells_all::<Bench>(&rt, CLEARED);
+}
+
+/// An automaton, its options, a haystack, the reply, and what is counted: the memory of a fresh
+/// cache, after one search, and the bytes searched by one search.
+type Counted = (
+    Automaton,
+    &'static str,
+    &'static str,
+    &'static str,
+    [usize; 3],
+);
+
+#[rattlefmt::skip]
+const COUNTED: &[Counted] = &[
+    (AB, "", "ab", "half 0 2", [335, 678, 2]),
+    (Forward(Entry::Always), "", "", "half 0 0", [221, 344, 0]),
+    (Forward(Entry::Never), "", "abc", "none", [217, 217, 0]),
+    (Forward(Entry::Date), "", "2018-12-24 2016-10-08", "half 0 10", [549, 1745, 11]),
+    (WORDS, "", "@foo bar", "half 1 4", [577, 1082, 5]),
+    (Forward(Entry::Runs), "", "123 foobar 4567", "half 1 3", [481, 858, 4]),
+    (A16, "", AS, "half 0 16", [581, 1840, 16]),
+    (AB_BACK, "all", "ab", "half 0 0", [335, 678, 1]),
+    (AB_BACK, "all", "", "none", [335, 421, 0]),
+    (Reverse(Entry::Always), "all", "abc", "half 0 3", [221, 344, 1]),
+    (Reverse(Entry::Never), "all", "abc", "none", [217, 217, 0]),
+    (Reverse(Entry::Date), "all", "2018-12-24 2016-10-08", "half 0 0", [549, 1850, 20]),
+    (WORDS_BACK, "all", "@foo bar", "half 1 0", [577, 1383, 7]),
+    (Reverse(Entry::A16), "all", AS, "half 0 0", [581, 1840, 15]),
+    (Reverse(Entry::Snow), "all", "a\u{2603}x", "half 0 0", [778, 2144, 4]),
+    (Reverse(Entry::Crlf), "all", "a\r\n", "half 0 1", [360, 646, 2]),
+];
+
+#[test]
+fn counts_memory_and_searched_bytes(rt: HostRuntime) {
+    for row in COUNTED {
+        let row = *row;
+        count(&rt, row);
+    }
+}
+
+/// Searches twice, and once more after a reset.
+fn count(rt: &impl Host, row: Counted) {
+    let (automaton, options, haystack, reply, [fresh, used, searched]) = row;
+    let find = Find(haystack);
+    let calls = [
+        Counts, find, Counts, find, Counts, Reset, Counts, find, Counts,
+    ];
+    let found = text_of(rt, Bench::make(rt, automaton, options), &calls);
+    let twice = searched.saturating_mul(2);
+    let want = format!(in rt.alloc();
+        "0 {fresh} 0, {reply}, 0 {used} {searched}, {reply}, 0 {used} {twice}, -, 0 {fresh} 0, {reply}, 0 {used} {searched}"
+    );
+    let want = want.expect(rt, "memory");
+    same_text(rt, found.as_str(), want.as_str(), haystack);
+}
+
+/// With each byte from 80 on as a quit byte, a Unicode word boundary is allowed without the heuristic.
+#[test]
+fn searches_where_no_letter_is_read(rt: HostRuntime) {
+    let mut options = String::new(rt.alloc());
+    write_quits(&rt, &mut options);
+    let calls = [Find(" a"), Find(" a\u{e9}"), Counts];
+    let built = Bench::make(&rt, Forward(Entry::Bound), options.as_str());
+    let found = text_of(&rt, built, &calls);
+    let want = "half 0 1, quit c3 2, 0 696 4";
+    same_text(&rt, found.as_str(), want, "quit bytes from 80 on");
+}
+
+fn write_quits(rt: &impl Host, options: &mut String) {
+    for byte in 0x80..=0xFFu8 {
+        write!(options, "quit={byte:02x} ").expect(rt, "memory");
+    }
+}
+
+#[test]
+fn keeps_its_settings(rt: HostRuntime) {
+    let built = Forward(Entry::Bound).lazy(&rt, "unicode");
+    let copy = built.clone().expect(&rt, "a copy");
+    let config = copy.get_config();
+    let kept = (config.get_unicode_word_boundary(), config.get_quit(0xB2));
+    same_of(&rt, &kept, &(true, false), &"the settings");
+}
