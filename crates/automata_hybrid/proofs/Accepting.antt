@@ -1,5 +1,5 @@
 -- A walk of kind all tells the patterns of the accepting paths.
-use Rattle.std.proofs.Common.{ℕ, ◌≡◌, ◌<◌, ◌≤◌, ◌⊎◌, ◌∙◌, inl, inr, Bool, true, false, List, [], ◌∷◌, length, Some, refl, sym, ap, subst}
+use Rattle.std.proofs.Common.{ℕ, ◌≡◌, ◌<◌, ◌≤◌, ◌⊎◌, inl, inr, Bool, true, false, List, [], ◌∷◌, length, Some, refl, sym, ap, subst}
 use Rattle.std.specs.Prelude.{Ok, ◌↔◌}
 use Rattle.automata_base.specs.Answers.{HasPattern, IsInput, first_alone}
 use Rattle.automata_base.specs.Input.{Input}
@@ -8,11 +8,10 @@ use Rattle.automata_base.specs.PatternSet.{members}
 use Rattle.automata_base.specs.Selections.{Pair}
 use Rattle.automata_base.specs.Starts.{mode_start}
 use Rattle.automata_base.specs.Tapes.{Forward}
-use Rattle.automata_base.specs.WalkLaws.{AllPairsAreTold, AreTold, InPairs, IsAccepted, WalksAreTold}
+use Rattle.automata_base.specs.WalkLaws.{AllPairsAreTold, AreTold, InPairs, WalksAreTold}
 use Rattle.automata_base.specs.Within.{WalkLiesWithin}
 use Rattle.automata_base.specs.declared.util.search.MatchKind.{MatchKind}
 use Rattle.automata_base.specs.declared.util.search.MatchKind.TheVariants.{All as KindAll}
-use Rattle.automata_base.proofs.Paths.Orders.{some_inj}
 use Rattle.automata_config.specs.Options.{match_kind_of}
 use Rattle.automata_hybrid.specs.Accepting.{MatchesIn, SetsHaveMatching}
 use Rattle.automata_hybrid.specs.Machine.{Machine}

@@ -133,15 +133,3 @@ module _ {way : Direction} {m : Machine} {c : Stored} {input : Input} {from to i
 
   pub followed_silent : {start : ℕ} → IsSilent way m input start from → IsSilent way m input start to
   followed_silent {start} silent = silent_trans way m input start from to silent (silent_upto to f.more (omega arith))
-
--- the same by another name of the direction and of the places
-pub followed_as :
-    (d way : Direction) (m : Machine) (c : Stored) (input : Input) (a b units at from id : ℕ)
-    → d ≡ way → a ≡ units → b ≡ at → Names c.table from (state_in d m input units)
-    → (Names c.table from (state_in way m input a) → IsFollowed way m c input a b id) → IsFollowed d m c input units at id
-followed_as d way m c input a b units at from id same first last named f =
-    subst (λ (e : Direction). IsFollowed e m c input units at id) (sym same)
-    (subst (λ n. IsFollowed way m c input units n id) last
-    (subst (λ n. IsFollowed way m c input n b id) first
-    (f (subst (λ n. Names c.table from (state_in way m input n)) (sym first)
-    (subst (λ (e : Direction). Names c.table from (state_in e m input units)) same named)))))

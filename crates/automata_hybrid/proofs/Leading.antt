@@ -60,12 +60,6 @@ led_more way m c input from k id id' byte low unit known below quit named f = go
       each here j l h (inl less) = f.taken j l less
       each here j l h (inr more) = let same : k ≡ j = omega (arith, h, more) in subst (IsTaken way m c input) same here
 
--- the same behind as many units, counted otherwise
-pub led_to :
-    {way : Direction} {m : Machine} {c : Stored} {input : Input} {from id k to : ℕ}
-    → k ≡ to → IsLed way m c input from k id → IsLed way m c input from to id
-led_to {way} {m} {c} {input} {from} {id} same f = subst (λ n. IsLed way m c input from n id) same f
-
 -- what was followed is followed on
 pub led_on :
     {way : Direction} {m : Machine} {c : Stored} {input : Input} {from k to id id' : ℕ}

@@ -1,7 +1,8 @@
 -- What searches owe whatever the cache, and what they make of it.
 use Rattle.std.proofs.Common.{ℕ, ◌≡◌, Option, Some, None, refl, sym, ap, subst}
-use Rattle.std.specs.Prelude.{Result, Ok, Err, IfErr}
+use Rattle.std.specs.Prelude.{Result, Ok, Err, IfErr, IfOk}
 use Rattle.std.specs.Result.{IsErrAnd}
+use Rattle.automata_base.specs.Answers.{Half}
 use Rattle.automata_base.specs.Input.{Input}
 use Rattle.automata_base.specs.Matches.{HalfMatch}
 use Rattle.automata_base.specs.Tapes.{Direction, Forward}
@@ -10,9 +11,9 @@ use Rattle.automata_hybrid.specs.Stores.{Stored}
 use Rattle.automata_hybrid.specs.Caches.{CacheView}
 use Rattle.automata_hybrid.specs.Knowing.{IsOfInput}
 use Rattle.automata_hybrid.specs.Machine.{Machine}
-use Rattle.automata_hybrid.specs.Owing.{IsBased, IsHalf, IsSearchEffect, IsStoreOf, MayRefuse}
+use Rattle.automata_hybrid.specs.Owing.{IsBased, IsHalf, IsSearchEffect, IsStoreOf, MayRefuse, based_half, halves}
 use Rattle.automata_hybrid.specs.Searched.{LeavesProgress}
-use Rattle.automata_hybrid.specs.Searches.{IsRefused, with_base}
+use Rattle.automata_hybrid.specs.Searches.{IsRefused, WithoutBase, with_base}
 use Rattle.automata_hybrid.proofs.Searching.{ok_err}
 
 -- a cache that is of its DFA and keeps its bounds is one of it, within its settings
@@ -29,7 +30,7 @@ may_refuse (Err e) way m c input of h = (c, of, h)
 same_err : {A E : Type 0} {e f : E} → ◌≡◌ {A = Result A E} (Err e) (Err f) → e ≡ f
 same_err h = cc
 
-err_to :
+pub err_to :
     {A B E : Type 0} {e f : E} → ◌≡◌ {A = Result A E} (Err e) (Err f) → ◌≡◌ {A = Result B E} (Err e) (Err f)
 err_to h = ap (λ v. Err v) (same_err h)
 
@@ -120,3 +121,23 @@ module _ {T U : Type 0} (way : Direction) (m : Machine) (input : Input) (old new
     left = subst (LeavesProgress way m input old.store new.store) (sym is) s.left;
     done = s.done;
   }
+
+-- answers without their bases
+pub halves_ok :
+    (P : Option Half → Type 0) (r : Result (Option (HalfMatch × ℕ)) SearchError)
+    → IfOk r (λ o. P (based_half o)) → IfOk (halves r) (WithoutBase P)
+halves_ok P (Ok None) h = (None, h, refl)
+halves_ok P (Ok (Some p)) h = (Some (with_base p.0 p.1), h, refl)
+halves_ok P (Err e) h = tt
+
+pub halves_err :
+    (Q : SearchError → Type 0) (r : Result (Option (HalfMatch × ℕ)) SearchError) → IfErr r Q → IfErr (halves r) Q
+halves_err Q (Ok o) h = tt
+halves_err Q (Err e) h = h
+
+pub halves_effect :
+    (way : Direction) (m : Machine) (input : Input) (old new : CacheView)
+    (r : Result (Option (HalfMatch × ℕ)) SearchError)
+    → IsSearchEffect way m input old new r → IsSearchEffect way m input old new (halves r)
+halves_effect way m input old new (Ok o) s = effect_ok way m input old new o _ s
+halves_effect way m input old new (Err e) s = effect_err way m input old new (Err e) e refl s

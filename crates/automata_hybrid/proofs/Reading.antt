@@ -20,7 +20,7 @@ use Rattle.automata_hybrid.specs.Reading.{ClearsForNext, IsReadEffect, IsReadRef
 use Rattle.automata_hybrid.specs.Searched.{IsOfRoom}
 use Rattle.automata_hybrid.specs.Searches.{IsStepRefusal}
 use Rattle.automata_hybrid.specs.Stepping.{IsStepAnswer, IsStepEffect, KnowsStep, unit_class}
-use Rattle.automata_hybrid.specs.Stores.{with_searched}
+use Rattle.automata_hybrid.specs.Stores.{Stored, with_searched}
 use Rattle.automata_hybrid.specs.Table.{IsValid, Names}
 use Rattle.automata_hybrid.proofs.Clearing.{clears_closed, clears_moved, step_clears}
 use Rattle.automata_hybrid.proofs.Growing.{grown_moved, grown_trans, nothing_second}
@@ -62,6 +62,39 @@ end_room m id quit_at at old new e valid why = go e (why valid.0 valid.1) where
   go (search.Match (UnsupportedMode mode)) why = absurd why
   go search.OutOfMemory why = tt
   go search.NotAPair why = absurd why
+
+-- at the end no byte is read, so no offset of a quit byte is told
+pub unquit_at :
+    (m : Machine) (c : Stored) (q : Powerset) (quit_at other_at at : ℕ) (e : SearchError)
+    → IsStepRefusal m c q None quit_at at e → IsStepRefusal m c q None other_at at e
+unquit_at m c q quit_at other_at at (search.Match (QuitAt byte offset)) why = absurd (none_some why.0)
+unquit_at m c q quit_at other_at at (search.Match (GaveUp offset)) why = why
+unquit_at m c q quit_at other_at at (search.Match (UnsupportedMode mode)) why = why
+unquit_at m c q quit_at other_at at search.OutOfMemory why = why
+unquit_at m c q quit_at other_at at search.NotAPair why = why
+
+-- a search moved, and then read a unit
+pub read_after :
+    {T : Type 0} (m : Machine) (id : ℕ) (unit : Option ℕ) (old mid next : CacheView) {s : Searched}
+    → mid ≡ with_store old (with_searched old.store s) → (r : Result T SearchError)
+    → IsReadEffect m id unit mid next r → IsReadEffect m id unit old next r
+read_after m id unit old mid next moved r effect = record {
+  alive = λ q n. effect.alive q (subst (λ (v : CacheView). Names v.store.table id q) (sym moved) n);
+  below = effect.below;
+  counted = omega (arith, same, effect.counted);
+  grown = grown;
+  cleared = clears_moved m id unit old.store mid.store next.store (ap (λ (v : CacheView). v.store) moved) effect.cleared;
+  known = λ known. (
+      let here = effect.known (subst (λ (v : CacheView). KnowsStep m v.store id unit) (sym moved) known) in
+      (grown.idle (here.0.0 ∙ same), here.1)
+      );
+  learned = λ nothing. effect.learned (nothing_second old mid next (grown_moved old mid moved) effect.grown nothing);
+} where
+  same : mid.count ≡ old.count
+  same = ap (λ (v : CacheView). v.count) moved
+
+  grown : IsGrown old next
+  grown = grown_trans old mid next (grown_moved old mid moved) effect.grown
 
 -- a search may have moved, and then makes the step on a unit
 module _ (m : Machine) (id : ℕ) (unit : Option ℕ) (old mid next : CacheView) {s : Searched}

@@ -6,7 +6,7 @@ use Rattle.automata_base.specs.Input.{Input}
 use Rattle.automata_base.specs.Matches.{HalfMatch}
 use Rattle.automata_base.specs.Paths.{next}
 use Rattle.automata_base.specs.Powerset.{Powerset, dead}
-use Rattle.automata_base.specs.Tapes.{Direction}
+use Rattle.automata_base.specs.Tapes.{Direction, Forward, Backward}
 use Rattle.automata_config.specs.declared.error.SearchError.{SearchError}
 use Rattle.automata_hybrid.specs.declared.dfa.progress.Progress.{Progress}
 use Rattle.automata_hybrid.specs.declared.dfa.progress.Searched.{Searched}
@@ -17,9 +17,9 @@ use Rattle.automata_hybrid.specs.Caches.{CacheView, with_store}
 use Rattle.automata_hybrid.specs.Growing.{ClearedNothing, IsGrown, IsKeptOrCleared, KeepsProgress}
 use Rattle.automata_hybrid.specs.Machine.{Machine}
 use Rattle.automata_hybrid.specs.Passing.{IsAt}
-use Rattle.automata_hybrid.specs.Progressing.{finished, from_place, progress_cleared, saturated, started, updated}
-use Rattle.automata_hybrid.specs.Reading.{ClearsForNext, IsLastProgress}
-use Rattle.automata_hybrid.specs.Searched.{CountsFrom, EndsAtLast, IsBehindEnd, IsClearedBetween, IsClearedFor, IsClearedFrom, IsEndedAt, IsEndedBy, IsLeftAt, IsMovedTo, IsOfRoom, IsOpenAt, IsQuitUnit, IsStoppedAt, TriesSpans, none_searched}
+use Rattle.automata_hybrid.specs.Progressing.{finished, from_place, moved_to, progress_cleared, saturated, started, total_len, updated}
+use Rattle.automata_hybrid.specs.Reading.{ClearsForNext}
+use Rattle.automata_hybrid.specs.Searched.{CountsFrom, EndsAtLast, IsBehindEnd, IsClearedBetween, IsClearedFor, IsClearedFrom, IsEndedAt, IsEndedBy, IsLeftAt, IsLeftAtEnd, IsMovedTo, IsOfRoom, IsOpenAt, IsQuitUnit, IsStoppedAt, TriesSpans, before_last, none_searched}
 use Rattle.automata_hybrid.specs.Searches.{Finds, IsUnitRefusal, Reads, Skips, given_up_offset, state_in, tape_in}
 use Rattle.automata_hybrid.specs.Table.{Names}
 use Rattle.automata_hybrid.proofs.Clearing.{clears_unit, from_after, from_then}
@@ -240,6 +240,105 @@ module _ (way : Direction) (m : Machine) (input : Input) (s : Searched) (old mid
                 (stays_open way m input s 0 old mid new before after k at place for_next x low high o moved),
           )
 
+-- and one that is refused at its last unit
+pub left_at_end :
+    (way : Direction) (m : Machine) (input : Input) (s : Searched) (old mid new : CacheView)
+    (before : IsGrown old mid) (after : IsGrown mid new) (k id at x : ℕ) (u : Option ℕ) (found : Option HalfMatch)
+    (stands : IsAt way m mid.store.table input k id found) (few : k ≤ length (tape_in way input).bytes)
+    (alive : (q : Powerset) → Names mid.store.table id q → q ≡ dead → ⊥)
+    (unit : next (tape_in way input) k ≡ u) (place : given_up_offset way input k ≡ at)
+    (low : input.start ≤ at) (high : at ≤ input.end)
+    (o : IsOpenAt way m input s 0 x old.store mid.store) (clears : ClearsForNext m id u mid.store new.store)
+    (e : SearchError) → IsUnitRefusal way m new.store input k e → k ≡ length (tape_in way input).bytes
+    → IsLeftAtEnd way m u at mid.store new.store e → IsStoppedAt way m input s old.store new.store e
+left_at_end Forward m input s old mid new before after k id at x u found stands few alive unit place low high o clears e refused last left =
+    left_here Forward m input s old mid new before after k id at x u found stands few alive unit place low high o clears e refused (λ none. none) left
+left_at_end Backward m input s old mid new before after k id at x u found stands few alive unit place low high o clears e refused last ended = (
+  k,
+  at_reads Backward m mid.store.table input k id found stands few alive,
+  stands.clean,
+  refused,
+  inl (inr last, ended_here Backward m input s old mid new before after k id at x u found stands few alive unit place low high o clears ended),
+)
+
+moved_twice : (r : Option Progress) (at : ℕ) → moved_to (moved_to r at) at ≡ moved_to r at
+moved_twice None at = refl
+moved_twice (Some p) at = refl
+
+finished_twice : (s : Searched) (at : ℕ) → finished (updated s at) at ≡ finished s at
+finished_twice s at =
+    ap (λ (r : Option Progress). record { bytes = total_len (record { bytes = s.bytes; running = r }); running = None }) (moved_twice s.running at)
+
+finished_cleared : (s : Searched) (at : ℕ) → finished (progress_cleared (updated s at)) at ≡ none_searched
+finished_cleared s at = go s.running where
+  none : 0 + ((at - at) + (at - at)) ≡ 0
+  none = omega arith
+
+  done : ℕ → Searched
+  done n = record { bytes = saturated n; running = None }
+
+  go : (r : Option Progress) → finished (record { bytes = 0; running = from_place (moved_to r at) }) at ≡ none_searched
+  go None = refl
+  go (Some p) = ap done none
+
+-- back a pass had ended before its last step, which leaves it ended
+module _ (old mid new : CacheView) (at : ℕ)
+    (ends : mid ≡ with_store old (with_searched old.store (finished old.store.searched at))) where
+  same : mid.store.searched ≡ finished old.store.searched at
+  same = ap (λ (v : CacheView). v.store.searched) ends
+
+  clears : mid.store.clears ≡ old.store.clears
+  clears = ap (λ (v : CacheView). v.store.clears) ends
+
+  unmoved :
+      (left : Searched) → left ≡ updated mid.store.searched at → left ≡ finished old.store.searched at
+  unmoved left l = l ∙ ap (λ (v : Searched). updated v at) same
+
+  emptied : (left : Searched) → left ≡ progress_cleared (updated mid.store.searched at) → left ≡ none_searched
+  emptied left l = l ∙ ap (λ (v : Searched). progress_cleared (updated v at)) same
+
+  stays_ended : IsEndedBy at mid.store new.store → IsEndedBy at old.store new.store
+  stays_ended (left, kept, e) = go kept where
+    go : IsKeptOrCleared mid.store new.store (updated mid.store.searched at) left → IsEndedBy at old.store new.store
+    go (inl (count, l)) = (
+      updated old.store.searched at,
+      inl (count ∙ clears, refl),
+      e ∙ (ap (λ (v : Searched). finished v at) (unmoved left l) ∙ sym (finished_twice old.store.searched at)),
+    )
+    go (inr (cleared, l)) = (
+      progress_cleared (updated old.store.searched at),
+      inr (λ nothing. cleared (omega (arith, nothing.0, clears), omega (arith, nothing.1, clears)), refl),
+      e ∙ (ap (λ (v : Searched). finished v at) (emptied left l) ∙ sym (finished_cleared old.store.searched at)),
+    )
+
+  stays_closed : IsMovedTo at mid.store new.store → IsEndedBy at old.store new.store
+  stays_closed moved = stays_ended (new.store.searched, moved, go moved) where
+    go :
+        IsKeptOrCleared mid.store new.store (updated mid.store.searched at) new.store.searched
+        → new.store.searched ≡ finished new.store.searched at
+    go (inl (count, l)) =
+        let e : new.store.searched ≡ finished old.store.searched at = unmoved new.store.searched l in
+        e ∙ sym (ap (λ (v : Searched). finished v at) e)
+    go (inr (cleared, l)) =
+        let e : new.store.searched ≡ none_searched = emptied new.store.searched l in
+        e ∙ sym (ap (λ (v : Searched). finished v at) e)
+
+-- so what the last step makes of the progress is what both make
+pub ended_last :
+    (way : Direction) (old mid new : CacheView) (at : ℕ)
+    → mid ≡ with_store old (with_searched old.store (before_last way old.store.searched at))
+    → IsEndedBy at mid.store new.store → IsEndedBy at old.store new.store
+ended_last Forward old mid new at same ended = subst (λ (v : CacheView). IsEndedBy at v.store new.store) same ended
+ended_last Backward old mid new at ends ended = stays_ended old mid new at ends ended
+
+pub left_last :
+    (way : Direction) (m : Machine) (unit : Option ℕ) (old mid new : CacheView) (at : ℕ)
+    → mid ≡ with_store old (with_searched old.store (before_last way old.store.searched at))
+    → (e : SearchError) → IsLeftAt m unit at mid.store new.store e → IsLeftAtEnd way m unit at old.store new.store e
+left_last Forward m unit old mid new at same e left = subst (λ (v : CacheView). IsLeftAt m unit at v.store new.store e) same left
+left_last Backward m unit old mid new at ends e (inl (quits, ended)) = stays_ended old mid new at ends ended
+left_last Backward m unit old mid new at ends e (inr (room, moved)) = stays_closed old mid new at ends moved
+
 -- a search begins as if nothing had been searched, where a clear came before
 pub started_cleared : (s : Searched) (first : ℕ) → started (progress_cleared s) first ≡ started none_searched first
 started_cleared s first = go s.running where
@@ -456,54 +555,6 @@ module _ (way : Direction) (m : Machine) (input : Input) (s : Searched) (first :
       ),
       e ∙ (ap (λ (v : Searched). progress_cleared v) same ∙ sym finished_none),
     )
-
--- a pass back ended before its last step, which moved no progress
-pub last_kept :
-    (way : Direction) (m : Machine) (input : Input) (s : Searched) (old mid ended new : CacheView) (k id at x : ℕ)
-    (found : Option HalfMatch) → IsGrown old mid
-    → ended ≡ with_store mid (with_searched mid.store (finished mid.store.searched at)) → IsGrown ended new
-    → input.start ≤ at → at ≤ input.end
-    → IsOpenAt way m input s 0 x old.store mid.store
-    → IsAt way m ended.store.table input k id found → k ≤ length (tape_in way input).bytes
-    → ((q : Powerset) → Names ended.store.table id q → q ≡ dead → ⊥)
-    → given_up_offset way input k ≡ at → (Reads way m input (suc k) → ⊥)
-    → IsLastProgress m id (next (tape_in way input) k) ended.store new.store → EndsAtLast way m input s old.store new.store
-last_kept way m input s old mid ended new k id at x found before ends after low high o stands few alive place stops last = (
-  k,
-  record {
-    reads = inr (at_reads way m ended.store.table input k id found stands few alive);
-    clean = stands.clean;
-    stops = stops;
-  },
-  subst (λ a. IsEndedAt way m input s 0 a old.store new.store) (sym place)
-      (ends_kept way m input s 0 old mid ended new before at x ends after low high o k place
-      (clears_unit way m input k id (next (tape_in way input) k) ended.store new.store stands.named refl last.cleared) last.kept),
-)
-
--- which was refused
-pub stopped_kept :
-    (way : Direction) (m : Machine) (input : Input) (s : Searched) (old mid ended new : CacheView) (k id at x : ℕ)
-    (found : Option HalfMatch) → IsGrown old mid
-    → ended ≡ with_store mid (with_searched mid.store (finished mid.store.searched at)) → IsGrown ended new
-    → input.start ≤ at → at ≤ input.end
-    → IsOpenAt way m input s 0 x old.store mid.store
-    → IsAt way m ended.store.table input k id found → k ≤ length (tape_in way input).bytes
-    → ((q : Powerset) → Names ended.store.table id q → q ≡ dead → ⊥)
-    → given_up_offset way input k ≡ at → IsLastProgress m id (next (tape_in way input) k) ended.store new.store
-    → IsBehindEnd way input k
-    → (e : SearchError) → IsUnitRefusal way m new.store input k e → IsStoppedAt way m input s old.store new.store e
-stopped_kept way m input s old mid ended new k id at x found before ends after low high o stands few alive place last behind e refused = (
-  k,
-  at_reads way m ended.store.table input k id found stands few alive,
-  stands.clean,
-  refused,
-  inl (
-    inr behind,
-    subst (λ a. IsEndedAt way m input s 0 a old.store new.store) (sym place)
-        (ends_kept way m input s 0 old mid ended new before at x ends after low high o k place
-        (clears_unit way m input k id (next (tape_in way input) k) ended.store new.store stands.named refl last.cleared) last.kept),
-  ),
-)
 
 -- what holds in any case
 pub on_ok : {A E P : Type 0} (r : Result A E) → P → OnOk r P

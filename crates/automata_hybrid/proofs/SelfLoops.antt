@@ -1,8 +1,7 @@
 -- What is learned of the bytes on which a row leads back to itself, and what follows for a pass that stands at it.
-use Rattle.std.proofs.Common.{ℕ, zero, suc, ◌≡◌, ◌∙◌, ◌+◌, ◌-◌, ◌%◌, ◌<◌, ◌≤◌, ◌^◌, Bool, true, false, List, Some, refl, sym, ap, subst, arith, get_or, length, slice_index, take, drop, ◌⊎◌, inl, inr, ⊎_elim}
+use Rattle.std.proofs.Common.{ℕ, zero, suc, ◌≡◌, ◌∙◌, ◌+◌, ◌-◌, ◌<◌, ◌≤◌, ◌^◌, Bool, true, false, List, Some, refl, sym, subst, arith, get_or, length, slice_index, ◌⊎◌, inl, inr, ⊎_elim}
 use Rattle.std.proofs.lemmas.Bool.{cases_lt}
-use Rattle.std.proofs.lemmas.Simd.{get_or-chunk, length-chunk}
-use Rattle.automata_base.specs.Classes.{AreClasses, class_in, eoi_class, is_quit}
+use Rattle.automata_base.specs.Classes.{AreClasses, class_in, is_quit}
 use Rattle.automata_base.specs.Input.{Input}
 use Rattle.automata_base.specs.Paths.{next}
 use Rattle.automata_base.specs.Powerset.{Powerset}
@@ -22,7 +21,6 @@ use Rattle.automata_hybrid.specs.declared.search.self_loop.KnownLoop.{KnownLoop}
 use Rattle.automata_hybrid.proofs.Following.{followed_more, followed_none}
 use Rattle.automata_hybrid.proofs.Leading.{led_more, led_none}
 use Rattle.automata_hybrid.proofs.Searching.{false_true}
-use Rattle.automata_hybrid.proofs.Units.{backward_read, forward_read}
 
 -- a cell that is its row's own ID
 pub loops_of :
@@ -250,57 +248,19 @@ module _ {way : Direction} {m : Machine} {c : Stored} {input : Input} {id from :
       subst (λ k. IsLed way m c input from k id) e
       (led_upto (to - from) plain (λ k l below. loop.loops k l (omega (arith, below, e))) named)
 
--- over the bytes of a pass from an offset on, as a slice of the haystack has them
-pub forward_loop :
-    (m : Machine) (c : Stored) (input : Input) (id start n : ℕ) (hay : List ℕ)
-    → hay ≡ input.haystack → input.end ≤ length input.haystack → input.start ≤ start → start ≤ input.end
-    → IsLoopRun m c id Forward (take (input.end - start) (drop start hay)) 0 n
-    → IsSelfLoop Forward m c input id (start - input.start) (start + n - input.start)
-forward_loop m c input id start n hay same inside ahead within run = record {
-  more = omega (arith, ahead);
+-- a run over the bytes from a place on is one of a pass from there
+pub loop_along :
+    {way : Direction} {m : Machine} {c : Stored} {input : Input} {id place n : ℕ} {bytes : List ℕ}
+    → ((k : ℕ) → k < length bytes → next (tape_in way input) (place + k) ≡ Some (byte_in way bytes k))
+    → IsLoopRun m c id way bytes 0 n → IsSelfLoop way m c input id place (place + n)
+loop_along {way} {m} {c} {input} {id} {place} {n} {bytes} units run = record {
+  more = omega arith;
   loops = λ k from below.
-      let i : ℕ = input.start + k - start in
-      let at : ℕ = start + i in
-      let here : at - input.start ≡ k = omega (arith, from, ahead) in
-      let low : i < n = omega (arith, from, below, ahead) in (
-        get_or xs i 0,
-        subst (λ j. next (tape_in Forward input) j ≡ Some (get_or xs i 0)) here
-            (forward_read input hay at at (omega (arith, ahead)) (omega (arith, low, run.within, long)) inside
-            (omega (arith, low, run.within, long, within, inside)) same refl
-            ∙ ap Some (sym (get_or-chunk start (input.end - start) hay i 0 (omega (arith, low, run.within, long))))),
+      let i : ℕ = k - place in
+      let low : i < n = omega (arith, from, below) in
+      let here : place + i ≡ k = omega (arith, from) in (
+        byte_in way bytes i,
+        subst (λ j. next (tape_in way input) j ≡ Some (byte_in way bytes i)) here (units i (omega (arith, low, run.within))),
         run.loops i (omega arith) low,
       );
-} where
-  xs : List ℕ
-  xs = take (input.end - start) (drop start hay)
-
-  long : length xs ≡ input.end - start
-  long = length-chunk start (input.end - start) hay (omega (arith, within, inside, ap length same))
-
--- and backward before it
-pub backward_loop :
-    (m : Machine) (c : Stored) (input : Input) (id start n : ℕ) (hay : List ℕ)
-    → hay ≡ input.haystack → input.end ≤ length input.haystack → input.start ≤ start → start ≤ input.end
-    → IsLoopRun m c id Backward (take (start - input.start) (drop input.start hay)) 0 n
-    → IsSelfLoop Backward m c input id (input.end - start) (input.end - (start - n))
-backward_loop m c input id start n hay same inside ahead within run = record {
-  more = omega (arith, within, ahead);
-  loops = λ k from below.
-      let j : ℕ = k - (input.end - start) in
-      let i : ℕ = length xs - 1 - j in
-      let at : ℕ = suc (input.start + i) in
-      let low : j < n = omega (arith, within, from, below, run.within, long) in
-      let here : input.end - at ≡ k = omega (arith, long, low, run.within, ahead, within, from) in
-      let under : i < start - input.start = omega (arith, long, low, run.within) in (
-        get_or xs i 0,
-        subst (λ j. next (tape_in Backward input) j ≡ Some (get_or xs i 0)) here
-            (backward_read input hay at (input.start + i) (omega arith) (omega (arith, under, within)) inside same refl
-            ∙ ap Some (sym (get_or-chunk input.start (start - input.start) hay i 0 under))),
-        run.loops j (omega arith) low,
-      );
-} where
-  xs : List ℕ
-  xs = take (start - input.start) (drop input.start hay)
-
-  long : length xs ≡ start - input.start
-  long = length-chunk input.start (start - input.start) hay (omega (arith, within, ahead, inside, ap length same))
+}

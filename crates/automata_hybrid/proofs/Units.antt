@@ -1,9 +1,9 @@
 -- The units that a pass reads are bytes of the haystack.
-use Rattle.std.proofs.Common.{ℕ, zero, suc, ◌≡◌, ◌<◌, ◌≤◌, ◌+◌, ◌-◌, List, [], ◌∷◌, length, Some, None, refl, subst, sym, ap, ap₂, ◌∙◌, arith, get_or, slice_get}
+use Rattle.std.proofs.Common.{ℕ, zero, suc, ◌≡◌, ◌<◌, ◌≤◌, ◌+◌, ◌-◌, List, [], ◌∷◌, length, Some, None, refl, sym, ap, ap₂, ◌∙◌, arith, get_or, slice_get}
 use Rattle.automata_base.specs.Input.{Input}
 use Rattle.automata_base.specs.Lists.{nth}
 use Rattle.automata_base.specs.Paths.{next}
-use Rattle.automata_base.specs.Tapes.{Forward, Backward, IsHaystack, byte_before}
+use Rattle.automata_base.specs.Tapes.{Forward, Backward, byte_before}
 use Rattle.automata_base.proofs.Spans.Bytes.{forward_next, forward_length, reverse_next, tape_length}
 use Rattle.automata_hybrid.specs.Searches.{tape_in}
 
@@ -72,16 +72,3 @@ backward_read input xs at i s e l same here =
     ∙ (ap (byte_before input.haystack) (sym here)
     ∙ (nth_read input.haystack i (get_or input.haystack i 0) 0 (omega (arith, e, l, here)) refl
     ∙ ap (λ (h : List ℕ). Some (get_or h i 0)) (sym same)))
-
-pub backward_byte :
-    (input : Input) (xs : List ℕ) (at i : ℕ)
-    → at ≤ input.end → input.end ≤ length input.haystack → xs ≡ input.haystack → suc i ≡ at → IsHaystack input.haystack
-    → get_or xs i 0 < 256
-backward_byte input xs at i e l same here bytes =
-    subst (λ (h : List ℕ). get_or h i 0 < 256) (sym same)
-    (bytes i (get_or input.haystack i 0) (nth_read input.haystack i (get_or input.haystack i 0) 0 (omega (arith, e, l, here)) refl))
-
-pub backward_end :
-    (input : Input) → input.start ≤ input.end → input.end ≤ length input.haystack → input.start ≡ 0
-    → next (tape_in Backward input) (input.end - input.start) ≡ None
-backward_end input s l first = backward_unit input input.start (omega arith) s l ∙ ap (byte_before input.haystack) first

@@ -29,7 +29,7 @@ use Rattle.automata_hybrid.specs.Walks.{At, Ended, Fresh, Stage, Walk, fresh_wal
 use Rattle.automata_hybrid.specs.Which.{IsJoined}
 use Rattle.automata_hybrid.proofs.Searching.{false_true}
 use Rattle.automata_hybrid.proofs.Walked.{Begins, told_rises, walked_begin}
-use Rattle.automata_hybrid.proofs.WalkUnits.{units_in}
+use Rattle.automata_hybrid.proofs.Directions.{units_in}
 use Rattle.std.proofs.Math.Nat.{mul-le-mul_right}
 
 -- members by their flags

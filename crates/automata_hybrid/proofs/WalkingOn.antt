@@ -18,13 +18,13 @@ use Rattle.automata_hybrid.specs.Searches.{HasReadNoQuit, Skips, given_up_offset
 use Rattle.automata_hybrid.specs.Stores.{with_searched}
 use Rattle.automata_hybrid.specs.Walking.{Arrives, HasItsState, HasTold, HasToldBy, IsArrival, IsSilent, IsUnheld, IsWalkOf, WalkReads, start_count}
 use Rattle.automata_hybrid.specs.Walks.{Ended, Keeping, States, Walk}
-use Rattle.automata_hybrid.specs.declared.search.units.Arrival.{Arrival}
+use Rattle.automata_hybrid.specs.declared.search.advance.Arrival.{Arrival}
 use Rattle.automata_hybrid.proofs.Growing.{grown_after, grown_moved, grown_trans, nothing_second}
 use Rattle.automata_hybrid.proofs.KnowingWalks.{has_state, nothing_after, state_still, unit_knows, units_all, units_moved}
 use Rattle.automata_hybrid.proofs.Resuming.{refused_on}
 use Rattle.automata_hybrid.proofs.SearchedWalks.{call_begun, reads_some, recounts_ended, recounts_left, span_ends, unit_high, unit_low}
 use Rattle.automata_hybrid.proofs.WalkCalls.{told_here, walk_clears_none}
-use Rattle.automata_hybrid.proofs.WalkUnits.{units_in}
+use Rattle.automata_hybrid.proofs.Directions.{units_in}
 
 -- a walk was gone on with from an ID, a search began at its first unit, and it came to where it tells patterns, or to its end
 module _ (way : Direction) (m : Machine) (input : Input) (w : Walk) (from : ℕ) (old between begun mid : CacheView)

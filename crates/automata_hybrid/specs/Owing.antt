@@ -93,6 +93,11 @@ pub record IsHalf (way : Direction) (m : Machine) (input : Input)
 abbrev pub based_half : Option (HalfMatch × ℕ) → Option Half
 based_half = option_map (λ p. with_base p.0 p.1)
 
+-- answers without it
+abbrev pub halves : Result (Option (HalfMatch × ℕ)) SearchError → Result (Option HalfMatch) SearchError
+halves (Ok found) = Ok (option_map (λ p. p.0) found)
+halves (Err e) = Err e
+
 -- what a forward search answers, with the start of the span that gave it
 pub record IsBased (m : Machine) (input : Input)
     (result : Result (Option (HalfMatch × ℕ)) SearchError) : Type 0 where

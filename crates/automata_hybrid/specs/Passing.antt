@@ -15,8 +15,7 @@ use Rattle.automata_config.specs.declared.error.StepError.TheVariants as step
 use Rattle.automata_config.specs.declared.error.SearchError.{SearchError}
 use Rattle.automata_config.specs.declared.error.SearchError.TheVariants as search
 use Rattle.automata_hybrid.specs.Machine.{Machine, table_stride}
-use Rattle.automata_hybrid.specs.Ids.{offset_limit}
-use Rattle.automata_hybrid.specs.Table.{IsValid, Rows, Names, Leads}
+use Rattle.automata_hybrid.specs.Table.{Rows, Names, Leads}
 use Rattle.automata_hybrid.specs.Searches.{HasReadNoQuit, Reads, tape_in, state_in, told_in}
 use Rattle.automata_hybrid.specs.Stores.{Stored}
 use Rattle.automata_hybrid.specs.Knowing.{KnowsItsStart, KnowsUnit}
@@ -69,11 +68,6 @@ pub record IsQuiet (way : Direction) (m : Machine) (c : Stored) (input : Input) 
 pub record IsBetween (low high at : ℕ) : Type 0 where
   pub from : low ≤ at
   pub upto : at ≤ high
-
--- some row has exactly this ID, which has no tag
-pub record IsUntagged (t : Rows) (id : ℕ) : Type 0 where
-  pub valid : IsValid t id
-  pub untagged : id < offset_limit
 
 -- known transitions led a pass from its first `from` units on, to this ID behind its first `to`; none of them told
 -- anything

@@ -1,17 +1,20 @@
 -- Units that a search reads from an ID: what the ID is that reading one answers, and what it makes of the cache.
 use Rattle.std.specs.Prelude.{ℕ, ◌≡◌, ◌+◌, ◌<◌, ◌≤◌, ◌⊎◌, false, Option, Result, IfErr, OnOk}
+use Rattle.automata_base.specs.Input.{Input}
+use Rattle.automata_base.specs.Paths.{next}
 use Rattle.automata_base.specs.Powerset.{Powerset, dead}
 use Rattle.automata_base.specs.Steps.{successor}
+use Rattle.automata_base.specs.Tapes.{Direction}
 use Rattle.automata_config.specs.Options.{match_kind_of}
 use Rattle.automata_config.specs.declared.error.StepError.{StepError}
 use Rattle.automata_config.specs.declared.error.SearchError.{SearchError}
 use Rattle.automata_hybrid.specs.Caches.{CacheView}
-use Rattle.automata_hybrid.specs.Growing.{ClearedNothing, IsGrown, IsStill, KeepsProgress}
+use Rattle.automata_hybrid.specs.Growing.{ClearedNothing, IsGrown, IsStill}
 use Rattle.automata_hybrid.specs.Knowing.{IsOfInput}
 use Rattle.automata_hybrid.specs.Machine.{Machine, table_stride}
 use Rattle.automata_hybrid.specs.Passing.{step_refusal}
-use Rattle.automata_hybrid.specs.Searched.{IsClearedBetween, IsEndedBy, IsLeftAt, IsMovedTo}
-use Rattle.automata_hybrid.specs.Searches.{IsStepRefusal}
+use Rattle.automata_hybrid.specs.Searched.{IsClearedBetween, IsEndedBy, IsLeftAt, IsLeftAtEnd, IsMovedTo}
+use Rattle.automata_hybrid.specs.Searches.{IsStepRefusal, given_up_offset, tape_in}
 use Rattle.automata_hybrid.specs.Stepping.{IsStepRefused, KnowsStep, quits_on, unit_class}
 use Rattle.automata_hybrid.specs.Stores.{Stored}
 use Rattle.automata_hybrid.specs.Table.{Leads, Names}
@@ -74,19 +77,13 @@ pub record IsReadProgress {T : Type 0} (m : Machine) (unit : Option ℕ) (at : �
   -- Refused, it has ended the search there at a quit byte, and else leaves it there.
   pub left : IfErr result (IsLeftAt m unit at old new)
 
--- what reading the last unit, at an offset, makes of the progress
-pub record IsEndProgress {T : Type 0} (m : Machine) (id : ℕ) (unit : Option ℕ) (at : ℕ) (old new : Stored)
+-- what reading the last unit of a pass, at its place `k`, makes of the progress
+pub record IsEndProgress {T : Type 0} (way : Direction) (m : Machine) (input : Input) (id k : ℕ) (old new : Stored)
     (result : Result T SearchError) : Type 0 where
   -- What was cleared was cleared for the next state.
-  pub cleared : ClearsForNext m id unit old new
-  -- Answered, it has ended the search at the offset.
-  pub ended : OnOk result (IsEndedBy at old new)
-  -- Refused, it has ended the search there at a quit byte, and else leaves it there.
-  pub left : IfErr result (IsLeftAt m unit at old new)
-
--- what reading the last unit of a pass back, which has ended before, makes of the progress
-pub record IsLastProgress (m : Machine) (id : ℕ) (unit : Option ℕ) (old new : Stored) : Type 0 where
-  -- What was cleared was cleared for the next state.
-  pub cleared : ClearsForNext m id unit old new
-  -- The progress of searches stays, but for a clear.
-  pub kept : KeepsProgress old new
+  pub cleared : ClearsForNext m id (next (tape_in way input) k) old new
+  -- Answered, it has ended the search at its offset.
+  pub ended : OnOk result (IsEndedBy (given_up_offset way input k) old new)
+  -- Refused, it has ended the search there at a quit byte, and else leaves it there; back it has ended it before.
+  pub left :
+      IfErr result (IsLeftAtEnd way m (next (tape_in way input) k) (given_up_offset way input k) old new)

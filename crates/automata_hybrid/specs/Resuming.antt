@@ -7,7 +7,7 @@ use Rattle.automata_base.specs.Powerset.{Powerset}
 use Rattle.automata_base.specs.Tapes.{Direction}
 use Rattle.automata_config.specs.declared.error.SearchError.{SearchError}
 use Rattle.automata_hybrid.specs.declared.dfa.progress.Searched.{Searched}
-use Rattle.automata_hybrid.specs.declared.search.units.Arrival.{Arrival}
+use Rattle.automata_hybrid.specs.declared.search.advance.Arrival.{Arrival}
 use Rattle.automata_hybrid.specs.Stores.{Stored}
 use Rattle.automata_hybrid.specs.Caches.{CacheView, counted}
 use Rattle.automata_hybrid.specs.Growing.{ClearedNothing, IsGrown, KeepsProgress}

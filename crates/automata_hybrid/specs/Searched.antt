@@ -46,6 +46,17 @@ abbrev pub IsLeftAt : Machine → (unit : Option ℕ) → (at : ℕ) → (old ne
 IsLeftAt m unit at old new e =
     (IsQuitUnit m unit × IsEndedBy at old new) ⊎ (IsOfRoom at e × IsMovedTo at old new)
 
+-- what a pass makes of the progress before its last step, which is at an offset: back it has ended there
+abbrev pub before_last : Direction → Searched → (at : ℕ) → Searched
+before_last Forward s at = s
+before_last Backward s at = finished s at
+
+-- a refused last step leaves it so, and back it has ended
+abbrev pub IsLeftAtEnd :
+    Direction → Machine → (unit : Option ℕ) → (at : ℕ) → (old new : Stored) → SearchError → Type 0
+IsLeftAtEnd Forward m unit at old new e = IsLeftAt m unit at old new e
+IsLeftAtEnd Backward m unit at old new e = IsEndedBy at old new
+
 -- nothing was searched since a clear
 abbrev pub none_searched : Searched
 none_searched = record { bytes = 0; running = None }

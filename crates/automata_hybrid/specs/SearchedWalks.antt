@@ -7,19 +7,13 @@ use Rattle.automata_base.specs.Selections.{Pair}
 use Rattle.automata_base.specs.Tapes.{Direction, Forward}
 use Rattle.automata_config.specs.declared.error.SearchError.{SearchError}
 use Rattle.automata_hybrid.specs.declared.dfa.progress.Searched.{Searched}
-use Rattle.automata_hybrid.specs.Caches.{CacheView, with_store}
-use Rattle.automata_hybrid.specs.Stores.{Stored, with_searched}
+use Rattle.automata_hybrid.specs.Stores.{Stored}
 use Rattle.automata_hybrid.specs.KnowingWalks.{IsOpen}
 use Rattle.automata_hybrid.specs.Machine.{Machine}
-use Rattle.automata_hybrid.specs.Progressing.{updated}
 use Rattle.automata_hybrid.specs.Searched.{IsEndedAt, IsOfRoom, IsOpenAt, IsQuitUnit}
 use Rattle.automata_hybrid.specs.Searches.{HasReadNoQuit, given_up_offset, state_in, tape_in}
 use Rattle.automata_hybrid.specs.Walking.{AreWalked, IsRefusalAt, IsResumeRefusal, IsSilent, TellsNext, WalkReads}
 use Rattle.automata_hybrid.specs.Walks.{At, Ended, Ids, Keeping, Walk, fresh_walk}
-
--- nothing has changed but that the open search has come to an offset
-abbrev pub HasJustMoved : (at : ℕ) → (old new : CacheView) → Type 0
-HasJustMoved at old new = new ≡ with_store old (with_searched old.store (updated old.store.searched at))
 
 -- a call reads no unit: the walk has ended, has a pattern more to tell where it stands, or has no unit left in its span
 abbrev pub ReadsNoUnit : Input → Walk → Type 0

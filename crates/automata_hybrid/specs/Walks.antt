@@ -5,8 +5,8 @@ use Rattle.automata_base.specs.Powerset.{Powerset}
 use Rattle.automata_base.specs.Tapes.{Direction}
 use Rattle.automata_base.specs.Tapes as tapes
 use Rattle.automata_hybrid.specs.Table.{Names, Rows}
-use Rattle.automata_hybrid.specs.declared.search.walk.Way.{Way}
-use Rattle.automata_hybrid.specs.declared.search.walk.Way.TheVariants as way
+use Rattle.automata_hybrid.specs.declared.search.direction.Way.{Way}
+use Rattle.automata_hybrid.specs.declared.search.direction.Way.TheVariants as way
 use Rattle.automata_hybrid.specs.declared.search.walk.Handle.{Handle}
 use Rattle.automata_hybrid.specs.declared.search.walk.Held.{Held}
 use Rattle.automata_hybrid.specs.declared.search.walk.Held.TheVariants as held

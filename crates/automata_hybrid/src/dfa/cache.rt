@@ -32,6 +32,7 @@ use automata_base::util::search::Anchored;
 use automata_config::error::StepError;
 use std::alloc::AllocError;
 use std::cell::Cell;
+use std::fmt;
 use std::marker::Model;
 use std::snapshot::Snapshot;
 
@@ -62,6 +63,17 @@ impl Model for Cache {
     ghost view = { λ c. record { store = c.store; count = c.scratch.count } };
 
     ghost invariant = { λ c. c.scratch.of ≡ c.store.table.of.nfa };
+}
+
+/// How much is in the cache, and not what.
+impl fmt::Debug for Cache {
+    fn fmt<W: fmt::Write>(&self, f: &mut fmt::Formatter<W>) -> fmt::Result {
+        f.debug_struct("Cache")
+            .field("states", &self.store.row_count())
+            .field("memory_usage", &self.memory_usage())
+            .field("clear_count", &self.clear_count())
+            .finish_non_exhaustive()
+    }
 }
 
 impl Cache {
@@ -440,6 +452,13 @@ impl Cache {
 
     /// The accounted bytes: rows of cells, states, start slots and the buffers of determinization. They never exceed the
     /// capacity, or the minimum capacity if that was raised to.
+    ///
+    /// ```rust
+    /// /// How many bytes the cache accounts for.
+    /// pub fn memory_usage(&self) -> usize {
+    ///     self.cache.memory_usage()
+    /// }
+    /// ```
     pub fn memory_usage(&self) -> usize
         ensures usage { result ≡ usage self.now.store }
         ensures within { result ≤ self.now.store.table.of.capacity }

@@ -85,6 +85,13 @@ impl DFA {
     }
 
     /// A builder of lazy DFAs.
+    ///
+    /// ```rust
+    /// let mut builder = DFA::builder();
+    /// let config = DFA::config().match_kind(MatchKind::All);
+    /// let dfa = builder.configure(config).build_from_nfa(nfa)?;
+    /// let cache = dfa.create_cache()?;
+    /// ```
     pub fn builder() -> Builder
         ensures { result ≡ unset }
     {

@@ -1,4 +1,4 @@
-ghost use Rattle.std.specs.Prelude.{◌≡◌, ◌+◌, ◌-◌, Some, None};
+ghost use Rattle.std.specs.Prelude.{◌≡◌, ◌-◌, Some, None};
 ghost use Rattle.automata_hybrid.specs.Progressing.{distance, started, updated, finished, total_len, progress_cleared};
 
 /// A running search: where it began, and where it is.

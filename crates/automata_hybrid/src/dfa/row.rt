@@ -1,4 +1,4 @@
-ghost use Rattle.std.specs.Prelude.{◌≡◌, ◌+◌, ◌*◌, ◌^◌, ◌<◌, ◌≤◌, ◌↔◌, IsTrue};
+ghost use Rattle.std.specs.Prelude.{◌≡◌, ◌+◌, ◌*◌, ◌^◌, ◌<◌, ◌↔◌, IsTrue};
 ghost use Rattle.automata_base.specs.Powerset.{cost};
 ghost use Rattle.automata_base.specs.Powerset.{dead};
 ghost use Rattle.automata_hybrid.specs.Table.{has_patterns};

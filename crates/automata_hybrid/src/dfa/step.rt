@@ -93,6 +93,13 @@ impl DFA {
     /// `Cache::is_valid` and `LazyStateID::is_unknown` are the tests. Dead leads to dead, and quit to quit; a quit byte
     /// leads to quit. A cached transition allocates nothing. It fails if the state does not fit and the settings allow
     /// no clear, and if memory runs out; then nothing has changed.
+    ///
+    /// ```rust
+    /// match input.haystack().get(at) {
+    ///     Some(byte) => dfa.next_state(cache, id, *byte),
+    ///     None => dfa.next_eoi_state(cache, id),
+    /// }
+    /// ```
     pub fn next_state(
         &self,
         cache: &mut Cache,

@@ -1,4 +1,4 @@
-ghost use Rattle.std.specs.Prelude.{ℕ, ◌≡◌, ◌+◌, ◌-◌, ◌*◌, ◌/◌, ◌^◌, ◌<◌, ◌≤◌, ◌↔◌, None, IfOk, OnOk, OnErr};
+ghost use Rattle.std.specs.Prelude.{ℕ, ◌≡◌, ◌+◌, ◌-◌, ◌*◌, ◌^◌, ◌<◌, ◌≤◌, ◌↔◌, None, IfOk, OnOk, OnErr};
 ghost use Rattle.std.specs.Prelude.{length, slice_index, IsTrue, IfErr, is_some, true, IsBitSet};
 ghost use Rattle.automata_base.specs.Powerset.{Powerset, cost, dead};
 ghost use Rattle.automata_base.specs.Accounting.{minimum_capacity};
@@ -91,6 +91,13 @@ impl Store {
         ensures { result ≡ self.now.clears }
     {
         self.clears
+    }
+
+    /// The number of its states, without the fixed ones.
+    pub fn row_count(&self) -> usize
+        ensures { result ≡ length self.now.table.rows }
+    {
+        self.table.len()
     }
 
     /// Whether a search is in progress.

@@ -5,7 +5,7 @@ ghost use Rattle.automata_base.specs.Powerset.{Powerset};
 ghost use Rattle.automata_hybrid.specs.Caches.{IsCacheOf};
 ghost use Rattle.automata_hybrid.specs.Growing.{KeepsProgress};
 ghost use Rattle.automata_base.specs.Tapes.{is_split};
-ghost use Rattle.automata_hybrid.specs.Passing.{IsDeadTagged, half_at, step_refusal};
+ghost use Rattle.automata_hybrid.specs.Passing.{half_at, step_refusal};
 ghost use Rattle.automata_hybrid.specs.Reading.{IsReadAnswer, IsReadEffect, IsReadProgress, IsReadRefusal};
 ghost use Rattle.automata_hybrid.specs.Reading.{IsStepRefusedAt};
 ghost use Rattle.automata_hybrid.specs.Searches.{Skips};
@@ -13,13 +13,15 @@ ghost use Rattle.automata_base.specs.declared.util.search.MatchErrorKind.TheVari
 ghost use Rattle.automata_hybrid.specs.Stepping.{IsStepAnswer, IsStepEffect};
 ghost use Rattle.automata_hybrid.specs.Table.{IsValid, Leads, Names};
 
-mod forward;
+mod advance;
+mod direction;
+mod follow;
+mod half;
 mod lanes;
 mod loop_range;
 mod overlapping;
-mod reverse;
+mod pass;
 pub(crate) mod self_loop;
-mod units;
 pub mod walk;
 mod which;
 
@@ -29,27 +31,6 @@ use crate::id::LazyStateID;
 use automata_base::util::primitives::PatternID;
 use automata_base::util::search::{Anchored, HalfMatch, Input, MatchError};
 use automata_config::error::{SearchError, StepError};
-
-/// How many bytes are followed before a self-loop is looked for again, where one was looked for in vain.
-const PATIENCE: usize = 256;
-
-/// How many bytes of a match are followed one by one, before a self-loop is looked for.
-const FEW: usize = 8;
-
-/// Where cached transitions without a tag were followed to.
-#[derive(Clone, Copy)]
-struct Stop {
-    at: usize,
-    id: LazyStateID,
-}
-
-/// Where a search is: what it found last, and the ID of its state.
-#[derive(Clone, Copy)]
-struct Place {
-    at: usize,
-    id: LazyStateID,
-    found: Option<HalfMatch>,
-}
 
 /// The error of a step, at an offset.
 fn refusal(error: StepError, at: usize) -> SearchError
@@ -137,34 +118,71 @@ impl DFA {
         }
     }
 
-    /// The state after a byte of the span or the one after it, to which the search moves. A quit byte ends it.
+    /// The state after a unit, to which the search moves. A quit byte ends it, and is an error at its own offset.
     #[inline(always)]
     fn read(
         &self,
         cache: &mut Cache,
         id: LazyStateID,
-        byte: u8,
+        unit: Option<u8>,
+        quit_at: usize,
         at: usize,
     ) -> Result<LazyStateID, SearchError>
         requires of { IsCacheOf cache.old self.now }
         requires valid { IsValid cache.old.store.table id }
         ensures of { IsCacheOf cache.new self.now }
-        ensures answer { IfOk result (IsReadAnswer self.now id (Some byte) cache.old cache.new) }
-        ensures dead { IfOk result (IsDeadTagged cache.new.store.table) }
-        ensures refusal { IfErr result (IsReadRefusal self.now id (Some byte) at at cache.old cache.new) }
-        ensures effect { IsReadEffect self.now id (Some byte) cache.old cache.new result }
-        ensures progress { IsReadProgress self.now (Some byte) at cache.old.store cache.new.store result }
+        ensures answer { IfOk result (IsReadAnswer self.now id unit cache.old cache.new) }
+        ensures refusal { IfErr result (IsReadRefusal self.now id unit quit_at at cache.old cache.new) }
+        ensures effect { IsReadEffect self.now id unit cache.old cache.new result }
+        ensures progress { IsReadProgress self.now unit at cache.old.store cache.new.store result }
     {
         self.see_classes();
         cache.see_ids();
         cache.move_search(at);
-        let next = self.step(cache, id, byte, at)?;
-        cache.see_ids();
-        if next.is_quit() {
-            cache.end_search(at);
-            return Err(quit(byte, at));
+        match unit {
+            Some(byte) => {
+                let next = self.step(cache, id, byte, at)?;
+                cache.see_ids();
+                if next.is_quit() {
+                    cache.end_search(at);
+                    return Err(quit(byte, quit_at));
+                }
+                Ok(next)
+            }
+            None => self.read_end(cache, id, at),
         }
-        Ok(next)
+    }
+
+    /// The state after a unit, to which no search moves.
+    fn read_still(
+        &self,
+        cache: &mut Cache,
+        id: LazyStateID,
+        unit: Option<u8>,
+        quit_at: usize,
+        at: usize,
+    ) -> Result<LazyStateID, SearchError>
+        requires of { IsCacheOf cache.old self.now }
+        requires valid { IsValid cache.old.store.table id }
+        ensures of { IsCacheOf cache.new self.now }
+        ensures answer { IfOk result (IsReadAnswer self.now id unit cache.old cache.new) }
+        ensures refusal { IfErr result (IsReadRefusal self.now id unit quit_at at cache.old cache.new) }
+        ensures effect { IsReadEffect self.now id unit cache.old cache.new result }
+        ensures progress { KeepsProgress cache.old.store cache.new.store }
+    {
+        self.see_classes();
+        cache.see_ids();
+        match unit {
+            Some(byte) => {
+                let next = self.step(cache, id, byte, at)?;
+                cache.see_ids();
+                if next.is_quit() {
+                    return Err(quit(byte, quit_at));
+                }
+                Ok(next)
+            }
+            None => self.read_end(cache, id, at),
+        }
     }
 
     /// The state after the haystack's end. An error is at this offset.

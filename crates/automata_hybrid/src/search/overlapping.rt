@@ -19,9 +19,9 @@ ghost use Rattle.automata_hybrid.specs.Walks.{At, Ended, IsHeldAt, States, keepi
 use crate::dfa::DFA;
 use crate::dfa::cache::Cache;
 use crate::id::LazyStateID;
+use crate::search::direction::{Way, last_place, place_offset, span_offset};
 use crate::search::refusal;
-use crate::search::units::{last_place, place_offset, span_offset};
-use crate::search::walk::{Cursor, Handle, Held, OverlappingState, Way};
+use crate::search::walk::{Cursor, Handle, Held, OverlappingState};
 use automata_base::laws::walk_is_right;
 use automata_base::util::primitives::PatternID;
 use automata_base::util::search::{HalfMatch, Input};
@@ -31,6 +31,13 @@ impl DFA {
     /// Goes on to the next of all overlapping matches, which `OverlappingState::get_match` returns; when none is left it
     /// returns none, then and after each later call. Use the state with one DFA and one input alone, and with any
     /// cache of that DFA.
+    ///
+    /// ```rust
+    /// let mut state = OverlappingState::start();
+    /// self.dfa
+    ///     .try_search_overlapping_fwd(&mut self.cache, &input, &mut state)?;
+    /// Ok(state.get_match())
+    /// ```
     ///
     /// The error of a quit byte has the byte's offset; the "gave up" error has the offset of the byte that was to be
     /// read, or the span's start or end. After an error the state is unchanged, except that it has no match.

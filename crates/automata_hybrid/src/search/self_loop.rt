@@ -1,6 +1,6 @@
 //! Following a self-loop: eight bytes at once, and 32 at once where they are in a range on which the row is known to lead
 //! back to itself.
-ghost use Rattle.std.specs.Prelude.{◌≡◌, ◌+◌, ◌<◌, ◌≤◌, ◌↔◌, IsTrue, length};
+ghost use Rattle.std.specs.Prelude.{◌≡◌, ◌+◌, ◌<◌, ◌≤◌, IsTrue, length};
 ghost use Rattle.automata_hybrid.specs.Caches.{IsCacheOf};
 ghost use Rattle.automata_hybrid.specs.Ids.{fixed_from};
 ghost use Rattle.automata_hybrid.specs.SelfLoops.{IsKnownLoop, IsLoopRun, LoopsOn, LoopsOver, byte_in};
@@ -10,9 +10,9 @@ ghost use Rattle.automata_hybrid.specs.Walks.{way_of};
 use crate::dfa::DFA;
 use crate::dfa::cache::Cache;
 use crate::id::LazyStateID;
+use crate::search::direction::Way;
 use crate::search::lanes::{LANES, are_in, are_in_either, count_in_either};
 use crate::search::loop_range::LoopRange;
-use crate::search::walk::Way;
 
 /// How many bytes of a self-loop are followed eight at once before its ranges are looked for.
 const MANY: usize = 256;

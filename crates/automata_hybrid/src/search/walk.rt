@@ -13,13 +13,6 @@ use std::alloc::AllocError;
 use std::marker::Model;
 use std::snapshot::Snapshot;
 
-/// The direction of a walk.
-#[derive(Clone, Copy)]
-pub(crate) enum Way {
-    Forward,
-    Backward,
-}
-
 /// A powerset state, shared with the rows of caches, and its key in their maps.
 #[derive(Drop)]
 pub(crate) struct Handle {

@@ -6,7 +6,8 @@ ghost use Rattle.automata_hybrid.specs.Which.{IsWhichRefusal};
 
 use crate::dfa::DFA;
 use crate::dfa::cache::Cache;
-use crate::search::walk::{Cursor, Held, Way};
+use crate::search::direction::Way;
+use crate::search::walk::{Cursor, Held};
 use automata_base::laws::walk_is_right;
 use automata_base::util::pattern_set::PatternSet;
 use automata_base::util::search::Input;
@@ -15,6 +16,14 @@ use automata_config::error::SearchError;
 impl DFA {
     /// Adds to a set the patterns of all overlapping matches that are below its capacity; with an earliest input, that
     /// of the first match alone. After an error the set has those that were reported before it.
+    ///
+    /// ```rust
+    /// let mut found = PatternSet::new(alloc, self.dfa.pattern_len())?;
+    /// let input = Input::new(bytes);
+    /// let _haystack = input.haystack();
+    /// self.dfa
+    ///     .try_which_overlapping_matches(&mut self.cache, &input, &mut found)?;
+    /// ```
     pub fn try_which_overlapping_matches(
         &self,
         cache: &mut Cache,

@@ -3,7 +3,7 @@ use Rattle.std.specs.Prelude.{Result}
 use Rattle.automata_base.specs.Powerset.{dead}
 use Rattle.automata_base.specs.Tapes.{Direction}
 use Rattle.automata_config.specs.declared.error.SearchError.{SearchError}
-use Rattle.automata_hybrid.specs.declared.search.units.Arrival.{Arrival}
+use Rattle.automata_hybrid.specs.declared.search.advance.Arrival.{Arrival}
 use Rattle.automata_hybrid.specs.Growing.{ClearedNothing}
 use Rattle.automata_hybrid.specs.KnowingWalks.{HasLearnedUnits}
 use Rattle.automata_hybrid.specs.Passing.{IsFollowed}
@@ -21,7 +21,7 @@ use Rattle.automata_hybrid.proofs.SearchedWalks.{unit_left, unit_open}
 use Rattle.automata_hybrid.proofs.Searching.{false_true, if_err}
 use Rattle.automata_hybrid.proofs.Stepping.{dead_tagged}
 use Rattle.automata_hybrid.proofs.Walked.{clean_more, finish_dead, finish_read, silent_same, silent_step}
-use Rattle.automata_hybrid.proofs.WalkUnits.{units_in}
+use Rattle.automata_hybrid.proofs.Directions.{units_in}
 use Rattle.automata_hybrid.proofs.dfa.DFA.advance.Goals as goal
 
 pub loop-read-init : goal.loop-read-init
@@ -45,8 +45,8 @@ loop-read-init c =
 pub loop-read-preserved : goal.loop-read-preserved
 loop-read-preserved c =
     let d : Direction = way_of c.args.way in
-    let k : ℕ = c.follow-stop.result.at in
-    let f : IsFollowed d c.args.self.now c.loop-read.cache.store c.args.input.now c.loop-read.read k c.follow-stop.result.id = c.follow-stop.ensures.followed in
+    let k : ℕ = c.follow_walk-stop.result.at in
+    let f : IsFollowed d c.args.self.now c.loop-read.cache.store c.args.input.now c.loop-read.read k c.follow_walk-stop.result.id = c.follow_walk-stop.ensures.followed in
     let more : suc k ≡ k + 1 = omega arith in
     let named : Names c.read_unit.new.cache.store.table c.in_ok-next.next (state_in d c.args.self.now c.args.input.now (suc k)) = (dead_tagged c.read_unit.new.cache.store.table c.in_ok-next.next (c.see_ids.ensures.low c.in_ok-next.next) c.see_ids.ensures.small _ c.in_ok-next.ensures.leads).1 (λ b. false_true (c.if-is_dead.ensures.1 b)) in
     let clean : HasReadNoQuit d c.args.self.now c.args.input.now (suc k) = clean_more d c.args.self.now c.args.input.now k (followed_clean f c.loop-read.invariant.clean) c.in_ok-next.ensures.clean in
@@ -57,7 +57,7 @@ loop-read-preserved c =
       of = c.in_ok-next.ensures.of;
       counted = omega (arith, c.loop-read.invariant.counted, c.in_ok-next.ensures.effect.counted, f.more);
       from = omega (arith, c.loop-read.invariant.from, f.more);
-      within = omega (arith, c.follow-stop.ensures.within);
+      within = omega (arith, c.follow_walk-stop.ensures.within);
       grown = grown_trans c.args.cache.now c.loop-read.cache c.read_unit.new.cache c.loop-read.invariant.grown c.in_ok-next.ensures.effect.grown;
       named = subst (λ n. Names c.read_unit.new.cache.store.table c.in_ok-next.next (state_in d c.args.self.now c.args.input.now n)) more named;
       clean = subst (HasReadNoQuit d c.args.self.now c.args.input.now) more clean;
@@ -70,13 +70,13 @@ loop-read-preserved c =
           let second : ClearedNothing c.loop-read.cache.store c.read_unit.new.cache.store = nothing_second c.args.cache.now c.loop-read.cache c.read_unit.new.cache c.loop-read.invariant.grown c.in_ok-next.ensures.effect.grown nothing in
           let first : ClearedNothing c.args.cache.now.store c.loop-read.cache.store = nothing_first c.args.cache.now c.loop-read.cache c.read_unit.new.cache c.loop-read.invariant.grown c.in_ok-next.ensures.effect.grown nothing in
           subst (HasLearnedUnits d c.args.self.now c.read_unit.new.cache.store c.args.input.now c.args.units) more
-          (units_more d c.args.self.now c.loop-read.cache c.read_unit.new.cache c.args.input.now c.args.units c.loop-read.read k c.follow-stop.result.id c.in_ok-next.ensures.effect.grown second
+          (units_more d c.args.self.now c.loop-read.cache c.read_unit.new.cache c.args.input.now c.args.units c.loop-read.read k c.follow_walk-stop.result.id c.in_ok-next.ensures.effect.grown second
           (c.loop-read.invariant.learned first) f (c.in_ok-next.ensures.effect.learned second)));
       silent = subst (IsSilent d c.args.self.now c.args.input.now c.args.units) more silent;
       progress = λ s e.
           (let underway = c.loop-read.invariant.progress s e in (
             given_up_offset d c.args.input.now k,
-            unit_open d c.args.self.now c.args.input.now s c.args.units k underway.0 c.args.cache.now c.loop-read.cache c.read_unit.new.cache c.requires.from.undone c.follow-stop.ensures.within
+            unit_open d c.args.self.now c.args.input.now s c.args.units k underway.0 c.args.cache.now c.loop-read.cache c.read_unit.new.cache c.requires.from.undone c.follow_walk-stop.ensures.within
                 c.loop-read.invariant.grown c.in_ok-next.ensures.effect.grown underway.1 c.in_ok-next.ensures.effect.cleared c.in_ok-next.ensures.effect.progress.moved,
             λ less. ap (given_up_offset d c.args.input.now) (omega (arith, more)),
           ));
@@ -86,26 +86,26 @@ loop-read-preserved c =
 pub returns-in_err-next-clause-refusal : goal.returns-in_err-next-clause-refusal
 returns-in_err-next-clause-refusal c =
     let d : Direction = way_of c.args.way in
-    let k : ℕ = c.follow-stop.result.at in
-    let f : IsFollowed d c.args.self.now c.loop-read.cache.store c.args.input.now c.loop-read.read k c.follow-stop.result.id = c.follow-stop.ensures.followed in
+    let k : ℕ = c.follow_walk-stop.result.at in
+    let f : IsFollowed d c.args.self.now c.loop-read.cache.store c.args.input.now c.loop-read.read k c.follow_walk-stop.result.id = c.follow_walk-stop.ensures.followed in
     if_err c.from_residual.result _ _ c.from_residual.ensures.1
     (k, omega (arith, c.loop-read.invariant.from, f.more), c.in_err-next.ensures.reads, followed_clean f c.loop-read.invariant.clean, followed_silent f c.loop-read.invariant.silent, c.in_err-next.ensures.refusal)
 
 pub returns-then-is_dead-clause-arrives : goal.returns-then-is_dead-clause-arrives
 returns-then-is_dead-clause-arrives c =
     let d : Direction = way_of c.args.way in
-    let k : ℕ = c.follow-stop.result.at in
-    let f : IsFollowed d c.args.self.now c.loop-read.cache.store c.args.input.now c.loop-read.read k c.follow-stop.result.id = c.follow-stop.ensures.followed in
+    let k : ℕ = c.follow_walk-stop.result.at in
+    let f : IsFollowed d c.args.self.now c.loop-read.cache.store c.args.input.now c.loop-read.read k c.follow_walk-stop.result.id = c.follow_walk-stop.ensures.followed in
     let units : c.args.input.now.end - c.args.input.now.start ≡ length (tape_in d c.args.input.now).bytes = units_in d c.args.input.now c.requires.from.undone c.haystack-haystack.ensures.within.1 in
     let dies : state_in d c.args.self.now c.args.input.now (suc k) ≡ dead = (dead_tagged c.read_unit.new.cache.store.table c.in_ok-next.next (c.see_ids.ensures.low c.in_ok-next.next) c.see_ids.ensures.small _ c.in_ok-next.ensures.leads).0 (c.if-is_dead.ensures.0 refl) in
-    finish_dead d c.args.self.now c.args.input.now c.args.units k _ (omega (arith, c.loop-read.invariant.from, f.more)) (omega (arith, units, c.follow-stop.ensures.within)) (omega arith)
+    finish_dead d c.args.self.now c.args.input.now c.args.units k _ (omega (arith, c.loop-read.invariant.from, f.more)) (omega (arith, units, c.follow_walk-stop.ensures.within)) (omega arith)
     (clean_more d c.args.self.now c.args.input.now k (followed_clean f c.loop-read.invariant.clean) c.in_ok-next.ensures.clean) dies (followed_silent f c.loop-read.invariant.silent)
 
 pub returns-then-tells-clause-arrives : goal.returns-then-tells-clause-arrives
 returns-then-tells-clause-arrives c =
     let d : Direction = way_of c.args.way in
-    let k : ℕ = c.follow-stop.result.at in
-    let f : IsFollowed d c.args.self.now c.loop-read.cache.store c.args.input.now c.loop-read.read k c.follow-stop.result.id = c.follow-stop.ensures.followed in
+    let k : ℕ = c.follow_walk-stop.result.at in
+    let f : IsFollowed d c.args.self.now c.loop-read.cache.store c.args.input.now c.loop-read.read k c.follow_walk-stop.result.id = c.follow_walk-stop.ensures.followed in
     let units : c.args.input.now.end - c.args.input.now.start ≡ length (tape_in d c.args.input.now).bytes = units_in d c.args.input.now c.requires.from.undone c.haystack-haystack.ensures.within.1 in
     let more : suc k ≡ k + 1 = omega arith in
     let named : Names c.read_unit.new.cache.store.table c.in_ok-next.next (state_in d c.args.self.now c.args.input.now (suc k)) = (dead_tagged c.read_unit.new.cache.store.table c.in_ok-next.next (c.see_ids.ensures.low c.in_ok-next.next) c.see_ids.ensures.small _ c.in_ok-next.ensures.leads).1 (λ b. false_true (c.if-is_dead.ensures.1 b)) in
@@ -114,7 +114,7 @@ returns-then-tells-clause-arrives c =
       place = k;
       behind = sym more;
       more = omega (arith, c.loop-read.invariant.from, f.more);
-      within = omega (arith, units, c.follow-stop.ensures.within);
+      within = omega (arith, units, c.follow_walk-stop.ensures.within);
       named = subst (λ n. Names c.read_unit.new.cache.store.table c.in_ok-next.next (state_in d c.args.self.now c.args.input.now n)) more named;
       clean = subst (HasReadNoQuit d c.args.self.now c.args.input.now) more (clean_more d c.args.self.now c.args.input.now k (followed_clean f c.loop-read.invariant.clean) c.in_ok-next.ensures.clean);
       tells = yes.1;
@@ -126,20 +126,20 @@ pub returns-clause-arrives : goal.returns-clause-arrives
 returns-clause-arrives c =
     let d : Direction = way_of c.args.way in
     let units : c.args.input.now.end - c.args.input.now.start ≡ length (tape_in d c.args.input.now).bytes = units_in d c.args.input.now c.requires.from.undone c.haystack-haystack.ensures.within.1 in
-    let all : c.loop-read.read ≡ suc (length (tape_in d c.args.input.now).bytes) = omega (arith, units, c.loop-read-test.false, c.last_place-last.ensures, c.loop-read.invariant.within) in
+    let all : c.loop-read.read ≡ suc (length (tape_in d c.args.input.now).bytes) = omega (arith, units, c.loop-read-test.false, c.last_place-last.ensures.place, c.loop-read.invariant.within) in
     finish_read d c.args.self.now c.args.input.now c.args.units c.loop-read.read all c.loop-read.invariant.from c.loop-read.invariant.clean c.loop-read.invariant.silent
 
 pub returns-in_err-next-clause-effect : goal.returns-in_err-next-clause-effect
 returns-in_err-next-clause-effect c =
     let d : Direction = way_of c.args.way in
-    let k : ℕ = c.follow-stop.result.at in
-    let f : IsFollowed d c.args.self.now c.loop-read.cache.store c.args.input.now c.loop-read.read k c.follow-stop.result.id = c.follow-stop.ensures.followed in
+    let k : ℕ = c.follow_walk-stop.result.at in
+    let f : IsFollowed d c.args.self.now c.loop-read.cache.store c.args.input.now c.loop-read.read k c.follow_walk-stop.result.id = c.follow_walk-stop.ensures.followed in
     let from : c.args.units ≤ k = omega (arith, c.loop-read.invariant.from, f.more) in
     at_err c.from_residual.result _ (λ (r : Result Arrival SearchError). IsAdvanceEffect d c.args.self.now c.args.input.now c.args.units c.args.cache.now c.read_unit.new.cache r) c.from_residual.ensures.1
     (record {
       grown = grown_trans c.args.cache.now c.loop-read.cache c.read_unit.new.cache c.loop-read.invariant.grown c.in_err-next.ensures.effect.grown;
       cost = tt;
-      most = omega (arith, c.in_err-next.ensures.effect.counted, c.loop-read.invariant.counted, f.more, c.follow-stop.ensures.within);
+      most = omega (arith, c.in_err-next.ensures.effect.counted, c.loop-read.invariant.counted, f.more, c.follow_walk-stop.ensures.within);
       known = λ n told knows. (
           let count : c.loop-read.cache.count ≡ c.args.cache.now.count = c.loop-read.invariant.idle n told knows in
           let here = c.in_err-next.ensures.effect.known (unit_knows d c.args.self.now c.args.cache.now c.loop-read.cache c.args.input.now c.args.units k n c.loop-read.invariant.grown count knows from c.in_err-next.ensures.reads (followed_clean f c.loop-read.invariant.clean) (followed_silent f c.loop-read.invariant.silent n told)) in
@@ -148,7 +148,7 @@ returns-in_err-next-clause-effect c =
       moved = λ s e. tt;
       left = λ s e. (
           let underway = c.loop-read.invariant.progress s e in
-          unit_left d c.args.self.now c.args.input.now s c.args.units k underway.0 c.args.cache.now c.loop-read.cache c.read_unit.new.cache c.requires.from.undone c.follow-stop.ensures.within
+          unit_left d c.args.self.now c.args.input.now s c.args.units k underway.0 c.args.cache.now c.loop-read.cache c.read_unit.new.cache c.requires.from.undone c.follow_walk-stop.ensures.within
           c.loop-read.invariant.grown c.in_err-next.ensures.effect.grown underway.1 c.in_err-next.ensures.effect.cleared c.in_err-next.field-0.0 from c.in_err-next.ensures.reads
           (followed_clean f c.loop-read.invariant.clean) (followed_silent f c.loop-read.invariant.silent) c.in_err-next.ensures.refusal c.in_err-next.ensures.effect.progress.left);
     })
@@ -156,14 +156,14 @@ returns-in_err-next-clause-effect c =
 pub returns-then-is_dead-clause-effect : goal.returns-then-is_dead-clause-effect
 returns-then-is_dead-clause-effect c =
     let d : Direction = way_of c.args.way in
-    let k : ℕ = c.follow-stop.result.at in
-    let f : IsFollowed d c.args.self.now c.loop-read.cache.store c.args.input.now c.loop-read.read k c.follow-stop.result.id = c.follow-stop.ensures.followed in
+    let k : ℕ = c.follow_walk-stop.result.at in
+    let f : IsFollowed d c.args.self.now c.loop-read.cache.store c.args.input.now c.loop-read.read k c.follow_walk-stop.result.id = c.follow_walk-stop.ensures.followed in
     let from : c.args.units ≤ k = omega (arith, c.loop-read.invariant.from, f.more) in
     let more : suc k ≡ k + 1 = omega arith in
     record {
       grown = grown_trans c.args.cache.now c.loop-read.cache c.read_unit.new.cache c.loop-read.invariant.grown c.in_ok-next.ensures.effect.grown;
       cost = omega (arith, c.in_ok-next.ensures.effect.counted, c.loop-read.invariant.counted, f.more);
-      most = omega (arith, c.in_ok-next.ensures.effect.counted, c.loop-read.invariant.counted, f.more, c.follow-stop.ensures.within);
+      most = omega (arith, c.in_ok-next.ensures.effect.counted, c.loop-read.invariant.counted, f.more, c.follow_walk-stop.ensures.within);
       known = λ n told knows. (
           let count : c.loop-read.cache.count ≡ c.args.cache.now.count = c.loop-read.invariant.idle n told knows in
           let here = c.in_ok-next.ensures.effect.known (unit_knows d c.args.self.now c.args.cache.now c.loop-read.cache c.args.input.now c.args.units k n c.loop-read.invariant.grown count knows from c.in_ok-next.ensures.reads (followed_clean f c.loop-read.invariant.clean) (followed_silent f c.loop-read.invariant.silent n told)) in
@@ -172,7 +172,7 @@ returns-then-is_dead-clause-effect c =
           let second : ClearedNothing c.loop-read.cache.store c.read_unit.new.cache.store = nothing_second c.args.cache.now c.loop-read.cache c.read_unit.new.cache c.loop-read.invariant.grown c.in_ok-next.ensures.effect.grown nothing in
           let first : ClearedNothing c.args.cache.now.store c.loop-read.cache.store = nothing_first c.args.cache.now c.loop-read.cache c.read_unit.new.cache c.loop-read.invariant.grown c.in_ok-next.ensures.effect.grown nothing in
           subst (HasLearnedUnits d c.args.self.now c.read_unit.new.cache.store c.args.input.now c.args.units) more
-          (units_more d c.args.self.now c.loop-read.cache c.read_unit.new.cache c.args.input.now c.args.units c.loop-read.read k c.follow-stop.result.id c.in_ok-next.ensures.effect.grown second
+          (units_more d c.args.self.now c.loop-read.cache c.read_unit.new.cache c.args.input.now c.args.units c.loop-read.read k c.follow_walk-stop.result.id c.in_ok-next.ensures.effect.grown second
           (c.loop-read.invariant.learned first) f (c.in_ok-next.ensures.effect.learned second)));
       moved = λ s e. (
           let underway = c.loop-read.invariant.progress s e in (
@@ -180,7 +180,7 @@ returns-then-is_dead-clause-effect c =
             from,
             sym more,
             c.in_ok-next.ensures.reads,
-            unit_open d c.args.self.now c.args.input.now s c.args.units k underway.0 c.args.cache.now c.loop-read.cache c.read_unit.new.cache c.requires.from.undone c.follow-stop.ensures.within
+            unit_open d c.args.self.now c.args.input.now s c.args.units k underway.0 c.args.cache.now c.loop-read.cache c.read_unit.new.cache c.requires.from.undone c.follow_walk-stop.ensures.within
                 c.loop-read.invariant.grown c.in_ok-next.ensures.effect.grown underway.1 c.in_ok-next.ensures.effect.cleared c.in_ok-next.ensures.effect.progress.moved,
           ));
       left = λ s e. tt;
@@ -189,14 +189,14 @@ returns-then-is_dead-clause-effect c =
 pub returns-then-tells-clause-effect : goal.returns-then-tells-clause-effect
 returns-then-tells-clause-effect c =
     let d : Direction = way_of c.args.way in
-    let k : ℕ = c.follow-stop.result.at in
-    let f : IsFollowed d c.args.self.now c.loop-read.cache.store c.args.input.now c.loop-read.read k c.follow-stop.result.id = c.follow-stop.ensures.followed in
+    let k : ℕ = c.follow_walk-stop.result.at in
+    let f : IsFollowed d c.args.self.now c.loop-read.cache.store c.args.input.now c.loop-read.read k c.follow_walk-stop.result.id = c.follow_walk-stop.ensures.followed in
     let from : c.args.units ≤ k = omega (arith, c.loop-read.invariant.from, f.more) in
     let more : suc k ≡ k + 1 = omega arith in
     record {
       grown = grown_trans c.args.cache.now c.loop-read.cache c.read_unit.new.cache c.loop-read.invariant.grown c.in_ok-next.ensures.effect.grown;
       cost = omega (arith, c.in_ok-next.ensures.effect.counted, c.loop-read.invariant.counted, f.more);
-      most = omega (arith, c.in_ok-next.ensures.effect.counted, c.loop-read.invariant.counted, f.more, c.follow-stop.ensures.within);
+      most = omega (arith, c.in_ok-next.ensures.effect.counted, c.loop-read.invariant.counted, f.more, c.follow_walk-stop.ensures.within);
       known = λ n told knows. (
           let count : c.loop-read.cache.count ≡ c.args.cache.now.count = c.loop-read.invariant.idle n told knows in
           let here = c.in_ok-next.ensures.effect.known (unit_knows d c.args.self.now c.args.cache.now c.loop-read.cache c.args.input.now c.args.units k n c.loop-read.invariant.grown count knows from c.in_ok-next.ensures.reads (followed_clean f c.loop-read.invariant.clean) (followed_silent f c.loop-read.invariant.silent n told)) in
@@ -205,7 +205,7 @@ returns-then-tells-clause-effect c =
           let second : ClearedNothing c.loop-read.cache.store c.read_unit.new.cache.store = nothing_second c.args.cache.now c.loop-read.cache c.read_unit.new.cache c.loop-read.invariant.grown c.in_ok-next.ensures.effect.grown nothing in
           let first : ClearedNothing c.args.cache.now.store c.loop-read.cache.store = nothing_first c.args.cache.now c.loop-read.cache c.read_unit.new.cache c.loop-read.invariant.grown c.in_ok-next.ensures.effect.grown nothing in
           subst (HasLearnedUnits d c.args.self.now c.read_unit.new.cache.store c.args.input.now c.args.units) more
-          (units_more d c.args.self.now c.loop-read.cache c.read_unit.new.cache c.args.input.now c.args.units c.loop-read.read k c.follow-stop.result.id c.in_ok-next.ensures.effect.grown second
+          (units_more d c.args.self.now c.loop-read.cache c.read_unit.new.cache c.args.input.now c.args.units c.loop-read.read k c.follow_walk-stop.result.id c.in_ok-next.ensures.effect.grown second
           (c.loop-read.invariant.learned first) f (c.in_ok-next.ensures.effect.learned second)));
       moved = λ s e. (
           let underway = c.loop-read.invariant.progress s e in (
@@ -213,7 +213,7 @@ returns-then-tells-clause-effect c =
             from,
             sym more,
             c.in_ok-next.ensures.reads,
-            unit_open d c.args.self.now c.args.input.now s c.args.units k underway.0 c.args.cache.now c.loop-read.cache c.read_unit.new.cache c.requires.from.undone c.follow-stop.ensures.within
+            unit_open d c.args.self.now c.args.input.now s c.args.units k underway.0 c.args.cache.now c.loop-read.cache c.read_unit.new.cache c.requires.from.undone c.follow_walk-stop.ensures.within
                 c.loop-read.invariant.grown c.in_ok-next.ensures.effect.grown underway.1 c.in_ok-next.ensures.effect.cleared c.in_ok-next.ensures.effect.progress.moved,
           ));
       left = λ s e. tt;
@@ -222,7 +222,7 @@ returns-then-tells-clause-effect c =
 pub returns-clause-effect : goal.returns-clause-effect
 returns-clause-effect c =
     let d : Direction = way_of c.args.way in
-    let less : c.args.units < c.loop-read.read = omega (arith, c.requires.from.left, c.loop-read-test.false, c.last_place-last.ensures) in
+    let less : c.args.units < c.loop-read.read = omega (arith, c.requires.from.left, c.loop-read-test.false, c.last_place-last.ensures.place) in
     let last : (k : ℕ) × (c.loop-read.read ≡ suc k) × WalkReads d c.args.self.now c.args.input.now k = c.loop-read.invariant.reads less in
     record {
       grown = c.loop-read.invariant.grown;

@@ -1,18 +1,48 @@
-use Rattle.std.proofs.Common.{◌≡◌, ◌∙◌, ◌+◌, ◌-◌, ap, arith}
-use Rattle.automata_base.specs.Answers.{offset_in}
-use Rattle.automata_base.specs.Tapes.{Direction, Forward, Backward}
+use Rattle.std.proofs.Common.{arith}
+use Rattle.std.proofs.lemmas.Grind.{common_steps}
 use Rattle.automata_hybrid.specs.Walks.{way_of}
-use Rattle.automata_hybrid.proofs.Following.{followed_as}
+use Rattle.automata_hybrid.proofs.Following.{followed_none, followed_on}
+use Rattle.automata_hybrid.proofs.SelfLoops.{followed_loop}
 use Rattle.automata_hybrid.proofs.dfa.DFA.follow.Goals as goal
 
-pub returns-in-Forward-clause-followed : goal.returns-in-Forward-clause-followed
-returns-in-Forward-clause-followed c =
-    let same : way_of c.args.way ≡ Forward = ap way_of c.in-Forward.is in
-    let start : c.place_offset-start.result ≡ c.args.input.now.start + c.args.units = c.place_offset-start.ensures ∙ ap (λ (d : Direction). offset_in d c.args.input.now c.args.units) same in
-    followed_as (way_of c.args.way) Forward c.args.self.now c.args.cache.now.store c.args.input.now _ (c.follow_fwd-stop.result.at - c.args.input.now.start) c.args.units _ c.args.from _ same (omega (arith, start)) (omega (arith, c.start.ensures.start)) c.requires.named c.follow_fwd-stop.ensures.followed
+pub fours-preserved-then-not-same : goal.fours-preserved-then-not-same
+fours-preserved-then-not-same c =
+    record {
+      untagged = c.follow_four-four.ensures.untagged;
+      within = omega (arith, c.fours-test.true, c.follow_four-four.ensures.upto);
+      followed = followed_on c.fours.invariant.followed (λ n. c.follow_four-four.ensures.followed);
+    }
 
-pub returns-in-Backward-clause-followed : goal.returns-in-Backward-clause-followed
-returns-in-Backward-clause-followed c =
-    let same : way_of c.args.way ≡ Backward = ap way_of c.in-Backward.is in
-    let start : c.place_offset-start.result ≡ c.args.input.now.end - c.args.units = c.place_offset-start.ensures ∙ ap (λ (d : Direction). offset_in d c.args.input.now c.args.units) same in
-    followed_as (way_of c.args.way) Backward c.args.self.now c.args.cache.now.store c.args.input.now _ (c.args.input.now.end - c.follow_rev-stop.result.at) c.args.units _ c.args.from _ same (omega (arith, start)) (omega (arith, c.end.ensures.end)) c.requires.named c.follow_rev-stop.ensures.followed
+pub returns-then-is_tagged-clause-followed : goal.returns-then-is_tagged-clause-followed
+returns-then-is_tagged-clause-followed c =
+    followed_none (way_of c.args.way) c.args.self.now c.args.cache.now.store c.args.input.now c.args.start c.args.from c.requires.named
+
+pub fours-init : goal.fours-init
+fours-init c =
+    record {
+      untagged = grind (arith, common_steps, c.if-is_tagged.ensures);
+      within = omega (arith, c.requires.within, c.last_place-last.ensures.place);
+      followed = followed_none (way_of c.args.way) c.args.self.now c.args.cache.now.store c.args.input.now c.args.start c.args.from c.requires.named;
+    }
+
+pub returns-then-four-at-clause-followed : goal.returns-then-four-at-clause-followed
+returns-then-four-at-clause-followed c = followed_on c.fours.invariant.followed (λ n. c.follow_four-four.ensures.followed)
+
+pub returns-clause-followed : goal.returns-clause-followed
+returns-clause-followed c = followed_on c.fours.invariant.followed (λ n. c.follow_rest.ensures.followed)
+
+pub fours-preserved : goal.fours-preserved
+fours-preserved c =
+    record {
+      untagged = c.follow_four-four.ensures.untagged;
+      within = omega (arith, c.last_place-last.ensures.place, c.follow_loop-stop.ensures.within);
+      followed = followed_on (followed_on c.fours.invariant.followed (λ n. c.follow_four-four.ensures.followed)) (followed_loop c.follow_four-four.ensures.untagged c.follow_loop-stop.ensures.loops);
+    }
+
+pub fours-preserved-then-stop-at : goal.fours-preserved-then-stop-at
+fours-preserved-then-stop-at c =
+    record {
+      untagged = c.follow_four-four.ensures.untagged;
+      within = omega (arith, c.last_place-last.ensures.place, c.follow_loop-stop.ensures.within);
+      followed = followed_on (followed_on c.fours.invariant.followed (λ n. c.follow_four-four.ensures.followed)) (followed_loop c.follow_four-four.ensures.untagged c.follow_loop-stop.ensures.loops);
+    }

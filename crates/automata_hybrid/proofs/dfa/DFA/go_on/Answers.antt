@@ -14,7 +14,7 @@ use Rattle.automata_hybrid.proofs.KnowingWalks.{units_none}
 use Rattle.std.proofs.lemmas.Result.{IfErr-weaker, on_ok_weaker}
 use Rattle.automata_hybrid.proofs.Resuming.{answer_matched, effect_matched, effect_none, refused_matched}
 use Rattle.automata_hybrid.proofs.WalkCalls.{ended_at, next_done, next_ended, next_read, next_same, undone}
-use Rattle.automata_hybrid.proofs.WalkUnits.{units_in}
+use Rattle.automata_hybrid.proofs.Directions.{units_in}
 use Rattle.automata_hybrid.proofs.dfa.DFA.go_on.Goals as goal
 
 pub returns-then-has_ended-clause-answer : goal.returns-then-has_ended-clause-answer
@@ -102,7 +102,7 @@ returns-then-units-last_place-clause-answer c =
     let w : Walk = c.args.walk.now in
     let open_span : input.start ≤ input.end = undone c.is_done.result input.start input.end c.is_done.ensures.done c.if-is_done.false in
     let units : input.end - input.start ≡ length (tape_in d input).bytes = units_in d input open_span c.is_done.ensures.within.1 in
-    let past : length (tape_in d input).bytes < c.forget_match.new.self.units = omega (arith, units, c.units-2.ensures, c.last_place.ensures, c.if-units-last_place.true) in
+    let past : length (tape_in d input).bytes < c.forget_match.new.self.units = omega (arith, units, c.units-2.ensures, c.last_place.ensures.place, c.if-units-last_place.true) in
     let more : length (tape_in d input).bytes < w.units = subst (λ (v : Walk). length (tape_in d input).bytes < v.units) c.forget_match.ensures past in
     let same : c.end-then-units-last_place.new.self ≡ ended_walk w w.units = c.end-then-units-last_place.ensures ∙ ap (ended_walk w) (c.units-then-units-last_place.ensures ∙ ap (λ (v : Walk). v.units) c.forget_match.ensures) in
     subst (λ (x : Walk). IsCallAnswer d m input w x c.args.cache.now.store c.args.cache.now.store) (sym same)
@@ -120,7 +120,7 @@ pub returns-then-units-last_place-clause-effect : goal.returns-then-units-last_p
 returns-then-units-last_place-clause-effect c =
     let units : c.units-2.result ≡ c.args.walk.now.units = c.units-2.ensures ∙ ap (λ (v : Walk). v.units) c.forget_match.ensures in
     effect_none (keeping_of c.args.held.now) (way_of c.args.way) c.args.self.now c.args.input.now c.args.walk.now c.end-then-units-last_place.new.self c.args.cache.now
-    (inr (inr (omega (arith, units, c.last_place.ensures, c.if-units-last_place.true))))
+    (inr (inr (omega (arith, units, c.last_place.ensures.place, c.if-units-last_place.true))))
     (ap (λ (v : Walk). v.units) c.end-then-units-last_place.ensures ∙ (c.units-then-units-last_place.ensures ∙ ap (λ (v : Walk). v.units) c.forget_match.ensures))
 
 pub returns-clause-answer : goal.returns-clause-answer

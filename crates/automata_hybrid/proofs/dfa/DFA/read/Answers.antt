@@ -1,89 +1,74 @@
-use Rattle.std.proofs.Common.{inl, inr, refl, sym, subst, arith}
-use Rattle.automata_hybrid.specs.Reading.{IsReadEffect, IsReadProgress}
+use Rattle.std.proofs.Common.{Some, inl, refl, sym, subst, arith}
+use Rattle.std.specs.Prelude.{Err, Ok}
+use Rattle.automata_hybrid.specs.Reading.{IsReadAnswer, IsReadEffect, IsReadProgress}
 use Rattle.automata_hybrid.specs.Searches.{IsStepRefusal}
 use Rattle.automata_hybrid.specs.Table.{Rows, Names}
-use Rattle.automata_hybrid.proofs.Reading.{at_err, read_answered, read_quits, read_refused, told_refusal, told_room}
-use Rattle.automata_hybrid.proofs.Searched.{ended_by, moved_by}
-use Rattle.automata_hybrid.proofs.Searching.{false_true, if_err}
-use Rattle.automata_hybrid.proofs.Stepping.{dead_tagged, quits, unquit}
+use Rattle.automata_hybrid.proofs.Reading.{at_err, read_after, read_answered, read_quits, read_refused}
+use Rattle.automata_hybrid.proofs.Searched.{ended_by}
+use Rattle.automata_hybrid.proofs.Searching.{false_true}
+use Rattle.automata_hybrid.proofs.Stepping.{quits, unquit}
 use Rattle.automata_hybrid.proofs.dfa.DFA.read.Goals as goal
 
-pub returns-clause-answer : goal.returns-clause-answer
-returns-clause-answer c =
-    let clean = unquit c.args.self.now c.step.new.cache.store.table c.in_ok-next.next c.args.byte c.in_ok-next.ensures.of c.see_ids-2.ensures.small
-    (λ b. false_true (c.if-is_quit.ensures.1 b)) (c.in_ok-next.ensures.answer.quit (c.see_ids.ensures.low c.args.id c.requires.valid.0 c.requires.valid.1)) in
-    record {
-      clean = clean;
-      named = λ q n. c.in_ok-next.ensures.answer.named clean q (subst (λ (t : Rows). Names t c.args.id q) (sym c.move_search.ensures.table) n);
-    }
+pub returns-else-is_quit-clause-answer : goal.returns-else-is_quit-clause-answer
+returns-else-is_quit-clause-answer c =
+    let clean = unquit c.args.self.now c.step.new.cache.store.table c.in_ok-next-in-Some.next c.in-Some.byte c.in_ok-next-in-Some.ensures.of c.see_ids-in-Some.ensures.small
+    (λ b. false_true (c.if-is_quit.ensures.1 b)) (c.in_ok-next-in-Some.ensures.answer.quit (c.see_ids.ensures.low c.args.id c.requires.valid.0 c.requires.valid.1)) in
+    subst (λ u. IsReadAnswer c.args.self.now c.args.id u c.args.cache.now c.step.new.cache c.in_ok-next-in-Some.next) (sym c.in-Some.is)
+    (record { clean = clean; named = λ q n. c.in_ok-next-in-Some.ensures.answer.named clean q (subst (λ (t : Rows). Names t c.args.id q) (sym c.move_search.ensures.table) n) })
 
-pub returns-clause-dead : goal.returns-clause-dead
-returns-clause-dead c = dead_tagged c.step.new.cache.store.table c.in_ok-next.next (λ q. c.see_ids-2.ensures.low c.in_ok-next.next q) c.see_ids-2.ensures.small
+pub returns-else-is_quit-clause-effect : goal.returns-else-is_quit-clause-effect
+returns-else-is_quit-clause-effect c =
+    subst (λ u. IsReadEffect c.args.self.now c.args.id u c.args.cache.now c.step.new.cache (Ok c.in_ok-next-in-Some.next)) (sym c.in-Some.is)
+    (read_answered c.args.self.now c.args.id _ c.args.cache.now c.move_search.new.self c.step.new.cache c.move_search.ensures.value
+    (c.see_ids.ensures.alive c.args.id) (c.see_classes.ensures.bytes c.in-Some.byte (omega arith)) c.in_ok-next-in-Some.ensures.effect
+    c.in_ok-next-in-Some.next c.in_ok-next-in-Some.next (c.see_ids.ensures.low c.args.id c.requires.valid.0 c.requires.valid.1) c.in_ok-next-in-Some.ensures.answer)
 
-pub returns-clause-effect : goal.returns-clause-effect
-returns-clause-effect c =
-    read_answered c.args.self.now c.args.id _ c.args.cache.now c.move_search.new.self c.step.new.cache c.move_search.ensures.value
-    (c.see_ids.ensures.alive c.args.id) (c.see_classes.ensures.bytes c.args.byte (omega arith)) c.in_ok-next.ensures.effect
-    c.in_ok-next.next c.in_ok-next.next (c.see_ids.ensures.low c.args.id c.requires.valid.0 c.requires.valid.1) c.in_ok-next.ensures.answer
-
-pub returns-clause-progress : goal.returns-clause-progress
-returns-clause-progress c = record {
-  moved = moved_by c.args.cache.now c.move_search.new.self c.step.new.cache c.args.at c.move_search.ensures.value c.in_ok-next.ensures.effect.progress;
-  left = tt;
-}
-
-pub returns-in_err-next-clause-refusal : goal.returns-in_err-next-clause-refusal
-returns-in_err-next-clause-refusal c =
-    if_err c.from_residual.result _ _ c.from_residual.ensures.1
-    (λ q n. told_refusal c.args.self.now c.args.id _ c.args.at c.args.at c.move_search.new.self c.step.new.cache c.in_err-next.field-0.0 c.in_err-next.ensures.refusal q (subst (λ (t : Rows). Names t c.args.id q) (sym c.move_search.ensures.table) n))
-
-pub returns-in_err-next-clause-effect : goal.returns-in_err-next-clause-effect
-returns-in_err-next-clause-effect c =
-    at_err c.from_residual.result _ (IsReadEffect c.args.self.now c.args.id _ c.args.cache.now c.step.new.cache) c.from_residual.ensures.1
+pub returns-in_err-next-in-Some-clause-effect : goal.returns-in_err-next-in-Some-clause-effect
+returns-in_err-next-in-Some-clause-effect c =
+    subst (λ u. IsReadEffect c.args.self.now c.args.id u c.args.cache.now c.step.new.cache c.from_residual.result) (sym c.in-Some.is)
+    (at_err c.from_residual.result _ (IsReadEffect c.args.self.now c.args.id _ c.args.cache.now c.step.new.cache) c.from_residual.ensures.1
     (read_refused c.args.self.now c.args.id _ c.args.cache.now c.move_search.new.self c.step.new.cache c.move_search.ensures.value
-    (c.see_ids.ensures.alive c.args.id) (c.see_classes.ensures.bytes c.args.byte (omega arith)) c.in_err-next.ensures.effect
-    c.args.at c.in_err-next.field-0.0 c.in_err-next.ensures.refusal)
-
-pub returns-in_err-next-clause-progress : goal.returns-in_err-next-clause-progress
-returns-in_err-next-clause-progress c =
-    at_err c.from_residual.result _ (IsReadProgress c.args.self.now _ c.args.at c.args.cache.now.store c.step.new.cache.store) c.from_residual.ensures.1 (record {
-      moved = tt;
-      left =
-          inr (
-            told_room c.args.self.now c.args.id _ c.args.at c.move_search.new.self c.step.new.cache c.in_err-next.field-0.0 c.in_err-next.ensures.refusal,
-            moved_by c.args.cache.now c.move_search.new.self c.step.new.cache c.args.at c.move_search.ensures.value c.in_err-next.ensures.effect.progress,
-          );
-    })
+    (c.see_ids.ensures.alive c.args.id) (c.see_classes.ensures.bytes c.in-Some.byte (omega arith)) c.in_err-next-in-Some.ensures.effect
+    c.args.at c.in_err-next-in-Some.field-0.0 c.in_err-next-in-Some.ensures.refusal))
 
 pub returns-then-is_quit-clause-refusal : goal.returns-then-is_quit-clause-refusal
 returns-then-is_quit-clause-refusal c = λ q n.
-    subst (IsStepRefusal c.args.self.now c.end_search.new.self.store q _ c.args.at c.args.at) (sym c.quit.ensures) (
+    subst (λ u. IsStepRefusal c.args.self.now c.end_search.new.self.store q u c.args.quit_at c.args.at c.quit.result) (sym c.in-Some.is)
+    (subst (IsStepRefusal c.args.self.now c.end_search.new.self.store q (Some c.in-Some.byte) c.args.quit_at c.args.at) (sym c.quit.ensures) (
       refl,
-      quits c.args.self.now c.move_search.new.self.store.table c.step.new.cache.store.table c.args.id c.in_ok-next.next c.args.byte q
-          c.see_ids-2.ensures.small (λ p. c.see_ids-2.ensures.low c.in_ok-next.next p) (c.if-is_quit.ensures.0 refl) c.in_ok-next.ensures.answer.named
+      quits c.args.self.now c.move_search.new.self.store.table c.step.new.cache.store.table c.args.id c.in_ok-next-in-Some.next c.in-Some.byte q
+          c.see_ids-in-Some.ensures.small (λ p. c.see_ids-in-Some.ensures.low c.in_ok-next-in-Some.next p) (c.if-is_quit.ensures.0 refl) c.in_ok-next-in-Some.ensures.answer.named
           (subst (λ (t : Rows). Names t c.args.id q) (sym c.move_search.ensures.table) n),
       refl,
-    )
+    ))
 
 pub returns-then-is_quit-clause-effect : goal.returns-then-is_quit-clause-effect
 returns-then-is_quit-clause-effect c =
-    read_quits c.args.self.now c.args.id _ c.args.cache.now c.move_search.new.self c.step.new.cache c.move_search.ensures.value
-    (c.see_ids.ensures.alive c.args.id) (c.see_classes.ensures.bytes c.args.byte (omega arith)) c.in_ok-next.ensures.effect
-    c.in_ok-next.next (c.see_ids.ensures.low c.args.id c.requires.valid.0 c.requires.valid.1) c.in_ok-next.ensures.answer
-    c.end_search.new.self c.end_search.ensures.value c.args.byte c.args.at c.quit.result c.quit.ensures
+    subst (λ u. IsReadEffect c.args.self.now c.args.id u c.args.cache.now c.end_search.new.self (Err c.quit.result)) (sym c.in-Some.is)
+    (read_quits c.args.self.now c.args.id _ c.args.cache.now c.move_search.new.self c.step.new.cache c.move_search.ensures.value
+    (c.see_ids.ensures.alive c.args.id) (c.see_classes.ensures.bytes c.in-Some.byte (omega arith)) c.in_ok-next-in-Some.ensures.effect
+    c.in_ok-next-in-Some.next (c.see_ids.ensures.low c.args.id c.requires.valid.0 c.requires.valid.1) c.in_ok-next-in-Some.ensures.answer
+    c.end_search.new.self c.end_search.ensures.value c.in-Some.byte c.args.quit_at c.quit.result c.quit.ensures)
 
 pub returns-then-is_quit-clause-progress : goal.returns-then-is_quit-clause-progress
-returns-then-is_quit-clause-progress c = record {
-  moved = tt;
-  left =
-      inl (
-        (
-          _,
-          refl,
-          quits c.args.self.now c.move_search.new.self.store.table c.step.new.cache.store.table c.args.id c.in_ok-next.next c.args.byte c.requires.valid.0
-              c.see_ids-2.ensures.small (λ p. c.see_ids-2.ensures.low c.in_ok-next.next p) (c.if-is_quit.ensures.0 refl) c.in_ok-next.ensures.answer.named
-              (subst (λ (t : Rows). Names t c.args.id c.requires.valid.0) (sym c.move_search.ensures.table) c.requires.valid.1),
-        ),
-        ended_by c.args.cache.now c.move_search.new.self c.step.new.cache c.end_search.new.self c.args.at c.move_search.ensures.value c.in_ok-next.ensures.effect.progress c.end_search.ensures.value,
-      );
-}
+returns-then-is_quit-clause-progress c =
+    subst (λ u. IsReadProgress c.args.self.now u c.args.at c.args.cache.now.store c.end_search.new.self.store (Err c.quit.result)) (sym c.in-Some.is)
+    (record {
+      moved = tt;
+      left =
+          inl (
+            (
+              _,
+              refl,
+              quits c.args.self.now c.move_search.new.self.store.table c.step.new.cache.store.table c.args.id c.in_ok-next-in-Some.next c.in-Some.byte c.requires.valid.0
+                  c.see_ids-in-Some.ensures.small (λ p. c.see_ids-in-Some.ensures.low c.in_ok-next-in-Some.next p) (c.if-is_quit.ensures.0 refl) c.in_ok-next-in-Some.ensures.answer.named
+                  (subst (λ (t : Rows). Names t c.args.id c.requires.valid.0) (sym c.move_search.ensures.table) c.requires.valid.1),
+            ),
+            ended_by c.args.cache.now c.move_search.new.self c.step.new.cache c.end_search.new.self c.args.at c.move_search.ensures.value c.in_ok-next-in-Some.ensures.effect.progress c.end_search.ensures.value,
+          );
+    })
+
+pub returns-in-None-clause-effect : goal.returns-in-None-clause-effect
+returns-in-None-clause-effect c =
+    subst (λ u. IsReadEffect c.args.self.now c.args.id u c.args.cache.now c.read_end.new.cache c.read_end.result) (sym c.in-None.is)
+    (read_after c.args.self.now c.args.id _ c.args.cache.now c.move_search.new.self c.read_end.new.cache c.move_search.ensures.value c.read_end.result c.read_end.ensures.effect)

@@ -1,4 +1,4 @@
-use Rattle.std.proofs.Common.{subst}
+use Rattle.std.proofs.Common.{refl, subst}
 use Rattle.std.proofs.lemmas.Result.{IfErr-weaker, IfOk-weaker}
 use Rattle.automata_base.specs.Nodes.{Automaton}
 use Rattle.automata_base.specs.Tapes.{Forward}
@@ -15,9 +15,9 @@ pub returns-clause-based : goal.returns-clause-based
 returns-clause-based c =
     let m = c.args.self.now in
     let input = c.args.input.now in
-    let s = c.search_fwd-found.ensures in
-    let r = c.search_fwd-found.result in
-    let cache = c.search_fwd-found.new.cache.store in
+    let s = c.search-found.ensures in
+    let r = c.search-found.result in
+    let cache = c.search-found.new.cache.store in
     let haystack = c.haystack-haystack.ensures in
     let told = subst (λ (a : Automaton). ToldIsRight a) c.get_nfa.ensures c.told_is_right.ensures.answer in
     let ends = subst (λ (a : Automaton). ToldEndsAreRight a) c.get_nfa.ensures c.told_is_right.ensures.ends in
@@ -44,3 +44,6 @@ returns-clause-based c =
           s.refusal;
       done = s.done;
     }
+
+pub returns-clause-upto : goal.returns-clause-upto
+returns-clause-upto c = c.search-found.ensures.upto refl

@@ -17,7 +17,7 @@ use Rattle.automata_hybrid.specs.Stores.{with_searched}
 use Rattle.automata_hybrid.specs.Table.{Rows, Leads, Names}
 use Rattle.automata_hybrid.specs.Walking.{Arrives, Finishes, HasItsState, HasToldBy, IsAdvanceRefusal, IsArrival}
 use Rattle.automata_hybrid.specs.Walks.{Holds, Ids, IsHeldAt, Stage, Walk, ended_walk, keeping_of, way_of}
-use Rattle.automata_hybrid.specs.declared.search.units.Arrival.{Arrival}
+use Rattle.automata_hybrid.specs.declared.search.advance.Arrival.{Arrival}
 use Rattle.automata_hybrid.proofs.Growing.{grown_after, grown_moved, grown_trans}
 use Rattle.automata_hybrid.proofs.KnowingWalks.{has_state, state_after, still_same, unit_knows, units_none}
 use Rattle.automata_hybrid.proofs.Reading.{at_err}
@@ -27,7 +27,7 @@ use Rattle.automata_hybrid.proofs.Searching.{dead_more, if_err}
 use Rattle.automata_hybrid.proofs.Stepping.{dead_tagged}
 use Rattle.automata_hybrid.proofs.WalkCalls.{clean_here, ended_at, next_finishes, told_here, walk_clears_none}
 use Rattle.automata_hybrid.proofs.Walked.{finish_start}
-use Rattle.automata_hybrid.proofs.WalkUnits.{units_in}
+use Rattle.automata_hybrid.proofs.Directions.{units_in}
 use Rattle.automata_hybrid.proofs.WalkingOn.{effect_on, effect_unheld, last, learned_on, refused_unheld}
 use Rattle.automata_hybrid.proofs.dfa.DFA.walk_on.Goals as goal
 

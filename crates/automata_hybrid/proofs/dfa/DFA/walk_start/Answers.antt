@@ -6,7 +6,7 @@ use Rattle.automata_base.specs.Tapes.{byte_before}
 use Rattle.automata_hybrid.specs.Searches.{behind_offset, tape_in}
 use Rattle.automata_hybrid.specs.Starting.{IsStartAnswer, IsStartEffect, IsStartRefusedAt}
 use Rattle.automata_hybrid.specs.Walks.{way_of}
-use Rattle.automata_hybrid.specs.declared.search.walk.Way.{Way}
+use Rattle.automata_hybrid.specs.declared.search.direction.Way.{Way}
 use Rattle.automata_hybrid.proofs.dfa.DFA.walk_start.Goals as goal
 
 pub returns-in-Forward-clause-answer : goal.returns-in-Forward-clause-answer

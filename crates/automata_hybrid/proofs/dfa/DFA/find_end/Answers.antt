@@ -1,0 +1,124 @@
+use Rattle.std.proofs.Common.{ℕ, ◌≡◌, ◌∙◌, ◌-◌, length, refl, sym, ap, subst, arith}
+use Rattle.automata_base.specs.Answers.{offset_in}
+use Rattle.automata_base.specs.Paths.{next}
+use Rattle.automata_base.specs.Powerset.{Powerset}
+use Rattle.automata_base.specs.Steps.{successor}
+use Rattle.automata_base.specs.Tapes.{Direction}
+use Rattle.automata_hybrid.specs.Caches.{CacheView}
+use Rattle.automata_hybrid.specs.Passed.{IsRestEffect}
+use Rattle.automata_hybrid.specs.Passing.{IsAt}
+use Rattle.automata_hybrid.specs.Reading.{ClearsForNext, IsEndProgress}
+use Rattle.automata_hybrid.specs.Searched.{IsEndedBy, IsLeftAtEnd}
+use Rattle.automata_hybrid.specs.Searches.{given_up_offset, state_in, tape_in, unit_offset}
+use Rattle.automata_config.specs.Options.{match_kind_of}
+use Rattle.automata_hybrid.specs.Table.{IsValid, Rows, Leads, Names}
+use Rattle.automata_hybrid.specs.Walks.{way_of}
+use Rattle.automata_hybrid.proofs.Clearing.{clears_closed, clears_moved}
+use Rattle.automata_hybrid.proofs.Directions.{units_in}
+use Rattle.automata_hybrid.proofs.Passed.{last_answer, rest_read, rest_refused, stands_alive}
+use Rattle.automata_hybrid.proofs.Reading.{at_err}
+use Rattle.automata_hybrid.proofs.Searched.{ended_after, ended_last, left_last}
+use Rattle.automata_hybrid.proofs.Searching.{unit_refuses, stops_last, if_err}
+use Rattle.automata_hybrid.proofs.dfa.DFA.find_end.Goals as goal
+
+pub read-requires-clause-valid : goal.read-requires-clause-valid
+read-requires-clause-valid c =
+    subst (λ (t : Rows). IsValid t c.args.id) (sym c.end_before_last.ensures.table) (_, c.requires.at.at.named)
+
+pub found_at-requires-clause-leads : goal.found_at-requires-clause-leads
+found_at-requires-clause-leads c =
+    let d : Direction = way_of c.args.way in
+    let q : Powerset = state_in d c.args.self.now c.args.input.now (c.args.input.now.end - c.args.input.now.start) in
+    let after : Powerset = successor c.args.self.now.nfa (match_kind_of c.args.self.now.config) q c.unit_at-unit.result in (
+      after,
+      subst (λ (t : Rows). Leads t c.in_ok-next.next after) (sym c.end_search.ensures.table)
+          (c.in_ok-next.ensures.answer.named q (subst (λ (t : Rows). Names t c.args.id q) (sym c.end_before_last.ensures.table) c.requires.at.at.named)),
+    )
+
+pub returns-clause-answer : goal.returns-clause-answer
+returns-clause-answer c =
+    let d : Direction = way_of c.args.way in
+    let k : ℕ = c.args.input.now.end - c.args.input.now.start in
+    let unit : next (tape_in d c.args.input.now) k ≡ c.unit_at-unit.result = sym (c.unit_at-unit.ensures ∙ ap (next (tape_in d c.args.input.now)) c.last_place-last.ensures.place) in
+    let place : c.place_offset.result ≡ offset_in d c.args.input.now k = c.place_offset.ensures ∙ ap (offset_in d c.args.input.now) c.last_place-last.ensures.place in
+    let units : k ≡ length (tape_in d c.args.input.now).bytes = units_in d c.args.input.now c.requires.at.undone c.last_place-last.ensures.inside in
+    last_answer d c.args.self.now c.args.input.now k c.args.id c.unit_at-unit.result c.args.found c.args.cache.now c.end_before_last.new.cache c.read.new.cache c.end_search.new.self c.end_before_last.ensures.value c.end_search.ensures.value c.requires.at unit c.in_ok-next.next c.found_at.result c.in_ok-next.ensures.answer c.place_offset.result place
+    (λ q l. c.found_at.ensures q (subst (λ (t : Rows). Leads t c.in_ok-next.next q) (sym c.end_search.ensures.table) l)) units
+
+pub returns-clause-effect : goal.returns-clause-effect
+returns-clause-effect c =
+    let d : Direction = way_of c.args.way in
+    let k : ℕ = c.args.input.now.end - c.args.input.now.start in
+    let unit : next (tape_in d c.args.input.now) k ≡ c.unit_at-unit.result = sym (c.unit_at-unit.ensures ∙ ap (next (tape_in d c.args.input.now)) c.last_place-last.ensures.place) in
+    let units : k ≡ length (tape_in d c.args.input.now).bytes = units_in d c.args.input.now c.requires.at.undone c.last_place-last.ensures.inside in
+    rest_read d c.args.self.now c.args.input.now k c.args.id c.unit_at-unit.result c.args.found c.args.cache.now c.end_before_last.new.cache c.read.new.cache c.end_search.new.self c.end_before_last.ensures.value c.end_search.ensures.value c.requires.at unit c.in_ok-next.next _ c.in_ok-next.ensures.effect c.in_ok-next.ensures.of (omega arith) (omega (arith, units)) (stops_last d c.args.self.now c.args.input.now k units)
+
+pub returns-clause-alive : goal.returns-clause-alive
+returns-clause-alive c =
+    let d : Direction = way_of c.args.way in
+    let k : ℕ = c.args.input.now.end - c.args.input.now.start in
+    let unit : next (tape_in d c.args.input.now) k ≡ c.unit_at-unit.result = sym (c.unit_at-unit.ensures ∙ ap (next (tape_in d c.args.input.now)) c.last_place-last.ensures.place) in
+    stands_alive d c.args.self.now c.args.input.now k c.args.id c.unit_at-unit.result c.args.found c.args.cache.now c.end_before_last.new.cache c.read.new.cache c.end_search.new.self c.end_before_last.ensures.value c.end_search.ensures.value c.requires.at unit c.in_ok-next.ensures.effect.alive
+
+pub returns-clause-progress : goal.returns-clause-progress
+returns-clause-progress c =
+    let d : Direction = way_of c.args.way in
+    let k : ℕ = c.args.input.now.end - c.args.input.now.start in
+    let unit : next (tape_in d c.args.input.now) k ≡ c.unit_at-unit.result = sym (c.unit_at-unit.ensures ∙ ap (next (tape_in d c.args.input.now)) c.last_place-last.ensures.place) in
+    let place : c.span_offset-at.result ≡ given_up_offset d c.args.input.now k = c.span_offset-at.ensures ∙ ap (given_up_offset d c.args.input.now) c.last_place-last.ensures.place in
+    record {
+      cleared =
+          subst (λ u. ClearsForNext c.args.self.now c.args.id u c.args.cache.now.store c.end_search.new.self.store) (sym unit)
+          (clears_closed c.args.self.now c.args.id c.unit_at-unit.result c.args.cache.now.store c.read.new.cache c.end_search.new.self c.end_search.ensures.value
+          (clears_moved c.args.self.now c.args.id c.unit_at-unit.result c.args.cache.now.store c.end_before_last.new.cache.store c.read.new.cache.store (ap (λ (v : CacheView). v.store) c.end_before_last.ensures.value) c.in_ok-next.ensures.effect.cleared));
+      ended =
+          subst (λ at. IsEndedBy at c.args.cache.now.store c.end_search.new.self.store) place
+          (ended_last d c.args.cache.now c.end_before_last.new.cache c.end_search.new.self c.span_offset-at.result c.end_before_last.ensures.value
+          (ended_after c.end_before_last.new.cache c.read.new.cache c.end_search.new.self c.span_offset-at.result c.in_ok-next.ensures.progress.moved c.end_search.ensures.value));
+      left = tt;
+    }
+
+pub returns-in_err-next-clause-refusal : goal.returns-in_err-next-clause-refusal
+returns-in_err-next-clause-refusal c =
+    let d : Direction = way_of c.args.way in
+    let k : ℕ = c.args.input.now.end - c.args.input.now.start in
+    let unit : next (tape_in d c.args.input.now) k ≡ c.unit_at-unit.result = sym (c.unit_at-unit.ensures ∙ ap (next (tape_in d c.args.input.now)) c.last_place-last.ensures.place) in
+    let quits : c.unit_offset.result ≡ unit_offset d c.args.input.now k = c.unit_offset.ensures ∙ ap (unit_offset d c.args.input.now) c.last_place-last.ensures.place in
+    let place : c.span_offset-at.result ≡ given_up_offset d c.args.input.now k = c.span_offset-at.ensures ∙ ap (given_up_offset d c.args.input.now) c.last_place-last.ensures.place in
+    if_err c.from_residual.result _ _ c.from_residual.ensures.1
+    (unit_refuses d c.args.self.now c.end_before_last.new.cache.store.table c.read.new.cache.store c.args.input.now k c.args.id c.unit_offset.result c.span_offset-at.result c.unit_at-unit.result c.args.found c.in_err-next.field-0.0
+    (subst (λ (t : Rows). IsAt d c.args.self.now t c.args.input.now k c.args.id c.args.found) (sym c.end_before_last.ensures.table) c.requires.at.at)
+    unit (sym quits) (sym place) c.in_err-next.ensures.refusal)
+
+pub returns-in_err-next-clause-effect : goal.returns-in_err-next-clause-effect
+returns-in_err-next-clause-effect c =
+    let d : Direction = way_of c.args.way in
+    let k : ℕ = c.args.input.now.end - c.args.input.now.start in
+    let unit : next (tape_in d c.args.input.now) k ≡ c.unit_at-unit.result = sym (c.unit_at-unit.ensures ∙ ap (next (tape_in d c.args.input.now)) c.last_place-last.ensures.place) in
+    let units : k ≡ length (tape_in d c.args.input.now).bytes = units_in d c.args.input.now c.requires.at.undone c.last_place-last.ensures.inside in
+    at_err c.from_residual.result _ (IsRestEffect d c.args.self.now c.args.input.now k c.args.cache.now c.read.new.cache) c.from_residual.ensures.1
+    (rest_refused d c.args.self.now c.args.input.now k c.args.id c.unit_at-unit.result c.args.found c.args.cache.now c.end_before_last.new.cache c.read.new.cache c.read.new.cache {s' = c.read.new.cache.store.searched} c.end_before_last.ensures.value refl c.requires.at unit c.in_err-next.field-0.0 c.in_err-next.ensures.effect (omega arith) (omega (arith, units)))
+
+pub returns-in_err-next-clause-alive : goal.returns-in_err-next-clause-alive
+returns-in_err-next-clause-alive c =
+    let d : Direction = way_of c.args.way in
+    let k : ℕ = c.args.input.now.end - c.args.input.now.start in
+    let unit : next (tape_in d c.args.input.now) k ≡ c.unit_at-unit.result = sym (c.unit_at-unit.ensures ∙ ap (next (tape_in d c.args.input.now)) c.last_place-last.ensures.place) in
+    stands_alive d c.args.self.now c.args.input.now k c.args.id c.unit_at-unit.result c.args.found c.args.cache.now c.end_before_last.new.cache c.read.new.cache c.read.new.cache {s' = c.read.new.cache.store.searched} c.end_before_last.ensures.value refl c.requires.at unit c.in_err-next.ensures.effect.alive
+
+pub returns-in_err-next-clause-progress : goal.returns-in_err-next-clause-progress
+returns-in_err-next-clause-progress c =
+    let d : Direction = way_of c.args.way in
+    let k : ℕ = c.args.input.now.end - c.args.input.now.start in
+    let unit : next (tape_in d c.args.input.now) k ≡ c.unit_at-unit.result = sym (c.unit_at-unit.ensures ∙ ap (next (tape_in d c.args.input.now)) c.last_place-last.ensures.place) in
+    let place : c.span_offset-at.result ≡ given_up_offset d c.args.input.now k = c.span_offset-at.ensures ∙ ap (given_up_offset d c.args.input.now) c.last_place-last.ensures.place in
+    at_err c.from_residual.result _ (IsEndProgress d c.args.self.now c.args.input.now c.args.id k c.args.cache.now.store c.read.new.cache.store) c.from_residual.ensures.1 (record {
+      cleared =
+          subst (λ u. ClearsForNext c.args.self.now c.args.id u c.args.cache.now.store c.read.new.cache.store) (sym unit)
+          (clears_moved c.args.self.now c.args.id c.unit_at-unit.result c.args.cache.now.store c.end_before_last.new.cache.store c.read.new.cache.store (ap (λ (v : CacheView). v.store) c.end_before_last.ensures.value) c.in_err-next.ensures.effect.cleared);
+      ended = tt;
+      left =
+          subst (λ at. IsLeftAtEnd d c.args.self.now (next (tape_in d c.args.input.now) k) at c.args.cache.now.store c.read.new.cache.store c.in_err-next.field-0.0) place
+          (subst (λ u. IsLeftAtEnd d c.args.self.now u c.span_offset-at.result c.args.cache.now.store c.read.new.cache.store c.in_err-next.field-0.0) (sym unit)
+          (left_last d c.args.self.now c.unit_at-unit.result c.args.cache.now c.end_before_last.new.cache c.read.new.cache c.span_offset-at.result c.end_before_last.ensures.value c.in_err-next.field-0.0 c.in_err-next.ensures.progress.left));
+    })

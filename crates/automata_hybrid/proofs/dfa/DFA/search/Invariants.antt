@@ -1,0 +1,31 @@
+use Rattle.std.proofs.Common.{false, ◌≡◌, ◌≤◌, ◌+◌, ◌-◌}
+use Rattle.automata_base.specs.Answers.{Tries, later}
+use Rattle.automata_hybrid.specs.Caches.{IsCacheOf}
+use Rattle.automata_hybrid.specs.Growing.{IsGrown, ClearedNothing}
+use Rattle.automata_hybrid.specs.Knowing.{Knows}
+use Rattle.automata_hybrid.specs.Searched.{HaveEnded}
+use Rattle.automata_hybrid.specs.Searches.{Finds, Skips}
+use Rattle.automata_hybrid.specs.Slots.{supports}
+use Rattle.automata_hybrid.specs.Walks.{way_of}
+use Rattle.automata_hybrid.proofs.Costing.{AreCounted}
+use Rattle.automata_hybrid.proofs.Directions.{skipped}
+use Rattle.automata_hybrid.proofs.Knowing.{LearnedSpans}
+use Rattle.automata_hybrid.proofs.dfa.DFA.search.Given as goal
+
+abbrev pub invariant-loop-later : goal.invariant-loop-later
+invariant-loop-later l = record {
+  of : IsCacheOf l.cache l.self;
+  few : l.later.end + 1 - l.later.start ≤ l.input.end + 1 - l.input.start;
+  same : l.later ≡ later (way_of l.way) (skipped l.input l.later) l.input;
+  first : supports l.self l.input.anchored ≡ false → skipped l.input l.later ≡ 0;
+  grown : IsGrown l.fn.cache l.cache;
+  known : Knows (way_of l.way) l.self l.fn.cache.store l.input → l.cache.count ≡ l.fn.cache.count;
+  learned : ClearedNothing l.fn.cache.store l.cache.store → LearnedSpans (way_of l.way) l.self l.cache.store l.input (skipped l.input l.later);
+  bounded : AreCounted (way_of l.way) l.self l.input (skipped l.input l.later) l.fn.cache l.cache;
+  done : skipped l.input l.later ≡ 0 → l.cache ≡ l.fn.cache;
+  progress : HaveEnded (way_of l.way) l.self l.input (skipped l.input l.later) l.fn.cache.store l.cache.store;
+  tries : Tries (Finds (way_of l.way) l.self) (Skips l.self) (way_of l.way) l.input (skipped l.input l.later);
+}
+
+abbrev pub decreases-loop-later : goal.decreases-loop-later
+decreases-loop-later l = l.later.end + 1 - l.later.start

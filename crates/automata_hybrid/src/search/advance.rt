@@ -1,0 +1,190 @@
+//! The bytes of a walk and the end, in either direction, and going on over them to the next state whose patterns match.
+ghost use Rattle.std.specs.Prelude.{ℕ, ◌≡◌, ◌-◌, ◌<◌, ◌≤◌, ◌⊎◌, IfOk, IfErr, OnOk, Some, []};
+ghost use Rattle.std.specs.Prelude.{true, false, suc, length};
+ghost use Rattle.automata_base.specs.Answers.{offset_in};
+ghost use Rattle.automata_base.specs.Classes.{is_quit};
+ghost use Rattle.automata_base.specs.Paths.{next};
+ghost use Rattle.automata_base.specs.Powerset.{Powerset};
+ghost use Rattle.automata_base.specs.Tapes.{is_split};
+ghost use Rattle.automata_hybrid.specs.Caches.{IsCacheOf};
+ghost use Rattle.automata_hybrid.specs.Passing.{IsFollowed};
+ghost use Rattle.automata_hybrid.specs.Resuming.{IsAdvanceEffect, IsUnitEffect, StandsBehind};
+ghost use Rattle.automata_hybrid.specs.Searches.{HasReadNoQuit, IsUnitRefusal, Skips, behind_offset};
+ghost use Rattle.automata_hybrid.specs.Searches.{state_in, tape_in, unit_offset};
+ghost use Rattle.automata_hybrid.specs.Starting.{IsStartAnswer, IsStartEffect, IsStartRefusedAt};
+ghost use Rattle.automata_hybrid.specs.Table.{IsValid, Leads, Names};
+ghost use Rattle.automata_hybrid.specs.Walking.{IsAdvanceRefusal, IsArrival, WalkReads};
+ghost use Rattle.automata_hybrid.specs.Walks.{way_of};
+
+use crate::dfa::DFA;
+use crate::dfa::cache::Cache;
+use crate::id::LazyStateID;
+use crate::search::direction::{Way, last_place, place_offset, span_offset, unit_at, unit_offset};
+use crate::search::follow::Stop;
+use automata_base::util::search::Input;
+use automata_config::error::SearchError;
+
+/// Where a walk has come to: a state whose patterns match, or none at its end; and how much it has read.
+#[derive(Clone, Copy)]
+pub(crate) struct Arrival {
+    pub(crate) id: Option<LazyStateID>,
+    pub(crate) units: usize,
+}
+
+impl DFA {
+    /// Offsets inside a character are skipped, or they are not.
+    pub(crate) fn see_skips(&self)
+        ensures { Skips self.now ⊎ (Skips self.now → ⊥) }
+    {
+        let nfa = self.get_nfa();
+        let _utf8 = nfa.is_utf8();
+        let _empty = nfa.has_empty();
+    }
+
+    /// The start state of a search in a direction.
+    #[inline(always)]
+    pub(crate) fn walk_start(
+        &self,
+        cache: &mut Cache,
+        input: &Input<'_>,
+        way: Way,
+    ) -> Result<LazyStateID, SearchError>
+        requires { IsCacheOf cache.old self.now }
+        ensures of { IsCacheOf cache.new self.now }
+        ensures answer { IfOk result (IsStartAnswer self.now input.now.anchored (tape_in (way_of way) input.now).before
+            cache.old cache.new) }
+        ensures refusal { IfErr result
+            (IsStartRefusedAt self.now input.now.anchored (tape_in (way_of way) input.now).before
+            (behind_offset (way_of way) input.now) (offset_in (way_of way) input.now 0) cache.old cache.new) }
+        ensures effect { IsStartEffect self.now input.now.anchored (tape_in (way_of way) input.now).before
+            cache.old cache.new }
+    {
+        match way {
+            Way::Forward => self.start_state_forward(cache, input),
+            Way::Backward => self.start_state_reverse(cache, input),
+        }
+    }
+
+    /// The state after what a walk reads at a place, to which the search moves.
+    fn read_unit(
+        &self,
+        cache: &mut Cache,
+        input: &Input<'_>,
+        way: Way,
+        id: LazyStateID,
+        place: usize,
+    ) -> Result<LazyStateID, SearchError>
+        requires of { IsCacheOf cache.old self.now }
+        requires at { StandsBehind (way_of way) self.now cache.old.store.table input.now place id }
+        ensures of { IsCacheOf cache.new self.now }
+        ensures leads { IfOk result (λ n. Leads cache.new.store.table n
+            (state_in (way_of way) self.now input.now (suc place))) }
+        ensures clean { OnOk result ((byte : ℕ) → next (tape_in (way_of way) input.now) place ≡ Some byte
+            → is_quit self.now.quits byte ≡ false) }
+        ensures reads { WalkReads (way_of way) self.now input.now place }
+        ensures refusal { IfErr result (IsUnitRefusal (way_of way) self.now cache.new.store input.now place) }
+        ensures effect { IsUnitEffect (way_of way) self.now input.now place cache.old cache.new result }
+    {
+        let _haystack = input.haystack();
+        let at = span_offset(input, way, place);
+        let quit_at = unit_offset(input, way, place);
+        self.read(cache, id, unit_at(input, way, place), quit_at, at)
+    }
+
+    /// Whether a state's patterns match at a place of a walk that is not skipped.
+    fn tells(
+        &self,
+        cache: &Cache,
+        input: &Input<'_>,
+        way: Way,
+        id: LazyStateID,
+        place: usize,
+    ) -> bool
+        requires of { IsCacheOf cache.now self.now }
+        requires open { input.now.start ≤ input.now.end }
+        requires within { place ≤ input.now.end - input.now.start }
+        requires valid { IsValid cache.now.store.table id }
+        ensures yes { result ≡ true
+            → (Skips self.now → is_split input.now.haystack (offset_in (way_of way) input.now place) ≡ false)
+            × ((q : Powerset) → Names cache.now.store.table id q → 0 < length q.patterns) }
+        ensures no { result ≡ false
+            → (Skips self.now × (is_split input.now.haystack (offset_in (way_of way) input.now place) ≡ true))
+            ⊎ ((q : Powerset) → Names cache.now.store.table id q → q.patterns ≡ []) }
+    {
+        cache.see_ids();
+        if !id.is_match() {
+            return false;
+        }
+        !self.skips_at(input, place_offset(input, way, place))
+    }
+
+    /// Follows cached transitions without a tag: each direction has its own loop.
+    fn follow_walk(
+        &self,
+        cache: &Cache,
+        input: &Input<'_>,
+        way: Way,
+        start: usize,
+        from: LazyStateID,
+    ) -> Stop
+        requires of { IsCacheOf cache.now self.now }
+        requires open { input.now.start ≤ input.now.end }
+        requires within { start ≤ input.now.end - input.now.start }
+        requires named { Names cache.now.store.table from (state_in (way_of way) self.now input.now start) }
+        ensures within { result.at ≤ input.now.end - input.now.start }
+        ensures followed { IsFollowed (way_of way) self.now cache.now.store input.now start result.at result.id }
+    {
+        match way {
+            Way::Forward => self.follow(cache, input, Way::Forward, start, from),
+            Way::Backward => self.follow(cache, input, Way::Backward, start, from),
+        }
+    }
+
+    /// Goes on with a walk from its state to the next one whose patterns match. The search stays open at the last byte
+    /// that is read.
+    pub(crate) fn advance(
+        &self,
+        cache: &mut Cache,
+        input: &Input<'_>,
+        way: Way,
+        from: LazyStateID,
+        units: usize,
+    ) -> Result<Arrival, SearchError>
+        requires of { IsCacheOf cache.old self.now }
+        requires from { StandsBehind (way_of way) self.now cache.old.store.table input.now units from }
+        requires clean { HasReadNoQuit (way_of way) self.now input.now units }
+        ensures of { IsCacheOf cache.new self.now }
+        ensures arrives { IfOk result (λ a. IsArrival (way_of way) self.now cache.new.store.table input.now units a.id
+            a.units) }
+        ensures refusal { IfErr result (IsAdvanceRefusal (way_of way) self.now cache.new.store input.now units) }
+        ensures effect { IsAdvanceEffect (way_of way) self.now input.now units cache.old cache.new result }
+    {
+        let _haystack = input.haystack();
+        let last = last_place(input);
+        let mut id = from;
+        let mut read = units;
+        while read <= last {
+            let stop = self.follow_walk(cache, input, way, read, id);
+            let next = self.read_unit(cache, input, way, stop.id, stop.at)?;
+            cache.see_ids();
+            if next.is_dead() {
+                return Ok(Arrival {
+                    id: None,
+                    units: stop.at + 1,
+                });
+            }
+            if self.tells(cache, input, way, next, stop.at) {
+                return Ok(Arrival {
+                    id: Some(next),
+                    units: stop.at + 1,
+                });
+            }
+            id = next;
+            read = stop.at + 1;
+        }
+        Ok(Arrival {
+            id: None,
+            units: read,
+        })
+    }
+}

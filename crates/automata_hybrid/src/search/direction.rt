@@ -1,0 +1,190 @@
+//! All in which the directions of a search differ. A place is counted from where the search begins; an offset is one of
+//! the haystack.
+ghost use Rattle.std.specs.Prelude.{ℕ, ◌≡◌, ◌+◌, ◌-◌, ◌<◌, ◌≤◌, Some, true, false, length};
+ghost use Rattle.automata_base.specs.Answers.{later, offset_in};
+ghost use Rattle.automata_base.specs.Paths.{next};
+ghost use Rattle.automata_hybrid.specs.Caches.{with_store};
+ghost use Rattle.automata_hybrid.specs.Searched.{KeepsNone, before_last};
+ghost use Rattle.automata_hybrid.specs.Searches.{given_up_offset, tape_in, unit_offset};
+ghost use Rattle.automata_hybrid.specs.Stores.{with_searched};
+ghost use Rattle.automata_hybrid.specs.SelfLoops.{byte_in};
+ghost use Rattle.automata_hybrid.specs.Walks.{way_of};
+
+use crate::dfa::cache::Cache;
+use automata_base::util::search::Input;
+
+/// The direction of a search.
+#[derive(Clone, Copy)]
+pub(crate) enum Way {
+    Forward,
+    Backward,
+}
+
+/// The last place of a search: behind the bytes of its span.
+#[inline(always)]
+pub(crate) fn last_place(input: &Input<'_>) -> usize
+    requires { input.now.start ≤ input.now.end }
+    ensures place { result ≡ input.now.end - input.now.start }
+    ensures inside { input.now.end ≤ length input.now.haystack }
+{
+    input.end() - input.start()
+}
+
+/// The offset of a place.
+#[inline(always)]
+pub(crate) fn place_offset(input: &Input<'_>, way: Way, place: usize) -> usize
+    requires open { input.now.start ≤ input.now.end }
+    requires within { place ≤ input.now.end - input.now.start }
+    ensures { result ≡ offset_in (way_of way) input.now place }
+{
+    let _haystack = input.haystack();
+    match way {
+        Way::Forward => input.start() + place,
+        Way::Backward => input.end() - place,
+    }
+}
+
+/// The offset of the byte at a place before the last one.
+#[inline(always)]
+pub(crate) fn byte_offset(input: &Input<'_>, way: Way, place: usize) -> usize
+    requires { place < input.now.end - input.now.start }
+    ensures unit { result ≡ unit_offset (way_of way) input.now place }
+    ensures from { input.now.start ≤ result }
+    ensures within { result < input.now.end }
+{
+    let _haystack = input.haystack();
+    match way {
+        Way::Forward => input.start() + place,
+        Way::Backward => input.end() - 1 - place,
+    }
+}
+
+/// The byte at a place before the last one.
+#[inline(always)]
+pub(crate) fn byte_at(input: &Input<'_>, way: Way, place: usize) -> u8
+    requires { place < input.now.end - input.now.start }
+    ensures { next (tape_in (way_of way) input.now) place ≡ Some result }
+{
+    let haystack = input.haystack();
+    haystack[byte_offset(input, way, place)]
+}
+
+/// The bytes of the span from a place on, which are read from the front or from the back.
+#[inline(always)]
+pub(crate) fn bytes_from<'h>(input: &Input<'h>, way: Way, place: usize) -> &'h [u8]
+    requires open { input.now.start ≤ input.now.end }
+    requires within { place ≤ input.now.end - input.now.start }
+    ensures long { length result.now ≡ input.now.end - input.now.start - place }
+    ensures units { (k : ℕ) → k < length result.now
+        → next (tape_in (way_of way) input.now) (place + k) ≡ Some (byte_in (way_of way) result.now k) }
+{
+    let haystack = input.haystack();
+    match way {
+        Way::Forward => &haystack[input.start() + place..input.end()],
+        Way::Backward => &haystack[input.start()..input.end() - place],
+    }
+}
+
+/// What is read at a place: a byte of the span or the one behind it, or none after the haystack.
+#[inline(always)]
+pub(crate) fn unit_at(input: &Input<'_>, way: Way, place: usize) -> Option<u8>
+    requires open { input.now.start ≤ input.now.end }
+    requires within { place ≤ input.now.end - input.now.start }
+    ensures { result ≡ next (tape_in (way_of way) input.now) place }
+{
+    let haystack = input.haystack();
+    let at = place_offset(input, way, place);
+    match way {
+        Way::Forward => {
+            if at < haystack.len() {
+                Some(haystack[at])
+            } else {
+                None
+            }
+        }
+        Way::Backward => {
+            if at == 0 {
+                None
+            } else {
+                Some(haystack[at - 1])
+            }
+        }
+    }
+}
+
+/// The offset of the byte at a place.
+#[inline(always)]
+pub(crate) fn unit_offset(input: &Input<'_>, way: Way, place: usize) -> usize
+    requires open { input.now.start ≤ input.now.end }
+    requires within { place ≤ input.now.end - input.now.start }
+    ensures { result ≡ unit_offset (way_of way) input.now place }
+{
+    let at = place_offset(input, way, place);
+    match way {
+        Way::Forward => at,
+        Way::Backward => at.saturating_sub(1),
+    }
+}
+
+/// The same, or where that is before the span, the span's start.
+#[inline(always)]
+pub(crate) fn span_offset(input: &Input<'_>, way: Way, place: usize) -> usize
+    requires open { input.now.start ≤ input.now.end }
+    requires within { place ≤ input.now.end - input.now.start }
+    ensures { result ≡ given_up_offset (way_of way) input.now place }
+{
+    let at = place_offset(input, way, place);
+    match way {
+        Way::Forward => at,
+        Way::Backward => at.saturating_sub(1).max(input.start()),
+    }
+}
+
+/// Whether a run over the span keeps no progress: one back over an empty span.
+#[inline(always)]
+pub(crate) fn keeps_none(input: &Input<'_>, way: Way) -> bool
+    ensures yes { result ≡ true → KeepsNone (way_of way) input.now }
+    ensures no { result ≡ false → KeepsNone (way_of way) input.now → ⊥ }
+{
+    match way {
+        Way::Forward => false,
+        Way::Backward => input.start() == input.end(),
+    }
+}
+
+/// A run back has ended before it reads the byte behind its span.
+#[inline(always)]
+pub(crate) fn end_before_last(cache: &mut Cache, way: Way, at: usize)
+    ensures value { cache.new ≡ with_store cache.old (with_searched cache.old.store
+        (before_last (way_of way) cache.old.store.searched at)) }
+    ensures table { cache.new.store.table ≡ cache.old.store.table }
+{
+    match way {
+        Way::Forward => {}
+        Way::Backward => cache.end_search(at),
+    }
+}
+
+/// Has a search begin one place later, unless no offset is left.
+#[inline(always)]
+pub(crate) fn begin_later(input: &mut Input<'_>, way: Way) -> bool
+    requires { input.old.start ≤ input.old.end }
+    ensures later { result ≡ true → input.new ≡ later (way_of way) 1 input.old }
+    ensures shorter { result ≡ true → input.new.end + 2 - input.new.start ≡ input.old.end + 1 - input.old.start }
+    ensures over { result ≡ false → input.old.end < input.old.start + 1 }
+{
+    let _haystack = input.haystack();
+    match way {
+        Way::Forward => {
+            input.set_start(input.start() + 1);
+            true
+        }
+        Way::Backward => {
+            if input.end() == 0 {
+                return false;
+            }
+            input.set_end(input.end() - 1);
+            true
+        }
+    }
+}

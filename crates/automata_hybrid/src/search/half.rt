@@ -1,0 +1,163 @@
+//! Searches for one end of a match: one span after another, as long as offsets inside a character are skipped.
+ghost use Rattle.std.specs.Prelude.{◌≡◌, ◌<◌, IfOk, IfErr, IfSome};
+ghost use Rattle.std.specs.Prelude.{None, Err, Ok};
+ghost use Rattle.automata_base.specs.Tapes.{Forward, Backward};
+ghost use Rattle.automata_hybrid.specs.Caches.{IsCacheOf};
+ghost use Rattle.automata_hybrid.specs.Costs.{IsCostUpto};
+ghost use Rattle.automata_hybrid.specs.Owing.{IsBased, IsHalf, IsSearchEffect, IsUnsupported, based_half, halves};
+ghost use Rattle.automata_hybrid.specs.Owing.{unsupported_error};
+ghost use Rattle.automata_hybrid.specs.Searches.{IsFound, IsRefused};
+ghost use Rattle.automata_hybrid.specs.Walks.{way_of};
+
+use crate::dfa::DFA;
+use crate::dfa::cache::Cache;
+use crate::search::direction::{Way, begin_later};
+use crate::search::{is_anchored, with_span};
+use automata_base::laws::told_is_right;
+use automata_base::util::search::{HalfMatch, Input};
+use automata_config::error::SearchError;
+
+/// What a search found, without where its span began.
+fn without_base(
+    found: Result<Option<(HalfMatch, usize)>, SearchError>,
+) -> Result<Option<HalfMatch>, SearchError>
+    ensures { result ≡ halves found }
+{
+    match found {
+        Ok(Some((half, _))) => Ok(Some(half)),
+        Ok(None) => Ok(None),
+        Err(error) => Err(error),
+    }
+}
+
+impl DFA {
+    /// The pattern and the end of the first match, by the DFA's match kind; with an earliest input, of the match that
+    /// ends first.
+    ///
+    /// ```rust
+    /// let input = Input::new(line).earliest(true);
+    /// let found = self.dfa.try_search_fwd(&mut self.cache, &input)?;
+    /// Ok(found.is_some())
+    /// ```
+    ///
+    /// The error of a quit byte has the byte's offset; the "gave up" error has the offset of the byte that was to be
+    /// read, or the span's start. After an error the cache serves other searches as before.
+    ///
+    /// It takes time linear in the span. Only where empty matches inside a UTF-8 encoded character are skipped it can
+    /// take the square of it, since each such match is skipped by a search from one offset later.
+    pub fn try_search_fwd(
+        &self,
+        cache: &mut Cache,
+        input: &Input<'_>,
+    ) -> Result<Option<HalfMatch>, SearchError>
+        requires { IsCacheOf cache.old self.now }
+        ensures of { IsCacheOf cache.new self.now }
+
+        // What it returns, whatever the cache; and why it fails.
+        ensures half { IsHalf Forward self.now input.now result }
+        ensures refusal { IfErr result (IsRefused Forward self.now cache.new.store input.now) }
+
+        // What it does to the cache.
+        ensures effect { IsSearchEffect Forward self.now input.now cache.old cache.new result }
+    {
+        match self.try_search_fwd_base(cache, input)? {
+            Some((half, _)) => Ok(Some(half)),
+            None => Ok(None),
+        }
+    }
+
+    /// What `try_search_fwd` returns, and where the span that gave it began: an end inside a UTF-8 encoded character is
+    /// skipped by searching again from one offset later.
+    pub fn try_search_fwd_base(
+        &self,
+        cache: &mut Cache,
+        input: &Input<'_>,
+    ) -> Result<Option<(HalfMatch, usize)>, SearchError>
+        requires { IsCacheOf cache.old self.now }
+        ensures of { IsCacheOf cache.new self.now }
+
+        // What it returns, whatever the cache; and why it fails.
+        ensures based { IsBased self.now input.now result }
+        ensures refusal { IfErr result (IsRefused Forward self.now cache.new.store input.now) }
+
+        // What it does to the cache; with an answer it makes no pass after the one over the span that gave it.
+        ensures effect { IsSearchEffect Forward self.now input.now cache.old cache.new result }
+        ensures upto { IfOk result (λ o. IfSome o (λ p. IsCostUpto self.now input.now p.1 cache.old cache.new)) }
+    {
+        told_is_right(self.get_nfa());
+        let _haystack = input.haystack();
+        let found = self.search(cache, input, Way::Forward);
+        cache.see_bounds();
+        found
+    }
+
+    /// The pattern and the start of the match that a search from the span's end to its start finds: of the longest one
+    /// that ends there under `MatchKind::All`, and with an earliest input of the shortest one.
+    ///
+    /// The DFA has to be of a reversed NFA. A start inside a UTF-8 encoded character is skipped by searching again from
+    /// one offset before.
+    ///
+    /// The error of a quit byte has the byte's offset; the "gave up" error has the offset of the byte that was to be
+    /// read, or the span's end or start. After an error the cache serves other searches as before.
+    ///
+    /// It takes time linear in the span. Only where empty matches inside a UTF-8 encoded character are skipped it can
+    /// take the square of it, as `try_search_fwd`.
+    pub fn try_search_rev(
+        &self,
+        cache: &mut Cache,
+        input: &Input<'_>,
+    ) -> Result<Option<HalfMatch>, SearchError>
+        requires { IsCacheOf cache.old self.now }
+        ensures of { IsCacheOf cache.new self.now }
+
+        // What it returns, whatever the cache; and why it fails.
+        ensures half { IsHalf Backward self.now input.now result }
+        ensures refusal { IfErr result (IsRefused Backward self.now cache.new.store input.now) }
+
+        // What it does to the cache.
+        ensures effect { IsSearchEffect Backward self.now input.now cache.old cache.new result }
+    {
+        told_is_right(self.get_nfa());
+        let _haystack = input.haystack();
+        let found = self.search(cache, input, Way::Backward);
+        cache.see_bounds();
+        without_base(found)
+    }
+
+    /// Tries one span after another: what was found, and the start of the span that gave it.
+    #[inline(always)]
+    fn search(
+        &self,
+        cache: &mut Cache,
+        input: &Input<'_>,
+        way: Way,
+    ) -> Result<Option<(HalfMatch, usize)>, SearchError>
+        requires { IsCacheOf cache.old self.now }
+        ensures of { IsCacheOf cache.new self.now }
+        ensures found { IfOk result (λ o. IsFound (way_of way) self.now input.now (based_half o)) }
+        ensures refusal { IfErr result (IsRefused (way_of way) self.now cache.new.store input.now) }
+        ensures effect { IsSearchEffect (way_of way) self.now input.now cache.old cache.new result }
+        ensures upto { way_of way ≡ Forward
+            → IfOk result (λ o. IfSome o (λ p. IsCostUpto self.now input.now p.1 cache.old cache.new)) }
+        ensures unsupported { IsUnsupported (way_of way) self.now input.now
+            → result ≡ Err (unsupported_error input.now) }
+        ensures done { input.now.end < input.now.start → result ≡ Ok None }
+    {
+        let mut later = with_span(input, input.start(), input.end());
+        while !later.is_done() {
+            let Some(half) = self.pass(cache, &later, way)? else {
+                return Ok(None);
+            };
+            if !self.skips_at(&later, half.offset()) {
+                return Ok(Some((half, later.start())));
+            }
+            if is_anchored(later.get_anchored()) {
+                return Ok(None);
+            }
+            if !begin_later(&mut later, way) {
+                return Ok(None);
+            }
+        }
+        Ok(None)
+    }
+}

@@ -1,0 +1,303 @@
+//! One run over the span of an input, in either direction.
+ghost use Rattle.std.specs.Prelude.{◌≡◌, ◌-◌, ◌≤◌, IfOk, IfErr, OnOk, Option};
+ghost use Rattle.std.specs.Prelude.{None, Err};
+ghost use Rattle.automata_base.specs.Matches as matches;
+ghost use Rattle.automata_base.specs.Paths.{next};
+ghost use Rattle.automata_base.specs.Powerset.{Powerset, dead};
+ghost use Rattle.automata_hybrid.specs.Caches.{IsCacheOf};
+ghost use Rattle.automata_hybrid.specs.Growing.{KeepsProgress};
+ghost use Rattle.automata_hybrid.specs.Owing.{IsUnsupported, unsupported_error};
+ghost use Rattle.automata_hybrid.specs.Passed.{IsPassAnswer, IsPassEffect, IsRestEffect, IsUnderway};
+ghost use Rattle.automata_hybrid.specs.Passing.{HasLearned, IsAt};
+ghost use Rattle.automata_hybrid.specs.Progressing.{started};
+ghost use Rattle.automata_hybrid.specs.Reading.{IsEndProgress};
+ghost use Rattle.automata_hybrid.specs.Searched.{EndsAtLast, IsStoppedAt, KeepsNone};
+ghost use Rattle.automata_hybrid.specs.declared.dfa.progress.Searched.{Searched};
+ghost use Rattle.automata_hybrid.specs.Searches.{given_up_offset, IsPassRefusal, IsUnitRefusal};
+ghost use Rattle.automata_hybrid.specs.Table.{Names};
+ghost use Rattle.automata_hybrid.specs.Walks.{way_of};
+
+use crate::dfa::DFA;
+use crate::dfa::cache::Cache;
+use crate::id::LazyStateID;
+use crate::search::direction::{
+    Way, byte_at, byte_offset, end_before_last, keeps_none, last_place, place_offset, span_offset,
+    unit_at, unit_offset,
+};
+use automata_base::util::search::{HalfMatch, Input};
+use automata_config::error::SearchError;
+
+/// Where a run is: its place, the ID of its state there, and what it found last.
+#[derive(Clone, Copy)]
+struct Place {
+    at: usize,
+    id: LazyStateID,
+    found: Option<HalfMatch>,
+}
+
+impl DFA {
+    /// One run over the span, which isn't done.
+    #[inline(always)]
+    pub(super) fn pass(
+        &self,
+        cache: &mut Cache,
+        input: &Input<'_>,
+        way: Way,
+    ) -> Result<Option<HalfMatch>, SearchError>
+        requires of { IsCacheOf cache.old self.now }
+        requires open { input.now.start ≤ input.now.end }
+        ensures of { IsCacheOf cache.new self.now }
+        ensures answer { IfOk result (IsPassAnswer (way_of way) self.now input.now) }
+        ensures refusal { IfErr result (IsPassRefusal (way_of way) self.now cache.new.store input.now) }
+        ensures unsupported { IsUnsupported (way_of way) self.now input.now
+            → result ≡ Err (unsupported_error input.now) }
+        ensures effect { IsPassEffect (way_of way) self.now input.now cache.old cache.new result }
+    {
+        cache.see_slots();
+        let start = self.walk_start(cache, input, way)?;
+        cache.see_ids();
+        if keeps_none(input, way) {
+            if start.is_dead() {
+                return Ok(None);
+            }
+            return self.find_still(cache, input, way, start);
+        }
+        let first = span_offset(input, way, 0);
+        cache.search_start(first);
+        if start.is_dead() {
+            cache.end_search(first);
+            return Ok(None);
+        }
+        let found = self.find_in(cache, input, way, start)?;
+        Ok(found)
+    }
+
+    /// Follows known transitions as far as they tell nothing, and then into states that have patterns: the last of
+    /// these is asked for its pattern. An earliest search follows the first ones alone.
+    #[inline(always)]
+    fn run(
+        &self,
+        cache: &Cache,
+        input: &Input<'_>,
+        way: Way,
+        start: usize,
+        from: LazyStateID,
+        found: Option<HalfMatch>,
+    ) -> Place
+        requires of { IsCacheOf cache.now self.now }
+        requires open { input.now.start ≤ input.now.end }
+        requires within { start ≤ input.now.end - input.now.start }
+        requires at { IsAt (way_of way) self.now cache.now.store.table input.now start from found }
+        ensures from { start ≤ result.at }
+        ensures within { result.at ≤ input.now.end - input.now.start }
+        ensures at { IsAt (way_of way) self.now cache.now.store.table input.now result.at result.id result.found }
+        ensures learned { HasLearned (way_of way) self.now cache.now.store input.now start
+            → HasLearned (way_of way) self.now cache.now.store input.now result.at }
+    {
+        let quiet = self.follow(cache, input, way, start, from);
+        if input.get_earliest() {
+            return Place {
+                at: quiet.at,
+                id: quiet.id,
+                found,
+            };
+        }
+        let stop = self.follow_matches(cache, input, way, quiet.at, quiet.id);
+        if stop.at == quiet.at {
+            return Place {
+                at: quiet.at,
+                id: quiet.id,
+                found,
+            };
+        }
+        cache.see_ids();
+        let offset = place_offset(input, way, stop.at - 1);
+        Place {
+            at: stop.at,
+            id: stop.id,
+            found: self.found_at(cache, stop.id, offset, found),
+        }
+    }
+
+    /// Runs over the span from its start state, and takes the last step.
+    #[inline(always)]
+    fn find(
+        &self,
+        cache: &mut Cache,
+        input: &Input<'_>,
+        way: Way,
+        start: LazyStateID,
+    ) -> Result<Option<HalfMatch>, SearchError>
+        requires of { IsCacheOf cache.old self.now }
+        requires at { IsUnderway (way_of way) self.now cache.old.store.table input.now 0 start None }
+        ensures of { IsCacheOf cache.new self.now }
+        ensures answer { IfOk result (IsPassAnswer (way_of way) self.now input.now) }
+        ensures refusal { IfErr result (IsPassRefusal (way_of way) self.now cache.new.store input.now) }
+        ensures effect { IsRestEffect (way_of way) self.now input.now 0 cache.old cache.new result }
+        ensures ended { (before : Searched)
+            → cache.old.store.searched ≡ started before (given_up_offset (way_of way) input.now 0)
+            → OnOk result (EndsAtLast (way_of way) self.now input.now before cache.old.store cache.new.store) }
+        ensures left { (before : Searched)
+            → cache.old.store.searched ≡ started before (given_up_offset (way_of way) input.now 0)
+            → IfErr result (IsStoppedAt (way_of way) self.now input.now before cache.old.store cache.new.store) }
+    {
+        let last = last_place(input);
+        let mut at = 0;
+        let mut id = start;
+        let mut found = None;
+        while at < last {
+            let run = self.run(cache, input, way, at, id, found);
+            if run.at >= last {
+                return self.find_end(cache, input, way, run.id, run.found);
+            }
+            let offset = byte_offset(input, way, run.at);
+            let byte = byte_at(input, way, run.at);
+            let next = self.read(cache, run.id, Some(byte), offset, offset)?;
+            cache.see_ids();
+            if next.is_dead() {
+                cache.end_search(offset);
+                return Ok(run.found);
+            }
+            found = self.found_at(cache, next, place_offset(input, way, run.at), run.found);
+            if input.get_earliest() && found.is_some() {
+                cache.end_search(offset);
+                return Ok(found);
+            }
+            id = next;
+            at = run.at + 1;
+        }
+        self.find_end(cache, input, way, id, found)
+    }
+
+    /// The same, with a loop for each direction.
+    #[inline(always)]
+    fn find_in(
+        &self,
+        cache: &mut Cache,
+        input: &Input<'_>,
+        way: Way,
+        start: LazyStateID,
+    ) -> Result<Option<HalfMatch>, SearchError>
+        requires of { IsCacheOf cache.old self.now }
+        requires at { IsUnderway (way_of way) self.now cache.old.store.table input.now 0 start None }
+        ensures of { IsCacheOf cache.new self.now }
+        ensures answer { IfOk result (IsPassAnswer (way_of way) self.now input.now) }
+        ensures refusal { IfErr result (IsPassRefusal (way_of way) self.now cache.new.store input.now) }
+        ensures effect { IsRestEffect (way_of way) self.now input.now 0 cache.old cache.new result }
+        ensures ended { (before : Searched)
+            → cache.old.store.searched ≡ started before (given_up_offset (way_of way) input.now 0)
+            → OnOk result (EndsAtLast (way_of way) self.now input.now before cache.old.store cache.new.store) }
+        ensures left { (before : Searched)
+            → cache.old.store.searched ≡ started before (given_up_offset (way_of way) input.now 0)
+            → IfErr result (IsStoppedAt (way_of way) self.now input.now before cache.old.store
+            cache.new.store) }
+    {
+        match way {
+            Way::Forward => self.find_fwd(cache, input, start),
+            Way::Backward => self.find_rev(cache, input, start),
+        }
+    }
+
+    fn find_fwd(
+        &self,
+        cache: &mut Cache,
+        input: &Input<'_>,
+        start: LazyStateID,
+    ) -> Result<Option<HalfMatch>, SearchError>
+        requires of { IsCacheOf cache.old self.now }
+        requires at { IsUnderway (way_of Way.Forward) self.now cache.old.store.table input.now 0 start None }
+        ensures of { IsCacheOf cache.new self.now }
+        ensures answer { IfOk result (IsPassAnswer (way_of Way.Forward) self.now input.now) }
+        ensures refusal { IfErr result (IsPassRefusal (way_of Way.Forward) self.now cache.new.store input.now) }
+        ensures effect { IsRestEffect (way_of Way.Forward) self.now input.now 0 cache.old cache.new result }
+        ensures ended { (before : Searched)
+            → cache.old.store.searched ≡ started before (given_up_offset (way_of Way.Forward) input.now 0)
+            → OnOk result (EndsAtLast (way_of Way.Forward) self.now input.now before cache.old.store cache.new.store) }
+        ensures left { (before : Searched)
+            → cache.old.store.searched ≡ started before (given_up_offset (way_of Way.Forward) input.now 0)
+            → IfErr result (IsStoppedAt (way_of Way.Forward) self.now input.now before cache.old.store
+            cache.new.store) }
+    {
+        self.find(cache, input, Way::Forward, start)
+    }
+
+    fn find_rev(
+        &self,
+        cache: &mut Cache,
+        input: &Input<'_>,
+        start: LazyStateID,
+    ) -> Result<Option<HalfMatch>, SearchError>
+        requires of { IsCacheOf cache.old self.now }
+        requires at { IsUnderway (way_of Way.Backward) self.now cache.old.store.table input.now 0 start None }
+        ensures of { IsCacheOf cache.new self.now }
+        ensures answer { IfOk result (IsPassAnswer (way_of Way.Backward) self.now input.now) }
+        ensures refusal { IfErr result (IsPassRefusal (way_of Way.Backward) self.now cache.new.store input.now) }
+        ensures effect { IsRestEffect (way_of Way.Backward) self.now input.now 0 cache.old cache.new result }
+        ensures ended { (before : Searched)
+            → cache.old.store.searched ≡ started before (given_up_offset (way_of Way.Backward) input.now 0)
+            → OnOk result (EndsAtLast (way_of Way.Backward) self.now input.now before cache.old.store cache.new.store) }
+        ensures left { (before : Searched)
+            → cache.old.store.searched ≡ started before (given_up_offset (way_of Way.Backward) input.now 0)
+            → IfErr result (IsStoppedAt (way_of Way.Backward) self.now input.now before cache.old.store
+            cache.new.store) }
+    {
+        self.find(cache, input, Way::Backward, start)
+    }
+
+    /// The step at the last place: on the byte behind the span, or on the haystack's end.
+    #[inline(always)]
+    fn find_end(
+        &self,
+        cache: &mut Cache,
+        input: &Input<'_>,
+        way: Way,
+        id: LazyStateID,
+        found: Option<HalfMatch>,
+    ) -> Result<Option<HalfMatch>, SearchError>
+        requires of { IsCacheOf cache.old self.now }
+        requires at { IsUnderway (way_of way) self.now cache.old.store.table input.now (input.now.end - input.now.start)
+            id found }
+        ensures of { IsCacheOf cache.new self.now }
+        ensures answer { IfOk result (IsPassAnswer (way_of way) self.now input.now) }
+        ensures refusal { IfErr result
+            (IsUnitRefusal (way_of way) self.now cache.new.store input.now (input.now.end - input.now.start)) }
+        ensures effect { IsRestEffect (way_of way) self.now input.now (input.now.end - input.now.start)
+            cache.old cache.new result }
+        ensures alive { (q : Powerset) → Names cache.old.store.table id q → q ≡ dead → ⊥ }
+        ensures progress { IsEndProgress (way_of way) self.now input.now id (input.now.end - input.now.start)
+            cache.old.store cache.new.store result }
+    {
+        let last = last_place(input);
+        let at = span_offset(input, way, last);
+        end_before_last(cache, way, at);
+        let unit = unit_at(input, way, last);
+        let next = self.read(cache, id, unit, unit_offset(input, way, last), at)?;
+        cache.end_search(at);
+        Ok(self.found_at(cache, next, place_offset(input, way, last), found))
+    }
+
+    /// The same over an empty span of which no progress is kept.
+    fn find_still(
+        &self,
+        cache: &mut Cache,
+        input: &Input<'_>,
+        way: Way,
+        id: LazyStateID,
+    ) -> Result<Option<HalfMatch>, SearchError>
+        requires of { IsCacheOf cache.old self.now }
+        requires none { KeepsNone (way_of way) input.now }
+        requires at { IsUnderway (way_of way) self.now cache.old.store.table input.now 0 id None }
+        ensures of { IsCacheOf cache.new self.now }
+        ensures answer { IfOk result (IsPassAnswer (way_of way) self.now input.now) }
+        ensures refusal { IfErr result (IsUnitRefusal (way_of way) self.now cache.new.store input.now 0) }
+        ensures effect { IsRestEffect (way_of way) self.now input.now 0 cache.old cache.new result }
+        ensures alive { (q : Powerset) → Names cache.old.store.table id q → q ≡ dead → ⊥ }
+        ensures progress { KeepsProgress cache.old.store cache.new.store }
+    {
+        let _haystack = input.haystack();
+        let at = span_offset(input, way, 0);
+        let unit = unit_at(input, way, 0);
+        let next = self.read_still(cache, id, unit, unit_offset(input, way, 0), at)?;
+        Ok(self.found_at(cache, next, place_offset(input, way, 0), None))
+    }
+}
