@@ -1,6 +1,6 @@
 -- What the tokens of a span are, by the answers that its searches owe, and how they tile it.
 use Rattle.std.proofs.Common.{ℕ, ◌≡◌, ◌∙◌, ◌<◌, ◌≤◌, ◌+◌, ◌-◌, ◌⊎◌, inl, inr, Bool, true, false, List, [], ◌∷◌, ◌++◌, length, take, drop, append_assoc, Option, Some, None, refl, sym, ap, subst, arith}
-use Rattle.std.specs.Prelude.{Result, Ok, Err, IfSome, nat_lt, if◌then◌else◌, slice_range}
+use Rattle.std.specs.Prelude.{Result, Ok, Err, IfErr, IfSome, nat_lt, if◌then◌else◌, slice_range}
 use Rattle.std.proofs.Math.Seq.{take-add}
 use Rattle.std.proofs.lemmas.Bool.{ltb-true, ltb-false}
 use Rattle.std.proofs.lemmas.List.{drop-drop}
@@ -10,13 +10,15 @@ use Rattle.automata_base.specs.Tapes.{Forward}
 use Rattle.automata_config.specs.declared.error.SearchError.{SearchError}
 use Rattle.automata_hybrid.specs.Machine.{Machine}
 use Rattle.automata_hybrid.specs.Owing.{IsHalf, IsUnhindered}
+use Rattle.automata_hybrid.specs.Searches.{IsRefused}
+use Rattle.automata_hybrid.specs.Stores.{Stored}
 use Rattle.automata_hybrid.specs.Within.{LiesIn}
-use Rattle.regex_automata.specs.Tokens.{AreFoundBy, AreGiven, IsBeginningOf, IsItemAt, IsNoTokenOrMemory, IsTokenAt, asked, match_bytes, item_of, joined, match_of}
+use Rattle.regex_automata.specs.Tokens.{AreFoundBy, AreGiven, IsBeginningOf, IsGivenAt, IsItemAt, IsNoTokenOrMemory, IsTokenAt, asked, match_bytes, item_of, joined, match_of}
 use Rattle.regex_automata.specs.declared.tokens.error.TokenError.{TokenError}
 use Rattle.regex_automata.specs.declared.tokens.error.TokenError.TheVariants.{NoToken, Search}
 use Rattle.regex_automata.specs.declared.tokens.token.Token.{Token}
 use Rattle.regex_automata.proofs.Results.{err_ok, ok_err, same_err, same_ok}
-use Rattle.regex_automata.proofs.Tokenising.{no_search, same_search}
+use Rattle.regex_automata.proofs.Tokenising.{answer_is_no_refusal, no_search, same_search}
 
 same_place : (a b : ℕ) → NoToken a ≡ NoToken b → a ≡ b
 same_place a b h = cc
@@ -86,6 +88,21 @@ module _ (m : Machine) (h : List ℕ) (end : ℕ) (few : end ≤ length h) where
     )
   no_token_is place at (ahead, (Ok None, owed, is)) = (same_place at place (same_err is), ahead, inl owed)
   no_token_is place at (ahead, (Err e, owed, is)) = absurd (no_search at e (same_err is))
+
+  -- what an answer makes that is no token is the error that is given
+  pub error_is_given :
+      (c : Stored) (place : ℕ) (answer : Result (Option HalfMatch) SearchError) (e : TokenError) → place < end
+      → Owes place answer → IfErr answer (IsRefused Forward m c (asked h end place))
+      → ◌≡◌ {A = Result Match TokenError} (Err e) (item_of place answer) → IsGivenAt m c h end place (Err e)
+  error_is_given c place answer (NoToken at) ahead owed refused is =
+      let item : IsItemAt m h end place (Err (NoToken at)) = (ahead, (answer, owed, is)) in
+      let none = no_token_is place at item in
+      (item, (none.0, record { within = none.1; none = none.2 }))
+  error_is_given c place (Ok o) (Search e) ahead owed refused is = absurd (answer_is_no_refusal place o e is)
+  error_is_given c place (Err d) (Search e) ahead owed refused is = (
+    (ahead, (Err d, owed, is)),
+    subst (IsRefused Forward m c (asked h end place)) (sym (same_search e d (same_err is))) refused,
+  )
 
   -- and a refusal is the search's own
   refused_is : (place : ℕ) (e : SearchError) → IsItemAt m h end place (Err (Search e)) → Owes place (Err e)

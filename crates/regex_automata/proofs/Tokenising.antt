@@ -1,5 +1,5 @@
 -- Why no token comes.
-use Rattle.std.proofs.Common.{ℕ, ◌≡◌, ◌<◌, Bool, true, false, List, Option, Some, None, sym, subst}
+use Rattle.std.proofs.Common.{ℕ, ◌≡◌, Bool, true, false, List, Option, Some, None, sym, subst}
 use Rattle.std.specs.Prelude.{Result, Ok, Err, IfErr, OnOk, if◌then◌else◌, nat_lt}
 use Rattle.automata_base.specs.Matches.{HalfMatch, Match}
 use Rattle.automata_base.specs.Tapes.{Forward}
@@ -7,10 +7,8 @@ use Rattle.automata_config.specs.declared.error.SearchError.{SearchError}
 use Rattle.automata_hybrid.specs.Stores.{Stored}
 use Rattle.automata_hybrid.specs.Knowing.{IsOfInput, Knows}
 use Rattle.automata_hybrid.specs.Machine.{Machine}
-use Rattle.automata_hybrid.specs.Owing.{IsHalf}
 use Rattle.automata_hybrid.specs.Searched.{EndsProgress, LeavesProgress}
-use Rattle.automata_hybrid.specs.Searches.{IsRefused}
-use Rattle.regex_automata.specs.Tokens.{HasLearnedAt, IsGivenAt, IsTokenOfInput, LeavesAt, asked, item_of}
+use Rattle.regex_automata.specs.Tokens.{HasLearnedAt, IsTokenOfInput, LeavesAt, asked, item_of}
 use Rattle.regex_automata.specs.declared.tokens.error.TokenError.{TokenError}
 use Rattle.regex_automata.specs.declared.tokens.error.TokenError.TheVariants.{NoToken, Search}
 use Rattle.regex_automata.specs.declared.tokens.token.Token.{Token}
@@ -22,7 +20,7 @@ no_search at e h = cc
 pub same_search : (d e : SearchError) → Search d ≡ Search e → d ≡ e
 same_search d e h = cc
 
-answer_is_no_refusal :
+pub answer_is_no_refusal :
     (place : ℕ) (o : Option HalfMatch) (e : SearchError)
     → ◌≡◌ {A = Result Match TokenError} (Err (Search e)) (item_of place (Ok o)) → ⊥
 answer_is_no_refusal place None e is = no_search place e (sym (same_err is))
@@ -30,21 +28,6 @@ answer_is_no_refusal place (Some half) e is = go (nat_lt place half.offset) is w
   go : (past : Bool) → ◌≡◌ {A = Result Match TokenError} (Err (Search e)) (if past then Ok (record { pattern = half.pattern; start = place; end = half.offset }) else Err (NoToken place)) → ⊥
   go true h = absurd (err_ok h)
   go false h = no_search place e (sym (same_err h))
-
--- what an answer makes that is no token is the error that is given
-pub error_is_given :
-    (m : Machine) (c : Stored) (h : List ℕ) (end place : ℕ) (answer : Result (Option HalfMatch) SearchError) (e : TokenError)
-    → place < end → IsHalf Forward m (asked h end place) answer
-    → IfErr answer (IsRefused Forward m c (asked h end place))
-    → ◌≡◌ {A = Result Match TokenError} (Err e) (item_of place answer)
-    → IsGivenAt m c h end place (Err e)
-error_is_given m c h end place (Ok o) (NoToken at) ahead owed refused is = ((ahead, (Ok o, owed, is)), tt)
-error_is_given m c h end place (Err d) (NoToken at) ahead owed refused is = ((ahead, (Err d, owed, is)), tt)
-error_is_given m c h end place (Ok o) (Search e) ahead owed refused is = absurd (answer_is_no_refusal place o e is)
-error_is_given m c h end place (Err d) (Search e) ahead owed refused is = (
-  (ahead, (Err d, owed, is)),
-  subst (IsRefused Forward m c (asked h end place)) (sym (same_search e d (same_err is))) refused,
-)
 
 -- what the search at a place leaves of the progress, by what its answer makes
 module _ (m : Machine) (h : List ℕ) (end place : ℕ) (old new : Stored) where

@@ -35,8 +35,9 @@ pub use Rattle.automata_hybrid.specs.OwingWalks.{IsWhich}
 -- The patterns of a set, as a list; a member of a list.
 pub use Rattle.automata_base.specs.PatternSet.{members}
 pub use Rattle.automata_base.specs.Lists.{In}
--- What a token at an offset is: it begins there, ends later, and has the bytes between.
-pub use Rattle.regex_automata.specs.Tokens.{IsTokenAt}
+-- What a token at an offset is: it begins there, ends later, and has the bytes between; and that there is none, since the
+-- search there finds no match, or an empty one. The type `Token` itself is in `specs.declared.tokens.Token`.
+pub use Rattle.regex_automata.specs.Tokens.{IsTokenAt, IsNoTokenAt}
 -- A step may be taken from this ID: the cache has its row. Each start and each step gives this back.
 pub use Rattle.automata_hybrid.specs.Standing.{HoldsRow}
 -- A search by steps that ends at its first match stands before the byte at an offset, in the state of this ID; the unit at

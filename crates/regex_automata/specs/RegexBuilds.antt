@@ -45,13 +45,23 @@ reverse_refusal reverse.Starts = is.Starts
 reverse_refusal reverse.TooLarge = is.TooLarge
 reverse_refusal reverse.OutOfMemory = is.OutOfMemory
 
--- why no regex is built of one automaton
+-- the tests that an automaton passes: the first two, and all three
+abbrev pub PassesTwo : Automaton → Type 0
+PassesTwo forward = SkipsLazily forward × IsLookAcyclic (nfa_of forward)
+
+abbrev pub PassesAll : Automaton → Type 0
+PassesAll forward = PassesTwo forward × (forward.flags.utf8 ≡ true → ReadsUtf8 Forward forward)
+
+-- why no regex is built of one automaton: a test fails that comes behind those that it passes; or it passes all, and isn't
+-- reversed, or no pair is built of it and of its reverse. Memory is wanted once it passes the first two
 abbrev pub IsRefusal : Options → Automaton → RegexBuildError → Type 0
 IsRefusal o forward is.NotLazy = SkipsLazily forward → ⊥
-IsRefusal o forward is.LookCycle = IsLookAcyclic (nfa_of forward) → ⊥
-IsRefusal o forward is.NotUtf8 = (forward.flags.utf8 ≡ true → ReadsUtf8 Forward forward) → ⊥
-IsRefusal o forward is.Starts = BeginsAlike forward → ⊥
-IsRefusal o forward is.TooLarge = MayBeTooLarge forward
-IsRefusal o forward is.OutOfMemory = Unit {0}
+IsRefusal o forward is.LookCycle = SkipsLazily forward × (IsLookAcyclic (nfa_of forward) → ⊥)
+IsRefusal o forward is.NotUtf8 =
+    PassesTwo forward × ((forward.flags.utf8 ≡ true → ReadsUtf8 Forward forward) → ⊥)
+IsRefusal o forward is.Starts = PassesAll forward × (BeginsAlike forward → ⊥)
+IsRefusal o forward is.TooLarge = PassesAll forward × MayBeTooLarge forward
+IsRefusal o forward is.OutOfMemory = PassesTwo forward
 IsRefusal o forward (is.Build error) =
-    (reverse : Automaton) × IsReversed forward reverse × (pair_refusal o forward reverse ≡ Some error)
+    PassesAll forward
+    × ((reverse : Automaton) × IsReversed forward reverse × (pair_refusal o forward reverse ≡ Some error))

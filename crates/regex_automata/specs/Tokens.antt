@@ -68,9 +68,16 @@ pub record IsTokenAt (m : Machine) (h : List ℕ) (end place : ℕ) (t : Token) 
   pub within : t.span.end ≤ end
   pub pattern : t.pattern < length m.nfa.start_pattern
 
--- a refused search is refused over this cache
+-- no token at a place before the span's end: the search there finds no match, or an empty one
+pub record IsNoTokenAt (m : Machine) (h : List ℕ) (end place : ℕ) : Type 0 where
+  pub within : place < end
+  pub none :
+      IsHalf Forward m (asked h end place) (Ok None)
+      ⊎ ((pattern : ℕ) × IsHalf Forward m (asked h end place) (Ok (Some (record { pattern = pattern; offset = place }))))
+
+-- an error names this place, or is that of a search that fails over this cache
 abbrev pub IsRefusedAt : Machine → Stored → List ℕ → (end place : ℕ) → TokenError → Type 0
-IsRefusedAt m c h end place (NoToken at) = Unit {0}
+IsRefusedAt m c h end place (NoToken at) = (at ≡ place) × IsNoTokenAt m h end place
 IsRefusedAt m c h end place (Search e) = IsRefused Forward m c (asked h end place) e
 
 -- a token at a place, or the error there

@@ -1,4 +1,4 @@
-ghost use Rattle.std.specs.Prelude.{◌≡◌, ◌+◌, ◌-◌, ◌<◌, ◌≤◌, ◌&&◌, ◌||◌, ℕ, Bool, false, eqb, length, not};
+ghost use Rattle.std.specs.Prelude.{◌≡◌, ◌+◌, ◌-◌, ◌<◌, ◌≤◌, ◌&&◌, ℕ, false, eqb, length};
 ghost use Rattle.automata_base.specs.Classes.{bounds, transitions_bound, targets_bound, quits_bound, look_bounds};
 ghost use Rattle.automata_base.specs.Classes.{state_bounds, states_bound, is_boundary, boundary_count, class_in};
 ghost use Rattle.automata_base.specs.Marks.{is_marked, Adds};

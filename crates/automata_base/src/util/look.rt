@@ -1,4 +1,4 @@
-ghost use Rattle.std.specs.Prelude.{◌≡◌, ◌<◌, ◌||◌, IsTrue, IsFalse, eqb, false, true};
+ghost use Rattle.std.specs.Prelude.{◌≡◌, ◌<◌, ◌||◌, eqb};
 ghost use Rattle.automata_base.specs.Truths.{truth_of, nth_look, IsLookSet};
 ghost use Rattle.automata_base.specs.Looks.{Look};
 ghost use Rattle.automata_base.specs.Looks.{look_index};

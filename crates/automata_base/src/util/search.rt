@@ -292,7 +292,7 @@ impl<'h> Model for Input<'h> {
 }
 
 impl<'h> Input<'h> {
-    ghost use Rattle.std.specs.Prelude.{◌≡◌, ◌<◌, ◌≤◌, ◌^◌, ◌↔◌, IsTrue, length, true, false};
+    ghost use Rattle.std.specs.Prelude.{◌≡◌, ◌<◌, ◌≤◌, ◌^◌, ◌↔◌, IsTrue, length, false};
     ghost use Rattle.automata_base.specs.Input.{Allows, IsAllowed};
     ghost use Rattle.automata_base.specs.Tapes.{IsHaystack, is_split};
 

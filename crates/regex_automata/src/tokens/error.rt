@@ -11,3 +11,14 @@ pub enum TokenError {
     #[error("{0}")]
     Search(SearchError),
 }
+
+impl From<SearchError> for TokenError {
+    ghost use Rattle.std.specs.Prelude.{◌≡◌};
+    ghost use Rattle.regex_automata.specs.declared.tokens.error.TokenError.TheVariants.{Search};
+
+    ghost from_gives = { λ error e. e ≡ Search error };
+
+    fn from(error: SearchError) -> TokenError {
+        TokenError::Search(error)
+    }
+}

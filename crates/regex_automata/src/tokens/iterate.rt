@@ -10,6 +10,7 @@ use crate::hybrid::regex::{Cache, Regex};
 use crate::tokens::{Token, TokenError};
 use automata_base::util::search::{Anchored, HalfMatch, Input, Match, Span};
 use automata_config::error::SearchError;
+use std::fmt;
 
 /// What is searched at a place: what is left of the span, anchored and in full.
 fn asked<'h>(haystack: &'h [u8], place: usize, end: usize) -> Input<'h>
@@ -70,9 +71,14 @@ impl Regex {
     /// token borrows from the haystack alone, so it may be kept when the cache is gone:
     ///
     /// ```rust
-    /// for item in regex.tokens(&mut cache, Input::new(source)) {
-    ///     let token = item?;
-    ///     keep(token.pattern(), token.bytes());
+    /// for item in self.regex.tokens(&mut self.caches, Input::new(text)) {
+    ///     match item {
+    ///         Ok(token) => tokens.push(token)?,
+    ///         Err(error) => {
+    ///             let end = missing(error)?;
+    ///             return Ok(Lexed { tokens, end });
+    ///         }
+    ///     }
     /// }
     /// ```
     pub fn tokens<'r, 'c, 'h>(
@@ -112,6 +118,17 @@ pub struct Tokens<'r, 'c, 'h> {
     failed: bool,
     ghost within: { Allows haystack.now place end },
     ghost of: { AreCachesOf cache.now regex.now },
+}
+
+/// How far the iteration has come.
+impl<'r, 'c, 'h> fmt::Debug for Tokens<'r, 'c, 'h> {
+    fn fmt<W: fmt::Write>(&self, f: &mut fmt::Formatter<W>) -> fmt::Result {
+        f.debug_struct("Tokens")
+            .field("start", &self.place)
+            .field("end", &self.end)
+            .field("failed", &self.failed)
+            .finish_non_exhaustive()
+    }
 }
 
 impl<'r, 'c, 'h> Iterator for Tokens<'r, 'c, 'h> {

@@ -1,5 +1,5 @@
 //! The states that a builder keeps, and what it builds of them.
-ghost use Rattle.std.specs.Prelude.{◌≡◌, ◌++◌, ◌∷◌, [], List, ℕ, None, Some, map, reverse};
+ghost use Rattle.std.specs.Prelude.{◌≡◌, ◌++◌, ◌∷◌, [], None, Some, map, reverse};
 ghost use Rattle.std.specs.Prelude.{IfOk, OnOk, OnErr, IsOkUnless};
 ghost use Rattle.automata_base.specs.Drafts.{build_error};
 ghost use Rattle.automata_base.specs.Shapes.{Shape, shape_of, shape_added, built_of, patched, union_of};

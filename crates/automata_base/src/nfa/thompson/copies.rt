@@ -1,10 +1,9 @@
 //! A copy of the reversed states for each pattern: those that are reached from its matches.
-ghost use Rattle.std.specs.Prelude.{ℕ, ◌≡◌, ◌<◌, ◌≤◌, ◌+◌, ◌*◌, ◌^◌, ◌++◌, [], ◌∷◌, List, true, map, length};
+ghost use Rattle.std.specs.Prelude.{ℕ, ◌≡◌, ◌<◌, ◌≤◌, ◌+◌, ◌*◌, ◌^◌, ◌++◌, [], ◌∷◌, true, map, length};
 ghost use Rattle.std.specs.Prelude.{IfOk, OnOk, Err, None, Some};
 ghost use Rattle.automata_base.specs.declared.nfa.thompson.reach.Edges.TheVariants.{Every};
 ghost use Rattle.automata_base.specs.Copies.{AreParts, IsPartAdded};
 ghost use Rattle.automata_base.specs.Lists.{In, all_below};
-ghost use Rattle.automata_base.specs.Nfa.{Node};
 ghost use Rattle.automata_base.specs.Nodes.{node_of, nodes_of};
 ghost use Rattle.automata_base.specs.Once.{Distinct};
 ghost use Rattle.automata_base.specs.Reach.{targets_at, targets_of};

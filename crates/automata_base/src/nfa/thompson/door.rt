@@ -1,15 +1,15 @@
-ghost use Rattle.std.specs.Prelude.{◌≡◌, ◌<◌, ◌≤◌, ◌-◌, ◌+◌, ltb, leb, ◌&&◌, ℕ, Some, length};
+ghost use Rattle.std.specs.Prelude.{◌≡◌, ◌<◌, ◌-◌, ◌+◌, ltb, leb, ◌&&◌, ℕ, Some};
 ghost use Rattle.automata_base.specs.Lists.{all_below};
 ghost use Rattle.automata_base.specs.Computed.{any_node};
 ghost use Rattle.automata_base.specs.Looks.{look_index};
-ghost use Rattle.automata_base.specs.Nodes.{nodes_of, stack_room, extra_of};
+ghost use Rattle.automata_base.specs.Nodes.{nodes_of, stack_room};
 ghost use Rattle.automata_base.specs.Refusals.{transitions_below, state_below, states_below, match_below};
 ghost use Rattle.automata_base.specs.Refusals.{matches_below};
 ghost use Rattle.automata_base.specs.Refusals.{ordered_from, state_ordered, states_ordered, alternates_of};
 ghost use Rattle.automata_base.specs.Refusals.{is_small, is_narrow, starts_below, door_refusal};
 ghost use Rattle.automata_base.specs.Truths.{truth_of};
 ghost use Rattle.automata_base.specs.Looks.{Look};
-ghost use Rattle.std.specs.Prelude.{eqb, sum_by, take, false, true, None, Option};
+ghost use Rattle.std.specs.Prelude.{eqb, false, true, None, Option};
 
 use crate::nfa::thompson::reading::add_look;
 use crate::nfa::thompson::{NfaError, State, Transition};

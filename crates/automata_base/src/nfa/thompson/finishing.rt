@@ -1,6 +1,6 @@
 //! The order in which a depth-first search over epsilon edges finishes states.
 ghost use Rattle.std.specs.Prelude.{◌≡◌, ◌+◌, ◌-◌, ◌*◌, ◌<◌, ◌≤◌, ◌^◌, ℕ, [], ◌∷◌, ◌++◌, true, length, reverse, take};
-ghost use Rattle.std.specs.Prelude.{Some, None, IfOk, OnOk, vec_len};
+ghost use Rattle.std.specs.Prelude.{Some, None, IfOk, OnOk};
 ghost use Rattle.automata_base.specs.Finishing.{IsUnderSearch, IsWholeOrder};
 ghost use Rattle.automata_base.specs.Lists.{In, nth};
 ghost use Rattle.automata_base.specs.Nodes.{node_of};

@@ -1,6 +1,6 @@
 //! The edges of an NFA by their targets, as a reversed NFA needs them.
 ghost use Rattle.std.specs.Prelude.{ℕ, Some, ◌≡◌, ◌<◌, ◌≤◌, ◌+◌, ◌^◌, [], ◌∷◌, ◌++◌, true, IfOk, OnOk, Err, length};
-ghost use Rattle.std.specs.Prelude.{drop, None, slice_index_or, vec_len};
+ghost use Rattle.std.specs.Prelude.{drop, None, slice_index_or};
 ghost use Rattle.automata_base.specs.Lists.{all_below, nth};
 ghost use Rattle.automata_base.specs.Mirrors.{flip};
 ghost use Rattle.automata_base.specs.Refusals.{transitions_below, state_below, states_below};

@@ -1,6 +1,6 @@
-ghost use Rattle.std.specs.Prelude.{◌≡◌, ◌+◌, ◌<◌, ◌≤◌, [], ◌∷◌, ◌++◌, List, ℕ, length, true, false, IsTrue, IsFalse};
-ghost use Rattle.std.specs.Prelude.{Option, Some, None, vec_len, vec_capacity, ◌&&◌, cond};
-ghost use Rattle.automata_base.specs.Computed.{known_looks, any_node, is_full, is_in};
+ghost use Rattle.std.specs.Prelude.{◌≡◌, ◌<◌, ◌≤◌, [], ◌∷◌, List, ℕ, length, true, false, IsTrue, IsFalse};
+ghost use Rattle.std.specs.Prelude.{Option, Some, None, ◌&&◌};
+ghost use Rattle.automata_base.specs.Computed.{known_looks, any_node, is_full};
 ghost use Rattle.automata_base.specs.Cuts.{cut_for, targets};
 ghost use Rattle.automata_base.specs.Door.{IsDoor};
 ghost use Rattle.automata_base.specs.Lists.{In, cons_some};

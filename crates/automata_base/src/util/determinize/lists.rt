@@ -1,16 +1,14 @@
-ghost use Rattle.std.specs.Prelude.{◌≡◌, ◌+◌, ◌<◌, ◌≤◌, ◌||◌, [], ◌∷◌, ◌++◌, List, ℕ, length, take, eqb, Bool, Some};
-ghost use Rattle.std.specs.Prelude.{None, option_map, false};
+ghost use Rattle.std.specs.Prelude.{◌≡◌, ◌+◌, ◌<◌, ◌≤◌, [], ◌∷◌, ◌++◌, ℕ, length, take, eqb, Some};
+ghost use Rattle.std.specs.Prelude.{None, false};
 ghost use Rattle.automata_base.specs.Lists.{In, pick};
-ghost use Rattle.automata_base.specs.Nfa.{stays_at, accepts_at, takes_at, accepts, takes, keep};
-ghost use Rattle.automata_base.specs.Computed.{looks_at, any_state};
+ghost use Rattle.automata_base.specs.Nfa.{keep};
+ghost use Rattle.automata_base.specs.Computed.{any_state};
 ghost use Rattle.automata_base.specs.Looks.{look_index};
 ghost use Rattle.automata_base.specs.Cuts.{cut_for, cut};
 ghost use Rattle.automata_base.specs.Made.{AreMatched};
-ghost use Rattle.automata_base.specs.Nodes.{node_of, nfa_of, ranges_of, dense_from};
+ghost use Rattle.automata_base.specs.Nodes.{nfa_of};
 ghost use Rattle.automata_base.specs.Truths.{truth_of};
 ghost use Rattle.automata_base.specs.Looks.{Look};
-ghost use Rattle.automata_base.specs.Nfa.{takes_in};
-ghost use Rattle.automata_base.specs.Looks.{within};
 ghost use Rattle.automata_base.specs.Computed.{is_in};
 ghost use Rattle.std.specs.Prelude.{vec_capacity, vec_len, cond};
 

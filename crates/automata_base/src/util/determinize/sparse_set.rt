@@ -1,4 +1,4 @@
-ghost use Rattle.std.specs.Prelude.{◌≡◌, ◌<◌, ◌≤◌, ◌^◌, [], ◌∷◌, ◌++◌, IfOk, IsTrue, IsFalse, Contains, if◌then◌else◌};
+ghost use Rattle.std.specs.Prelude.{◌≡◌, ◌<◌, ◌≤◌, [], ◌∷◌, ◌++◌, IfOk, IsTrue, IsFalse, Contains};
 ghost use Rattle.std.specs.Prelude.{ℕ, length};
 ghost use Rattle.automata_base.specs.Lists.{In};
 ghost use Rattle.automata_base.specs.Once.{Distinct};

@@ -1,5 +1,5 @@
 // Powerset states as coded bytes, shared.
-ghost use Rattle.std.specs.Prelude.{◌≡◌, ◌≤◌, ◌<◌, IfOk, OnOk, IsTrue, ◌↔◌, ◌++◌, length, slice_index, ℕ};
+ghost use Rattle.std.specs.Prelude.{◌≡◌, ◌≤◌, ◌<◌, IfOk, OnOk, IsTrue, ◌↔◌, length, slice_index};
 ghost use Rattle.std.specs.Prelude.{nat_eq};
 ghost use Rattle.std.specs.List.{IsDistinct};
 ghost use Rattle.automata_base.specs.Code.{code, decoded, IsCode};

@@ -1,7 +1,6 @@
 // What the parts of a state have to meet.
 ghost use Rattle.std.specs.Prelude.{◌≡◌, IsTrue, ◌↔◌, nat_eq, false};
 ghost use Rattle.std.specs.List.{AllByRecursion, IsDistinct};
-ghost use Rattle.automata_base.specs.Powerset.{IsId};
 
 use crate::util::primitives::PatternID;
 

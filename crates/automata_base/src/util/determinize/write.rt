@@ -1,5 +1,5 @@
 // The bytes of a state, appended to a vector.
-ghost use Rattle.std.specs.Prelude.{◌≡◌, ◌++◌, ◌<◌, ◌^◌, length, All, OnOk, IsTrue};
+ghost use Rattle.std.specs.Prelude.{◌≡◌, ◌++◌, ◌<◌, ◌^◌, length, All, OnOk};
 ghost use Rattle.std.specs.List.{flat_map};
 ghost use Rattle.automata_base.specs.Code.{four_bytes, varint, ids_code, code, difference, is_listed, patterns_code};
 ghost use Rattle.automata_base.specs.Code.{flag_byte, has_any};

@@ -6,14 +6,17 @@ ghost use Rattle.automata_base.specs.Paths.{IsLookAcyclic};
 ghost use Rattle.automata_base.specs.Tapes.{Forward};
 ghost use Rattle.automata_base.specs.TruePairs.{IsTruePair, KeepsUtf8};
 ghost use Rattle.automata_config.specs.Options.{Options, unset, overwritten};
-ghost use Rattle.regex_automata.specs.RegexBuilds.{BuildsPair, pair_refusal, reverse_refusal, IsRefusal};
+ghost use Rattle.regex_automata.specs.RegexBuilds.{BuildsPair, PassesAll, pair_refusal, reverse_refusal, IsRefusal};
 ghost use Rattle.regex_automata.specs.SoundPairs.{IsSoundPair};
+ghost use Rattle.regex_automata.specs.declared.hybrid.regex.build.RegexBuildError.TheVariants.{Build as RegexBuild};
+ghost use Rattle.regex_automata.specs.declared.hybrid.regex.build.RegexBuildError.TheVariants.{OutOfMemory as RegexOutOfMemory};
 
 use crate::hybrid::regex::Regex;
 use crate::hybrid::{BuildError, dfa};
 use automata_base::nfa::thompson::{NFA, ReverseError};
 use automata_base::util::search::MatchKind;
 use automata_hybrid::dfa::DFA;
+use std::alloc::{AllocError, AllocFailed};
 use std::marker::Model;
 use thiserror::Error;
 
@@ -43,6 +46,38 @@ pub enum RegexBuildError {
     Build(BuildError),
 }
 
+impl From<BuildError> for RegexBuildError {
+    ghost from_gives = { λ error e. e ≡ RegexBuild error };
+
+    fn from(error: BuildError) -> RegexBuildError {
+        RegexBuildError::Build(error)
+    }
+}
+
+impl From<ReverseError> for RegexBuildError {
+    ghost from_gives = { λ error e. e ≡ reverse_refusal error };
+
+    fn from(error: ReverseError) -> RegexBuildError {
+        reverse_error(error)
+    }
+}
+
+impl From<AllocError> for RegexBuildError {
+    ghost from_gives = { λ _ e. e ≡ RegexOutOfMemory };
+
+    fn from(_error: AllocError) -> RegexBuildError {
+        RegexBuildError::OutOfMemory
+    }
+}
+
+impl<T: Drop> From<AllocFailed<T>> for RegexBuildError {
+    ghost from_gives = { λ _ e. e ≡ RegexOutOfMemory };
+
+    fn from(_error: AllocFailed<T>) -> RegexBuildError {
+        RegexBuildError::OutOfMemory
+    }
+}
+
 // Why no regex is made of an NFA that can't be reversed.
 fn reverse_error(error: ReverseError) -> RegexBuildError
     ensures { result ≡ reverse_refusal error }
@@ -56,6 +91,7 @@ fn reverse_error(error: ReverseError) -> RegexBuildError
 
 // The reversed NFA of one that passes the tests which a sound pair needs.
 fn tested_reverse(forward: &NFA) -> Result<NFA, RegexBuildError>
+    ensures passes { IfOk result (λ reverse. PassesAll forward.now) }
     ensures reversed { IfOk result (λ reverse. IsReversed forward.now reverse) }
     ensures pair { IfOk result (λ reverse. (kind : MatchKind)
         → IsTruePair (engine_of forward.now kind) (engine_of reverse MatchKind.All)) }

@@ -10,7 +10,7 @@ use crate::hybrid::regex::Regex;
 use std::alloc::AllocError;
 
 /// The caches of the two lazy DFAs of a regex.
-#[derive(Drop)]
+#[derive(Debug, Drop)]
 pub struct Cache {
     pub(super) forward: dfa::Cache,
     pub(super) reverse: dfa::Cache,

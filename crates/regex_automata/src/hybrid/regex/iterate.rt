@@ -15,6 +15,7 @@ use crate::laws::matches_agree;
 use automata_base::util::search::{Anchored, Input, Match};
 use automata_config::error::SearchError;
 use automata_hybrid::laws::known_stays;
+use std::fmt;
 
 /// The input from an offset on.
 fn from<'h>(input: &Input<'h>, start: usize) -> Input<'h>
@@ -73,9 +74,9 @@ impl Regex {
     /// The error of a search is the last item, after the matches that were found before it:
     ///
     /// ```rust
-    /// for found in regex.find_iter(&mut cache, Input::new(text)) {
+    /// for found in regex.find_iter(&mut cache, Input::new(b"foo 12 bar")) {
     ///     let found = found?;
-    ///     mark(found.pattern(), found.start()..found.end());
+    ///     println!(rt; "{}..{}", found.start(), found.end())?;
     /// }
     /// ```
     pub fn find_iter<'r, 'c, 'h>(
@@ -121,6 +122,18 @@ pub struct FindMatches<'r, 'c, 'h> {
     ended: bool,
     ghost within: { Allows haystack.now start end },
     ghost of: { AreCachesOf cache.now regex.now },
+}
+
+/// How far the iteration has come.
+impl<'r, 'c, 'h> fmt::Debug for FindMatches<'r, 'c, 'h> {
+    fn fmt<W: fmt::Write>(&self, f: &mut fmt::Formatter<W>) -> fmt::Result {
+        f.debug_struct("FindMatches")
+            .field("start", &self.start)
+            .field("end", &self.end)
+            .field("last", &self.last)
+            .field("ended", &self.ended)
+            .finish_non_exhaustive()
+    }
 }
 
 impl<'r, 'c, 'h> FindMatches<'r, 'c, 'h> {

@@ -21,11 +21,11 @@ use std::alloc::AllocError;
 /// own, which serves one search after another:
 ///
 /// ```rust
-/// let regex = Regex::builder().build_from_nfas(forward, reverse)?;
+/// let regex = Regex::builder().build_from_nfa(word(rt.alloc())?)?;
 /// let mut cache = regex.create_cache()?;
-/// match regex.find(&mut cache, &Input::new(line))? {
-///     Some(found) => keep(&line[found.start()..found.end()]),
-///     None => skip(line),
+/// for found in regex.find_iter(&mut cache, Input::new(b"foo 12 bar")) {
+///     let found = found?;
+///     println!(rt; "{}..{}", found.start(), found.end())?;
 /// }
 /// ```
 #[derive(Debug, Drop)]

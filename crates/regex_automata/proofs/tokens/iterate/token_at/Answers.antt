@@ -11,8 +11,8 @@ use Rattle.regex_automata.specs.Tokens.{HasLearnedAt, IsGivenAt, LeavesAt, asked
 use Rattle.automata_hybrid.proofs.Searching.{if_err}
 use Rattle.regex_automata.proofs.Finding.{cost_anchored}
 use Rattle.regex_automata.proofs.Results.{is_err}
-use Rattle.regex_automata.proofs.Tiling.{token_is_given}
-use Rattle.regex_automata.proofs.Tokenising.{error_is_given, error_learns, error_leaves, error_of_input, token_learns, token_leaves}
+use Rattle.regex_automata.proofs.Tiling.{error_is_given, token_is_given}
+use Rattle.regex_automata.proofs.Tokenising.{error_learns, error_leaves, error_of_input, token_learns, token_leaves}
 use Rattle.regex_automata.proofs.tokens.iterate.token_at.Goals as goal
 
 -- matches with equal parts are equal
@@ -35,7 +35,7 @@ returns-in_err-token-clause-item c =
     subst (λ i. IfErr found (IsRefused Forward m store i)) c.asked-input.ensures
     (subst (λ n. IfErr found (IsRefused Forward n store c.asked-input.result)) c.forward-dfa.ensures c.try_search_fwd-found.ensures.refusal) in
     let given =
-    error_is_given m store h c.args.end place found c.in_err-token.field-0.0 c.requires.ahead owed errors
+    error_is_given m h c.args.end c.requires.within.1 store place found c.in_err-token.field-0.0 c.requires.ahead owed errors
     (sym c.in_err-token.was ∙ c.item.ensures) in
     subst (IsGivenAt m store h c.args.end place) (sym (is_err c.from_residual.result _ c.from_residual.ensures.1)) given
 

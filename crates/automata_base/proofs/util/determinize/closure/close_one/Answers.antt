@@ -1,6 +1,9 @@
-use Rattle.std.proofs.Common.{arith, ◌≡◌, ◌+◌, ◌<◌, ◌≤◌, [], ◌∷◌, ◌++◌, List, ℕ, length, reverse, Vec, vec_len, vec_capacity, refl, sym, ap, ◌∙◌, subst, inl, rules}
+use Rattle.std.proofs.Common.{arith, ◌≡◌, ◌+◌, ◌<◌, ◌≤◌, [], ◌∷◌, ◌++◌, List, ℕ, length, reverse, Vec, vec_len, vec_capacity, get_or, refl, sym, ap, ◌∙◌, subst, inl, rules}
+use Rattle.std.specs.Prelude.{Contains}
 use Rattle.std.proofs.lemmas.List.{nil_from_length}
 use Rattle.std.specs.declared.alloc.Global.{Global}
+use Rattle.automata_base.specs.declared.nfa.thompson.State.{State}
+use Rattle.automata_base.specs.Door.{IsDoor}
 use Rattle.automata_base.specs.Nodes.{Automaton, stack_room, node_of}
 use Rattle.automata_base.specs.Truths.{truth_of}
 use Rattle.automata_base.specs.Visits.{children_at}
@@ -69,22 +72,36 @@ next_way a looks old start before after id capacity was stack rest top e v =
     let P : List ℕ → Type 0 = λ s. Walking a looks old start after s × (work a after s < work a before (id ∷ reverse was.items)) in
     subst P (pushed_top stack.items rest.items top e) (v.walking, v.less)
 
+-- it was new, and its children took what room there was
+new_visit : (a : Automaton) (looks : ℕ) (old : List ℕ) (start : ℕ) (before after : List ℕ) (id capacity : ℕ)
+    (was stack : Vec ℕ Global) (state : State)
+    → IsDoor a → state ≡ get_or a.states id state → (Contains before id → ⊥) → after ≡ before ++ id ∷ []
+    → reverse stack.items ≡ children_at (node_of state) (truth_of looks) ++ reverse was.items
+    → Walking a looks old start before (id ∷ reverse was.items)
+    → capacity ≤ vec_capacity was → vec_capacity was ≤ vec_capacity stack
+    → Visited a looks old start before after id capacity was stack
+new_visit a looks old start before after id capacity was stack state door is new grown put walking kept more =
+    let step = new_step a looks old start before after (reverse was.items) (reverse stack.items) id state door is new grown put walking in
+    record { walking = step.0; less = step.1; room = omega arith }
+
+-- it was there
+old_visit : (a : Automaton) (looks : ℕ) (old : List ℕ) (start : ℕ) (before after : List ℕ) (id capacity : ℕ) (was : Vec ℕ Global)
+    → Contains before id → after ≡ before → Walking a looks old start before (id ∷ reverse was.items) → capacity ≤ vec_capacity was
+    → Visited a looks old start before after id capacity was was
+old_visit a looks old start before after id capacity was had same walking kept =
+    let step = old_step a looks old start before after (reverse was.items) id had same walking in
+    record { walking = step.0; less = step.1; room = kept }
+
 visited : (c : goal.In-Some-pop) →
     Visited c.args.nfa.now c.args.looks c.args.set.now.items c.args.start c.visit.set.items c.insert.new.self.items c.visit.id
     (vec_capacity c.args.stack.now) c.visit.stack c.if-insert.stack
 visited c = elim c.if-insert.branch [
-  | then-insert+in_default w ↦
-      let step = new_step c.args.nfa.now c.args.looks c.args.set.now.items c.args.start c.visit.set.items c.insert.new.self.items (reverse c.visit.stack.items) (reverse w.expand.new.stack.items) c.visit.id w.state.result.now
-      w.state.ensures.door w.state.ensures.same (w.if-insert.ensures.new refl) (w.if-insert.ensures.added refl) w.in_default.ensures.pushed c.visit.invariant.0 in
-      let kept : vec_capacity c.args.stack.now ≤ vec_capacity c.visit.stack = c.visit.invariant.2 in
-      let more : vec_capacity c.visit.stack ≤ vec_capacity w.expand.new.stack = w.in_default.ensures.capacity in
-      subst (Visited c.args.nfa.now c.args.looks c.args.set.now.items c.args.start c.visit.set.items c.insert.new.self.items c.visit.id (vec_capacity c.args.stack.now) c.visit.stack)
-      (sym w.stack-is) (record { walking = step.0; less = step.1; room = omega arith })
-  | else-insert w ↦
-      let step = old_step c.args.nfa.now c.args.looks c.args.set.now.items c.args.start c.visit.set.items c.insert.new.self.items (reverse c.visit.stack.items) c.visit.id
-      (w.if-insert.ensures.had refl) (w.if-insert.ensures.unchanged refl) c.visit.invariant.0 in
-      subst (Visited c.args.nfa.now c.args.looks c.args.set.now.items c.args.start c.visit.set.items c.insert.new.self.items c.visit.id (vec_capacity c.args.stack.now) c.visit.stack)
-      (sym w.stack-is) (record { walking = step.0; less = step.1; room = c.visit.invariant.2 })
+  | then-insert+in_default w ↦ subst (Visited c.args.nfa.now c.args.looks c.args.set.now.items c.args.start c.visit.set.items c.insert.new.self.items c.visit.id (vec_capacity c.args.stack.now) c.visit.stack) (sym w.stack-is)
+      (new_visit c.args.nfa.now c.args.looks c.args.set.now.items c.args.start c.visit.set.items c.insert.new.self.items c.visit.id (vec_capacity c.args.stack.now) c.visit.stack w.expand.new.stack w.state.result.now
+      w.state.ensures.door w.state.ensures.same (w.if-insert.ensures.new refl) (w.if-insert.ensures.added refl) w.in_default.ensures.pushed
+      c.visit.invariant.0 c.visit.invariant.2 w.in_default.ensures.capacity)
+  | else-insert w ↦ subst (Visited c.args.nfa.now c.args.looks c.args.set.now.items c.args.start c.visit.set.items c.insert.new.self.items c.visit.id (vec_capacity c.args.stack.now) c.visit.stack) (sym w.stack-is)
+      (old_visit c.args.nfa.now c.args.looks c.args.set.now.items c.args.start c.visit.set.items c.insert.new.self.items c.visit.id (vec_capacity c.args.stack.now) c.visit.stack (w.if-insert.ensures.had refl) (w.if-insert.ensures.unchanged refl) c.visit.invariant.0 c.visit.invariant.2)
 ]
 
 pub visit-smaller : goal.visit-smaller
@@ -107,18 +124,12 @@ done : (c : goal.In-None) →
     Visited c.args.nfa.now c.args.looks c.args.set.now.items c.args.start c.visit.set.items c.insert.new.self.items c.visit.id
     (vec_capacity c.args.stack.now) c.visit.stack c.if-insert.stack
 done c = elim c.if-insert.branch [
-  | then-insert+in_default w ↦
-      let step = new_step c.args.nfa.now c.args.looks c.args.set.now.items c.args.start c.visit.set.items c.insert.new.self.items (reverse c.visit.stack.items) (reverse w.expand.new.stack.items) c.visit.id w.state.result.now
-      w.state.ensures.door w.state.ensures.same (w.if-insert.ensures.new refl) (w.if-insert.ensures.added refl) w.in_default.ensures.pushed c.visit.invariant.0 in
-      let kept : vec_capacity c.args.stack.now ≤ vec_capacity c.visit.stack = c.visit.invariant.2 in
-      let more : vec_capacity c.visit.stack ≤ vec_capacity w.expand.new.stack = w.in_default.ensures.capacity in
-      subst (Visited c.args.nfa.now c.args.looks c.args.set.now.items c.args.start c.visit.set.items c.insert.new.self.items c.visit.id (vec_capacity c.args.stack.now) c.visit.stack)
-      (sym w.stack-is) (record { walking = step.0; less = step.1; room = omega arith })
-  | else-insert w ↦
-      let step = old_step c.args.nfa.now c.args.looks c.args.set.now.items c.args.start c.visit.set.items c.insert.new.self.items (reverse c.visit.stack.items) c.visit.id
-      (w.if-insert.ensures.had refl) (w.if-insert.ensures.unchanged refl) c.visit.invariant.0 in
-      subst (Visited c.args.nfa.now c.args.looks c.args.set.now.items c.args.start c.visit.set.items c.insert.new.self.items c.visit.id (vec_capacity c.args.stack.now) c.visit.stack)
-      (sym w.stack-is) (record { walking = step.0; less = step.1; room = c.visit.invariant.2 })
+  | then-insert+in_default w ↦ subst (Visited c.args.nfa.now c.args.looks c.args.set.now.items c.args.start c.visit.set.items c.insert.new.self.items c.visit.id (vec_capacity c.args.stack.now) c.visit.stack) (sym w.stack-is)
+      (new_visit c.args.nfa.now c.args.looks c.args.set.now.items c.args.start c.visit.set.items c.insert.new.self.items c.visit.id (vec_capacity c.args.stack.now) c.visit.stack w.expand.new.stack w.state.result.now
+      w.state.ensures.door w.state.ensures.same (w.if-insert.ensures.new refl) (w.if-insert.ensures.added refl) w.in_default.ensures.pushed
+      c.visit.invariant.0 c.visit.invariant.2 w.in_default.ensures.capacity)
+  | else-insert w ↦ subst (Visited c.args.nfa.now c.args.looks c.args.set.now.items c.args.start c.visit.set.items c.insert.new.self.items c.visit.id (vec_capacity c.args.stack.now) c.visit.stack) (sym w.stack-is)
+      (old_visit c.args.nfa.now c.args.looks c.args.set.now.items c.args.start c.visit.set.items c.insert.new.self.items c.visit.id (vec_capacity c.args.stack.now) c.visit.stack (w.if-insert.ensures.had refl) (w.if-insert.ensures.unchanged refl) c.visit.invariant.0 c.visit.invariant.2)
 ]
 
 pub returns-clause-way : goal.returns-clause-way
