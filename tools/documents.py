@@ -5,7 +5,8 @@
 
 A document has one program. A block of code is the file that the line before it ends in, as `src/main.rt`, and the block
 after a line that ends in "prints:" is what the program writes. Its name and its libraries are in the words "the line
-`demo: regex_automata anyhow` into `crates.txt`". Each block of Rattle or of antt has to be such a file.
+`demo: regex_automata anyhow` into `crates.txt`". Each block of Rattle or of antt has to be such a file. A block of Rattle in
+a docstring of the library has to be a part of one of these programs.
 
 The last line counts the documents too, beside what the given line counts, the last one of `rt ci`. It needs Python 3 and
 the kit's rt. The programs stand on the libraries as `rt ci` proved and left them, if it did so since they were last
@@ -21,6 +22,7 @@ import tempfile
 TOP = os.path.dirname(os.path.dirname(os.path.abspath(__file__)))
 KIT = os.path.dirname(os.path.dirname(os.path.realpath(shutil.which("rt") or sys.exit("there is no rt"))))
 DOCUMENTS = ["README.md", "docs/CALLING.md"]
+DOCSTRINGS = ["automata_hybrid", "regex_automata"]
 FILE = re.compile(r"`((?:src|specs|proofs)/[\w+/.-]+\.(?:rt|antt))`[:.]?$")
 LINE = re.compile(r"the line `(\w+): ([\w ]+)` into `crates.txt`")
 
@@ -62,6 +64,30 @@ class Program:
             os.makedirs(os.path.dirname(f"{folder}/{path}"), exist_ok=True)
             with open(f"{folder}/{path}", "w", encoding="utf-8") as it:
                 it.write(text)
+
+
+def examples(crate):
+    """Yields the blocks of Rattle in the docstrings of a crate, with the place of each."""
+    for at, _, inside in os.walk(f"{TOP}/crates/{crate}/src"):
+        for path in sorted(f"{at}/{it}" for it in inside):
+            with open(path, encoding="utf-8") as it:
+                lines = [line.strip() for line in it]
+            block = None
+            for number, line in enumerate(lines, 1):
+                if line == "/// ```rust":
+                    block = []
+                elif line == "/// ```" and block is not None:
+                    yield f"{os.path.relpath(path, TOP)}:{number}", block
+                    block = None
+                elif block is not None:
+                    block.append(line.removeprefix("///").strip())
+
+
+def strays(programs):
+    """Returns where docstrings have a block that is no part of a program."""
+    files = ["".join(f"{it.strip()}\n" for it in text.splitlines()) for program in programs for text in program.files.values()]
+    blocks = [it for crate in DOCSTRINGS for it in examples(crate)]
+    return [where for where, block in blocks if not any("".join(f"{it}\n" for it in block) in file for file in files)]
 
 
 def libraries():
@@ -119,9 +145,8 @@ def build(program, folder, own):
     return bool(proved) and subprocess.run([f"{KIT}/bin/rattle-link", *link], cwd=folder).returncode == 0
 
 
-def fault(document, own, room):
-    """Returns what is wrong with a document, or nothing."""
-    program = Program(document)
+def fault(program, own, room):
+    """Returns what is wrong with a document's program, or nothing."""
     if program.faults:
         return "; ".join(program.faults)
     folder = f"{room}/{program.name}"
@@ -141,12 +166,15 @@ def fault(document, own, room):
 def main(words):
     counted = re.fullmatch(r"(\d+) passed, (\d+) failed", words[0] if words else "0 passed, 0 failed")
     passed, failed = (int(counted[1]), int(counted[2])) if counted else (0, 1)
-    is_well, own = not failed, libraries()
+    is_well, own, programs = not failed, libraries(), {it: Program(it) for it in DOCUMENTS}
     with tempfile.TemporaryDirectory(prefix="documents-") as room:
-        for document in DOCUMENTS:
-            wrong = fault(document, own, room) if is_well else "it was not tried, since what it stands on failed"
+        for document, program in programs.items():
+            wrong = fault(program, own, room) if is_well else "it was not tried, since what it stands on failed"
             print(f"{document}: {wrong or 'its program is proved, and prints what it says'}", flush=True)
             passed, failed = passed + (not wrong), failed + bool(wrong)
+    wrong = strays(programs.values())
+    print(f"docstrings: {', '.join(wrong) + ': no part of a program' if wrong else 'their examples are parts of these programs'}")
+    passed, failed = passed + (not wrong), failed + bool(wrong)
     print(f"{passed} passed, {failed} failed")
     return 1 if failed else 0
 
