@@ -169,7 +169,8 @@ impl DFA {
         self.find_end(cache, input, way, id, found)
     }
 
-    /// The same, with a loop for each direction.
+    /// As `find`. Each direction has a function of its own, since the compiler inlines none that would grow as large as
+    /// both loops in one.
     #[inline(always)]
     fn find_in(
         &self,
@@ -198,6 +199,7 @@ impl DFA {
         }
     }
 
+    /// `find` forward.
     fn find_fwd(
         &self,
         cache: &mut Cache,
@@ -221,6 +223,7 @@ impl DFA {
         self.find(cache, input, Way::Forward, start)
     }
 
+    /// `find` backward.
     fn find_rev(
         &self,
         cache: &mut Cache,
