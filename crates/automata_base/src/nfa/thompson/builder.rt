@@ -1,5 +1,5 @@
 //! A builder of NFAs, state by state.
-use crate::nfa::thompson::building::{Added, BuildError, build_error, patch, push_states};
+use crate::nfa::thompson::building::{Added, BuildError, patch, push_states};
 use crate::nfa::thompson::{Flags, NFA, NfaError, Transition};
 use crate::util::look::Look;
 use crate::util::primitives::{PatternID, StateID};
@@ -341,7 +341,7 @@ impl Builder {
         );
         match nfa {
             Ok(nfa) => Ok(nfa),
-            Err(error) => Err(build_error(error)),
+            Err(error) => Err(BuildError::from(error)),
         }
     }
 }

@@ -2,12 +2,13 @@
 ghost use Rattle.std.specs.Prelude.{◌≡◌, ◌++◌, ◌∷◌, [], None, Some, map, reverse};
 ghost use Rattle.std.specs.Prelude.{IfOk, OnOk, OnErr, IsOkUnless};
 ghost use Rattle.automata_base.specs.Drafts.{build_error};
+ghost use Rattle.automata_base.specs.declared.nfa.thompson.building.BuildError.TheVariants.{OutOfMemory as BuildOutOfMemory};
 ghost use Rattle.automata_base.specs.Shapes.{Shape, shape_of, shape_added, built_of, patched, union_of};
 
 use crate::nfa::thompson::{NfaError, State, Transition};
 use crate::util::look::Look;
 use crate::util::primitives::{PatternID, StateID};
-use std::alloc::{AllocError, Global};
+use std::alloc::{AllocError, AllocFailed, Global};
 use thiserror::Error;
 
 /// Why a call on a builder fails. The builder is then as it was before the call.
@@ -36,17 +37,34 @@ pub enum BuildError {
     OutOfMemory,
 }
 
-/// What a builder returns for an error of `NFA::from_states`.
-pub fn build_error(error: NfaError) -> BuildError
-    ensures { result ≡ build_error error }
-{
-    match error {
-        NfaError::OutOfMemory => BuildError::OutOfMemory,
-        NfaError::StateRange
-        | NfaError::StartRange
-        | NfaError::PatternRange
-        | NfaError::Ranges
-        | NfaError::TooLarge => BuildError::NFA(error),
+impl From<NfaError> for BuildError {
+    ghost from_gives = { λ error e. e ≡ build_error error };
+
+    fn from(error: NfaError) -> BuildError {
+        match error {
+            NfaError::OutOfMemory => BuildError::OutOfMemory,
+            NfaError::StateRange
+            | NfaError::StartRange
+            | NfaError::PatternRange
+            | NfaError::Ranges
+            | NfaError::TooLarge => BuildError::NFA(error),
+        }
+    }
+}
+
+impl From<AllocError> for BuildError {
+    ghost from_gives = { λ _ e. e ≡ BuildOutOfMemory };
+
+    fn from(_error: AllocError) -> BuildError {
+        BuildError::OutOfMemory
+    }
+}
+
+impl<T: Drop> From<AllocFailed<T>> for BuildError {
+    ghost from_gives = { λ _ e. e ≡ BuildOutOfMemory };
+
+    fn from(_error: AllocFailed<T>) -> BuildError {
+        BuildError::OutOfMemory
     }
 }
 
