@@ -22,7 +22,7 @@ import tempfile
 TOP = os.path.dirname(os.path.dirname(os.path.abspath(__file__)))
 KIT = os.path.dirname(os.path.dirname(os.path.realpath(shutil.which("rt") or sys.exit("there is no rt"))))
 DOCUMENTS = ["README.md", "docs/CALLING.md"]
-DOCSTRINGS = ["automata_hybrid", "regex_automata"]
+DOCSTRINGS = ["automata_config", "automata_hybrid", "regex_automata"]
 FILE = re.compile(r"`((?:src|specs|proofs)/[\w+/.-]+\.(?:rt|antt))`[:.]?$")
 LINE = re.compile(r"the line `(\w+): ([\w ]+)` into `crates.txt`")
 

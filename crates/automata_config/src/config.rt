@@ -76,7 +76,14 @@ impl Config {
         Config::default()
     }
 
-    /// Which matches a search reports. By default `MatchKind::LeftmostFirst`: that of the path that is preferred.
+    /// Which matches a search reports. By default `MatchKind::LeftmostFirst`: the match of the path that is preferred.
+    /// Choose `MatchKind::All` for all overlapping matches, for sets of patterns, and for the DFA of a reversed NFA.
+    ///
+    /// ```rust
+    /// let mut builder = DFA::builder();
+    /// let config = DFA::config().match_kind(MatchKind::All);
+    /// let dfa = builder.configure(config).build_from_nfa(nfa)?;
+    /// ```
     pub fn match_kind(self, kind: MatchKind) -> Config
         ensures { result ≡ record self { match_kind = Some kind } }
     {
@@ -87,7 +94,8 @@ impl Config {
     }
 
     /// Whether each pattern has start states of its own, so that it can be searched for alone, by `Anchored::Pattern`.
-    /// By default it has not, and such a search is an error.
+    /// By default it has none, and such a search is an error. Six more start states for each pattern raise the minimum
+    /// capacity of a cache.
     pub fn starts_for_each_pattern(self, yes: bool) -> Config
         ensures { result ≡ record self { starts_for_each_pattern = Some yes } }
     {
@@ -97,8 +105,8 @@ impl Config {
         }
     }
 
-    /// Whether bytes that lead alike share a class, which makes rows shorter. By default they do; without, each byte is
-    /// a class of its own.
+    /// Whether bytes that the NFA does not distinguish share a class, which makes rows shorter. By default they do;
+    /// otherwise each byte is a class of its own, which only helps to look at a DFA while it is debugged.
     pub fn byte_classes(self, yes: bool) -> Config
         ensures { result ≡ record self { byte_classes = Some yes } }
     {
@@ -108,8 +116,9 @@ impl Config {
         }
     }
 
-    /// Whether Unicode word boundaries are tried: where the NFA has one, the bytes from 0x80 on are quit bytes. By
-    /// default they are not: an NFA with one is an error, unless all these bytes are quit bytes.
+    /// Whether Unicode word boundaries are tried: if the NFA has one, it is decided as an ASCII one, and the bytes from
+    /// 0x80 on are quit bytes, so that searches of other text fail. By default they are not tried: an NFA that has one
+    /// is an error, unless all these bytes are quit bytes.
     pub fn unicode_word_boundary(self, yes: bool) -> Config
         ensures { result ≡ record self { unicode_word_boundary = Some yes } }
     {
@@ -128,6 +137,15 @@ impl Config {
 
     /// Puts a byte into the set of bytes at which a search quits, or takes it out. By default the set is empty. With
     /// `unicode_word_boundary` no byte from 0x80 on may be taken out: `allows_quit` is the test.
+    ///
+    /// A search that meets a quit byte returns an error with its offset. So a caller with a second engine can have it
+    /// search what this DFA is not meant for:
+    ///
+    /// ```rust
+    /// let fast = builder
+    ///     .configure(DFA::config().quit(b';', true))
+    ///     .build_from_nfa(nfa)?;
+    /// ```
     pub fn quit(self, byte: u8, yes: bool) -> Config
         requires { IsTrue (options.allows_quit self byte yes) }
         ensures { result ≡ record self { quits = Some (slice_set (options.quits_of self) byte yes) } }
@@ -141,7 +159,7 @@ impl Config {
     }
 
     /// Whether the IDs of start states are tagged, so that `LazyStateID::is_start` is true of them. By default they are
-    /// not.
+    /// not. Only a search by steps of your own can make use of it.
     pub fn specialize_start_states(self, yes: bool) -> Config
         ensures { result ≡ record self { specialize_start_states = Some yes } }
     {
@@ -151,8 +169,10 @@ impl Config {
         }
     }
 
-    /// How many accounted bytes a cache may have. By default 2 MiB. A capacity below `get_minimum_cache_capacity` is
+    /// The most bytes that a cache may account for. By default 2 MiB. A capacity below `get_minimum_cache_capacity` is
     /// an error when a DFA is built, unless `skip_cache_capacity_check` is set.
+    ///
+    /// A cache that is full is cleared, so a small one costs time: states are determinized again.
     pub fn cache_capacity(self, bytes: usize) -> Config
         ensures { result ≡ record self { cache_capacity = Some bytes } }
     {
@@ -162,7 +182,7 @@ impl Config {
         }
     }
 
-    /// Whether the minimum is taken in place of a capacity below it. By default such a capacity is an error.
+    /// Whether a capacity below the minimum is raised to it. By default such a capacity is an error.
     pub fn skip_cache_capacity_check(self, yes: bool) -> Config
         ensures { result ≡ record self { skip_cache_capacity_check = Some yes } }
     {
@@ -172,8 +192,8 @@ impl Config {
         }
     }
 
-    /// After how many clears of its cache a search may give up, where it wants one more. By default, `None`, it never
-    /// gives up.
+    /// The number of clears after which a search may give up instead of clearing the cache once more. By default,
+    /// `None`, it never gives up. Set it if you have another engine to fall back on.
     pub fn minimum_cache_clear_count(self, min: Option<usize>) -> Config
         ensures { result ≡ record self { minimum_cache_clear_count = Some min } }
     {
@@ -183,8 +203,8 @@ impl Config {
         }
     }
 
-    /// How many bytes, searched since the last clear for each state of the cache, keep a search from giving up. By
-    /// default, `None`, no number does. It counts only where `minimum_cache_clear_count` is set.
+    /// The number of bytes for each state of the cache which keeps a search from giving up, if so many were searched
+    /// since the last clear. By default, `None`, no number does. It counts only if `minimum_cache_clear_count` is set.
     pub fn minimum_bytes_per_state(self, min: Option<usize>) -> Config
         ensures { result ≡ record self { minimum_bytes_per_state = Some min } }
     {

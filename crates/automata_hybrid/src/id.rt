@@ -8,6 +8,21 @@ use std::marker::Model;
 ///
 /// The default, 0, stands at the offset of the unknown row without its tag: no cache has a row of this ID, and
 /// `is_unknown` is false of it.
+///
+/// A search by steps looks at the tags of each ID that a step returns:
+///
+/// ```rust
+/// if next.is_match() {
+///     let pattern = dfa.match_pattern(cache, next, 0);
+///     return Some(Some(HalfMatch::new(pattern, at)));
+/// }
+/// if next.is_quit() {
+///     return None;
+/// }
+/// if next.is_dead() || at == input.end() {
+///     return Some(None);
+/// }
+/// ```
 #[derive(Clone, Copy, Debug, Default, PartialEq, Eq, PartialOrd, Ord, Hash)]
 pub struct LazyStateID {
     id: u32,
@@ -59,14 +74,15 @@ impl LazyStateID {
         }
     }
 
-    /// Whether any tag is set.
+    /// Whether any tag is set. While none is, a search of your own reads on without asking for each tag.
     pub fn is_tagged(self) -> bool
         ensures { IsTrue result ↔ (offset_limit ≤ self) }
     {
         self.id > LazyStateID::MAX
     }
 
-    /// Whether it stands for a transition that is not computed yet.
+    /// Whether it stands for a transition that is not computed yet. `DFA::next_state_untagged` can return it; then take
+    /// the same step by `DFA::next_state`.
     pub fn is_unknown(self) -> bool
         ensures bit { IsTrue result ↔ IsBitSet self 31 }
         ensures size { IsTrue result ↔ (unknown_id ≤ self) }
@@ -74,28 +90,30 @@ impl LazyStateID {
         self.id >= 1 << 31
     }
 
-    /// Whether no match can come after it.
+    /// Whether no match can come after it: a search stops there, and reports the last match that it has seen.
     pub fn is_dead(self) -> bool
         ensures { IsTrue result ↔ IsBitSet self 30 }
     {
         self.id & (1 << 30) != 0
     }
 
-    /// Whether a quit byte was read.
+    /// Whether a quit byte was read: a search stops there with an error, since it cannot know what comes after.
     pub fn is_quit(self) -> bool
         ensures { IsTrue result ↔ IsBitSet self 29 }
     {
         self.id & (1 << 29) != 0
     }
 
-    /// Whether it was added as a start state by a DFA that specializes them.
+    /// Whether it was added as a start state by a DFA that specializes them (`Config::specialize_start_states`). A
+    /// search of your own may run a prefilter there.
     pub fn is_start(self) -> bool
         ensures { IsTrue result ↔ IsBitSet self 28 }
     {
         self.id & (1 << 28) != 0
     }
 
-    /// Whether its state has patterns.
+    /// Whether its state has patterns that match, which are those of `DFA::match_pattern`. Matches are delayed by one
+    /// byte: they end before the byte that led to this state.
     pub fn is_match(self) -> bool
         ensures { IsTrue result ↔ IsBitSet self 27 }
     {

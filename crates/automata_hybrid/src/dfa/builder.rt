@@ -51,6 +51,13 @@ impl Builder {
     }
 
     /// Sets the options that are set in `config`, and keeps the others.
+    ///
+    /// ```rust
+    /// let mut builder = DFA::builder();
+    /// let fast = builder
+    ///     .configure(DFA::config().quit(b';', true))
+    ///     .build_from_nfa(nfa)?;
+    /// ```
     pub fn configure(&mut self, config: Config) -> &mut Builder
         ensures same { result.ghost_name ≡ self.entry.ghost_name }
         ensures value { result.now ≡ overwritten self.old config }
@@ -60,6 +67,10 @@ impl Builder {
     }
 
     /// The lazy DFA of an NFA. It allocates nothing. An error does not give the NFA back: clone it before.
+    ///
+    /// ```rust
+    /// let sure = DFA::builder().build_from_nfa(nfa.clone()?)?;
+    /// ```
     pub fn build_from_nfa(&self, nfa: NFA) -> Result<DFA, BuildError>
         ensures ok { IfOk result (Builds self.now nfa) }
         ensures refused { result_err result ≡ settling_refusal self.now nfa }

@@ -79,7 +79,7 @@ impl fmt::Debug for Cache {
 impl Cache {
     ghost use Rattle.automata_hybrid.specs.Founds.{IsLookedUp};
 
-    /// A cache of a DFA, with no state yet.
+    /// A cache of a DFA, with no state yet. It can be used with this DFA alone, until it is reset.
     pub fn new(dfa: &DFA) -> Result<Cache, AllocError>
         ensures { IfOk result (λ c. c ≡ fresh_cache dfa.now) }
     {
@@ -92,7 +92,8 @@ impl Cache {
         })
     }
 
-    /// Makes it a fresh cache of this DFA. An error changes nothing.
+    /// Makes it a fresh cache of this DFA, which may be another one than before. IDs of the old cache end. An error
+    /// changes nothing.
     pub fn reset(&mut self, dfa: &DFA) -> Result<(), AllocError>
         ensures ok { OnOk result (self.new ≡ fresh_cache dfa.now) }
         ensures err { OnErr result (self.new ≡ self.old) }
@@ -188,7 +189,8 @@ impl Cache {
         Ok(id)
     }
 
-    /// Whether some row of the cache has exactly this ID now, tags included. A clear can end it.
+    /// Whether some row of the cache has exactly this ID now, tags included. A clear can end it, so ask before a step
+    /// from an ID that you kept while other calls used the cache.
     pub fn is_valid(&self, id: LazyStateID) -> bool
         ensures { IsTrue result ↔ IsRow self.now.store.table id }
     {
@@ -384,6 +386,9 @@ impl Cache {
     }
 
     /// How often the cache was cleared.
+    ///
+    /// The count begins at 0 when the cache is made or reset. If it rises fast, a greater capacity
+    /// (`Config::cache_capacity`) may save time.
     pub fn clear_count(&self) -> usize
         ensures { result ≡ self.now.store.clears }
     {
@@ -404,7 +409,9 @@ impl Cache {
         self.store.search_total_len()
     }
 
-    /// A search begins at an offset; one that is open ends.
+    /// A search begins at an offset; one that is open ends. A search by steps of your own can report its progress by
+    /// this call and the next two, so that the rule by which it gives up (`Config::minimum_bytes_per_state`) counts
+    /// the bytes that it reads.
     pub fn search_start(&mut self, at: usize)
         ensures value { self.new ≡ with_store self.old (with_searched self.old.store
             (started self.old.store.searched at)) }

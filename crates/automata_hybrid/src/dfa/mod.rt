@@ -115,7 +115,8 @@ impl DFA {
         }
     }
 
-    /// A cache for its searches.
+    /// A cache for its searches, which serves one search after another. To use it with another DFA, reset it
+    /// (`Cache::reset`).
     pub fn create_cache(&self) -> Result<Cache, AllocError>
         ensures { IfOk result (λ c. c ≡ fresh_cache self.now) }
     {
@@ -144,7 +145,7 @@ impl DFA {
         &self.config
     }
 
-    /// The bytes that it takes on the heap beside its NFA: none.
+    /// The bytes that it takes on the heap beside its NFA: none. `Cache::memory_usage` has those of its states.
     pub fn memory_usage(&self) -> usize
         ensures { result ≡ 0 }
     {

@@ -184,6 +184,9 @@ impl DFA {
     /// The start state of an anchored mode after a look-behind byte. It fails if that is a quit byte, if the mode is not
     /// supported, if the state does not fit and the settings allow no clear, and if memory runs out. A quit byte is
     /// reported before a mode that is not supported.
+    ///
+    /// If you have an input, `start_state_forward` and `start_state_reverse` take the anchored mode and the look-behind
+    /// byte from it. A cached start state allocates nothing.
     #[inline(always)]
     pub fn start_state(
         &self,
@@ -255,6 +258,9 @@ impl DFA {
 
     /// The start state of a reverse search. The look-behind byte is the one at the span's end. The error of a quit byte
     /// and the "gave up" error both have the span's end as their offset.
+    ///
+    /// A reverse search by steps begins with it. It then reads the bytes from the span's end back to its start. Last
+    /// comes the byte before the span, by `next_state`, or `next_eoi_state` if there is none.
     #[inline(always)]
     pub fn start_state_reverse(
         &self,

@@ -140,6 +140,9 @@ impl DFA {
     /// The ID of the state after a byte if the transition is cached, and else the unknown ID. It allocates nothing. The
     /// given ID has to name a row of the cache and have no tag: `Cache::is_valid` and `LazyStateID::is_tagged` are the
     /// tests.
+    ///
+    /// A loop of your own can follow cached transitions with it. If the unknown ID comes, it takes the same step by
+    /// `next_state`.
     #[inline(always)]
     pub fn next_state_untagged(&self, cache: &Cache, id: LazyStateID, byte: u8) -> LazyStateID
         requires of { IsCacheOf cache.now self.now }
@@ -176,7 +179,7 @@ impl DFA {
     }
 
     /// How many patterns match at a match state: at least one. The ID has to name a row of the cache and have the match
-    /// tag: `Cache::is_valid` and `LazyStateID::is_match` are the tests.
+    /// tag: `Cache::is_valid` and `LazyStateID::is_match` are the tests. `match_pattern` returns each of them.
     pub fn match_len(&self, cache: &Cache, id: LazyStateID) -> usize
         requires of { IsCacheOf cache.now self.now }
         requires row { HoldsRow cache.now id }
@@ -189,7 +192,15 @@ impl DFA {
     }
 
     /// A pattern that matches at a match state, as `match_len` asks for it. The index is below `match_len`; the
-    /// patterns stand in the order in which the automaton's paths prefer them.
+    /// patterns stand in the order in which the automaton's paths prefer them, so that index 0 has the one that a
+    /// search reports:
+    ///
+    /// ```rust
+    /// if next.is_match() {
+    ///     let pattern = dfa.match_pattern(cache, next, 0);
+    ///     return Some(Some(HalfMatch::new(pattern, at)));
+    /// }
+    /// ```
     pub fn match_pattern(&self, cache: &Cache, id: LazyStateID, index: usize) -> PatternID
         requires of { IsCacheOf cache.now self.now }
         requires row { HoldsRow cache.now id }

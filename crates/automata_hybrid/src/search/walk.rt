@@ -222,6 +222,15 @@ impl Cursor {
 
 /// How far an overlapping search is. It belongs to one DFA, one input and one direction, and goes on with any cache of
 /// that DFA: it holds its powerset state, which a clear cannot take.
+///
+/// Each call of the search goes on from it, and leaves the next match in it:
+///
+/// ```rust
+/// let mut state = OverlappingState::start();
+/// self.dfa
+///     .try_search_overlapping_fwd(&mut self.cache, &input, &mut state)?;
+/// Ok(state.get_match())
+/// ```
 #[derive(Drop)]
 pub struct OverlappingState {
     pub(crate) cursor: Cursor,
@@ -249,7 +258,7 @@ impl OverlappingState {
         }
     }
 
-    /// The match that the last call found.
+    /// The match that the last call found; none before the first call, after an error, and once none is left.
     pub fn get_match(&self) -> Option<HalfMatch>
         ensures { result ≡ self.now.found }
     {

@@ -17,7 +17,7 @@ pub struct Cache {
 }
 
 impl Cache {
-    /// A cache of a regex, with no state yet.
+    /// A cache of a regex, with no state yet. It can be used with this regex alone, until it is reset.
     pub fn new(regex: &Regex) -> Result<Cache, AllocError>
         ensures { IfOk result (AreFresh regex.now) }
     {
@@ -26,7 +26,7 @@ impl Cache {
         Ok(Cache { forward, reverse })
     }
 
-    /// Makes it a fresh cache of this regex. An error changes neither part.
+    /// Makes it a fresh cache of this regex, which may be another one than before. An error changes neither part.
     pub fn reset(&mut self, regex: &Regex) -> Result<(), AllocError>
         ensures ok { OnOk result (AreFresh regex.now self.new) }
         ensures err { OnErr result (self.new ≡ self.old) }

@@ -42,14 +42,21 @@ impl Regex {
         Builder::new()
     }
 
-    /// A cache for its searches.
+    /// A cache for its searches, which serves one search after another:
+    ///
+    /// ```rust
+    /// let regex = Regex::builder().build_from_nfa(word(rt.alloc())?)?;
+    /// let mut cache = regex.create_cache()?;
+    /// ```
+    ///
+    /// To use it with another regex, reset it (`Cache::reset`).
     pub fn create_cache(&self) -> Result<Cache, AllocError>
         ensures { IfOk result (AreFresh self.now) }
     {
         Cache::new(self)
     }
 
-    /// Makes a cache a fresh one of this regex. A refusal changes neither part.
+    /// Makes a cache a fresh one of this regex, whatever regex it belonged to. An error changes neither part.
     pub fn reset_cache(&self, cache: &mut Cache) -> Result<(), AllocError>
         ensures ok { OnOk result (AreFresh self.now cache.new) }
         ensures err { OnErr result (cache.new ≡ cache.old) }
@@ -57,21 +64,21 @@ impl Regex {
         cache.reset(self)
     }
 
-    /// The DFA that finds where matches end.
+    /// The DFA that finds where matches end. If ends are enough, search with it alone, over `Cache::forward_mut`.
     pub fn forward(&self) -> &DFA
         ensures { result.now ≡ self.now.forward }
     {
         &self.forward
     }
 
-    /// The DFA that finds where matches start.
+    /// The DFA that finds where matches start, by searches from an end backward.
     pub fn reverse(&self) -> &DFA
         ensures { result.now ≡ self.now.reverse }
     {
         &self.reverse
     }
 
-    /// The number of patterns.
+    /// The number of patterns. Their IDs are the numbers below it.
     pub fn pattern_len(&self) -> usize
         ensures { result ≡ length self.now.forward.nfa.start_pattern }
     {

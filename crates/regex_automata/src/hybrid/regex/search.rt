@@ -47,6 +47,8 @@ impl Regex {
     ///
     /// An error is that of the forward search or of the one back, as these report it; or the two DFAs are no pair, if
     /// the one back finds no start. After an error the cache serves other searches as before.
+    ///
+    /// For all matches use `find_iter`; if it is enough to know whether there is one, use `is_match`.
     pub fn try_search(
         &self,
         cache: &mut Cache,
