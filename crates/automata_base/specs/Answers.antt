@@ -1,4 +1,4 @@
--- What searches and walks over a span of a haystack answer, split places skipped.
+-- The answers of searches and walks over a span of a haystack, split places skipped.
 use Rattle.std.specs.Prelude.{ℕ, ◌≡◌, ◌<◌, ◌≤◌, ◌+◌, ◌-◌, Bool, true, false, cond, List, [], ◌∷◌, ◌⊎◌, ◌↔◌, length}
 use Rattle.std.specs.Prelude.{Option, Some, None}
 use Rattle.automata_base.specs.Lists.{In}
@@ -9,12 +9,13 @@ use Rattle.automata_base.specs.Tapes.{IsHaystack, Direction, Forward, Backward, 
 use Rattle.automata_base.specs.Engines.{Engine, Anchored, No, first_state, IsSkipping}
 use Rattle.automata_base.specs.Input.{Input}
 
--- What the paths from a first state select on a tape; without a first state nothing.
+-- What the paths from a first state select on a tape; nothing if there is no first state.
 abbrev pub SelectsFrom : Engine → Bool → Tape → Option ℕ → Option Pair → Type 0
 SelectsFrom d earliest t None answer = answer ≡ None
 SelectsFrom d earliest t (Some q) answer = Selects d.kind earliest d.nfa t q answer
 
--- What the paths over the span of an input answer, which is not done; the place is the walk's.
+-- What the paths over the span of an input answer, which is not done; the place is counted from where the search
+-- begins.
 abbrev pub SelectsOver : Direction → Engine → Input → Option Pair → Type 0
 SelectsOver way d input answer =
     SelectsFrom d input.earliest (tape_of way input.haystack input.start input.end) (first_state d input.anchored)
@@ -29,14 +30,14 @@ later Backward k input = record input { end = input.end - k }
 abbrev pub offset_in : Direction → Input → ℕ → ℕ
 offset_in way input i = offset way input.start input.end i
 
--- What is told over one span splits a character. `Tells` says what is told over the span of an input, which is not
--- done.
+-- What is reported over one span splits a character. `Tells` says what is reported over the span of an input, which is
+-- not done.
 abbrev pub IsSplit : (Tells : Input → Option Pair → Type 0) → Direction → Input → Type 0
 IsSplit Tells way input =
     (pair : Pair) × Tells input (Some pair) × (is_split input.haystack (offset_in way input pair.place) ≡ true)
 
--- The spans tried come to the one that begins `k` places later: over all the spans before it a split place was told,
--- and only an unanchored search that skips goes on after one.
+-- The search comes to try the span that begins `k` places later: over all the spans before it a split place was
+-- reported, and only an unanchored search that skips goes on after one.
 abbrev pub Tries : (Tells : Input → Option Pair → Type 0) → (skipping : Type 0) → Direction → Input → ℕ → Type 0
 Tries Tells skipping way input k =
     ((k ≡ 0) ⊎ (skipping × (input.anchored ≡ No)))
@@ -48,8 +49,8 @@ pub record Half : Type 0 where
   pub offset : ℕ
   pub base : ℕ
 
--- What is told over the first span where that is nothing or not split. Where split places are skipped, an anchored
--- search has no answer but over its first span.
+-- What is reported over the first span for which that is nothing or not split. If split places are skipped, an anchored
+-- search has an answer over its first span alone.
 abbrev pub Answers :
     (Tells : Input → Option Pair → Type 0) → (skipping : Type 0) → Direction → Input → Option Half → Type 0
 Answers Tells skipping way input None =
@@ -78,25 +79,25 @@ abbrev pub without_split : List ℕ → List Pair → List Pair
 without_split h [] = []
 without_split h (pair ∷ pairs) = cond (is_split h pair.place) (without_split h pairs) (pair ∷ without_split h pairs)
 
--- The pairs of the walk from a first state on a tape; without a first state none.
+-- The pairs of the walk from a first state on a tape; none if there is no first state.
 abbrev pub IsOverlappingFrom : Engine → Tape → Option ℕ → List Pair → Type 0
 IsOverlappingFrom d t None pairs = pairs ≡ []
 IsOverlappingFrom d t (Some q) pairs = IsOverlappingOn d.kind d.nfa t q pairs
 
--- These pairs by their offsets, without the split ones where they are skipped.
+-- These pairs by their offsets, without the split ones if they are skipped.
 abbrev pub AreUnsplit : (skipping : Type 0) → Direction → Input → (pairs found : List Pair) → Type 0
 AreUnsplit skipping way input pairs found =
     (skipping × (found ≡ without_split input.haystack (with_offsets way input pairs)))
     ⊎ ((skipping → ⊥) × (found ≡ with_offsets way input pairs))
 
--- The whole list of a walk: what is told over the span, and nothing over one that is done.
+-- The whole list of a walk: what is reported over the span, and nothing over one that is done.
 abbrev pub Walks : (Tells : Input → List Pair → Type 0) → (skipping : Type 0) → Direction → Input → List Pair → Type 0
 Walks Tells skipping way input found =
     ((input.end < input.start) × (found ≡ []))
     ⊎ ((input.start ≤ input.end)
     × ((pairs : List Pair) × Tells input pairs × AreUnsplit skipping way input pairs found))
 
--- What the paths over the span of an input tell a walk, which is not done.
+-- What the paths over the span of an input report to a walk, which is not done.
 abbrev pub OverlapsOver : Direction → Engine → Input → List Pair → Type 0
 OverlapsOver way d input pairs =
     IsOverlappingFrom d (tape_of way input.haystack input.start input.end) (first_state d input.anchored) pairs
@@ -105,7 +106,7 @@ OverlapsOver way d input pairs =
 abbrev pub IsOverlapping : Direction → Engine → Input → List Pair → Type 0
 IsOverlapping way d input found = Walks (OverlapsOver way d) (IsSkipping d) way input found
 
--- The first pair alone, where the walk is an earliest one.
+-- The first pair alone, if the walk is an earliest one.
 abbrev pub first_alone : Bool → List Pair → List Pair
 first_alone earliest [] = []
 first_alone earliest (pair ∷ pairs) = pair ∷ cond earliest [] pairs
@@ -114,8 +115,8 @@ abbrev pub HasPattern : ℕ → List Pair → Type 0
 HasPattern p [] = ⊥
 HasPattern p (pair ∷ pairs) = (p ≡ pair.pattern) ⊎ HasPattern p pairs
 
--- The patterns of a set after a forward walk: the given ones and those that the walk tells below the capacity, an
--- earliest one its first pair alone. `Tells` says which list the walk tells.
+-- The patterns of a set after a forward walk: the given ones, and those that the walk reports below the capacity; an
+-- earliest one reports its first pair alone. `Tells` says which list the walk reports.
 abbrev pub ArePatterns : (Tells : List Pair → Type 0) → Input → ℕ → (given found : List ℕ) → Type 0
 ArePatterns Tells input capacity given found =
     (pairs : List Pair) × Tells pairs
@@ -125,11 +126,11 @@ ArePatterns Tells input capacity given found =
 abbrev pub ArePatternsFound : Engine → Input → ℕ → (given found : List ℕ) → Type 0
 ArePatternsFound d input capacity given found = ArePatterns (IsOverlapping Forward d input) input capacity given found
 
--- The condition on an input: its haystack is of bytes, and its span ends in it.
+-- The condition on an input: its haystack consists of bytes, and its span ends in it.
 abbrev pub IsInput : Input → Type 0
 IsInput input = IsHaystack input.haystack × (input.end ≤ length input.haystack)
 
--- An NFA whose edges and starts lead to its states, and no cycle of which passes a look.
+-- An NFA whose edges and starts lead to its states, and without a look cycle.
 abbrev pub IsSound : Engine → Type 0
 IsSound d =
     IsInRange d.nfa × IsLookAcyclic d.nfa

@@ -27,7 +27,7 @@ automaton_of d = record {
   flags = d.flags;
 }
 
--- The data of an NFA of the door: what it tells of itself was found when it was made.
+-- The data of an NFA that `NFA::from_states` accepts: what it says of itself was computed when it was made.
 pub record IsConsistent (d : Data) : Type 0 where
   pub door : IsDoor (automaton_of d)
   pub looks : IsLooks (automaton_of d) d.looks

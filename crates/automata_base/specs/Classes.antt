@@ -11,7 +11,7 @@ use Rattle.automata_base.specs.Nodes.{Automaton}
 abbrev pub is_quit : List Bool → ℕ → Bool
 is_quit quits byte = slice_index_or quits byte false
 
--- The bytes from `lo` to `hi` have a boundary before them and one behind them.
+-- The bytes from `lo` to `hi` have a boundary before them and one after them.
 abbrev pub bounds : (lo hi : ℕ) → ℕ → Bool
 bounds lo hi byte = eqb byte lo || eqb byte (hi + 1)
 
@@ -27,7 +27,7 @@ targets_bound targets byte = not (eqb (slice_index targets byte) (slice_index ta
 abbrev pub quits_bound : List Bool → ℕ → Bool
 quits_bound quits byte = differ (is_quit quits byte) (is_quit quits (byte - 1))
 
--- A line look asks for the terminator, a CRLF look for `\r` and `\n`, a word look for `0-9`, `A-Z`, `_` and `a-z`.
+-- A line look tests for the terminator, a CRLF look for `\r` and `\n`, a word look for `0-9`, `A-Z`, `_` and `a-z`.
 unfoldable pub look_bounds : (terminator : ℕ) → Look → ℕ → Bool
 look_bounds terminator Start byte = false
 look_bounds terminator End byte = false
@@ -62,11 +62,12 @@ unfoldable pub boundary_count : (ℕ → Bool) → ℕ → ℕ
 boundary_count boundary zero = 0
 boundary_count boundary (suc byte) = boundary_count boundary byte + (if boundary (suc byte) then 1 else 0)
 
--- The class of a byte of an automaton, for this quit set and with classes on or off.
+-- The class of a byte of an NFA, for this quit set and with classes on or off.
 abbrev pub class_of : Automaton → (quits : List Bool) → (on : Bool) → ℕ → ℕ
 class_of a quits on byte = boundary_count (is_boundary a quits on) byte
 
--- What contracts see of byte classes: the class of each of the 256 bytes. Behind the last one comes the end of input's.
+-- What contracts see of byte classes: the class of each of the 256 bytes. After the last class comes that of the end of
+-- the input.
 abbrev pub class_in : List ℕ → ℕ → ℕ
 class_in classes byte = slice_index classes byte
 

@@ -1,4 +1,4 @@
--- The pass by computation.
+-- The pass as a computation.
 use Rattle.std.specs.Prelude.{ℕ, zero, suc, ◌≡◌, ◌<◌, Bool, true, false, not, ◌&&◌, ◌||◌, eqb, List, [], ◌∷◌, ◌++◌}
 use Rattle.std.specs.Prelude.{length, Option, Some, None}
 use Rattle.automata_base.specs.Looks.{Look, Start, End, StartLF, EndLF, StartCRLF, EndCRLF, WordAscii, WordAsciiNegate}
@@ -52,7 +52,7 @@ abbrev pub any_state : (Look → Bool) → Nfa → List ℕ → Bool
 any_state f n [] = false
 any_state f n (q ∷ qs) = looks_at f (node n q) || any_state f n qs
 
--- Whether a look holds behind `prev` whatever comes next.
+-- Whether a look holds after `prev` whatever comes next.
 abbrev pub always : (terminator : ℕ) (reverse : Bool) → Look → (prev : Option ℕ) → Bool
 always t r Start prev = is_absent prev
 always t r End prev = false
@@ -103,7 +103,7 @@ abbrev pub any_look : (Look → Bool) → List Look → Bool
 any_look f [] = false
 any_look f (look ∷ looks) = f look || any_look f looks
 
--- Whether a needed look is true and was not known.
+-- Whether a needed look is true and was not known before.
 abbrev pub has_news : Nfa → Powerset → Option ℕ → Bool
 has_news n Q u =
     any_look (λ look. truth_of Q.needed look && (true_looks n Q u look && not (truth_of Q.known look))) all_looks
@@ -127,7 +127,7 @@ abbrev pub pair_at : List ℕ → ℕ → Option Pair → Option Pair
 pair_at [] i other = other
 pair_at (p ∷ rest) i other = Some (record { pattern = p; place = i })
 
--- The first pattern of the last state with patterns among those that `k` units give.
+-- The first pattern of the last state with patterns among those that `k` units lead to.
 abbrev pub last_of : Nfa → MatchKind → ℕ → Tape → ℕ → Option Pair
 last_of n kind start t zero = None
 last_of n kind start t (suc i) = pair_at (told_of n kind start t i) i (last_of n kind start t i)
@@ -150,7 +150,7 @@ IsInRange n =
     ((q c : ℕ) (A : Truth) → In c (children n A q) → c < length n.nodes)
     × ((q u r : ℕ) → takes n q u ≡ Some r → r < length n.nodes)
 
--- The pairs that a walk tells at the first `k` places.
+-- The pairs that a walk reports at the first `k` places.
 abbrev pub pairs_upto : Nfa → MatchKind → ℕ → Tape → ℕ → List Pair
 pairs_upto n kind start t zero = []
 pairs_upto n kind start t (suc k) = pairs_upto n kind start t k ++ at_place k (told_of n kind start t k)

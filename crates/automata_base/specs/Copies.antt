@@ -59,7 +59,7 @@ pub record AreParts
   pub narrow : sum_by width nodes ≤ p * (sum_by alternates_of turned + most)
   pub entered : (e : ℕ) → In e entries → e < length nodes
 
--- An NFA may be made of these states, but that there may be too many alternates; and how many there are at most.
+-- An NFA may be made of these states, except that there may be too many alternates; and how many there are at most.
 pub record IsFit (states : List State) (patterns : ℕ) (made : List State) (entries : List ℕ) (root : ℕ) : Type 0 where
   pub plain : ArePlain (length made) (length entries) (nodes_of made)
   pub small : length made ≤ 2 ^ 27

@@ -9,17 +9,18 @@ abbrev pub cut_behind : Option ℕ → ℕ → List ℕ → List ℕ
 cut_behind None q rest = q ∷ rest
 cut_behind (Some p) q rest = q ∷ []
 
--- What stands up to the first match state.
+-- The part of a list up to the first match state.
 abbrev pub cut : Nfa → List ℕ → List ℕ
 cut n [] = []
 cut n (q ∷ xs) = cut_behind (accepts n q) q (cut n xs)
 
--- What counts of a list of states: under kind all the whole, under leftmost-first up to the first match state.
+-- What counts of a list of states: all of it under `MatchKind::All`, and the part up to the first match state under
+-- `MatchKind::LeftmostFirst`.
 abbrev pub cut_for : MatchKind → Nfa → List ℕ → List ℕ
 cut_for All n xs = xs
 cut_for LeftmostFirst n xs = cut n xs
 
--- The elements of a list, each once at its first place.
+-- The elements of a list, each once, in the order of their first occurrences.
 abbrev pub IsOnce : List ℕ → List ℕ → Type 0
 IsOnce xs ys = IsListOf (From (λ root path q. (root ≡ q) × (path ≡ [])) xs) ys
 

@@ -32,7 +32,7 @@ pair q s = q * 11 + s
 abbrev pub meets : Class → Range → Bool
 meets c r = leb c.first r.hi && leb r.lo c.last
 
--- Where a range leads by one class: to its target, with where the class leads from the decoder's state `s`.
+-- Where a range leads by one class: to its target, with the decoder's state after the class from `s`.
 abbrev pub pairs_in : ℕ → Range → Class → List ℕ
 pairs_in s r c = cond (meets c r) (pair r.next (slice_index c.to s) ∷ []) []
 

@@ -1,4 +1,4 @@
--- What an NFA of the door is.
+-- What `NFA::from_states` accepts.
 use Rattle.std.specs.Prelude.{ℕ, ◌+◌, ◌^◌, ◌≡◌, ◌<◌, ◌≤◌, Some, true, eqb, length, All}
 use Rattle.automata_base.specs.Nodes.{Automaton, nfa_of, stack_room}
 use Rattle.automata_base.specs.Truths.{truth_of}
@@ -8,7 +8,7 @@ use Rattle.automata_base.specs.Computed.{IsInRange, any_node}
 use Rattle.automata_base.specs.Looks.{look_index}
 use Rattle.automata_base.specs.Refusals.{states_ordered}
 
--- What the door lets in: at most 2 ^ 27 states and patterns, each number in range, ranges in order.
+-- At most 2 ^ 27 states and patterns, each number in range, ranges in order.
 pub record IsDoor (a : Automaton) : Type 0 where
   pub small : length a.states ≤ 2 ^ 27
   pub few : length a.start_pattern ≤ 2 ^ 27
@@ -20,7 +20,7 @@ pub record IsDoor (a : Automaton) : Type 0 where
   pub room : stack_room a.states ≤ 2 ^ 31 + 1
   pub patterns : (q p : ℕ) → accepts (nfa_of a) q ≡ Some p → p < length a.start_pattern
 
--- The set of the looks that are states of the automaton.
+-- The set of the looks that are states of the NFA.
 abbrev pub IsLooks : Automaton → ℕ → Type 0
 IsLooks a looks =
     (look : Look) → truth_of looks look ≡ any_node (λ other. eqb (look_index other) (look_index look)) (nfa_of a).nodes

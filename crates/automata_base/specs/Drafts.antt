@@ -30,7 +30,7 @@ draft_of b = record {
   flags = b.flags;
 }
 
--- One without states and patterns.
+-- A draft without states and patterns.
 abbrev pub blank : Flags → Draft
 blank flags = record { states = []; pattern = None; starts = []; flags = flags }
 
@@ -60,8 +60,8 @@ abbrev pub prefix_of : Draft → (start : ℕ) → List Shape
 prefix_of draft start =
     UnionShape (start ∷ (length draft.states + 1) ∷ []) ∷ RangeShape 0 255 (length draft.states) ∷ []
 
--- A call that adds states returns the ID of the first of them, or an error, and then it changes nothing. It fails where
--- IDs run out, and otherwise only where the allocation fails.
+-- A call that adds states returns the ID of the first of them, or an error, and then it changes nothing. It fails if
+-- IDs run out, and otherwise only if the allocation fails.
 pub record IsAdding (old new : Draft) (result : Result ℕ BuildError) (shapes : List Shape) : Type 0 where
   pub id : IfOk result (λ id. id ≡ length old.states)
   pub added : OnOk result (new ≡ with_states old (old.states ++ shapes))
@@ -116,7 +116,7 @@ build_error door.Ranges = NFA door.Ranges
 build_error door.TooLarge = NFA door.TooLarge
 build_error door.OutOfMemory = OutOfMemory
 
--- Where the states before it lead to no others, an NFA that starts at a lazy loop skips lazily.
+-- If the states before it lead to no others, an NFA that starts at a lazy loop skips lazily.
 abbrev pub PrefixesSkipLazily : Type 0
 PrefixesSkipLazily =
     (draft : Draft) (start : ℕ) (before after : Automaton) → IsDoor before → AreBuilt draft before.states

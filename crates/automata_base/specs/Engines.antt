@@ -1,4 +1,4 @@
--- What is searched with: an NFA, its starts, its UTF-8 flag and the kind of the search.
+-- What is searched with: an NFA, its starts, its UTF-8 flag and a match kind.
 use Rattle.std.specs.Prelude.{ℕ, ◌≡◌, Bool, true, List, [], ◌∷◌, ◌⊎◌, Option, Some}
 use Rattle.automata_base.specs.Lists.{In, nth}
 use Rattle.automata_base.specs.Nfa.{Nfa, Node, Split, Read, node, hop, takes, accepts}
@@ -17,20 +17,20 @@ pub record Engine : Type 0 where
   pub utf8 : Bool
   pub kind : MatchKind
 
--- The state where the paths of a mode start; past the last pattern there is none.
+-- The state where the paths of an anchored mode start; none past the last pattern.
 abbrev pub first_state : Engine → Anchored → Option ℕ
 first_state d No = Some d.unanchored
 first_state d Yes = Some d.anchored
 first_state d (Pattern k) = nth d.starts k
 
--- A match is reached by edges that read nothing from some pattern's start, looks taken as true.
+-- A match is reached by epsilon edges from some pattern's start, looks taken as true.
 abbrev pub MatchesEmpty : Nfa → (starts : List ℕ) → Type 0
 MatchesEmpty n starts = (start q p : ℕ) × In start starts × HasEpsilonPath n start q × (accepts n q ≡ Some p)
 
 abbrev pub HasEmptyMatch : Engine → Type 0
 HasEmptyMatch d = MatchesEmpty d.nfa d.starts
 
--- Split places are skipped where the NFA has the empty match and is in UTF-8 mode.
+-- Split places are skipped if the NFA has the empty match and is in UTF-8 mode.
 abbrev pub IsSkipping : Engine → Type 0
 IsSkipping d = (d.utf8 ≡ true) × HasEmptyMatch d
 
@@ -47,7 +47,7 @@ Road n q (r ∷ rs) z = HasEdge n q r × Road n r rs z
 abbrev pub Reaches : Nfa → ℕ → ℕ → Type 0
 Reaches n q z = (rs : List ℕ) × Road n q rs z
 
--- Every search of it begins anchored: it has one start for both modes.
+-- Every search of it begins anchored: it has one start for anchored and unanchored searches.
 abbrev pub BeginsAnchored : Engine → Type 0
 BeginsAnchored d = d.unanchored ≡ d.anchored
 
@@ -62,11 +62,11 @@ LoopsLazily d skip =
     (node d.nfa d.unanchored ≡ Split (d.anchored ∷ skip ∷ [])) × (node d.nfa skip ≡ any_byte d.unanchored)
     × (Reaches d.nfa d.anchored d.unanchored → ⊥)
 
--- Unanchored searches begin anchored, or behind any bytes, the fewest first.
+-- Unanchored searches begin anchored, or after any bytes, the fewest first.
 abbrev pub BeginsLazily : Engine → Type 0
 BeginsLazily d = BeginsAnchored d ⊎ ((skip : ℕ) × LoopsLazily d skip)
 
--- An automaton, searched under a kind.
+-- An NFA, searched under a match kind.
 abbrev pub engine_of : Automaton → MatchKind → Engine
 engine_of a kind = record {
   nfa = nfa_of a;

@@ -52,7 +52,7 @@ powerset_eq-Decides a b =
 abbrev pub powerset_hash : Powerset → fed.HashWrites
 powerset_hash a = code a ∷ []
 
--- equal bytes exactly where the states are equal
+-- equal bytes exactly if the states are equal
 pub same_bytes-Decides :
     (xs ys : List ℕ) → IsCode xs → IsCode ys → Decides (pointwise nat_eq xs ys) (decoded xs ≡ decoded ys)
 same_bytes-Decides xs ys p q =

@@ -23,7 +23,7 @@ abbrev pub IsChain : (ℕ → List ℕ) → List ℕ → Type 0
 IsChain targets [] = Unit {0}
 IsChain targets (p ∷ below) = ((q : ℕ) → In q below → LeadsBy targets q p) × IsChain targets below
 
--- The states are there, and the edges that were followed lead to states that were visited.
+-- The states exist, and the edges that were followed lead to states that were visited.
 abbrev pub AreFollowed : ℕ → (ℕ → List ℕ) → List ℕ → List Frame → Type 0
 AreFollowed n targets visited [] = Unit {0}
 AreFollowed n targets visited (frame ∷ below) =

@@ -1,4 +1,4 @@
--- What an NFA tells of itself.
+-- What an NFA says of itself.
 use Rattle.std.specs.Prelude.{ℕ, ◌≡◌, ◌⊎◌, [], ◌∷◌, Some, slice_get}
 use Rattle.automata_base.specs.declared.nfa.thompson.State.TheVariants.{ByteRange}
 use Rattle.automata_base.specs.Engines.{MatchesEmpty, Reaches}
@@ -9,7 +9,7 @@ use Rattle.automata_base.specs.Nodes.{Automaton, nfa_of}
 abbrev pub HasEmpty : Automaton → Type 0
 HasEmpty a = MatchesEmpty (nfa_of a) a.start_pattern
 
--- One start serves both modes.
+-- Anchored and unanchored searches have one start.
 abbrev pub IsAlwaysStartAnchored : Automaton → Type 0
 IsAlwaysStartAnchored a = a.start_unanchored ≡ a.start_anchored
 
@@ -21,6 +21,6 @@ IsLazyLoop a skip =
     × (slice_get a.states skip ≡ Some (ByteRange 0 255 a.start_unanchored))
     × (Reaches (nfa_of a) a.start_anchored a.start_unanchored → ⊥)
 
--- Unanchored searches begin anchored, or behind any bytes, the fewest first.
+-- Unanchored searches begin anchored, or after any bytes, the fewest first.
 abbrev pub SkipsLazily : Automaton → Type 0
 SkipsLazily a = IsAlwaysStartAnchored a ⊎ ((skip : ℕ) × IsLazyLoop a skip)

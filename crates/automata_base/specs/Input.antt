@@ -12,14 +12,14 @@ pub record Input : Type 0 where
   pub anchored : Anchored
   pub earliest : Bool
 
--- A span may be set: it ends in the haystack, and begins at most one behind its end, where it is done.
+-- A span may be set: it ends in the haystack, and begins at most one after its end, where it is done.
 abbrev pub Allows : List ℕ → ℕ → ℕ → Type 0
 Allows haystack start end = (start ≤ end + 1) × (end ≤ length haystack)
 
 abbrev pub IsAllowed : Input → Type 0
 IsAllowed input = Allows input.haystack input.start input.end
 
--- What a mode is called in the text of an error.
+-- The name of an anchored mode in the text of an error.
 abbrev pub mode_text : Anchored → List ℕ
 mode_text No = codes "unanchored searches"
 mode_text Yes = codes "anchored searches"

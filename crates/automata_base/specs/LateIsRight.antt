@@ -8,33 +8,33 @@ use Rattle.automata_base.specs.Passes.{IsTape}
 use Rattle.automata_base.specs.Selections.{Accepts, Selects, IsOverlappingOn, IsNearest, IsFarthest}
 use Rattle.automata_base.specs.Computed.{search_of, pairs_upto, told_of, IsInRange}
 
--- Where no cycle passes a look, a search by passes selects what the ordered paths do.
+-- Without a look cycle, a search by passes selects what the ordered paths select.
 abbrev pub SearchesAreRight : Type 0
 SearchesAreRight =
     (kind : MatchKind) (earliest : Bool) (n : Nfa) (t : Tape) (start : ℕ)
     → IsInRange n → start < length n.nodes → IsLookAcyclic n → IsTape t
     → Selects kind earliest n t start (search_of kind earliest n t start)
 
--- There a walk by passes tells the pairs that the ordered paths do.
+-- Without one, a walk by passes reports the pairs that the ordered paths have.
 abbrev pub WalksAreRight : Type 0
 WalksAreRight =
     (kind : MatchKind) (n : Nfa) (t : Tape) (start : ℕ)
     → IsInRange n → start < length n.nodes → IsLookAcyclic n → IsTape t
     → IsOverlappingOn kind n t start (pairs_upto n kind start t (suc (length t.bytes)))
 
--- Of every NFA an earliest search tells the nearest end.
+-- For every NFA an earliest search reports the nearest end.
 abbrev pub NearestEndsAreRight : Type 0
 NearestEndsAreRight =
     (kind : MatchKind) (n : Nfa) (t : Tape) (start : ℕ)
     → IsInRange n → start < length n.nodes → IsTape t → IsNearest n t start (search_of kind true n t start)
 
--- Of every NFA a search of kind all tells the farthest end.
+-- For every NFA a search under `MatchKind::All` reports the farthest end.
 abbrev pub EndsAreRight : Type 0
 EndsAreRight =
     (n : Nfa) (t : Tape) (start : ℕ)
     → IsInRange n → start < length n.nodes → IsTape t → IsFarthest n t start (search_of All false n t start)
 
--- Of every NFA a walk of kind all tells at each place the patterns whose paths end there.
+-- For every NFA a walk under `MatchKind::All` reports at each place the patterns whose paths end there.
 abbrev pub PairsAreRight : Type 0
 PairsAreRight =
     (n : Nfa) (t : Tape) (start i : ℕ)

@@ -1,4 +1,4 @@
--- The eighteen looks, and where they hold, by the byte before and the byte behind a place.
+-- The eighteen looks, and where they hold, by the bytes before and after a place.
 use Rattle.std.specs.Prelude.{ℕ, Bool, true, false, not, ◌&&◌, ◌||◌, leb, eqb, Option, Some, None}
 pub use Rattle.automata_base.specs.declared.util.look.Look.{Look}
 pub use Rattle.automata_base.specs.declared.util.look.Look.TheVariants.{Start, End, StartLF, EndLF, StartCRLF, EndCRLF}
@@ -42,7 +42,7 @@ abbrev pub second_half : Bool → ℕ
 second_half false = 10
 second_half true = 13
 
--- Where each look holds, between the byte before a place and the one behind it.
+-- Where each look holds, by the byte before a place and the one after it.
 abbrev pub holds : (terminator : ℕ) (reverse : Bool) → Look → (prev next : Option ℕ) → Bool
 holds t r Start prev next = is_absent prev
 holds t r End prev next = is_absent next

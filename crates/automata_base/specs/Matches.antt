@@ -1,7 +1,7 @@
 -- What contracts see of matches.
 use Rattle.std.specs.Prelude.{ℕ}
 
--- A pattern, and the offset where its match ends (of a reverse search: begins).
+-- A pattern, and the offset where its match ends (for a reverse search, begins).
 pub record HalfMatch : Type 0 where
   pub pattern : ℕ
   pub offset : ℕ

@@ -16,7 +16,7 @@ use Rattle.automata_base.specs.Selections.{Accepts}
 use Rattle.automata_base.specs.Tapes.{forward_tape, reverse_tape}
 use Rattle.automata_base.specs.TruePairs.{IsTruePair}
 
--- The look that holds where the bytes on the two sides are exchanged and the reverse flag is turned.
+-- The look that holds if the bytes on the two sides are exchanged and the reverse flag is flipped.
 abbrev pub flip : Look → Look
 flip Start = End
 flip End = Start
@@ -125,18 +125,18 @@ pub record IsMirror (n m : Nfa) (first : ℕ) (entries : List ℕ) (root : ℕ) 
       (p entry : ℕ) → nth entries p ≡ Some entry
       → (place : ℕ → ℕ) × (kept : List ℕ) × IsPart n m first reached p entry place kept
 
--- The flags of the reversed automaton.
+-- The flags of the reversed NFA.
 abbrev pub reversed_flags : Flags → Flags
 reversed_flags f = record { utf8 = f.utf8; reverse = not f.reverse; line_terminator = f.line_terminator }
 
--- The automaton `b` is `a` reversed.
+-- The NFA `b` is `a` reversed.
 abbrev pub IsReversed : Automaton → Automaton → Type 0
 IsReversed a b =
     (length b.start_pattern ≡ length a.start_pattern) × (b.flags.utf8 ≡ a.flags.utf8)
     × ((reached : List ℕ)
     × IsMirror (ranged_nfa a) (nfa_of b) a.start_anchored b.start_pattern b.start_anchored reached)
 
--- The empty match is reached from some pattern's start exactly if it is from the anchored start.
+-- The empty match is reached from some pattern's start exactly if it is reached from the anchored start.
 abbrev pub BeginsAlike : Automaton → Type 0
 BeginsAlike a = MatchesEmpty (nfa_of a) a.start_pattern ↔ MatchesEmpty (nfa_of a) (a.start_anchored ∷ [])
 
@@ -149,11 +149,11 @@ IsReversedByPattern a b =
     ↔ ((pattern ≡ k)
     × ((path : List ℕ) × Accepts (nfa_of a) (forward_tape h i j) a.start_anchored (j - i) pattern path))
 
--- So it is of every reversed automaton.
+-- This holds of every reversed NFA.
 abbrev pub PatternsAreReversed : Type 0
 PatternsAreReversed = (a b : Automaton) → IsDoor a → IsReversed a b → IsReversedByPattern a b
 
--- A reversed automaton makes a true pair.
+-- An NFA and its reversed one are a true pair.
 abbrev pub ReversedIsTrue : Type 0
 ReversedIsTrue =
     (a b : Automaton) (kind : MatchKind) → IsDoor a → IsReversed a b → BeginsAlike a → BeginsLazily (engine_of a kind)

@@ -25,7 +25,7 @@ abbrev pub node_or_fail : Option Node → Node
 node_or_fail None = Split []
 node_or_fail (Some x) = x
 
--- The state of a number. Past the last one there is nothing to do.
+-- The state of a number. Past the last one it is a fail state.
 abbrev pub node : Nfa → ℕ → Node
 node n q = node_or_fail (nth n.nodes q)
 
@@ -44,7 +44,7 @@ hop_at (Accept p) A e = None
 abbrev pub hop : Nfa → Truth → ℕ → ℕ → Option ℕ
 hop n A q e = hop_at (node n q) A e
 
--- Where the first range leads that has the byte.
+-- Where the first range leads that contains the byte.
 abbrev pub takes_in : List Range → ℕ → Option ℕ
 takes_in [] u = None
 takes_in (r ∷ rs) u = cond (within r.lo r.hi u) (Some r.next) (takes_in rs u)

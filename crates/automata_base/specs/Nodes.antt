@@ -1,4 +1,4 @@
--- The program's states as nodes.
+-- The states of the code as nodes.
 use Rattle.std.specs.Prelude.{ℕ, zero, suc, ◌+◌, ◌-◌, List, [], ◌∷◌, length, sum_by}
 use Rattle.automata_base.specs.declared.nfa.thompson.State.{State}
 use Rattle.automata_base.specs.declared.nfa.thompson.State.TheVariants as is
@@ -13,13 +13,13 @@ abbrev pub ranges_of : List Transition → List Range
 ranges_of [] = []
 ranges_of (t ∷ ts) = range_of t ∷ ranges_of ts
 
--- A dense state's edges: target 0 is none.
+-- The edges of a dense state: target 0 stands for no edge.
 abbrev pub dense_from : ℕ → List ℕ → List Range
 dense_from u [] = []
 dense_from u (zero ∷ rest) = dense_from (suc u) rest
 dense_from u (suc k ∷ rest) = record { lo = u; hi = u; next = suc k } ∷ dense_from (suc u) rest
 
--- Each kind of state by what paths see of it.
+-- The node of each kind of state.
 abbrev pub node_of : State → Node
 node_of (is.ByteRange lo hi next) = Read (record { lo = lo; hi = hi; next = next } ∷ [])
 node_of (is.Sparse ts) = Read (ranges_of ts.items)
@@ -43,7 +43,7 @@ pub record Automaton : Type 0 where
   pub start_pattern : List ℕ
   pub flags : Flags
 
--- What paths see of an automaton.
+-- What paths see of an NFA.
 abbrev pub nfa_of : Automaton → Nfa
 nfa_of a = record { nodes = nodes_of a.states; terminator = a.flags.line_terminator; reverse = a.flags.reverse }
 
@@ -59,6 +59,6 @@ extra_of (is.Capture next pattern index slot) = 0
 extra_of is.Fail = 0
 extra_of (is.Match pattern) = 0
 
--- The sum E.
+-- The room that the stack of a closure needs: one, and the sum of these.
 unfoldable pub stack_room : List State → ℕ
 stack_room states = 1 + sum_by extra_of states

@@ -1,5 +1,5 @@
--- Powerset states and the pass: the list walk whose matches come one unit late and whose looks are decided when the
--- next unit is known.
+-- Powerset states and the pass: the walk over lists of states whose matches are delayed by one byte, and whose looks
+-- are decided when the next unit is known.
 use Rattle.std.specs.Prelude.{ℕ, zero, suc, ◌≡◌, ◌<◌, Bool, true, false, not, ◌&&◌, ◌||◌, List, [], ◌∷◌, ◌⊎◌, ◌↔◌}
 use Rattle.std.specs.Prelude.{Option, Some, None}
 use Rattle.automata_base.specs.Looks.{Look, Start, End, StartLF, EndLF, StartCRLF, EndCRLF, WordAscii, WordAsciiNegate}
@@ -27,7 +27,7 @@ IsTape t = (i : ℕ) → IsUnit (next t i)
 abbrev pub Occurs : Nfa → Look → Type 0
 Occurs n look = (q next : ℕ) × (node n q ≡ Assert look next)
 
--- A look of the NFA that holds behind `prev` whatever comes next.
+-- A look of the NFA that holds after `prev` whatever comes next.
 abbrev pub IsKnownLook : Nfa → Option ℕ → Look → Type 0
 IsKnownLook n prev look =
     Occurs n look × ((next : Option ℕ) → IsUnit next → holds n.terminator n.reverse look prev next ≡ true)
@@ -50,9 +50,9 @@ is_crlf_look look = false
 abbrev pub IsNeeded : Nfa → List ℕ → Look → Type 0
 IsNeeded n xs look = (q next : ℕ) × In q xs × (node n q ≡ Assert look next)
 
--- The powerset state that is made of a closure behind a unit: its byte, look and match states in order, these patterns,
--- the looks that they need, those that are known behind the unit, and the two flags about the unit, each kept only
--- where some look of the NFA needs it.
+-- The powerset state that is made of a closure after a unit: its byte, look and match states in order, these patterns,
+-- the looks that they need, those that are known after the unit, and the two flags about the unit, each kept only if
+-- some look of the NFA needs it.
 abbrev pub IsMake : Nfa → List ℕ → List ℕ → Option ℕ → Powerset → Type 0
 IsMake n patterns C prev Q =
     (Q.nfa ≡ pick (keep n) C) × (Q.patterns ≡ patterns)
@@ -66,7 +66,7 @@ IsMake n patterns C prev Q =
     × (is_byte (first_half n.reverse) prev ≡ true)))
     × IsLookSet Q.known × IsLookSet Q.needed
 
--- What the next unit decides, the flags standing for the byte before.
+-- What the next unit decides, with the flags for the byte before.
 abbrev pub decided : (terminator : ℕ) (reverse word half : Bool) → Look → (unit : Option ℕ) → Bool
 decided t r w h Start u = false
 decided t r w h End u = is_absent u
@@ -87,11 +87,11 @@ decided t r w h WordEndHalfAscii u = not (is_word u)
 decided t r w h WordStartHalfUnicode u = not w
 decided t r w h WordEndHalfUnicode u = not (is_word u)
 
--- The looks that are true where a powerset state reads a unit: known before, or decided by it.
+-- The looks that are true when a powerset state reads a unit: known before, or decided by it.
 abbrev pub true_looks : Nfa → Powerset → Option ℕ → Truth
 true_looks n Q u look = truth_of Q.known look || decided n.terminator n.reverse Q.word Q.half look u
 
--- A needed look is true and was not known.
+-- A needed look is true and was not known before.
 abbrev pub IsNews : Nfa → Powerset → Option ℕ → Type 0
 IsNews n Q u =
     (look : Look) × (truth_of Q.needed look ≡ true) × (true_looks n Q u look ≡ true) × (truth_of Q.known look ≡ false)
@@ -101,7 +101,7 @@ abbrev pub IsDecided : Nfa → Powerset → Option ℕ → List ℕ → Type 0
 IsDecided n Q u L =
     (IsNews n Q u × IsClosure n (true_looks n Q u) Q.nfa L) ⊎ ((IsNews n Q u → ⊥) × (L ≡ Q.nfa))
 
--- The closure of the roots under the looks known behind `prev`, made a powerset state.
+-- The closure of the roots under the looks known after `prev`, made a powerset state.
 abbrev pub IsClosureOf : Nfa → List ℕ → List ℕ → Option ℕ → Powerset → Type 0
 IsClosureOf n patterns roots prev Q =
     (K : Truth) × (C : List ℕ) × ((look : Look) → (K look ≡ true) ↔ IsKnownLook n prev look)
@@ -112,8 +112,8 @@ abbrev pub IsStart : Nfa → ℕ → Option ℕ → Powerset → Type 0
 IsStart n start prev Q = IsClosureOf n [] (start ∷ []) prev Q
 
 -- The powerset state that another leads to on a unit: its looks are decided by the unit, the patterns are those of the
--- match states of the list, which under leftmost-first is cut behind the first of these, and the new list is the
--- closure of where its byte states lead.
+-- match states of the list, which under leftmost-first is cut after the first of these, and the new list is the closure
+-- of where its byte states lead.
 abbrev pub IsSuccessor : Nfa → MatchKind → Powerset → Option ℕ → Powerset → Type 0
 IsSuccessor n kind Q u Q' =
     (L patterns : List ℕ) × IsDecided n Q u L × IsOnce (pick (accepts n) (cut_for kind n L)) patterns

@@ -19,7 +19,7 @@ next_in [] after i = after
 next_in (u ∷ us) after zero = Some u
 next_in (u ∷ us) after (suc i) = next_in us after i
 
--- The byte before a place of the walk, and the one behind it.
+-- The byte before a place of the walk, and the one after it.
 abbrev pub prev : Tape → ℕ → Option ℕ
 prev t i = prev_in t.before t.bytes i
 

@@ -23,7 +23,7 @@ pub record IsCounted (set : List Bool) (len : ℕ) : Type 0 where
   pub counted : len ≡ length (members set)
   pub small : AreSmall set
 
--- A pattern that a set has no place for, and how many places the set has.
+-- A pattern that a set has no room for, and the capacity of the set.
 pub record Misfit : Type 0 where
   pub attempted : ℕ
   pub capacity : ℕ

@@ -1,4 +1,4 @@
--- Powerset states, what each of them meets, and what is counted for one.
+-- Powerset states, what holds for each of them, and their cost.
 use Rattle.std.specs.Prelude.{ℕ, List, [], Bool, false, ◌+◌, ◌*◌, ◌<◌, ◌^◌, nat_eq, length}
 use Rattle.std.specs.List.{AllByRecursion, IsDistinct}
 
@@ -16,7 +16,7 @@ pub record Powerset : Type 0 where
 abbrev pub IsId : ℕ → Type 0
 IsId id = id < 2147483647
 
--- what every powerset state meets
+-- what holds for every powerset state
 pub record IsPowerset (q : Powerset) : Type 0 where
   pub nfa : AllByRecursion IsId q.nfa
   pub patterns : AllByRecursion IsId q.patterns
@@ -24,19 +24,19 @@ pub record IsPowerset (q : Powerset) : Type 0 where
   pub known : q.known < 2 ^ 32
   pub needed : q.needed < 2 ^ 32
 
--- what is counted for a state beside its lists
+-- the cost of a state without its lists
 abbrev pub head_cost : ℕ
 head_cost = 13
 
--- for each of its patterns
+-- of each of its patterns
 abbrev pub pattern_cost : ℕ
 pattern_cost = 4
 
--- for each of its NFA states
+-- of each of its NFA states
 abbrev pub id_cost : ℕ
 id_cost = 5
 
--- what is counted for a state
+-- the cost of a state
 abbrev pub cost : Powerset → ℕ
 cost q = head_cost + pattern_cost * length q.patterns + id_cost * length q.nfa
 

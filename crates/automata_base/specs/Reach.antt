@@ -58,16 +58,16 @@ look_target (Assert look next) = Some next
 look_target (Read ranges) = None
 look_target (Accept p) = None
 
--- The state is a look, and edges that read nothing lead from it back to it.
+-- The state is a look, and epsilon edges lead from it back to it.
 abbrev pub LeadsBack : List State → ℕ → Type 0
 LeadsBack states q =
     (next : ℕ) × (look_target (node_in states q) ≡ Some next) × IsReached Epsilon states (next ∷ []) q
 
--- None does.
+-- No state is.
 abbrev pub AreLooksAcyclic : List State → Type 0
 AreLooksAcyclic states = (q : ℕ) → LeadsBack states q → ⊥
 
--- The second of two alternates, where the first is `first`.
+-- The second of two alternates, if the first is `first`.
 abbrev pub second_of : List ℕ → ℕ → Option ℕ
 second_of [] first = None
 second_of (a ∷ []) first = None
@@ -92,7 +92,7 @@ is_any_byte_of (is.Capture next pattern index slot) target = false
 is_any_byte_of is.Fail target = false
 is_any_byte_of (is.Match pattern) target = false
 
--- The starts are one, or the unanchored one is a lazy loop over any bytes before the anchored one.
+-- The starts are one state, or the unanchored one is a lazy loop over any bytes before the anchored one.
 abbrev pub SkipsFrom : List State → (anchored unanchored : ℕ) → Type 0
 SkipsFrom states anchored unanchored =
     (unanchored ≡ anchored)

@@ -1,4 +1,4 @@
--- The tests of the door.
+-- The tests of `NFA::from_states`.
 use Rattle.std.specs.Prelude.{ℕ, ◌+◌, ◌^◌, Option, Some, None, sum_by, length, Bool, true, ◌&&◌, ltb, leb}
 use Rattle.std.specs.Prelude.{if◌then◌else◌, List, [], ◌∷◌}
 use Rattle.automata_base.specs.declared.nfa.thompson.NfaError.{NfaError}
@@ -45,7 +45,7 @@ abbrev pub matches_below : ℕ → List State → Bool
 matches_below P [] = true
 matches_below P (x ∷ xs) = match_below P x && matches_below P xs
 
--- Ranges are ranges, and sparse ones are sorted and apart.
+-- Ranges are not reversed, and those of a sparse state are sorted and do not overlap.
 abbrev pub ordered_from : ℕ → List Transition → Bool
 ordered_from low [] = true
 ordered_from low (t ∷ ts) = leb low t.lo && leb t.lo t.hi && ordered_from (t.hi + 1) ts
@@ -89,11 +89,11 @@ is_narrow states = leb (sum_by alternates_of states) (2 ^ 31)
 abbrev pub starts_below : ℕ → (anchored unanchored : ℕ) → (starts : List ℕ) → Bool
 starts_below n anchored unanchored starts = ltb anchored n && ltb unanchored n && all_below n starts
 
--- The error where the test fails, and else what the later tests tell.
+-- The error if the test fails, and otherwise that of the later tests.
 abbrev pub unless : Bool → NfaError → Option NfaError → Option NfaError
 unless passes error later = if passes then later else Some error
 
--- The error of the first test that fails: none where all pass.
+-- The error of the first test that fails; none if all pass.
 unfoldable pub door_refusal : List State → (anchored unanchored : ℕ) → (starts : List ℕ) → Option NfaError
 door_refusal states anchored unanchored starts =
     unless (is_small states starts) TooLarge

@@ -10,7 +10,7 @@ abbrev pub starts_with : ℕ → List ℕ → Bool
 starts_with x [] = false
 starts_with x (y ∷ ys) = eqb y x
 
--- The bytes from `lo` to `hi` lead to the target: target 0 is none.
+-- The bytes from `lo` to `hi` lead to the target: target 0 stands for no edge.
 abbrev pub run_of : (lo hi target : ℕ) → List Transition
 run_of lo hi zero = []
 run_of lo hi (suc k) = record { lo = lo; hi = hi; next = suc k } ∷ []
@@ -37,7 +37,7 @@ abbrev pub ranged_nodes : List State → List Node
 ranged_nodes [] = []
 ranged_nodes (x ∷ xs) = ranged x ∷ ranged_nodes xs
 
--- What paths see of an automaton, each dense state with its edges as ranges.
+-- What paths see of an NFA, each dense state with its edges as ranges.
 abbrev pub ranged_nfa : Automaton → Nfa
 ranged_nfa a = record {
   nodes = ranged_nodes a.states;

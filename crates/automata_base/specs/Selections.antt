@@ -1,4 +1,4 @@
--- What a search and a walk answer, by paths; and what a pass tells.
+-- The answers of a search and a walk, by paths; and what a pass reports.
 use Rattle.std.specs.Prelude.{ℕ, zero, suc, ◌≡◌, ◌<◌, Bool, true, false, List, [], ◌∷◌, ◌++◌, ◌⊎◌, length, Option}
 use Rattle.std.specs.Prelude.{Some, None}
 use Rattle.automata_base.specs.Order.{Before, Upto}
@@ -13,8 +13,8 @@ use Rattle.automata_base.specs.Powerset.{Powerset}
 abbrev pub Accepts : Nfa → Tape → ℕ → ℕ → ℕ → List ℕ → Type 0
 Accepts n t start i pattern path = (q : ℕ) × IsPath n t start i q path × (accepts n q ≡ Some pattern)
 
--- The patterns that a walk of kind all tells at place `i`: those of the accepting paths that end there, each once, in
--- the order of their least paths.
+-- The patterns that a walk under `MatchKind::All` reports at place `i`: those of the accepting paths that end there,
+-- each once, in the order of their least paths.
 abbrev pub IsAllAt : Nfa → Tape → ℕ → ℕ → List ℕ → Type 0
 IsAllAt n t start i patterns = IsListOf (λ pattern path. Accepts n t start i pattern path) patterns
 
@@ -54,7 +54,7 @@ Pairs At (suc i) pairs =
 abbrev pub IsOverlappingOn : MatchKind → Nfa → Tape → ℕ → List Pair → Type 0
 IsOverlappingOn kind n t start pairs = Pairs (ArePatternsAt kind n t start) (suc (length t.bytes)) pairs
 
--- What the pass tells of place `i`: the patterns of the state that the unit there gave.
+-- What the pass reports at place `i`: the patterns of the state that the unit there leads to.
 abbrev pub Tells : MatchKind → Nfa → Tape → ℕ → ℕ → List ℕ → Type 0
 Tells kind n t start i patterns = (Q : Powerset) × IsPass n kind start t (suc i) Q × (Q.patterns ≡ patterns)
 
@@ -73,14 +73,14 @@ Selects kind earliest n t start (Some pair) =
     × ((j pattern : ℕ) (other : List ℕ) → Accepts n t start j pattern other
     → IsChosen kind earliest pair.place path j other)
 
--- For every NFA and either kind, an earliest search finds the nearest end.
+-- For every NFA and match kind, an earliest search finds the nearest end.
 abbrev pub IsNearest : Nfa → Tape → ℕ → Option Pair → Type 0
 IsNearest n t start None = (i pattern : ℕ) (path : List ℕ) → Accepts n t start i pattern path → ⊥
 IsNearest n t start (Some pair) =
     ((path : List ℕ) × Accepts n t start pair.place pair.pattern path)
     × ((j pattern : ℕ) (path : List ℕ) → j < pair.place → Accepts n t start j pattern path → ⊥)
 
--- For every NFA, under kind all a search finds the farthest end.
+-- For every NFA, a search under `MatchKind::All` finds the farthest end.
 abbrev pub IsFarthest : Nfa → Tape → ℕ → Option Pair → Type 0
 IsFarthest n t start None = (i pattern : ℕ) (path : List ℕ) → Accepts n t start i pattern path → ⊥
 IsFarthest n t start (Some pair) =

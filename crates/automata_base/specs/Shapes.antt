@@ -7,7 +7,7 @@ use Rattle.automata_base.specs.declared.nfa.thompson.building.Added.{Added}
 use Rattle.automata_base.specs.declared.nfa.thompson.building.Added.TheVariants as was
 use Rattle.automata_base.specs.Looks.{Look}
 
--- Of a state of an NFA, or of one that a builder keeps. Only a builder has empty states and reversed unions.
+-- The shape of a state of an NFA, or of one that a builder keeps. Only a builder has empty states and reversed unions.
 pub data Shape : Type 0 where
   EmptyShape : (next : ℕ) → Shape
   RangeShape : (lo hi next : ℕ) → Shape
@@ -64,8 +64,9 @@ built_of (CaptureShape next pattern index slot) = CaptureShape next pattern inde
 built_of FailShape = FailShape
 built_of (MatchShape pattern) = MatchShape pattern
 
--- A state once it was patched: a union has one alternate more, and what has one target leads there instead. A state
--- without a target stays as it is; a sparse state, whose targets stand at its ranges, takes no patch.
+-- A state after it was patched: a union has one alternate more, and a state with one target leads to the new target
+-- instead. A state without a target stays as it is; a sparse state has its targets at its ranges, and cannot be
+-- patched.
 abbrev pub patched : Shape → ℕ → Option Shape
 patched (EmptyShape next) to = Some (EmptyShape to)
 patched (RangeShape lo hi next) to = Some (RangeShape lo hi to)

@@ -11,7 +11,7 @@ use Rattle.automata_base.specs.Input.{Input}
 use Rattle.automata_base.specs.Matches.{Match}
 use Rattle.automata_base.specs.Told.{IsFarthestAnswer}
 
--- Where the match of a path begins: the place where it first stands on the anchored start; for an anchored mode its
+-- Where the match of a path begins: the place where it first stands on the anchored start; in an anchored mode its
 -- first place.
 abbrev pub IsPathStart : Engine → Anchored → Tape → List ℕ → ℕ → Type 0
 IsPathStart d No t path place =
@@ -27,11 +27,11 @@ Chooses d earliest t q i pattern path =
     Accepts d.nfa t q i pattern path
     × ((j p : ℕ) (other : List ℕ) → Accepts d.nfa t q j p other → IsChosen d.kind earliest i path j other)
 
--- The input searched in full.
+-- The input, not earliest.
 abbrev pub in_full : Input → Input
 in_full input = record input { earliest = false }
 
--- Whether there is a match: whether the search in full has an answer.
+-- Whether there is a match: whether the search that is not earliest has an answer.
 abbrev pub IsMatch : Engine → Input → Bool → Type 0
 IsMatch d input answer = (o : Option Half) × IsAnswer Forward d (in_full input) o × (answer ≡ is_some o)
 
@@ -50,7 +50,7 @@ IsSpan d input (Some m) =
 abbrev pub IsShort : Engine → Input → Half → Type 0
 IsShort f input half = (half.base ≡ half.offset) ⊎ ((input.anchored ≡ No → ⊥) ⊎ BeginsAnchored f)
 
--- What the reverse search is asked: the span that the forward search left, anchored and in full.
+-- The input of the reverse search: the span that the forward search left, anchored and not earliest.
 abbrev pub back : Input → Half → Input
 back input half =
     record { haystack = input.haystack; start = half.base; end = half.offset; anchored = Yes; earliest = false }
@@ -68,7 +68,7 @@ pub data Outcome : Type 0 where
   Found : Option Match → Outcome
   NotAPair : Outcome
 
--- What a search over a forward and a reverse DFA tells, by what the search on and the one back find.
+-- What a search over a forward and a reverse DFA returns, by what the search forward and the one back find.
 abbrev pub TellsBy : (Fronts Backs : Input → Option Half → Type 0) → Engine → Input → Outcome → Type 0
 TellsBy Fronts Backs f input (Found None) = Fronts input None
 TellsBy Fronts Backs f input (Found (Some m)) =
@@ -76,25 +76,25 @@ TellsBy Fronts Backs f input (Found (Some m)) =
     × (m.pattern ≡ half.pattern) × (m.end ≡ half.offset)
 TellsBy Fronts Backs f input NotAPair = (half : Half) × Fronts input (Some half) × FindsStartBy Backs f input half None
 
--- Where both answer by the ordered paths.
+-- If both answer by the ordered paths.
 abbrev pub FindsStart : Engine → Engine → Input → Half → Option ℕ → Type 0
 FindsStart f r input half start = FindsStartBy (IsAnswer Backward r) f input half start
 
 abbrev pub IsTrySearch : Engine → Engine → Input → Outcome → Type 0
 IsTrySearch f r input outcome = TellsBy (IsAnswer Forward f) (IsAnswer Backward r) f input outcome
 
--- Where the one back finds the farthest place alone, whatever the order of its paths.
+-- If the one back finds the farthest place alone, whatever the order of its paths.
 abbrev pub IsFarSearch : Engine → Engine → Input → Outcome → Type 0
 IsFarSearch f r input outcome = TellsBy (IsAnswer Forward f) (IsFarthestAnswer Backward r) f input outcome
 
 abbrev pub from : ℕ → Input → Input
 from start input = record input { start = start }
 
--- An empty match where the last one ended.
+-- An empty match at the last end.
 abbrev pub IsEmptyAt : Option ℕ → Match → Type 0
 IsEmptyAt last m = (m.start ≡ m.end) × (last ≡ Some m.end)
 
--- The next match of an iteration that stands at `start`, the last match having ended at `last`: an empty one there is
+-- The next match of an iteration that stands at `start`, after a match that ended at `last`: an empty one at `last` is
 -- replaced by that of the search one place later. `Finds` says what a search finds.
 abbrev pub IsNextItem : (Finds : Input → Option Match → Type 0) → Input → ℕ → Option ℕ → Option Match → Type 0
 IsNextItem Finds input start last None =

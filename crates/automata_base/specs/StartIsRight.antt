@@ -9,15 +9,15 @@ use Rattle.automata_base.specs.Spans.{IsSpan, IsMatch, Outcome, Found, IsTrySear
 use Rattle.automata_base.specs.Spans.{AreSpans, AreFound, Rise}
 use Rattle.automata_base.specs.Matches.{Match}
 
--- Over a true pair under the UTF-8 promise a search tells the match of the path that the forward search chose, and
+-- Over a true pair with the UTF-8 promise a search reports the match of the path that the forward search chose, and
 -- never that the two are no pair.
 abbrev pub TellSpans : (Tells : Engine → Engine → Input → Outcome → Type 0) → Type 0
 TellSpans Tells =
     (f r : Engine) (input : Input) (outcome : Outcome)
     → IsTruePair f r → KeepsUtf8 Forward f → IsInput input → Tells f r input outcome → FindsSpan f input outcome
 
--- One that answers both ways by the ordered paths does so, and one whose search back finds the farthest place alone,
--- as a pass of any reverse NFA does.
+-- This holds of one that answers both ways by the ordered paths, and of one whose search back finds the farthest place
+-- alone, as a pass of any reverse NFA does.
 pub record StartsAreRight : Type 0 where
   pub paths : TellSpans IsTrySearch
   pub farthest : TellSpans IsFarSearch
@@ -49,13 +49,13 @@ pub record AreOne : Type 0 where
   pub answer : AnswersAreOne
   pub list : IterationsAreOne
 
--- An iteration over a true pair tells the spans.
+-- An iteration over a true pair reports the spans.
 abbrev pub IterationsAreRight : Type 0
 IterationsAreRight =
     (f r : Engine) (input : Input) (ms : List Match)
     → IsTruePair f r → KeepsUtf8 Forward f → IsInput input → AreFound f r input ms → AreSpans f input ms
 
--- Ends rise, so matches are at most one more than the span has bytes.
+-- Ends rise, so there is at most one match more than the span has bytes.
 abbrev pub EndsRise : Type 0
 EndsRise =
     (d : Engine) (input : Input) (ms : List Match) → input.end ≤ length input.haystack → AreSpans d input ms
@@ -71,14 +71,14 @@ pub record AllEndsRise : Type 0 where
   pub spans : EndsRise
   pub found : FoundEndsRise
 
--- Where the input is not earliest or nothing is skipped, there is a match exactly if a search finds one.
+-- If the input is not earliest or nothing is skipped, there is a match exactly if a search finds one.
 abbrev pub MatchIffFound : Type 0
 MatchIffFound =
     (d : Engine) (input : Input) (truth : Bool) (answer : Option Match)
     → (input.earliest ≡ false) ⊎ (IsSkipping d → ⊥) → IsMatch d input truth → IsSpan d input answer
     → truth ≡ is_some answer
 
--- With one quit set the reverse search meets no quit byte where the forward search met none up to its match.
+-- With one quit set the reverse search meets no quit byte if the forward search met none up to its match.
 abbrev pub BackMeetsNone : Type 0
 BackMeetsNone =
     (quits : ℕ → Bool) (h : List ℕ) (b e i m : ℕ) → b + i ≤ e → e ≤ length h → m ≤ i

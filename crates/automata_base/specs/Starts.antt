@@ -1,4 +1,4 @@
--- Where the paths of a mode start, and the powerset state that stands for them.
+-- Where the paths of an anchored mode start, and the powerset state that stands for them.
 use Rattle.std.specs.Prelude.{ℕ, ◌≡◌, ◌<◌, length, slice_get, Option, Some, None}
 use Rattle.automata_base.specs.declared.util.search.Anchored.{Anchored}
 use Rattle.automata_base.specs.declared.util.search.Anchored.TheVariants.{No, Yes, Pattern}
@@ -8,18 +8,18 @@ use Rattle.automata_base.specs.Nfa.{Nfa}
 use Rattle.automata_base.specs.Passes.{IsStart}
 use Rattle.automata_base.specs.Powerset.{Powerset, dead}
 
--- The state where the paths of a mode start: past the last pattern there is none.
+-- The state where the paths of an anchored mode start; none past the last pattern.
 abbrev pub mode_start : Automaton → Anchored → Option ℕ
 mode_start a No = Some a.start_unanchored
 mode_start a Yes = Some a.start_anchored
 mode_start a (Pattern p) = slice_get a.start_pattern p
 
--- The start of a first state; without one the dead state.
+-- The start state of a first state; without one the dead state.
 abbrev pub IsStartAt : Nfa → Option ℕ → Option ℕ → Powerset → Type 0
 IsStartAt n None prev Q = Q ≡ dead
 IsStartAt n (Some start) prev Q = IsStart n start prev Q
 
--- The start: past the last pattern the dead state.
+-- The start state; past the last pattern the dead state.
 abbrev pub IsStartOf : Automaton → Anchored → Option ℕ → Powerset → Type 0
 IsStartOf a mode prev Q = IsStartAt (nfa_of a) (mode_start a mode) prev Q
 

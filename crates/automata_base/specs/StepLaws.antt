@@ -1,4 +1,4 @@
--- What every powerset automaton does alike, and what its passes tell: statements of laws.
+-- Laws about every DFA: what it does alike, and what its passes report.
 use Rattle.std.specs.Prelude.{ℕ, ◌≡◌, ◌<◌, ◌↔◌, Bool, true, false, List, length, Option, Some}
 use Rattle.automata_base.specs.Alike.{behind_of}
 use Rattle.automata_base.specs.Classes.{class_of, is_quit}
@@ -27,7 +27,7 @@ ClassesQuitAlike =
     (a : Automaton) (quits : List Bool) (on : Bool) (u v : ℕ)
     → class_of a quits on u ≡ class_of a quits on v → is_quit quits u ≡ is_quit quits v
 
--- behind bytes of one kind a mode has one start
+-- after look-behind bytes of one kind an anchored mode has one start state
 abbrev pub StartsAreAlike : Type 0
 StartsAreAlike =
     (a : Automaton) (mode : Anchored) (x y : Option ℕ)
@@ -38,21 +38,21 @@ StartsAreAlike =
 abbrev pub DeadStaysDead : Type 0
 DeadStaysDead = (a : Automaton) (kind : MatchKind) (unit : Option ℕ) → successor a kind dead unit ≡ dead
 
--- a pass over a look-acyclic automaton tells what the ordered paths select
+-- a pass over an NFA without look cycles reports what the ordered paths select
 abbrev pub PassesSelect : Type 0
 PassesSelect =
     (kind : MatchKind) (earliest : Bool) (a : Automaton) (mode : Anchored) (t : Tape) (start : ℕ)
     → mode_start a mode ≡ Some start → IsInRange (nfa_of a) → start < length (nodes_of a.states)
     → IsLookAcyclic (nfa_of a) → IsTape t → Selects kind earliest (nfa_of a) t start (told_by kind earliest a mode t)
 
--- an earliest pass over any automaton tells the nearest end
+-- an earliest pass over any NFA reports the nearest end
 abbrev pub PassesFindNearest : Type 0
 PassesFindNearest =
     (kind : MatchKind) (a : Automaton) (mode : Anchored) (t : Tape) (start : ℕ)
     → mode_start a mode ≡ Some start → IsInRange (nfa_of a) → start < length (nodes_of a.states) → IsTape t
     → IsNearest (nfa_of a) t start (told_by kind true a mode t)
 
--- under kind all a pass over any automaton tells the farthest end
+-- under `MatchKind::All` a pass over any NFA reports the farthest end
 abbrev pub PassesFindFarthest : Type 0
 PassesFindFarthest =
     (a : Automaton) (mode : Anchored) (t : Tape) (start : ℕ)

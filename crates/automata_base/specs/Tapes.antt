@@ -9,7 +9,7 @@ use Rattle.automata_base.specs.Paths.{Tape, prev, next}
 abbrev pub IsHaystack : List ℕ → Type 0
 IsHaystack h = (o u : ℕ) → nth h o ≡ Some u → u < 256
 
--- The byte on the left of a place; the one on its right is `nth h o`. Either is absent only outside the haystack.
+-- The byte on the left of a place; the one on its right is `nth h o`. Either is missing only outside the haystack.
 abbrev pub byte_before : List ℕ → ℕ → Option ℕ
 byte_before h zero = None
 byte_before h (suc o) = nth h o

@@ -1,4 +1,4 @@
--- What a pass over a tape tells: the search of a powerset automaton, unit by unit, as functions.
+-- What a pass over a tape reports: the search over powerset states, unit by unit, as functions.
 use Rattle.std.specs.Prelude.{ℕ, zero, suc, Bool, true, false, List, [], ◌++◌, length, Option, None}
 use Rattle.automata_base.specs.Computed.{pair_at, earlier_or}
 use Rattle.automata_base.specs.Cuts.{MatchKind}
@@ -14,11 +14,11 @@ unfoldable pub state_after : Automaton → MatchKind → Anchored → Tape → �
 state_after a kind mode t zero = start_state_of a mode t.before
 state_after a kind mode t (suc k) = successor a kind (state_after a kind mode t k) (next t k)
 
--- the patterns of the state that the unit at place `i` gave: matches are told one unit late
+-- the patterns of the state that the unit at place `i` leads to: matches are delayed by one byte
 abbrev pub told_at : Automaton → MatchKind → Anchored → Tape → ℕ → List ℕ
 told_at a kind mode t i = (state_after a kind mode t (suc i)).patterns
 
--- the first pattern of the last state with patterns, and its place, among what the first `k` units tell
+-- the first pattern of the last state with patterns, and its place, among what the first `k` units report
 unfoldable pub last_told : Automaton → MatchKind → Anchored → Tape → ℕ → Option Pair
 last_told a kind mode t zero = None
 last_told a kind mode t (suc i) = pair_at (told_at a kind mode t i) i (last_told a kind mode t i)
@@ -28,16 +28,16 @@ unfoldable pub first_told : Automaton → MatchKind → Anchored → Tape → �
 first_told a kind mode t zero = None
 first_told a kind mode t (suc i) = earlier_or (first_told a kind mode t i) (pair_at (told_at a kind mode t i) i None)
 
--- what the first `k` units tell: an earliest search the first match, any other the last one
+-- what the first `k` units report: an earliest search the first match, any other the last one
 abbrev pub told_upto : MatchKind → (earliest : Bool) → Automaton → Anchored → Tape → ℕ → Option Pair
 told_upto kind true a mode t k = first_told a kind mode t k
 told_upto kind false a mode t k = last_told a kind mode t k
 
--- what a search tells of its pass, which reads each byte of the tape and the unit behind
+-- what a search reports of its pass, which reads each byte of the tape and the unit after it
 abbrev pub told_by : MatchKind → (earliest : Bool) → Automaton → Anchored → Tape → Option Pair
 told_by kind earliest a mode t = told_upto kind earliest a mode t (suc (length t.bytes))
 
--- the pairs that the first `k` units tell, in order
+-- the pairs that the first `k` units report, in order
 unfoldable pub pairs_told : Automaton → MatchKind → Anchored → Tape → ℕ → List Pair
 pairs_told a kind mode t zero = []
 pairs_told a kind mode t (suc i) = pairs_told a kind mode t i ++ at_place i (told_at a kind mode t i)

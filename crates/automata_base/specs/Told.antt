@@ -1,4 +1,4 @@
--- What a search answers by what its passes tell, for every automaton.
+-- What a search answers by what its passes report, for every NFA.
 use Rattle.std.specs.Prelude.{ℕ, ◌≡◌, true, false, Option, None, Some}
 use Rattle.automata_base.specs.Answers.{Answers, Half, IsAnswer, IsInput}
 use Rattle.automata_base.specs.Cuts.{MatchKind, All}
@@ -11,7 +11,7 @@ use Rattle.automata_base.specs.Selections.{Pair, IsFarthest, IsNearest}
 use Rattle.automata_base.specs.Tapes.{Direction, tape_of}
 use Rattle.automata_base.specs.Telling.{told_by}
 
--- what the pass over the span of an input tells, which is not done; the place is the walk's
+-- what the pass over the span of an input reports, which is not done; the place is counted from where the search begins
 abbrev pub told_over : Direction → Automaton → MatchKind → Input → Option Pair
 told_over way a kind input =
     told_by kind input.earliest a input.anchored (tape_of way input.haystack input.start input.end)
@@ -19,18 +19,18 @@ told_over way a kind input =
 abbrev pub TellsOver : Direction → Automaton → MatchKind → Input → Option Pair → Type 0
 TellsOver way a kind input told = told ≡ told_over way a kind input
 
--- what a search answers: what the pass tells over the first span where that is nothing or not split
+-- what a search answers: what the pass reports over the first span for which that is nothing or not split
 abbrev pub IsTold : Direction → Automaton → MatchKind → Input → Option Half → Type 0
 IsTold way a kind input answer = Answers (TellsOver way a kind) (IsSkipping (engine_of a kind)) way input answer
 
--- for a look-acyclic automaton it is the answer of the ordered paths
+-- without a look cycle it is the answer of the ordered paths
 abbrev pub ToldIsRight : Automaton → Type 0
 ToldIsRight a =
     (way : Direction) (kind : MatchKind) (input : Input) (answer : Option Half)
     → IsLookAcyclic (nfa_of a) → IsInput input → IsTold way a kind input answer
     → IsAnswer way (engine_of a kind) input answer
 
--- passes tell one answer
+-- passes report one answer
 abbrev pub ToldIsOne : Type 0
 ToldIsOne =
     (way : Direction) (a : Automaton) (kind : MatchKind) (input : Input) (first second : Option Half)
@@ -45,14 +45,14 @@ abbrev pub EndsOver : (Rule : Nfa → Tape → ℕ → Option Pair → Type 0) �
 EndsOver Rule way d input answer =
     EndsFrom Rule d (tape_of way input.haystack input.start input.end) (first_state d input.anchored) answer
 
--- a search answers the nearest end, or the farthest one, over the first span where that is nothing or not split
+-- a search answers the nearest end, or the farthest one, over the first span for which that is nothing or not split
 abbrev pub IsNearestAnswer : Direction → Engine → Input → Option Half → Type 0
 IsNearestAnswer way d input answer = Answers (EndsOver IsNearest way d) (IsSkipping d) way input answer
 
 abbrev pub IsFarthestAnswer : Direction → Engine → Input → Option Half → Type 0
 IsFarthestAnswer way d input answer = Answers (EndsOver IsFarthest way d) (IsSkipping d) way input answer
 
--- for every automaton it is the nearest end in an earliest search, and under kind all the farthest end in another
+-- for every NFA it is the nearest end in an earliest search, and under `MatchKind::All` the farthest end in any other
 abbrev pub ToldEndsAreRight : Automaton → Type 0
 ToldEndsAreRight a =
     (way : Direction) (kind : MatchKind) (input : Input) (answer : Option Half)

@@ -1,4 +1,4 @@
--- A forward and a reverse DFA of one regular expression, and the promise on UTF-8.
+-- A forward and a reverse DFA of one regular expression, and the UTF-8 promise.
 use Rattle.std.specs.Prelude.{ℕ, ◌≡◌, ◌<◌, ◌≤◌, ◌-◌, true, List, ◌↔◌, length, Some, IsUtf8}
 use Rattle.automata_base.specs.Cuts.{All}
 use Rattle.automata_base.specs.Selections.{Accepts}
@@ -17,7 +17,7 @@ IsTruePair f r =
     → Joins Forward f h i j pattern ↔ Joins Backward r h i j pattern)
     × BeginsLazily f
 
--- In UTF-8 mode every accepting path of an anchored mode that reads something reads UTF-8.
+-- In UTF-8 mode every accepting path of an anchored mode that is not empty reads UTF-8.
 abbrev pub KeepsUtf8 : Direction → Engine → Type 0
 KeepsUtf8 way d =
     (h : List ℕ) (i j pattern : ℕ) (mode : Anchored) (start : ℕ) (path : List ℕ)

@@ -22,12 +22,12 @@ all_looks =
     ∷ WordStartAscii ∷ WordEndAscii ∷ WordStartUnicode ∷ WordEndUnicode ∷ WordStartHalfAscii ∷ WordEndHalfAscii
     ∷ WordStartHalfUnicode ∷ WordEndHalfUnicode ∷ []
 
--- The number whose bits say which looks of the list are so, the first of them being bit 0.
+-- The number whose bits say which looks of the list are in a set, the first of them by bit 0.
 abbrev pub bits_from : Truth → List Look → ℕ
 bits_from A [] = 0
 bits_from A (look ∷ looks) = (if A look then 1 else 0) + 2 * bits_from A looks
 
--- The set of the looks that are so.
+-- The set of these looks.
 abbrev pub set_of : Truth → ℕ
 set_of A = bits_from A all_looks
 

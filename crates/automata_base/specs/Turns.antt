@@ -15,13 +15,12 @@ use Rattle.automata_base.specs.declared.nfa.thompson.reach.Edges.TheVariants.{Ev
 use Rattle.std.specs.declared.alloc.Global.{Global}
 use Rattle.std.proofs.Common.{Vec}
 
--- The items of each.
+-- The items of each list.
 abbrev pub lists_of : List (Vec ℕ Global) → List (List ℕ)
 lists_of [] = []
 lists_of (v ∷ vs) = v.items ∷ lists_of vs
 
--- For each state its alternates. The helpers stand after the states, so that helper k has the number of the states
--- and k more.
+-- For each state its alternates. The helpers come after the states, so helper k has the number of states plus k.
 pub record Turns : Type 0 where
   pub lists : List (List ℕ)
   pub helpers : List State
@@ -29,7 +28,7 @@ pub record Turns : Type 0 where
 abbrev pub turns_of : EdgesByTarget → Turns
 turns_of t = record { lists = lists_of t.lists.items; helpers = t.helpers.items }
 
--- Puts `x` after the alternates of the state `k`.
+-- Adds `x` after the alternates of the state `k`.
 abbrev pub push_at : List (List ℕ) → ℕ → ℕ → List (List ℕ)
 push_at [] k x = []
 push_at (xs ∷ rest) zero x = (xs ++ x ∷ []) ∷ rest
@@ -120,7 +119,7 @@ abbrev pub copies : (ℕ → ℕ) → (p : ℕ) → List State → List ℕ → 
 copies f p states [] = []
 copies f p states (q ∷ qs) = copied f p (slice_index_or states q is.Fail) ∷ copies f p states qs
 
--- The copy of a number: the members' copies stand one behind the other, from a base on.
+-- The copy of a number: the members' copies come one after another, from a base on.
 abbrev pub copy_of : (base : ℕ) → List ℕ → ℕ → ℕ
 copy_of base items q = base + place_in items q
 
@@ -162,8 +161,8 @@ abbrev pub HaveCopies : List Node → List State → (turned : List State) → (
 HaveCopies nodes states turned reached entries =
     (p entry : ℕ) → nth entries p ≡ Some entry → HasCopies nodes turned (matches_in states p reached) p entry
 
--- These states are what is made of an automaton that is reversed: the copies for each pattern, and after them the root,
--- which goes on to each pattern's entry.
+-- These states are what a reversed NFA is made of: the copies for each pattern, and after them the root, which goes on
+-- to each pattern's entry.
 abbrev pub AreReversed : List State → (first patterns : ℕ) → List State → List ℕ → (root : ℕ) → Type 0
 AreReversed states first patterns made entries root =
     (turned : List State) × (reached : List ℕ) × (nodes : List Node)

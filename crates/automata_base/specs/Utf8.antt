@@ -19,7 +19,7 @@ abbrev pub in_order : Direction → List ℕ → List ℕ
 in_order Forward bytes = bytes
 in_order Backward bytes = reverse bytes
 
--- Whatever leads from the anchored start or a pattern's start to a match state is UTF-8.
+-- What leads from the anchored start or a pattern's start to a match state is UTF-8.
 abbrev pub ReadsUtf8 : Direction → Automaton → Type 0
 ReadsUtf8 way a =
     (start q p : ℕ) (bytes : List ℕ) → In start (a.start_anchored ∷ a.start_pattern)

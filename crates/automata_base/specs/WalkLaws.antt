@@ -1,4 +1,4 @@
--- What an overlapping walk tells by its pass, for every automaton, and that this is what the ordered paths tell.
+-- What an overlapping walk reports by its pass, for every NFA, and that this is what the ordered paths report.
 use Rattle.std.specs.Prelude.{ℕ, ◌≡◌, ◌≤◌, ◌⊎◌, ◌↔◌, suc, false, List, [], ◌∷◌, length, Some}
 use Rattle.automata_base.specs.Answers.{IsInput, IsOverlapping, Walks, offset_in}
 use Rattle.automata_base.specs.Cuts.{MatchKind, All}
@@ -11,13 +11,13 @@ use Rattle.automata_base.specs.Starts.{mode_start}
 use Rattle.automata_base.specs.Tapes.{Direction, is_split, tape_of}
 use Rattle.automata_base.specs.Telling.{pairs_told}
 
--- what the pass over the span of an input tells, which is not done; the places are the walk's
+-- what the pass over the span of an input reports, which is not done; places are counted from where the search begins
 abbrev pub SpanTells : Direction → Automaton → MatchKind → Input → List Pair → Type 0
 SpanTells way a kind input pairs =
     pairs ≡ pairs_told a kind input.anchored (tape_of way input.haystack input.start input.end)
     (suc (length (tape_of way input.haystack input.start input.end).bytes))
 
--- the whole list of a walk: what its pass tells, by offsets, without the split places where they are skipped
+-- the whole list of a walk: what its pass reports, by offsets, without the split places if they are skipped
 abbrev pub AreTold : Direction → Automaton → MatchKind → Input → List Pair → Type 0
 AreTold way a kind input found = Walks (SpanTells way a kind) (IsSkipping (engine_of a kind)) way input found
 
@@ -31,7 +31,7 @@ WalksAreOne =
     (way : Direction) (a : Automaton) (kind : MatchKind) (input : Input) (first second : List Pair)
     → AreTold way a kind input first → AreTold way a kind input second → first ≡ second
 
--- for a look-acyclic automaton it is the list of the ordered paths
+-- without a look cycle it is the list of the ordered paths
 abbrev pub WalkIsRight : Automaton → Type 0
 WalkIsRight a =
     (way : Direction) (kind : MatchKind) (input : Input) (found : List Pair)
@@ -49,7 +49,7 @@ abbrev pub InPairs : Pair → List Pair → Type 0
 InPairs pair [] = ⊥
 InPairs pair (x ∷ xs) = (pair ≡ x) ⊎ InPairs pair xs
 
--- some path of this pattern from the start ends at the place of this offset, which isn't left out
+-- some path of this pattern from the start ends at the place of this offset, which is not skipped
 abbrev pub IsAccepted : Direction → Automaton → Input → (start : ℕ) → Pair → Type 0
 IsAccepted way a input start pair =
     (place : ℕ) × (path : List ℕ)
@@ -58,7 +58,7 @@ IsAccepted way a input start pair =
     × (pair.place ≡ offset_in way input place)
     × (IsSkipping (engine_of a All) → is_split input.haystack pair.place ≡ false)
 
--- for every automaton a walk of kind all tells the pairs of all accepting paths
+-- for every NFA a walk under `MatchKind::All` reports the pairs of all accepting paths
 abbrev pub AllPairsAreTold : Automaton → Type 0
 AllPairsAreTold a =
     (way : Direction) (input : Input) (found : List Pair) (start : ℕ)

@@ -1,4 +1,4 @@
--- Whose patterns are told, and where answers lie, for every automaton.
+-- Whose patterns are reported, and where answers lie, for every NFA.
 use Rattle.std.specs.Prelude.{ℕ, ◌<◌, ◌≤◌, length, Option, Some, List}
 use Rattle.automata_base.specs.Answers.{Half}
 use Rattle.automata_base.specs.Cuts.{MatchKind}
@@ -13,11 +13,11 @@ use Rattle.automata_base.specs.Tapes.{Direction}
 use Rattle.automata_base.specs.Told.{IsTold}
 use Rattle.automata_base.specs.WalkLaws.{AreTold, InPairs}
 
--- a pattern of the automaton
+-- a pattern of the NFA
 abbrev pub IsPatternOf : Automaton → ℕ → Type 0
 IsPatternOf a pattern = pattern < length a.start_pattern
 
--- the patterns of a powerset state are the automaton's
+-- the patterns of a powerset state are the NFA's
 abbrev pub TellsOwn : Automaton → Powerset → Type 0
 TellsOwn a q = (pattern : ℕ) → In pattern q.patterns → IsPatternOf a pattern
 

@@ -1,4 +1,4 @@
-//! The laws that searches stand on. Each function does nothing: its contract is the law.
+//! The laws that searches are built on. Each function does nothing: its contract is the law.
 ghost use Rattle.automata_base.specs.Drafts.{PrefixesSkipLazily};
 ghost use Rattle.automata_base.specs.LateIsRight.{SearchesAreRight, WalksAreRight, NearestEndsAreRight, EndsAreRight};
 ghost use Rattle.automata_base.specs.LateIsRight.{PairsAreRight};
@@ -25,8 +25,8 @@ pub fn late_is_right()
     ensures pairs { PairsAreRight }
 {}
 
-/// The start is the right one: over a true pair the reverse pass finds where the chosen path began, also where it is
-/// known to find the farthest place alone, as it does whatever cycles of its automaton pass a look.
+/// The start is the right one: over a true pair the reverse pass finds where the chosen path began. Every reverse NFA
+/// finds the farthest place, even one with look cycles, and that is enough.
 pub fn start_is_right()
     ensures starts { StartsAreRight }
     ensures found { SpansAreFound }
@@ -39,7 +39,7 @@ pub fn start_is_right()
 
 /// The functions by which contracts retrace the powerset construction mean its relations: a step by `successor` goes to
 /// the one state that is the successor, and a search by `start_state_of` starts in the one that is the start. The
-/// patterns of each are the automaton's.
+/// patterns of each are the NFA's.
 pub fn steps_are_right(nfa: &NFA)
     ensures successors { SuccessorsAreRight nfa.now }
     ensures starts { PowersetStartsAreRight nfa.now }
@@ -48,8 +48,8 @@ pub fn steps_are_right(nfa: &NFA)
     let _states = nfa.states();
 }
 
-/// What a powerset automaton does not tell apart, so that one transition serves a class of bytes, and one start all
-/// bytes of a kind.
+/// What steps and starts do not distinguish, so that one transition serves a class of bytes, and one start all
+/// look-behind bytes of a kind.
 pub fn steps_are_alike()
     ensures classes { ClassesStepAlike }
     ensures quits { ClassesQuitAlike }
@@ -57,8 +57,8 @@ pub fn steps_are_alike()
     ensures dead { DeadStaysDead }
 {}
 
-/// What a pass reports, byte by byte, is what the ordered paths through the tape select; and where offsets inside a
-/// UTF-8 encoded character are skipped, passes report one answer.
+/// What a pass reports, byte by byte, is what the ordered paths through the tape select; and if offsets inside a UTF-8
+/// encoded character are skipped, passes report one answer.
 pub fn passes_tell_paths()
     ensures selects { PassesSelect }
     ensures nearest { PassesFindNearest }
@@ -98,8 +98,8 @@ pub fn prefixes_skip_lazily()
     ensures { PrefixesSkipLazily }
 {}
 
-/// An automaton and the reversed one are a true pair: each edge of the one is an edge of the other that leads back, looks
-/// flipped, and the paths of a pattern begin at its matches and end where those of the other begin.
+/// An NFA and the reversed one are a true pair: each edge of the one is an edge of the other that leads back, with its
+/// look flipped, and the paths of a pattern begin at its matches and end where those of the other begin.
 pub fn reversed_is_true()
     ensures pair { ReversedIsTrue }
     ensures patterns { PatternsAreReversed }

@@ -1,4 +1,4 @@
--- When a configuration is refused, and what it settles otherwise.
+-- When a configuration fails, and what it settles otherwise.
 use Rattle.std.proofs.Common.{ℕ, ◌≡◌, ◌<◌, ◌≤◌, ◌&&◌, ◌||◌, Bool, true, false, cond, leb, ltb, List, [], ◌∷◌, length, get_or, Some, None, refl, sym, ap, ◌∙◌}
 use Rattle.std.specs.List.{list_any}
 use Rattle.std.proofs.lemmas.Bool.{le-ltb, lt-ltb}
@@ -45,7 +45,7 @@ settled_with_non_ascii o a quits all whole set on same = fill_by_all _ all 256 f
     go k h =
         same k h ∙ (ap (λ q. is_quit q k || leb 128 k) set ∙ ap (λ z. is_quit (quits_of o) k || (z && leb 128 k)) (sym on))
 
--- Refusals.
+-- Errors.
 pub supported : (u : Bool) (e : BuildError) → None ≡ cond u (Some e) None → u ≡ false
 supported true e h = cc
 supported false e h = refl

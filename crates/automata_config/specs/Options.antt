@@ -1,10 +1,10 @@
--- What contracts see of a configuration: each option as it was set, if it was; and what each stands for.
+-- What contracts see of a configuration: each option as it was set, if it was set, and the value that it stands for.
 use Rattle.std.specs.Prelude.{ℕ, Bool, true, false, not, ◌&&◌, nat_le, List, Option, None, unwrap_or, replicate}
 use Rattle.std.specs.Option.{option_or}
 use Rattle.automata_base.specs.declared.util.search.MatchKind.{MatchKind}
 use Rattle.automata_base.specs.declared.util.search.MatchKind.TheVariants.{LeftmostFirst}
 
--- An option that wasn't set has its default.
+-- An option that was not set has its default.
 pub record Options : Type 0 where
   pub match_kind : Option MatchKind
   pub starts_for_each_pattern : Option Bool
@@ -32,7 +32,7 @@ unset = record {
   minimum_bytes_per_state = None;
 }
 
--- Option by option, what is set in the newer one, and else what the older one has.
+-- Option by option, what is set in the newer one, and otherwise what the older one has.
 abbrev pub overwritten : (old new : Options) → Options
 overwritten old new = record {
   match_kind = option_or new.match_kind old.match_kind;
@@ -63,7 +63,7 @@ unicode_word_boundary_of o = unwrap_or o.unicode_word_boundary false
 unfoldable pub no_quits : List Bool
 no_quits = replicate 256 false
 
--- For each byte whether it is in the quit set that was configured.
+-- For each byte, whether it is in the quit set that was configured.
 abbrev pub quits_of : Options → List Bool
 quits_of o = unwrap_or o.quits no_quits
 

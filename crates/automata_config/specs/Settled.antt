@@ -1,7 +1,7 @@
 -- What contracts see of what a DFA is built from.
 use Rattle.std.specs.Prelude.{ℕ, Bool, List}
 
--- The class of each byte, for each byte whether it quits, and the capacity.
+-- The class of each byte, whether each byte is a quit byte, and the capacity.
 pub record Settled : Type 0 where
   pub classes : List ℕ
   pub quits : List Bool

@@ -1,4 +1,4 @@
--- What a configuration makes of an automaton: a quit set, classes, a capacity; or a refusal.
+-- What a configuration makes of an NFA: a quit set, classes and a capacity, or an error.
 use Rattle.std.specs.Prelude.{ℕ, ◌≡◌, ◌+◌, ◌*◌, ◌<◌, ◌≤◌, Bool, not, ◌&&◌, ◌||◌, nat_le, nat_lt, eqb, if◌then◌else◌}
 use Rattle.std.specs.Prelude.{List, [], ◌∷◌, map, Option, Some, None}
 use Rattle.std.specs.List.{list_all, list_any, range_with_len}
@@ -19,7 +19,7 @@ use Rattle.automata_config.specs.declared.error.BuildError.{BuildError}
 use Rattle.automata_config.specs.declared.error.BuildError.TheVariants.{Unsupported, InsufficientCacheCapacity}
 use Rattle.automata_config.specs.declared.error.BuildError.TheVariants.{InsufficientStateIDCapacity}
 
--- Whether the look is a state of the automaton.
+-- Whether some state of the NFA is this look.
 abbrev pub occurs : Automaton → Look → Bool
 occurs a look = any_node (λ other. eqb (look_index other) (look_index look)) (nfa_of a).nodes
 
@@ -37,12 +37,11 @@ are_quits quits first count = list_all (is_quit quits) (range_with_len first cou
 abbrev pub holds_non_ascii : (quits : List Bool) → Bool
 holds_non_ascii quits = are_quits quits 128 128
 
--- A Unicode word boundary is decided on ASCII text alone: either the heuristic stops at other bytes, or the quit set
--- does.
+-- A Unicode word boundary is decided on ASCII text alone: the heuristic or the quit set stops a search at other bytes.
 abbrev pub is_unsupported : Options → Automaton → Bool
 is_unsupported o a = has_unicode_word a && not (unicode_word_boundary_of o || holds_non_ascii (quits_of o))
 
--- The quit set of a DFA: what was configured, and the bytes from 0x80 on where the heuristic needs them.
+-- The quit set of a DFA: what was configured, and the bytes from 0x80 on if the heuristic needs them.
 unfoldable pub settled_quits : Options → Automaton → List Bool
 settled_quits o a =
     map (λ byte. is_quit (quits_of o) byte || (has_unicode_word a && unicode_word_boundary_of o && nat_le 128 byte))
@@ -58,19 +57,19 @@ settled_slots o a = start_slots a (starts_for_each_pattern_of o)
 unfoldable pub settled_minimum : Options → Automaton → ℕ
 settled_minimum o a = minimum_capacity (settled_stride o a) (settled_slots o a) (max_cost a) (fixed_cost a)
 
--- The greatest offset that the ID of a row has room for.
+-- The greatest offset that fits into the ID of a row.
 abbrev pub max_offset : ℕ
 max_offset = 134217727
 
--- The greatest offset of a row that the minimum has room for.
+-- The greatest offset of a row in a table of the minimum capacity.
 unfoldable pub greatest_offset : Options → Automaton → ℕ
 greatest_offset o a = (4 + settled_slots o a) * settled_stride o a
 
--- The capacity is below the minimum, and that is checked.
+-- The capacity is below the minimum, and the check is not skipped.
 abbrev pub is_too_small : Options → Automaton → Bool
 is_too_small o a = not (skip_cache_capacity_check_of o) && nat_lt (cache_capacity_of o) (settled_minimum o a)
 
--- Why no DFA is built of the automaton, if none is.
+-- Why no DFA of the NFA is built, if none is.
 abbrev pub settling_refusal : Options → Automaton → Option BuildError
 settling_refusal o a =
     if is_unsupported o a then Some Unsupported

@@ -3,31 +3,31 @@ ghost use Rattle.automata_base.specs.Accounting as bytes;
 
 use automata_base::nfa::thompson::NFA;
 
-/// What a powerset state costs beside its lists, in accounted bytes.
+/// The accounted bytes of a powerset state without its lists.
 pub const HEAD_COST: usize = 13;
 
-/// What each of its patterns costs.
+/// The accounted bytes of each of its patterns.
 pub const PATTERN_COST: usize = 4;
 
-/// What each of its NFA states costs.
+/// The accounted bytes of each of its NFA states.
 pub const ID_COST: usize = 5;
 
-/// What a cell of the table takes, or a start slot: an ID.
+/// The size of an ID, which is a cell of the table or a start slot.
 pub const CELL_SIZE: usize = 4;
 
-/// What a row takes in the list beside its cells.
+/// The size of a row in the list of rows, without its cells.
 pub const ROW_SIZE: usize = 16;
 
-/// What a row takes in the map.
+/// The size of a row in the map.
 pub const ENTRY_SIZE: usize = 20;
 
-/// What the states of the three rows cost that every table begins with.
+/// The cost of the states of the three rows with which every table begins.
 pub const FIXED_ROWS_COST: usize = 39;
 
-/// What the two sets of NFA states that determinization works in take, for each state of the NFA.
+/// The size, for each state of the NFA, of the two sets of NFA states that determinization uses.
 const SETS_COST: usize = 16;
 
-/// What a place on the stack of a closure takes.
+/// The size of an entry on the stack of a closure.
 const PLACE_COST: usize = 4;
 
 /// The greatest cost of a powerset state of the NFA, in accounted bytes.
@@ -38,7 +38,7 @@ pub fn max_cost(nfa: &NFA) -> usize
     HEAD_COST + PATTERN_COST * pattern_count(nfa) + ID_COST * nfa.states().len()
 }
 
-/// What every cache takes for determinization, in accounted bytes.
+/// The accounted bytes that every cache needs for determinization.
 pub fn fixed_cost(nfa: &NFA) -> usize
     ensures cost { result ≡ bytes.fixed_cost nfa.now }
     ensures few { result ≤ 2 ^ 34 }
@@ -65,7 +65,7 @@ fn pattern_count(nfa: &NFA) -> usize
     nfa.pattern_starts().len()
 }
 
-/// The least capacity with room for a state in each start slot, and for two more.
+/// The least capacity that has room for a state in each start slot and for two more.
 pub(crate) fn minimum_capacity(stride: usize, slots: usize, greatest: usize, fixed: usize) -> usize
     requires stride { stride ≤ 512 }
     requires slots { slots ≤ 2 ^ 30 }

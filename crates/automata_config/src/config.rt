@@ -128,7 +128,7 @@ impl Config {
         }
     }
 
-    /// Whether `quit` takes this byte.
+    /// Whether `quit` accepts this byte.
     pub fn allows_quit(&self, byte: u8, yes: bool) -> bool
         ensures { result ≡ options.allows_quit self.now byte yes }
     {
@@ -214,14 +214,14 @@ impl Config {
         }
     }
 
-    /// Which matches are told. By default `MatchKind::LeftmostFirst`.
+    /// Which matches a search reports. By default `MatchKind::LeftmostFirst`.
     pub fn get_match_kind(&self) -> MatchKind
         ensures { result ≡ options.match_kind_of self.now }
     {
         self.match_kind.unwrap_or(MatchKind::LeftmostFirst)
     }
 
-    /// Whether each pattern has anchored start states of its own. By default it has not.
+    /// Whether each pattern has start states of its own. By default it has none.
     pub fn get_starts_for_each_pattern(&self) -> bool
         ensures { result ≡ options.starts_for_each_pattern_of self.now }
     {
@@ -235,22 +235,22 @@ impl Config {
         self.byte_classes.unwrap_or(true)
     }
 
-    /// Whether Unicode word boundaries are decided as ASCII ones, with every other byte a quit byte. By default not.
+    /// Whether Unicode word boundaries are decided as ASCII ones, with every byte from 0x80 on a quit byte. By default
+    /// they are not.
     pub fn get_unicode_word_boundary(&self) -> bool
         ensures { result ≡ options.unicode_word_boundary_of self.now }
     {
         self.unicode_word_boundary.unwrap_or(false)
     }
 
-    /// Whether the byte was put into the quit set. This does not include what the heuristic for Unicode word boundaries
-    /// adds.
+    /// Whether the byte was put into the quit set. Bytes that `unicode_word_boundary` adds are not included.
     pub fn get_quit(&self, byte: u8) -> bool
         ensures { result ≡ is_quit (options.quits_of self.now) byte }
     {
         self.quit_set()[usize::from(byte)]
     }
 
-    /// Whether IDs of start states are tagged. By default they aren't.
+    /// Whether IDs of start states are tagged. By default they are not.
     pub fn get_specialize_start_states(&self) -> bool
         ensures { result ≡ options.specialize_start_states_of self.now }
     {
@@ -271,22 +271,23 @@ impl Config {
         self.skip_cache_capacity_check.unwrap_or(false)
     }
 
-    /// How many clears are allowed before a search may give up in place of the next one. By default no search gives up.
+    /// The number of clears after which a search may give up instead of clearing the cache once more. By default,
+    /// `None`, it never gives up.
     pub fn get_minimum_cache_clear_count(&self) -> Option<usize>
         ensures { result ≡ options.minimum_cache_clear_count_of self.now }
     {
         self.minimum_cache_clear_count.unwrap_or(None)
     }
 
-    /// How many bytes must have been searched for each state since the last clear, so that a search does not give up in
-    /// place of the next one.
+    /// The number of bytes for each state of the cache which keeps a search from giving up, if so many were searched
+    /// since the last clear. By default, `None`, no number does.
     pub fn get_minimum_bytes_per_state(&self) -> Option<usize>
         ensures { result ≡ options.minimum_bytes_per_state_of self.now }
     {
         self.minimum_bytes_per_state.unwrap_or(None)
     }
 
-    /// Joins two configurations, option by option: what the new one sets, and else what this one has.
+    /// Joins two configurations: each option that `new` sets, and otherwise what this one has.
     pub fn overwrite(&self, new: Config) -> Config
         ensures { result ≡ overwritten self.now new }
     {
@@ -308,7 +309,7 @@ impl Config {
         }
     }
 
-    /// The least capacity that a cache for the NFA may have, or `Unsupported`.
+    /// The least capacity that a cache for the NFA may have. The only error is `Unsupported`.
     pub fn get_minimum_cache_capacity(&self, nfa: &NFA) -> Result<usize, BuildError>
         ensures ok { IfOk result (λ minimum. minimum ≡ settled_minimum self.now nfa.now) }
         ensures refused { result_err result
@@ -321,8 +322,8 @@ impl Config {
 
     /// What a DFA of the NFA is built from.
     ///
-    /// Refused in this order: Unicode word boundaries that can't be decided, a capacity below the minimum, and a
-    /// minimum of which a row would have too great an offset.
+    /// It fails if a Unicode word boundary cannot be decided, if the capacity is below the minimum, or if the offset of
+    /// some row at the minimum is too great for an ID; the error is that of the first test that fails.
     pub fn settle(&self, nfa: &NFA) -> Result<Settled, BuildError>
         ensures ok { IfOk result (IsSettled self.now nfa.now) }
         ensures refused { result_err result ≡ settling_refusal self.now nfa.now }
@@ -409,7 +410,7 @@ const UNICODE_WORD_LOOKS: [Look; 6] = [
     Look::WordEndHalfUnicode,
 ];
 
-// Whether a Unicode word look is a state of the NFA.
+// Whether some state of the NFA is a Unicode word boundary.
 fn has_unicode_word(nfa: &NFA) -> bool
     ensures { result ≡ has_unicode_word nfa.now }
 {
@@ -422,7 +423,7 @@ fn contains_any(set: LookSet, looks: &[Look]) -> bool
     looks.iter().any(|look| set.contains(*look))
 }
 
-// Whether each byte from 0x80 on quits.
+// Whether each byte from 0x80 on is in the quit set.
 fn holds_non_ascii(quits: &[bool; 256]) -> bool
     ensures { result ≡ holds_non_ascii quits.now }
 {
@@ -434,7 +435,7 @@ fn holds_non_ascii(quits: &[bool; 256]) -> bool
     true
 }
 
-// The quit set with each byte from 0x80 on.
+// The quit set joined with the bytes from 0x80 on.
 fn with_non_ascii(quits: &[bool; 256]) -> [bool; 256]
     ensures whole { length result ≡ 256 }
     ensures set { (byte : ℕ) → byte < 256 → is_quit result byte ≡ (is_quit quits.now byte || nat_le 128 byte) }
@@ -446,7 +447,7 @@ fn with_non_ascii(quits: &[bool; 256]) -> [bool; 256]
     all
 }
 
-/// What a DFA is built from.
+/// What a DFA is built from, as its NFA and its settings give it.
 #[derive(Clone, Copy, Debug)]
 pub struct Settled {
     classes: ByteClasses,
@@ -468,28 +469,28 @@ impl Settled {
     ghost use Rattle.std.specs.Prelude.{◌≡◌};
     ghost use Rattle.automata_base.specs.Classes.{is_quit};
 
-    /// The classes of bytes that the automaton and the quit set tell apart.
+    /// The classes of bytes that the NFA or the quit set distinguishes.
     pub fn classes(&self) -> &ByteClasses
         ensures { result.now ≡ self.now.classes }
     {
         &self.classes
     }
 
-    /// Whether a search quits at the byte, by what was configured or by the heuristic.
+    /// Whether the byte is a quit byte, by the settings or by the heuristic for Unicode word boundaries.
     pub fn quits(&self, byte: u8) -> bool
         ensures { result ≡ is_quit self.now.quits byte }
     {
         self.quits[usize::from(byte)]
     }
 
-    /// For each byte whether a search quits at it.
+    /// For each byte, whether it is a quit byte.
     pub fn quit_set(&self) -> &[bool; 256]
         ensures { result.now ≡ self.now.quits }
     {
         &self.quits
     }
 
-    /// How many accounted bytes a cache may have: at least the minimum.
+    /// The most bytes that a cache may account for: at least the minimum.
     pub fn capacity(&self) -> usize
         ensures { result ≡ self.now.capacity }
     {

@@ -12,16 +12,17 @@ use std::alloc::{AllocError, AllocFailed};
 use std::fmt;
 use thiserror::Error;
 
-/// Why no DFA is built.
+/// Why a DFA cannot be built.
 #[derive(Clone, Copy, Debug, PartialEq, Eq, Error)]
 pub enum BuildError {
-    /// The NFA has a Unicode word look, the heuristic is off, and not every byte above 0x7F is a quit byte.
+    /// The NFA has a Unicode word boundary, `unicode_word_boundary` is off, and not every byte from 0x80 on is a quit
+    /// byte.
     #[error("unsupported regex feature for DFAs: cannot build lazy DFAs for regexes with Unicode word boundaries; switch to ASCII word boundaries, or heuristically enable Unicode word boundaries or use a different regex engine")]
     Unsupported,
     /// The capacity given is below the minimum, and the check is not skipped.
     #[error("given cache capacity ({given}) is smaller than minimum required ({minimum})")]
     InsufficientCacheCapacity { minimum: usize, given: usize },
-    /// The least table has an offset that no ID can hold.
+    /// Some offset in the smallest table is greater than an ID can hold.
     #[error("failed to create LazyStateID from {attempted}, which exceeds 134217727")]
     InsufficientStateIDCapacity { attempted: usize },
     #[error("out of memory")]
@@ -36,7 +37,7 @@ pub enum BuildError {
 #[error("lazy DFA cache has been cleared too many times")]
 pub struct CacheError;
 
-/// Why a step has no answer.
+/// Why a step fails.
 #[derive(Clone, Copy, Debug, PartialEq, Eq, Error)]
 pub enum StepError {
     #[error("{0}")]
@@ -45,29 +46,29 @@ pub enum StepError {
     OutOfMemory,
 }
 
-/// Why there is no start state.
+/// Why a start state cannot be computed.
 #[derive(Clone, Copy, Debug, PartialEq, Eq, Error)]
 pub enum StartError {
     #[error("error computing start state because of cache inefficiency")]
     Cache { err: CacheError },
-    /// The byte before the start is a quit byte.
+    /// The look-behind byte is a quit byte.
     #[error("error computing start state because the look-behind byte {} triggered a quit state", ByteText(*.byte))]
     Quit { byte: u8 },
-    /// The DFA has no starts for this mode.
+    /// The DFA does not support this anchored mode: its patterns have no start states of their own.
     #[error("error computing start state because {mode} are not supported or enabled")]
     UnsupportedAnchored { mode: Anchored },
     #[error("out of memory")]
     OutOfMemory,
 }
 
-/// Why a search has no answer.
+/// Why a search fails.
 #[derive(Clone, Copy, Debug, PartialEq, Eq, Error)]
 pub enum SearchError {
     #[error("{0}")]
     Match(MatchError),
     #[error("out of memory")]
     OutOfMemory,
-    /// A regex was made of two DFAs that are no pair.
+    /// The search back found no start, since the two DFAs of the regex are no pair.
     #[error("reverse DFA finds no start for the match of the forward DFA")]
     NotAPair,
 }
@@ -160,7 +161,7 @@ impl<T: Drop> From<AllocFailed<T>> for SearchError {
     }
 }
 
-// A byte as text: printable ASCII as it is, but for a space in quotes; the rest escaped.
+// A byte as text: printable ASCII as it is, a space in quotes, and the rest escaped.
 #[derive(Clone, Copy)]
 struct ByteText(u8);
 

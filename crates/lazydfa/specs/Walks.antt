@@ -1,4 +1,4 @@
--- Overlapping walks in the direction of their automaton.
+-- Overlapping walks in the direction of their NFA.
 use Rattle.std.specs.Prelude.{◌≡◌, true, false}
 use Rattle.regex_automata.specs.Input.{Input}
 use Rattle.regex_automata.specs.Tapes.{Forward, Backward}
@@ -6,7 +6,7 @@ use Rattle.regex_automata.specs.Machine.{Machine}
 use Rattle.regex_automata.specs.Walking.{IsWalkOf}
 use Rattle.regex_automata.specs.Walks.{Walk}
 
--- it is a walk over this input, backward where the automaton is for reverse searches
+-- a walk over this input, backward if the NFA is for reverse searches
 abbrev pub IsWalkOver : Machine → Input → Walk → Type 0
 IsWalkOver m input w =
     (m.nfa.flags.reverse ≡ false → IsWalkOf Forward m input w)

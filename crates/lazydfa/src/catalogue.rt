@@ -1,12 +1,11 @@
-//! The automata that a script names.
+//! The NFAs that a script names.
 
 use regex_automata::nfa::thompson::{Flags, NFA, NfaError, State, Transition};
 use regex_automata::util::look::Look;
 use regex_automata::util::primitives::{PatternID, StateID};
 use std::alloc::{AllocError, Global};
 
-/// An entry of the catalogue: an automaton for searching forward, and one for searching in
-/// reverse.
+/// An entry of the catalogue: an NFA for forward searches, and one for reverse searches.
 #[derive(Clone, Copy, Debug, PartialEq, Eq)]
 pub enum Entry {
     /// `ab`, always anchored.
@@ -35,9 +34,9 @@ pub enum Entry {
     Snowx,
     /// `\b`.
     Bound,
-    /// The end of a line, by CRLF.
+    /// A line end, by CRLF.
     Crlf,
-    /// The empty pattern at each place, always anchored, in UTF-8 mode.
+    /// The empty pattern at each offset, always anchored, in UTF-8 mode.
     Any,
     /// `[a-z]+` and `[0-9]+`.
     Runs,
@@ -66,19 +65,19 @@ impl Entry {
         Entry::A16,
     ];
 
-    /// The entry that a script calls by this name.
+    /// The entry with this name.
     pub fn named(name: &[u8]) -> Option<Entry> {
         let (_, entry) = NAMES.iter().find(|(text, _)| *text == name)?;
         Some(*entry)
     }
 
-    /// The automaton for searching forward.
+    /// The NFA for forward searches.
     pub fn forward(self, alloc: Global) -> Result<NFA, NfaError> {
         let outline = self.outline();
         outline.build(alloc, outline.forward, false)
     }
 
-    /// The automaton for searching in reverse.
+    /// The NFA for reverse searches.
     pub fn reverse(self, alloc: Global) -> Result<NFA, NfaError> {
         let outline = self.outline();
         outline.build(alloc, outline.reverse, true)
@@ -129,17 +128,16 @@ const NAMES: [(&[u8], Entry); 17] = [
     (b"a16", Entry::A16),
 ];
 
-/// A state as the tables below write it. The last number names the state that comes next; of
-/// `Accept` it is the pattern.
+/// A state as the tables below write it. The last number names the next state; for `Accept` it is the pattern.
 #[derive(Clone, Copy)]
 enum Line {
     /// One byte.
     Byte(u8, u8),
-    /// The bytes from the first to the second.
+    /// A range of bytes, from the first to the second.
     Range(u8, u8, u8),
     /// An ASCII word byte.
     Word(u8),
-    /// The first, or else the second.
+    /// A union: the first state is preferred to the second.
     Either(u8, u8),
     Assert(Look, u8),
     Accept(u8),
@@ -377,7 +375,7 @@ const A16: [Line; 17] = [
     Accept(0),
 ];
 
-/// An entry's tables. The anchored start is state 0.
+/// The tables of an entry. The anchored start is state 0.
 #[derive(Clone, Copy)]
 struct Outline {
     forward: &'static [Line],
@@ -399,7 +397,7 @@ impl Outline {
         }
     }
 
-    /// The same with a table of its own for the reverse direction.
+    /// The same, with another table for the reverse direction.
     fn reversed(self, lines: &'static [Line]) -> Outline {
         Outline {
             reverse: lines,

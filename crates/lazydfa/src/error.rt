@@ -3,10 +3,10 @@ use std::io;
 use std::process::ExitCode;
 use thiserror::Error;
 
-/// Why a script was not answered.
+/// Why a script is not answered.
 #[derive(Clone, Copy, Debug, PartialEq, Eq, Error)]
 pub enum RunError {
-    /// The first line that is no line of a script, counted from 1.
+    /// The number of the first bad line, counted from 1.
     #[error("line {0}: bad line")]
     BadLine(usize),
     #[error("input or output failed")]
@@ -16,7 +16,7 @@ pub enum RunError {
 }
 
 impl RunError {
-    /// A read or a write that failed.
+    /// A read or a write failed.
     pub fn of_io(error: io::Error) -> RunError {
         match error.kind() {
             io::ErrorKind::OutOfMemory => RunError::OutOfMemory,
@@ -24,7 +24,7 @@ impl RunError {
         }
     }
 
-    /// What the process ends with.
+    /// The exit status of the process.
     pub fn status(self) -> ExitCode {
         match self {
             RunError::BadLine(_) => ExitCode::from(2),

@@ -1,6 +1,6 @@
-//! The words that a script is written in.
+//! The words in which scripts are written.
 
-/// A word that has a meaning of its own.
+/// A word with a meaning of its own.
 #[derive(Clone, Copy)]
 pub enum Keyword {
     All,
@@ -59,7 +59,7 @@ const KEYWORDS: [(&[u8], Keyword); 25] = [
 ];
 
 impl Keyword {
-    /// The keyword that is spelled so.
+    /// The keyword with this spelling.
     pub fn spelled(word: &[u8]) -> Option<Keyword> {
         let (_, keyword) = KEYWORDS.iter().find(|(text, _)| *text == word)?;
         Some(*keyword)

@@ -1,5 +1,4 @@
-//! Answers a script of searches: it is read from standard input, and the answers are written to
-//! standard output.
+//! Answers a script of searches. It reads the script from standard input, and writes the answers to standard output.
 #![tactic(auto)]
 
 use run::run;

@@ -1,4 +1,4 @@
-//! A script is read, checked and answered.
+//! Reads, checks and answers a script.
 
 use crate::error::RunError;
 use crate::reply::Line;
@@ -12,13 +12,12 @@ use std::fmt::Write;
 use std::io;
 use std::io::Read;
 
-/// Answers the script of the input, one line of output for each line of the script that is
-/// neither empty nor a comment.
+/// Answers the script that the input has, with one line of output for each line of the script that is neither empty nor
+/// a comment.
 ///
-/// Nothing is written before all lines are read and checked, and all answers are there. A fault
-/// is told in the order of these steps: reading, the first bad line, building and answering,
-/// writing; want of memory is told where it is met. After a failed write a beginning of the
-/// output may be out.
+/// It writes nothing before all lines are read and checked and all answers are known. If there are several faults it
+/// reports the first, in this order: reading, the first bad line, building and answering, writing. Out of memory is
+/// reported where it happens. If a write fails, the beginning of the output may be out.
 pub fn run<R: Read, W: io::Write>(
     alloc: Global,
     input: &mut R,
@@ -45,7 +44,7 @@ fn replies_to(alloc: Global, script: &Script) -> Result<String, RunError> {
     Ok(text)
 }
 
-/// Builds the regexes in order. A refused one takes no number.
+/// Builds the regexes in order. One that cannot be built takes no number.
 fn build_all(
     alloc: Global,
     definitions: &[Definition],
@@ -65,7 +64,7 @@ fn build_all(
     Ok(regexes)
 }
 
-/// The automata of the catalogue are well formed, so of these only memory can be wanting.
+/// The NFAs of the catalogue are well formed, so only memory can be missing.
 fn build(alloc: Global, definition: &Definition) -> Result<Regex, BuildError> {
     let forward = built(definition.entry.forward(alloc))?;
     let reverse = built(definition.entry.reverse(alloc))?;

@@ -40,7 +40,7 @@ enum Order {
     Reset(usize),
 }
 
-/// A haystack, and how it is to be searched.
+/// A haystack, and how it is searched.
 #[derive(Drop)]
 struct Query {
     haystack: Vec<u8>,
@@ -51,7 +51,7 @@ struct Query {
     ghost within: { span.end ≤ length haystack.items },
 }
 
-/// Why a line is refused.
+/// Why a line is bad.
 #[derive(Clone, Copy, Debug, PartialEq, Eq)]
 enum LineError {
     Bad,
@@ -74,7 +74,7 @@ impl From<AllocError> for LineError {
 }
 
 impl Script {
-    /// Reads all lines, and refuses the first bad one by its number, counted from 1.
+    /// Reads all lines. If one is bad, the error is the number of the first bad one, counted from 1.
     pub fn parse(alloc: Global, text: &[u8]) -> Result<Script, RunError> {
         let mut script = Script {
             definitions: Vec::new(alloc),
@@ -202,7 +202,7 @@ impl Order {
     }
 }
 
-/// The number that is the one word of a line.
+/// The number that is the only word of a line.
 fn only_number(words: &[&[u8]]) -> Result<usize, LineError> {
     match words {
         [word] => number(*word).ok_or(LineError::Bad),
@@ -228,7 +228,7 @@ fn configured(config: Config, option: &[u8]) -> Option<Config> {
 }
 
 impl Query {
-    /// What is to be searched.
+    /// The haystack of a request, and the options of its search.
     fn input(&self) -> Input<'_> {
         Input::new(self.haystack.as_slice())
             .span(self.span)
@@ -307,7 +307,7 @@ fn option_of(option: &[u8]) -> Option<(Keyword, Option<&[u8]>)> {
     Some((Keyword::spelled(name)?, Some(value)))
 }
 
-/// What stands before and behind the first such byte.
+/// The bytes before and after the first such byte.
 fn split_once(word: &[u8], separator: u8) -> Option<(&[u8], &[u8])> {
     let at = word.iter().position(|byte| *byte == separator)?;
     Some((&word[..at], &word[at + 1..]))

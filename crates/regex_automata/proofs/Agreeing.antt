@@ -72,7 +72,7 @@ module _ (one : ToldIsOne) where
           subst (λ (k : MatchKind). IsTold Forward m.nfa k (in_full input) g.0) (sym kind)
           (subst (λ (a : Automaton). IsTold Forward a (match_kind_of other.config) (in_full input) g.0) (sym nfa) g.1)
 
-  -- what the forward search found tells whether there is a match
+  -- by what the forward search found it is known whether there is a match
   front_truth :
       (m : Machine) (input : Input) (truth : Bool) (o : Option Half) → (input.earliest ≡ false) ⊎ (Skips m → ⊥)
       → IsMatchTold m input truth → IsFound Forward m input o → truth ≡ is_some o

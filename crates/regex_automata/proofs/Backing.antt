@@ -1,4 +1,4 @@
--- With one quit set the search back meets no quit byte; and no search alone tells that two DFAs are no pair.
+-- With one quit set the search back meets no quit byte; and by no search alone two DFAs are no pair.
 use Rattle.std.proofs.Common.{ℕ, ◌≡◌, ◌∙◌, ◌+◌, ◌-◌, ◌≤◌, ◌⊎◌, inl, inr, Bool, true, false, cond, List, length, Option, Some, None, refl, sym, subst, arith}
 use Rattle.automata_base.specs.Answers.{Half, later}
 use Rattle.automata_base.specs.Classes.{is_quit}
@@ -24,7 +24,7 @@ false_true e = cc
 yes_no : ◌≡◌ {A = Anchored} Yes No → ⊥
 yes_no e = cc
 
--- a byte behind a start that is no quit byte, and one that is
+-- a look-behind byte that is no quit byte, and one that is
 free_behind : (m : Machine) (o : Option ℕ) (byte : ℕ) → quit_behind m o ≡ None → o ≡ Some byte → is_quit m.quits byte ≡ false
 free_behind m None byte n e = absurd (none_some e)
 free_behind m (Some b) byte n e = subst (λ v. is_quit m.quits v ≡ false) (same_some e) (go (is_quit m.quits b) refl n) where
@@ -66,7 +66,7 @@ rest_clean law m input half few within f =
     (subst (λ n. MeetsNone (is_quit m.quits) (reverse_tape input.haystack half.base n) f.1.place) end
     (subst (λ n. MeetsNone (is_quit m.quits) (reverse_tape input.haystack n (input.start + f.0 + f.1.place)) f.1.place) base clean))
 
--- a pass over bytes that are no quit bytes is not refused by one
+-- a pass over bytes that are no quit bytes does not fail by one
 pass_free :
     (m : Machine) (c : Stored) (input : Input) (byte at : ℕ) → input.start ≤ input.end → input.end ≤ length input.haystack
     → MeetsNone (is_quit m.quits) (tape_in Backward input) (input.end - input.start)
@@ -99,7 +99,7 @@ back_free law m rev c input half byte at same few ahead within f r = go r.1.0 wh
       (subst (λ n. IsPassRefusal Backward rev c (record (back input half) { end = n }) (search.Match (QuitAt byte at))) end r.3)
   go (inr s) = yes_no s.1
 
--- no search alone tells that
+-- no search alone has this error
 pub never_pair : (way : Direction) (m : Machine) (c : Stored) (input : Input) → IsRefused way m c input search.NotAPair → ⊥
 never_pair way m c input (k, tries, within, inl (start.Quit b, why, told, unknown)) = cc
 never_pair way m c input (k, tries, within, inl (start.UnsupportedAnchored mode, why, told, unknown)) = cc

@@ -11,7 +11,7 @@ use Rattle.regex_automata.specs.declared.hybrid.regex.Regex.{Regex}
 use Rattle.regex_automata.specs.declared.hybrid.regex.caches.Cache.{Cache}
 use Rattle.regex_automata.proofs.Results.{none_some, same_some}
 
--- the first matches of an iteration, and where it stands behind them
+-- the first matches of an iteration, and where it is after them
 abbrev pub ComesTo : (Finds : Input → Option Match → Type 0) → Input → ℕ → Option ℕ → List Match → ℕ → Option ℕ → Type 0
 ComesTo Finds input start last [] start' last' = (start ≡ start') × (last ≡ last')
 ComesTo Finds input start last (m ∷ ms) start' last' =
@@ -27,7 +27,7 @@ module _ (Finds : Input → Option Match → Type 0) (input : Input) where
       (subst (λ l. IsNextItem Finds input start l (Some m)) (sym c.1) (subst (λ s. IsNextItem Finds input s before (Some m)) (sym c.0) next), (refl, refl))
   comes_on start last (n ∷ ms) at before m c next = (c.0, comes_on n.end (Some n.end) ms at before m c.1 next)
 
-  -- the last one
+  -- the last turn
   pub comes_all :
       (start : ℕ) (last : Option ℕ) (ms : List Match) (at : ℕ) (before : Option ℕ)
       → ComesTo Finds input start last ms at before → IsNextItem Finds input at before None → AreMatches Finds input start last ms
@@ -47,7 +47,7 @@ module _ (Finds : Input → Option Match → Type 0) (input : Input) where
   collected ms None at before c next = comes_all input.start None ms at before c (next refl)
   collected ms (Some e) at before c next = comes_first input.start None ms at before c
 
--- what searches find that are right is right
+-- if what searches find is right, the matches are right
 module _ (F G : Input → Option Match → Type 0) (input : Input) (right : (start : ℕ) (o : Option Match) → F (from start input) o → G (from start input) o) where
   next_right : (start : ℕ) (last : Option ℕ) (o : Option Match) → IsNextItem F input start last o → IsNextItem G input start last o
   next_right start last None (inl f) = inl (right start None f)
@@ -67,7 +67,7 @@ module _ (F G : Input → Option Match → Type 0) (input : Input) (right : (sta
   collected_right ms None f = matches_right input.start None ms f
   collected_right ms (Some e) f = first_right input.start None ms f
 
--- what an item tells
+-- what an item says
 pub item_match :
     (p : Regex) (c : Cache) (input input' : Input) (last last' : Option ℕ) (ended ended' : Bool) (m : Match)
     → GivesItem p c (Some (Ok m)) input input' last last' ended ended'
@@ -111,7 +111,7 @@ input_turn input now next k same e =
     let f : next ≡ from k input = e ∙ ap (λ (i : Input). from k i) same in
     f ∙ ap (λ n. from n input) (sym (ap (λ (i : Input). i.start) f))
 
--- what finds one answer finds one next match
+-- if searches find one answer, there is one next match
 abbrev pub FindsOnce : (Input → Option Match → Type 0) → Type 0
 FindsOnce F = (input : Input) (a b : Option Match) → F input a → F input b → a ≡ b
 
@@ -133,7 +133,7 @@ module _ (F : Input → Option Match → Type 0) (one : FindsOnce F) (input : In
       absurd (t.1 (subst (λ (v : Match). IsEmptyAt last v) (same_some (one (from start input) (Some s.0) (Some n) s.1 t.0)) s.2))
   next_some start last m n (inr s) (inr t) = same_some (one (from (suc start) input) (Some m) (Some n) s.3 t.3)
 
-  -- so the first matches are a beginning of all
+  -- so the first matches are a beginning of all matches
   pub first_begins :
       (start : ℕ) (last : Option ℕ) (ms all : List Match)
       → AreFirst F input start last ms → AreMatches F input start last all → IsBeginning ms all

@@ -8,7 +8,7 @@ use Rattle.regex_automata.specs.declared.hybrid.regex.Regex.{Regex}
 use Rattle.regex_automata.specs.declared.tokens.error.TokenError.{TokenError}
 use Rattle.regex_automata.proofs.Backing.{false_true}
 
--- what comes behind the tokens so far completes them
+-- what comes after the tokens so far completes them
 abbrev pub Completes : Machine → List ℕ → (end start : ℕ) → List Match → (place : ℕ) → Type 0
 Completes m h end start ts place =
     (more : List Match) (error : Option TokenError) → AreGiven m h end place more error
@@ -31,7 +31,7 @@ pub completes_end :
 completes_end m h end start ts place error completes last =
     subst (λ (all : List Match). AreGiven m h end start all error) (append-nil ts) (completes [] error last)
 
--- what is at a place, of the regex and the span that the loop was given
+-- the item at a place, of the regex and the span that the loop was given
 pub item_turn :
     (p q : Regex) (h h' : List ℕ) (end end' place : ℕ) (item : Result Match TokenError) → p ≡ q → h ≡ h' → end ≡ end'
     → IsItemAt p.forward h end place item → IsItemAt q.forward h' end' place item
@@ -40,7 +40,7 @@ item_turn p q h h' end end' place item regex haystack last is =
     (subst (λ (k : List ℕ). IsItemAt p.forward k end' place item) haystack
     (subst (λ n. IsItemAt p.forward h n place item) last is))
 
--- a match by its parts
+-- a match made of its parts
 pub match_is :
     (m n : Match) (pattern start end : ℕ) → m ≡ record { pattern = pattern; start = start; end = end }
     → pattern ≡ n.pattern → start ≡ n.start → end ≡ n.end → m ≡ n
@@ -49,7 +49,7 @@ match_is m n pattern start end is p s e =
     ∙ ap (λ (k : ℕ). record { pattern = n.pattern; start = k; end = end }) s
     ∙ ap (λ (k : ℕ). record { pattern = n.pattern; start = n.start; end = k }) e
 
--- nothing comes at the span's end
+-- there is no item at the span's end
 pub at_end : (failed : Bool) (end end' place : ℕ) → (failed ≡ true) ⊎ (end ≤ place) → failed ≡ false → end ≡ end' → end' ≤ place
 at_end failed end end' place (inl told) going same = absurd (false_true (sym going ∙ told))
 at_end failed end end' place (inr past) going same = omega (arith, past, same)

@@ -1,4 +1,4 @@
--- What the search back costs, and what it is given.
+-- What the search back costs, and what is cached for it.
 use Rattle.std.specs.Prelude.{IfSome}
 use Rattle.std.proofs.Common.{ℕ, ◌≡◌, ◌∙◌, ◌+◌, ◌-◌, ◌≤◌, inr, length, Option, Some, None, refl, sym, ap, subst, arith}
 use Rattle.std.specs.Option.{option_map}
@@ -49,7 +49,7 @@ cost_anchored m input old new anchored passes grown =
     pass_once (input.end - input.start) (KnowsItsStart Forward m old.store input) old new
     (cost_once Forward m input old new passes whole) (cost_known Forward m input old new passes whole) grown
 
--- in reach of the search back is nothing that was not in reach before
+-- nothing is in reach of the search back that was not in reach before
 pub back_reach :
     (m : Machine) (input : Input) (half : Half) → input.start ≤ half.base → half.offset ≤ input.end
     → NoQuitInReach m input → NoQuitInReach m (back input half)
@@ -74,7 +74,7 @@ cost_back p input rest half old new same long passes grown =
     whole : Skips p.reverse × ((back input half).anchored ≡ No) → ⊥
     whole s = yes_no s.1
 
--- what the search back found, as a half with its base
+-- what the search back found, as a half match with its base
 pub back_some :
     (m : Machine) (rest : Input) (o : Option HalfMatch) (found : HalfMatch) → WithoutBase (IsFound Backward m rest) o → o ≡ Some found
     → (half : Half) × IsFound Backward m rest (Some half) × (found.offset ≡ half.offset)
@@ -98,7 +98,7 @@ module _ (agree : AnswersAgree) (p : Regex) (input : Input) where
   pub same_half : (a b : Half) → IsFound Forward p.forward input (Some a) → IsFound Forward p.forward input (Some b) → a ≡ b
   same_half a b f g = same_some (agree Forward p.forward p.forward input (Some a) (Some b) refl refl f g)
 
-  -- all that both searches use is known
+  -- all that both searches use is cached
   pub knows_both :
       (c : Cache) (half : Half) → Knows Forward p.forward c.forward.store input → IsFound Forward p.forward input (Some half)
       → KnowsBack p c.reverse.store input half → KnowsBoth p c input

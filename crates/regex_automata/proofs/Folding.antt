@@ -15,7 +15,7 @@ use Rattle.regex_automata.specs.declared.replay.replies.Reply.TheVariants as rep
 use Rattle.regex_automata.specs.declared.replay.replies.Fault.TheVariants as fault
 
 module _ (regexes : List Regex) (script : List Request) where
-  -- what is left to reply, after this history, completes the replies so far
+  -- the replies that are left, after this history, complete the replies so far
   abbrev pub Completes : List Reply → History → List Request → Type 0
   Completes done h left =
       (rest : List Reply) → AreRepliesAfter regexes h left rest → AreReplies regexes script (done ++ rest)
@@ -86,7 +86,7 @@ cut_at (q ∷ qs) zero lt = (q, refl)
 cut_at (q ∷ qs) (suc i) lt = let (r, e) = cut_at qs i (omega arith) in (r, e)
 
 module _ (script : List Request) where
-  -- with no regex: what is left to reply, after any history, completes the replies so far
+  -- with no regex, the replies that are left, after any history, complete the replies so far
   abbrev pub AllBad : List Reply → List Request → Type 0
   AllBad done left =
       (rest : List Reply) → ((h : History) → AreRepliesAfter [] h left rest)

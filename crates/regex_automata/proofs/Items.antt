@@ -17,7 +17,7 @@ use Rattle.regex_automata.specs.declared.hybrid.regex.caches.Cache.{Cache}
 use Rattle.regex_automata.proofs.Backing.{false_true}
 use Rattle.regex_automata.proofs.Results.{ok_err, same_err}
 
--- a match is given
+-- a match is returned
 pub gives_match :
     (p : Regex) (c : Cache) (input input' : Input) (last : Option ℕ) (ended : Bool) (m : Match) (start end : ℕ)
     → ended ≡ false → IsNextMatch p input last (Some m) → MatchLiesIn p input m → input' ≡ from start input → start ≡ m.end
@@ -40,7 +40,7 @@ pub gives_error :
 gives_error p c input last true e still refused = absurd (false_true (sym still))
 gives_error p c input last false e still refused = (refused, refl, refl, refl)
 
--- what an item that searches makes of what is known
+-- what an item that searches does to what is cached
 pub learns_next :
     (p : Regex) (old new : Cache) (asked input : Input) (last : Option ℕ) (ended : Bool) (item : Option (Result Match SearchError))
     → ended ≡ false → asked ≡ input
@@ -54,7 +54,7 @@ learns_next p old new asked input last false item still same known learned =
       learned = λ nothing good. subst (λ (i : Input). KnowsNext p new i last) same (learned nothing good);
     }
 
--- an item that is no error tells that the mode is supported, and an error which one isn't
+-- an item that is no error implies that the anchored mode is supported, and the error of a mode says that it is not
 pub tells_found :
     (p : Regex) (asked input : Input) (ended : Bool) (o : Option Match) (item : Option (Result Match SearchError))
     → asked ≡ input
@@ -80,7 +80,7 @@ tells_error p asked input ended e same tells = λ on u. told (same_err (for_inpu
   told : {v : SearchError} → e ≡ v → ◌≡◌ {A = Option (Result Match SearchError)} (Some (Err e)) (Some (Err v))
   told is = cc
 
--- fewer items may come behind a match
+-- after a match fewer items may come
 most_behind : (input input' : Input) (end : ℕ) → input' ≡ from end input → most_items false input' (Some end) ≡ input.end + 1 - end
 most_behind input input' end same =
     subst (λ (i : Input). most_items false i (Some end) ≡ input.end + 1 - end) (sym same)
@@ -116,7 +116,7 @@ fewer_left p input input' last false m start end still same begins ends goes =
     subst (λ n. n < most_items false input last) (sym behind)
     (subst (λ n. input.end + 1 - n < most_items false input last) (sym ends) (most_before p input last m goes))
 
--- and none behind an error
+-- and after an error none
 pub some_left : (input : Input) (last : Option ℕ) (ended : Bool) → ended ≡ false → input.start ≤ input.end → 0 < most_items ended input last
 some_left input last true still ahead = absurd (false_true (sym still))
 some_left input None false still ahead = omega (arith, ahead)

@@ -33,7 +33,7 @@ module _ (rs : List Regex) where
   length-walks (v ∷ ws) [] all = absurd all
   length-walks (v ∷ ws) (j ∷ ks) all = ap suc (length-walks ws ks all.1)
 
-  -- behind the last there is none
+  -- after the last there is none
   pub no_walk : (ws : List Begun) (ks : List KeptWalk) (n : ℕ) → AreWalks rs ws ks → length ks ≤ n → nth ws n ≡ None
   no_walk [] ks n all le = refl
   no_walk (v ∷ ws) [] n all le = absurd all
@@ -50,7 +50,7 @@ module _ (rs : List Regex) where
   walk_at (v ∷ ws) (j ∷ ks) zero k all lt is = (v, refl, subst (λ x. IsWalk rs v x) (sym is) all.0)
   walk_at (v ∷ ws) (j ∷ ks) (suc n) k all lt is = walk_at ws ks n k all.1 (omega arith) is
 
-  -- a walk that told one more pair
+  -- a walk that reported one more pair
   pub walks_step :
       (ws : List Begun) (ks : List KeptWalk) (n : ℕ) (w : Begun) (k : KeptWalk)
       → AreWalks rs ws ks → nth ws n ≡ Some w → IsWalk rs (stepped w) k → AreWalks rs (step_at n ws) (set ks n k)

@@ -1,4 +1,4 @@
--- What searches over two lazy DFAs leave of the progress of searches.
+-- What progress searches over two lazy DFAs leave.
 use Rattle.std.proofs.Common.{ℕ, suc, ◌≡◌, Bool, true, false, Option, Some, None, inr, sym, subst}
 use Rattle.std.specs.Prelude.{Result, Ok, Err, IfOk, IfErr}
 use Rattle.automata_base.specs.Input.{Input}
@@ -10,7 +10,7 @@ use Rattle.regex_automata.specs.declared.hybrid.regex.Regex.{Regex}
 use Rattle.regex_automata.specs.declared.hybrid.regex.caches.Cache.{Cache}
 use Rattle.regex_automata.proofs.Backing.{false_true}
 
--- a search from one place later, behind one that found an empty match at the last end
+-- a search from one place later, after one that found an empty match at the last end
 module _ (p : Regex) (input rest : Input) (last : Option ℕ) (old between new : Cache) (same : rest ≡ from (suc input.start) input)
     (first : EndsEmpty p input last old between) where
   pub ends_later :

@@ -1,4 +1,4 @@
--- The matches that a replay lists, and why the next one is refused.
+-- The matches that a replay lists, and why the next one fails.
 use Rattle.std.proofs.Common.{◌≡◌, ◌∙◌, ◌⊎◌, ◌≤◌, ℕ, suc, arith, Bool, Result, Ok, true, false, List, [], ◌∷◌, Option, Some, None, Err, IfSome, inl, inr, ap, subst, sym}
 use Rattle.automata_base.specs.Input.{Input}
 use Rattle.automata_base.specs.Matches.{Match}
@@ -16,21 +16,21 @@ use Rattle.regex_automata.specs.declared.hybrid.regex.caches.Cache.{Cache}
 use Rattle.regex_automata.proofs.Collecting.{ComesTo}
 use Rattle.regex_automata.proofs.Owed.{memory_of_sound}
 
--- behind its first matches an iteration stands where the last one ended
+-- after its first matches an iteration stands where the last one ended
 comes_behind :
     (F : Input → Option Match → Type 0) (input : Input) (start : ℕ) (last : Option ℕ) (ms : List Match) (at : ℕ) (before : Option ℕ)
     → ComesTo F input start last ms at before → (at ≡ place_behind start ms) × (before ≡ end_behind last ms)
 comes_behind F input start last [] at before c = (sym c.0, sym c.1)
 comes_behind F input start last (m ∷ ms) at before c = comes_behind F input m.end (Some m.end) ms at before c.1
 
--- what an item that is an error tells
+-- what an item that is an error says
 pub item_refused :
     (p : Regex) (c : Cache) (input input' : Input) (last last' : Option ℕ) (ended ended' : Bool) (e : SearchError)
     → GivesItem p c (Some (Err e)) input input' last last' ended ended' → ended ≡ false → IsNextRefusal p c input last e
 item_refused p c input input' last last' true ended' e g still = let h : true ≡ false = still in cc
 item_refused p c input input' last last' false ended' e g still = g.0
 
--- so the search for the match behind those listed is refused, over the cache as it is left
+-- so the search for the match after those listed fails, over the cache as it is left
 pub refused_behind :
     (p q : Regex) (c d : Cache) (input now : Input) (ms : List Match) (last : Option ℕ) (e : SearchError)
     → p ≡ q → c ≡ d → now ≡ from now.start input → ComesTo (FindsMatch q) input input.start None ms now.start last
@@ -43,7 +43,7 @@ refused_behind p q c d input now ms last e regex cache is comes refused =
     (subst (λ (i : Input). IsNextRefusal p c i (end_behind None ms) e) place
     (subst (λ (l : Option ℕ). IsNextRefusal p c now l e) behind.1 refused)))
 
--- where the mode isn't supported nothing is listed, and the next item is the error that tells it
+-- if the anchored mode is not supported nothing is listed, and the next item is that error
 pub untold_turn :
     (p q : Regex) (input now : Input) (ended : Bool) (item : Option (Result Match SearchError)) (ms : List Match)
     → p ≡ q → now ≡ from now.start input → ended ≡ false → TellsUnsupported p now ended item
@@ -68,7 +68,7 @@ pub same_error :
     → ◌≡◌ {A = Option SearchError} (Some e) (Some f)
 same_error h = cc
 
--- where nothing stands in the way of a search, nothing does from a later place
+-- if nothing prevents a search, nothing prevents one from a later place
 free_from : (p : Regex) (input : Input) (start : ℕ) → input.start ≤ start → IsFree p input → IsFree p (from start input)
 free_from p input start le free = record {
   forward = λ at byte l. free.forward at byte (omega (arith, le, l));
@@ -78,7 +78,7 @@ free_from p input start le free = record {
   reverse_clears = free.reverse_clears;
 }
 
--- so over a sound pair memory is wanting
+-- so over a sound pair the error is out of memory
 pub memory_behind :
     (p : Regex) (input : Input) (ms : List Match) (error : Option SearchError) → input.start ≤ place_behind input.start ms
     → IfSome error (MayRefuseNext p input ms) → IsSoundPair p → IsFree p input → IfSome error IsMemory
@@ -99,7 +99,7 @@ memory_behind p input ms (Some e) le refused sound free = go refused where
         memory_of_sound p r.0 (from (suc place) (from place input)) e sound
         (free_from p (from place input) (suc place) (omega arith) here) later.3
 
--- some caches refuse it so
+-- some caches give this error
 pub may_refuse_next :
     (p : Regex) (c : Cache) (input : Input) (ms : List Match) (error : Option SearchError) → AreStoresOf c p
     → IfSome error (λ e. IsMemory e ⊎ IsRefusedBehind p c input ms e)

@@ -1,4 +1,4 @@
--- Whether there is a match: where nothing is skipped, the first one seen tells as much as the whole search.
+-- Whether there is a match: if nothing is skipped, the first match that is seen decides it as the whole search does.
 use Rattle.std.proofs.Common.{ℕ, zero, suc, ◌≡◌, ◌∙◌, ◌<◌, ◌≤◌, ◌+◌, ◌⊎◌, inl, inr, Bool, true, List, [], ◌∷◌, length, Option, Some, None, refl, sym, ap, subst, arith}
 use Rattle.std.specs.Prelude.{is_some}
 use Rattle.std.specs.Option.{option_map}
@@ -24,7 +24,7 @@ use Rattle.automata_hybrid.proofs.Skipping.{found_told}
 use Rattle.regex_automata.specs.Matching.{IsAsked, IsMatchTold, IsNearestThere, IsTruthFound, in_part}
 use Rattle.automata_config.specs.Options.{match_kind_of}
 
--- the first match is there where the last one is
+-- the first match is there if the last one is
 some_same : (ps : List ℕ) (i : ℕ) (f l : Option Pair) → is_some f ≡ is_some l → is_some (earlier_or f (pair_at ps i None)) ≡ is_some (pair_at ps i l)
 some_same [] i None l e = e
 some_same [] i (Some pair) l e = e
@@ -36,7 +36,7 @@ unfolding first_told last_told
 both_told kind a mode t zero = refl
 both_told kind a mode t (suc i) = some_same (told_at a kind mode t i) i (first_told a kind mode t i) (last_told a kind mode t i) (both_told kind a mode t i)
 
--- so a search that skips nothing tells it from either
+-- so either decides it for a search that skips nothing
 module _ (m : Machine) (input : Input) (whole : Skips m → ⊥) where
   same_told :
       (k : ℕ)
@@ -90,7 +90,7 @@ module _ (m : Machine) (input : Input) (whole : Skips m → ⊥) where
       let w = whole_told f.0 (told_over Forward m.nfa (match_kind_of m.config) (later Forward f.0 (in_full input))) (first_try f.0 f.2) f.3 refl in
       (w.0, w.1, ap (λ (v : Option Pair). is_some v) f.4 ∙ same_told f.0 ∙ w.2)
 
--- what is searched has the parts of the input but one
+-- what is searched differs from the input in one part
 pub asked_to :
     {R : Type 0} (P : Input → Type 0) (m : Machine) (input asked : Input) → IsAsked m input asked
     → (P (in_full input) → R) → (P (in_part input) → R) → P asked → R
@@ -118,7 +118,7 @@ pub truth_found :
     → WithoutBase (IsFound Forward m asked) found → truth ≡ is_some found → IsTruthFound m input truth
 truth_found m input asked is found truth f e = (asked, f.0, is, f.1, e ∙ same_some found f.0 f.2)
 
--- and tells
+-- and what it reports
 pub truth_told :
     (m : Machine) (input asked : Input) → IsAsked m input asked → (found : Option HalfMatch) (truth : Bool)
     → WithoutBase (IsFound Forward m asked) found → truth ≡ is_some found → IsMatchTold m input truth
@@ -133,7 +133,7 @@ pub match_right :
     → IsMatchTold m input truth → IsMatch (engine_of m.nfa (match_kind_of m.config)) input truth
 match_right m law input truth acyclic given f = (f.0, law Forward (match_kind_of m.config) (in_full input) f.0 acyclic given f.1, f.2)
 
--- where nothing is skipped it is the nearest end that is searched
+-- if nothing is skipped the nearest end is searched for
 pub truth_nearest :
     (m : Machine) (input asked : Input) → IsAsked m input asked → (found : Option HalfMatch) (truth : Bool)
     → (asked.earliest ≡ true → WithoutBase (IsNearestAnswer Forward (engine_of m.nfa (match_kind_of m.config)) asked) found)

@@ -20,7 +20,7 @@ pub on_err : {A E : Type 0} (r : Result A E) (P : Type 0) → P → OnErr r P
 on_err (Ok a) P p = tt
 on_err (Err e) P p = p
 
--- a refused search had something to search
+-- a search that failed had something to search
 pub ahead_of :
     {A E : Type 0} (r : Result A E) (e : E) (a : A) (start end : ℕ) → (end < start → r ≡ Ok a) → r ≡ Err e → start ≤ end
 ahead_of r e a start end done is = go (lt_or_le end start) where
@@ -49,7 +49,7 @@ pub goes_first :
     → GoesPast p input last m
 goes_first p input last m lies full = (lies, past_last input last m lies.0 lies.1 full)
 
--- an empty one where the last one ended gives way to what is found from one place later
+-- an empty match at the last end is replaced by what is found from one place later
 module _ (p : Regex) (input : Input) (last : Option ℕ) (m : Match) (found : FindsMatch p input (Some m)) (empty : IsEmptyAt last m) where
   pub next_later : (r : Result (Option Match) SearchError) → IfOk r (FindsMatch p (from (suc input.start) input)) → IfOk r (IsNextMatch p input last)
   next_later (Ok None) h = inr (m, found, empty, h)

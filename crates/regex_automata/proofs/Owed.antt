@@ -1,4 +1,4 @@
--- What calls owe whatever the cache, from their clauses.
+-- What calls return whatever the cache, from their clauses.
 use Rattle.std.proofs.Common.{◌≡◌, ◌<◌, ◌≤◌, Option, None, Result, Ok, Err, IfErr, IfOk, Bool, true, false, inl, inr, ap}
 use Rattle.automata_base.specs.Input.{Input}
 use Rattle.automata_base.specs.Matches.{Match}
@@ -29,7 +29,7 @@ pub are_stores :
 are_stores c p of forward reverse =
     (is_store c.forward.store p.forward of.0 forward, is_store c.reverse.store p.reverse of.1 reverse)
 
--- a refusal over some caches
+-- an error over some caches
 pub may_refuse_span :
     {T : Type 0} (r : Result T SearchError) (p : Regex) (c : Cache) (input : Input)
     → AreStoresOf c p → IfErr r (IsRegexRefusal p c input) → IfErr r (MayRefuseSpan p input)
@@ -41,7 +41,7 @@ pub may_refuse_truth :
     → IsAsked m input asked → MayRefuse Forward m asked e → MayRefuseTruth m input e
 may_refuse_truth m input asked e is h = (h.0, h.1, (asked, is, h.2))
 
--- where nothing stands in the way of a refused search
+-- if nothing prevents a search that failed
 pub refused_free :
     {T : Type 0} (r : Result T SearchError) (p : Regex) (c : Cache) (input : Input)
     → IsFree p input → IfErr r (IsRegexRefusal p c input) → IfErr r IsOfMemory
@@ -103,7 +103,7 @@ truth_owed p input r found told answer nearest errors unsupported answers done =
   done = done;
 }
 
--- fresh caches of a regex are of it
+-- fresh caches of a regex belong to it
 pub fresh_caches : (p : Regex) (c : Cache) → AreFresh p c → AreCachesOf c p
 fresh_caches p c fresh =
     (ap (λ (v : CacheView). v.store.table.of) fresh.0, ap (λ (v : CacheView). v.store.table.of) fresh.1)

@@ -1,4 +1,4 @@
--- What one item after another knows.
+-- What is cached from item to item.
 use Rattle.std.proofs.Common.{ℕ, suc, ◌≡◌, ◌∙◌, ◌≤◌, length, Option, Some, None, refl, sym, ap, subst, arith}
 use Rattle.std.specs.Prelude.{Result, Ok, Err, IfErr, OnOk}
 use Rattle.automata_base.specs.Answers.{Half, IsInput}
@@ -23,7 +23,7 @@ use Rattle.regex_automata.specs.declared.hybrid.regex.Regex.{Regex}
 use Rattle.regex_automata.specs.declared.hybrid.regex.caches.Cache.{Cache}
 use Rattle.regex_automata.proofs.Results.{none_some, same_some}
 
--- the progress of searches is no matter
+-- the progress of searches does not matter
 still_back : (p : Regex) (a b : CacheView) (input : Input) (half : Half) → IsStill a b → KnowsBack p a.store input half → KnowsBack p b.store input half
 still_back p a b input half s knows = subst (λ (c : Stored). KnowsBack p c input half) (sym s.1) knows
 
@@ -39,7 +39,7 @@ still_trans a b c f g = (g.0 ∙ f.0, g.1 ∙ ap (λ (s : Stored). with_searched
 pub still_twice : (a b c : Cache) → AreStill a b → AreStill b c → AreStill a c
 still_twice a b c f g = (still_trans a.forward b.forward c.forward f.0 g.0, still_trans a.reverse b.reverse c.reverse f.1 g.1)
 
--- what two searches did not clear, neither did
+-- if two searches cleared nothing together, neither did
 pub cleared_first : (a b c : Cache) → AreGrown a b → AreGrown b c → NothingCleared a c → NothingCleared a b
 cleared_first a b c f g n = (
   nothing_first a.forward b.forward c.forward f.0 g.0 n.0,
@@ -52,7 +52,7 @@ cleared_second a b c f g n = (
   nothing_second a.reverse b.reverse c.reverse f.1 g.1 n.1,
 )
 
--- what is not lost is known still
+-- what is not lost is still cached
 pub both_stays :
     (p : Regex) → KnownStays p.forward → KnownStays p.reverse → (a b : Cache) (input : Input) → IsInput input
     → AreCachesOf a p → AreCachesOf b p → AreGrown a b → NothingCleared a b → KnowsBoth p a input → KnowsBoth p b input
@@ -81,7 +81,7 @@ module _ (agree : MatchesAgree) (p : Regex) (input : Input) (last : Option ℕ) 
   pub stands_some : (m : Match) → FindsMatch p input (Some m) → (IsEmptyAt last m → ⊥) → FindsEmptyAt p input last → ⊥
   stands_some m found full = stands (Some m) found (λ n e empty. full (subst (λ (v : Match). IsEmptyAt last v) (sym (same_some e)) empty))
 
--- what it learned
+-- what it left cached
 pub alone :
     (p : Regex) (input : Input) (last : Option ℕ) (c : Cache) → KnowsBoth p c input → (FindsEmptyAt p input last → ⊥)
     → KnowsNext p c input last

@@ -36,13 +36,13 @@ is_bad [] h q answer r why at bad e = absurd (none_some at)
 is_bad (x ∷ xs) h q answer r why at bad e =
     subst (λ (o : Option Fault). MatchOption o (IsOwedBy (nth (x ∷ xs) h.current) h.walks q answer) (λ why. answer ≡ reply.Bad why)) (sym bad) e
 
--- a reset that found no memory
+-- a reset that ran out of memory
 pub refused_reset : (rs : List Regex) (h : History) (k : ℕ) (r : Regex)
     → nth rs h.current ≡ Some r → true ≡ nat_lt k (length rs) → IsReply rs h (request.Reset k) (reply.Done (Err search.OutOfMemory))
 refused_reset rs h k r at lt =
     is_own rs h (request.Reset k) (reply.Done (Err search.OutOfMemory)) r at (ap (λ b. if b then none_of else Some fault.NoRegex) (sym lt)) refl
 
--- what a request with no fault of its own makes of the caches
+-- what a request with no fault of its own does to the caches
 pub is_made :
     (rs : List Regex) (h : History) (q : Request) (old new : Cache) (answer : Reply) (r : Regex)
     → nth rs h.current ≡ Some r → IsMadeBy r h.walks q old new answer

@@ -1,4 +1,4 @@
--- A regex of an automaton that passes the tests and of the reversed one is a sound pair.
+-- A regex of an NFA that passes the tests and of the reversed one is a sound pair.
 use Rattle.std.proofs.Common.{sym, subst}
 use Rattle.automata_base.specs.declared.util.search.MatchKind.{MatchKind}
 use Rattle.automata_base.specs.declared.util.search.MatchKind.TheVariants.{All}

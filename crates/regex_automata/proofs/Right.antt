@@ -1,4 +1,4 @@
--- What the passes of two DFAs tell is what the ordered paths define.
+-- What the passes of two DFAs report is what the ordered paths define.
 use Rattle.std.proofs.Common.{ℕ, ◌≡◌, ◌∙◌, inl, inr, Option, Some, refl, sym, subst, arith}
 use Rattle.std.specs.Prelude.{Result, Ok, Err, IfErr}
 use Rattle.automata_base.specs.Answers.{Half, IsAnswer, IsInput}
@@ -25,7 +25,7 @@ use Rattle.regex_automata.specs.declared.hybrid.regex.caches.Cache.{Cache}
 use Rattle.regex_automata.proofs.Backing.{back_free, never_pair}
 use Rattle.automata_config.specs.Options.{match_kind_of}
 
--- over automata without look cycles
+-- over NFAs without look cycles
 module _ (p : Regex) (front : ToldIsRight p.forward.nfa) where
   front_right :
       (input : Input) (o : Option Half) → IsLookAcyclic (nfa_of p.forward.nfa) → IsInput input → IsFound Forward p.forward input o
@@ -110,7 +110,7 @@ module _ (p : Regex) (front : ToldIsRight p.forward.nfa) where
             not_quit : ◌≡◌ {A = SearchError} (search.Match (QuitAt byte at)) search.NotAPair → ⊥
             not_quit h = cc
 
--- each refusal of a search
+-- each error of a search
 pub refusals :
     (p : Regex) (front : ToldIsRight p.forward.nfa) (rear : ToldIsRight p.reverse.nfa) (ends : ToldEndsAreRight p.reverse.nfa)
     (starts : StartsAreRight) (law : BackMeetsNone) (c : Cache) (input : Input) (given : IsInput input) (r : Result (Option Match) SearchError)

@@ -61,7 +61,7 @@ module _ (p : Regex) where
         let g = place_on m.end (Some m.end) ms f.1 in
         omega (arith, n.0, n.1, g)
 
-    -- the search behind them begins no earlier than the input
+    -- the search after them begins no earlier than the input
     pub first_place : (ms : List Match) → AreFirst (FindsMatch p) input input.start None ms → input.start ≤ place_behind input.start ms
     first_place ms f = place_on input.start None ms f
 

@@ -1,4 +1,4 @@
--- What the searches for the items of a list make of the caches, one after another.
+-- What the searches for the items of a list do to the caches, one after another.
 use Rattle.std.proofs.Common.{ℕ, ◌≡◌, ◌∙◌, Bool, false, List, [], ◌∷◌, ◌++◌, append_assoc, append-nil, Option, Some, None, refl, sym, subst}
 use Rattle.std.specs.Prelude.{Result, Ok}
 use Rattle.automata_base.specs.Input.{Input}
@@ -14,7 +14,7 @@ use Rattle.regex_automata.specs.declared.hybrid.regex.caches.Cache.{Cache}
 use Rattle.regex_automata.specs.declared.tokens.error.TokenError.{TokenError}
 use Rattle.regex_automata.specs.declared.tokens.token.Token.{Token}
 
--- what an item makes of the caches, of the regex that the loop was given
+-- what an item does to the caches, of the regex that the loop was given
 pub effect_turn :
     (p q : Regex) (now : Input) (last : Option ℕ) (ended : Bool) (at next : Cache) (item : Option (Result Match SearchError))
     → p ≡ q → ended ≡ false → IsItemEffect p now last ended at next item → IsItemEffect q now last false at next item
@@ -22,7 +22,7 @@ effect_turn p q now last ended at next item regex going effect =
     subst (λ (r : Regex). IsItemEffect r now last false at next item) regex
     (subst (λ b. IsItemEffect p now last b at next item) going effect)
 
--- the searches behind the matches so far complete those of the list
+-- the searches after the matches so far complete those of the list
 abbrev pub Searches :
     Regex → (first : Cache) → Input → List Match → (at : Cache) → (now : Input) → (last : Option ℕ) → Type 0
 Searches p first input found at now last =

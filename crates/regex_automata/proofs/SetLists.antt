@@ -1,4 +1,4 @@
--- The list of the patterns of a set, and what walks owe it.
+-- The list of the patterns of a set, and what walks say of it.
 use Rattle.std.proofs.Common.{◌≡◌, ◌∙◌, ◌<◌, ◌≤◌, ◌⊎◌, ℕ, zero, suc, Bool, true, false, List, [], ◌∷◌, Some, None, Result, Ok, Err, IfErr, OnOk, IfSome, arith, inl, inr, length, refl, subst, sym, ap}
 use Rattle.std.specs.Prelude.{IsOk}
 use Rattle.std.proofs.lemmas.List.{length-replicate}
@@ -34,7 +34,7 @@ members_rise_from k (false ∷ rest) = rising_from k (suc k) (members_from (suc 
 pub members_rise : (set : List Bool) (found : List ℕ) → found ≡ members set → AreRising 0 found
 members_rise set found is = subst (λ (ks : List ℕ). AreRising 0 ks) (sym is) (members_rise_from 0 set)
 
--- a fresh set joined with the patterns that a walk told
+-- a fresh set joined with the patterns that a walk reported
 pub patterns_told :
     (P : List Pair → Type 0) (input : Input) (capacity : ℕ) (old new : List Bool) (found : List ℕ)
     → old ≡ empty_set capacity → members old ≡ [] → found ≡ members new
@@ -44,7 +44,7 @@ patterns_told P input capacity old new found fresh none is told =
     (subst (λ (ks : List ℕ). ArePatterns P input capacity ks (members new)) none
     (subst (λ n. ArePatterns P input n (members old) (members new)) (ap length fresh ∙ length-replicate capacity false) told))
 
--- the same of a call that may have been refused
+-- the same of a call that may have failed
 pub told_where :
     {E : Type 0} (r : Result (Unit {0}) E) (P : Type 0) → OnOk r P → result_err r ≡ None → P
 told_where (Ok x) P h none = h
@@ -69,7 +69,7 @@ up_to P n below here k l = go (lt_or_le k n) where
   go (inl less) = below k less
   go (inr most) = let same : n ≡ k = omega (arith, l, most) in subst P same here
 
--- the calls that the walk of a set has made, one after another, have told as many pairs, each where it was gone on with
+-- the calls that the walk of a set has made, one after another, have reported as many pairs, each if the set went on
 called_told :
     (m : Machine) (input : Input) (set : List Bool) (calls : ℕ) (old : Stored) (walk : Walk) (new : Stored)
     → HaveCalled m input set calls old walk new
@@ -86,12 +86,12 @@ told_set m input set old new (calls, walk, called, last) =
     let told = called_told m input set calls old walk new called in
     (calls, walk, told.0, told.1, last)
 
--- a call that answered gave no refusal
+-- a call that returned Ok has no error
 pub none_where : (r : Result (Unit {0}) SearchError) → IsOk r → IfSome (result_err r) IsMemory
 none_where (Ok x) ok = tt
 none_where (Err e) ok = absurd (false_true ok)
 
--- where memory is wanting for the set or the list
+-- if there is no memory for the set or the list
 pub no_patterns :
     (m : Machine) (input : Input) (capacity : ℕ) (found : List ℕ) → found ≡ []
     → ArePatternsUpto m input capacity found (Some search.OutOfMemory)

@@ -1,4 +1,4 @@
--- What a pass read to tell what it told.
+-- What a pass has read when it reports.
 use Rattle.std.proofs.Common.{ℕ, zero, suc, ◌≡◌, ◌∙◌, ◌<◌, ◌≤◌, ◌-◌, ◌⊎◌, inl, inr, Bool, true, false, length, Option, Some, None, refl, sym, ap, subst, arith, eq-or-lt_of_le}
 use Rattle.automata_base.specs.Computed.{earlier_or, pair_at}
 use Rattle.automata_base.specs.declared.util.search.Anchored.{Anchored}
@@ -44,7 +44,7 @@ module _ (way : Direction) (m : Machine) (input : Input) (pair : Pair) (told : t
   below : ToldBelow (match_kind_of m.config) m.nfa input.anchored (tape_in way input) pair (suc Last)
   below = over_below way m.nfa (match_kind_of m.config) input pair told
 
-  -- a pass tells at a place of its tape
+  -- a pass reports at a place of its tape
   pub told_within : pair.place ≤ length (tape_in way input).bytes
   told_within = let b = below.0 in omega (arith, b)
 

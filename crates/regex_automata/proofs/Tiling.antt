@@ -1,4 +1,4 @@
--- What the tokens of a span are, by the answers that its searches owe, and how they tile it.
+-- What the tokens of a span are, by the answers of its searches, and how they tile it.
 use Rattle.std.proofs.Common.{ℕ, ◌≡◌, ◌∙◌, ◌<◌, ◌≤◌, ◌+◌, ◌-◌, ◌⊎◌, inl, inr, Bool, true, false, List, [], ◌∷◌, ◌++◌, length, take, drop, append_assoc, Option, Some, None, refl, sym, ap, subst, arith}
 use Rattle.std.specs.Prelude.{Result, Ok, Err, IfErr, IfSome, nat_lt, if◌then◌else◌, slice_range}
 use Rattle.std.proofs.Math.Seq.{take-add}
@@ -53,7 +53,7 @@ module _ (m : Machine) (h : List ℕ) (end : ℕ) (few : end ≤ length h) where
   token_is place t (ahead, (Ok None, owed, is)) = absurd (ok_err is)
   token_is place t (ahead, (Err e, owed, is)) = absurd (ok_err is)
 
-  -- with its bytes it is given
+  -- with its bytes it is returned
   pub token_is_given :
       (place : ℕ) (t : Token) (answer : Result (Option HalfMatch) SearchError) → place < end → Owes place answer
       → ◌≡◌ {A = Result Match TokenError} (Ok (match_of t)) (item_of place answer)
@@ -89,7 +89,7 @@ module _ (m : Machine) (h : List ℕ) (end : ℕ) (few : end ≤ length h) where
   no_token_is place at (ahead, (Ok None, owed, is)) = (same_place at place (same_err is), ahead, inl owed)
   no_token_is place at (ahead, (Err e, owed, is)) = absurd (no_search at e (same_err is))
 
-  -- what an answer makes that is no token is the error that is given
+  -- if what an answer makes is no token, it is the error that is returned
   pub error_is_given :
       (c : Stored) (place : ℕ) (answer : Result (Option HalfMatch) SearchError) (e : TokenError) → place < end
       → Owes place answer → IfErr answer (IsRefused Forward m c (asked h end place))
@@ -104,7 +104,7 @@ module _ (m : Machine) (h : List ℕ) (end : ℕ) (few : end ≤ length h) where
     subst (IsRefused Forward m c (asked h end place)) (sym (same_search e d (same_err is))) refused,
   )
 
-  -- and a refusal is the search's own
+  -- and an error is the search's own
   refused_is : (place : ℕ) (e : SearchError) → IsItemAt m h end place (Err (Search e)) → Owes place (Err e)
   refused_is place e (ahead, (Ok (Some half), owed, is)) = go (nat_lt place half.offset) refl where
     go : (past : Bool) → nat_lt place half.offset ≡ past → Owes place (Err e)
@@ -138,7 +138,7 @@ module _ (m : Machine) (h : List ℕ) (end : ℕ) (few : end ≤ length h) where
         let n = token_is place t g.0 in
         (n.1, n.2, n.3, right place (Some (record { pattern = t.pattern; offset = t.end })) n.0, found_by t.end ts error g.1)
 
-  -- a part of the haystack is two, parted anywhere
+  -- a part of the haystack is two parts, split anywhere
   parts : (a b c : ℕ) → a ≤ b → b ≤ c → slice_range h a b ++ slice_range h b c ≡ slice_range h a c
   parts a b c low high =
       let first : a + (b - a) ≡ b = omega (arith, low) in
@@ -176,7 +176,7 @@ module _ (m : Machine) (h : List ℕ) (end : ℕ) (few : end ≤ length h) where
   tiles place (t ∷ ts) g =
       let n = token_is place t g.0 in token_then place t (joined h ts) n (tiles t.end ts g.1)
 
-  -- where nothing stands in the way of an answer at the start, nothing does later
+  -- if nothing prevents an answer at the start, nothing does later
   unhindered_later :
       (start place : ℕ) → start ≤ place → IsUnhindered m (asked h end start) → IsUnhindered m (asked h end place)
   unhindered_later start place later free =

@@ -1,4 +1,4 @@
--- Why no token comes.
+-- Why there is no next token.
 use Rattle.std.proofs.Common.{ℕ, ◌≡◌, Bool, true, false, List, Option, Some, None, sym, subst}
 use Rattle.std.specs.Prelude.{Result, Ok, Err, IfErr, OnOk, if◌then◌else◌, nat_lt}
 use Rattle.automata_base.specs.Matches.{HalfMatch, Match}
@@ -29,7 +29,7 @@ answer_is_no_refusal place (Some half) e is = go (nat_lt place half.offset) is w
   go true h = absurd (err_ok h)
   go false h = no_search place e (sym (same_err h))
 
--- what the search at a place leaves of the progress, by what its answer makes
+-- what progress the search at a place leaves, by what its answer makes
 module _ (m : Machine) (h : List ℕ) (end place : ℕ) (old new : Stored) where
   pub error_leaves :
       (answer : Result (Option HalfMatch) SearchError) (e : TokenError)
@@ -51,7 +51,7 @@ module _ (m : Machine) (h : List ℕ) (end place : ℕ) (old new : Stored) where
   token_leaves (Ok o) t found ended is = ended
   token_leaves (Err d) t found ended is = absurd (err_ok (sym is))
 
--- what the search at a place has learned, by what its answer makes
+-- what the search at a place left cached, by what its answer makes
 module _ (m : Machine) (c : Stored) (h : List ℕ) (end place : ℕ) where
   pub error_learns :
       (answer : Result (Option HalfMatch) SearchError) (e : TokenError)
@@ -71,7 +71,7 @@ module _ (m : Machine) (c : Stored) (h : List ℕ) (end place : ℕ) where
   token_learns (Ok o) t found learned is = learned
   token_learns (Err d) t found learned is = absurd (err_ok (sym is))
 
--- a search that is refused for what it was given makes an error of that
+-- a search that fails by what it was given makes an error of that
 pub error_of_input :
     (place : ℕ) (answer : Result (Option HalfMatch) SearchError) (e : TokenError) → IfErr answer IsOfInput
     → ◌≡◌ {A = Result Match TokenError} (Err e) (item_of place answer) → IsTokenOfInput e

@@ -25,7 +25,7 @@ use Rattle.automata_config.specs.Options.{match_kind_of}
 not_supported : (m : Machine) (mode : Anchored) (behind : Option ℕ) → MayStart m mode behind → supports m mode ≡ false → ⊥
 not_supported m mode behind may e = let f = may.1 in cc
 
--- a walk whose mode isn't supported hasn't begun
+-- a walk whose anchored mode is not supported has not begun
 still_fresh :
     (way : Direction) (m : Machine) (input : Input) (s : Stage) (units told k : ℕ)
     → HasToldAt way m input s units told k → IsUnsupported way m input → s ≡ Fresh
@@ -61,7 +61,7 @@ module _ (way : Direction) (m : Machine) (input : Input) (old : Walk) (k : ℕ) 
         ended = λ pairs all lt. ((tells k h.told).1 pairs all).1 (omega arith);
       })
 
-  -- one that is refused
+  -- one that fails
   pub step_refused :
       (e : SearchError)
       → ((j : ℕ) → HasTold way m input old j → MayRefuseCall way m input old j e)
@@ -85,7 +85,7 @@ module _ (way : Direction) (m : Machine) (input : Input) (old : Walk) (k : ℕ) 
   stayed new is =
       subst (λ (w : Walk). HasAnswered way m input w k) (sym is) (record { told = h.told; ended = h.ended })
 
--- a walk that hasn't begun has answered no call
+-- a walk that has not begun has answered no call
 pub fresh_answered : (way : Direction) (m : Machine) (input : Input) (w : Walk) → w ≡ fresh_walk → HasAnswered way m input w 0
 fresh_answered way m input w is =
     subst (λ (v : Walk). HasAnswered way m input v 0) (sym is) (record { told = (refl, refl); ended = λ pairs all lt. absurd (omega arith) })

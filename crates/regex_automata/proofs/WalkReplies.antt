@@ -24,7 +24,7 @@ use Rattle.regex_automata.specs.declared.replay.walks.KeptWalk.{KeptWalk}
 use Rattle.regex_automata.proofs.Replying.{is_own, is_bad}
 use Rattle.regex_automata.proofs.KeptWalks.{no_walk, walk_at, same_at, walks_step, walks_same}
 
--- the walk that is kept under a number is of the player's regex
+-- the walk that is kept under a number belongs to the player's regex
 of_current : (h : History) (s : Player) (w : Begun) (k : KeptWalk)
     → HasPlayed h s → IsWalk s.regexes.now w k → k.regex ≡ s.current → nth s.regexes.now w.regex ≡ Some s.regex.now
 of_current h s w k a is e =
@@ -87,7 +87,7 @@ step_reply h s n k result a lt is e owed =
     (subst (λ (o : Option Begun). IsStepOf s.regex.now o result) (sym at)
     (begun_step s.regexes.now s.regex.now w k result walk (owed w.told (walk.told s.regex.now (of_current h s w k a walk e)))))
 
--- what it makes of the caches
+-- what it does to the caches
 begun_made :
     (rs : List Regex) (r : Regex) (w : Begun) (k : KeptWalk) (old new : Cache) (result : Result (Option HalfMatch) SearchError)
     → IsWalk rs w k → HasAnsweredBy r k w.told → MakesStep r k old new result → IsWalkStepped r (Some w) old new result

@@ -22,7 +22,7 @@ use Rattle.regex_automata.proofs.Results.{none_some, same_some, some_none}
 half_bad : {result : Result (Option HalfMatch) SearchError} {why : Fault} → reply.Half result ≡ reply.Bad why → ⊥
 half_bad e = cc
 
--- how many steps of a walk have answered Ok; of one that isn't begun none
+-- how many steps of a walk have answered Ok; none, if it is not begun
 abbrev told_of : Option Begun → ℕ
 told_of None = 0
 told_of (Some w) = w.told
@@ -41,7 +41,7 @@ becomes_itself (Some v) w e =
     let i = same_some e in
     (ap (λ (x : Begun). x.regex) i, ap (λ (x : Begun). x.reverse) i, ap (λ (x : Begun). x.input) i)
 
--- a walk that is begun has told nothing, and the others stay
+-- a walk that is begun has reported nothing, and the others stay
 push_other : (ws : List Begun) (new : Begun) (k : ℕ) (v : Begun) → nth ws k ≡ Some v → nth (ws ++ new ∷ []) k ≡ Some v
 push_other [] new k v e = absurd (none_some e)
 push_other (x ∷ ws) new zero v e = e
@@ -70,7 +70,7 @@ step_other (x ∷ ws) zero (suc k) ne = refl
 step_other (x ∷ ws) (suc j) zero ne = refl
 step_other (x ∷ ws) (suc j) (suc k) ne = step_other ws j k (λ e. ne (ap suc e))
 
--- an Ok reply to a step: its walk is there and of the current regex
+-- an Ok reply to a step: its walk exists and belongs to the current regex
 by_regex :
     (ws : List Begun) (k : ℕ) (b : Bool) (r : Option Regex) (found : Option HalfMatch)
     → MatchOption (if b then None else Some fault.OtherRegex) (IsOwedBy r ws (request.StepWalk k) (reply.Half (Ok found)))
@@ -99,11 +99,11 @@ step_of (y ∷ rs) h k found own =
     let (v, at, current, (x, is, step)) = by_walk h.walks k h.current (nth h.walks k) (nth (y ∷ rs) h.current) found own in
     (v, at, (x, ap (nth (y ∷ rs)) current ∙ is, subst (λ (o : Option Begun). IsStepOf x o (Ok found)) at step))
 
--- the walk `w` of the regex `r`, each Ok reply to whose steps is a pair of this list, or none behind the last
+-- the walk `w` of the regex `r`: each Ok reply to its steps is a pair of this list, or none after the last
 module _
     (rs : List Regex) (k : ℕ) (w : Begun) (r : Regex) (of : nth rs w.regex ≡ Some r) (pairs : List Pair)
     (names : (told : ℕ) (found : Option HalfMatch) → IsStep (direction_of w.reverse) (dfa_of w.reverse r) w.input told (Ok found) → found ≡ half_nth pairs told) where
-  -- what is told of a walk from where it stands now, which is the walk `w` at the end
+  -- what is reported of a walk from where it stands now, which is the walk `w` at the end
   abbrev Tells : Option Begun → List (Option HalfMatch) → Type 0
   Tells now steps = AreToldFrom (told_of now) pairs steps × Becomes now w
 

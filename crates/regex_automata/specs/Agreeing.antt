@@ -1,4 +1,4 @@
--- What searches over two lazy DFAs agree in.
+-- How the answers of searches over two lazy DFAs agree.
 use Rattle.std.specs.Prelude.{◌≡◌, ◌⊎◌, Bool, Option, false, is_some}
 use Rattle.automata_base.specs.Input.{Input}
 use Rattle.automata_base.specs.Matches.{Match}
@@ -9,8 +9,8 @@ use Rattle.regex_automata.specs.Outcomes.{FindsMatch}
 use Rattle.regex_automata.specs.declared.hybrid.regex.Regex.{Regex}
 use Rattle.automata_config.specs.Options.{match_kind_of}
 
--- two regexes are of the same automata and kinds, in whatever else their DFAs differ: capacity, limits, byte classes,
--- tags of starts, quit bytes
+-- two regexes have the same NFAs and match kinds; their DFAs may differ in capacity, limits, byte classes, tags of
+-- starts and quit bytes
 pub record AreAlike (p other : Regex) : Type 0 where
   pub forward : p.forward.nfa ≡ other.forward.nfa
   pub forward_kind : match_kind_of p.forward.config ≡ match_kind_of other.forward.config
@@ -23,7 +23,7 @@ MatchesAgree =
     (p other : Regex) (input : Input) (first second : Option Match)
     → AreAlike p other → FindsMatch p input first → FindsMatch other input second → first ≡ second
 
--- so do searches that ask whether there is one; they use the forward DFA alone
+-- so do searches for whether there is a match, which use the forward DFA alone
 abbrev pub TruthsAgree : Type 0
 TruthsAgree =
     (m other : Machine) (input : Input) (first second : Bool)
@@ -31,7 +31,7 @@ TruthsAgree =
     → IsMatchTold m input first → IsMatchTold other input second
     → first ≡ second
 
--- where the input is not earliest or no place is skipped, there is a match exactly if a search finds one
+-- if the input is not earliest or no place is skipped, there is a match exactly if a search finds one
 abbrev pub TruthIffFound : Type 0
 TruthIffFound =
     (p : Regex) (input : Input) (truth : Bool) (answer : Option Match)

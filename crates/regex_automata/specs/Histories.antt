@@ -22,11 +22,11 @@ pub record History : Type 0 where
 abbrev pub start : History
 start = record { current = 0; walks = [] }
 
--- a walk with one more step told
+-- a walk after one more Ok step
 abbrev pub stepped : Begun → Begun
 stepped w = record w { told = w.told + 1 }
 
--- the walks, walk `k` with one more step told
+-- the walks, after one more Ok step of walk `k`
 abbrev pub step_at : ℕ → List Begun → List Begun
 step_at k [] = []
 step_at zero (w ∷ ws) = stepped w ∷ ws

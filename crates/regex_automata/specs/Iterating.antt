@@ -13,54 +13,55 @@ use Rattle.regex_automata.specs.RegexRefusals.{IsOfGiven, IsRegexRefusal}
 use Rattle.regex_automata.specs.declared.hybrid.regex.Regex.{Regex}
 use Rattle.regex_automata.specs.declared.hybrid.regex.caches.Cache.{Cache}
 
--- the search finds an empty match at the last end, so that it is made again from a place later
+-- the search finds an empty match at the last end, so it is made again from one place later
 abbrev pub FindsEmptyAt : Regex → Input → Option ℕ → Type 0
 FindsEmptyAt p input last = (m : Match) × FindsMatch p input (Some m) × IsEmptyAt last m
 
--- the match after one that ended at `last`: none that is empty there
+-- the match after one that ended at `last`: it is not an empty one there
 abbrev pub IsNextMatch : Regex → Input → Option ℕ → Option Match → Type 0
 IsNextMatch p input last answer = IsNextItem (FindsMatch p) input input.start last answer
 
--- why the next match is refused: the search is, or the one from a place later, where that found an empty match there
+-- why the next match fails: the search failed, or it found an empty match at the last end and the search from one place
+-- later failed
 abbrev pub IsNextRefusal : Regex → Cache → Input → Option ℕ → SearchError → Type 0
 IsNextRefusal p c input last e =
     IsRegexRefusal p c input e
     ⊎ ((m : Match) × FindsMatch p input (Some m) × IsEmptyAt last m
     × IsRegexRefusal p c (from (suc input.start) input) e)
 
--- a match goes past the last end
+-- a match ends after the last end
 abbrev pub GoesPast : Regex → Input → Option ℕ → Match → Type 0
 GoesPast p input last m = MatchLiesIn p input m × (last ≡ Some input.start → input.start < m.end)
 
--- what one search costs; or, where it finds an empty match at the last end, that and the one from a place later
+-- the cost of one search; or, if it finds an empty match at the last end, of that and the search from one place later
 abbrev pub AreCostsTwice : Regex → Input → Option ℕ → Cache → Cache → Type 0
 AreCostsTwice p input last old new =
     AreCostsOf p input old new
     ⊎ (FindsEmptyAt p input last
     × ((between : Cache) × AreCostsOf p input old between × AreCostsOf p (from (suc input.start) input) between new))
 
--- all that the next match uses is known: what a search uses, and where that finds an empty match at the last end, what
--- the one from a place later uses
+-- all that the next match uses is cached: what a search uses, and, if that finds an empty match at the last end, what
+-- the search from one place later uses
 abbrev pub KnowsNext : Regex → Cache → Input → Option ℕ → Type 0
 KnowsNext p c input last =
     KnowsBoth p c input
     × ((m : Match) → FindsMatch p input (Some m) → IsEmptyAt last m → KnowsBoth p c (from (suc input.start) input))
 
--- and what an item uses: nothing, where the iteration has ended
+-- and what an item uses: nothing, if the iteration has ended
 abbrev pub KnowsItem : Regex → Cache → Input → Option ℕ → (ended : Bool) → Type 0
 KnowsItem p c input last true = Unit {0}
 KnowsItem p c input last false = KnowsNext p c input last
 
--- what an item makes of what is known
+-- what an item does to what is cached
 pub record LearnsItem
     (p : Regex) (old new : Cache) (input : Input) (last : Option ℕ) (ended : Bool)
     (item : Option (Result Match SearchError)) : Type 0 where
-  -- with all that it uses known nothing is determinised, and it is refused only for what it was given
+  -- if all that it uses is cached, nothing is determinized, and it fails only by what it was given
   pub known : KnowsItem p old input last ended → AreStill old new × IfSome item (λ r. IfErr r IsOfGiven)
-  -- where it is no refusal and nothing was cleared, what it used is known
+  -- if it is no error and nothing was cleared, what it used is cached
   pub learned : NothingCleared old new → IfSome item (λ r. IsOk r) → KnowsItem p new input last ended
 
--- one item of an iteration, and how it stands before and behind it: what is left to be searched, where the last match
+-- one item of an iteration, and the iteration before and after it: what is left to be searched, where the last match
 -- ended, and whether it has ended
 abbrev pub GivesItem :
     Regex → Cache → Option (Result Match SearchError) → (input input' : Input) → (last last' : Option ℕ)
@@ -75,7 +76,7 @@ GivesItem p c (Some (Ok m)) input input' last last' false ended' =
 GivesItem p c (Some (Err e)) input input' last last' false ended' =
     IsNextRefusal p c input last e × (input' ≡ input) × (last' ≡ last) × (ended' ≡ true)
 
--- an input by its parts
+-- an input made of its parts
 abbrev pub input_at : List ℕ → (start end : ℕ) → Anchored → (earliest : Bool) → Input
 input_at haystack start end anchored earliest =
     record { haystack = haystack; start = start; end = end; anchored = anchored; earliest = earliest }
@@ -87,7 +88,7 @@ most_items false input None = input.end + 2 - input.start
 most_items false input (Some end) =
     cond (end == input.start) (input.end + 1 - input.start) (input.end + 2 - input.start)
 
--- the first matches of an iteration, whatever comes behind them
+-- the first matches of an iteration, whatever comes after them
 abbrev pub AreFirst : (Finds : Input → Option Match → Type 0) → Input → ℕ → Option ℕ → List Match → Type 0
 AreFirst Finds input start last [] = Unit {0}
 AreFirst Finds input start last (m ∷ ms) =

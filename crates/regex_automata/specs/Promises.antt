@@ -4,19 +4,19 @@
 -- The cache belongs to the DFA; the caches belong to the two DFAs of the regex. Each call needs it and gives it back.
 pub use Rattle.automata_hybrid.specs.Caches.{CacheView, IsCacheOf}
 pub use Rattle.regex_automata.specs.RegexCaches.{AreCachesOf}
--- What contracts see of a DFA; its NFA, in the words of paths; its match kind.
+-- What contracts see of a DFA; its NFA, as paths need it; its match kind.
 pub use Rattle.automata_hybrid.specs.Machine.{Machine}
 pub use Rattle.automata_base.specs.Nodes.{nfa_of}
 pub use Rattle.automata_config.specs.Options.{match_kind_of}
 pub use Rattle.automata_base.specs.declared.util.search.MatchKind.TheVariants.{All as KindAll, LeftmostFirst}
--- What is searched: a span of a haystack, an anchored mode, and whether the search ends at its first match. A span that
--- may be set.
+-- What is searched: a span of a haystack, an anchored mode, and whether the search stops at its first match. A span
+-- that may be set.
 pub use Rattle.automata_base.specs.Input.{Input, Allows}
 pub use Rattle.automata_base.specs.Tapes.{IsHaystack}
 pub use Rattle.automata_base.specs.declared.util.search.Anchored.TheVariants.{No, Yes, Pattern}
--- No cycle of edges that read nothing passes a look-around assertion: answers by ordered paths need it.
+-- No cycle of epsilon transitions passes a look-around assertion. Answers by ordered paths need it.
 pub use Rattle.automata_base.specs.Paths.{IsLookAcyclic}
--- A match's pattern and end: of a search that returns it, and of one by paths, with the start of the span that gave it.
+-- A match's pattern and end: of a search that returns it; and of one by paths, with the start of the span that gave it.
 pub use Rattle.automata_base.specs.Matches.{HalfMatch}
 pub use Rattle.automata_base.specs.Answers.{Half}
 -- The forward search's answer by the ordered paths; the nearest end of any path.
@@ -24,7 +24,7 @@ pub use Rattle.automata_base.specs.Answers.{IsAnswer}
 pub use Rattle.automata_base.specs.Told.{IsNearestAnswer}
 pub use Rattle.automata_base.specs.Engines.{engine_of}
 pub use Rattle.automata_base.specs.Tapes.{Forward}
--- What a search answers by its DFA and its input alone, and the fact of it that holds for every NFA.
+-- What a search returns by its DFA and its input alone, and the part of it that holds for every NFA.
 pub use Rattle.automata_hybrid.specs.Owing.{IsHalf}
 pub use Rattle.automata_hybrid.specs.Searches.{IsFound, Skips, WithoutBase, without_base}
 pub use Rattle.automata_hybrid.specs.Agreeing.{AnswersAgree}
@@ -35,11 +35,12 @@ pub use Rattle.automata_hybrid.specs.OwingWalks.{IsWhich}
 -- The patterns of a set, as a list; a member of a list.
 pub use Rattle.automata_base.specs.PatternSet.{members}
 pub use Rattle.automata_base.specs.Lists.{In}
--- What a token at an offset is: it begins there, ends later, and has the bytes between; and that there is none, since the
--- search there finds no match, or an empty one. The type `Token` itself is in `specs.declared.tokens.Token`.
+-- A token at an offset: it begins there, ends later, and has the bytes between. No token at an offset: the search there
+-- finds no match, or an empty one. The type `Token` itself is in `specs.declared.tokens.Token`.
 pub use Rattle.regex_automata.specs.Tokens.{IsTokenAt, IsNoTokenAt}
--- A step may be taken from this ID: the cache has its row. Each start and each step gives this back.
+-- A step may be taken from this ID: the cache has its row. Each start and each step gives this for the ID that it
+-- returns.
 pub use Rattle.automata_hybrid.specs.Standing.{HoldsRow}
--- A search by steps that ends at its first match stands before the byte at an offset, in the state of this ID; the unit at
--- an offset; what a step over it tells; the first pattern of a match state; the first match, or none.
+-- A search by steps that stops at its first match stands before the byte at an offset, in the state of this ID; the
+-- unit at an offset; what a step over it means; the first pattern of a match state; the first match, or none.
 pub use Rattle.automata_hybrid.specs.Standing.{StandsAt, IsUnitAt, IsStepAt, IsFirstPattern, HasPatterns, IsFirstMatch, FirstMatchIsFound}

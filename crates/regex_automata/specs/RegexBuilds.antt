@@ -1,4 +1,4 @@
--- What a regex's builder makes of two automata, or why it refuses them.
+-- What a regex's builder makes of two NFAs, or why it fails.
 use Rattle.std.specs.Prelude.{ℕ, ◌≡◌, ◌==◌, false, true, if◌then◌else◌, length, Option, Some}
 use Rattle.std.specs.Option.{option_or}
 use Rattle.automata_base.specs.Getters.{SkipsLazily}
@@ -20,19 +20,19 @@ use Rattle.regex_automata.specs.declared.hybrid.regex.Regex.{Regex}
 use Rattle.regex_automata.specs.declared.hybrid.regex.build.RegexBuildError.{RegexBuildError}
 use Rattle.regex_automata.specs.declared.hybrid.regex.build.RegexBuildError.TheVariants as is
 
--- the settings of the reverse DFA: it tells all matches, and start states are not tagged
+-- the settings of the reverse DFA: its match kind is all, and its start states are not tagged
 abbrev pub backward : Options → Options
 backward o = record o { match_kind = Some All; specialize_start_states = Some false }
 
--- each DFA is what its settings make of its automaton
+-- each DFA is what its settings make of its NFA
 abbrev pub BuildsPair : Options → Automaton → Automaton → Regex → Type 0
 BuildsPair o forward reverse p = dfa.Builds o forward p.forward × dfa.Builds (backward o) reverse p.reverse
 
--- how many patterns an automaton has
+-- how many patterns an NFA has
 abbrev pub pattern_count : Automaton → ℕ
 pattern_count a = length a.start_pattern
 
--- why no regex is built: the automata are not for the same patterns, or a DFA is refused, the forward one first
+-- why no regex is built: the NFAs are not for the same patterns, or a DFA cannot be built, the forward one first
 abbrev pub pair_refusal : Options → Automaton → Automaton → Option BuildError
 pair_refusal o forward reverse =
     if pattern_count forward == pattern_count reverse
@@ -45,15 +45,15 @@ reverse_refusal reverse.Starts = is.Starts
 reverse_refusal reverse.TooLarge = is.TooLarge
 reverse_refusal reverse.OutOfMemory = is.OutOfMemory
 
--- the tests that an automaton passes: the first two, and all three
+-- the tests that an NFA passes: the first two, and all three
 abbrev pub PassesTwo : Automaton → Type 0
 PassesTwo forward = SkipsLazily forward × IsLookAcyclic (nfa_of forward)
 
 abbrev pub PassesAll : Automaton → Type 0
 PassesAll forward = PassesTwo forward × (forward.flags.utf8 ≡ true → ReadsUtf8 Forward forward)
 
--- why no regex is built of one automaton: a test fails that comes behind those that it passes; or it passes all, and isn't
--- reversed, or no pair is built of it and of its reverse. Memory is wanted once it passes the first two
+-- why no regex is built of one NFA: it fails the next test after those that it passes; or it passes all, and cannot be
+-- reversed, or no pair can be built of it and of its reverse. Memory is used only after the first two tests
 abbrev pub IsRefusal : Options → Automaton → RegexBuildError → Type 0
 IsRefusal o forward is.NotLazy = SkipsLazily forward → ⊥
 IsRefusal o forward is.LookCycle = SkipsLazily forward × (IsLookAcyclic (nfa_of forward) → ⊥)

@@ -13,7 +13,7 @@ use Rattle.regex_automata.specs.declared.hybrid.regex.caches.Cache.{Cache}
 use Rattle.regex_automata.specs.declared.hybrid.regex.Regex.{Regex}
 use Rattle.regex_automata.specs.SoundPairs.{forward_engine}
 
--- each is of its DFA
+-- each belongs to its DFA
 abbrev pub AreCachesOf : Cache → Regex → Type 0
 AreCachesOf c p = IsCacheOf c.forward p.forward × IsCacheOf c.reverse p.reverse
 
@@ -21,7 +21,7 @@ AreCachesOf c p = IsCacheOf c.forward p.forward × IsCacheOf c.reverse p.reverse
 abbrev pub AreFresh : Regex → Cache → Type 0
 AreFresh p c = (c.forward ≡ fresh_cache p.forward) × (c.reverse ≡ fresh_cache p.reverse)
 
--- what searches make of them
+-- what searches do to them
 abbrev pub AreGrown : Cache → Cache → Type 0
 AreGrown old new = IsGrown old.forward new.forward × IsGrown old.reverse new.reverse
 
@@ -34,7 +34,7 @@ NothingCleared old new =
 abbrev pub AreStill : Cache → Cache → Type 0
 AreStill old new = IsStill old.forward new.forward × IsStill old.reverse new.reverse
 
--- all that the search back from a forward answer uses is known, where it is made
+-- all that the search back from a forward answer uses is cached, if it is made
 abbrev pub KnowsBack : Regex → Stored → Input → Half → Type 0
 KnowsBack p c input half = (IsShort (forward_engine p) input half → ⊥) → Knows Backward p.reverse c (back input half)
 

@@ -1,4 +1,4 @@
--- What a search over two lazy DFAs makes of their caches.
+-- What a search over two lazy DFAs does to their caches.
 use Rattle.std.specs.Prelude.{ℕ, ◌≡◌, ◌<◌, Bool, Option, Result, IfErr, IfOk, OnOk}
 use Rattle.automata_base.specs.Answers.{Half}
 use Rattle.automata_base.specs.Input.{Input}
@@ -20,13 +20,13 @@ use Rattle.regex_automata.specs.declared.hybrid.regex.caches.Cache.{Cache}
 -- a search for a span
 pub record IsSpanEffect (p : Regex) (input : Input) (old new : Cache)
     (result : Result (Option Match) SearchError) : Type 0 where
-  -- how often it determinises; and where there is room for as many states, nothing is cleared
+  -- how often it determinizes; and if there is room for as many states, nothing is cleared
   pub cost : AreCostsOf p input old new
   -- until the next clear nothing is lost
   pub grown : AreGrown old new
-  -- and what it used is known
+  -- and what it used is cached
   pub learned : NothingCleared old new → OnOk result (KnowsBoth p new input)
-  -- with all that known it takes no memory, and changes nothing but the progress
+  -- with all that cached it does not run out of memory, and changes nothing but the progress
   pub known : KnowsBoth p old input → AreStill old new × IfErr result IsOfGiven
   -- the searched bytes, and the search that is open: what the passes of both leave
   pub ended : IfOk result (EndsSpan p input old new)
@@ -34,22 +34,23 @@ pub record IsSpanEffect (p : Regex) (input : Input) (old new : Cache)
   -- with a span that is done, nothing at all
   pub done : input.end < input.start → new ≡ old
 
--- the search back in it, from a forward answer, which is made or isn't
+-- the search back in it, from a forward answer, if it is made
 pub record IsBackEffect (p : Regex) (input : Input) (half : Half) (old new : CacheView)
     (result : Result (Option ℕ) SearchError) : Type 0 where
   -- it is one pass from the answer's end to its base
   pub cost : IsBackCost p input half old new
   -- until the next clear nothing is lost
   pub grown : IsGrown old new
-  -- and what it used is known
+  -- and what it used is cached
   pub learned : ClearedNothing old.store new.store → OnOk result (KnowsBack p new.store input half)
-  -- with all that known it takes no memory, and changes nothing but the progress
+  -- with all that cached it does not run out of memory, and changes nothing but the progress
   pub known : KnowsBack p old.store input half → IsStill old new × IfErr result IsOfInput
-  -- the searched bytes, and the search that is open: where none was made, all is as it was
+  -- the searched bytes, and the search that is open: if no search was made, they are unchanged
   pub ended : OnOk result (EndsBack p input half old new)
   pub left : IfErr result (LeavesBack p input half old new)
 
--- a search for the match after another, made once, or behind an empty one at the last end once more, from a place later
+-- a search for the match after another: one search, or, if that finds an empty match at the last end, another from one
+-- place later
 pub record IsNextEffect (p : Regex) (input : Input) (last : Option ℕ) (old new : Cache)
     (result : Result (Option Match) SearchError) : Type 0 where
   pub cost : AreCostsTwice p input last old new
@@ -59,7 +60,7 @@ pub record IsNextEffect (p : Regex) (input : Input) (last : Option ℕ) (old new
   pub ended : IfOk result (EndsNext p input last old new)
   pub left : IfErr result (LeavesNext p input last old new)
 
--- a search for whether there is a match, which leaves the reverse cache as it is
+-- a search for whether there is a match, which leaves the reverse cache unchanged
 pub record IsTruthEffect (p : Regex) (input : Input) (old new : Cache)
     (result : Result Bool SearchError) : Type 0 where
   pub cost : IsMatchCost p.forward input old.forward new.forward

@@ -1,4 +1,4 @@
--- What a search over two lazy DFAs leaves of the progress of searches.
+-- What progress a search over two lazy DFAs leaves.
 use Rattle.std.specs.Prelude.{ℕ, suc, ◌≡◌, ◌⊎◌, Option, Some, None, Result, Ok, Err, Bool, true, false}
 use Rattle.automata_base.specs.Answers.{Half}
 use Rattle.automata_base.specs.Input.{Input}
@@ -16,34 +16,34 @@ use Rattle.regex_automata.specs.SoundPairs.{forward_engine}
 use Rattle.regex_automata.specs.declared.hybrid.regex.Regex.{Regex}
 use Rattle.regex_automata.specs.declared.hybrid.regex.caches.Cache.{Cache}
 
--- the forward search has ended, or was left where it was refused
+-- the forward search has ended, or was left where it failed
 abbrev pub EndsFront : Regex → Input → (old new : Cache) → Type 0
 EndsFront p input old new = EndsProgress Forward p.forward input old.forward.store new.forward.store
 
 abbrev pub LeavesFront : Regex → Input → (old new : Cache) → SearchError → Type 0
 LeavesFront p input old new e = LeavesProgress Forward p.forward input old.forward.store new.forward.store e
 
--- the search back from a forward answer has ended, where it is made; and else its cache is as it was
+-- the search back from a forward answer has ended, if it is made; otherwise its cache is unchanged
 abbrev pub EndsBack : Regex → Input → Half → (old new : CacheView) → Type 0
 EndsBack p input half old new =
     (IsShort (forward_engine p) input half × (new ≡ old))
     ⊎ ((IsShort (forward_engine p) input half → ⊥)
     × EndsProgress Backward p.reverse (back input half) old.store new.store)
 
--- it was made, and left where it was refused
+-- it was made, and left where it failed
 abbrev pub LeavesBack : Regex → Input → Half → (old new : CacheView) → SearchError → Type 0
 LeavesBack p input half old new e =
     (IsShort (forward_engine p) input half → ⊥)
     × LeavesProgress Backward p.reverse (back input half) old.store new.store e
 
--- after an answer both have ended: with no match there was no search back
+-- after an answer both have ended; with no match there was no search back
 abbrev pub EndsSpan : Regex → Input → (old new : Cache) → Option Match → Type 0
 EndsSpan p input old new None = EndsFront p input old new × (new.reverse ≡ old.reverse)
 EndsSpan p input old new (Some m) =
     EndsFront p input old new
     × ((half : Half) × IsFound Forward p.forward input (Some half) × EndsBack p input half old.reverse new.reverse)
 
--- a refused one left the forward search, or the one back; or both have ended, and are no pair
+-- one that failed left the forward search open, or the one back; or both have ended, and are no pair
 abbrev pub LeavesSpan : Regex → Input → (old new : Cache) → SearchError → Type 0
 LeavesSpan p input old new e =
     (LeavesFront p input old new e × (new.reverse ≡ old.reverse))
@@ -57,8 +57,8 @@ abbrev pub EndsEmpty : Regex → Input → Option ℕ → (old new : Cache) → 
 EndsEmpty p input last old new =
     (m : Match) × FindsMatch p input (Some m) × IsEmptyAt last m × EndsSpan p input old new (Some m)
 
--- the same of the next match: of one search, where it finds no such match, and else of that and the one from a place
--- later
+-- the same of the next match: of one search, if it finds no such match, and otherwise of that and the search from one
+-- place later
 abbrev pub EndsNext : Regex → Input → Option ℕ → (old new : Cache) → Option Match → Type 0
 EndsNext p input last old new o =
     ((FindsEmptyAt p input last → ⊥) × EndsSpan p input old new o)

@@ -1,4 +1,4 @@
--- Why a search over two lazy DFAs is refused.
+-- Why a search over two lazy DFAs fails.
 use Rattle.std.specs.Prelude.{ℕ, ◌≡◌, ◌⊎◌, true, None, Some}
 use Rattle.automata_base.specs.Answers.{Half}
 use Rattle.automata_base.specs.Input.{Input}
@@ -17,19 +17,19 @@ use Rattle.regex_automata.specs.Outcomes.{IsOutcome}
 use Rattle.regex_automata.specs.declared.hybrid.regex.caches.Cache.{Cache}
 use Rattle.automata_config.specs.Options.{minimum_cache_clear_count_of}
 
--- the search back from a forward answer is made, and refused
+-- the search back from a forward answer is made, and fails
 abbrev pub IsBackRefused : Regex → Stored → Input → Half → SearchError → Type 0
 IsBackRefused p c input half e =
     (IsShort (forward_engine p) input half → ⊥) × IsRefused Backward p.reverse c (back input half) e
 
--- the forward search is refused, or the one back, or that one finds no start
+-- the forward search fails, or the one back, or that one finds no start
 abbrev pub HasReason : Regex → Cache → Input → SearchError → Type 0
 HasReason p c input e =
     IsRefused Forward p.forward c.forward.store input e
     ⊎ (((half : Half) × IsFound Forward p.forward input (Some half) × IsBackRefused p c.reverse.store input half e)
     ⊎ ((e ≡ search.NotAPair) × IsOutcome p input NotAPair))
 
--- nothing stands in the way of an answer: no quit byte is in reach, the mode is supported, no clear limit is set
+-- nothing prevents an answer: no quit byte is in reach, the anchored mode is supported, no clear limit is set
 pub record IsFree (p : Regex) (input : Input) : Type 0 where
   pub forward : NoQuitInReach p.forward input
   pub reverse : NoQuitInReach p.reverse input
@@ -37,23 +37,23 @@ pub record IsFree (p : Regex) (input : Input) : Type 0 where
   pub forward_clears : minimum_cache_clear_count_of p.forward.config ≡ None
   pub reverse_clears : minimum_cache_clear_count_of p.reverse.config ≡ None
 
--- memory is wanting, or the two are no pair
+-- the error is out of memory, or that the two are no pair
 abbrev pub IsOfMemory : SearchError → Type 0
 IsOfMemory e = (e ≡ search.OutOfMemory) ⊎ (e ≡ search.NotAPair)
 
--- why a search is refused, and what that excludes
+-- why a search fails, and what that excludes
 pub record IsRegexRefusal (p : Regex) (c : Cache) (input : Input) (e : SearchError) : Type 0 where
   pub reason : HasReason p c input e
-  -- where nothing stands in the way, memory is wanting, or the two are no pair
+  -- if nothing prevents an answer, the error is out of memory, or that the two are no pair
   pub free : IsFree p input → IsOfMemory e
-  -- that they are no pair is told by the paths too, where no cycle passes a look
+  -- without a look cycle, they are no pair by the paths too
   pub apart : AreLookAcyclic p → e ≡ search.NotAPair → IsTrySearch (forward_engine p) (reverse_engine p) input NotAPair
-  -- and never of a sound pair
+  -- and never over a sound pair
   pub sound : IsSoundPair p → e ≡ search.NotAPair → ⊥
   -- with one quit set the search back meets no quit byte
   pub quits : p.forward.quits ≡ p.reverse.quits → (byte at : ℕ) → e ≡ search.Match (QuitAt byte at)
       → IsRefused Forward p.forward c.forward.store input e
 
--- a search is refused for what it was given, and not for want of room
+-- a search fails by what it was given, and not for lack of room
 abbrev pub IsOfGiven : SearchError → Type 0
 IsOfGiven e = IsOfInput e ⊎ (e ≡ search.NotAPair)

@@ -1,4 +1,4 @@
--- What the requests of a replay make of its caches, one after another, and how these refuse them.
+-- What the requests of a replay do to its caches, one after another, and how calls over these fail.
 use Rattle.std.specs.Prelude.{ℕ, ◌≡◌, ◌⊎◌, Bool, true, false, List, [], ◌∷◌, Option, Some, None, Result, Ok, Err, IfErr}
 use Rattle.std.specs.Result.{result_err}
 use Rattle.automata_base.specs.Input.{Input}
@@ -36,7 +36,7 @@ use Rattle.regex_automata.specs.declared.tokens.error.TokenError.{TokenError}
 use Rattle.regex_automata.specs.declared.tokens.error.TokenError.TheVariants.{Search}
 use Rattle.regex_automata.specs.declared.tokens.token.Token.{Token}
 
--- a search of one DFA over a cache: what it makes of it, and why that refuses it
+-- a search of one DFA over a cache: what it does to it, and why it fails
 abbrev pub IsSearched :
     Direction → Machine → Input → (old new : CacheView) → Result (Option HalfMatch) SearchError → Type 0
 IsSearched way m input old new result =
@@ -51,8 +51,8 @@ abbrev pub IsTruthSearched : Regex → Input → (old new : Cache) → Result Bo
 IsTruthSearched p input old new result =
     IsTruthEffect p input old new result × IfErr result (IsMatchRefused p.forward new.forward.store input)
 
--- the search behind the last match of a list, and why that is the last: there is none more, these caches refuse the
--- search, or memory is wanting for the list
+-- the search after the last match of a list, and why that match is the last: there is no further one, the search fails
+-- over these caches, or there is no memory for the list
 abbrev pub AreSearchedLast : Regex → (old new : Cache) → Input → Option ℕ → Option SearchError → Type 0
 AreSearchedLast p old new input last None = IsItemEffect p input last false old new None
 AreSearchedLast p old new input last (Some e) =
@@ -66,7 +66,7 @@ AreSearched p old new input last (m ∷ ms) error =
     (next : Cache) × IsItemEffect p input last false old next (Some (Ok m))
     × AreSearched p next new (from m.end input) (Some m.end) ms error
 
--- what the search for a token makes of the caches: it leaves the reverse one
+-- what the search for a token does to the caches: it leaves the reverse one unchanged
 abbrev pub IsTokenMade :
     Machine → List ℕ → (end place : ℕ) → (old new : Cache) → Option (Result Token TokenError) → Type 0
 IsTokenMade m h end place old new item =
@@ -87,7 +87,7 @@ AreTokensSearched m h end place old new (t ∷ ts) error =
     (token : Token) × (next : Cache) × (match_of token ≡ t) × IsTokenMade m h end place old next (Some (Ok token))
     × AreTokensSearched m h end t.end next new ts error
 
--- a call of a walk that has told so many pairs
+-- a call of a walk that has reported so many pairs
 abbrev pub IsCalled :
     Direction → Machine → Input → (told : ℕ) → (old new : CacheView) → Result (Option HalfMatch) SearchError → Type 0
 IsCalled way m input told old new result =
@@ -104,7 +104,7 @@ abbrev pub other_of : (reverse : Bool) → Cache → CacheView
 other_of false c = c.reverse
 other_of true c = c.forward
 
--- the step of a walk, which leaves the other cache
+-- the step of a walk, which leaves the other cache unchanged
 abbrev pub IsWalkStepped : Regex → Option Begun → (old new : Cache) → Result (Option HalfMatch) SearchError → Type 0
 IsWalkStepped r None old new result = ⊥
 IsWalkStepped r (Some w) old new result =
@@ -112,7 +112,7 @@ IsWalkStepped r (Some w) old new result =
     result
     × (other_of w.reverse new ≡ other_of w.reverse old)
 
--- the walk of a fresh set, and the list of its patterns; or memory is wanting for the set or the list
+-- the walk of a fresh set, and the list of its patterns; or there is no memory for the set or the list
 abbrev pub ArePatternsSearched :
     Machine → Input → (capacity : ℕ) → (old new : CacheView) → List ℕ → Option SearchError → Type 0
 ArePatternsSearched m input capacity old new found error =
@@ -122,7 +122,7 @@ ArePatternsSearched m input capacity old new found error =
     × IfErr result (IsWhichRefusal m new.store input (empty_set capacity) set)
     × (((found ≡ members set) × (error ≡ result_err result)) ⊎ (error ≡ Some search.OutOfMemory)))
 
--- what a request makes of the caches of the current regex; one that uses one cache alone leaves the other
+-- what a request does to the caches of the current regex; one that uses one cache alone leaves the other unchanged
 abbrev pub IsMadeBy : Regex → List Begun → Request → (old new : Cache) → Reply → Type 0
 IsMadeBy r walks (request.SearchFwd input) old new answer =
     OnHalf (IsSearched Forward r.forward input old.forward new.forward) answer × (new.reverse ≡ old.reverse)
@@ -149,7 +149,7 @@ abbrev pub AreFreshOf : Option Regex → Cache → Type 0
 AreFreshOf None c = ⊥
 AreFreshOf (Some r) c = AreFresh r c
 
--- what a request and its reply make of the caches: a bad one leaves them, and so does a refused reset
+-- what a request and its reply do to the caches: a bad request and a reset that fails leave them unchanged
 abbrev pub AreMade : List Regex → History → Request → Reply → (old new : Cache) → Type 0
 AreMade regexes h q (reply.Bad why) old new = new ≡ old
 AreMade regexes h (request.Reset k) (reply.Done (Ok done)) old new = AreFreshOf (nth regexes k) new
@@ -162,7 +162,7 @@ AreAnsweredAfter regexes h c (q ∷ qs) [] = Unit {0}
 AreAnsweredAfter regexes h c (q ∷ qs) (r ∷ rs) =
     (next : Cache) × AreMade regexes h q r c next × AreAnsweredAfter regexes (after h q r) next qs rs
 
--- from fresh ones of regex 0 on, where there is one
+-- starting with fresh ones of regex 0, if there is one
 abbrev pub AreAnswered : List Regex → List Request → List Reply → Type 0
 AreAnswered [] script replies = Unit {0}
 AreAnswered (r ∷ rs) script replies = (c : Cache) × AreFresh r c × AreAnsweredAfter (r ∷ rs) start c script replies

@@ -27,8 +27,8 @@ use Rattle.regex_automata.specs.declared.replay.replies.Fault.TheVariants as fau
 use Rattle.regex_automata.specs.declared.tokens.error.TokenError.{TokenError}
 use Rattle.automata_config.specs.Options.{match_kind_of}
 
--- why a request is bad, in this order: there is no regex, or a reset names none; there is no such walk; the walk is of
--- a regex that isn't the current one
+-- why a request is bad, in this order: there is no regex, or a reset names none; there is no such walk; the walk
+-- belongs to a regex that is not the current one
 abbrev pub walk_fault : (current : ℕ) → Option Begun → Option Fault
 walk_fault current None = Some fault.NoWalk
 walk_fault current (Some w) = if w.regex == current then None else Some fault.OtherRegex
@@ -42,7 +42,7 @@ abbrev pub fault_of : List Regex → History → Request → Option Fault
 fault_of [] h q = Some fault.NoRegex
 fault_of (r ∷ rs) h q = own_fault (r ∷ rs) h q
 
--- the reply is of a kind, and what it holds is so
+-- the reply is of this form, and its value has this property
 abbrev pub OnHalf : (Result (Option HalfMatch) SearchError → Type 0) → Reply → Type 0
 OnHalf P (reply.Half result) = P result
 OnHalf P other = ⊥
@@ -94,7 +94,7 @@ abbrev pub IsNumber : ℕ → Result ℕ SearchError → Type 0
 IsNumber n (Ok k) = k ≡ n
 IsNumber n (Err e) = IsMemory e
 
--- the reply is the value of its request, by the current regex alone, and of a step by its walk alone; or a refusal that
+-- the reply is the value of its request, by the current regex alone, and of a step by its walk alone; or an error that
 -- the request's own call may give
 abbrev pub IsOwed : Regex → (walks : List Begun) → Request → Reply → Type 0
 IsOwed r walks (request.SearchFwd input) = OnHalf (IsHalf Forward r.forward input)
@@ -112,7 +112,7 @@ abbrev pub IsOwedBy : Option Regex → (walks : List Begun) → Request → Repl
 IsOwedBy None walks q answer = ⊥
 IsOwedBy (Some r) walks q answer = IsOwed r walks q answer
 
--- a reply after this history: bad exactly for the request's fault, and else its own value
+-- a reply after this history: bad exactly for the request's fault, and otherwise its own value
 abbrev pub IsReply : List Regex → History → Request → Reply → Type 0
 IsReply regexes h q answer =
     MatchOption (fault_of regexes h q)
@@ -142,13 +142,13 @@ told_to k [] replies = []
 told_to k (q ∷ qs) [] = []
 told_to k (q ∷ qs) (r ∷ rs) = tell k q r (told_to k qs rs)
 
--- they are the pairs of a list from `told` on, and then none
+-- they are the pairs of a list from number `told` on, and then none
 abbrev pub AreToldFrom : ℕ → List Pair → List (Option HalfMatch) → Type 0
 AreToldFrom told pairs [] = Unit {0}
 AreToldFrom told pairs (found ∷ later) = (found ≡ half_nth pairs told) × AreToldFrom (suc told) pairs later
 
--- they are the pairs of the walk over an input, and then none: for every automaton those that its passes tell (there is
--- one such list), and where no cycle passes a look those of the ordered paths
+-- they are the pairs of the walk over an input, and then none: for every NFA those that its passes report (there is one
+-- such list), and without a look cycle those of the ordered paths
 pub record TellWalk (way : Direction) (m : Machine) (input : Input) (steps : List (Option HalfMatch)) : Type 0 where
   pub told : (pairs : List Pair) → AreWalked way m input pairs → AreToldFrom 0 pairs steps
   pub paths :

@@ -1,4 +1,4 @@
--- What the two lazy DFAs of a regex have to be for spans to be promised.
+-- What the two lazy DFAs of a regex have to be so that spans are promised.
 use Rattle.automata_base.specs.Engines.{Engine, engine_of}
 use Rattle.automata_base.specs.Nodes.{nfa_of}
 use Rattle.automata_base.specs.Paths.{IsLookAcyclic}
@@ -7,19 +7,18 @@ use Rattle.automata_base.specs.TruePairs.{IsTruePair, KeepsUtf8}
 use Rattle.regex_automata.specs.declared.hybrid.regex.Regex.{Regex}
 use Rattle.automata_config.specs.Options.{match_kind_of}
 
--- what each of the two answers by: its automaton and its kind
+-- what each of the two searches by: its NFA and its match kind
 abbrev pub forward_engine : Regex → Engine
 forward_engine p = engine_of p.forward.nfa (match_kind_of p.forward.config)
 
 abbrev pub reverse_engine : Regex → Engine
 reverse_engine p = engine_of p.reverse.nfa (match_kind_of p.reverse.config)
 
--- no cycle of edges that read nothing passes a look, in either automaton
+-- no cycle of edges that read nothing passes a look, in either NFA
 abbrev pub AreLookAcyclic : Regex → Type 0
 AreLookAcyclic p = IsLookAcyclic (nfa_of p.forward.nfa) × IsLookAcyclic (nfa_of p.reverse.nfa)
 
--- they are of one regular expression, which keeps the promise on UTF-8, and in the forward one no such cycle passes a
--- look
+-- they are of one regular expression, which keeps the UTF-8 promise, and the forward one has no look cycle
 pub record IsSoundPair (p : Regex) : Type 0 where
   pub acyclic : IsLookAcyclic (nfa_of p.forward.nfa)
   pub pair : IsTruePair (forward_engine p) (reverse_engine p)

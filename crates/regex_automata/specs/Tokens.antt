@@ -1,4 +1,4 @@
--- The tokens of an input, one behind another.
+-- The tokens of an input, one after another.
 use Rattle.std.specs.Prelude.{ℕ, ◌≡◌, ◌<◌, ◌≤◌, ◌⊎◌, ◌-◌, ◌++◌, Bool, true, false, if◌then◌else◌, nat_lt, List, [], ◌∷◌}
 use Rattle.std.specs.Prelude.{length, Option, None, Some, Result, Ok, Err, IfErr, IfSome, slice_range}
 use Rattle.automata_base.specs.Answers.{IsAnswer}
@@ -25,12 +25,12 @@ use Rattle.regex_automata.specs.declared.tokens.error.TokenError.TheVariants.{No
 use Rattle.regex_automata.specs.declared.tokens.token.Token.{Token}
 use Rattle.automata_config.specs.Options.{match_kind_of}
 
--- what is searched at a place: what is left of the span, anchored and in full
+-- what is searched at a place: what is left of the span, anchored and not earliest
 abbrev pub asked : List ℕ → (end place : ℕ) → Input
 asked h end place = record { haystack = h; start = place; end = end; anchored = Yes; earliest = false }
 
--- what the answer there makes: a token up to its end, where that is past the place; no token, where it ends at the
--- place or there is none; and a refusal is told as it is
+-- what the answer there makes: a token up to its end, if that is past the place; no token, if it ends at the place or
+-- there is none; and an error is passed on
 abbrev pub item_of : (place : ℕ) → Result (Option HalfMatch) SearchError → Result Match TokenError
 item_of place (Ok (Some half)) =
     if nat_lt place half.offset
@@ -39,7 +39,7 @@ item_of place (Ok (Some half)) =
 item_of place (Ok None) = Err (NoToken place)
 item_of place (Err e) = Err (Search e)
 
--- an item at a place before the span's end: what an answer makes that the forward search there owes
+-- an item at a place before the span's end: what an answer makes that the forward search there returns
 abbrev pub IsItemAt : Machine → List ℕ → (end place : ℕ) → Result Match TokenError → Type 0
 IsItemAt m h end place item =
     (place < end)
@@ -62,7 +62,7 @@ match_of t = record { pattern = t.pattern; start = t.span.start; end = t.span.en
 pub record IsTokenAt (m : Machine) (h : List ℕ) (end place : ℕ) (t : Token) : Type 0 where
   pub item : IsItemAt m h end place (Ok (match_of t))
   pub bytes : t.bytes.now ≡ match_bytes h (match_of t)
-  -- it begins at the place, goes past it, and lies before the span's end, and its pattern is one of the automaton's
+  -- it begins at the place, goes past it, and lies before the span's end, and its pattern is one of the NFA's
   pub start : t.span.start ≡ place
   pub past : place < t.span.end
   pub within : t.span.end ≤ end
@@ -85,8 +85,8 @@ abbrev pub IsGivenAt : Machine → Stored → List ℕ → (end place : ℕ) →
 IsGivenAt m c h end place (Ok t) = IsTokenAt m h end place t
 IsGivenAt m c h end place (Err e) = IsItemAt m h end place (Err e) × IsRefusedAt m c h end place e
 
--- one item, and how the tokens stand before and behind it: the place, and whether an error was told. Nothing comes at
--- the span's end, and nothing after an error
+-- one item, and the iteration before and after it: the place, and whether an error was reported. There is no item at
+-- the span's end, and none after an error
 abbrev pub GivesToken :
     Machine → Stored → List ℕ → (end : ℕ) → Option (Result Token TokenError)
     → (place place' : ℕ) → (failed failed' : Bool) → Type 0
@@ -97,7 +97,7 @@ GivesToken m c h end (Some (Ok t)) place place' failed failed' =
 GivesToken m c h end (Some (Err e)) place place' failed failed' =
     IsGivenAt m c h end place (Err e) × (place' ≡ place) × (failed ≡ false) × (failed' ≡ true)
 
--- the search at a place has ended, or was left where it was refused; where none is made nothing changes
+-- the search at a place has ended, or was left where it failed; if none is made nothing changes
 abbrev pub LeavesAt :
     Machine → List ℕ → (end place : ℕ) → (old new : Stored) → Result Token TokenError → Type 0
 LeavesAt m h end place old new (Ok t) = EndsProgress Forward m (asked h end place) old new
@@ -109,27 +109,27 @@ abbrev pub LeavesToken :
 LeavesToken m h end place old new None = new ≡ old
 LeavesToken m h end place old new (Some r) = LeavesAt m h end place old.store new.store r
 
--- no token, or a search that is refused for what it was given, and not for want of room
+-- no token, or a search that fails by what it was given, and not for lack of room
 abbrev pub IsTokenOfInput : TokenError → Type 0
 IsTokenOfInput (NoToken at) = Unit {0}
 IsTokenOfInput (Search e) = IsOfInput e
 
--- all that the search at a place uses is known, unless it was refused
+-- all that the search at a place uses is cached, unless it failed
 abbrev pub HasLearnedAt : Machine → Stored → List ℕ → (end place : ℕ) → Result Token TokenError → Type 0
 HasLearnedAt m c h end place (Ok t) = Knows Forward m c (asked h end place)
 HasLearnedAt m c h end place (Err (NoToken at)) = Knows Forward m c (asked h end place)
 HasLearnedAt m c h end place (Err (Search e)) = Unit {0}
 
--- what an item makes of the forward cache
+-- what an item does to the forward cache
 pub record IsTokenEffect (m : Machine) (h : List ℕ) (end place : ℕ) (old new : CacheView)
     (item : Option (Result Token TokenError)) : Type 0 where
   -- it is one pass at most
   pub cost : IsPassCost (end - place) (KnowsItsStart Forward m old.store (asked h end place)) old new
   -- until the next clear nothing is lost
   pub grown : IsGrown old new
-  -- and what it used is known
+  -- and what it used is cached
   pub learned : ClearedNothing old.store new.store → IfSome item (HasLearnedAt m new.store h end place)
-  -- with all that known it takes no memory, and changes nothing but the progress
+  -- with all that cached it does not run out of memory, and changes nothing but the progress
   pub known :
       Knows Forward m old.store (asked h end place)
       → IsStill old new × IfSome item (λ r. IfErr r IsTokenOfInput)
@@ -141,15 +141,15 @@ abbrev pub most_tokens : (failed : Bool) → (end place : ℕ) → ℕ
 most_tokens true end place = 0
 most_tokens false end place = end - place
 
--- tokens one behind another, the first at this place: each is the item where the one before ended. Behind the last is
--- the span's end, or an error, which is the item there or want of memory for the list
+-- tokens one after another, the first at this place: each is the item where the one before ended. After the last comes
+-- the span's end, or an error, which is the item there or out of memory for the list
 abbrev pub AreGiven : Machine → List ℕ → (end place : ℕ) → List Match → Option TokenError → Type 0
 AreGiven m h end place [] None = end ≤ place
 AreGiven m h end place [] (Some e) = (e ≡ Search search.OutOfMemory) ⊎ IsItemAt m h end place (Err e)
 AreGiven m h end place (t ∷ ts) error = IsItemAt m h end place (Ok t) × AreGiven m h end t.end ts error
 
--- the same by what searches find: a token ends where an answer does, past its place; there is no token where there is
--- no answer, or one that ends at the place
+-- the same by what searches find: a token ends where an answer does, past its place; there is no token if there is no
+-- answer, or one that ends at the place
 abbrev pub AreFoundBy :
     (Finds : Input → Option HalfMatch → Type 0) → List ℕ → (end place : ℕ) → List Match → Option TokenError → Type 0
 AreFoundBy Finds h end place [] None = end ≤ place
@@ -167,18 +167,18 @@ AreFoundBy Finds h end place (t ∷ ts) error =
 abbrev pub IsBeginningOf : List ℕ → List ℕ → Type 0
 IsBeginningOf part whole = (rest : List ℕ) × (whole ≡ part ++ rest)
 
--- there is no token, or memory is wanting
+-- there is no token, or the error is out of memory
 abbrev pub IsNoTokenOrMemory : TokenError → Type 0
 IsNoTokenOrMemory (NoToken at) = Unit {0}
 IsNoTokenOrMemory (Search e) = IsMemory e
 
--- the tokens of an input, one behind another; or the first ones, and the error that ended them
+-- the tokens of an input, one after another; or the first ones, and the error that ended them
 pub record AreTokensUpto (m : Machine) (input : Input) (ts : List Match) (error : Option TokenError) : Type 0 where
-  -- each is what an answer makes that the search at its place owes
+  -- each is what an answer makes that the search at its place returns
   pub given : AreGiven m input.haystack input.end input.start ts error
-  -- for every automaton, what the passes tell
+  -- for every NFA, what the passes report
   pub found : AreFoundBy (λ i. WithoutBase (IsFound Forward m i)) input.haystack input.end input.start ts error
-  -- where no cycle passes a look, the answers of the ordered paths
+  -- without a look cycle, the answers of the ordered paths
   pub paths :
       IsLookAcyclic (nfa_of m.nfa)
       → AreFoundBy (λ i. WithoutBase (IsAnswer Forward (engine_of m.nfa (match_kind_of m.config)) i))
@@ -187,5 +187,5 @@ pub record AreTokensUpto (m : Machine) (input : Input) (ts : List Match) (error 
   pub beginning :
       IsBeginningOf (joined input.haystack ts) (slice_range input.haystack input.start input.end)
   pub whole : error ≡ None → joined input.haystack ts ≡ slice_range input.haystack input.start input.end
-  -- where nothing stands in the way of an answer, there is no token or memory is wanting
+  -- if nothing prevents an answer, an error is no token or out of memory
   pub free : IsUnhindered m (asked input.haystack input.end input.start) → IfSome error IsNoTokenOrMemory

@@ -1,5 +1,4 @@
-//! Laws that searches over two lazy DFAs keep. The contract of each function is the law; what it does is to cite
-//! others.
+//! Laws about searches over two lazy DFAs. The contract of each function is the law; its body only cites other laws.
 ghost use Rattle.regex_automata.specs.Agreeing.{MatchesAgree, TruthIffFound, TruthsAgree};
 
 use automata_base::laws::passes_tell_paths;
@@ -8,23 +7,23 @@ pub use automata_hybrid::laws::{
     answers_agree, first_match_is_found, sets_have_matching, walks_agree,
 };
 
-/// What was searched before, and how large the caches are, shows in no match: searches for one input, over one regex or
-/// over two that differ in their settings alone, find the same where they find something.
+/// Neither earlier searches nor the capacity of the caches show in a match: if two searches for one input both return a
+/// match, over one regex or over two that differ in their settings alone, it is the same match.
 pub fn matches_agree()
     ensures { MatchesAgree }
 {
     answers_agree();
 }
 
-/// Nor does it show in whether there is a match.
+/// The same holds for whether there is a match.
 pub fn truths_agree()
     ensures { TruthsAgree }
 {
     passes_tell_paths();
 }
 
-/// `is_match` is true exactly if `find` gives a match, if both answer. An earliest input over DFAs that skip offsets
-/// inside characters is left out: there `find` may skip the only match that it sees.
+/// If both answer, `is_match` is true exactly if `find` returns a match. An earliest input over DFAs that skip offsets
+/// inside characters is excluded: there `find` may skip the only match that it sees.
 pub fn truth_is_found()
     ensures { TruthIffFound }
 {

@@ -1,5 +1,5 @@
-//! Regular expressions as automata: the names of the crate `regex-automata` for the lazy DFA and
-//! what it stands on.
+//! Regular expressions as automata. The paths are those of the crate `regex-automata`, for the lazy DFA and what it is
+//! built on.
 #![tactic(auto)]
 
 pub mod hybrid;

@@ -1,4 +1,4 @@
--- `NFA::from_states` refuses the states that are built exactly as it refuses all states of the same shapes.
+-- `NFA::from_states` fails on the states that are built exactly as on all states of the same shapes.
 use Rattle.std.proofs.Common.{ℕ, ◌≡◌, ◌⊎◌, List, [], ◌++◌, map, Some, None, Result, Ok, Err, inl, inr, refl, sym, ap, ◌∙◌, subst}
 use Rattle.std.specs.Prelude.{IsOkUnless}
 use Rattle.automata_base.specs.declared.nfa.thompson.NfaError.{NfaError}

@@ -1,4 +1,4 @@
--- The tests of the door ask only what states say, so two lists of states that say the same are refused alike.
+-- The tests of `NFA::from_states` depend only on what shapes say, so two lists of states of the same shapes fail alike.
 use Rattle.std.proofs.Common.{ℕ, ◌≡◌, ◌+◌, ◌^◌, ◌&&◌, Bool, true, leb, ltb, List, [], ◌∷◌, length, map, suc, Option, refl, sym, ap, ◌∙◌}
 use Rattle.std.specs.Prelude.{sum_by}
 use Rattle.std.proofs.lemmas.List.Sums.{sum_by-cons}

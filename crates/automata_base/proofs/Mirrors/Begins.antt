@@ -58,7 +58,7 @@ byte_state (x ∷ xs) zero next e = ap node_of (one e)
     one e = cc
 byte_state (x ∷ xs) (suc k) next e = byte_state xs k next e
 
--- Unanchored searches begin lazily where the automaton tells so.
+-- Unanchored searches begin lazily if the NFA says so.
 pub skips_begins : (a : Automaton) (kind : MatchKind) → SkipsLazily a → BeginsLazily (engine_of a kind)
 skips_begins a kind (inl e) = inl e
 skips_begins a kind (inr h) = inr (h.0, (h.1.0, byte_state a.states h.0 a.start_unanchored h.1.1, h.1.2))

@@ -1,4 +1,4 @@
--- Copies of turned states, and where they stand.
+-- Copies of turned states, and their numbers.
 use Rattle.std.proofs.Common.{ℕ, zero, suc, ◌≡◌, ◌<◌, ◌≤◌, ◌+◌, ◌⊎◌, ◌↔◌, ◌&&◌, ltb, Bool, true, false, cond, eqb, List, [], ◌∷◌, ◌++◌, length, get_or, take, drop, map, Option, Some, None, inl, inr, refl, sym, ap, ◌∙◌, subst, arith, append_assoc, append-nil}
 use Rattle.std.proofs.lemmas.List.{get_or-take, get_or_default, drop_more, drop_all}
 use Rattle.std.proofs.lemmas.Bool.Decides.{eqb_tells}

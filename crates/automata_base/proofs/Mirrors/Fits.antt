@@ -247,7 +247,7 @@ part_fits turned most P p old new entries entries' roots entry ordered less shor
     entered x (inl i) = let k = had.entered x i in omega (arith, k, long)
     entered x (inr k) = let a = w.enters in omega (arith, k, a, long)
 
--- Where there is no room for a part.
+-- If there is no room for a part.
 pub part_large :
     (turned : List State) (most P p : ℕ) (old : List Node) (entries : List ℕ) (len : ℕ) → p < P
     → AreParts turned most P p old entries → len ≡ length old → 2 ^ 27 < len + length turned + 1
@@ -385,7 +385,7 @@ made_fits states turned made reached P nodes entries entries' root len parts n r
         one : (m : ℕ) → m + 1 ≡ suc m
         one m = omega arith
 
--- Where there may be too many.
+-- If there may be too many.
 pub parts_large :
     (states turned : List State) (P : ℕ) → length turned ≤ length states + sum_by asking_edges states + 1
     → 2 ^ 27 < P * (length turned + 1) → 2 ^ 27 < (P + 1) * (length states + sum_by asking_edges states + 2)
@@ -412,7 +412,7 @@ turned_large states P l =
     let b = more_mul P (length states + sum_by asking_edges states + 2) in
     omega (arith, b, l)
 
--- The door's tests pass.
+-- The tests of `NFA::from_states` pass.
 pub fit_passes :
     (states made : List State) (P : ℕ) (entries : List ℕ) (root : ℕ) → IsFit states P made entries root
     → length entries ≤ 2 ^ 27 → is_narrow made ≡ true → door_refusal made root root entries ≡ None

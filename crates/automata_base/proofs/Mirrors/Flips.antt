@@ -1,4 +1,4 @@
--- A turned look holds where the look does, seen from the other side.
+-- A turned look holds if the look does, seen from the other side.
 use Rattle.std.proofs.Common.{ℕ, ◌≡◌, Bool, true, false, not, ◌&&◌, Option, refl, ap}
 use Rattle.automata_base.specs.Looks.{Look, holds, differ, is_word}
 use Rattle.automata_base.specs.Looks.{Start, End, StartLF, EndLF, StartCRLF, EndCRLF}

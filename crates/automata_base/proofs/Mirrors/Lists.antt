@@ -1,4 +1,4 @@
--- Lists of lists, and what is put behind one of them.
+-- Lists of lists, and what is added after one of them.
 use Rattle.std.proofs.Common.{ℕ, zero, suc, ◌≡◌, ◌<◌, ◌+◌, Bool, true, false, cond, leb, Option, Some, None, Result, Ok, Err, List, [], ◌∷◌, ◌++◌, length, get_or, drop, Vec, refl, sym, ap, ◌∙◌, subst, arith}
 use Rattle.std.proofs.Math.ListN.{set}
 use Rattle.std.specs.Result.{IsErrAnd}
@@ -68,7 +68,7 @@ states_next t new states ids i id at s w l e k a f g h =
     same : s ≡ get_or states id Fail
     same = f ∙ (get_or_default states at s Fail k ∙ ap (λ z. get_or states z Fail) a)
 
--- An error that is handed on is the error.
+-- An error that is passed on is the error.
 pub err_is :
     {A B E : Type 0} → (r : Result A E) (x z : E) → IsErrAnd r (λ y. y ≡ x) → r ≡ Err z → ◌≡◌ {A = Result B E} (Err x) (Err z)
 err_is (Ok a) x z h e = absurd h

@@ -1,4 +1,4 @@
--- A reversed automaton makes a true pair.
+-- An NFA and its reversed one are a true pair.
 use Rattle.std.proofs.Common.{ℕ, zero, suc, ◌≡◌, ◌<◌, ◌≤◌, ◌+◌, ◌-◌, ◌&&◌, leb, not, true, false, cond, List, [], ◌∷◌, ◌⊎◌, length, Option, Some, None, inl, inr, refl, sym, ap, ◌∙◌, subst, arith}
 use Rattle.std.proofs.lemmas.Bool.{leb-true}
 use Rattle.std.proofs.lemmas.Grind.{common_steps}

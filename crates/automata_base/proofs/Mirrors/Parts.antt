@@ -1,4 +1,4 @@
--- What is made of an automaton is the reversed automaton.
+-- What is made of an NFA is the reversed NFA.
 use Rattle.std.proofs.Common.{ℕ, zero, suc, ◌≡◌, ◌<◌, ◌+◌, ◌↔◌, ◌⊎◌, Bool, true, false, not, cond, eqb, List, [], ◌∷◌, ◌++◌, length, get_or, map, Vec, Option, Some, None, inl, inr, refl, sym, ap, ◌∙◌, subst, arith}
 use Rattle.std.proofs.lemmas.Bool.Decides.{eqb_tells}
 use Rattle.std.specs.declared.alloc.Global.{Global}
@@ -224,7 +224,7 @@ same_helper hs j g h e f = one (sym e ∙ f)
     one : ◌≡◌ {A = Option State} (Some g) (Some h) → g ≡ h
     one e = cc
 
--- An automaton, the states that are reached from its first, and what is turned of these.
+-- An NFA, the states that are reached from its first, and what is turned of these.
 module _ (a : Automaton) (turned : List State) (reached : List ℕ) (m : Nfa)
     (door : IsDoor a)
     (reach : (q : ℕ) → In q reached ↔ IsReached Every a.states (a.start_anchored ∷ []) q)
@@ -488,7 +488,7 @@ module _ (a : Automaton) (turned : List State) (reached : List ℕ) (m : Nfa)
           → (place : ℕ → ℕ) × (kept : List ℕ) × IsPart (ranged_nfa a) m a.start_anchored reached p entry place kept
       part p entry h = (copy_of h.0 h.1, h.1, part_is p entry h.0 h.1 h.2)
 
--- The states of the door are in range, whatever the number.
+-- The states that `NFA::from_states` accepts are in range, whatever the number.
 all_in_range : (n : ℕ) (states : List State) (q : ℕ) → states_below n states ≡ true → state_below n (get_or states q is.Fail) ≡ true
 all_in_range n [] q b = refl
 all_in_range n (x ∷ xs) zero b = (both (state_below n x) (states_below n xs) b).0

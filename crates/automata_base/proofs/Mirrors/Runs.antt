@@ -20,7 +20,7 @@ head_is x (y ∷ ys) e = (ys, ap (λ v. v ∷ ys) (eqb-true y x e))
 within_yes : (lo hi u : ℕ) → lo ≤ u → u ≤ hi → within lo hi u ≡ true
 within_yes lo hi u a b = ap (λ v. v && leb u hi) (le-leb lo u a) ∙ le-leb u hi b
 
--- Where the first target leads.
+-- The case that the first target leads somewhere.
 abbrev pub led : List ℕ → Option ℕ
 led [] = None
 led (zero ∷ xs) = None

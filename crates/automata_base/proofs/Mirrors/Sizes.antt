@@ -287,7 +287,7 @@ state_large t states ids i id at s w l e k a f h b =
     subst (λ (z : Turns). 2 ^ 27 < size z) (states_next t (turn_state t id s) states ids i id at s w l e k a f refl h)
     (let c = size_states (turn_state t id s) states (drop (i + 1) ids) in omega (arith, b, c))
 
--- Where there are too many.
+-- If there are too many.
 pub states_large :
     (states : List State) (reached : List ℕ) → Distinct reached → all_below (length states) reached ≡ true
     → size (turn_states (record { lists = no_lists (length states); helpers = [] }) states reached)

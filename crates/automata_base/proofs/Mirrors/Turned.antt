@@ -1,4 +1,4 @@
--- A reversed NFA goes back where the other goes forth.
+-- A reversed NFA goes back along the edges of the other.
 use Rattle.std.proofs.Common.{ℕ, zero, suc, ◌≡◌, ◌<◌, ◌≤◌, ◌+◌, Bool, true, false, cond, List, [], ◌∷◌, ◌⊎◌, length, Some, None, inl, inr, refl, sym, ap, ◌∙◌, subst, arith}
 use Rattle.automata_base.specs.Lists.{In, nth}
 use Rattle.automata_base.specs.Looks.{Look, within}
@@ -325,7 +325,7 @@ module _ (n m : Nfa) (first root : ℕ) (entries reached : List ℕ)
     from_edge path e ih (Reads lo hi) i x j z i' j' s t p' ks d f arc turned w a =
         from_asking path e ih (Reads lo hi) i x j z i' j' s t p' ks d f arc tt turned w a
 
-    -- Where a way ends at a match.
+    -- A way that ends at a match.
     stop_told : (i j z i' j' t p' : ℕ) → i + i' ≡ J → j + j' ≡ J → i ≡ j → t ≡ first → node m z ≡ Accept p
         → accepts m z ≡ Some p' → Comes p' j' i' t
     stop_told i j z i' j' t p' d f same begins is a = (

@@ -15,7 +15,7 @@ in_pick g (x ∷ xs) y r (inl h) e =
     (zero, subst (λ o. nth (cons_some o (pick g xs)) zero ≡ Some r) (sym e ∙ ap g h) refl)
 in_pick g (x ∷ xs) y r (inr h) e = put_nth (g x) (pick g xs) r (in_pick g xs y r h e)
 
--- Where the others stand, seen from the picked state at index `k`, whose least key is `p`.
+-- The keys of the others, seen from the picked state at index `k`, whose least key is `p`.
 abbrev pub Order3 : (ℕ → List ℕ → Type 0) → ℕ → ℕ → List ℕ → ℕ → Type 0
 Order3 P k k' p y =
     ((k < k') × ((other : List ℕ) → P y other → Before p other))

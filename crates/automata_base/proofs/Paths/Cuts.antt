@@ -70,8 +70,8 @@ no_leader_in n (q ∷ xs) y p h i a = go (accepts n q) refl h i (no_leader_in n 
     go None e h (inr i) ih = ih h i a
     go (Some p) e h i ih = none_some (sym h)
 
--- The first match state's least key is before all that stands behind it, and what stands before it has the keys
--- that are less.
+-- The first match state's least key is before the keys of all that comes after it, and the states before it have the
+-- keys that are less.
 abbrev pub Leads_to : Nfa → (ℕ → List ℕ → Type 0) → List ℕ → ℕ → Type 0
 Leads_to n P xs m =
     (a : List ℕ) × P m a × ((p : ℕ) × (accepts n m ≡ Some p))

@@ -12,7 +12,7 @@ use Rattle.automata_base.proofs.Paths.Sets.{nearest_right, farthest_right, pairs
 use Rattle.automata_base.proofs.Paths.Machines.{told_right}
 use Rattle.automata_base.proofs.Paths.Selecting.{PassSelects}
 
--- The last place below `k` where something is told.
+-- The last place below `k` at which something is reported.
 abbrev pub IsLast : (ℕ → List ℕ → Type 0) → ℕ → Option Pair → Type 0
 IsLast At k None = (i : ℕ) → i < k → At i []
 IsLast At k (Some pair) =
@@ -99,7 +99,7 @@ pub walked_right :
 walked_right kind n t start r l free tape_of =
     walk_right kind n t start (pairs_upto n kind start t (suc (length t.bytes))) free tape_of (walk_pairs kind n t start (suc (length t.bytes)) r l)
 
--- For every NFA: the nearest end, and under kind all the farthest.
+-- For every NFA: the nearest end, and under `MatchKind::All` the farthest.
 pub earliest_right :
     (kind : MatchKind) (n : Nfa) (t : Tape) (start : ℕ)
     → IsInRange n → start < length n.nodes → IsTape t → IsNearest n t start (search_of kind true n t start)
@@ -112,7 +112,8 @@ pub end_right :
 end_right n t start r l tape_of =
     farthest_right n t start (search_of All false n t start) tape_of (pass_sel_right All false n t start r l)
 
--- For every NFA, under kind all: the patterns told at a place are those of the accepting paths that end there.
+-- For every NFA, under `MatchKind::All`: the patterns reported at a place are those of the accepting paths that end
+-- there.
 pub set_right :
     (n : Nfa) (t : Tape) (start i : ℕ)
     → IsInRange n → start < length n.nodes → IsTape t → i ≤ length t.bytes

@@ -133,7 +133,7 @@ module _ (n : Nfa) (A : Truth) (x : ℕ) (S stack : List ℕ) (new : In x S → 
   other_end q [] h e = h
   other_end q (k ∷ p) h e = fresh_end n A (x ∷ S) h.0 p q h.2.0 h.2.1 (inl e)
 
-  -- Where a key before the visit stands after it.
+  -- The index, after the visit, of a key before it.
   abbrev pub Pre : ℕ → List ℕ → Type 0
   Pre q other =
       ((e : ℕ) × (p : List ℕ) × (e < length (children n A x)) × P q (e ∷ p) × (other ≡ 0 ∷ (e ∷ p)))

@@ -1,4 +1,4 @@
--- A path as the run of its edges: where following them ends, if each is there.
+-- A path as the run of its edges: the place where following them ends, if each exists.
 use Rattle.std.specs.Prelude.{ℕ, suc, true, false, eqb, List, [], ◌∷◌, Option, Some, None}
 use Rattle.automata_base.specs.Lists.{nth}
 use Rattle.automata_base.specs.Nfa.{Nfa, hop, takes}

@@ -282,7 +282,7 @@ pass_means kind n t start (suc k) Q free tape_of l p =
     means_succ kind n t start k p.0 Q free tape_of l
     (pass_means kind n t start k p.0 free tape_of (omega (arith, l)) p.1) p.2
 
--- What the pass tells of a place is what the paths define.
+-- What the pass reports at a place is what the paths define.
 pub pass_tells :
     (kind : MatchKind) (n : Nfa) (t : Tape) (start i : ℕ) (patterns : List ℕ)
     → IsLookAcyclic n → IsTape t → i ≤ length t.bytes → Tells kind n t start i patterns → ArePatternsAt kind n t start i patterns

@@ -115,7 +115,8 @@ row_two_matches = refl
 pub row_nothing : told_of nothing All 0 (whole (97 ∷ [])) 1 ≡ []
 row_nothing = refl
 
--- A cycle through a look: the least paths tell pattern 1 first, by the edges 0, 0, 1 against 1, and the pass does not.
+-- A cycle through a look: the least paths report pattern 1 first, by the edges 0, 0, 1 against 1, and the pass does
+-- not.
 abbrev pub look_cycle : Nfa
 look_cycle = forward (Split (2 ∷ 1 ∷ []) ∷ Accept 2 ∷ Assert EndLF 3 ∷ Split (0 ∷ 4 ∷ []) ∷ Accept 1 ∷ [])
 

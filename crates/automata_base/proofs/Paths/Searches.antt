@@ -44,7 +44,7 @@ pub accepting_inside :
     (n : Nfa) (t : Tape) (start i pattern : ℕ) (path : List ℕ) → Accepts n t start i pattern path → i ≤ length t.bytes
 accepting_inside n t start i pattern path a = path_inside n t 0 [] start path i a.0 (omega arith) a.1
 
--- No accepting path ends before the first place where something is told.
+-- No accepting path ends before the first place at which something is reported.
 pub none_before :
     (kind : MatchKind) (n : Nfa) (t : Tape) (start k : ℕ)
     → ((j : ℕ) → j < k → ArePatternsAt kind n t start j [])
@@ -58,7 +58,7 @@ none_before LeftmostFirst n t start (suc k) f j pattern path l a =
     go (inl h) ih = let w = h.1 pattern path a in ih w.0 w.1 w.2 (omega (arith, l, w.3)) w.4
     go (inr h) ih = nil_cons h.2
 
--- The first pattern told at a place is that of the least path there.
+-- The first pattern reported at a place is that of the least path there.
 pub head_least :
     (kind : MatchKind) (n : Nfa) (t : Tape) (start i p : ℕ) (rest : List ℕ)
     → ArePatternsAt kind n t start i (p ∷ rest)
@@ -127,7 +127,7 @@ sel_all n t start pair rest here f = (w.0, w.1, chosen)
         go (inr (inl e)) = inr (e, w.2 pattern other (subst (λ v. Accepts n t start v pattern other) (sym e) a))
         go (inr (inr l)) = inl l
 
--- After the last place where something is told every accepting path has one before it.
+-- After the last place at which something is reported every accepting path has one before it.
 abbrev pub Told : Nfa → Tape → ℕ → Pair → List ℕ → Type 0
 Told n t start pair told =
     (pattern : ℕ) × (path : List ℕ) × (told ≡ pattern ∷ []) × Accepts n t start pair.place pattern path

@@ -1,4 +1,4 @@
--- What a pass tells of its span: to a walk, and to a search.
+-- What a pass reports of its span: to a walk, and to a search.
 use Rattle.std.specs.Prelude.{ℕ, suc, ◌<◌, ◌≤◌, Bool, true, false, List, [], ◌∷◌, length, Option, Some, None}
 use Rattle.automata_base.specs.Cuts.{MatchKind}
 use Rattle.automata_base.specs.Nfa.{Nfa}
@@ -9,8 +9,8 @@ use Rattle.automata_base.specs.Selections.{Pair, Pairs, Tells}
 abbrev pub PassTells : MatchKind → Nfa → Tape → ℕ → List Pair → Type 0
 PassTells kind n t start pairs = Pairs (Tells kind n t start) (suc (length t.bytes)) pairs
 
--- What a search tells of its pass: of the first state with patterns, or else of the last one, the first pattern and
--- the place whose unit gave it.
+-- What a search reports of its pass: of the first state with patterns, or otherwise of the last one, the first pattern
+-- and the place whose unit led to it.
 abbrev pub PassSelects : MatchKind → Bool → Nfa → Tape → ℕ → Option Pair → Type 0
 PassSelects kind earliest n t start None =
     (i : ℕ) → i ≤ length t.bytes → Tells kind n t start i []

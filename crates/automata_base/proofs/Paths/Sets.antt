@@ -175,7 +175,7 @@ step_set n t start i u N byte s q = (λ r. there r.0 r.1, λ m. back m.0 m.1)
         let j = in_pick g N f.0 f.1 (s.1 f.0 (takes_ends n f.0 u f.1 moves, (f.2, f.4))) moves in
         (j.0 ∷ f.3, (f.1, j.1, f.6))
 
--- Under leftmost-first nothing was told before.
+-- Under leftmost-first nothing was reported before.
 abbrev pub IsQuiet : MatchKind → Nfa → Tape → ℕ → ℕ → Type 0
 IsQuiet All n t start k = Unit {0}
 IsQuiet LeftmostFirst n t start k = (j pattern : ℕ) (path : List ℕ) → j < k → Accepts n t start j pattern path → ⊥
@@ -202,7 +202,7 @@ start_set n t start q = (λ r. there r.0 r.1, λ m. (0 ∷ m.0, (start, refl, pa
     there (zero ∷ p) k = (p, walk_path n t 0 [] start p q (subst (λ v. IsPathAt n (truth n t 0) [] v p q) (sym (some_inj k.1)) k.2))
     there (suc j ∷ p) k = absurd (none_some k.1)
 
--- With nothing to tell, the cut leaves the targets.
+-- With nothing to report, the cut leaves the targets.
 quiet_targets :
     (kind : MatchKind) (n : Nfa) (t : Tape) (start i u : ℕ) (L : List ℕ)
     → IsQuiet kind n t start (suc i) → IsSet (EndsMet n t start i) (pick (ends n) L)
@@ -268,7 +268,7 @@ once_set xs ys o p = (there, λ i. let k = sorted_has (From Root xs) ys p o.1 i 
     back [] k = absurd k
     back (j ∷ s) k = nth_in xs j p (k.1 ∙ ap Some k.2.0)
 
--- The patterns told are those of the accepting paths that end there.
+-- The patterns reported are those of the accepting paths that end there.
 pub all_tells_set :
     (n : Nfa) (t : Tape) (start i : ℕ) (P Q : Powerset)
     → IsTape t → MeansSet n t start i P → IsSuccessor n All P (next t i) Q
@@ -294,7 +294,7 @@ all_tells_set n t start i P Q tape_of m s =
         (picked_in (accepts n) (pick (ends n) s.0) a.1.0 p
         (N.1 a.1.0 (accepts_ends n a.1.0 p a.1.2, (a.0, a.1.1))) a.1.2)
 
--- Nothing is told exactly where no accepting path ends, and the first pattern told is one of such a path.
+-- Nothing is reported exactly if no accepting path ends there, and the first pattern reported is one of such a path.
 abbrev pub IsHonest : Nfa → Tape → ℕ → ℕ → List ℕ → Type 0
 IsHonest n t start i patterns =
     (patterns ≡ [] → (p : ℕ) (path : List ℕ) → Accepts n t start i p path → ⊥)
@@ -342,7 +342,7 @@ pass_honest kind n t start i patterns tape_of l quiet p =
     subst (λ v. IsHonest n t start i v) p.2
     (tells_honest kind n t start i p.1.0 p.0 tape_of (pass_sets kind n t start i p.1.0 tape_of l quiet p.1.1) p.1.2)
 
--- Where nothing was told before, no accepting path ends before.
+-- If nothing was reported before, no accepting path ends before.
 pub told_nothing :
     (kind : MatchKind) (n : Nfa) (t : Tape) (start k : ℕ)
     → IsTape t → k ≤ suc (length t.bytes) → ((j : ℕ) → j < k → Tells kind n t start j [])
@@ -381,7 +381,7 @@ nearest_right kind n t start (Some pair) tape_of p =
     quiet All = tt
     quiet LeftmostFirst = before
 
--- For every NFA, under kind all the pairs told are those of the accepting paths.
+-- For every NFA, under `MatchKind::All` the pairs reported are those of the accepting paths.
 pub pairs_right :
     (n : Nfa) (t : Tape) (start i : ℕ) (patterns : List ℕ)
     → IsTape t → i ≤ length t.bytes → Tells All n t start i patterns

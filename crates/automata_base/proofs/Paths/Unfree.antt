@@ -1,4 +1,4 @@
--- Where a cycle of epsilon edges passes a look, the pass need not tell patterns in the order of least paths.
+-- If a cycle of epsilon edges passes a look, the pass may report patterns in another order than that of least paths.
 use Rattle.std.proofs.Common.{ℕ, ◌≡◌, false, List, [], ◌∷◌, Some, None, refl, inl, inr, ap, ◌∙◌, zero, suc, arith}
 use Rattle.automata_base.specs.Order.{Before}
 use Rattle.automata_base.specs.Nfa.{accepts}

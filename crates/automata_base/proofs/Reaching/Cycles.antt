@@ -1,4 +1,4 @@
--- What walks from the targets of looks tell of the looks.
+-- What walks from the targets of looks say about the looks.
 use Rattle.std.proofs.Common.{ℕ, zero, suc, ◌≡◌, ◌<◌, ◌≤◌, ◌+◌, ◌⊎◌, ◌↔◌, Bool, true, false, List, [], ◌∷◌, ◌++◌, length, get_or, take, Some, None, inl, inr, refl, sym, ap, ◌∙◌, subst, true≢false, arith, append-nil}
 use Rattle.std.specs.Prelude.{Contains, IsTrue, IsFalse, option_to_list}
 use Rattle.std.proofs.lemmas.Bool.{ltb-true}
@@ -209,7 +209,7 @@ module _
             → ((r : ℕ) × In r (take i order) × LooksTo states r z) ⊎ LooksTo states q z
         go h = from h.0 h.1 h.3 (In-either h.0 old (option_to_list (look_target (node_in states q))) h.2)
 
-    -- It is come back to exactly if it leads back to itself: a look before it that led to it would be on a cycle.
+    -- The walk returns to it exactly if it leads back to itself: a look before it that led to it would be on a cycle.
     pub back_is : IsTrue b ↔ LeadsBack states q
     back_is = (
       λ t. let w = found.0 t in go (led q w.2),

@@ -1,4 +1,4 @@
--- Where targets lead is where edges lead.
+-- Targets lead to the states to which edges lead.
 use Rattle.std.proofs.Common.{ℕ, zero, suc, ◌≡◌, ◌≤◌, ◌+◌, ◌⊎◌, ◌↔◌, ◌&&◌, Bool, true, false, cond, leb, List, [], ◌∷◌, Some, None, inl, inr, refl, sym, ap, ◌∙◌, subst, arith}
 use Rattle.std.proofs.lemmas.Grind.{common_steps}
 use Rattle.std.proofs.lemmas.Bool.{leb-true, le-leb}
@@ -50,7 +50,7 @@ module _ (a : Automaton) where
   run_to q [] z w = ([], w)
   run_to q (e ∷ path) z w = let h = run_to w.0 path z w.2 in (w.0 ∷ h.0, (hop_to q e w.0 w.1, h.1))
 
-  -- A match is reached exactly if the automaton has the empty match.
+  -- A match is reached exactly if the NFA has the empty match.
   pub empty_is : (b : Type 0) → b ↔ ReachesMatch a.states a.start_pattern → b ↔ HasEmpty a
   empty_is b found = (
     λ t. let h = found.0 t in (h.1.0, h.0, h.2.0, h.1.2, run_from h.1.0 h.1.1 h.0 h.1.3, h.2.1),
@@ -203,7 +203,7 @@ module _ (a : Automaton) (ordered : states_ordered a.states ≡ true) where
   reach_to : (q z : ℕ) → Reaches (nfa_of a) q z → IsReached Every a.states (q ∷ []) z
   reach_to q z h = (q, h.0, inl refl, road_to q h.0 z h.1)
 
-  -- The tests of the starts tell whether the automaton skips lazily.
+  -- The tests of the starts decide whether the NFA skips lazily.
   pub lazily_is : (b : Type 0) → b ↔ SkipsFrom a.states a.start_anchored a.start_unanchored → b ↔ SkipsLazily a
   lazily_is b found = (λ t. from (found.0 t), λ h. found.1 (to h))
     where

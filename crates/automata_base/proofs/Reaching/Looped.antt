@@ -77,7 +77,7 @@ second_below states at s first skip h l e t =
     (node_fits (length states) s (state_at_below (length states) states at s h l e)))
     (inr (inl refl))
 
--- What the unanchored start and its second alternate are, and what the tests of them tell.
+-- What the unanchored start and its second alternate are, and what the tests of them mean.
 module _ (states : List State) (anchored unanchored at : ℕ) (s : State) (other : unanchored ≡ anchored → ⊥) (same : at ≡ unanchored) (within : at < length states) (read : s ≡ get_or states at s) where
   start_is : node_in states unanchored ≡ node_of s
   start_is = ap (node_in states) (sym same) ∙ node_at states at s s within read

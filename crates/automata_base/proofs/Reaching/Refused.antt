@@ -1,4 +1,4 @@
--- What the tests of the door tell.
+-- What the tests of `NFA::from_states` mean.
 use Rattle.std.proofs.Common.{ℕ, ◌≡◌, ◌<◌, ◌≤◌, ◌+◌, ◌-◌, ◌^◌, ◌&&◌, Bool, true, false, leb, ltb, List, [], ◌∷◌, length, Option, Some, None, Result, Ok, Err, refl, sym, ap, ◌∙◌, arith}
 use Rattle.std.specs.Prelude.{sum_by}
 use Rattle.std.proofs.lemmas.Bool.{leb-true, ltb-true}
@@ -57,7 +57,7 @@ same_room e = cc
 apart : {x : ℕ} {e : NfaError} → ◌≡◌ {A = Result ℕ NfaError} (Ok x) (Err e) → ⊥
 apart h = cc
 
--- Where the first test that fails is known, its error is told.
+-- If the first test that fails is known, its error is returned.
 abbrev pub IsTold : Option NfaError → ℕ → Result ℕ NfaError → Type 0
 IsTold o room r = ((e : NfaError) → o ≡ Some e → r ≡ Err e) × (o ≡ None → r ≡ Ok room)
 
@@ -67,7 +67,7 @@ told o room x h = (λ e k. ap (λ z. Err z) (same_error (sym h ∙ k)), λ k. ab
 pub told_none : (o : Option NfaError) (room room' : ℕ) → o ≡ None → room' ≡ room → IsTold o room (Ok room')
 told_none o room room' h s = (λ e k. absurd (some_apart (sym k ∙ h)), λ k. ap (λ z. Ok z) s)
 
--- Where a room is told, all tests passed.
+-- If a room is returned, all tests passed.
 pub passed : (o : Option NfaError) (room room' : ℕ) (r : Result ℕ NfaError) → IsTold o room r → r ≡ Ok room' → (o ≡ None) × (room' ≡ room)
 passed None room room' r t h = (refl, same_room (sym h ∙ t.1 refl))
 passed (Some e) room room' r t h = absurd (apart (sym h ∙ t.0 e refl))
@@ -156,7 +156,7 @@ module _ (s : List State) (a u : ℕ) (t : List ℕ) where
   refused_none room h i j k l m r =
       told_none (door_refusal s a u t) (stack_room s) room (last_test h i j k l ∙ ap (λ z. unless z PatternRange None) m) r
 
--- What stands where all tests passed.
+-- What holds if all tests passed.
 pub record IsPassed (s : List State) (a u : ℕ) (t : List ℕ) : Type 0 where
   pub small : length s ≤ 134217728
   pub few : length t ≤ 134217728

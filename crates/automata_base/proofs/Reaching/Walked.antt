@@ -76,7 +76,7 @@ walk_steps G roots at items new q l e s w =
     closed r t (inr (inl f)) j = once_has t items (G q) (subst (λ z. In t (G z)) f j)
     closed r t (inr (inr i)) j = absurd i
 
--- Where no member is left, the members are the states that are reached.
+-- If no member is left to visit, the members are the states that are reached.
 pub walk_ends :
     (G : ℕ → List ℕ) (roots : List ℕ) (at : ℕ) (items : List ℕ)
     → length items ≤ at → IsWalked G roots at items → (z : ℕ) → In z items ↔ IsReachedBy G roots z

@@ -1,4 +1,4 @@
--- A path of one tape is one of another that has the same bytes where the path goes.
+-- A path of one tape is one of another that has the same bytes as far as the path goes.
 use Rattle.std.proofs.Common.{ℕ, suc, ◌≡◌, ◌<◌, ◌≤◌, ◌+◌, ◌-◌, true, List, [], ◌∷◌, length, inl, inr, sym, ap, ◌∙◌, subst, arith}
 use Rattle.automata_base.specs.Looks.{holds}
 use Rattle.automata_base.specs.Lists.{nth}
@@ -48,7 +48,7 @@ path_alike n t t' a b m f i i' seen q (e ∷ p) j j' z c d l (inr h) =
       path_alike n t t' a b m f (suc i) (suc i') [] h.0 p j j' z (omega (arith, c)) d l h.3,
     )
 
--- Two forward tapes of a haystack, up to the offset `m` where both still go.
+-- Two forward tapes of a haystack, up to the offset `m` to which both go.
 pub forward_alike :
     (h : List ℕ) (s e s' e' m : ℕ) → s + m ≤ e → s + m ≤ e' → e ≤ length h → e' ≤ length h
     → AreAlike (forward_tape h s e) (forward_tape h s' e') s s' m

@@ -1,4 +1,4 @@
--- A rule that tells one thing over each span has one answer.
+-- A rule that reports one thing over each span has one answer.
 use Rattle.std.proofs.Common.{ℕ, ◌≡◌, ◌∙◌, ◌<◌, ◌≤◌, ◌+◌, ◌⊎◌, inl, inr, true, false, Option, Some, None, refl, sym, ap, ap₂, subst, arith, ⊎_elim, eq-or-lt_of_le}
 use Rattle.std.proofs.lemmas.Bool.{cases_lt, false≢true}
 use Rattle.automata_base.specs.Answers.{Half, later, offset_in, IsSplit, Tries, Answers}

@@ -67,7 +67,7 @@ narrow d h b e i k pattern z path l u w p m = (
   ),
 )
 
--- Reverse paths from one end do not see where the span begins.
+-- Reverse paths from one end do not depend on where the span begins.
 pub reverse_same :
     (d : Engine) (h : List ℕ) (s s' e m m' pattern : ℕ) (path : List ℕ) → s + m ≤ e → s' + m ≤ e → e ≤ length h → m ≡ m'
     → Accepts d.nfa (reverse_tape h s e) d.anchored m pattern path
@@ -96,7 +96,7 @@ goes_back f r h b i k pattern z rest e pair bytes l u w p m = (
         (pair.3 h (b + k) (b + i) pattern bytes (omega (arith, l)) (omega (arith, u, w))).0
         (narrow f h b e i k pattern z rest l u w p m)
 
--- A reverse path is a forward path from where it ends.
+-- A reverse path is a forward path from the place at which it ends.
 pub comes_forth :
     (f r : Engine) (h : List ℕ) (b i e m pattern : ℕ) (path : List ℕ)
     → IsTruePair f r → IsHaystack h → b + i ≤ e → e ≤ length h

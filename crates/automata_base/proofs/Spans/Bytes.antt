@@ -64,7 +64,7 @@ nth_reverse (x ∷ xs) i (suc k) e =
     ∙ (nth_left (reverse xs) (x ∷ []) i (let l = reverse_length xs in omega (arith, e, l))
     ∙ nth_reverse xs i k (omega (arith, e)))
 
--- The byte behind a place: of the span's bytes, or the one after them.
+-- The byte after a place: of the span's bytes, or the one after them.
 pub next_inside : (xs : List ℕ) (after : Option ℕ) (i : ℕ) → i < length xs → next_in xs after i ≡ nth xs i
 next_inside [] after i l = absurd (omega (arith, l))
 next_inside (x ∷ xs) after zero l = refl

@@ -37,7 +37,7 @@ starts_at d x t i pattern path loop a =
     w : Lazily d.nfa t 0 d.anchored path i a.0
     w = lazily d.nfa t d.unanchored d.anchored x loop.0 loop.1 0 path i a.0 pattern a.2 a.1
 
--- That is where the path first stands on the anchored start.
+-- That is the place at which the path first stands on the anchored start.
 pub lazy_start :
     (d : Engine) (x : ℕ) (t : Tape) (k i pattern : ℕ) (path rest : List ℕ) → LoopsLazily d x → HasBytes t → i ≤ length t.bytes
     → StartsAt d t k i pattern path rest → IsPathStart d No t path k
@@ -50,7 +50,7 @@ lazy_start d x t k i pattern path rest loop bytes l s = (
   λ shorter sooner b h. not_sooner d.nfa t d.unanchored d.anchored x loop.0 loop.1 loop.2 k 0 shorter sooner b h,
 )
 
--- Where the two starts are one, that is the first place.
+-- If the two starts are one state, that is the first place.
 pub same_start : (d : Engine) (t : Tape) (path : List ℕ) → BeginsAnchored d → IsPathStart d No t path 0
 same_start d t path same = ([], path, refl, (refl, same), none)
   where
@@ -89,7 +89,7 @@ least_start d x earliest t k i pattern path rest loop bytes c s k' p z other h m
         before_irrefl (skips k' (0 ∷ other))
         (before_upto (skips k' (0 ∷ other)) (skips k (0 ∷ rest)) (skips k' (0 ∷ other)) (sooner_less k' k other rest l) upto)
 
--- The farthest end of a search of kind all.
+-- The farthest end of a search under `MatchKind::All`.
 pub all_farthest :
     (n : Nfa) (t : Tape) (start : ℕ) (answer : Option Pair) → Selects All false n t start answer → IsFarthest n t start answer
 all_farthest n t start None s = s

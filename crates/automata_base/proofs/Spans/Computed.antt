@@ -211,7 +211,7 @@ abbrev pub spans_of : Engine → Engine → Input → List Match
 spans_of f r input =
     iterate (suc (suc (length input.haystack))) (λ start. match_in (try_of f r (from start input))) input.start None
 
--- What is computed over two DFAs is what the search tells.
+-- What is computed over two DFAs is what the search returns.
 or_cases : (a b : Bool) → (a || b) ≡ true → (a ≡ true) ⊎ (b ≡ true)
 or_cases true b e = inl refl
 or_cases false b e = inr e

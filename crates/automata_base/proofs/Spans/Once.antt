@@ -248,7 +248,8 @@ clash d v w input half f a b = go a.2
         (subst (λ x. SelectsOver Forward d (later Forward x (with_earliest w input)) (Some b.1)) zero_b b.4)
     go (inr (inr s)) = f s.0
 
--- Where the input is not earliest or nothing is skipped, there is a match exactly if the search in full has one.
+-- If the input is not earliest or nothing is skipped, there is a match exactly if the search that is not earliest has
+-- one.
 pub match_iff_find :
     (d : Engine) (input : Input) (truth : Bool) (answer : Option Match)
     → (input.earliest ≡ false) ⊎ (IsSkipping d → ⊥) → IsMatch d input truth → IsSpan d input answer → truth ≡ is_some answer

@@ -26,7 +26,7 @@ anchored_start d No t path f = absurd (f refl)
 anchored_start d Yes t path f = refl
 anchored_start d (Pattern k) t path f = refl
 
--- A chosen path of mode No over a lazy loop.
+-- A chosen path of an unanchored search over a lazy loop.
 abbrev pub Looped : Engine → Input → Half → (i : ℕ) → List ℕ → Type 0
 Looped d input half i path =
     (k : ℕ) × (rest : List ℕ) × StartsAt d (forward_tape input.haystack half.base input.end) k i half.pattern path rest
@@ -56,7 +56,7 @@ looped d x input half q i path loop bytes w m a = (
     s : (k : ℕ) × (rest : List ℕ) × StartsAt d t k i half.pattern path rest
     s = starts_at d x t i half.pattern path loop c.0
 
--- Where no reverse search is made, the chosen path starts at the base.
+-- If no reverse search is made, the chosen path starts at the base.
 pub short_start :
     (d : Engine) (input : Input) (half : Half) (q i : ℕ) (path : List ℕ)
     → BeginsLazily d → IsHaystack input.haystack → input.end ≤ length input.haystack
@@ -127,8 +127,8 @@ start_found f r input half q i path pair keeps bytes w a long = go (mode_cases i
             (subst (λ v. IsFarthestAnswer Backward r (anchored_back h half.base v) answer) a.1 b) in
             (o.0, o.1, o.2 ∙ omega (arith, c.3))
 
--- Over a true pair under the UTF-8 promise a search tells the span of the chosen path, and never that the two are no
--- pair, also where its search back finds the farthest place alone.
+-- Over a true pair with the UTF-8 promise a search returns the span of the chosen path, and never that the two are no
+-- pair, even if its search back finds the farthest place alone.
 pub far_right :
     (f r : Engine) (input : Input) (outcome : Outcome)
     → IsTruePair f r → KeepsUtf8 Forward f → IsHaystack input.haystack → input.end ≤ length input.haystack
@@ -187,7 +187,7 @@ far_right f r input (Found (Some m)) pair keeps bytes w s = (Some m, refl, go s.
         offset_of None = 0
         offset_of (Some v) = v.offset
 
--- Under kind all a search back that answers by the ordered paths finds the farthest place.
+-- Under `MatchKind::All` a search back that answers by the ordered paths finds the farthest place.
 back_far :
     (r : Engine) (input : Input) (half : Half) (o : Option Half) → r.kind ≡ All → IsAnswer Backward r (back input half) o
     → IsFarthestAnswer Backward r (back input half) o

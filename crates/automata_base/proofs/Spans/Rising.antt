@@ -97,7 +97,7 @@ spans_inside d input m w s = span_inside d input m w s
 pub tries_inside : (f r : Engine) → StaysInside (TryFinds f r)
 tries_inside f r input m w s = try_inside f r input m w s
 
--- The next match ends in the span, and past the last end if that is where the iteration stands.
+-- The next match ends in the span, and past the last end if the iteration stands there.
 next_inside :
     (Finds : Input → Option Match → Type 0) (input : Input) (start : ℕ) (last : Option ℕ) (m : Match)
     → StaysInside Finds → input.end ≤ length input.haystack → IsNextItem Finds input start last (Some m)

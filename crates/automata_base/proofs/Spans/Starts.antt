@@ -63,7 +63,7 @@ answered d input half a = go (first_state d input.anchored) refl a.4
       ),
     )
 
--- For mode No the path is one from the unanchored start.
+-- In an unanchored search the path is one from the unanchored start.
 pub unanchored :
     (d : Engine) (input : Input) (half : Half) (q i : ℕ) (path : List ℕ) → input.anchored ≡ No → Answered d input half q i path
     → Chooses d input.earliest (forward_tape input.haystack half.base input.end) d.unanchored i half.pattern path
@@ -80,7 +80,7 @@ pub only_once :
     → k ≡ 0
 only_once T S h b e k c = ⊎_elim (λ (z : k ≡ 0). z) (λ (z : S × (Yes ≡ No)). absurd (yes_no z.1)) c.0
 
--- The greatest place where a path accepts.
+-- The greatest place at which a path accepts.
 abbrev pub IsGreatest : Nfa → Tape → ℕ → ℕ → Type 0
 IsGreatest n t start m =
     ((pattern : ℕ) × (path : List ℕ) × Accepts n t start m pattern path)
@@ -96,7 +96,7 @@ farthest_greatest n t start m (Some pair) g f = (pair, refl, place (eq-or-lt_of_
     place (inl e) = e
     place (inr l) = absurd (f.1 m g.0.0 g.0.1 l g.0.2)
 
--- Where it finds the farthest place, it answers the greatest one.
+-- If it finds the farthest place, it answers the greatest one.
 pub back_answer :
     (r : Engine) (h : List ℕ) (b e m : ℕ) (answer : Option Half) → b ≤ e
     → IsGreatest r.nfa (reverse_tape h b e) r.anchored m
@@ -149,7 +149,7 @@ back_answer r h b e m answer l g u = go answer
         (found, refl, at ∙ (ap (λ w. e - k - w) (same_place p.1) ∙ p.2))
 
 -- Over the span that the forward search left, the reverse paths from its end go back to the chosen path's start and no
--- farther, and that place splits no character where split places are skipped.
+-- farther, and that place splits no character if split places are skipped.
 pub goes_to_start :
     (f r : Engine) (x : ℕ) (h : List ℕ) (b e : ℕ) (earliest : Bool) (i k pattern : ℕ) (path rest : List ℕ)
     → IsTruePair f r → IsHaystack h → b ≤ e → e ≤ length h → LoopsLazily f x
@@ -176,7 +176,7 @@ goes_to_start f r x h b e earliest i k pattern path rest pair bytes l w loop c s
         (i - j) p o.1.1 o.1.0 o.1.2 o.1.3 in
         omega (arith, g, o.0, short)
 
--- With UTF-8 kept, the start splits no character where split places are skipped.
+-- With the UTF-8 promise, the start splits no character if split places are skipped.
 pub start_unsplit :
     (f r : Engine) (h : List ℕ) (b e i k pattern z : ℕ) (rest : List ℕ)
     → IsTruePair f r → KeepsUtf8 Forward f → IsHaystack h → b + i ≤ e → e ≤ length h → k ≤ i

@@ -7,7 +7,7 @@ use Rattle.automata_base.specs.Selections.{Pair}
 use Rattle.automata_base.specs.Spans.{FindsStartBy, Found, NotAPair, Outcome, TellsBy, back}
 use Rattle.automata_base.specs.Tapes.{Direction}
 
--- what is told over the spans that a search tries
+-- what is reported over the spans that a search tries
 module _ (T U : Input → Option Pair → Type 0) (S : Type 0) (way : Direction) (input : Input)
     (turn : (k : ℕ) (o : Option Pair) → input.start + k ≤ input.end → T (later way k input) o → U (later way k input) o) where
   turn_tries : (k : ℕ) → Tries T S way input k → Tries U S way input k

@@ -32,7 +32,7 @@ back_reads h b e i m v l w k (inr g) = ⊎_elim
     within : g.0 ≤ m → g.0 ≤ i
     within a = omega (arith, a, k)
 
--- So with one quit set the reverse search meets no quit byte where the forward search met none up to its match.
+-- So with one quit set the reverse search meets no quit byte if the forward search met none up to its match.
 pub back_meets_none :
     (quits : ℕ → Bool) (h : List ℕ) (b e i m : ℕ) → b + i ≤ e → e ≤ length h → m ≤ i
     → MeetsNone quits (forward_tape h b e) i → MeetsNone quits (reverse_tape h b (b + i)) m

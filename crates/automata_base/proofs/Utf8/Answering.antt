@@ -18,7 +18,7 @@ use Rattle.automata_base.proofs.Utf8.Keeping.{bytes_reverse, keeps_from, keeps_b
 use Rattle.automata_base.proofs.Utf8.Reading.{ends_reads}
 use Rattle.automata_base.proofs.Utf8.Tables.{forward, backward, forward_decodes, forward_chained, backward_below, backward_chained, backward_mirrors}
 
--- Between two characters again exactly behind UTF-8.
+-- Between two characters again exactly after UTF-8.
 forward_right : (us : List ℕ) → AreBytes us → decode forward 0 us ≡ 0 ↔ IsUtf8 us
 forward_right us bytes = decode_utf8 forward forward_decodes us bytes
 

@@ -13,8 +13,8 @@ abbrev pub Next : (lo hi : ℕ) → (List ℕ → Type 0) → List ℕ → Type 
 Next lo hi P [] = ⊥
 Next lo hi P (u ∷ us) = (lo ≤ u) × (u ≤ hi) × P us
 
--- What may follow at each state of the decoder: any text; nothing; one, two and three bytes that go on with a
--- character, and any text; the same behind 0xE0, 0xED, 0xF0 and 0xF4.
+-- What may follow at each state of the decoder: any text; nothing; one, two and three bytes that continue a character,
+-- and any text; the same after 0xE0, 0xED, 0xF0 and 0xF4.
 abbrev pub Completes : ℕ → List ℕ → Type 0
 Completes zero us = IsUtf8 us
 Completes (suc zero) us = ⊥
@@ -367,6 +367,6 @@ decode_is cs test (u ∷ us) s l bytes =
     let h = decode_is cs test us (step cs s u) (step_below cs s u (below cs test)) bytes.1 in
     (λ k. r.1 (h.0 k), λ k. h.1 (r.0 k))
 
--- Between two characters again exactly behind UTF-8.
+-- Between two characters again exactly after UTF-8.
 pub decode_utf8 : (cs : List Class) → decodes_utf8 cs ≡ true → (us : List ℕ) → AreBytes us → decode cs 0 us ≡ 0 ↔ IsUtf8 us
 decode_utf8 cs test us bytes = decode_is cs test us 0 (omega arith) bytes

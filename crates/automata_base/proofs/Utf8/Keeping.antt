@@ -92,7 +92,7 @@ order_tape : (way : Direction) (h : List ℕ) (i j : ℕ) → in_order way (tape
 order_tape Forward h i j = refl
 order_tape Backward h i j = reverse-reverse (between h i j)
 
--- An anchored mode begins at the anchored start or at a pattern's.
+-- A search of an anchored mode begins at the anchored start or at a pattern's.
 starts_in :
     (a : Automaton) (kind : MatchKind) (mode : Anchored) (start : ℕ) → (mode ≡ No → ⊥) → first_state (engine_of a kind) mode ≡ Some start
     → In start (a.start_anchored ∷ a.start_pattern)

@@ -20,7 +20,7 @@ one_at_most : (b : Bool) → cond b 1 0 ≤ 1
 one_at_most true = omega arith
 one_at_most false = omega arith
 
--- Functions that tell the same boundaries count the same.
+-- Functions that say the same boundaries count the same.
 pub count-same : (f g : ℕ → Bool) (n : ℕ) → ((b : ℕ) → b ≤ n → f b ≡ g b) → boundary_count f n ≡ boundary_count g n
 count-same f g zero h = count_none f ∙ sym (count_none g)
 count-same f g (suc n) h =

@@ -33,7 +33,7 @@ impl ByteClasses {
     ghost use Rattle.std.specs.Prelude.{◌≡◌, ◌+◌, ◌<◌, ◌≤◌, ◌^◌, ℕ, false, true, length};
     ghost use Rattle.automata_base.specs.Classes.{AreClasses, class_of, class_in, eoi_class, alphabet_length, stride_of, is_quit};
 
-    /// The classes of an automaton's bytes, for these quit bytes. Where `on` is false each byte is its own class.
+    /// The classes of the NFA's bytes, with these quit bytes. If `on` is false, each byte is a class of its own.
     pub fn of(nfa: &NFA, quits: &[bool; 256], on: bool) -> ByteClasses
         ensures quits { (u v : ℕ)
             → u < 256 → v < 256 → class_in result u ≡ class_in result v
@@ -61,7 +61,7 @@ impl ByteClasses {
         let _map = &self.map;
     }
 
-    /// The number of classes, that of the end of the input being one of them: 2 to 257.
+    /// The number of classes, the one of the end of the input included: 2 to 257.
     pub fn alphabet_len(&self) -> usize
         ensures number { result ≡ alphabet_length self.now }
         ensures many { 2 ≤ result }
@@ -80,7 +80,7 @@ impl ByteClasses {
         self.alphabet_len() - 1
     }
 
-    /// The stride's binary logarithm.
+    /// The binary logarithm of the stride.
     pub fn stride2(&self) -> usize
         ensures power { 2 ^ result ≡ stride_of self.now }
         ensures few { result ≤ 9 }
@@ -97,7 +97,7 @@ impl ByteClasses {
     }
 }
 
-// A mark before each byte that has a boundary there.
+// A mark before each byte at which a boundary is.
 fn boundaries(nfa: &NFA, quits: &[bool; 256], on: bool) -> [bool; 257]
     ensures { (byte : ℕ) → byte < 256 → is_marked result byte ≡ is_boundary nfa.now quits.now on byte }
 {
@@ -133,7 +133,7 @@ fn mark_if(marks: &mut [bool; 257], byte: usize, yes: bool)
     }
 }
 
-// Before the first of the bytes, and after the last.
+// A boundary before the first of these bytes, and one after the last.
 fn mark_range(marks: &mut [bool; 257], lo: u8, hi: u8)
     ensures { Adds marks.old marks.new (bounds lo hi) }
 {
@@ -181,7 +181,7 @@ fn mark_quits(marks: &mut [bool; 257], quits: &[bool; 256])
     }
 }
 
-// What decides whether the look holds.
+// The boundaries of the bytes that decide whether the look holds.
 fn mark_look(marks: &mut [bool; 257], look: Look, terminator: u8)
     ensures { Adds marks.old marks.new (look_bounds terminator look) }
 {

@@ -5,7 +5,7 @@ ghost use Rattle.automata_base.specs.Looks.{look_index};
 
 use std::marker::Model;
 
-/// What a place may be asked for.
+/// A look-around assertion: a question about the bytes beside an offset.
 #[derive(Clone, Copy, Debug, PartialEq, Eq)]
 pub enum Look {
     Start,
@@ -28,7 +28,7 @@ pub enum Look {
     WordEndHalfUnicode,
 }
 
-/// A set of looks, bit k being look k.
+/// A set of looks. Bit k stands for look k.
 #[derive(Clone, Copy, Debug, PartialEq, Eq)]
 pub struct LookSet {
     bits: u32,
@@ -125,7 +125,7 @@ impl LookSet {
         LookSet { bits: 48 }
     }
 
-    /// The set of these bits: those above bit 17 are left out.
+    /// The set of these bits. Bits above bit 17 are ignored.
     pub fn from_bits(bits: u32) -> LookSet
         ensures { (look : Look) → truth_of result look ≡ truth_of bits look }
     {
@@ -134,7 +134,7 @@ impl LookSet {
         }
     }
 
-    /// The bits, bit k being look k.
+    /// The bits. Bit k stands for look k.
     pub fn bits(self) -> u32
         ensures value { result ≡ self }
         ensures small { IsLookSet result }

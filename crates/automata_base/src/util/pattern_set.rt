@@ -3,7 +3,7 @@ use std::alloc::{AllocError, Global};
 use std::marker::Model;
 use thiserror::Error;
 
-/// A pattern that a set has no place for.
+/// A pattern that is not below the capacity of a set.
 #[derive(Clone, Copy, Debug, PartialEq, Eq, Error)]
 #[error("failed to insert pattern {} into a set of capacity {capacity}", attempted.as_usize())]
 pub struct PatternSetInsertError {
@@ -78,7 +78,7 @@ impl PatternSet {
         Ok(true)
     }
 
-    /// Takes all patterns out. The capacity stays.
+    /// Removes all patterns. The capacity stays.
     pub fn clear(&mut self)
         ensures { self.new ≡ replicate (length self.old) false }
     {
@@ -88,14 +88,14 @@ impl PatternSet {
         self.len = 0;
     }
 
-    /// Whether a pattern is in the set. One past the capacity is not.
+    /// Whether a pattern is in the set. A pattern that is not below the capacity is not.
     pub fn contains(&self, pattern: PatternID) -> bool
         ensures { result ≡ has self.now pattern }
     {
         self.which.get(pattern.as_usize()).copied().unwrap_or(false)
     }
 
-    /// Whether no pattern is in it.
+    /// Whether the set is empty.
     pub fn is_empty(&self) -> bool
         ensures { IsTrue result ↔ (members self.now ≡ []) }
     {
@@ -116,7 +116,7 @@ impl PatternSet {
         self.len
     }
 
-    /// How many patterns it can hold: those of smaller numbers.
+    /// How many patterns it can hold: those with smaller numbers.
     pub fn capacity(&self) -> usize
         ensures { result ≡ length self.now }
     {

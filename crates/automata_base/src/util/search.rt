@@ -14,21 +14,21 @@ pub struct Span {
 impl Span {
     ghost use Rattle.std.specs.Prelude.{◌≡◌, ◌<◌, ◌≤◌, ◌+◌, ◌-◌, ◌^◌, ◌↔◌, IsTrue};
 
-    /// The bytes between its offsets. There are none if it starts after its end.
+    /// The number of bytes between its offsets. It is 0 if the span starts after its end.
     pub fn len(&self) -> usize
         ensures { result ≡ self.now.end - self.now.start }
     {
         self.end.saturating_sub(self.start)
     }
 
-    /// Whether it holds no byte: its start is not below its end.
+    /// Whether it contains no byte: its start is not below its end.
     pub fn is_empty(&self) -> bool
         ensures { IsTrue result ↔ (self.now.end ≤ self.now.start) }
     {
         self.start >= self.end
     }
 
-    /// The same as a range, which a slice takes as its index.
+    /// The span as a range, with which a slice can be indexed.
     pub fn range(&self) -> Range<usize>
         ensures start { result.start ≡ self.now.start }
         ensures end { result.end ≡ self.now.end }
@@ -36,7 +36,7 @@ impl Span {
         self.start..self.end
     }
 
-    /// Whether it has the offset, its own two among those it has. An empty span has none.
+    /// Whether the offset lies in the span, its two ends included. An empty span contains none.
     pub fn contains(&self, offset: usize) -> bool
         ensures { IsTrue result ↔ (self.now.start < self.now.end) × (self.now.start ≤ offset)
             × (offset ≤ self.now.end) }
@@ -44,7 +44,7 @@ impl Span {
         !self.is_empty() && self.start <= offset && offset <= self.end
     }
 
-    /// The same, so many bytes further on.
+    /// The span, moved right by so many bytes.
     pub fn offset(&self, offset: usize) -> Span
         requires start { self.now.start + offset < 2 ^ 64 }
         requires end { self.now.end + offset < 2 ^ 64 }
@@ -57,7 +57,7 @@ impl Span {
     }
 }
 
-/// A pattern that matches, and the one offset of its match that is known: the end, or of a reverse search the start.
+/// A pattern that matches, and one offset of its match: the end, or, for a reverse search, the start.
 #[derive(Clone, Copy, Debug, PartialEq, Eq)]
 pub struct HalfMatch {
     pattern: PatternID,
@@ -77,7 +77,7 @@ impl Model for HalfMatch {
 impl HalfMatch {
     ghost use Rattle.std.specs.Prelude.{◌≡◌};
 
-    /// A match of a pattern, of which one side is known.
+    /// A match of a pattern with this offset.
     pub fn new(pattern: PatternID, offset: usize) -> HalfMatch
         ensures { result ≡ record { pattern = pattern; offset = offset } }
     {
@@ -137,7 +137,7 @@ impl Match {
         self.pattern
     }
 
-    /// Where in the haystack it lies.
+    /// The span of the match.
     pub fn span(&self) -> Span
         ensures start { result.start ≡ self.now.start }
         ensures end { result.end ≡ self.now.end }
@@ -170,7 +170,7 @@ pub enum MatchKind {
     LeftmostFirst,
 }
 
-/// Where a match may begin: anywhere, at the search's start, or there and of one pattern alone.
+/// Where a match may begin: anywhere, at the search's start, or at the search's start and of one pattern alone.
 #[derive(Clone, Copy, Debug, PartialEq, Eq)]
 pub enum Anchored {
     No,
@@ -196,21 +196,21 @@ impl fmt::Display for Anchored {
     }
 }
 
-/// Why a search has no answer.
+/// Why a search fails.
 #[derive(Clone, Copy, Debug, PartialEq, Eq, Error)]
 pub enum MatchErrorKind {
-    /// A byte was read, at this offset, at which the search has to stop.
+    /// A quit byte was read at this offset.
     #[error("quit search after observing byte {byte:#04X} at offset {offset}")]
     Quit { byte: u8, offset: usize },
-    /// The search gave up, being too slow.
+    /// The search gave up at this offset, since it was too slow.
     #[error("gave up searching at offset {offset}")]
     GaveUp { offset: usize },
-    /// The mode of the input can't be searched with.
+    /// The anchored mode of the input is not supported.
     #[error("{mode} are not supported or enabled")]
     UnsupportedAnchored { mode: Anchored },
 }
 
-/// Why a search has no answer.
+/// Why a search fails.
 #[derive(Clone, Copy, Debug, PartialEq, Eq, Error)]
 #[error("{kind}")]
 pub struct MatchError {
@@ -230,7 +230,7 @@ impl Model for MatchError {
 impl MatchError {
     ghost use Rattle.std.specs.Prelude.{◌≡◌};
 
-    /// A search that met a quit byte, at this offset of the haystack.
+    /// The error of a search that met a quit byte at this offset of the haystack.
     pub fn quit(byte: u8, offset: usize) -> MatchError
         ensures { result ≡ MatchErrorKind.Quit byte offset }
     {
@@ -239,7 +239,7 @@ impl MatchError {
         }
     }
 
-    /// A search whose cache is full and may not be cleared, at this offset of the haystack.
+    /// The error of a search that gave up at this offset of the haystack: its cache is full and may not be cleared.
     pub fn gave_up(offset: usize) -> MatchError
         ensures { result ≡ MatchErrorKind.GaveUp offset }
     {
@@ -248,7 +248,7 @@ impl MatchError {
         }
     }
 
-    /// A search in a mode that the automaton has no starts for.
+    /// The error of a search in an anchored mode that is not supported.
     pub fn unsupported_anchored(mode: Anchored) -> MatchError
         ensures { result ≡ MatchErrorKind.UnsupportedAnchored mode }
     {
@@ -265,7 +265,8 @@ impl MatchError {
     }
 }
 
-/// What is searched: the haystack, the span of it, the mode, and whether the first match found will do.
+/// What is searched: a haystack, a span of it, an anchored mode, and whether the search may stop at the first match
+/// that it sees.
 #[derive(Clone, Debug, Drop)]
 pub struct Input<'h> {
     haystack: &'h [u8],
@@ -296,7 +297,7 @@ impl<'h> Input<'h> {
     ghost use Rattle.automata_base.specs.Input.{Allows, IsAllowed};
     ghost use Rattle.automata_base.specs.Tapes.{IsHaystack, is_split};
 
-    /// The whole haystack, not anchored, and not earliest.
+    /// The whole haystack, neither anchored nor earliest.
     pub fn new(haystack: &'h [u8]) -> Input<'h>
         ensures { result ≡ record {
           haystack = haystack.now;
@@ -317,14 +318,14 @@ impl<'h> Input<'h> {
         }
     }
 
-    /// Whether the setters of spans take this one.
+    /// Whether the setters of spans accept this span.
     pub fn allows(&self, start: usize, end: usize) -> bool
         ensures { IsTrue result ↔ Allows self.now.haystack start end }
     {
         end <= self.haystack.len() && start <= end + 1
     }
 
-    /// With this span of the haystack. By default it is the whole haystack. `allows` tests whether a span may be given.
+    /// Sets the span. By default it is the whole haystack. `allows` tests whether a span may be set.
     pub fn span(self, span: Span) -> Input<'h>
         requires { Allows self.haystack span.start span.end }
         ensures { result ≡ record self.entry { start = span.start; end = span.end } }
@@ -337,7 +338,7 @@ impl<'h> Input<'h> {
         }
     }
 
-    /// With the span of this range, if `allows` takes it.
+    /// Sets the span to this range. `allows` tests whether it may be set.
     pub fn range(self, range: Range<usize>) -> Input<'h>
         requires { Allows self.haystack range.start range.end }
         ensures { result ≡ record self.entry { start = range.start; end = range.end } }
@@ -348,7 +349,7 @@ impl<'h> Input<'h> {
         })
     }
 
-    /// With this mode. By default it is `Anchored::No`.
+    /// Sets the anchored mode. By default it is `Anchored::No`.
     pub fn anchored(self, mode: Anchored) -> Input<'h>
         ensures { result ≡ record self.entry { anchored = mode } }
     {
@@ -360,8 +361,8 @@ impl<'h> Input<'h> {
         }
     }
 
-    /// Whether a search may stop at the first end that it comes to. By default it may not. Where split places are
-    /// skipped, an earliest search does not tell whether there is a match: `Regex::is_match` does.
+    /// Sets whether a search may stop at the first match that it sees. By default it may not. If offsets inside
+    /// characters are skipped, an earliest search may miss that there is a match: call `Regex::is_match`.
     pub fn earliest(self, yes: bool) -> Input<'h>
         ensures { result ≡ record self.entry { earliest = yes } }
     {
@@ -373,7 +374,7 @@ impl<'h> Input<'h> {
         }
     }
 
-    /// Sets the span of one that is kept. It has to be one that `allows` takes.
+    /// Sets the span in place. `allows` tests whether it may be set.
     pub fn set_span(&mut self, span: Span)
         requires { Allows self.old.haystack span.start span.end }
         ensures { self.new ≡ record self.old { start = span.start; end = span.end } }
@@ -381,7 +382,7 @@ impl<'h> Input<'h> {
         self.span = span;
     }
 
-    /// The same by a range, which `allows` has to take too.
+    /// Sets the span to this range, in place. `allows` tests whether it may be set.
     pub fn set_range(&mut self, range: Range<usize>)
         requires { Allows self.old.haystack range.start range.end }
         ensures { self.new ≡ record self.old { start = range.start; end = range.end } }
@@ -408,21 +409,21 @@ impl<'h> Input<'h> {
         self.span.end = end;
     }
 
-    /// Sets the mode.
+    /// Sets the anchored mode in place.
     pub fn set_anchored(&mut self, mode: Anchored)
         ensures { self.new ≡ record self.old { anchored = mode } }
     {
         self.anchored = mode;
     }
 
-    /// Sets whether a search may stop at the first end that it comes to.
+    /// Sets in place whether a search may stop at the first match that it sees.
     pub fn set_earliest(&mut self, yes: bool)
         ensures { self.new ≡ record self.old { earliest = yes } }
     {
         self.earliest = yes;
     }
 
-    /// The whole haystack, not the span alone: looks see beyond the span.
+    /// The whole haystack, not the span alone: looks see the bytes beside the span.
     pub fn haystack(&self) -> &'h [u8]
         ensures same { result.now ≡ self.now.haystack }
         ensures bytes { IsHaystack self.now.haystack }
@@ -432,7 +433,7 @@ impl<'h> Input<'h> {
         self.haystack
     }
 
-    /// The offset of the span's first byte.
+    /// The start of the span.
     pub fn start(&self) -> usize
         ensures start { result ≡ self.now.start }
         ensures within { IsAllowed self.now }
@@ -440,7 +441,7 @@ impl<'h> Input<'h> {
         self.span.start
     }
 
-    /// The offset after the span's last byte.
+    /// The end of the span.
     pub fn end(&self) -> usize
         ensures end { result ≡ self.now.end }
         ensures within { IsAllowed self.now }
@@ -466,21 +467,21 @@ impl<'h> Input<'h> {
         self.span.start..self.span.end
     }
 
-    /// The mode: where a match may begin, and of which pattern.
+    /// The anchored mode: where a match may begin, and of which pattern.
     pub fn get_anchored(&self) -> Anchored
         ensures { result ≡ self.now.anchored }
     {
         self.anchored
     }
 
-    /// Whether a search may stop at the first end that it comes to.
+    /// Whether a search may stop at the first match that it sees.
     pub fn get_earliest(&self) -> bool
         ensures { result ≡ self.now.earliest }
     {
         self.earliest
     }
 
-    /// Whether there is nothing left to search, not even the empty string.
+    /// Whether there is nothing left to search, not even the empty string: the start is after the end.
     pub fn is_done(&self) -> bool
         ensures done { IsTrue result ↔ (self.now.end < self.now.start) }
         ensures within { IsAllowed self.now }
@@ -488,7 +489,7 @@ impl<'h> Input<'h> {
         self.span.start > self.span.end
     }
 
-    /// Whether no character is split there, in a haystack that is UTF-8.
+    /// Whether the offset is not inside a character, in a haystack that is UTF-8.
     pub fn is_char_boundary(&self, offset: usize) -> bool
         ensures { IsTrue result ↔ (offset ≤ length self.now.haystack) × (is_split self.now.haystack offset ≡ false) }
     {

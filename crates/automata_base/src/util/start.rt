@@ -4,7 +4,7 @@ ghost use Rattle.automata_base.specs.Lists.{nth};
 use crate::util::search::{Anchored, Input};
 use std::marker::Model;
 
-/// What a start state depends on: the byte before the search's start, in its direction, and the anchored mode.
+/// What a start state depends on: the look-behind byte and the anchored mode.
 #[derive(Clone, Copy, Debug)]
 pub struct Config {
     look_behind: Option<u8>,
@@ -26,7 +26,7 @@ impl Config {
     ghost use Rattle.automata_base.specs.Lists.{nth};
     ghost use Rattle.automata_base.specs.Tapes.{byte_before};
 
-    /// No byte before, and not anchored.
+    /// No look-behind byte, and not anchored.
     pub fn new() -> Config
         ensures { result ≡ record { look_behind = None; anchored = Anchored.No } }
     {
@@ -36,7 +36,7 @@ impl Config {
         }
     }
 
-    /// Of a forward search: the byte before the span, which may stand outside the span.
+    /// The configuration of a forward search. The look-behind byte is the one before the span, in the haystack.
     pub fn from_input_forward(input: &Input<'_>) -> Config
         ensures { result ≡ record {
           look_behind = byte_before input.now.haystack input.now.start;
@@ -55,7 +55,7 @@ impl Config {
         }
     }
 
-    /// Of a reverse search: the byte at the span's end.
+    /// The configuration of a reverse search. The look-behind byte is the one at the span's end, in the haystack.
     pub fn from_input_reverse(input: &Input<'_>) -> Config
         ensures { result ≡ record {
           look_behind = nth input.now.haystack input.now.end;
@@ -68,7 +68,7 @@ impl Config {
         }
     }
 
-    /// With this look-behind byte, or none, as at the haystack's edge.
+    /// Sets the look-behind byte, or none at the haystack's edge.
     pub fn look_behind(self, byte: Option<u8>) -> Config
         ensures { result ≡ record self { look_behind = byte } }
     {
@@ -78,7 +78,7 @@ impl Config {
         }
     }
 
-    /// With this mode.
+    /// Sets the anchored mode.
     pub fn anchored(self, mode: Anchored) -> Config
         ensures { result ≡ record self { anchored = mode } }
     {
@@ -95,7 +95,7 @@ impl Config {
         self.look_behind
     }
 
-    /// The mode of the search.
+    /// The anchored mode.
     pub fn get_anchored(&self) -> Anchored
         ensures { result ≡ self.now.anchored }
     {

@@ -1,4 +1,4 @@
-//! Calls of the library over one lazy automaton and its cache, and what they tell.
+//! Calls of the library over one lazy DFA and its cache, and what they report.
 
 ghost use Rattle.std.specs.Prelude.{◌≡◌, ◌<◌, ◌^◌, IsTrue};
 ghost use Rattle.regex_automata.specs.Caches.{IsCacheOf, HasRow};
@@ -18,60 +18,60 @@ use std::alloc::{AllocError, Global};
 /// A call.
 #[derive(Clone, Copy)]
 pub enum Call {
-    /// Searches a haystack, in the direction of the automaton.
+    /// Searches a haystack, in the direction of the NFA.
     Find(&'static str),
     FindEarliest(&'static str),
-    /// Searches a haystack from a place to a place.
+    /// Searches a haystack from an offset to an offset.
     FindIn(&'static str, usize, usize),
     FindAnchored(&'static str, usize, usize),
-    /// The same as `FindIn`, forward, with the place where the last of its searches began.
+    /// The same as `FindIn`, forward, with the offset where the last of its spans began.
     FindBased(&'static str, usize, usize),
     /// The start of a search of a haystack, and whether it has a tag.
     StartOn(Mode, &'static str),
-    /// The start that isn't anchored, behind this byte.
+    /// The unanchored start after this byte.
     Start(Option<u8>),
-    /// The start of a mode.
+    /// The start of an anchored mode.
     StartIn(Mode, Option<u8>),
     Step(u8),
     Steps(&'static str),
     End,
-    /// What is known of the step on a byte.
+    /// The cached step on a byte, if it is cached.
     Known(u8),
-    /// The state that was stepped to.
+    /// The state to which was stepped.
     State,
     /// Its patterns.
     Matched,
     /// How often the cache was cleared, its memory, the bytes searched, and whether a search is in progress.
     Counts,
-    /// The memory, and what the state is.
+    /// The memory, and the tags of the state.
     Brief,
     /// The start, each step and the end, in brief.
     Walk(&'static str),
-    /// The cache is replaced by a new one.
+    /// Replaces the cache by a new one.
     Replace,
     /// The same by `Cache::new`.
     ReplaceByNew,
     Reset,
     /// The same by `Cache::reset`.
     ResetByCache,
-    /// The cache is reset to the automaton of another entry, which takes the place of this one.
+    /// Resets the cache to the NFA of another entry, which replaces this one.
     ResetTo(Entry),
-    /// A search is in progress from an offset on, comes to one, and ends at one.
+    /// A search that is in progress from an offset, comes to an offset, and ends at one.
     Open(usize),
     MoveTo(usize),
     Close(usize),
-    /// How many patterns the automaton has.
+    /// How many patterns the NFA has.
     Patterns,
-    /// What the automaton takes beside its NFA.
+    /// The memory of the DFA beside its NFA.
     Memory,
     Classes,
-    /// The least capacity that the settings may ask for.
+    /// The least capacity that the settings may have.
     Minimum,
-    /// Whether a byte of memory is left.
+    /// Whether one byte can be allocated.
     Room,
 }
 
-/// A lazy automaton with a cache of its own, the state that was stepped to, and the states that were told.
+/// A lazy DFA with a cache of its own, the state to which was stepped, and the states that were reported.
 #[derive(Drop)]
 pub struct Bench {
     dfa: DFA,
@@ -100,7 +100,7 @@ impl Bench {
         &self.dfa
     }
 
-    /// What a call tells, whatever it changes.
+    /// What a call reports, whatever it changes.
     fn call(&mut self, alloc: Global, call: Call) -> Told {
         match call {
             Call::Find(haystack) => self.find(&Input::new(haystack.as_bytes())),
@@ -131,7 +131,7 @@ impl Bench {
         }
     }
 
-    /// A call that changes nothing of the cache.
+    /// A call that does not change the cache.
     fn ask(&mut self, alloc: Global, call: Call) -> Told {
         match call {
             Call::Known(byte) => self.known(byte),
@@ -147,7 +147,7 @@ impl Bench {
         }
     }
 
-    /// Searches in the direction of the automaton.
+    /// Searches in the direction of the NFA.
     pub fn search(&mut self, input: &Input<'_>) -> Result<Option<HalfMatch>, SearchError> {
         if self.dfa.get_nfa().is_reverse() {
             self.dfa.try_search_rev(&mut self.cache, input)
@@ -200,7 +200,7 @@ impl Bench {
         Ok(())
     }
 
-    /// Whether the state is still there. A clear can end it.
+    /// Whether the cache still has the state. A clear can end it.
     fn has_state(&self) -> bool
         ensures row { IsTrue result → HasRow self.now.cache.store.table self.now.at }
         ensures low { IsTrue result → self.now.at < 2 ^ 31 }
@@ -208,7 +208,7 @@ impl Bench {
         !self.at.is_unknown() && self.cache.is_valid(self.at)
     }
 
-    /// The step on a byte, from a state that is there.
+    /// The step on a byte, from a state that the cache has.
     pub fn step(&mut self, byte: u8) -> Result<(), StepError> {
         if self.has_state() {
             self.at = self.dfa.next_state(&mut self.cache, self.at, byte)?;
@@ -223,7 +223,7 @@ impl Bench {
         Ok(())
     }
 
-    /// The step on the haystack's end, from a state that is there.
+    /// The step on the haystack's end, from a state that the cache has.
     pub fn end(&mut self) -> Result<(), StepError> {
         if self.has_state() {
             self.at = self.dfa.next_eoi_state(&mut self.cache, self.at)?;
@@ -231,7 +231,7 @@ impl Bench {
         Ok(())
     }
 
-    /// What is known of the step on a byte, from a state that is there and has no tag.
+    /// The cached step on a byte, from a state that the cache has and that has no tag.
     fn known(&mut self, byte: u8) -> Told {
         if self.at.is_tagged() || !self.has_state() {
             return Told::Word("-");
@@ -313,7 +313,7 @@ impl Bench {
         }
     }
 
-    /// The state that was stepped to.
+    /// The state to which was stepped.
     pub fn id(&self) -> LazyStateID {
         self.at
     }
@@ -351,7 +351,7 @@ impl Bench {
         }
     }
 
-    /// Goes on over this automaton.
+    /// Goes on with this DFA.
     fn take(&mut self, dfa: DFA) -> Told {
         match dfa.reset_cache(&mut self.cache) {
             Ok(()) => {
@@ -410,7 +410,7 @@ pub fn counted(cache: &Cache) -> Counted {
     (cache.clear_count(), memory, searched)
 }
 
-/// An input over a part of a haystack, or over all of it where it has no such part.
+/// An input over a part of a haystack, or over all of it if it has no such part.
 pub fn within(haystack: &str, start: usize, end: usize) -> Input<'_> {
     let input = Input::new(haystack.as_bytes());
     if input.allows(start, end) {

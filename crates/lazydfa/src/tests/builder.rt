@@ -1,4 +1,4 @@
-//! Automata that are built state by state.
+//! NFAs that are built state by state.
 
 use super::plans::{Plan, Shape, id};
 use super::tells::{Caller, ONCE, Short, refuse_each};
@@ -11,7 +11,7 @@ use regex_automata::nfa::thompson::{BuildError, Builder, NFA, NfaError, State, T
 use regex_automata::util::primitives::{PatternID, StateID};
 use std::alloc::Global;
 
-/// Adds a match of the pattern, which begins where the automaton says.
+/// Adds a match of the pattern, which begins where the NFA says.
 fn accept(rt: &impl Host, builder: &mut Builder, nfa: &NFA, pattern: PatternID) -> StateID {
     let start = nfa.start_pattern(pattern).expect(rt, "a start");
     let begun = builder.start_pattern().expect(rt, "no other pattern");
@@ -67,7 +67,7 @@ fn add_all(rt: &impl Host, builder: &mut Builder, nfa: &NFA) {
     }
 }
 
-/// The same automaton by a builder.
+/// The same NFA by a builder.
 fn rebuilt(rt: &impl Host, nfa: &NFA) -> NFA {
     let mut builder = Builder::new(rt.alloc());
     add_all(rt, &mut builder, nfa);
@@ -93,7 +93,7 @@ fn rebuild(rt: &impl Host, nfa: &NFA, entry: Entry) {
     same_of(rt, &found, &told(rt, nfa), &entry);
 }
 
-/// Each automaton of the catalogue, state by state.
+/// Each NFA of the catalogue, state by state.
 #[test]
 fn rebuilds_the_catalogue(rt: HostRuntime) {
     for entry in Entry::ALL {
@@ -104,7 +104,7 @@ fn rebuilds_the_catalogue(rt: HostRuntime) {
     }
 }
 
-/// Adds `ab` behind any bytes, and builds it.
+/// Adds `ab` after any bytes, and builds it.
 fn build_ab(builder: &mut Builder) -> Result<NFA, BuildError> {
     builder.start_pattern()?;
     for (lo, hi, next) in [(b'a', b'a', 1u8), (b'b', b'b', 2)] {
@@ -152,7 +152,7 @@ impl Caller for Again {
         Ok(Again { builder })
     }
 
-    /// Whether `ab` that is built anew skips lazily.
+    /// Whether `ab`, built again, skips lazily.
     fn answer(&mut self, _alloc: Global, _call: ()) -> Told {
         self.builder.clear();
         match build_ab(&mut self.builder) {
@@ -163,7 +163,7 @@ impl Caller for Again {
     }
 }
 
-/// Each allocation fails in some turn. In the end the same builder builds.
+/// Each allocation fails in some turn. At last the same builder builds.
 #[rattlefmt::skip]
 const AGAIN: &[Short<(), ()>] = &[("a builder", (), "", &[], &[((), "true")], ONCE)];
 

@@ -1,4 +1,4 @@
-//! A caller of the library in full: it searches a text line by line. `docs/CALLING.md` goes over it.
+//! A whole caller of the library: it searches a text line by line.
 
 ghost use Rattle.std.specs.Prelude.{◌≤◌, length};
 ghost use Rattle.regex_automata.specs.Caches.{IsCacheOf};
@@ -12,7 +12,7 @@ use regex_automata::util::search::Input;
 use std::alloc::AllocError;
 use std::test::Fail;
 
-/// A DFA and a cache of it. The ghost field is the condition of every search, so that no method asks for it.
+/// A DFA and its cache. The ghost field is the condition of every search, so no method asks for it.
 #[derive(Drop)]
 struct LineSearcher {
     dfa: DFA,
@@ -59,7 +59,7 @@ impl LineSearcher {
     }
 }
 
-/// Where the line that begins at a place ends: at a line feed, or with the text.
+/// The end of the line that begins at an offset: a line feed, or the end of the text.
 fn line_end(text: &[u8], start: usize) -> usize
     requires { start ≤ length text.now }
     ensures from { start ≤ result }

@@ -1,4 +1,4 @@
-//! The settings and what they settle for an automaton, classes of bytes, and sets of patterns.
+//! The settings and what they settle for an NFA, classes of bytes, and sets of patterns.
 
 use super::plans::{Plan, Shape};
 use super::{Host, same_of};
@@ -11,7 +11,8 @@ use regex_automata::util::look::Look;
 use regex_automata::util::primitives::PatternID;
 use regex_automata::util::search::PatternSet;
 
-/// An option set in the new settings wins, one that is unset keeps the old; the quit set is one option.
+/// An option that is set in the new settings wins, and one that is not set keeps the old value; the quit set is one
+/// option.
 #[test]
 fn joins_settings(rt: HostRuntime) {
     let old = Config::new().quit(b'a', true).cache_capacity(7);
@@ -44,7 +45,7 @@ fn settles_settings(rt: HostRuntime) {
     same_of(&rt, &settled.capacity(), &2374, &"with no check");
 }
 
-/// What the row shows, the states, the quit bytes, and the bytes but for the first at which a class begins.
+/// What the row shows, the states, the quit bytes, and the bytes at which a class begins, without the first.
 type Parted = (&'static str, &'static [Shape], &'static str, &'static str);
 
 #[rattlefmt::skip]
@@ -67,7 +68,7 @@ fn parts_bytes(rt: HostRuntime) {
     }
 }
 
-/// The bytes at which a class begins, but for the first.
+/// The bytes at which a class begins, without the first.
 fn bounds(rt: &impl Host, nfa: &NFA, quit: &str) -> Vec<u8> {
     let classes = ByteClasses::of(nfa, &set_of(quit), true);
     let mut found = Vec::new(rt.alloc());
@@ -87,7 +88,7 @@ fn set_of(bytes: &str) -> [bool; 256] {
     set
 }
 
-/// Byte `a` leads to the match, and each other one back.
+/// Byte `a` leads to the match, and each other byte back.
 const DENSE: &[Shape] = &[Dense(&[(b'a', 1)]), Accept(0)];
 
 #[test]

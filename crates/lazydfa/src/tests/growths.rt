@@ -1,4 +1,4 @@
-//! Refused growths, by rows. Each test is a process of its own, so it may use up all memory for good.
+//! Allocations that fail, by rows. Each test is a process of its own, so it may use up all memory.
 
 use super::bench::{Bench, Call};
 use super::plans::{Mode, Shape};
@@ -16,7 +16,7 @@ use Over::{Span, Text};
 use Turn::{Begin, Fill, Insert, Match, Next, Switch, Which};
 use regex_automata::util::look::Look;
 
-/// Rows over a lazy automaton and its cache, and over a regex.
+/// Rows over a lazy DFA and its cache, and over a regex.
 type Lazy = Short<Automaton, Call>;
 
 type Regex = Short<Pair, Ask>;
@@ -34,10 +34,10 @@ const A16: Automaton = Forward(Entry::A16);
 /// Sixteen bytes.
 const AS: &str = "aaaaaaaaaaaaaaaa";
 
-/// The first call of a turn is refused.
+/// The first call of a turn fails.
 const AT_ONCE: &[Refusal] = &[(0, "memory")];
 
-/// What takes no memory.
+/// Calls that allocate nothing.
 #[rattlefmt::skip]
 const KNOWN: &[Lazy] = &[
     ("a search over known transitions grows nothing", AB, "limit=0", &[Find("ab")], &[(Find("ab"), "half 0 2"),
@@ -87,7 +87,8 @@ fn calls_after_each_refused_growth(rt: HostRuntime) {
     refuse_each::<Bench>(&rt, CALLS);
 }
 
-/// Starts by each call and of each mode, each with a step that is dead or not. Past the last pattern none is refused.
+/// Starts by each call and in each anchored mode, each with a step that is dead or not. Past the last pattern none
+/// fails.
 #[rattlefmt::skip]
 const STARTS: &[Lazy] = &[
     ("at each place", WORDS, "starts", &[], &[(StartIn(Every, None), "-"), (Brief, "753"), (Step(b'@'), "-"),
@@ -129,7 +130,7 @@ fn starts_after_each_refused_growth(rt: HostRuntime) {
 
 const OVER_WORDS: Walked = Walked(WORDS, Text("@a b"));
 
-/// Where memory is refused, a call has no match, and the next one has the pair that was owed.
+/// If memory runs out, a call has no match, and the next call has the one that was due.
 #[rattlefmt::skip]
 const WALKS: &[Walk] = &[
     ("over known transitions a walk takes no memory", Walked(Forward(Entry::Aa), Text("aa")), "all", &[Next, Next,
@@ -167,12 +168,12 @@ fn walks_after_each_refused_growth(rt: HostRuntime) {
 
 const FOO: &[u8] = b"@foo bar";
 
-/// Each of its items takes a new state, and so does the end.
+/// Each of its items needs a new state, and so does the end.
 const ITEMS: &[u8] = b"\xE2xaaa\xE2 a";
 
 const ITEMS_TOLD: &str = "0 0..0; 1 1..2; 0 3..3; 0 4..4; 0 6..6";
 
-/// Each of its tokens takes a new state. The last place has none.
+/// Each of its tokens needs a new state. The last offset has none.
 const TOKENS: &[u8] = b"1a23bc!";
 
 const TOKENS_TOLD: &str = "1 0..1; 0 1..2; 1 2..4; 0 4..6; no token at 6";

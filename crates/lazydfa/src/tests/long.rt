@@ -28,7 +28,7 @@ fn searches_a_long_chain(rt: HostRuntime) {
     same_of(&rt, &bench.totals(), &want, &"what is counted");
 }
 
-/// Searches, and looks where the last match ends.
+/// Searches, and looks at the offset where the last match ends.
 fn ends_at(rt: &impl Host, bench: &mut Bench, haystack: &[u8], end: usize) {
     let found = bench.search(&Input::new(haystack));
     let last = HalfMatch::new(PatternID::ZERO, end);
@@ -55,7 +55,7 @@ fn link(rt: &impl Host, states: &mut Vec<State>) {
     states.push(State::Match { pattern }).expect(rt, "memory");
 }
 
-/// Any bytes, an `a`, and eleven bytes more. Its states tell which of the last twelve bytes were `a`.
+/// Any bytes, an `a`, and eleven bytes more. Its states distinguish which of the last twelve bytes were `a`.
 #[rattlefmt::skip]
 const TWELFTH: Automaton = Automaton::Planned(&Plan {
     states: &[Either(1, 2), Range(0, 255, 0), Range(b'a', b'a', 3), Range(0, 255, 4), Range(0, 255, 5),
@@ -129,7 +129,7 @@ fn finds_dates(rt: &impl Host, haystack: &[u8]) -> Result<usize, SearchError> {
     count_dates(&regex, &mut cache, haystack)
 }
 
-/// How many dates are found, each eleven bytes behind the one before. Another match isn't counted.
+/// How many dates are found, each eleven bytes after the one before. Other matches are not counted.
 fn count_dates(regex: &Regex, cache: &mut Cache, haystack: &[u8]) -> Result<usize, SearchError>
     requires { AreCachesOf cache.old regex.now }
 {

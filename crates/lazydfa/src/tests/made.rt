@@ -1,4 +1,4 @@
-//! What is made of no cache: powerset states, automata that match always or never, sets, copies and replays.
+//! What is made without a cache: powerset states, DFAs that match always or never, sets, copies and replays.
 
 ghost use Rattle.std.specs.Prelude.{◌≡◌};
 
@@ -45,7 +45,7 @@ const CODED: &[Coded] = &[
     ("a Unicode word boundary is needed", &[0, 6], &[], 1 << 8, &[0, 0, 0, 0, 0, 0, 1, 0, 0, 0, 12]),
 ];
 
-/// The parts of a row, no look known and no flag set.
+/// The parts of a row, with no look known and no flag set.
 fn parts_of(rt: &impl Host, row: Coded) -> Parts {
     let patterns = patterns_of(rt, row.2);
     let (known, needed, word, half) = (0, row.3, false, false);
@@ -94,9 +94,9 @@ fn same_parts(rt: &impl Host, found: &Parts, want: &Parts, shows: &str) {
 /// A call.
 #[derive(Clone, Copy)]
 enum Lead {
-    /// New room to make states in.
+    /// New room in which states are made.
     Room,
-    /// The start of a mode, behind this byte.
+    /// The start of an anchored mode, after this byte.
     Start(Mode, Option<u8>),
     Step(u8),
     Steps(&'static str),
@@ -105,10 +105,10 @@ enum Lead {
     Is(&'static [u8]),
 }
 
-/// A row of calls to an automaton, of the kind that the options say.
+/// A row of calls over an NFA, with the match kind that the options say.
 type Row = RowOf<Automaton, Lead>;
 
-/// Of two patterns, with all ways on.
+/// An NFA of two patterns, with each kind of edge.
 const TWO: Lead = Is(&[
     3, 0, 0, 0, 0, 0, 0, 0, 0, 2, 0, 0, 0, 0, 0, 0, 0, 1, 0, 0, 0, 6, 2, 5, 2, 8,
 ]);
@@ -144,7 +144,7 @@ const LED: &[Row] = &[
         Is(&[8, 0, 0, 0, 0, 16, 0, 0, 0, 0, 6])], "-, true"),
 ];
 
-/// An automaton of a kind, the room to make its states in, and the state that was made last, at first the start.
+/// An NFA, a match kind, the room in which its states are made, and the state that was made last, at first the start.
 #[derive(Drop)]
 struct Maker {
     nfa: NFA,
@@ -166,7 +166,7 @@ impl Maker {
         Ok(())
     }
 
-    /// The state that the state leads to. One of another automaton leads to none.
+    /// The state to which the state leads. A state of another NFA leads to none.
     fn next(&mut self, unit: Option<u8>) -> Result<(), AllocError> {
         if !self.state.is_of(&self.nfa) {
             return Ok(());
@@ -233,7 +233,7 @@ fn makes_states_after_each_refused_growth(rt: HostRuntime) {
     refuse_each::<Maker>(&rt, SHORT);
 }
 
-/// A call that can be refused memory.
+/// A call that may run out of memory.
 #[derive(Clone, Copy)]
 enum Made {
     Always,

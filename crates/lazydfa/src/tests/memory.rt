@@ -1,4 +1,4 @@
-//! Refused growths in scripts, and what takes no memory. Each test may use up all memory for good.
+//! Scripts whose allocations fail, and calls that allocate nothing. Each test may use up all memory.
 
 use super::tells::Automaton::{Forward, Reverse};
 use super::tells::{Caller, Short, refuse_each};
@@ -15,7 +15,7 @@ use regex_automata::util::primitives::PatternID;
 use regex_automata::util::search::PatternSet;
 use std::alloc::Global;
 
-/// Settings and builders take no memory.
+/// Settings and builders allocate nothing.
 #[test]
 fn builds_without_memory(rt: HostRuntime) {
     let nfa = Forward(Entry::Bound).nfa(&rt);
@@ -28,7 +28,7 @@ fn builds_without_memory(rt: HostRuntime) {
     same_of(&rt, &found, &(13, true), &"classes, and no cache");
 }
 
-/// The least capacity that may be asked for, and the one that is settled.
+/// The least capacity that the settings may have, and the one that is settled.
 fn capacities(config: Config, nfa: &NFA) -> (Result<usize, BuildError>, Result<usize, BuildError>) {
     let settled = match config.settle(nfa) {
         Ok(settled) => Ok(settled.capacity()),
@@ -37,13 +37,13 @@ fn capacities(config: Config, nfa: &NFA) -> (Result<usize, BuildError>, Result<u
     (config.get_minimum_cache_capacity(nfa), settled)
 }
 
-/// How many classes of bytes there are, and whether a cache is refused.
+/// How many classes of bytes there are, and whether making a cache fails.
 fn classes(dfa: &DFA) -> (usize, bool) {
     let is_refused = dfa.create_cache().is_err();
     (dfa.byte_classes().alphabet_len(), is_refused)
 }
 
-/// A pattern is put into a set that has room without memory.
+/// Inserting a pattern into a set that has room allocates nothing.
 #[test]
 fn inserts_without_memory(rt: HostRuntime) {
     let mut set = PatternSet::new(rt.alloc(), 1).expect(&rt, "a set");
@@ -54,7 +54,7 @@ fn inserts_without_memory(rt: HostRuntime) {
     same_of(&rt, &(set.is_full(), refused), &(true, true), &"a set");
 }
 
-/// A regex takes over its automata.
+/// A regex takes over its NFAs.
 #[test]
 fn builds_regexes_without_memory(rt: HostRuntime) {
     let forward = Forward(Entry::Words).nfa(&rt);
@@ -66,7 +66,7 @@ fn builds_regexes_without_memory(rt: HostRuntime) {
     same_of(&rt, &found, &(2, false), &"a regex, and no cache");
 }
 
-/// Copies share what they are of.
+/// Copies share what they are copies of.
 #[test]
 fn copies_without_memory(rt: HostRuntime) {
     let dfa = Forward(Entry::Words).lazy(&rt, "");
@@ -77,7 +77,7 @@ fn copies_without_memory(rt: HostRuntime) {
     same_of(&rt, &copied, &want, &"copies, and no cache");
 }
 
-/// Whether there is a copy of the automaton, of the lazy one and of the walk, and a cache.
+/// Whether there is a copy of the NFA, of the lazy DFA and of the walk, and a cache.
 fn are_copied(dfa: &DFA, walk: &OverlappingState) -> (bool, bool, bool, bool) {
     let nfa = dfa.get_nfa().clone().is_ok();
     let lazy = dfa.clone().is_ok();
@@ -92,7 +92,7 @@ struct Runner {
     output: Sink,
 }
 
-/// What an output tells.
+/// What an output reports.
 #[rattlefmt::skip]
 const HEARD: &[(&str, &str)] = &[
     ("refused out of memory\n", "regex memory"), ("regex 0\nmemory\n", "request memory"),
@@ -132,8 +132,9 @@ impl Caller for Runner {
     }
 }
 
-/// What is refused is told, or the regex or the request in which it was refused says so; no other answer changes. A
-/// regex that was refused is seen without a request alone: what it gives back does not serve the request behind it.
+/// A failed allocation is reported, or the regex or the request in which it failed says so; no other answer changes. A
+/// regex that could not be built shows itself without a request: the memory that it gives back does not help the next
+/// request.
 #[rattlefmt::skip]
 const RUNS: &[Short<&'static str, ()>] = &[
     ("forward", "regex words\nfwd 6162\n", "", &[], &[((), "half 0 2")], &[(0, "run memory"), (0, "request memory")]),

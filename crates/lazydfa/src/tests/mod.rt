@@ -1,4 +1,4 @@
-//! What no contract says: the answers of worked examples, the texts, and how a script runs.
+//! What no contract says: the answers of worked examples, texts, and how a script runs.
 
 use crate::error::RunError;
 use crate::run::run;
@@ -35,7 +35,7 @@ mod walk_paths;
 mod walker;
 mod walks;
 
-/// What a helper takes: it ends the process where something fails, and it allocates.
+/// What a helper needs: it ends the process if something fails, and it allocates.
 trait Host: Abort + AllocGlobal {}
 
 impl<R: Abort + AllocGlobal> Host for R {}
@@ -113,12 +113,12 @@ impl Write for Sink {
     }
 }
 
-/// Stops the test unless what was found is what is wanted, and tells what the values belong to.
+/// Stops the test unless what was found is what is wanted, and names what the values belong to.
 fn same_of<T: PartialEq + Debug, D: Debug>(rt: &impl Host, found: &T, want: &T, of: &D) {
     assert_eq!(rt; found, want, "{of:?}");
 }
 
-/// As `same_of`, of texts.
+/// The same as `same_of`, for texts.
 fn same_text(rt: &impl Host, found: &str, want: &str, of: &str) {
     assert_eq!(rt; found, want, "{of}");
 }
@@ -128,7 +128,7 @@ fn check(rt: &impl Host, is_right: bool) {
     assert!(rt; is_right, "another answer");
 }
 
-/// Takes all memory that is left, and keeps it: from here on each growth is refused.
+/// Takes all memory that is left, and keeps it: from here on each allocation fails.
 fn exhaust(alloc: Global) {
     let mut size = 1usize << 46;
     for _ in 0..u64::MAX {

@@ -1,4 +1,4 @@
-//! What automata say of themselves, and malformed ones.
+//! What NFAs say of themselves, and malformed ones.
 
 use super::plans::{Plan, Shape};
 use super::{Host, check, same_of};
@@ -14,7 +14,7 @@ const EMPTY: &[Entry] = &[
     Entry::Always, Entry::Empty, Entry::Snow, Entry::Snowx, Entry::Bound, Entry::Crlf, Entry::Any,
 ];
 
-/// What the automata of the catalogue say of themselves. Only `any` reads bytes in UTF-8 mode that are not UTF-8.
+/// What the NFAs of the catalogue say of themselves. Only `any` reads bytes in UTF-8 mode that are not UTF-8.
 #[test]
 fn describes_the_catalogue(rt: HostRuntime) {
     for entry in Entry::ALL {
@@ -23,7 +23,7 @@ fn describes_the_catalogue(rt: HostRuntime) {
     }
 }
 
-/// It tells whether the automaton is in UTF-8 mode, and how many patterns there are.
+/// Returns whether the NFA is in UTF-8 mode, and how many patterns there are.
 fn describe_forward(rt: &impl Host, entry: Entry) -> (bool, usize) {
     let nfa = entry.forward(rt.alloc()).expect(rt, "an entry");
     let is_empty = EMPTY.contains(&entry);
@@ -71,7 +71,7 @@ fn tells_lazy_skipping(rt: HostRuntime) {
     }
 }
 
-/// What the row shows, the states, and whether no cycle of edges that read nothing passes a look.
+/// What the row shows, the states, and whether no cycle of epsilon edges passes a look.
 type Cycle = (&'static str, &'static [Shape], bool);
 
 #[rattlefmt::skip]
@@ -94,7 +94,7 @@ fn tells_cycles_of_looks(rt: HostRuntime) {
     }
 }
 
-/// An automaton whose starts part behind the anchored one.
+/// An NFA whose starts part after the anchored one.
 #[rattlefmt::skip]
 const EAGER: Plan = Plan {
     states: &[Range(b'a', b'a', 1), Either(2, 3), Accept(0), Either(0, 4), Range(0x00, 0xFF, 3)], starts: (0, 3),
@@ -112,8 +112,8 @@ fn tells_eager_skipping(rt: HostRuntime) {
     same_of(&rt, &start, &Some(StateID::ZERO), &"a start");
 }
 
-/// What the row shows, the states, where all starts are, and why the automaton is refused. Each
-/// test of the door stands here, the ones before it being passed, and those behind it not.
+/// What the row shows, the states, where all starts are, and the error of `NFA::from_states`. Each of its tests has a
+/// row here: the tests before it pass, and those after it do not.
 type Refused = (
     &'static str,
     &'static [Shape],

@@ -12,7 +12,7 @@ use regex_automata::util::search::{Anchored, HalfMatch, Input, MatchError};
 /// What a search answers.
 type Answer = Result<Option<HalfMatch>, SearchError>;
 
-/// A refused step, at an offset.
+/// The error of a step, at an offset.
 fn refused(error: StepError, at: usize) -> SearchError {
     match error {
         StepError::Cache(_) => SearchError::Match(MatchError::gave_up(at)),
@@ -20,7 +20,7 @@ fn refused(error: StepError, at: usize) -> SearchError {
     }
 }
 
-/// The step on a byte. A quit byte and a refusal are each told at an offset.
+/// The step on a byte. A quit byte and an error are each reported at an offset.
 fn step(bench: &mut Bench, byte: u8, quit_at: usize, at: usize) -> Result<(), SearchError> {
     if let Err(error) = bench.step(byte) {
         return Err(refused(error, at));
@@ -49,7 +49,7 @@ fn read_end(bench: &mut Bench, at: usize) -> Result<(), SearchError> {
     }
 }
 
-/// What was found last, once a state tells its patterns at an offset.
+/// What was found last, once a state has reported its patterns at an offset.
 fn found_at(bench: &Bench, at: usize, found: Option<HalfMatch>) -> Option<HalfMatch> {
     match bench.first_pattern() {
         Some(pattern) => Some(HalfMatch::new(pattern, at)),
@@ -112,7 +112,7 @@ fn end_pass(bench: &mut Bench, input: &Input<'_>, found: Option<HalfMatch>) -> A
     end_reverse(bench, input, found)
 }
 
-/// The step behind the span.
+/// The step after the span.
 fn end_forward(bench: &mut Bench, input: &Input<'_>, found: Option<HalfMatch>) -> Answer {
     let end = input.end();
     match input.haystack().get(end) {
@@ -139,13 +139,13 @@ fn end_reverse(bench: &mut Bench, input: &Input<'_>, found: Option<HalfMatch>) -
     Ok(found_at(bench, start, found))
 }
 
-/// Whether a match at an offset is left out.
+/// Whether a match at an offset is skipped.
 fn skips(bench: &Bench, input: &Input<'_>, offset: usize) -> bool {
     let nfa = bench.dfa().get_nfa();
     nfa.is_utf8() && nfa.has_empty() && !input.is_char_boundary(offset)
 }
 
-/// The span that is tried where a match was left out.
+/// The span that is tried after a match was skipped.
 fn next_span<'h>(input: &Input<'h>, is_reverse: bool) -> Option<Input<'h>> {
     if input.get_anchored() != Anchored::No {
         return None;
@@ -181,7 +181,7 @@ fn find_by_steps(bench: &mut Bench, input: &Input<'_>) -> Answer {
     Ok(None)
 }
 
-/// What a cache has been through before a search.
+/// What a cache was used for before a search.
 #[derive(Clone, Copy, Debug, PartialEq, Eq)]
 enum History {
     /// Nothing; and once more, the same search.
@@ -192,13 +192,13 @@ enum History {
     All,
 }
 
-/// Settings as a script has them, and what a cache has been through.
+/// Settings as a script has them, and what a cache was used for.
 type Run = (&'static str, History);
 
 /// What is compared: an entry in a run.
 type Of = (Entry, Run);
 
-/// Two caches of one automaton, for the search and for the loop.
+/// Two caches of one DFA, for the search and for the loop.
 #[derive(Drop)]
 struct Pair {
     search: Bench,
@@ -225,7 +225,7 @@ impl Pair {
         same_of(rt, &found, &want, &(of, input));
     }
 
-    /// A search behind what its history has.
+    /// A search after what its history has.
     fn compare_behind(&mut self, rt: &impl Host, input: &Input<'_>, of: &Of) {
         let (_, (_, history)) = of;
         if *history == History::Fresh {
@@ -262,7 +262,7 @@ impl Pair {
         }
     }
 
-    /// Each long haystack that has the second letter from a place to a place, and the first around it.
+    /// Each long haystack that has the second letter from one position to another, and the first around it.
     fn compare_long(&mut self, rt: &impl Host, letters: [u8; 2], of: &Of) {
         for end in 0..LONG + 1 {
             for start in 0..end + 1 {
@@ -272,7 +272,7 @@ impl Pair {
         }
     }
 
-    /// The whole of a haystack in each mode.
+    /// The whole of a haystack in each anchored mode.
     fn compare_modes(&mut self, rt: &impl Host, haystack: &[u8], of: &Of) {
         for (mode, earliest) in MODES {
             let input = Input::new(haystack).anchored(mode).earliest(earliest);
@@ -281,7 +281,7 @@ impl Pair {
     }
 }
 
-/// The second letter from a place to a place, and the first around it.
+/// The second letter from one position to another, and the first around it.
 fn long([around, within]: [u8; 2], start: usize, end: usize) -> [u8; LONG] {
     let mut haystack = [around; LONG];
     for place in start..end.min(LONG) {
@@ -293,13 +293,13 @@ fn long([around, within]: [u8; 2], start: usize, end: usize) -> [u8; LONG] {
 /// How many bytes the longest haystack of all letters has.
 const LONGEST: usize = 9;
 
-/// How many bytes a haystack has that self-loops and runs of matches are followed over.
+/// How many bytes a haystack has over which self-loops and runs of matches are followed.
 const LONG: usize = 26;
 
-/// An entry, and two bytes: of different classes, where it has them.
+/// An entry, and two bytes: of different classes, if it has several.
 type Letters = (Entry, [u8; 2]);
 
-/// Entries without looks, with looks, and in UTF-8 mode where they may match nothing, and one of any bytes.
+/// Entries without looks, with looks, in UTF-8 mode if they may match nothing, and one of any bytes.
 #[rattlefmt::skip]
 const ENTRIES: &[Letters] = &[
     (Entry::Ab, *b"ab"), (Entry::Always, *b"ab"), (Entry::Never, *b"ab"), (Entry::Date, *b"1-"),
@@ -308,7 +308,7 @@ const ENTRIES: &[Letters] = &[
     (Entry::Empty, *b"a\x83"), (Entry::Snow, *b"x\x83"), (Entry::Snowx, *b"x\x83"), (Entry::Any, *b"a\x83"),
 ];
 
-/// At the default capacity, with no clear count that a refusal waits for, and with one.
+/// At the default capacity, without a clear count at which a search gives up, and with one.
 #[rattlefmt::skip]
 const AMPLE: &[Run] = &[("unicode", Fresh), ("unicode limit=1", Fresh)];
 
@@ -336,7 +336,7 @@ enum Texts {
     Long,
 }
 
-/// Each entry, by its automata of both directions.
+/// Each entry, by its NFAs of both directions.
 fn compare_all(rt: &impl Host, texts: Texts, runs: &[Run]) {
     for (entry, letters) in ENTRIES {
         for run in runs {

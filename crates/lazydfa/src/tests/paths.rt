@@ -1,5 +1,5 @@
-//! A slow search that lists the paths of an automaton one by one, beside the search of the lazy
-//! automaton. An automaton for reverse searches is walked from the span's end to its start.
+//! A slow search that lists the paths of an NFA one by one, beside the search of the lazy DFA. An NFA for reverse
+//! searches is walked from the span's end to its start.
 
 use super::Host;
 use crate::catalogue::Entry;
@@ -17,8 +17,8 @@ type Open = Vec<Vec<Stand>>;
 /// An accepting path: its pattern and end, and its start.
 pub type Path = (HalfMatch, usize);
 
-/// The answer of a search: what is selected over the span, or where that splits a character and
-/// the automaton is in UTF-8 mode and has an empty match, over the span without its first place.
+/// The answer of a search: what is selected over the span; or, if that is inside a character, and the NFA is in UTF-8
+/// mode and has the empty match, over the span without its first place.
 pub fn answer(rt: &impl Host, nfa: &NFA, kind: MatchKind, input: &Input<'_>) -> Option<Path> {
     let haystack = input.haystack();
     let skips = nfa.is_utf8() && nfa.has_empty();
@@ -95,7 +95,7 @@ fn listed(rt: &impl Host, nfa: &NFA, input: &Input<'_>) -> Vec<Path> {
     found
 }
 
-/// What a path tells where it stands on a match.
+/// What a path reports if it stands on a match.
 fn accepted(nfa: &NFA, input: &Input<'_>, path: &[Stand]) -> Option<Path> {
     let (state, place) = *path.last()?;
     match nfa.states().get(state.as_usize())? {
@@ -107,7 +107,7 @@ fn accepted(nfa: &NFA, input: &Input<'_>, path: &[Stand]) -> Option<Path> {
     }
 }
 
-/// The path longer by each of its edges, but for those to where it was, the preferred one last.
+/// The path made longer by each of its edges, except those to where it was, the preferred one last.
 fn go_on(rt: &impl Host, nfa: &NFA, input: &Input<'_>, path: &Vec<Stand>, open: &mut Open) {
     if let Some(stand) = path.last().copied() {
         let mut next = Vec::new(rt.alloc());
@@ -120,7 +120,7 @@ fn go_on(rt: &impl Host, nfa: &NFA, input: &Input<'_>, path: &Vec<Stand>, open: 
     }
 }
 
-/// Where a path starts: its first place where it is anchored, else where it first stands on the anchored start.
+/// Where a path starts: its first place if it is anchored, otherwise where it first stands on the anchored start.
 fn start_of(nfa: &NFA, input: &Input<'_>, path: &[Stand]) -> usize {
     let is_anchored = input.get_anchored() != Anchored::No;
     for row in path {
@@ -154,7 +154,7 @@ fn longer(rt: &impl Host, path: &Vec<Stand>, next: Stand) -> Vec<Stand> {
     longer
 }
 
-/// The byte walked over last, the one that comes next, that one as far as the span goes, and the place behind.
+/// The byte that was read last, the next one, the next one of the span, and the place after.
 #[derive(Clone, Copy)]
 struct Sides {
     before: Option<u8>,
@@ -200,7 +200,7 @@ fn list_edges(rt: &impl Host, nfa: &NFA, input: &Input<'_>, from: Stand, next: &
     }
 }
 
-/// The one or two states that a state leads to without a byte, a union of many apart.
+/// The one or two states to which a state leads without a byte, unless it is a union of many.
 fn reads_nothing(nfa: &NFA, state: &State, at: Sides) -> [Option<StateID>; 2] {
     match state {
         State::Look { look, next } if holds(nfa, *look, at.before, at.after) => {
@@ -260,7 +260,7 @@ fn crlf(nfa: &NFA) -> (u8, u8) {
     }
 }
 
-/// Behind a CRLF, or one of its bytes alone.
+/// After a CRLF, or after one of its bytes alone.
 fn starts_line(nfa: &NFA, before: Option<u8>, after: Option<u8>) -> bool {
     let (first, second) = crlf(nfa);
     match before {
@@ -282,10 +282,10 @@ fn is_word(byte: Option<u8>) -> bool {
     byte.is_some_and(|byte| byte.is_ascii_alphanumeric() || byte == b'_')
 }
 
-/// Three pieces to make haystacks of. The first two are of different classes, where there are several.
+/// Three pieces of which haystacks are made. The first two are of different classes, if there are several.
 pub type Pieces = [&'static [u8]; 3];
 
-/// An entry, pieces to make haystacks of, and how many bytes these have at most.
+/// An entry, the pieces of its haystacks, and how many bytes these have at most.
 pub type Row = (Entry, Pieces, usize);
 
 #[rattlefmt::skip]
@@ -335,7 +335,8 @@ pub const MODES: [(Anchored, bool); 5] = [
     (Anchored::Pattern(PatternID::ZERO), false),
 ];
 
-/// All haystacks of up to six of the first two pieces, and of up to four of all three, that have no more bytes.
+/// All haystacks of up to six of the first two pieces, and of up to four of all three, that have no more than so many
+/// bytes.
 pub fn haystacks(rt: &impl Host, pieces: Pieces, most: usize) -> Vec<Vec<u8>> {
     let mut haystacks = Vec::new(rt.alloc());
     for (choices, lengths) in [(2usize, 7usize), (3, 5)] {
@@ -353,7 +354,7 @@ pub fn haystacks(rt: &impl Host, pieces: Pieces, most: usize) -> Vec<Vec<u8>> {
     haystacks
 }
 
-/// The pieces that the digits of a number to the base of their count stand for, the last digit first.
+/// The pieces for the digits of a number to the base of their count, the last digit first.
 pub fn spell(rt: &impl Host, number: usize, length: usize, pieces: &[&[u8]]) -> Vec<u8> {
     let mut haystack = Vec::new(rt.alloc());
     let mut rest = number;

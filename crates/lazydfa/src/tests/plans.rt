@@ -1,4 +1,4 @@
-//! Automata that are in no catalogue, by tables of their states.
+//! NFAs that are not in the catalogue, by tables of their states.
 
 use super::Host;
 use regex_automata::nfa::thompson::{Flags, NFA, NfaError, State, Transition};
@@ -9,11 +9,11 @@ use regex_automata::util::search::Anchored;
 /// Which searches a start is for.
 #[derive(Clone, Copy)]
 pub enum Mode {
-    /// Those that begin at each place.
+    /// Searches that begin at each place.
     Every,
-    /// Those that begin at the first place alone.
+    /// Searches that begin at the first place alone.
     First,
-    /// Those for one pattern.
+    /// Searches for one pattern.
     Of(u8),
 }
 
@@ -27,7 +27,7 @@ impl Mode {
     }
 }
 
-/// A state. The last number names the state that comes next; of `Accept` it is the pattern.
+/// A state. The last number names the next state; for `Accept` it is the pattern.
 #[derive(Clone, Copy)]
 pub enum Shape {
     /// The bytes from the first to the second.
@@ -36,7 +36,7 @@ pub enum Shape {
     Sparse(&'static [(u8, u8, u8)]),
     /// These bytes, and each other one to state 0.
     Dense(&'static [(u8, u8)]),
-    /// The first, or else the second.
+    /// A union: the first state is preferred to the second.
     Either(u8, u8),
     /// No state at all.
     Union,
@@ -45,7 +45,7 @@ pub enum Shape {
     Accept(u8),
 }
 
-/// The states of an automaton, its anchored and its unanchored start, and the starts of its patterns.
+/// The states of an NFA, its anchored and its unanchored start, and the starts of its patterns.
 #[derive(Clone, Copy)]
 pub struct Plan {
     pub states: &'static [Shape],
@@ -64,7 +64,7 @@ impl Plan {
         Plan::new(states, (0, unanchored), &[0])
     }
 
-    /// The automaton, if the door lets it in.
+    /// The NFA, if `NFA::from_states` accepts it.
     pub fn door(&self, rt: &impl Host) -> Result<NFA, NfaError> {
         let patterns = ids_of(rt, self.patterns);
         let states = states_of(rt, self.states);
@@ -79,7 +79,7 @@ impl Plan {
     }
 }
 
-/// A state, and behind it nineteen bytes `a` to the one match. All starts are at the first.
+/// A state, and after it nineteen bytes `a` to the one match. All starts are at the first.
 pub fn chain(rt: &impl Host, first: Shape) -> NFA {
     let starts = ids_of(rt, &[0]);
     let states = chained(rt, first);

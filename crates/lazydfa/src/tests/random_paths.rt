@@ -1,4 +1,4 @@
-//! Two hundred automata of a fixed generator, searched beside their listed paths: plain, by walks and by sets.
+//! Two hundred NFAs of a fixed generator, searched beside their listed paths: plain, by walks and by sets.
 
 use super::paths::{MODES, half};
 use super::plans::{capture, dense, id, pattern_id};
@@ -34,7 +34,7 @@ impl Dice {
     }
 }
 
-/// Three bytes, in order, the looks of automata over them, and what these say of themselves.
+/// Three bytes, in order, the looks of NFAs over them, and the flags of these.
 #[derive(Clone, Copy)]
 struct Alphabet {
     letters: [u8; 3],
@@ -51,7 +51,7 @@ const LOOKS: &[Look] = &[
         Look::WordStartHalfUnicode, Look::WordEndHalfUnicode,
 ];
 
-/// Those that no byte beside ASCII is refused for.
+/// Letters and looks with which no byte above 0x7F is a quit byte.
 #[rattlefmt::skip]
 const ASCII_LOOKS: &[Look] = &[
     Look::Start, Look::End, Look::StartLF, Look::EndLF, Look::StartCRLF, Look::EndCRLF, Look::WordAscii,
@@ -76,7 +76,7 @@ const WORDS: Alphabet = Alphabet { letters: *b"!Aa", utf8: true, line_terminator
 #[rattlefmt::skip]
 const CHARACTERS: Alphabet = Alphabet { letters: *b"a\xA9\xC3", looks: ASCII_LOOKS, utf8: true, ..LINES };
 
-/// Makes the parts of an automaton, by numbers that start at the automaton's own.
+/// Makes the parts of an NFA, by numbers that start at the NFA's own.
 #[derive(Clone, Copy)]
 struct Maker {
     dice: Dice,
@@ -203,7 +203,7 @@ impl Maker {
         states
     }
 
-    /// Where searches start that aren't anchored: at the anchored start, anywhere, or where bytes are skipped.
+    /// Where unanchored searches start: at the anchored start, anywhere, or after bytes that are skipped.
     fn unanchored(
         &mut self,
         rt: &impl Host,
@@ -241,7 +241,7 @@ impl Maker {
     }
 }
 
-/// Haystacks, by the places of their letters in the alphabet.
+/// Haystacks, by the positions of their letters in the alphabet.
 #[rattlefmt::skip]
 const HAYSTACKS: [&[usize]; 7] = [
     &[], &[0], &[1, 2], &[2, 0, 1], &[1, 2, 2, 0], &[2, 2, 1, 0, 2], &[0, 1, 1, 2, 0, 2],
@@ -279,7 +279,7 @@ impl Tally {
     }
 }
 
-/// The whole of a haystack, and without its first byte, its last, or both, in each mode.
+/// The whole of a haystack, and without its first byte, its last, or both, in each anchored mode.
 fn compare_haystack(rt: &impl Host, listed: &mut Listed, haystack: &[u8], tally: &mut Tally) {
     for (start, behind) in [(0usize, 0usize), (1, 0), (0, 1), (1, 1)] {
         let end = haystack.len().saturating_sub(behind);
@@ -308,7 +308,7 @@ fn compare(rt: &impl Host, listed: &mut Listed, input: &Input<'_>, tally: &mut T
     tally.count_pairs(listed.want.len());
 }
 
-/// What is said of ends where a cycle of edges that read nothing passes a look. It tells the answer by the paths.
+/// What is known of ends if a cycle of epsilon edges passes a look. It returns the answer by the paths.
 fn compare_ends(rt: &impl Host, listed: &mut Listed, input: &Input<'_>) -> Half {
     let dfa = listed.ample.dfa();
     let kind = dfa.get_config().get_match_kind();
@@ -339,7 +339,7 @@ fn end_of(half: &Half) -> Option<usize> {
     }
 }
 
-/// What is said of walks there: under kind all, the pairs of all paths.
+/// What is known of walks there: under `MatchKind::All`, the pairs of all paths.
 fn compare_members(rt: &impl Host, listed: &mut Listed, input: &Input<'_>) {
     let dfa = listed.ample.dfa();
     let kind = dfa.get_config().get_match_kind();
@@ -361,7 +361,7 @@ fn same_members(rt: &impl Host, listed: &Listed, input: &Input<'_>) {
     }
 }
 
-/// Forty automata from this number on, in both directions and of both kinds, and what is counted of their paths.
+/// Forty NFAs from this number on, in both directions and of both match kinds, and what is counted of their paths.
 fn agree(rt: &impl Host, first: u8, alphabet: Alphabet, counted: (usize, usize, usize)) {
     let mut tally = Tally::default();
     for number in first..first.saturating_add(40) {

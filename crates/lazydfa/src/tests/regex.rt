@@ -1,4 +1,4 @@
-//! The calls of a regex over one cache, by rows with what they tell.
+//! The calls of a regex over one cache, by rows with what they report.
 
 ghost use Rattle.std.specs.Prelude.{◌≡◌};
 ghost use Rattle.regex_automata.specs.RegexCaches.{AreCachesOf};
@@ -27,7 +27,7 @@ const WORDS: &[u8] = b"@foo bar";
 /// Three times sixteen bytes.
 const SIXTEENS: &[u8] = b"aaaaaaaaaaaaaaaaaaaaaaaaaaaaaaaaaaaaaaaaaaaaaaaa";
 
-/// Each call that may be refused memory, in ample memory.
+/// Each call that may run out of memory, in ample memory.
 #[rattlefmt::skip]
 const AMPLE: &[Row] = &[
     ("create_cache", Of(Entry::Ab), "", &[Memory], "670 335 335"),
@@ -66,7 +66,7 @@ const RUN: Plan = Plan {
         Shape::Either(0, 3)], starts: (0, 4), patterns: &[0],
 };
 
-/// The same read backward, by an automaton in which a cycle passes a look.
+/// The same read backward, by an NFA with a look cycle.
 #[rattlefmt::skip]
 const RUN_BACK_LOOPED: Plan = Plan {
     states: &[Shape::Either(1, 2), Shape::Assert(Look::WordAsciiNegate, 0), Shape::Range(b'a', b'a', 3),

@@ -1,4 +1,4 @@
-//! Calls of the library over one regex and its cache, and what they tell.
+//! Calls of the library over one regex and its cache, and what they report.
 
 ghost use Rattle.std.specs.Prelude.{◌≡◌};
 ghost use Rattle.regex_automata.specs.RegexCaches.{AreCachesOf};
@@ -17,7 +17,7 @@ use regex_automata::tokens::{TokenError, Tokens};
 use regex_automata::util::search::{Input, Match};
 use std::alloc::{AllocError, Global};
 
-/// Two automata for a regex.
+/// Two NFAs for a regex.
 #[derive(Clone, Copy)]
 pub enum Pair {
     /// Those of an entry.
@@ -26,9 +26,9 @@ pub enum Pair {
     Mixed(Entry, Entry),
     /// The forward one of an entry, and a reverse one of one pattern that it never matches.
     Barren(Entry),
-    /// Those of an entry as lazy automata, the reverse one of kind all.
+    /// Those of an entry as lazy DFAs, the reverse one of `MatchKind::All`.
     Joined(Entry),
-    /// Two that are in no catalogue, the forward one first.
+    /// Two that are not in the catalogue, the forward one first.
     Planned(&'static Plan, &'static Plan),
 }
 
@@ -52,7 +52,7 @@ impl Pair {
         }
     }
 
-    /// The regex with these options, or why it is refused.
+    /// The regex with these options, or why it cannot be built.
     pub fn build(self, rt: &impl Host, options: &str) -> Result<Regex, BuildError> {
         if let Pair::Joined(entry) = self {
             return Ok(joined(rt, entry));
@@ -65,13 +65,13 @@ impl Pair {
             .build_from_nfas(forward, reverse)
     }
 
-    /// The regex, which isn't refused.
+    /// The regex, which can be built.
     pub fn regex(self, rt: &impl Host, options: &str) -> Regex {
         self.build(rt, options).expect(rt, "a regex")
     }
 }
 
-/// A regex of two lazy automata that are there.
+/// A regex of two lazy DFAs.
 fn joined(rt: &impl Host, entry: Entry) -> Regex {
     let forward = Automaton::Forward(entry).lazy(rt, "");
     let reverse = Automaton::Reverse(entry).lazy(rt, "all");
@@ -79,7 +79,7 @@ fn joined(rt: &impl Host, entry: Entry) -> Regex {
     Builder::default().build_from_dfas(forward, reverse)
 }
 
-/// One state, which leads nowhere.
+/// One state, which has no edges.
 #[rattlefmt::skip]
 const BARREN: Plan = Plan { states: &[Shape::Union], starts: (0, 0), patterns: &[0] };
 
@@ -87,7 +87,7 @@ const BARREN: Plan = Plan { states: &[Shape::Union], starts: (0, 0), patterns: &
 #[derive(Clone, Copy)]
 pub enum Ask {
     Find(&'static [u8]),
-    /// Searches from each of these places on, anchored or not.
+    /// Searches from each of these offsets on, anchored or not.
     Learn(&'static [u8], &'static [usize], Mode),
     /// The same as `Find`, by `try_search`.
     Search(&'static [u8]),
@@ -95,7 +95,7 @@ pub enum Ask {
     Is(&'static [u8]),
     /// The first eight items of an iteration.
     Items(&'static [u8]),
-    /// The first eight tokens from a place on.
+    /// The first eight tokens from an offset on.
     Tokens(&'static [u8], usize),
     /// A search by a part of the cache that is lent for writing.
     Forward(&'static [u8]),
@@ -110,7 +110,7 @@ pub enum Ask {
     ResetByCache,
     ResetForward,
     ResetReverse,
-    /// The same as `Reset`. Where that is refused, a search that is known is made again.
+    /// The same as `Reset`. If that fails, a search for which all is cached is made again.
     ResetOrFind(&'static [u8]),
     /// The memory of the cache, and of each part.
     Memory,
@@ -132,7 +132,7 @@ fn item_of(item: Option<Result<Match, SearchError>>) -> Item {
     }
 }
 
-/// The next token as an item. One whose bytes aren't those of its span is told as none.
+/// The next token as an item. A token whose bytes are not those of its span is reported as none.
 fn next_token(tokens: &mut Tokens<'_, '_, '_>, haystack: &[u8]) -> Item
     ensures same_cache { tokens.new.cache.ghost_name ≡ tokens.old.cache.ghost_name }
     ensures regex { tokens.new.regex.now ≡ tokens.old.regex.now }
@@ -236,7 +236,7 @@ impl RegexBench {
         [a, b, c, d, e, f, g, h].map(item_of)
     }
 
-    /// The first eight tokens from a place on.
+    /// The first eight tokens from an offset on.
     fn first_tokens(&mut self, haystack: &[u8], start: usize) -> [Item; 8] {
         let mut tokens = self.regex.tokens(&mut self.cache, from(haystack, start));
         [
@@ -269,7 +269,7 @@ impl RegexBench {
         Told::of_half(dfa.try_search_rev(self.cache.reverse_mut(), input))
     }
 
-    /// Where the forward part can be made, it is the reverse one that is refused.
+    /// If the forward part can be made, making the reverse one fails.
     fn replace(&mut self) -> Told {
         if let Ok(cache) = self.regex.create_cache() {
             self.cache = cache;
@@ -352,7 +352,7 @@ impl Caller for RegexBench {
     }
 }
 
-/// A haystack from a place on.
+/// A haystack from an offset on.
 fn from<'h>(haystack: &'h [u8], start: usize) -> Input<'h> {
     let input = Input::new(haystack);
     if !input.allows(start, haystack.len()) {

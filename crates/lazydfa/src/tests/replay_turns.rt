@@ -1,4 +1,4 @@
-//! A long script whose growths are refused in turn. Each test may use up all memory for good.
+//! A long script whose allocations fail in turn. Each test may use up all memory.
 
 use super::regex_bench::Pair;
 use super::tells::Turns;
@@ -10,11 +10,12 @@ use regex_automata::hybrid::regex::Regex;
 use regex_automata::replay::{Reply, Request, replay};
 use std::fmt::Write;
 
-/// A request, and what it owes where regex 0 is current and where regex 1 is: a walk the replies to its steps before
-/// `none`, a step or a reset nothing of its own, and another request its reply.
+/// A request, and the reply that is due if regex 0 is current, and if regex 1 is: of a walk the replies to its steps
+/// before `none`; of a step or a reset none of its own; of another request its reply.
 type Row = (&'static str, [&'static [&'static str]; 2]);
 
-/// Requests of every kind that need a few states. They end over caches of regex 0 which know the ways of `20`.
+/// Requests of every kind that need a few states. They end over caches of regex 0 that have cached the transitions of
+/// `20`.
 #[rattlefmt::skip]
 const BEFORE: &[Row] = &[
     ("walk fwd 323031382D31322D3234", [&["half 0 10"],
@@ -29,7 +30,7 @@ const BEFORE: &[Row] = &[
     ("reset 0", [&[], &[]]), ("fwd 3230", [&["none"], &["half 1 2"]]), ("rev 3230", [&["none"], &["half 1 0"]]),
 ];
 
-/// Requests of which each needs most memory where it stands in the middle.
+/// Requests that each need the most memory if they stand in the middle.
 #[rattlefmt::skip]
 const NEEDS: &[Row] = &[
     ("fwd 323031382D31322D3234", [&["half 0 10"], &["half 1 10"]]),
@@ -58,12 +59,12 @@ const BEGUN: [&str; 4] = ["walk 0", "walk 1", "walk 2", "walk 3"];
 struct History {
     current: usize,
     begun: usize,
-    /// The regex of each walk, and the replies that its steps still owe.
+    /// The regex of each walk, and the replies to its steps that are still due.
     walks: [(usize, &'static [&'static str]); 4],
 }
 
 impl History {
-    /// Whether a reply is a refusal behind a beginning of what is owed. Else it is the one that is owed.
+    /// Whether a reply is out of memory after a beginning of what is due. Otherwise it has to be the one that is due.
     fn hear(&mut self, rt: &impl Host, request: &Request<'_>, row: Row, reply: &str) -> bool {
         let own = row.1[self.current.min(1)];
         let owed = self.owed(request, own);
@@ -97,7 +98,7 @@ impl History {
         left.first().copied().unwrap_or("none")
     }
 
-    /// After a reply that is no refusal.
+    /// After a reply that is not out of memory.
     fn go_on(&mut self, request: &Request<'_>, own: &'static [&'static str]) {
         match request {
             Request::BeginWalk { .. } => {
@@ -143,7 +144,7 @@ fn script_of(rt: &impl Host, rows: &[Row]) -> Script {
 /// The regexes, and the requests of a script by its rows.
 type Asked<'a> = (&'a [Regex], &'a [Request<'a>], &'a [Row; 32]);
 
-/// Which requests were refused, each other reply being the one that is owed after those before.
+/// Which requests ran out of memory; each other reply has to be the one that is due after those before.
 fn compare(rt: &impl Host, (_, requests, rows): Asked<'_>, replies: &[Reply]) -> [bool; 32] {
     let sizes = (requests.len(), replies.len());
     same_of(rt, &sizes, &(32, 32), &"the replies");
@@ -164,7 +165,7 @@ fn compare(rt: &impl Host, (_, requests, rows): Asked<'_>, replies: &[Reply]) ->
     refused
 }
 
-/// One turn: which requests were refused, if the list of the replies wasn't.
+/// One turn: which requests ran out of memory, if the list of the replies did not.
 fn replay_short(rt: &impl Host, asked: Asked<'_>, turns: &mut Turns) -> Option<[bool; 32]> {
     turns.lend(rt);
     let replies = replay(rt.alloc(), asked.0, asked.1);
@@ -175,7 +176,8 @@ fn replay_short(rt: &impl Host, asked: Asked<'_>, turns: &mut Turns) -> Option<[
     }
 }
 
-/// What was refused in the turns of a script: the list of the replies, the request in the middle alone, and requests.
+/// What ran out of memory in the turns of a script: the list of the replies, the request in the middle alone, and
+/// requests.
 #[derive(Clone, Copy)]
 struct Seen {
     script: bool,
@@ -184,7 +186,7 @@ struct Seen {
 }
 
 impl Seen {
-    /// Adds what one turn has refused, and tells how many requests these are.
+    /// Adds what ran out of memory in one turn, and returns how many requests that is.
     fn add(&mut self, refused: &[bool; 32]) -> usize {
         let mut count = 0usize;
         for at in 0..32usize {
@@ -197,7 +199,7 @@ impl Seen {
         count
     }
 
-    /// Whether the list of the replies was refused, the request in the middle, and at least so many requests.
+    /// Whether the list of the replies, the request in the middle, and at least so many requests ran out of memory.
     fn has_refused(&self, least: usize) -> bool {
         let count = self
             .requests
@@ -208,7 +210,7 @@ impl Seen {
     }
 }
 
-/// Replays turn by turn, each with so many bytes more, until nothing is refused.
+/// Replays turn by turn, each with so many bytes more, until nothing runs out of memory.
 fn refuse_in_turn(rt: &impl Host, asked: Asked<'_>, turns: &mut Turns, step: usize) -> Seen {
     let mut seen = Seen {
         script: false,
@@ -236,8 +238,8 @@ fn refuse(rt: &impl Host, regexes: &[Regex], row: Row, turns: &mut Turns, step: 
     refuse_in_turn(rt, (regexes, requests.as_slice(), &rows), turns, step)
 }
 
-/// Replays around each request of `NEEDS`, and counts those that are refused alone in some turn. Each is refused in
-/// some turn, and so are at least so many requests of its script.
+/// Replays around each request of `NEEDS`, and counts those that run out of memory alone in some turn. Each does in
+/// some turn, and so do at least so many requests of its script.
 fn refuse_each(rt: &impl Host, options: &str, step: usize, least: usize) -> usize {
     let dates = Pair::Of(Entry::Date).regex(rt, options);
     let runs = Pair::Of(Entry::Runs).regex(rt, options);
@@ -254,14 +256,14 @@ fn refuse_each(rt: &impl Host, options: &str, step: usize, least: usize) -> usiz
     alone
 }
 
-/// Rows are large, so in some turns a table's growth is refused alone, and all replies behind it are as owed.
+/// Rows are large, so in some turns the growth of a table fails alone, and all replies after it are as they should be.
 #[test]
 fn replays_around_a_refused_request(rt: HostRuntime) {
     let alone = refuse_each(&rt, "all noclasses", 512, 16);
     check(&rt, alone >= 3);
 }
 
-/// Rows are small, and what is lent rises by sixteen bytes a turn.
+/// Rows are small, and the memory that is lent rises by sixteen bytes a turn.
 #[test]
 fn replays_in_ever_more_memory(rt: HostRuntime) {
     refuse_each(&rt, "all", 16, 4);

@@ -1,4 +1,4 @@
-//! Regexes of one NFA, which search backward with the reversed one: spans by rows, worked out apart from the library.
+//! Regexes of one NFA, which search backward with the reversed one: spans by rows, worked out without the library.
 
 ghost use Rattle.std.specs.Prelude.{IfOk};
 ghost use Rattle.regex_automata.specs.SoundPairs.{IsSoundPair};
@@ -16,7 +16,7 @@ use regex_automata::util::search::{Input, MatchKind};
 use std::fmt::Write;
 
 /// What the row shows, the states, the unanchored start, where the patterns start, the haystack, and its spans under
-/// leftmost-first and under kind all.
+/// leftmost-first and under `MatchKind::All`.
 type Row = (
     &'static str,
     &'static [Shape],
@@ -60,7 +60,7 @@ const ROWS: &[Row] = &[
         Either(0, 3)], 4, &[0], ["abab", "0 0..1 0 2..3 ", "0 2..3 "]),
 ];
 
-/// The regex of one NFA. By the contract that it comes with, it finds the spans of the NFA's ordered paths.
+/// The regex of one NFA. By its contract it finds the spans of the NFA's ordered paths.
 fn built(nfa: NFA, kind: MatchKind) -> Result<Regex, RegexBuildError>
     ensures { IfOk result IsSoundPair }
 {
@@ -109,7 +109,7 @@ fn find_spans(rt: &impl Host, row: Row) {
     }
 }
 
-/// The spans are those that the reverse automaton of the catalogue gives, wherever the forward one keeps UTF-8.
+/// The spans are those that the reverse NFA of the catalogue gives, wherever the forward one keeps UTF-8.
 #[test]
 fn finds_what_the_catalogue_finds(rt: HostRuntime) {
     for entry in Entry::ALL {
@@ -130,7 +130,7 @@ fn compare(rt: &impl Host, entry: Entry, haystack: &str) {
     same_text(rt, found.as_str(), want.as_str(), haystack);
 }
 
-/// The states, the unanchored start, where the pattern starts, and why there is no regex of the automaton.
+/// The states, the unanchored start, where the pattern starts, and why no regex of the NFA can be built.
 #[rattlefmt::skip]
 const REFUSED: &[(&[Shape], u8, &[u8], &str)] = &[
     (&[Range(b'a', b'a', 1), Accept(0), Either(0, 3), Range(b'b', b'b', 2)], 2, &[0],

@@ -1,4 +1,4 @@
-//! Calls of the lazy automaton over one cache, by rows with what they tell and count.
+//! Calls of the lazy DFA over one cache, by rows with what they report and count.
 
 use super::bench::{Bench, Call};
 use super::plans::{Mode, Plan, Shape};
@@ -17,7 +17,7 @@ use Shape::{Accept, Assert, Capture, Dense, Either, Range, Sparse, Union};
 use regex_automata::util::look::Look;
 use std::fmt::Write;
 
-/// A row of calls over an automaton and a cache.
+/// A row of calls over an NFA and a cache.
 type Row = RowOf<Automaton, Call>;
 
 const AB: Automaton = Forward(Entry::Ab);
@@ -33,7 +33,7 @@ const A16: Automaton = Forward(Entry::A16);
 /// Sixteen bytes.
 const AS: &str = "aaaaaaaaaaaaaaaa";
 
-/// Each call that may be refused memory, in ample memory.
+/// Each call that may run out of memory, in ample memory.
 #[rattlefmt::skip]
 const AMPLE: &[Row] = &[
     ("Cache::new", AB, "", &[ReplaceByNew, Brief], "-, 335"),
@@ -44,7 +44,8 @@ const AMPLE: &[Row] = &[
     ("next_state", AB, "", &[Start(None), Steps("a"), State, Counts], "-, -, state 0, 0 507 0"),
     ("try_search_fwd_base, where two places split the character, so that the third one gives the match",
         Forward(Entry::Empty), "", &[FindBased("\u{2603}", 1, 3)], "0 3 at 3"),
-    // The classes of bytes, with the one of the end, and the least capacity that may be asked for; or why none may be.
+    // The classes of bytes, the one of the end included, and the least capacity that the settings may have; or why
+    // there is none.
     ("", AB, "", &[Classes, Minimum], "5, 1735"), ("", AB, "noclasses", &[Classes, Minimum], "257, 36007"),
     ("", AB, "starts", &[Minimum], "2359"), ("", AB, "quit=63", &[Minimum], "1735"),
     ("", Forward(Entry::Always), "", &[Classes, Minimum], "2, 1145"),
@@ -102,7 +103,7 @@ const SEARCHED: &[Row] = &[
     ("a quit byte before the start is known", Reverse(Entry::Wordend), "quit=78", &[Find("abcxyz")], "quit 78 3"),
     ("a place that splits a character is passed, unless anchored there", Reverse(Entry::Empty), "",
         &[FindIn("\u{2603}", 0, 2), FindAnchored("\u{2603}", 0, 2)], "half 0 0, none"),
-    // The bytes searched, by each way out of a search, and that no search is in progress behind it.
+    // The bytes searched, by each way out of a search, and that no search is in progress after it.
     ("at a quit byte", AB, "quit=63", &[Find("abc"), Counts], "quit 63 2, 0 593 2"),
     ("at a quit byte behind the span", AB, "quit=63", &[FindIn("abc", 0, 2), Counts], "quit 63 2, 0 593 2"),
     ("at the byte behind the span", AB, "", &[FindIn("xabz", 1, 3), Counts], "half 0 3, 0 678 2"),
@@ -134,14 +135,15 @@ const LOOK_CYCLE: Plan = Plan {
         patterns: &[0, 0, 0],
 };
 
-/// How many patterns there are, the memory, the least capacity, what searches from the first place to the second
+/// How many patterns there are, the memory, the least capacity, what searches from the first offset to the second
 /// answer, of which one is over a part of a character, the memory of the cache, and what a search of a byte answers.
 #[rattlefmt::skip]
 const DULL: &[Call] = &[
     Patterns, Memory, Minimum, FindIn("abc", 1, 2), FindIn("\u{2603}", 1, 2), Counts, Find("a"),
 ];
 
-/// Automata of no catalogue. With starts for each pattern, many patterns need more start states than have IDs.
+/// NFAs that are not in the catalogue. With starts for each pattern, many patterns need more start states than there
+/// are IDs.
 #[rattlefmt::skip]
 const ODD: &[Row] = &[
     ("DFA::always_match", Always, "", DULL, "1, 0, 1145, half 0 1, half 0 1, 0 344 2, half 0 0"),
@@ -207,7 +209,7 @@ const WALKED: &[Row] = &[
 /// `b`, or else twenty bytes `a`.
 const FORK: Automaton = Chain(Sparse(&[(b'a', b'a', 1), (b'b', b'b', 20)]));
 
-/// Twenty bytes `a` from a word boundary on, so that the starts differ by the byte behind.
+/// Twenty bytes `a` from a word boundary on, so that the starts differ by the look-behind byte.
 const WORD: Automaton = Chain(Assert(Look::WordAscii, 1));
 
 #[rattlefmt::skip]
@@ -225,7 +227,7 @@ const CLEARED: &[Row] = &[
     ("all states fit into as much as they take", A16, "noclasses capacity=44512", &[Find(AS), Counts],
         "half 0 16, 0 44512 16"),
     ("and not into a byte less", A16, "noclasses capacity=44511", &[Find(AS), Counts], "half 0 16, 1 12982 0"),
-    // What a clear keeps of the starts.
+    // The start states that a clear keeps.
     ("a start state outlives a clear, with its tag", A16, "noclasses capacity=37281 tags", &[Start(None), State,
         Steps("aaaaaaaaaaaaaaaa"), End, State, Counts, Start(None), State, Counts],
         "-, state 0s, -, -, state 1m, 1 19288 0, -, state 0s, 1 19288 0"),
@@ -256,8 +258,8 @@ fn steps_tell_their_rows(rt: HostRuntime) {
     tells_all::<Bench>(&rt, CLEARED);
 }
 
-/// An automaton, its options, a haystack, the reply, and what is counted: the memory of a fresh
-/// cache, after one search, and the bytes searched by one search.
+/// An NFA, its options, a haystack, the reply, and what is counted: the memory of a fresh cache, after one search, and
+/// the bytes searched by one search.
 type Counted = (
     Automaton,
     &'static str,
@@ -310,7 +312,7 @@ fn count(rt: &impl Host, row: Counted) {
     same_text(rt, found.as_str(), want.as_str(), haystack);
 }
 
-/// With each byte from 80 on as a quit byte, a Unicode word boundary is allowed without the heuristic.
+/// If each byte from 0x80 on is a quit byte, a Unicode word boundary is allowed without the heuristic.
 #[test]
 fn searches_where_no_letter_is_read(rt: HostRuntime) {
     let mut options = String::new(rt.alloc());

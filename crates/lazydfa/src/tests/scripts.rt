@@ -115,7 +115,7 @@ fn tells_failed_reads(rt: HostRuntime) {
     }
 }
 
-/// Nothing is written where a read fails.
+/// Nothing is written if a read fails.
 fn fails_to_read(rt: &impl Host, script: &str, call: usize, want: Option<RunError>) {
     let mut input = Source::new(script.as_bytes());
     input.fails_at = call;
@@ -145,7 +145,7 @@ fn tells_failed_writes(rt: HostRuntime) {
     }
 }
 
-/// A beginning of the output is out where a write fails.
+/// A beginning of the output is out if a write fails.
 fn fails_to_write(rt: &impl Host, row: Written, call: usize, want: Option<RunError>) {
     let (script, whole, _) = row;
     let mut input = Source::new(script.as_bytes());
@@ -157,7 +157,7 @@ fn fails_to_write(rt: &impl Host, row: Written, call: usize, want: Option<RunErr
     same_of(rt, &is_beginning, &true, &call);
 }
 
-/// A bad line is told before a failed write, and a failed read before a bad line.
+/// A bad line is reported before a failed write, and a failed read before a bad line.
 #[test]
 fn tells_faults_in_order(rt: HostRuntime) {
     for (fails_at, want) in [(0, RunError::BadLine(1)), (2, RunError::Failed)] {

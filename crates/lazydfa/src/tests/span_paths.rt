@@ -1,4 +1,4 @@
-//! Spans beside those of the listed paths: from where the selected path starts to where it ends.
+//! Spans beside those of the listed paths: from the start of the selected path to its end.
 
 use super::paths::{CHARACTERS, EMPTY, LITERALS, LOOKS, MODES, REPEATED, Row, answer, haystacks};
 use super::regex_bench::{Pair, RegexBench};
@@ -8,10 +8,10 @@ use crate::catalogue::Entry;
 use regex_automata::nfa::thompson::NFA;
 use regex_automata::util::search::{Input, Match, MatchKind, Span};
 
-/// A slow search: its automaton, and of which kind it is.
+/// A slow search: its NFA, and its match kind.
 type Slow<'a> = (&'a NFA, MatchKind);
 
-/// The span of the selected path, from a place on.
+/// The span of the selected path, from an offset on.
 fn span_from(rt: &impl Host, slow: Slow<'_>, input: &Input<'_>, start: usize) -> Option<Match> {
     if start > input.end() {
         return None;
@@ -26,7 +26,7 @@ fn span_from(rt: &impl Host, slow: Slow<'_>, input: &Input<'_>, start: usize) ->
     Some(Match::new(half.pattern(), Span { start, end }))
 }
 
-/// The next span: an empty one where the last one ended gives way to what is found from one place later.
+/// The next span: an empty one at the last end is replaced by what is found from one offset later.
 fn next_span(
     rt: &impl Host,
     slow: Slow<'_>,
@@ -40,7 +40,7 @@ fn next_span(
     span_from(rt, slow, input, start.saturating_add(1))
 }
 
-/// The spans of an input, each from where the last one ended.
+/// The spans of an input, each from the end of the last one.
 fn list(rt: &impl Host, slow: Slow<'_>, input: &Input<'_>) -> Vec<Match> {
     let mut spans = Vec::new(rt.alloc());
     let mut at = (input.start(), None);
@@ -54,7 +54,7 @@ fn list(rt: &impl Host, slow: Slow<'_>, input: &Input<'_>) -> Vec<Match> {
     spans
 }
 
-/// Whether a path is found, were it not for the nearest end.
+/// Whether a path is found, without regard to the nearest end.
 fn has_path(rt: &impl Host, nfa: &NFA, kind: MatchKind, input: &Input<'_>) -> bool {
     let whole = Input::new(input.haystack())
         .range(input.start()..input.end())
@@ -62,7 +62,7 @@ fn has_path(rt: &impl Host, nfa: &NFA, kind: MatchKind, input: &Input<'_>) -> bo
     answer(rt, nfa, kind, &whole).is_some()
 }
 
-/// What is compared: an entry's regex of one kind, with caches of the least capacity and of an ample one.
+/// What is compared: an entry's regex of one match kind, with caches of the least capacity and of an ample one.
 #[derive(Drop)]
 struct Listed {
     entry: Entry,
@@ -72,7 +72,7 @@ struct Listed {
 }
 
 impl Listed {
-    /// Every span of each haystack, and the whole of it in each mode; of a short one every span in each mode.
+    /// Every span of each haystack, and the whole of it in each anchored mode; of a short one every span in each mode.
     fn compare_all(&mut self, rt: &impl Host, haystacks: &[Vec<u8>]) {
         for haystack in haystacks {
             self.compare_haystack(rt, haystack.as_slice());
@@ -125,7 +125,7 @@ fn items_of(spans: &[Match]) -> [Item; 8] {
     items
 }
 
-/// A kind, and its options for caches of the least capacity and of an ample one.
+/// A match kind, and its options for caches of the least capacity and of an ample one.
 type Kind = (MatchKind, &'static str, &'static str);
 
 #[rattlefmt::skip]
@@ -145,7 +145,7 @@ fn prepare(rt: &impl Host, entry: Entry, (kind, least, config): Kind) -> Listed 
     }
 }
 
-/// The spans of both kinds are those that the listed paths of each entry say.
+/// The spans of both match kinds are those that the listed paths of each entry say.
 fn agree(rt: &impl Host, rows: &[Row]) {
     for row in rows {
         let (entry, pieces, most) = *row;

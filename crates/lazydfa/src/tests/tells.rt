@@ -1,5 +1,5 @@
-//! Rows of calls over one cache, with what they tell: in ample memory, and while what is left of memory rises, so that
-//! each growth is the refused one in some turn. A test that takes turns uses up all memory for good.
+//! Rows of calls over one cache, with what they report: in ample memory, and while the memory that is left rises, so
+//! that each allocation fails in some turn. A test that takes turns uses up all memory.
 
 use super::plans::{Plan, Shape, chain, crowd};
 use super::told::Told;
@@ -12,7 +12,7 @@ use regex_automata::nfa::thompson::NFA;
 use std::alloc::Global;
 use std::fmt::Write;
 
-/// An automaton.
+/// An NFA.
 #[derive(Clone, Copy)]
 pub enum Automaton {
     Forward(Entry),
@@ -20,7 +20,7 @@ pub enum Automaton {
     Planned(&'static Plan),
     /// One match state, at which so many patterns start.
     Crowd(usize),
-    /// A state, and behind it nineteen bytes `a` to the one match.
+    /// A state, and after it nineteen bytes `a` to the one match.
     Chain(Shape),
     /// Those of `DFA::always_match` and `DFA::never_match`.
     Always,
@@ -50,14 +50,14 @@ impl Automaton {
         }
     }
 
-    /// The lazy automaton, which isn't refused.
+    /// The lazy DFA, which can be built.
     pub fn lazy(self, rt: &impl Host, options: &str) -> DFA {
         self.build(rt, options).expect(rt, "an automaton")
     }
 }
 
-/// What the row shows, what is called, its options as a script has them, the calls, and what they tell, or why what is
-/// called is refused.
+/// What the row shows, what is called, its options as a script has them, the calls, and what they report, or why what
+/// is called cannot be built.
 pub type RowOf<O, C> = (&'static str, O, &'static str, &'static [C], &'static str);
 
 /// What is called, with a cache of its own.
@@ -70,10 +70,10 @@ pub trait Caller: Drop {
     /// Before any call.
     fn make(rt: &impl Host, of: Self::Of, options: &str) -> Result<Self, BuildError>;
 
-    /// Makes a call. Where a refused one has to leave the cache as it was and doesn't, it says so.
+    /// Makes a call. If a call fails that has to leave the cache unchanged, and does not, the report says so.
     fn answer(&mut self, alloc: Global, call: Self::Call) -> Told;
 
-    /// Makes calls, and writes what they tell.
+    /// Makes calls, and writes what they report.
     fn tell(&mut self, rt: &impl Host, calls: &[Self::Call], text: &mut String) {
         for call in calls {
             write_told(rt, text, self.answer(rt.alloc(), *call));
@@ -105,7 +105,7 @@ pub fn tells_all<T: Caller>(rt: &impl Host, rows: &[RowOf<T::Of, T::Call>]) {
     }
 }
 
-/// What the calls tell, or why what is called is refused.
+/// What the calls report, or why what is called cannot be built.
 pub fn text_of<T: Caller>(
     rt: &impl Host,
     made: Result<T, BuildError>,
@@ -124,7 +124,7 @@ fn tell_into<T: Caller>(rt: &impl Host, caller: T, calls: &[T::Call], text: &mut
     caller.tell(rt, calls, text);
 }
 
-/// Writes what a call tells behind what others did.
+/// Writes what a call reports after what the others did.
 pub fn write_told(rt: &impl Host, text: &mut String, told: Told) {
     let before = if text.is_empty() { "" } else { ", " };
     write!(text, "{before}{told}").expect(rt, "memory");
@@ -137,18 +137,18 @@ pub fn config(rt: &impl Host, options: &str) -> Config {
     script.definitions.first().expect(rt, "a regex").config
 }
 
-/// How many bytes of memory a block of the room takes.
+/// How many bytes of memory a block of the room has.
 const ROOM: usize = 1 << 16;
 
-/// A call, and what it tells once there is memory.
+/// A call, and what it reports once there is memory.
 pub type Owed<C> = (C, &'static str);
 
-/// A refused call, by its number, and what it tells. What comes before the word `memory` was done all the same.
+/// A call that fails, by its number, and what it reports. What comes before the word `memory` was done all the same.
 pub type Refusal = (usize, &'static str);
 
 /// What a row shows, what is called, its options as a script has them, calls in ample memory, calls in the memory of a
-/// turn, and the refusals that are seen. A refused call is made again with memory. Where no refusal is named, none
-/// comes, though nothing is left of memory.
+/// turn, and the failures that are seen. A call that fails is made again with memory. If no failure is named, none
+/// comes, though no memory is left.
 pub type Short<O, C> = (
     &'static str,
     O,
@@ -158,10 +158,10 @@ pub type Short<O, C> = (
     &'static [Refusal],
 );
 
-/// The first call of a turn is refused.
+/// The first call of a turn fails.
 pub const ONCE: &[Refusal] = &[(0, "out of memory")];
 
-/// All memory but what a turn lends, in blocks; what the last call told, and which refusals of a row were seen.
+/// All memory except what a turn lends, in blocks; what the last call reported, and which failures of a row were seen.
 #[derive(Drop)]
 pub struct Turns {
     blocks: Vec<Vec<u8>>,
@@ -195,7 +195,7 @@ impl Turns {
         self.blocks.clear();
     }
 
-    /// The next turn lends so many bytes, and nothing has been refused.
+    /// The next turn lends so many bytes, and nothing has failed.
     pub fn lend_from(&mut self, lent: usize) {
         self.lent = lent;
         self.seen = [false; 8];
@@ -234,14 +234,14 @@ impl Turns {
         }
     }
 
-    /// Whether so many refusals were seen.
+    /// Whether so many failures were seen.
     fn have_seen(&self, rt: &impl Host, count: usize, shows: &str) {
         for at in 0..count.min(8) {
             same_of(rt, &self.seen[at], &true, &(shows, at));
         }
     }
 
-    /// Whether the first turn, which lends nothing, has seen the first refusal, or none where none is named.
+    /// Whether the first turn, which lends nothing, has seen the first failure, or none if none is named.
     fn has_begun(&self, rt: &impl Host, shows: &str, refusals: &[Refusal]) {
         let want = !refusals.is_empty();
         same_of(rt, &(self.is_refused, self.seen[0]), &(want, want), &shows);
@@ -256,7 +256,7 @@ impl Turns {
         write!(self.told, "{told}").expect(rt, "memory");
     }
 
-    /// Whether memory is wanting for a call that owes an answer. Then there is memory from here on.
+    /// Whether a call that should answer runs out of memory. Then there is memory from here on.
     pub fn refuses(&mut self, rt: &impl Host, call: usize, owed: &str, named: &[Refusal]) -> bool {
         let is_refused = self.told.as_str().ends_with("memory") && !owed.ends_with("memory");
         if is_refused {
@@ -268,7 +268,7 @@ impl Turns {
         is_refused
     }
 
-    /// Whether this refusal is named. It has been seen from here on.
+    /// Whether this failure is named. It has been seen from here on.
     fn sees(&mut self, number: usize, refusals: &[Refusal]) -> bool {
         for (at, refusal) in refusals.iter().copied().enumerate() {
             let (refused, told) = refusal;
@@ -281,7 +281,7 @@ impl Turns {
     }
 }
 
-/// Whether it tells nothing but want of memory, or that behind a beginning of what is owed.
+/// Whether it reports nothing but out of memory, or that after a beginning of what is due.
 fn is_beginning(told: &str, owed: &str) -> bool {
     let done = told.strip_suffix("memory").unwrap_or("no refusal");
     let done = done.strip_suffix("out of ").unwrap_or(done).trim_end();
@@ -297,8 +297,8 @@ pub fn refuse_each<T: Caller>(rt: &impl Host, rows: &[Short<T::Of, T::Call>]) {
     }
 }
 
-/// Calls turn by turn until nothing is refused, and looks whether the named refusals were seen, the first one where no
-/// memory was lent.
+/// Calls turn by turn until nothing fails, and checks that the named failures were seen, the first one when no memory
+/// was lent.
 fn refuse_in_turn<T: Caller>(rt: &impl Host, row: &Short<T::Of, T::Call>, turns: &mut Turns) {
     take_turn::<T>(rt, row, turns);
     turns.has_begun(rt, row.0, row.5);

@@ -1,4 +1,4 @@
-//! What calls tell, in words.
+//! What calls report, in words.
 
 use crate::reply::Line;
 use regex_automata::hybrid::{BuildError, LazyStateID, SearchError, StartError, StepError};
@@ -18,25 +18,25 @@ pub type Item = Option<Token>;
 /// What is counted of a cache: clears, memory, and bytes searched.
 pub type Counted = (usize, usize, usize);
 
-/// The memory of a cache, and the state that was stepped to.
+/// The memory of a cache, and the state to which was stepped.
 pub type Brief = (usize, LazyStateID);
 
-/// What a call tells.
+/// What a call reports.
 #[derive(Drop)]
 pub enum Told {
     Word(&'static str),
-    /// A reply, with what stands before it and behind it.
+    /// A reply, with text before it and after it.
     Found(&'static str, Reply, &'static str),
     NoStart(StartError),
     NoStep(StepError),
     Refused(BuildError),
-    /// A number, with what stands before it and behind it.
+    /// A number, with text before it and after it.
     Number(&'static str, usize, &'static str),
     /// How many patterns, and the last one.
     Patterns(usize, PatternID),
     /// The match of a search, and where the last of its spans began.
     Based(HalfMatch, usize),
-    /// Three numbers, with what stands behind them.
+    /// Three numbers, with text after them.
     Counts(Counted, &'static str),
     /// The counts of both parts.
     Parts([Counted; 2]),
@@ -80,7 +80,7 @@ impl Told {
         }
     }
 
-    /// Whether a growth was refused that has to leave a cache as it was.
+    /// Whether an allocation failed in a call that then has to leave the cache unchanged.
     pub fn is_refusal(&self) -> bool {
         match self {
             Told::NoStart(error) => *error == StartError::OutOfMemory,
@@ -128,7 +128,7 @@ fn write_briefs<W: fmt::Write>(f: &mut fmt::Formatter<W>, briefs: &[Option<Brief
     Ok(())
 }
 
-/// The items before the end, if any. What comes behind the end or an error is told apart.
+/// The items before the end, if any. What comes after the end or an error is reported apart.
 fn write_items<W: fmt::Write>(f: &mut fmt::Formatter<W>, items: &[Item; 8]) -> fmt::Result {
     if items[0].is_none() {
         write!(f, "-")?;

@@ -1,5 +1,5 @@
-//! Searches, walks and sets of the lazy automaton beside the paths of the automaton, listed one by one. Each
-//! call of a walk is made over another cache, with a search of the same input between.
+//! Searches, walks and sets of the lazy DFA beside the paths of the NFA, listed one by one. Each call of a walk is made
+//! over another cache, with a search of the same input between.
 
 use super::paths::{
     CHARACTERS, EMPTY, LITERALS, LOOKS, MODES, REPEATED, Row, accepting, half, haystacks, splits,
@@ -12,10 +12,9 @@ use regex_automata::hybrid::dfa::{Config, DFA};
 use regex_automata::nfa::thompson::NFA;
 use regex_automata::util::search::{HalfMatch, Input, MatchKind};
 
-/// Under kind all the pairs of pattern and end of the accepting paths, each once, by place and then
-/// by its first path. Leftmost first, at each place the first path that ends there, where it comes
-/// before every path that ends at a place before. Then without the places that split a character,
-/// where those are passed.
+/// Under `MatchKind::All`, the pairs of pattern and end of the accepting paths, each once, by place and then by its
+/// first path. Leftmost-first, at each place the first path that ends there, if it comes before every path that ends at
+/// a place before. Then without the places inside characters, if those are skipped.
 pub fn list(rt: &impl Host, nfa: &NFA, kind: MatchKind, input: &Input<'_>) -> Vec<HalfMatch> {
     let mut pairs = Vec::new(rt.alloc());
     let paths = accepting(rt, nfa, input);
@@ -31,8 +30,8 @@ pub fn list(rt: &impl Host, nfa: &NFA, kind: MatchKind, input: &Input<'_>) -> Ve
     pairs
 }
 
-/// The pairs of one place, unless it is passed. The least number of a path that ends before goes
-/// in, and comes out with those that end here.
+/// The pairs of one place, unless it is skipped. The least number of a path that ends before goes in, and comes out
+/// with those that end here.
 fn list_at(
     rt: &impl Host,
     paths: &[HalfMatch],
@@ -57,7 +56,7 @@ fn list_at(
     least
 }
 
-/// Which of the first patterns the pairs have, or the first pair alone, below a capacity.
+/// The patterns of the pairs that are below a capacity, or that of the first pair alone.
 fn patterns_of(pairs: &[HalfMatch], is_first_alone: bool, capacity: usize) -> [bool; 4] {
     let mut has = [false; 4];
     for pair in pairs {
@@ -72,14 +71,14 @@ fn patterns_of(pairs: &[HalfMatch], is_first_alone: bool, capacity: usize) -> [b
     has
 }
 
-/// What an automaton is told by: its entry, or its number.
+/// The name of an NFA in messages: its entry, or its number.
 #[derive(Clone, Copy, Debug)]
 pub enum Name {
     Of(Entry),
     Numbered(u8),
 }
 
-/// What is compared: an automaton of one direction and kind, with caches of the least capacity and of an ample one.
+/// What is compared: an NFA of one direction and match kind, with caches of the least capacity and of an ample one.
 #[derive(Drop)]
 pub struct Listed {
     pub name: Name,
@@ -90,7 +89,7 @@ pub struct Listed {
 }
 
 impl Listed {
-    /// Every span of each haystack, and the whole of it in each mode.
+    /// Every span of each haystack, and the whole of it in each anchored mode.
     fn compare_all(&mut self, rt: &impl Host, haystacks: &[Vec<u8>]) {
         for haystack in haystacks {
             self.compare_spans(rt, haystack.as_slice());
@@ -113,13 +112,13 @@ impl Listed {
         }
     }
 
-    /// Searches, and what walks and sets tell.
+    /// Searches, and what walks and sets report.
     fn compare_both(&mut self, rt: &impl Host, input: &Input<'_>) {
         self.compare_halves(rt, input);
         self.compare(rt, input);
     }
 
-    /// Plain searches. It tells their answer.
+    /// Plain searches. It returns their answer.
     pub fn compare_halves(&mut self, rt: &impl Host, input: &Input<'_>) -> Option<HalfMatch> {
         let dfa = self.ample.dfa();
         let kind = dfa.get_config().get_match_kind();
@@ -181,7 +180,7 @@ fn walker(rt: &impl Host, nfa: NFA, config: Config) -> Walker {
     Walker::new(rt, built.expect(rt, "an automaton"), Over::Text(""))
 }
 
-/// Searches, walks and sets of both kinds in both directions tell what the listed paths of each entry say.
+/// Searches, walks and sets of both match kinds in both directions report what the listed paths of each entry say.
 fn agree(rt: &impl Host, rows: &[Row]) {
     for row in rows {
         let (entry, pieces, most) = *row;

@@ -1,4 +1,4 @@
-//! Overlapping walks and sets of patterns over one lazy automaton and three caches of it.
+//! Overlapping walks and sets of patterns over one lazy DFA and three caches of it.
 
 ghost use Rattle.std.specs.Prelude.{◌≡◌};
 ghost use Rattle.lazydfa.specs.Walks.{IsWalkOver};
@@ -20,7 +20,7 @@ use std::mem;
 #[derive(Clone, Copy)]
 pub enum Over {
     Text(&'static str),
-    /// A haystack from a place to a place.
+    /// A haystack from an offset to an offset.
     Span(&'static str, usize, usize),
     /// For a pattern alone.
     Pattern(&'static str, u8),
@@ -41,9 +41,9 @@ impl Over {
 /// A call.
 #[derive(Clone, Copy)]
 pub enum Turn {
-    /// The walk's next.
+    /// The walk's next match.
     Next,
-    /// Begins the walk anew.
+    /// Begins the walk again.
     Begin,
     /// What the walk has found last.
     Match,
@@ -62,11 +62,11 @@ pub enum Turn {
     Reset,
     /// How often the cache was cleared, its memory, and the bytes searched.
     Counts,
-    /// Whether a byte of memory is left.
+    /// Whether one byte can be allocated.
     Room,
 }
 
-/// An automaton, and what it walks over.
+/// An NFA, and what it walks over.
 #[derive(Clone, Copy)]
 pub struct Walked(pub Automaton, pub Over);
 
@@ -85,7 +85,7 @@ fn names(has: [bool; 4]) -> &'static str {
     }
 }
 
-/// Which of the first patterns a set has; the last stands for each that comes behind.
+/// Which of the first patterns a set has; the last stands for each that comes after.
 fn firsts_of(set: &PatternSet) -> [bool; 4] {
     let mut has = [false; 4];
     for pattern in set.iter() {
@@ -94,7 +94,7 @@ fn firsts_of(set: &PatternSet) -> [bool; 4] {
     has
 }
 
-/// A lazy automaton with three caches, of which calls use the first, a set of patterns, and what is walked over.
+/// A lazy DFA with three caches, of which calls use the first, a set of patterns, and what is walked over.
 #[derive(Drop)]
 pub struct Walker {
     dfa: DFA,
@@ -156,7 +156,7 @@ impl Walker {
         check(rt, false);
     }
 
-    /// Writes what the calls of a walk over this input tell, and those between them.
+    /// Writes what the calls of a walk over this input report, and those between them.
     fn tell_turns(
         &mut self,
         rt: &impl Host,
@@ -220,7 +220,7 @@ impl Walker {
         }
     }
 
-    /// A call that leaves the walk alone.
+    /// A call that leaves the walk unchanged.
     fn call(&mut self, alloc: Global, input: &Input<'_>, turn: Turn) -> Told
         ensures { self.new.dfa ≡ self.old.dfa }
     {
@@ -242,7 +242,7 @@ impl Walker {
         }
     }
 
-    /// The walk's next. Where it is refused, the walk has no match.
+    /// The walk's next match. If the call fails, the walk has no match.
     fn next(&mut self, input: &Input<'_>, walk: &mut OverlappingState) -> Told
         requires { IsWalkOver self.old.dfa input.now walk.old }
         ensures { IsWalkOver self.new.dfa input.now walk.new }
@@ -254,7 +254,7 @@ impl Walker {
         }
     }
 
-    /// Searches in the direction of the automaton.
+    /// Searches in the direction of the NFA.
     pub fn find(&mut self, input: &Input<'_>) -> Result<Option<HalfMatch>, SearchError>
         ensures { self.new.dfa ≡ self.old.dfa }
     {
@@ -294,7 +294,7 @@ impl Walker {
         told_of(filled, &self.set)
     }
 
-    /// Which of the first patterns all matches have, as far as they are below a capacity.
+    /// The patterns of all matches that are below a capacity, as far as they are among the first ones.
     pub fn patterns(&mut self, rt: &impl Host, input: &Input<'_>, capacity: usize) -> [bool; 4] {
         let mut set = PatternSet::new(rt.alloc(), capacity).expect(rt, "memory");
         let dfa = &self.dfa;
@@ -312,7 +312,7 @@ impl Walker {
     }
 }
 
-/// One call of a walk in the direction of the automaton.
+/// One call of a walk in the direction of the NFA.
 fn step(
     dfa: &DFA,
     cache: &mut Cache,
@@ -351,7 +351,7 @@ impl Caller for Walker {
         Ok(Walker::new(rt, dfa, over))
     }
 
-    /// A call that leaves the walk alone.
+    /// A call that leaves the walk unchanged.
     fn answer(&mut self, alloc: Global, turn: Turn) -> Told {
         let input = self.over.input();
         self.call(alloc, &input, turn)

@@ -28,7 +28,7 @@ const OVER_AA: Walked = Walked(Forward(Entry::Aa), Text("aa"));
 
 const OVER_WORDS: Walked = Walked(Forward(Entry::Words), Text("@foo bar"));
 
-/// All pairs, place by place, and none behind the last for good; each call that may be refused memory first.
+/// All matches, by offset, and none after the last, each time; each call that may run out of memory comes first.
 #[rattlefmt::skip]
 const PAIRS: &[Row] = &[
     ("try_search_overlapping_fwd", OVER_AA, "all", &[Next, Next, Next, Next, Next],
@@ -42,7 +42,7 @@ const PAIRS: &[Row] = &[
         "half 0 0, none, none"),
     ("a done span takes nothing of the cache", Walked(Forward(Entry::Always), Span("ab", 2, 1)), "all", &[Next, Match,
         Counts], "none, none, 0 221 0"),
-    // A refused call leaves the walk as it was, but without its match.
+    // A call that fails leaves the walk as it was, but without its match.
     ("a quit byte is met again", Walked(Forward(Entry::Wordend), Text("abcxyz")), "quit=78", &[Find("abcxyz"), Next,
         Match, Next, Match], "quit 78 3, quit 78 3, none, quit 78 3, none"),
     ("behind some pairs", Walked(Forward(Entry::Words), Text("@a b")), "all quit=20", &[Next, Next, Next, Match, Next,
@@ -61,7 +61,7 @@ const PAIRS: &[Row] = &[
         "unsupported, none, unsupported"),
 ];
 
-/// A walk is of no cache: any of its automaton will do, whatever it has been through.
+/// A walk belongs to no cache: each cache of its DFA will do, whatever it was used for.
 #[rattlefmt::skip]
 const CACHES: &[Row] = &[
     ("each call over another cache", OVER_AA, "all", &[Next, Switch, Next, Switch, Next, Switch, Next, Switch, Next,
@@ -112,7 +112,7 @@ const CLEARED: &[Row] = &[
         "half 0 0, none, half 0 19, gaveup 16, gaveup 0, none, none, 2 36198 12"),
 ];
 
-/// The patterns of all pairs, as far as they are below the capacity of the set.
+/// The patterns of all matches that are below the capacity of the set.
 #[rattlefmt::skip]
 const SETS: &[Row] = &[
     ("a full set ends the search before a quit byte", OVER_WORDS, "all quit=20", &[Which(2), Counts],

@@ -1,4 +1,4 @@
-//! Automata that are made while they search.
+//! Lazy DFAs and regexes, which build their states while they search.
 
 pub mod dfa;
 pub mod regex;

@@ -15,7 +15,7 @@ use automata_base::util::search::{Input, Match};
 use automata_config::error::SearchError;
 use std::alloc::Global;
 
-/// The matches, up to an error: a search that fails, or no memory for the list.
+/// The matches up to an error, which is that of a search, or out of memory for the list.
 pub fn matches_upto(
     alloc: Global,
     regex: &Regex,
@@ -36,7 +36,7 @@ pub fn matches_upto(
     all
 }
 
-/// The same, as the passes find it.
+/// The same, by what the passes report.
 fn take_matches(
     alloc: Global,
     regex: &Regex,

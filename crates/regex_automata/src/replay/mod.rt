@@ -19,24 +19,24 @@ pub use replies::{Fault, Reply};
 pub use requests::Request;
 use std::alloc::{AllocError, Global};
 
-/// One reply for each request, in order, each its request's own value, whatever came before.
+/// Returns one reply for each request, in order. Each is its request's own value, whatever came before.
 ///
-/// One cache serves them all. At first it belongs to regex 0, which is the current one. Out of memory is an error of this
-/// call only if that cache or the list of replies cannot be allocated; inside a request it is in its reply.
+/// One cache serves all requests. At first it belongs to regex 0, which is the current one. This call fails only if
+/// that cache or the list of replies cannot be allocated; out of memory inside a request is in its reply.
 pub fn replay(
     alloc: Global,
     regexes: &[Regex],
     script: &[Request<'_>],
 ) -> Result<Vec<Reply>, AllocError>
-    // Each reply is its request's own value, or an error that its own call may give; a bad request has a reply of its
-    // own, and changes nothing.
+    // Each reply is its request's own value, or an error that the request's own call may return. A bad request has the
+    // reply `Bad`, and changes nothing.
     ensures replies { IfOk result (λ replies. AreReplies regexes.now script.now replies.items) }
 
-    // The Ok replies to the steps of a walk are, in order, the pairs of its list, and then none.
+    // The Ok replies to the steps of a walk are, in order, the matches of its list, and then none.
     ensures walks { IfOk result (λ replies. TellWalks regexes.now script.now replies.items) }
 
-    // One cache serves them all, fresh at first and after an Ok reset; an error is that of a call on the cache as the
-    // request before left it.
+    // One cache serves all requests. It is fresh at first and after an Ok reset. An error is that of a call on the
+    // cache as the request before left it.
     ensures made { IfOk result (λ replies. AreAnswered regexes.now script.now replies.items) }
 {
     match regexes.first() {
@@ -64,7 +64,7 @@ fn answer_all<'h>(
     Ok(replies)
 }
 
-/// There is no regex to ask.
+/// Replies that there is no regex, to each request.
 fn refuse_all(alloc: Global, script: &[Request<'_>]) -> Result<Vec<Reply>, AllocError>
     ensures { IfOk result (λ replies. AreReplies [] script.now replies.items) }
 {

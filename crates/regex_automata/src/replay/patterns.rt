@@ -13,7 +13,7 @@ use automata_base::util::search::Input;
 use automata_config::error::SearchError;
 use std::alloc::{AllocError, Global};
 
-/// The patterns that a fresh set has after a walk, or after an error those that were reported before it.
+/// The patterns in a fresh set after an overlapping search; after an error, those that were reported before it.
 pub fn patterns_below(
     alloc: Global,
     dfa: &DFA,

@@ -120,7 +120,7 @@ impl<'r, 'h> Player<'r, 'h> {
         Reply::Begun(Ok(number))
     }
 
-    /// Makes one step of a walk, if it is of the current regex.
+    /// Makes one step of a walk, if it belongs to the current regex.
     fn step(&mut self, number: usize) -> Reply
         requires { (h : History) × HasPlayed h self.old }
         ensures regexes { self.new.regexes.now ≡ self.old.regexes.now }

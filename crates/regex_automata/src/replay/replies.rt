@@ -14,7 +14,7 @@ pub enum Fault {
     OtherRegex,
 }
 
-/// The answer to a request, or its error; out of memory is one.
+/// The reply to a request: its answer, or its error. Out of memory is an error too.
 #[derive(Debug, PartialEq, Eq, Drop)]
 pub enum Reply {
     /// What a search of one DFA found, or the match of a walk after one step.

@@ -10,7 +10,7 @@ use automata_base::util::search::{Input, Match};
 use automata_config::error::SearchError;
 use std::alloc::Global;
 
-/// The patterns and spans of the tokens, up to an error: no token, a search that fails, or no memory for the list.
+/// The patterns and spans of the tokens up to an error: no token, a search that fails, or out of memory for the list.
 pub fn tokens_upto(
     alloc: Global,
     regex: &Regex,

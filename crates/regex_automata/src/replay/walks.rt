@@ -1,4 +1,4 @@
-//! The walks that a script began.
+//! The overlapping searches that a script began.
 ghost use Rattle.std.specs.Prelude.{ℕ, ◌≡◌, ◌<◌, length};
 ghost use Rattle.automata_base.specs.Tapes.{Forward, Backward};
 ghost use Rattle.automata_hybrid.specs.Caches.{IsCacheOf};

@@ -7,7 +7,7 @@ pub enum TokenError {
     /// At this offset no pattern matches, or only the empty string does.
     #[error("no token at {0}")]
     NoToken(usize),
-    /// The search for the token was refused.
+    /// The search for the token failed.
     #[error("{0}")]
     Search(SearchError),
 }

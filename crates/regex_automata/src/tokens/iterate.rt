@@ -12,7 +12,7 @@ use automata_base::util::search::{Anchored, HalfMatch, Input, Match, Span};
 use automata_config::error::SearchError;
 use std::fmt;
 
-/// What is searched at a place: what is left of the span, anchored and in full.
+/// The input of the search at an offset: what is left of the span, anchored and not earliest.
 fn asked<'h>(haystack: &'h [u8], place: usize, end: usize) -> Input<'h>
     requires { Allows haystack.now place end }
     ensures { result ≡ asked haystack.now end place }
@@ -22,7 +22,7 @@ fn asked<'h>(haystack: &'h [u8], place: usize, end: usize) -> Input<'h>
         .anchored(Anchored::Yes)
 }
 
-/// What an answer at a place makes.
+/// The token that an answer at an offset makes, as a match, or why there is none.
 fn item(place: usize, answer: Result<Option<HalfMatch>, SearchError>) -> Result<Match, TokenError>
     ensures { result ≡ item_of place answer }
 {
@@ -39,7 +39,7 @@ fn item(place: usize, answer: Result<Option<HalfMatch>, SearchError>) -> Result<
     }
 }
 
-/// The token at a place before the span's end.
+/// The token at an offset before the span's end.
 fn token_at<'h>(
     regex: &Regex,
     cache: &mut Cache,
@@ -64,11 +64,11 @@ fn token_at<'h>(
 }
 
 impl Regex {
-    /// The tokens of an input's span, one behind another, whatever the input's mode and earliest flag. It takes no
-    /// memory.
+    /// The tokens of an input's span, one after another, whatever the input's anchored mode and earliest flag. It
+    /// allocates nothing.
     ///
-    /// Each is the anchored match of the forward DFA at the place where the one before ended, by the DFA's kind. A
-    /// token borrows from the haystack alone, so it may be kept when the cache is gone:
+    /// Each token is the match of the forward DFA, by its match kind, anchored at the offset where the token before
+    /// ended. A token borrows from the haystack alone, so you can keep it when the cache is gone:
     ///
     /// ```rust
     /// for item in self.regex.tokens(&mut self.caches, Input::new(text)) {
@@ -106,8 +106,8 @@ impl Regex {
     }
 }
 
-/// The tokens that are left of a span, until an error, which is the last item. At the span's end, and after an error,
-/// it gives none for good.
+/// An iterator over the tokens of a span that are left. An error is its last item. At the span's end and after an error
+/// each call returns none.
 #[derive(Drop)]
 pub struct Tokens<'r, 'c, 'h> {
     regex: &'r Regex,

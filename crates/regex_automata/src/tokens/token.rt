@@ -6,11 +6,11 @@ use automata_base::util::search::Span;
 use std::alloc::AllocError;
 use std::ops::Range;
 
-/// A pattern, and the bytes that it matches. They are borrowed from the haystack alone, so that a token may be kept
-/// when the iterator that gave it and its cache are gone.
+/// A pattern and the bytes that it matches. The bytes are borrowed from the haystack alone, so you can keep a token
+/// when the iterator that returned it and its cache are gone.
 #[derive(Copy, Debug)]
 pub struct Token<'h> {
-    // A plain number: with a field that has a model of its own, callers that pass a token by value get no proof.
+    // A plain number: if its type had a model, callers that pass a token by value would get no proof.
     pattern: u32,
     span: Span,
     bytes: &'h [u8],
@@ -43,7 +43,7 @@ impl<'h> Token<'h> {
         PatternID::new_unchecked(self.pattern)
     }
 
-    /// Where it stands in the haystack.
+    /// Its span in the haystack.
     pub fn span(&self) -> Span
         ensures start { result.start ≡ self.now.span.start }
         ensures end { result.end ≡ self.now.span.end }
@@ -68,7 +68,7 @@ impl<'h> Token<'h> {
         self.span.end
     }
 
-    /// Where it stands in the haystack, as a range.
+    /// Its span in the haystack, as a range.
     pub fn range(&self) -> Range<usize>
         ensures start { result.start ≡ self.now.span.start }
         ensures end { result.end ≡ self.now.span.end }
@@ -83,14 +83,14 @@ impl<'h> Token<'h> {
         self.span.len()
     }
 
-    /// Whether it matches no byte. No token that an iterator gives is empty.
+    /// Whether it matches no byte. No token that an iterator returns is empty.
     pub fn is_empty(&self) -> bool
         ensures { IsTrue result ↔ (self.now.span.end ≤ self.now.span.start) }
     {
         self.span.is_empty()
     }
 
-    /// The bytes that it matches: the part of the haystack at its span.
+    /// The bytes that it matches.
     pub fn bytes(&self) -> &'h [u8]
         ensures { result.now ≡ self.now.bytes.now }
     {

@@ -1,4 +1,4 @@
-//! What automata and their searches share.
+//! What automata and their searches share: inputs and matches, IDs, looks, byte classes, powerset states.
 
 pub mod search;
 

@@ -6,9 +6,9 @@ use crate::util::primitives::{PatternID, StateID};
 use std::alloc::Global;
 use std::marker::Model;
 
-/// A builder of an NFA. States are added one by one; each call returns the ID of its state, which the NFA keeps. A
-/// target may be a state that does not exist yet, and can be patched later. Matches and groups belong to the pattern
-/// that was started last. A call that returns an error changes nothing.
+/// A builder of an NFA. Add states one by one; each call returns the ID of its state, which the NFA keeps. A target may
+/// be a state that does not exist yet, and can be patched later. Matches and groups belong to the pattern that was
+/// started last. A call that returns an error changes nothing.
 #[derive(Debug, Drop)]
 pub struct Builder {
     alloc: Global,
@@ -152,14 +152,14 @@ impl Builder {
         self.add(Added::Sparse(ranges))
     }
 
-    /// Adds a look.
+    /// Adds a look-around assertion.
     pub fn add_look(&mut self, next: StateID, look: Look) -> Result<StateID, BuildError>
         ensures { IsAdding self.old self.new result (LookShape look next ∷ []) }
     {
         self.add(Added::Look { look, next })
     }
 
-    /// Adds a state that leads nowhere.
+    /// Adds a state without edges.
     pub fn add_fail(&mut self) -> Result<StateID, BuildError>
         ensures { IsAdding self.old self.new result (FailShape ∷ []) }
     {
@@ -303,8 +303,8 @@ impl Builder {
         Ok(union)
     }
 
-    /// Builds the NFA of these states, in which searches start at the anchored or the unanchored start. It fails while
-    /// a pattern is not finished, and where `NFA::from_states` fails.
+    /// Builds the NFA of these states, in which searches start at the anchored or the unanchored start. It fails if a
+    /// pattern is not finished, or if `NFA::from_states` fails.
     pub fn build(
         &self,
         start_anchored: StateID,

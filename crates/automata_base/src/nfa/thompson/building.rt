@@ -29,7 +29,7 @@ pub enum BuildError {
     /// There are too many states or patterns for their IDs, or the index of a group is too large.
     #[error("too many states, patterns or groups")]
     TooLarge,
-    /// `NFA::from_states` refuses the NFA.
+    /// `NFA::from_states` returns this error.
     #[error("{0}")]
     NFA(NfaError),
     /// An allocation failed.

@@ -1,4 +1,4 @@
-//! A copy of the reversed states for each pattern: those that are reached from its matches.
+//! A copy of the reversed states for each pattern: of those that are reached from its matches.
 ghost use Rattle.std.specs.Prelude.{ℕ, ◌≡◌, ◌<◌, ◌≤◌, ◌+◌, ◌*◌, ◌^◌, ◌++◌, [], ◌∷◌, true, map, length};
 ghost use Rattle.std.specs.Prelude.{IfOk, OnOk, Err, None, Some};
 ghost use Rattle.automata_base.specs.declared.nfa.thompson.reach.Edges.TheVariants.{Every};
@@ -21,7 +21,7 @@ use std::alloc::{AllocError, Global};
 // 2^27.
 const MAX_STATES: usize = 134_217_728;
 
-// The number of a member's copy, where the copies stand from a base on.
+// The number of a member's copy, if the copies begin at `base`.
 fn copy_id(set: &SparseSet, base: StateID, id: StateID) -> StateID
     requires member { In id set.now.items }
     requires room { base + length set.now.items ≤ 2 ^ 27 }
@@ -153,7 +153,7 @@ fn matches_of(
     Ok(matches)
 }
 
-/// A list again.
+/// A copy of a list.
 pub fn copy_list(alloc: Global, ids: &[StateID]) -> Result<Vec<StateID>, AllocError>
     ensures { IfOk result (λ v. v.items ≡ ids.now) }
 {
@@ -188,7 +188,7 @@ fn base_of(states: &[State], set: &SparseSet) -> Option<StateID>
     Some(StateID::new_unchecked(states.len() as u32))
 }
 
-// Adds the copies for a pattern of what is reached from its roots.
+// Adds the copies, for a pattern, of what is reached from its roots.
 fn add_part(
     alloc: Global,
     turned: &[State],

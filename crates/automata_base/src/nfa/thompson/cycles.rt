@@ -14,8 +14,8 @@ use crate::util::determinize::sparse_set::SparseSet;
 use crate::util::primitives::StateID;
 use std::alloc::{AllocError, Global};
 
-// Adds the states that epsilon edges reach from this look, and returns whether the look is then a member. It asks that
-// members lead to members only.
+// Adds the states that epsilon edges reach from this look, and returns whether the look is then a member. Before the
+// call, members have to lead to members only.
 fn reaches_look(set: &mut SparseSet, states: &[State], q: StateID) -> bool
     requires few { length states.now ≤ 2 ^ 27 }
     requires range { states_below (length states.now) states.now ≡ true }
@@ -38,8 +38,8 @@ fn reaches_look(set: &mut SparseSet, states: &[State], q: StateID) -> bool
     set.contains(q)
 }
 
-// Whether no look leads back to itself. One walk continues from look to look in a finishing order, so the first look
-// that it returns to leads back to itself.
+// Whether no look leads back to itself. One walk goes on from look to look in a finishing order, so the first look that
+// it returns to leads back to itself.
 fn are_acyclic_in(set: &mut SparseSet, states: &[State], order: &[StateID]) -> bool
     requires few { length states.now ≤ 2 ^ 27 }
     requires range { states_below (length states.now) states.now ≡ true }

@@ -208,7 +208,7 @@ fn less_one(n: usize) -> usize
     if n == 0 { 0 } else { n - 1 }
 }
 
-/// The room that a stack needs, where the unions have at most 2^31 alternates in all.
+/// The room that a stack needs, if the unions have at most 2^31 alternates in all.
 pub fn room_of(states: &[State]) -> Option<usize>
     ensures some { (room : ℕ) → result ≡ Some room → room ≡ stack_room states.now }
     ensures few { (room : ℕ) → result ≡ Some room → is_narrow states.now ≡ true }

@@ -47,20 +47,20 @@ pub enum State {
         /// The state that the byte leads to.
         next: StateID,
     },
-    /// Reads one byte, by the range that has it. The ranges are sorted, and no two overlap.
+    /// Reads one byte, by the range that contains it. The ranges are sorted, and no two overlap.
     Sparse(Vec<Transition>),
     /// Reads one byte, by the target at its index. Target 0 stands for no edge.
     Dense(Box<[StateID; 256]>),
-    /// Goes on without reading where the look holds.
+    /// Goes on without reading if the look holds.
     Look {
-        /// What has to hold.
+        /// The look that has to hold.
         look: Look,
         /// The state that it leads to.
         next: StateID,
     },
     /// Goes on without reading to each alternate, the first of them preferred.
     Union {
-        /// The alternates, best first.
+        /// The alternates, the preferred ones first.
         alternates: Vec<StateID>,
     },
     /// A union of two alternates, `alt1` preferred.
@@ -68,7 +68,7 @@ pub enum State {
         alt1: StateID,
         alt2: StateID,
     },
-    /// Goes on without reading. What it says of groups is kept and not looked at.
+    /// Goes on without reading. Searches ignore its group.
     Capture {
         /// The state that it leads to.
         next: StateID,
@@ -79,7 +79,7 @@ pub enum State {
         /// The slot of the group's offset.
         slot: u32,
     },
-    /// Leads nowhere.
+    /// Has no edges.
     Fail,
     /// Matches the pattern.
     Match {
@@ -87,10 +87,10 @@ pub enum State {
     },
 }
 
-/// What an NFA says of itself. By default it is neither in UTF-8 mode nor reversed, and its lines end in `\n`.
+/// The flags of an NFA. By default it is neither in UTF-8 mode nor reversed, and its lines end in `\n`.
 #[derive(Clone, Copy, Debug, PartialEq, Eq)]
 pub struct Flags {
-    /// Whether empty matches that split a character are left out.
+    /// Whether empty matches inside UTF-8 encoded characters are omitted.
     pub utf8: bool,
     /// Whether it matches the reversed texts.
     pub reverse: bool,
@@ -112,7 +112,7 @@ impl Default for Flags {
     }
 }
 
-/// Why states are not accepted as an NFA.
+/// Why `NFA::from_states` fails.
 #[derive(Clone, Copy, Debug, PartialEq, Eq, Error)]
 pub enum NfaError {
     /// A state leads to a state that does not exist.
@@ -146,7 +146,7 @@ impl From<AllocError> for NfaError {
     }
 }
 
-/// Why an NFA can't be reversed.
+/// Why an NFA cannot be reversed.
 #[derive(Clone, Copy, Debug, PartialEq, Eq, Error)]
 pub enum ReverseError {
     /// The empty match is reached from the start of some pattern and not from the anchored start, or the other way
@@ -187,7 +187,7 @@ struct Data {
     is_look_acyclic: bool,
 }
 
-/// A Thompson NFA: its states, its starts and its flags. Cloning shares them and takes no memory.
+/// A Thompson NFA: its states, its starts and its flags. Clones share them and allocate nothing.
 #[derive(Debug, Drop)]
 pub struct NFA {
     data: Rc<Data>,
@@ -248,7 +248,7 @@ impl NFA {
     /// An NFA of these states. Searches start at the anchored or the unanchored start, and those for pattern k at
     /// `start_pattern[k]`, so there are as many patterns as such starts. The tests are made in this order, each of the
     /// whole list: its size, the starts, the states that edges lead to, the order of ranges, the patterns. The first
-    /// test that fails names the error. An error gives neither list back. It takes time linear in the states, their
+    /// test that fails names the error. An error does not return the lists. It takes time linear in the states, their
     /// edges and the starts; a dense state has 256 edges.
     pub fn from_states(
         alloc: Global,
@@ -333,7 +333,7 @@ impl NFA {
         self.data.states.as_slice()
     }
 
-    /// The state of this number, which is below the number of `states`.
+    /// The state with this ID, which has to be below the number of `states`.
     pub fn state(&self, id: StateID) -> &State
         requires { id < length self.now.states }
         ensures same { result.now ≡ slice_index_or self.now.states id result.now }
@@ -342,7 +342,7 @@ impl NFA {
         &self.data.states[id.as_usize()]
     }
 
-    /// Where a mode starts: past the last pattern there is no start.
+    /// Where a search of this anchored mode starts. A pattern that the NFA does not have has no start.
     pub fn start(&self, mode: Anchored) -> Option<StateID>
         ensures same { result ≡ mode_start self.now mode }
         ensures below { (q : ℕ) → result ≡ Some q → q < length self.now.states }
@@ -375,7 +375,7 @@ impl NFA {
         self.data.start_pattern.len()
     }
 
-    /// Where an anchored search for the pattern starts. Past the last pattern there is none.
+    /// Where an anchored search for the pattern starts. A pattern that the NFA does not have has no start.
     pub fn start_pattern(&self, pattern: PatternID) -> Option<StateID>
         ensures { result ≡ slice_get self.now.start_pattern pattern }
     {
@@ -390,14 +390,14 @@ impl NFA {
         self.data.start_pattern.as_slice()
     }
 
-    /// What the NFA says of itself.
+    /// The flags of the NFA.
     pub fn flags(&self) -> Flags
         ensures { result ≡ self.now.flags }
     {
         self.data.flags
     }
 
-    /// Whether empty matches that split a character are left out.
+    /// Whether empty matches inside UTF-8 encoded characters are omitted.
     pub fn is_utf8(&self) -> bool
         ensures { result ≡ self.now.flags.utf8 }
     {
@@ -411,7 +411,7 @@ impl NFA {
         self.data.flags.reverse
     }
 
-    /// The looks that occur.
+    /// The looks that occur in the NFA.
     pub fn look_set_any(&self) -> LookSet
         ensures same { IsLooks self.now result }
         ensures occurs { (look : Look) → (truth_of result look ≡ true) ↔ Occurs (nfa_of self.now) look }
@@ -419,22 +419,22 @@ impl NFA {
         self.data.looks
     }
 
-    /// Whether edges that read nothing lead from some pattern's start to a match, looks taken as true. So it is true
-    /// wherever the empty match is found, and may be where looks never hold.
+    /// Whether epsilon transitions lead from the start of some pattern to a match, looks taken as true. So it is true
+    /// if the empty match can be found; it may also be true if looks never hold there.
     pub fn has_empty(&self) -> bool
         ensures { IsTrue result ↔ HasEmpty self.now }
     {
         self.data.has_empty
     }
 
-    /// Whether unanchored searches start where anchored ones do.
+    /// Whether unanchored searches start at the anchored start.
     pub fn is_always_start_anchored(&self) -> bool
         ensures { IsTrue result ↔ IsAlwaysStartAnchored self.now }
     {
         self.data.start_unanchored == self.data.start_anchored
     }
 
-    /// Whether unanchored searches start where anchored ones do, or at a union that tries the anchored start first and
+    /// Whether unanchored searches start at the anchored start, or at a union that tries the anchored start first and
     /// then skips a byte.
     pub fn skips_lazily(&self) -> bool
         ensures { IsTrue result ↔ SkipsLazily self.now }
@@ -442,10 +442,10 @@ impl NFA {
         self.data.skips_lazily
     }
 
-    /// Whether no cycle of edges that read nothing passes a look: so it is that searches are said to answer by paths.
-    /// It is found when the NFA is made.
+    /// Whether no cycle of epsilon transitions passes a look. Then searches are proved to answer by the ordered paths.
+    /// It is computed when the NFA is made.
     ///
-    /// An NFA of a regular expression passes a look twice at one place only where something that may be empty and has a
+    /// An NFA of a regular expression passes a look twice at one place only if something that may be empty and has a
     /// look is repeated, as in `(?:\b|a)*`.
     pub fn is_look_acyclic(&self) -> bool
         ensures { IsTrue result ↔ IsLookAcyclic (nfa_of self.now) }
@@ -454,11 +454,11 @@ impl NFA {
     }
 
     /// Whether every path that is not empty, from the anchored start or the start of a pattern to a match state, reads
-    /// valid UTF-8, from the start of the haystack to its end. Searches for spans ask for it in UTF-8 mode. Outside
-    /// UTF-8 mode nothing is asked, and the answer is `true`.
+    /// valid UTF-8, from the start of the haystack to its end. Searches for spans need it in UTF-8 mode. Outside UTF-8
+    /// mode nothing is needed, and it returns `true`.
     ///
     /// Looks are taken as true. So `true` is right for every NFA, and `false` for every NFA without looks. The NFA of
-    /// `\z\xFF` has no such path, since no byte follows the end of a haystack, and yet the answer is `false`.
+    /// `\z\xFF` has no such path, since no byte follows the end of a haystack, and yet it returns `false`.
     ///
     /// It takes time and memory linear in the states and their edges.
     pub fn keeps_utf8(&self) -> Result<bool, AllocError>
@@ -475,7 +475,7 @@ impl NFA {
         self.reads_utf8(&FORWARD)
     }
 
-    /// As `keeps_utf8`, of an NFA that reads from the end of the haystack to its start.
+    /// The same as `keeps_utf8`, for an NFA that reads from the end of the haystack to its start.
     pub fn keeps_utf8_reverse(&self) -> Result<bool, AllocError>
         ensures reads { IfOk result (λ keeps. IsTrue keeps
             ↔ (self.now.flags.utf8 ≡ true → ReadsUtf8 Backward self.now)) }
@@ -506,7 +506,7 @@ impl NFA {
         )
     }
 
-    /// How many states may wait on the stack of a closure: one, and each alternate of a union but its first.
+    /// How many states may wait on the stack of a closure: one, and each alternate of a union except its first.
     pub fn room(&self) -> usize
         ensures number { result ≡ stack_room self.now.states }
         ensures few { result ≤ 2147483649 }
@@ -514,22 +514,22 @@ impl NFA {
         self.data.room
     }
 
-    /// The reversed NFA: it accepts, reading backward, what this one accepts from its anchored start, each part of a
-    /// haystack by the same patterns. With it a regex finds where a match starts; `regex::Builder::build_from_nfa`
+    /// The reversed NFA: reading backward, it accepts what this one accepts from its anchored start, each part of a
+    /// haystack by the same patterns. A regex finds with it where a match starts; `regex::Builder::build_from_nfa`
     /// makes both at once.
     ///
-    /// It is for anchored searches under `MatchKind::All`, and has one start for both anchored modes; searched for
-    /// pattern k it accepts what this NFA accepts by pattern k. Its reverse flag is flipped, its other flags are the
-    /// same. Reversing takes linear time in the NFA and in what it is reversed to.
+    /// It is for anchored searches under `MatchKind::All`, and has one start for both anchored modes. A search of it
+    /// for pattern k accepts what this NFA accepts by pattern k. Its reverse flag is flipped, and its other flags are
+    /// the same. Reversing takes time linear in the NFA and in the reversed one.
     ///
     /// The reversed NFA has, for each pattern, states for what is reached from the anchored start and leads to a match
     /// of the pattern: one for each such state, and one for each edge that reads a byte or tests a look. So it has at
     /// most `(P + 1) * (n + r + 2)` states, where P counts patterns, n states, and r such edges. Neighbouring bytes of
     /// a `Dense` state that lead to one state are one edge.
     ///
-    /// It fails if the empty match is reached from the start of a pattern and not from the anchored start, or the
-    /// other way round, since then the two would not leave out the same empty matches in UTF-8 mode; if the reversed
-    /// NFA would be too large; and if an allocation fails.
+    /// It fails if the empty match is reached from the start of a pattern and not from the anchored start, or the other
+    /// way round, since then the two would not omit the same empty matches in UTF-8 mode; if the reversed NFA would be
+    /// too large; and if an allocation fails.
     ///
     /// ```text
     /// let reverse = forward.reversed()?;
@@ -589,7 +589,7 @@ impl NFA {
         }
     }
 
-    /// Where the NFA's memory is from.
+    /// The allocator of the NFA.
     pub fn alloc(&self) -> Global {
         self.alloc
     }

@@ -16,7 +16,7 @@ use crate::util::determinize::sparse_set::SparseSet;
 use crate::util::primitives::StateID;
 use std::alloc::{AllocError, Global};
 
-/// The edges that a walk follows: those that read nothing, or every one.
+/// Which edges a walk follows: epsilon edges, or all edges.
 #[derive(Clone, Copy)]
 pub enum Edges {
     Epsilon,
@@ -60,7 +60,7 @@ fn add_nexts(set: &mut SparseSet, transitions: &[Transition])
     }
 }
 
-// Adds a target of a dense state: state 0 stands for none.
+// Adds a target of a dense state: state 0 stands for no edge.
 fn add_dense(set: &mut SparseSet, target: StateID)
     requires { target < set.old.capacity }
     ensures items { set.new.items ≡ once_from set.old.items (nexts (dense_from 0 (target ∷ []))) }
@@ -130,7 +130,7 @@ fn add_targets(set: &mut SparseSet, state: &State, edges: Edges)
     }
 }
 
-// The member that came at this place.
+// The member at this index, in the order in which members were added.
 pub fn member(set: &SparseSet, at: usize) -> Option<StateID>
     ensures some { (id : ℕ) → result ≡ Some id
         → (at < length set.now.items) × (id ≡ get_or set.now.items at id)
@@ -162,7 +162,7 @@ pub fn walk_on(set: &mut SparseSet, states: &[State], edges: Edges, done: usize)
     }
 }
 
-/// Makes of the set the states that the edges lead to from the roots, the roots among them.
+/// Makes the set those states that the edges reach from the roots, the roots among them.
 pub fn walk(set: &mut SparseSet, states: &[State], roots: &[StateID], edges: Edges)
     requires few { length states.now ≤ 2 ^ 27 }
     requires range { states_below (length states.now) states.now ≡ true }
@@ -176,7 +176,7 @@ pub fn walk(set: &mut SparseSet, states: &[State], roots: &[StateID], edges: Edg
     walk_on(set, states, edges, 0);
 }
 
-/// The states that the edges lead to from the roots, the roots among them.
+/// The states that the edges reach from the roots, the roots among them.
 pub fn reach(
     alloc: Global,
     states: &[State],
@@ -212,7 +212,7 @@ fn is_some_match(states: &[State], ids: &[StateID]) -> bool
     false
 }
 
-/// Whether edges that read nothing lead from some root to a match.
+/// Whether epsilon edges lead from some root to a match.
 pub fn reaches_match(alloc: Global, states: &[State], roots: &[StateID]) -> Result<bool, AllocError>
     requires few { length states.now ≤ 2 ^ 27 }
     requires range { states_below (length states.now) states.now ≡ true }
@@ -248,7 +248,7 @@ fn second(alternates: &[StateID], first: StateID) -> Option<StateID>
     Some(alternates[1])
 }
 
-// The second of two alternates, where the first is `first`.
+// The second of two alternates, if the first is `first`.
 fn second_alternate(state: &State, first: StateID) -> Option<StateID>
     ensures { result ≡ second_at (node_of state.now) first }
 {
@@ -282,7 +282,7 @@ fn is_any_byte(state: &State, target: StateID) -> bool
     }
 }
 
-/// Whether the starts are one, or the unanchored one loops lazily over any bytes before the anchored one.
+/// Whether the two starts are one state, or the unanchored one is a lazy loop over any bytes before the anchored one.
 pub fn skips_lazily(
     alloc: Global,
     states: &[State],

@@ -71,7 +71,7 @@ pub fn pattern_of(state: &State) -> Option<PatternID>
     }
 }
 
-/// Where a look leads.
+/// The target of a look.
 pub fn look_target(state: &State) -> Option<StateID>
     ensures { result ≡ look_target (node_of state.now) }
 {
@@ -88,7 +88,7 @@ pub fn look_target(state: &State) -> Option<StateID>
     }
 }
 
-/// Where the epsilon edge of this number leads, looks taken as true.
+/// The target of the epsilon edge of this number, looks taken as true.
 pub fn epsilon_target(state: &State, edge: usize) -> Option<StateID>
     ensures same { result ≡ nth (children_at (node_of state.now) all_true) edge }
     ensures few { result ≡ None ⊎ edge < 2 ^ 63 }
@@ -106,7 +106,7 @@ pub fn epsilon_target(state: &State, edge: usize) -> Option<StateID>
     }
 }
 
-// Whether the range has the byte.
+// Whether the range contains the byte.
 fn has(t: &Transition, u: u8) -> bool
     ensures { result ≡ within t.now.lo t.now.hi u }
 {
@@ -138,7 +138,7 @@ fn dense_target(targets: &[StateID; 256], u: u8) -> Option<StateID>
     if is_zero(next) { None } else { Some(next) }
 }
 
-/// Where the byte edge leads on a byte.
+/// The target of the byte edge on a byte.
 pub fn target(state: &State, u: u8) -> Option<StateID>
     ensures { result ≡ takes_at (node_of state.now) u }
 {

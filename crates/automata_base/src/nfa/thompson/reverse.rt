@@ -19,7 +19,7 @@ use std::alloc::Global;
 // 2^27.
 const MAX_STATES: usize = 134_217_728;
 
-/// Why an NFA can't be reversed, by why its states can't be made.
+/// Why an NFA cannot be reversed, by why its states cannot be made.
 pub fn reverse_error(error: MakeError) -> ReverseError
     ensures large { result ≡ ReverseError.TooLarge → error ≡ MakeError.TooLarge }
     ensures starts { result ≡ ReverseError.Starts → ⊥ }

@@ -13,7 +13,7 @@ use crate::util::look::Look;
 use crate::util::primitives::{PatternID, StateID};
 use std::alloc::{AllocError, Global};
 
-/// The look that holds where the bytes on the two sides are exchanged and the reverse flag is turned.
+/// The look that holds if the bytes on the two sides are exchanged and the reverse flag is flipped.
 fn flip(look: Look) -> Look
     ensures { result ≡ flip look }
 {
@@ -55,7 +55,7 @@ fn push_at(lists: &mut Vec<Vec<StateID>>, at: usize, id: StateID) -> Result<(), 
     Ok(())
 }
 
-// A state again, if it has no list.
+// A copy of a state, if it has no list.
 fn same(state: &State) -> Option<State>
     ensures { (other : State) → result ≡ Some other → other ≡ state.now }
 {
@@ -104,7 +104,7 @@ fn head(alternates: Vec<StateID>, helpers: &[State], first: usize) -> State
     }
 }
 
-// Whether the byte after this one leads where this one does.
+// Whether the byte after this one leads to the same state.
 fn goes_on(targets: &[StateID; 256], byte: usize) -> bool
     requires { byte < 256 }
     ensures { result ≡ starts_with (slice_index_or targets.now byte 0) (drop (byte + 1) targets.now) }
@@ -112,10 +112,10 @@ fn goes_on(targets: &[StateID; 256], byte: usize) -> bool
     byte < 255 && targets[byte + 1] == targets[byte]
 }
 
-/// Why no states are made.
+/// Why the states cannot be made.
 #[derive(Clone, Copy)]
 pub enum MakeError {
-    /// They would be too many.
+    /// There would be too many.
     TooLarge,
     /// An allocation failed.
     OutOfMemory,
@@ -132,8 +132,8 @@ impl From<AllocError> for MakeError {
     }
 }
 
-/// For each state what leads to it, as alternates: a state, where the edge reads and tests nothing, and else a helper,
-/// a state of its own that stands for the edge. The helpers come after the states.
+/// For each state what leads to it, as alternates: a state, if the edge reads and tests nothing, and otherwise a
+/// helper, a state of its own that stands for the edge. The helpers come after the states.
 #[derive(Drop)]
 pub struct EdgesByTarget {
     lists: Vec<Vec<StateID>>,
@@ -141,7 +141,7 @@ pub struct EdgesByTarget {
 }
 
 impl EdgesByTarget {
-    /// No edge of so many states.
+    /// No edge to any of so many states.
     pub fn new(alloc: Global, states: usize) -> Result<EdgesByTarget, AllocError>
         ensures none { IfOk result (λ t. turns_of t ≡ record { lists = no_lists states; helpers = [] }) }
         ensures few { IfOk result (λ t. length t.lists.items ≡ states) }
@@ -231,7 +231,7 @@ impl EdgesByTarget {
         Ok(())
     }
 
-    // Reverses the edge of the bytes from `lo` to `hi` of a dense state: target 0 stands for none.
+    // Reverses the edge of the bytes from `lo` to `hi` of a dense state: target 0 stands for no edge.
     fn turn_run(&mut self, from: StateID, lo: u8, hi: u8, target: StateID) -> Result<(), MakeError>
         requires { target < length self.old.lists.items }
         ensures turned { OnOk result (turns_of self.new
@@ -247,8 +247,8 @@ impl EdgesByTarget {
         self.turn_by(helper, target)
     }
 
-    // Reverses the run of bytes that begins at `lo`, if it ends at this byte. The answer is where that of the next byte
-    // begins.
+    // Reverses the run of bytes that begins at `lo`, if it ends at this byte, and returns where the run of the next
+    // byte begins.
     fn turn_byte(
         &mut self,
         from: StateID,

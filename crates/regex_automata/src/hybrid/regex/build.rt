@@ -20,7 +20,7 @@ use std::alloc::{AllocError, AllocFailed};
 use std::marker::Model;
 use thiserror::Error;
 
-/// Why no regex is made of one NFA.
+/// Why a regex cannot be built from one NFA.
 #[derive(Clone, Copy, Debug, PartialEq, Eq, Error)]
 pub enum RegexBuildError {
     /// `NFA::skips_lazily` is false.
@@ -32,7 +32,7 @@ pub enum RegexBuildError {
     /// `NFA::keeps_utf8` is false.
     #[error("a match may be invalid UTF-8, so in UTF-8 mode it might split a character")]
     NotUtf8,
-    /// The NFA can't be reversed: `ReverseError::Starts`.
+    /// The NFA cannot be reversed: `ReverseError::Starts`.
     #[error("the starts differ in the empty match, so the reversed NFA would have others")]
     Starts,
     /// The reversed NFA would have more states or alternates than an NFA may have.
@@ -41,7 +41,7 @@ pub enum RegexBuildError {
     /// An allocation failed.
     #[error("out of memory")]
     OutOfMemory,
-    /// A lazy DFA can't be built of one of the two NFAs.
+    /// A lazy DFA cannot be built from one of the two NFAs.
     #[error("{0}")]
     Build(BuildError),
 }
@@ -78,7 +78,7 @@ impl<T: Drop> From<AllocFailed<T>> for RegexBuildError {
     }
 }
 
-// Why no regex is made of an NFA that can't be reversed.
+// The error for an NFA that cannot be reversed.
 fn reverse_error(error: ReverseError) -> RegexBuildError
     ensures { result ≡ reverse_refusal error }
 {
@@ -89,7 +89,7 @@ fn reverse_error(error: ReverseError) -> RegexBuildError
     }
 }
 
-// The reversed NFA of one that passes the tests which a sound pair needs.
+// Reverses an NFA, if it passes the tests that a sound pair needs.
 fn tested_reverse(forward: &NFA) -> Result<NFA, RegexBuildError>
     ensures passes { IfOk result (λ reverse. PassesAll forward.now) }
     ensures reversed { IfOk result (λ reverse. IsReversed forward.now reverse) }
@@ -115,7 +115,7 @@ fn tested_reverse(forward: &NFA) -> Result<NFA, RegexBuildError>
     }
 }
 
-/// A builder of regexes, which holds the settings of their DFAs.
+/// A builder of regexes. It holds the settings of their DFAs.
 #[derive(Clone, Copy, Debug)]
 pub struct Builder {
     dfa: dfa::Builder,
@@ -154,7 +154,7 @@ impl Builder {
         }
     }
 
-    /// Sets what is set in these settings, and keeps the rest; the builder holds it from then on.
+    /// Sets the options that are set in `config`, and keeps the others.
     pub fn dfa(&mut self, config: dfa::Config) -> &mut Builder
         ensures same { result.ghost_name ≡ self.entry.ghost_name }
         ensures value { result.now ≡ overwritten self.old config }
@@ -163,7 +163,8 @@ impl Builder {
         self
     }
 
-    /// The regex of two lazy DFAs, which are for the same patterns: they have as many, as `DFA::pattern_len` tells.
+    /// The regex of two lazy DFAs, which have to be for the same patterns. It asks that they have equally many:
+    /// `DFA::pattern_len` is the test.
     pub fn build_from_dfas(&self, forward: DFA, reverse: DFA) -> Regex
         requires { length forward.nfa.start_pattern ≡ length reverse.nfa.start_pattern }
         ensures { result ≡ record { forward = forward; reverse = reverse } }
@@ -171,10 +172,11 @@ impl Builder {
         Regex { forward, reverse }
     }
 
-    /// The regex of an automaton and of one that reads the same backward. It takes no memory.
+    /// The regex of an NFA and of one that reads the same backward. It allocates nothing.
     ///
-    /// Refused in this order: automata that are not for the same patterns, what a lazy DFA of the first is refused by,
-    /// and what one of the second is. The second DFA tells all matches, and its start states are not tagged.
+    /// It fails if the NFAs do not have equally many patterns, if the forward DFA cannot be built, or if the reverse
+    /// one cannot; the error is that of the first test that fails. The reverse DFA has `MatchKind::All`, and its start
+    /// states are not tagged.
     pub fn build_from_nfas(&self, forward: NFA, reverse: NFA) -> Result<Regex, BuildError>
         ensures ok { IfOk result (BuildsPair self.now forward reverse) }
         ensures refused { result_err result ≡ pair_refusal self.now forward reverse }
@@ -190,15 +192,15 @@ impl Builder {
         Ok(Regex { forward, reverse })
     }
 
-    /// The regex of one NFA: it searches backward with the reversed NFA (`NFA::reversed`).
+    /// The regex of one NFA. It searches backward with the reversed NFA (`NFA::reversed`).
     ///
     /// It tests what the promise of spans needs: that the NFA skips lazily (`NFA::skips_lazily`), that no cycle of
-    /// edges that read nothing passes a look (`NFA::is_look_acyclic`), and that in UTF-8 mode it keeps UTF-8
-    /// (`NFA::keeps_utf8`). So every regex that it returns is a sound pair: `find` and its iterator give the spans
-    /// that the ordered paths of the NFA define. `build_from_nfas` makes a regex without these tests.
+    /// epsilon transitions passes a look-around assertion (`NFA::is_look_acyclic`), and that in UTF-8 mode it keeps
+    /// UTF-8 (`NFA::keeps_utf8`). So every regex that it returns is a sound pair: `find` and its iterator return the
+    /// spans that the ordered paths of the NFA define. `build_from_nfas` makes a regex without these tests.
     ///
-    /// The tests are made in this order, and then the NFA is reversed and both lazy DFAs are built; the error is that
-    /// of the first that fails.
+    /// It makes these tests in this order, then reverses the NFA, and then builds both lazy DFAs. The error is that of
+    /// the first that fails.
     pub fn build_from_nfa(&self, forward: NFA) -> Result<Regex, RegexBuildError>
         ensures built { IfOk result (λ regex. (reverse : Automaton)
             × IsReversed forward reverse × BuildsPair self.now forward reverse regex) }

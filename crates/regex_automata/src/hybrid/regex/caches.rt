@@ -35,7 +35,7 @@ impl Cache {
         Ok(())
     }
 
-    /// The cache of the forward DFA. Neither part changes.
+    /// The cache of the forward DFA. Both parts stay as they are.
     pub fn forward(&mut self) -> &dfa::Cache
         ensures* same { sem 𝓛 (StaysSame self.entry) }
         ensures value { result.now ≡ self.old.forward }
@@ -43,7 +43,7 @@ impl Cache {
         &self.forward
     }
 
-    /// The cache of the reverse DFA. Neither part changes.
+    /// The cache of the reverse DFA. Both parts stay as they are.
     pub fn reverse(&mut self) -> &dfa::Cache
         ensures* same { sem 𝓛 (StaysSame self.entry) }
         ensures value { result.now ≡ self.old.reverse }
@@ -75,8 +75,8 @@ impl Cache {
         (&self.forward, &self.reverse)
     }
 
-    /// Both caches for writing, the forward one first. Proofs that are found for callers follow one lent part at a
-    /// time: where such a proof has to know what was written, take `forward_mut` and then `reverse_mut`.
+    /// Both caches for writing, the forward one first. A proof that the prover finds follows one lent part at a time:
+    /// if your proof has to know what was written, call `forward_mut` and then `reverse_mut`.
     pub fn as_parts_mut(&mut self) -> (&mut dfa::Cache, &mut dfa::Cache)
         ensures* writes_back { sem 𝓛 (LendsBothParts self.entry result) }
         ensures forward { result.0.now ≡ self.old.forward }
@@ -85,7 +85,7 @@ impl Cache {
         (&mut self.forward, &mut self.reverse)
     }
 
-    /// Each part is within the settings of the DFA that it belongs to. It does nothing.
+    /// States a fact for proofs, and does nothing: each part is within the settings of the DFA that it belongs to.
     pub fn see_bounds(&self)
         ensures forward { IsStoreOf self.now.forward.store self.now.forward.store.table.of }
         ensures reverse { IsStoreOf self.now.reverse.store self.now.reverse.store.table.of }
@@ -94,7 +94,7 @@ impl Cache {
         self.reverse.see_bounds();
     }
 
-    /// The accounted bytes of both; the greatest `usize` if the sum is above it.
+    /// The accounted bytes of both. If the sum is above the greatest `usize`, it is that number.
     pub fn memory_usage(&self) -> usize
         ensures { result ≡ min (usage self.now.forward.store + usage self.now.reverse.store) (2 ^ 64 - 1) }
     {

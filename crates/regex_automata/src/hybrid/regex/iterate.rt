@@ -17,7 +17,7 @@ use automata_config::error::SearchError;
 use automata_hybrid::laws::known_stays;
 use std::fmt;
 
-/// The input from an offset on.
+/// The same input, from a later offset on.
 fn from<'h>(input: &Input<'h>, start: usize) -> Input<'h>
     requires { Allows input.now.haystack start input.now.end }
     ensures { result ≡ from start input.now }
@@ -37,8 +37,8 @@ fn is_empty_at(last: Option<usize>, found: &Match) -> bool
 }
 
 impl Regex {
-    /// The match after one that ended at `last`: an empty one there is replaced by that of the search from one offset
-    /// later.
+    /// The match after one that ended at `last`. An empty match there is replaced by the match of a search from one
+    /// offset later.
     fn next_match(
         &self,
         cache: &mut Cache,
@@ -71,7 +71,7 @@ impl Regex {
 
     /// The matches of an input, one after another. The iterator itself allocates nothing.
     ///
-    /// The error of a search is the last item, after the matches that were found before it:
+    /// If a search fails, its error is the last item:
     ///
     /// ```rust
     /// for found in regex.find_iter(&mut cache, Input::new(b"foo 12 bar")) {
@@ -107,8 +107,8 @@ impl Regex {
     }
 }
 
-/// The matches that are left of an input, up to an error, which is the last item. After the last item it returns none
-/// each time. If the anchored mode is not supported, its one item is that error.
+/// An iterator over the matches of an input that are left. An error is its last item. After the last item each call
+/// returns none. If the anchored mode is not supported, its only item is that error.
 #[derive(Drop)]
 pub struct FindMatches<'r, 'c, 'h> {
     regex: &'r Regex,
@@ -137,7 +137,7 @@ impl<'r, 'c, 'h> fmt::Debug for FindMatches<'r, 'c, 'h> {
 }
 
 impl<'r, 'c, 'h> FindMatches<'r, 'c, 'h> {
-    /// What is left to be searched.
+    /// The input that is left to be searched.
     fn input(&self) -> Input<'h>
         ensures { result ≡ input_at self.now.haystack.now self.now.start self.now.end self.now.anchored
             self.now.earliest }

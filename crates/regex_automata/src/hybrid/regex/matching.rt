@@ -11,7 +11,7 @@ use automata_base::util::search::Input;
 use automata_config::error::SearchError;
 
 impl Regex {
-    /// Whether the forward DFA leaves out places that split a character.
+    /// Whether the forward DFA skips offsets inside characters.
     fn skips(&self) -> bool
         ensures yes { result ≡ true → Skips self.now.forward }
         ensures no { result ≡ false → Skips self.now.forward → ⊥ }
@@ -23,7 +23,7 @@ impl Regex {
         nfa.has_empty()
     }
 
-    /// What is searched to tell whether there is a match: the first one seen will do, but where it may be left out.
+    /// The input of a search for whether there is a match. It is earliest, unless the first match may be skipped.
     fn asked<'h>(&self, input: &Input<'h>) -> Input<'h>
         ensures { IsAsked self.now.forward input.now result }
     {
@@ -34,16 +34,16 @@ impl Regex {
             .earliest(!skips)
     }
 
-    /// Whether there is a match, whatever the input's earliest flag. The reverse DFA isn't used.
+    /// Whether there is a match, whatever the input's earliest flag. It uses the forward DFA alone.
     pub fn is_match(&self, cache: &mut Cache, input: &Input<'_>) -> Result<bool, SearchError>
         requires { AreCachesOf cache.old self.now }
         ensures of { AreCachesOf cache.new self.now }
 
-        // What it answers, whatever the caches; and why these refuse.
+        // What it returns, whatever the caches; and why it fails.
         ensures owed { IsTruthOf self.now input.now result }
         ensures refusal { IfErr result (IsMatchRefused self.now.forward cache.new.forward.store input.now) }
 
-        // What it makes of the caches.
+        // What it does to the caches.
         ensures effect { IsTruthEffect self.now input.now cache.old cache.new result }
     {
         told_is_right(self.forward.get_nfa());

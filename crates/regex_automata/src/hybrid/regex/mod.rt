@@ -1,4 +1,5 @@
-//! A regular expression as two lazy DFAs: one finds where a match ends, and one, reading backward, where it starts.
+//! A regular expression as two lazy DFAs: one finds where a match ends, and one, reading backward, finds where it
+//! starts.
 ghost use Rattle.std.specs.Prelude.{◌≡◌, IfOk, OnOk, OnErr, length};
 ghost use Rattle.automata_config.specs.Options.{unset};
 ghost use Rattle.regex_automata.specs.RegexCaches.{AreFresh};
@@ -15,10 +16,10 @@ pub use caches::Cache;
 pub use iterate::FindMatches;
 use std::alloc::AllocError;
 
-/// The lazy DFAs of a regular expression, for the same patterns.
+/// The two lazy DFAs of a regular expression, for the same patterns.
 ///
-/// It is built of an automaton and of one that reads the same expression backward, and searches over a cache of its
-/// own, which serves one search after another:
+/// It is built from an NFA, or from two of which one reads the same expression backward. It searches over a cache of
+/// its own, which serves one search after another:
 ///
 /// ```rust
 /// let regex = Regex::builder().build_from_nfa(word(rt.alloc())?)?;

@@ -19,7 +19,7 @@ use automata_base::util::search::{Anchored, HalfMatch, Input, Match, Span};
 use automata_config::error::SearchError;
 use automata_hybrid::laws::answers_agree;
 
-/// The input of a search back: the span up to the match's end, anchored and not earliest.
+/// The input of a search back: from the base to the match's end, anchored and not earliest.
 fn backward<'h>(input: &Input<'h>, half: HalfMatch, base: usize) -> Input<'h>
     requires ordered { base ≤ half.offset }
     requires within { half.offset ≤ input.now.end }
@@ -30,7 +30,7 @@ fn backward<'h>(input: &Input<'h>, half: HalfMatch, base: usize) -> Input<'h>
         .anchored(Anchored::Yes)
 }
 
-/// Whether a mode is the one that is not anchored.
+/// Whether it is the mode `Anchored::No`.
 fn is_unanchored(mode: Anchored) -> bool
     ensures yes { result ≡ true → mode ≡ Anchored.No }
     ensures no { result ≡ false → mode ≡ Anchored.No → ⊥ }
@@ -42,13 +42,13 @@ fn is_unanchored(mode: Anchored) -> bool
 }
 
 impl Regex {
-    /// The first match, by the match kind of the forward DFA; with an earliest input, the one that ends first. The search
-    /// back from its end, by the reverse DFA, finds its start.
+    /// The first match, by the match kind of the forward DFA; with an earliest input, the match that ends first. The
+    /// reverse DFA searches back from its end, and finds its start.
     ///
-    /// An error is that of the forward search or of the one back, as these report it; or the two DFAs are no pair, if
-    /// the one back finds no start. After an error the cache serves other searches as before.
+    /// An error is that of the forward search or of the search back, as these report it. If the search back finds no
+    /// start, the error is that the two DFAs are no pair. After an error the cache serves other searches as before.
     ///
-    /// For all matches use `find_iter`; if it is enough to know whether there is one, use `is_match`.
+    /// For all matches call `find_iter`. If you only need to know whether there is a match, call `is_match`.
     pub fn try_search(
         &self,
         cache: &mut Cache,
@@ -73,7 +73,7 @@ impl Regex {
         found
     }
 
-    /// What `try_search` returns.
+    /// The same as `try_search`.
     pub fn find(&self, cache: &mut Cache, input: &Input<'_>) -> Result<Option<Match>, SearchError>
         requires { AreCachesOf cache.old self.now }
         ensures of { AreCachesOf cache.new self.now }
@@ -88,8 +88,8 @@ impl Regex {
         self.try_search(cache, input)
     }
 
-    /// Whether a match starts where the span that gave it began, so that no search back is made: if it is empty there, or
-    /// if the search is anchored by its mode or by the NFA.
+    /// Whether a match starts where the span that gave it began, so that no search back is needed: it is empty there,
+    /// or the anchored mode or the NFA anchors the search.
     fn is_short(&self, input: &Input<'_>, half: HalfMatch, base: usize) -> bool
         ensures yes { result ≡ true → IsShort (forward_engine self.now) input.now (with_base half base) }
         ensures no { result ≡ false → IsShort (forward_engine self.now) input.now (with_base half base) → ⊥ }

@@ -15,7 +15,7 @@ returns-in-Ok-clause-pair c = c.in-Ok.ensures.pair (c.if-not-skips_lazily.ensure
 pub returns-in-Ok-clause-utf8 : goal.returns-in-Ok-clause-utf8
 returns-in-Ok-clause-utf8 c = c.in-Ok-true.ensures.keeps c.in-Ok-true.field-0-test
 
--- an NFA that passes all tests isn't reversed
+-- an NFA that passes all tests cannot be reversed
 unreversed :
     (o : Options) (a : Automaton) (e : ReverseError) → PassesAll a → (e ≡ Starts → BeginsAlike a → ⊥) → (e ≡ TooLarge → MayBeTooLarge a)
     → IsRefusal o a (reverse_refusal e)
