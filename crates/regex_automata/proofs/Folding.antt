@@ -10,9 +10,9 @@ use Rattle.regex_automata.specs.declared.hybrid.regex.caches.Cache.{Cache}
 use Rattle.regex_automata.proofs.Results.{same_some}
 use Rattle.regex_automata.specs.declared.hybrid.regex.Regex.{Regex}
 use Rattle.regex_automata.specs.declared.replay.requests.Request.{Request}
-use Rattle.regex_automata.specs.declared.replay.replies.Reply.{Reply}
-use Rattle.regex_automata.specs.declared.replay.replies.Reply.TheVariants as reply
-use Rattle.regex_automata.specs.declared.replay.replies.Fault.TheVariants as fault
+use Rattle.regex_automata.specs.declared.replay.requests.Reply.{Reply}
+use Rattle.regex_automata.specs.declared.replay.requests.Reply.TheVariants as reply
+use Rattle.regex_automata.specs.declared.replay.requests.Fault.TheVariants as fault
 
 module _ (regexes : List Regex) (script : List Request) where
   -- the replies that are left, after this history, complete the replies so far

@@ -8,10 +8,10 @@ use Rattle.regex_automata.specs.ReplayCaches.{AreFreshOf, IsMadeBy, IsMadeByOf}
 use Rattle.regex_automata.specs.Replies.{IsReply, IsOwed, IsOwedBy, own_fault}
 use Rattle.regex_automata.specs.declared.hybrid.regex.caches.Cache.{Cache}
 use Rattle.regex_automata.specs.declared.replay.requests.Request.{Request}
-use Rattle.regex_automata.specs.declared.replay.replies.Reply.{Reply}
-use Rattle.regex_automata.specs.declared.replay.replies.Reply.TheVariants as reply
-use Rattle.regex_automata.specs.declared.replay.replies.Fault.{Fault}
-use Rattle.regex_automata.specs.declared.replay.replies.Fault.TheVariants as fault
+use Rattle.regex_automata.specs.declared.replay.requests.Reply.{Reply}
+use Rattle.regex_automata.specs.declared.replay.requests.Reply.TheVariants as reply
+use Rattle.regex_automata.specs.declared.replay.requests.Fault.{Fault}
+use Rattle.regex_automata.specs.declared.replay.requests.Fault.TheVariants as fault
 use Rattle.regex_automata.specs.declared.replay.requests.Request.TheVariants as request
 use Rattle.automata_config.specs.declared.error.SearchError.TheVariants as search
 

@@ -16,9 +16,9 @@ use Rattle.regex_automata.specs.Players.{IsWalk, AreWalks, HasPlayed, HasAnswere
 use Rattle.regex_automata.specs.ReplayCaches.{AreMade, IsCalled, IsMadeByOf, IsWalkStepped, other_of, own_of}
 use Rattle.regex_automata.specs.declared.hybrid.regex.caches.Cache.{Cache}
 use Rattle.regex_automata.specs.declared.replay.requests.Request.TheVariants as request
-use Rattle.regex_automata.specs.declared.replay.replies.Reply.TheVariants as reply
-use Rattle.regex_automata.specs.declared.replay.replies.Fault.{Fault}
-use Rattle.regex_automata.specs.declared.replay.replies.Fault.TheVariants as fault
+use Rattle.regex_automata.specs.declared.replay.requests.Reply.TheVariants as reply
+use Rattle.regex_automata.specs.declared.replay.requests.Fault.{Fault}
+use Rattle.regex_automata.specs.declared.replay.requests.Fault.TheVariants as fault
 use Rattle.regex_automata.specs.declared.replay.players.Player.{Player}
 use Rattle.regex_automata.specs.declared.replay.walks.KeptWalk.{KeptWalk}
 use Rattle.regex_automata.proofs.Replying.{is_own, is_bad}

@@ -3,8 +3,8 @@ use Rattle.std.specs.Prelude.{ℕ, zero, suc, ◌+◌, Bool, List, [], ◌∷◌
 use Rattle.automata_base.specs.Input.{Input}
 use Rattle.regex_automata.specs.declared.replay.requests.Request.{Request}
 use Rattle.regex_automata.specs.declared.replay.requests.Request.TheVariants as request
-use Rattle.regex_automata.specs.declared.replay.replies.Reply.{Reply}
-use Rattle.regex_automata.specs.declared.replay.replies.Reply.TheVariants as reply
+use Rattle.regex_automata.specs.declared.replay.requests.Reply.{Reply}
+use Rattle.regex_automata.specs.declared.replay.requests.Reply.TheVariants as reply
 
 -- a walk that was begun: the number of its regex, its direction, its input, and how many of its steps answered Ok
 pub record Begun : Type 0 where

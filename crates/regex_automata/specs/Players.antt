@@ -18,7 +18,7 @@ use Rattle.regex_automata.specs.ReplayCaches.{AreMade, IsCalled, other_of, own_o
 use Rattle.regex_automata.specs.Replies.{IsReply, dfa_of, direction_of}
 use Rattle.regex_automata.specs.declared.hybrid.regex.Regex.{Regex}
 use Rattle.regex_automata.specs.declared.hybrid.regex.caches.Cache.{Cache}
-use Rattle.regex_automata.specs.declared.replay.replies.Reply.{Reply}
+use Rattle.regex_automata.specs.declared.replay.requests.Reply.{Reply}
 use Rattle.regex_automata.specs.declared.replay.requests.Request.{Request}
 use Rattle.regex_automata.specs.declared.replay.players.Player.{Player}
 use Rattle.regex_automata.specs.declared.replay.walks.KeptWalk.{KeptWalk}

@@ -28,8 +28,8 @@ use Rattle.regex_automata.specs.Replies.{OnHalf, OnPatterns, OnSpan, OnSpans, On
 use Rattle.regex_automata.specs.Tokens.{IsRefusedAt, IsTokenEffect, match_of}
 use Rattle.regex_automata.specs.declared.hybrid.regex.Regex.{Regex}
 use Rattle.regex_automata.specs.declared.hybrid.regex.caches.Cache.{Cache}
-use Rattle.regex_automata.specs.declared.replay.replies.Reply.{Reply}
-use Rattle.regex_automata.specs.declared.replay.replies.Reply.TheVariants as reply
+use Rattle.regex_automata.specs.declared.replay.requests.Reply.{Reply}
+use Rattle.regex_automata.specs.declared.replay.requests.Reply.TheVariants as reply
 use Rattle.regex_automata.specs.declared.replay.requests.Request.{Request}
 use Rattle.regex_automata.specs.declared.replay.requests.Request.TheVariants as request
 use Rattle.regex_automata.specs.declared.tokens.error.TokenError.{TokenError}

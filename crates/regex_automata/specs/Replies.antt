@@ -20,10 +20,10 @@ use Rattle.regex_automata.specs.Tokens.{AreTokensUpto}
 use Rattle.regex_automata.specs.declared.hybrid.regex.Regex.{Regex}
 use Rattle.regex_automata.specs.declared.replay.requests.Request.{Request}
 use Rattle.regex_automata.specs.declared.replay.requests.Request.TheVariants as request
-use Rattle.regex_automata.specs.declared.replay.replies.Reply.{Reply}
-use Rattle.regex_automata.specs.declared.replay.replies.Reply.TheVariants as reply
-use Rattle.regex_automata.specs.declared.replay.replies.Fault.{Fault}
-use Rattle.regex_automata.specs.declared.replay.replies.Fault.TheVariants as fault
+use Rattle.regex_automata.specs.declared.replay.requests.Reply.{Reply}
+use Rattle.regex_automata.specs.declared.replay.requests.Reply.TheVariants as reply
+use Rattle.regex_automata.specs.declared.replay.requests.Fault.{Fault}
+use Rattle.regex_automata.specs.declared.replay.requests.Fault.TheVariants as fault
 use Rattle.regex_automata.specs.declared.tokens.error.TokenError.{TokenError}
 use Rattle.automata_config.specs.Options.{match_kind_of}
 

@@ -8,15 +8,13 @@ ghost use Rattle.regex_automata.specs.Players.{HasPlayed};
 mod iteration;
 mod patterns;
 mod players;
-mod replies;
 mod requests;
 mod tokens;
 mod walks;
 
 use crate::hybrid::regex::Regex;
 use players::Player;
-pub use replies::{Fault, Reply};
-pub use requests::Request;
+pub use requests::{Fault, Reply, Request};
 use std::alloc::{AllocError, Global};
 
 /// Returns one reply for each request, in order. Each is its request's own value, whatever came before.

@@ -1,4 +1,9 @@
-use automata_base::util::search::Input;
+//! What a script asks for, and what is replied.
+
+use crate::tokens::TokenError;
+use automata_base::util::primitives::PatternID;
+use automata_base::util::search::{HalfMatch, Input, Match};
+use automata_config::error::SearchError;
 
 /// A request of a script. It borrows its haystack.
 #[derive(Drop)]
@@ -23,4 +28,47 @@ pub enum Request<'h> {
     Which { capacity: usize, input: Input<'h> },
     /// Makes the caches fresh ones of this regex, which becomes the current one.
     Reset(usize),
+}
+
+/// Why a request is bad.
+#[derive(Clone, Copy, Debug, PartialEq, Eq)]
+pub enum Fault {
+    /// There is no regex at all, or a reset names none.
+    NoRegex,
+    /// There is no walk of this number.
+    NoWalk,
+    /// The walk belongs to another regex than the current one.
+    OtherRegex,
+}
+
+/// The reply to a request: its answer, or its error. Out of memory is an error too.
+#[derive(Debug, PartialEq, Eq, Drop)]
+pub enum Reply {
+    /// What a search of one DFA found, or the match of a walk after one step.
+    Half(Result<Option<HalfMatch>, SearchError>),
+    /// The span of the first match.
+    Span(Result<Option<Match>, SearchError>),
+    /// Whether there is a match.
+    Truth(Result<bool, SearchError>),
+    /// The matches so far, and the error that ended them, if any.
+    Spans {
+        found: Vec<Match>,
+        error: Option<SearchError>,
+    },
+    /// The patterns and spans of the tokens so far, and the error that ended them, if any.
+    Tokens {
+        found: Vec<Match>,
+        error: Option<TokenError>,
+    },
+    /// The number of the walk that was begun.
+    Begun(Result<usize, SearchError>),
+    /// The patterns in increasing order, and the error that ended the search after them, if any.
+    Patterns {
+        found: Vec<PatternID>,
+        error: Option<SearchError>,
+    },
+    /// Another regex is current.
+    Done(Result<(), SearchError>),
+    /// The request is bad, and changed nothing.
+    Bad(Fault),
 }

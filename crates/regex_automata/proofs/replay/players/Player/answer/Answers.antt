@@ -7,7 +7,7 @@ use Rattle.regex_automata.specs.Replies.{IsReply}
 use Rattle.regex_automata.specs.declared.hybrid.regex.caches.Cache.{Cache}
 use Rattle.regex_automata.specs.declared.replay.requests.Request.{Request}
 use Rattle.regex_automata.specs.declared.replay.requests.Request.TheVariants as request
-use Rattle.regex_automata.specs.declared.replay.replies.Reply.TheVariants as reply
+use Rattle.regex_automata.specs.declared.replay.requests.Reply.TheVariants as reply
 use Rattle.regex_automata.proofs.Replying.{is_made, is_own}
 use Rattle.regex_automata.proofs.replay.players.Player.answer.Goals as goal
 
