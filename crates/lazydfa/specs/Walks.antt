@@ -1,10 +1,6 @@
 -- Overlapping walks in the direction of their NFA.
 use Rattle.std.specs.Prelude.{◌≡◌, true, false}
-use Rattle.regex_automata.specs.Input.{Input}
-use Rattle.regex_automata.specs.Tapes.{Forward, Backward}
-use Rattle.regex_automata.specs.Machine.{Machine}
-use Rattle.regex_automata.specs.Walking.{IsWalkOf}
-use Rattle.regex_automata.specs.Walks.{Walk}
+use Rattle.regex_automata.specs.Promises.{Backward, Forward, Input, IsWalkOf, Machine, Walk}
 
 -- a walk over this input, backward if the NFA is for reverse searches
 abbrev pub IsWalkOver : Machine → Input → Walk → Type 0

@@ -1,9 +1,3 @@
-pub use Rattle.automata_base.specs.Input
-pub use Rattle.automata_base.specs.Tapes
-pub use Rattle.automata_hybrid.specs.Caches
-pub use Rattle.automata_hybrid.specs.Machine
-pub use Rattle.automata_hybrid.specs.Walking
-pub use Rattle.automata_hybrid.specs.Walks
 pub mod SoundPairs
 pub mod Outcomes
 pub mod RegexBuilds

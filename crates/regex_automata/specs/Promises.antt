@@ -23,15 +23,22 @@ pub use Rattle.automata_base.specs.Answers.{Half}
 pub use Rattle.automata_base.specs.Answers.{IsAnswer}
 pub use Rattle.automata_base.specs.Told.{IsNearestAnswer}
 pub use Rattle.automata_base.specs.Engines.{engine_of}
-pub use Rattle.automata_base.specs.Tapes.{Forward}
+pub use Rattle.automata_base.specs.Tapes.{Backward, Forward}
 -- What a search returns by its DFA and its input alone, and the part of it that holds for every NFA.
 pub use Rattle.automata_hybrid.specs.Owing.{IsHalf}
 pub use Rattle.automata_hybrid.specs.Searches.{IsFound, Skips, WithoutBase, without_base}
 pub use Rattle.automata_hybrid.specs.Agreeing.{AnswersAgree}
+-- An overlapping search as contracts see it; it belongs to this input, and has reported so many matches; the list that it
+-- reports, the match at an index of it, and what a call returns and does to the walk.
+pub use Rattle.automata_hybrid.specs.Walks.{Walk}
+pub use Rattle.automata_hybrid.specs.Walking.{AreWalked, HasTold, IsWalkOf, TellsNext, half_nth}
+pub use Rattle.automata_hybrid.specs.OwingWalks.{IsWalkCall}
 -- Some path of the pattern, from a start and through the span of an input, ends in a match; under `MatchKind::All` a set
 -- has exactly these patterns after a call that answers.
 pub use Rattle.automata_hybrid.specs.Accepting.{MatchesIn, SetsHaveMatching}
 pub use Rattle.automata_hybrid.specs.OwingWalks.{IsWhich}
+-- The two DFAs of a regex are a sound pair: spans need it. A regex that `build_from_nfa` returns is one.
+pub use Rattle.regex_automata.specs.SoundPairs.{IsSoundPair}
 -- The patterns of a set, as a list; a member of a list.
 pub use Rattle.automata_base.specs.PatternSet.{members}
 pub use Rattle.automata_base.specs.Lists.{In}

@@ -1,7 +1,7 @@
 //! Calls of the library over one lazy DFA and its cache, and what they report.
 
 ghost use Rattle.std.specs.Prelude.{◌≡◌, ◌<◌, ◌^◌, IsTrue};
-ghost use Rattle.regex_automata.specs.Caches.{IsCacheOf, HasRow};
+ghost use Rattle.regex_automata.specs.Promises.{HoldsRow, IsCacheOf};
 
 use super::Host;
 use super::plans::Mode;
@@ -202,7 +202,7 @@ impl Bench {
 
     /// Whether the cache still has the state. A clear can end it.
     fn has_state(&self) -> bool
-        ensures row { IsTrue result → HasRow self.now.cache.store.table self.now.at }
+        ensures row { IsTrue result → HoldsRow self.now.cache self.now.at }
         ensures low { IsTrue result → self.now.at < 2 ^ 31 }
     {
         !self.at.is_unknown() && self.cache.is_valid(self.at)

@@ -1,8 +1,7 @@
 //! A whole caller of the library: it searches a text line by line.
 
 ghost use Rattle.std.specs.Prelude.{◌≤◌, length};
-ghost use Rattle.regex_automata.specs.Caches.{IsCacheOf};
-ghost use Rattle.regex_automata.specs.Input.{Allows};
+ghost use Rattle.regex_automata.specs.Promises.{Allows, IsCacheOf};
 
 use super::same_of;
 use crate::catalogue::Entry;

@@ -1,6 +1,6 @@
 //! Long haystacks and many states.
 
-ghost use Rattle.regex_automata.specs.RegexCaches.{AreCachesOf};
+ghost use Rattle.regex_automata.specs.Promises.{AreCachesOf};
 
 use super::bench::Bench;
 use super::plans::{Plan, Shape};

@@ -1,7 +1,7 @@
 //! The calls of a regex over one cache, by rows with what they report.
 
 ghost use Rattle.std.specs.Prelude.{◌≡◌};
-ghost use Rattle.regex_automata.specs.RegexCaches.{AreCachesOf};
+ghost use Rattle.regex_automata.specs.Promises.{AreCachesOf};
 
 use super::plans::{Plan, Shape, pattern_id};
 use super::regex_bench::{Ask, Pair, RegexBench, Row};

@@ -1,7 +1,7 @@
 //! Calls of the library over one regex and its cache, and what they report.
 
 ghost use Rattle.std.specs.Prelude.{◌≡◌};
-ghost use Rattle.regex_automata.specs.RegexCaches.{AreCachesOf};
+ghost use Rattle.regex_automata.specs.Promises.{AreCachesOf};
 
 use super::Host;
 use super::bench::counted;

@@ -1,7 +1,7 @@
 //! Regexes of one NFA, which search backward with the reversed one: spans by rows, worked out without the library.
 
 ghost use Rattle.std.specs.Prelude.{IfOk};
-ghost use Rattle.regex_automata.specs.SoundPairs.{IsSoundPair};
+ghost use Rattle.regex_automata.specs.Promises.{IsSoundPair};
 
 use super::plans::{Plan, Shape};
 use super::regex_bench::Pair;

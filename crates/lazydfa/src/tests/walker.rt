@@ -2,7 +2,7 @@
 
 ghost use Rattle.std.specs.Prelude.{◌≡◌};
 ghost use Rattle.lazydfa.specs.Walks.{IsWalkOver};
-ghost use Rattle.regex_automata.specs.Caches.{IsCacheOf};
+ghost use Rattle.regex_automata.specs.Promises.{IsCacheOf};
 
 use super::bench::{counted, within};
 use super::plans::pattern_id;
