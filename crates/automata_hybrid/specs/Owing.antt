@@ -62,32 +62,34 @@ unsupported_error input = search.Match (UnsupportedMode input.anchored)
 abbrev pub MayRefuse : Direction → Machine → Input → SearchError → Type 0
 MayRefuse way m input e = (c : Stored) × IsStoreOf c m × IsRefused way m c input e
 
--- what a search in a direction answers
-pub record IsHalf (way : Direction) (m : Machine) (input : Input)
-    (result : Result (Option HalfMatch) SearchError) : Type 0 where
-  -- for every automaton, what the passes tell
-  pub found : IfOk result (WithoutBase (IsFound way m input))
-  -- where no cycle passes a look, the answer of the ordered paths
+-- what a search in a direction returns: an option, seen as an answer by `Is`, which lies where `Lies` says
+pub record IsAnswered {A : Type 0} (Is : (Option Half → Type 0) → Option A → Type 0) (Lies : Option A → Type 0)
+    (way : Direction) (m : Machine) (input : Input) (result : Result (Option A) SearchError) : Type 0 where
+  -- for every NFA, what the passes report
+  pub found : IfOk result (Is (IsFound way m input))
+  -- if no cycle passes a look, the answer of the ordered paths
   pub answer :
-      IsLookAcyclic (nfa_of m.nfa)
-      → IfOk result (WithoutBase (IsAnswer way (engine_of m.nfa (match_kind_of m.config)) input))
-  -- for every automaton, the nearest end in an earliest search, and under kind all the farthest one in another
+      IsLookAcyclic (nfa_of m.nfa) → IfOk result (Is (IsAnswer way (engine_of m.nfa (match_kind_of m.config)) input))
+  -- for every NFA, the nearest end in an earliest search, and in any other under `MatchKind::All` the farthest one
   pub nearest :
-      input.earliest ≡ true
-      → IfOk result (WithoutBase (IsNearestAnswer way (engine_of m.nfa (match_kind_of m.config)) input))
+      input.earliest ≡ true → IfOk result (Is (IsNearestAnswer way (engine_of m.nfa (match_kind_of m.config)) input))
   pub farthest :
       input.earliest ≡ false → match_kind_of m.config ≡ KindAll
-      → IfOk result (WithoutBase (IsFarthestAnswer way (engine_of m.nfa (match_kind_of m.config)) input))
-  -- it lies in the input's span, and its pattern is one of the automaton's
-  pub within : IfOk result (λ o. IfSome o (LiesIn m input))
-  -- a refusal is one that some cache may give
+      → IfOk result (Is (IsFarthestAnswer way (engine_of m.nfa (match_kind_of m.config)) input))
+  -- it lies in the input's span, and its pattern is one of the NFA's
+  pub within : IfOk result Lies
+  -- an error is one that some cache may give
   pub errors : IfErr result (MayRefuse way m input)
-  -- a mode that isn't supported is told
+  -- an anchored mode that is not supported is reported
   pub unsupported : IsUnsupported way m input → result ≡ Err (unsupported_error input)
-  -- where nothing stands in the way, only want of memory is a refusal
+  -- if nothing else can prevent an answer, the only error is out of memory
   pub free : IsUnhindered m input → IfErr result IsMemory
-  -- in a span that is done there is none
+  -- in a span that is done there is no match
   pub done : input.end < input.start → result ≡ Ok None
+
+-- what a search in a direction returns: a match's pattern and end, or none
+abbrev pub IsHalf : Direction → Machine → Input → Result (Option HalfMatch) SearchError → Type 0
+IsHalf way m input result = IsAnswered WithoutBase (λ o. IfSome o (LiesIn m input)) way m input result
 
 -- an answer with the start of the span that gave it
 abbrev pub based_half : Option (HalfMatch × ℕ) → Option Half
@@ -98,32 +100,10 @@ abbrev pub halves : Result (Option (HalfMatch × ℕ)) SearchError → Result (O
 halves (Ok found) = Ok (option_map (λ p. p.0) found)
 halves (Err e) = Err e
 
--- what a forward search answers, with the start of the span that gave it
-pub record IsBased (m : Machine) (input : Input)
-    (result : Result (Option (HalfMatch × ℕ)) SearchError) : Type 0 where
-  -- for every automaton, what the passes tell
-  pub found : IfOk result (λ o. IsFound Forward m input (based_half o))
-  -- where no cycle passes a look, the answer of the ordered paths
-  pub answer :
-      IsLookAcyclic (nfa_of m.nfa)
-      → IfOk result (λ o. IsAnswer Forward (engine_of m.nfa (match_kind_of m.config)) input (based_half o))
-  -- for every automaton, the nearest end in an earliest search, and under kind all the farthest one in another
-  pub nearest :
-      input.earliest ≡ true
-      → IfOk result (λ o. IsNearestAnswer Forward (engine_of m.nfa (match_kind_of m.config)) input (based_half o))
-  pub farthest :
-      input.earliest ≡ false → match_kind_of m.config ≡ KindAll
-      → IfOk result (λ o. IsFarthestAnswer Forward (engine_of m.nfa (match_kind_of m.config)) input (based_half o))
-  -- it lies in the input's span, not before the start of the one that gave it; its pattern is one of the automaton's
-  pub within : IfOk result (λ o. IfSome o (λ p. LiesPast m input p.0 p.1))
-  -- a refusal is one that some cache may give
-  pub errors : IfErr result (MayRefuse Forward m input)
-  -- a mode that isn't supported is told
-  pub unsupported : IsUnsupported Forward m input → result ≡ Err (unsupported_error input)
-  -- where nothing stands in the way, only want of memory is a refusal
-  pub free : IsUnhindered m input → IfErr result IsMemory
-  -- in a span that is done there is none
-  pub done : input.end < input.start → result ≡ Ok None
+-- what a forward search returns, with the start of the span that gave it
+abbrev pub IsBased : Machine → Input → Result (Option (HalfMatch × ℕ)) SearchError → Type 0
+IsBased m input result =
+    IsAnswered (λ P o. P (based_half o)) (λ o. IfSome o (λ p. LiesPast m input p.0 p.1)) Forward m input result
 
 -- what a search in a direction makes of its cache
 pub record IsSearchEffect {T : Type 0} (way : Direction) (m : Machine) (input : Input) (old new : CacheView)
