@@ -13,7 +13,8 @@ use Rattle.automata_hybrid.specs.Stores.{Stored, IsKnownTransition}
 use Rattle.automata_hybrid.specs.Ids.{quit_id}
 use Rattle.automata_hybrid.specs.Stepping.{unit_class}
 use Rattle.automata_hybrid.specs.Machine.{Machine, table_stride}
-use Rattle.automata_hybrid.specs.Passing.{HasLearned, HasLearnedUnit, IsAt, IsLed, IsTaken, half_at, half_of}
+use Rattle.automata_hybrid.specs.Knowing.{KnowsUnit}
+use Rattle.automata_hybrid.specs.Passing.{HasLearned, HasLearnedUnit, IsAt, IsFollowed, IsLed, IsTaken, half_at, half_of}
 use Rattle.automata_hybrid.specs.Searches.{HasReadNoQuit, state_in, tape_in, told_in}
 use Rattle.automata_hybrid.specs.Table.{Leads, Names}
 use Rattle.automata_hybrid.proofs.Searching.{false_true, found_more, lt_or_le, state_more}
@@ -112,3 +113,13 @@ module _ {way : Direction} {m : Machine} {c : Stored} {input : Input} {from to i
           ∙ (ap (λ n. half_at (state_in way m input n).patterns (offset_in way input j) (half_of way input (told_in way m input j))) here
           ∙ (sym (found_more way m input j (λ e. absurd (false_true (sym late ∙ e))))
           ∙ ap (λ n. half_of way input (told_in way m input n)) (sym here)))))
+
+-- each unit that was followed, and then each that was led along, is known
+pub known_after :
+    {way : Direction} {m : Machine} {c : Stored} {input : Input} {from mid to id id' : ℕ}
+    → IsFollowed way m c input from mid id → IsLed way m c input mid to id'
+    → (k : ℕ) → from ≤ k → k < to → KnowsUnit way m c input k
+known_after {way} {m} {c} {input} {from} {mid} f led k more less = go (lt_or_le k mid) where
+  go : (k < mid) ⊎ (mid ≤ k) → KnowsUnit way m c input k
+  go (inl before) = (f.quiet k more before).known.0
+  go (inr behind) = (led.taken k behind less).known.0

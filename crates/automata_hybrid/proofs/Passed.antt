@@ -28,10 +28,10 @@ use Rattle.automata_hybrid.specs.Stores.{IsKnownStart, with_searched}
 use Rattle.automata_hybrid.specs.Table.{Leads, Names}
 use Rattle.automata_hybrid.proofs.Growing.{grown_moved, grown_trans, nothing_first, nothing_second}
 use Rattle.automata_hybrid.proofs.Knowing.{begun_moved, knows_here, knows_still, learned_all, learned_ends, learned_moved, learned_none, start_idle}
-use Rattle.automata_hybrid.proofs.SearchedWalks.{start_keeps}
 use Rattle.automata_hybrid.proofs.Searching.{clean_dead, clean_ends, clean_last, more_dead, more_ends, more_last, stops_dead, stops_ends, stops_start}
 use Rattle.automata_hybrid.proofs.Starting.{refusal_at}
 use Rattle.automata_hybrid.proofs.StepCalls.{no_quit_unit}
+use Rattle.automata_hybrid.proofs.UnitsRead.{unstarted}
 
 -- a pass stands at a place, where the search may move; it reads a unit there, and then the search may end
 module _ (way : Direction) (m : Machine) (input : Input) (k id : ℕ) (u : Option ℕ) (found : Option HalfMatch)
@@ -219,7 +219,7 @@ pass_unstarted way m input behind_at start_at old new e slots refused effect fir
         subst (λ a. IsStartRefusalAt m new.store input.anchored (tape_in way input).before a (offset_in way input 0) e) first
             (subst (λ b. IsStartRefusalAt m new.store input.anchored (tape_in way input).before behind_at b e) second
             (refusal_at m input.anchored (tape_in way input).before behind_at start_at old new e refused)),
-        start_keeps m input.anchored (tape_in way input).before behind_at start_at old new (Err e) refused,
+        unstarted m input.anchored (tape_in way input).before behind_at start_at old new e refused,
       );
 }
 

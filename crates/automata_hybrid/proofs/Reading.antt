@@ -1,6 +1,6 @@
 -- Units that a search reads from an ID, from what the step on each answers and changes.
-use Rattle.std.proofs.Common.{ℕ, ◌≡◌, ◌∙◌, ◌+◌, ◌<◌, ◌≤◌, inl, Option, None, refl, sym, ap, subst, arith}
-use Rattle.std.specs.Prelude.{Result, Ok, Err}
+use Rattle.std.proofs.Common.{ℕ, ◌≡◌, ◌∙◌, ◌+◌, ◌<◌, ◌≤◌, ◌⊎◌, true, inl, inr, Option, None, refl, sym, ap, subst, arith}
+use Rattle.std.specs.Prelude.{Result, Ok, Err, IfErr, IfOk, OnErr}
 use Rattle.std.specs.Result.{IsErrAnd}
 use Rattle.automata_base.specs.Powerset.{Powerset, dead}
 use Rattle.automata_base.specs.declared.util.search.MatchErrorKind.TheVariants.{Quit as QuitAt, GaveUp, UnsupportedAnchored as UnsupportedMode}
@@ -12,20 +12,22 @@ use Rattle.automata_config.specs.declared.error.StepError.TheVariants.{Cache, Ou
 use Rattle.automata_hybrid.specs.declared.dfa.progress.Searched.{Searched}
 use Rattle.automata_hybrid.specs.Caches.{CacheView, with_store}
 use Rattle.automata_hybrid.specs.Growing.{IsGrown}
-use Rattle.automata_hybrid.specs.Ids.{fixed_from}
+use Rattle.automata_hybrid.specs.Ids.{fixed_from, unknown_id}
 use Rattle.automata_hybrid.specs.Knowing.{IsOfInput}
 use Rattle.automata_hybrid.specs.Machine.{Machine, table_stride}
 use Rattle.automata_hybrid.specs.Passing.{step_refusal}
-use Rattle.automata_hybrid.specs.Reading.{ClearsForNext, IsReadEffect, IsReadRefusal, IsStepRefusedAt}
-use Rattle.automata_hybrid.specs.Searched.{IsOfRoom}
+use Rattle.automata_hybrid.specs.Progressing.{finished, updated}
+use Rattle.automata_hybrid.specs.Reading.{IsReadEffect, IsReadRefusal, IsReadStep, IsStepRefusedAt, IsStepTaken}
+use Rattle.automata_hybrid.specs.Searched.{IsOfRoom, IsQuitUnit}
 use Rattle.automata_hybrid.specs.Searches.{IsStepRefusal}
-use Rattle.automata_hybrid.specs.Stepping.{IsStepAnswer, IsStepEffect, KnowsStep, unit_class}
+use Rattle.automata_hybrid.specs.Stepping.{IsStepAnswer, IsStepEffect, KnowsStep, known_step, quits_on, unit_class}
 use Rattle.automata_hybrid.specs.Stores.{Stored, with_searched}
 use Rattle.automata_hybrid.specs.Table.{IsValid, Names}
-use Rattle.automata_hybrid.proofs.Clearing.{clears_closed, clears_moved, step_clears}
 use Rattle.automata_hybrid.proofs.Growing.{grown_moved, grown_trans, nothing_second}
 use Rattle.automata_hybrid.proofs.StepCalls.{no_quit_unit}
+use Rattle.automata_hybrid.proofs.Searching.{lt_or_le}
 use Rattle.automata_hybrid.proofs.Stepping.{refused}
+use Rattle.automata_hybrid.proofs.UnitsRead.{finished_moved}
 
 -- what holds of the error that a call handed on holds of what it answers
 pub at_err : {A E : Type 0} (r : Result A E) (e : E) (P : Result A E → Type 0) → IsErrAnd r (λ x. x ≡ e) → P (Err e) → P r
@@ -83,7 +85,6 @@ read_after m id unit old mid next moved r effect = record {
   below = effect.below;
   counted = omega (arith, same, effect.counted);
   grown = grown;
-  cleared = clears_moved m id unit old.store mid.store next.store (ap (λ (v : CacheView). v.store) moved) effect.cleared;
   known = λ known. (
       let here = effect.known (subst (λ (v : CacheView). KnowsStep m v.store id unit) (sym moved) known) in
       (grown.idle (here.0.0 ∙ same), here.1)
@@ -116,11 +117,6 @@ module _ (m : Machine) (id : ℕ) (unit : Option ℕ) (old mid next : CacheView)
   still : KnowsStep m old.store id unit → next.count ≡ old.count
   still known = ap (λ (v : CacheView). v.count) (effect.known (here known)) ∙ ap (λ (v : CacheView). v.count) moved
 
-  cleared : (n : ℕ) → id < fixed_from → IsStepAnswer m id unit mid next n → ClearsForNext m id unit old.store next.store
-  cleared n low a =
-      clears_moved m id unit old.store mid.store next.store (ap (λ (v : CacheView). v.store) moved)
-      (step_clears m id unit mid next n low effect a)
-
   -- which is answered
   pub read_answered :
       {T : Type 0} (answer : T) (n : ℕ) → id < fixed_from → IsStepAnswer m id unit mid next n
@@ -130,7 +126,6 @@ module _ (m : Machine) (id : ℕ) (unit : Option ℕ) (old mid next : CacheView)
     below = below;
     counted = counted;
     grown = grown;
-    cleared = cleared n low a;
     known = λ known. (grown.idle (still known), tt);
     learned = λ nothing. a.learned low (nothing_second old mid next first effect.grown nothing);
   }
@@ -144,7 +139,6 @@ module _ (m : Machine) (id : ℕ) (unit : Option ℕ) (old mid next : CacheView)
     below = below;
     counted = counted;
     grown = grown;
-    cleared = λ q n. inl (ap (λ (v : CacheView). v.store.clears) r.refused.unchanged ∙ ap (λ (v : CacheView). v.store.clears) moved);
     known = λ known. absurd (r.refused.unknown (here known));
     learned = λ nothing. tt;
   }
@@ -162,8 +156,59 @@ module _ (m : Machine) (id : ℕ) (unit : Option ℕ) (old mid next : CacheView)
         below = below;
         counted = omega (arith, counted, same);
         grown = last;
-        cleared =
-            clears_closed m id unit old.store next new ended (cleared n low a);
         known = λ known. (last.idle (same ∙ still known), subst IsOfInput (sym told) tt);
         learned = λ nothing. tt;
       }
+
+-- a step that is answered was taken
+pub step_taken :
+    (m : Machine) (id : ℕ) (unit : Option ℕ) (old new : CacheView) (to : ℕ) → id < fixed_from
+    → IsStepEffect m id unit old new → IsStepAnswer m id unit old new to → IsStepTaken m id unit old.store new.store to
+step_taken m id unit old new to low effect a = go (lt_or_le (known_step m old.store id unit) unknown_id) where
+  go :
+      (known_step m old.store id unit < unknown_id) ⊎ (unknown_id ≤ known_step m old.store id unit)
+      → IsStepTaken m id unit old.store new.store to
+  go (inl known) = inl (known, ap (λ (v : CacheView). v.store) (effect.known known))
+  go (inr free) =
+      let unknown : KnowsStep m old.store id unit → ⊥ = λ k. absurd (omega (arith, k, free)) in
+      inr (unknown, a.computed low unknown)
+
+-- a search moved to an offset, and then the step on a unit was made
+module _ (m : Machine) (id : ℕ) (unit : Option ℕ) (at : ℕ) (old mid next : CacheView)
+    (moved : mid ≡ with_store old (with_searched old.store (updated old.store.searched at))) where
+  there : mid.store ≡ with_searched old.store (updated old.store.searched at)
+  there = ap (λ (v : CacheView). v.store) moved
+
+  pub took_step :
+      (to : ℕ) → IsStepTaken m id unit mid.store next.store to
+      → IsReadStep m id unit at old.store next.store (Ok to)
+  took_step to taken = record { taken = subst (λ (c : Stored). IsStepTaken m id unit c next.store to) there taken; left = tt }
+
+  pub left_step :
+      (e : SearchError) → IsStepRefusedAt m id unit at mid next e → IsReadStep m id unit at old.store next.store (Err e)
+  left_step e r = record {
+    taken = tt;
+    left = inr (told_room m id unit at mid next e r, ap (λ (v : CacheView). v.store) r.refused.unchanged ∙ there);
+  }
+
+  pub quit_step :
+      (e : SearchError) (new : CacheView) → IsQuitUnit m unit → quits_on m unit ≡ true → IsStepEffect m id unit mid next
+      → new ≡ with_store next (with_searched next.store (finished next.store.searched at))
+      → IsReadStep m id unit at old.store new.store (Err e)
+  quit_step e new quits on effect ended = record {
+    taken = tt;
+    left =
+        inl (
+          quits,
+          ap (λ (v : CacheView). v.store) ended
+              ∙ (ap (λ (v : CacheView). with_searched v.store (finished v.store.searched at)) (effect.quit on ∙ moved)
+              ∙ ap (λ (s : Searched). with_searched old.store s) (finished_moved old.store.searched at at)),
+        );
+  }
+
+  pub end_step :
+      (result : Result ℕ SearchError) → IfOk result (IsStepTaken m id unit mid.store next.store)
+      → OnErr result (next.store ≡ mid.store) → IfErr result (IsOfRoom at)
+      → IsReadStep m id unit at old.store next.store result
+  end_step (Ok to) taken kept room = took_step to taken
+  end_step (Err e) taken kept room = record { taken = tt; left = inr (room, kept ∙ there) }

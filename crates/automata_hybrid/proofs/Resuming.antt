@@ -1,7 +1,7 @@
 -- Going on with a walk: what the functions under its calls answer, and what they make of their cache.
 use Rattle.automata_hybrid.specs.declared.search.walk.Handle.{Handle}
-use Rattle.std.proofs.Common.{ℕ, suc, ◌≡◌, ◌∙◌, ◌<◌, ◌⊎◌, inl, inr, false, length, Option, None, refl, sym, ap, subst, arith, Some}
-use Rattle.std.specs.Prelude.{Err, IfErr, IfOk, Ok, Result}
+use Rattle.std.proofs.Common.{ℕ, suc, ◌≡◌, ◌∙◌, ◌<◌, inl, inr, false, length, Option, None, refl, sym, ap, subst, arith, Some}
+use Rattle.std.specs.Prelude.{Err, IfErr, IfOk, Ok, OnOk, Result}
 use Rattle.std.proofs.lemmas.Result.{IfErr-weaker, IfOk-weaker, on_ok_weaker}
 use Rattle.automata_base.specs.Answers.{offset_in}
 use Rattle.automata_base.specs.Input.{Input}
@@ -16,32 +16,32 @@ use Rattle.automata_config.specs.declared.error.SearchError.{SearchError}
 use Rattle.automata_config.specs.declared.error.SearchError.TheVariants as search
 use Rattle.automata_hybrid.specs.Stores.{IsKnownTransition, Stored, with_searched}
 use Rattle.automata_hybrid.specs.declared.dfa.progress.Searched.{Searched}
-use Rattle.automata_hybrid.specs.Caches.{CacheView, counted, with_store}
+use Rattle.automata_hybrid.specs.Caches.{CacheView, with_store}
 use Rattle.automata_hybrid.specs.KnowingWalks.{IsToRead, KnowsItsState}
 use Rattle.automata_hybrid.specs.Growing.{IsGrown}
 use Rattle.automata_hybrid.specs.Knowing.{IsOfInput}
 use Rattle.automata_hybrid.specs.Machine.{Machine, slot_count, table_stride}
 use Rattle.automata_hybrid.specs.Owing.{IsUnsupported, unsupported_error}
 use Rattle.automata_hybrid.specs.OwingWalks.{IsCallEffect, IsKnownRefusal, IsPutBack}
-use Rattle.automata_hybrid.specs.Reading.{IsReadEffect, IsReadProgress}
+use Rattle.automata_hybrid.specs.Reading.{IsReadEffect}
 use Rattle.automata_hybrid.specs.Resuming.{IsCallAnswer, IsCallRefused, IsResumeAnswer, IsResumeEffect, IsUnitEffect, IsPutBackEffect}
-use Rattle.automata_hybrid.specs.Searched.{IsClearedFor}
-use Rattle.automata_hybrid.specs.SearchedWalks.{LeavesCall, ReadsNoUnit}
-use Rattle.automata_hybrid.specs.Searches.{behind_offset, given_up_offset, state_in, tape_in}
+use Rattle.automata_hybrid.specs.Searched.{IsLeftAt, IsUnitRead, with_search_moved}
+use Rattle.automata_hybrid.specs.SearchedWalks.{IsResumed, LeavesCall, ReadsNoUnit}
+use Rattle.automata_hybrid.specs.Searches.{behind_offset, state_in, tape_in}
 use Rattle.automata_hybrid.specs.Slots.{supports}
 use Rattle.automata_hybrid.specs.Starting.{IsStartAnswer, IsStartEffect, IsStartRefusal, IsStartRefusalAt, IsStartRefusedAt, quit_behind, search_refusal}
 use Rattle.automata_hybrid.specs.Stepping.{unit_class}
-use Rattle.automata_base.specs.Powerset.{Powerset, dead}
+use Rattle.automata_base.specs.Powerset.{Powerset}
 use Rattle.automata_hybrid.specs.Table.{Has, Leads, Names, Rows, id_of}
 use Rattle.automata_hybrid.specs.Walking.{HasTold, HasToldAt, IsResumeRefusal, IsWalkOf, IsWalkRefusal, TellsNext}
 use Rattle.automata_hybrid.specs.Walks.{At, Ended, Fresh, HoldsNone, Ids, IsHeldAt, IsHeldItself, Keeping, Stage, States, Walk, keeping_of, without_match, Holds}
 use Rattle.automata_hybrid.specs.declared.search.walk.Held.{Held}
 use Rattle.automata_hybrid.specs.declared.search.walk.Held.TheVariants as held
-use Rattle.automata_hybrid.proofs.Clearing.{back_clears, begin_clears, clears_moved, clears_unit}
 use Rattle.automata_hybrid.proofs.Growing.{grown_less, grown_moved, grown_same, grown_trans, nothing_second}
 use Rattle.automata_hybrid.proofs.Knowing.{start_idle}
 use Rattle.automata_hybrid.proofs.KnowingWalks.{still_same}
-use Rattle.automata_hybrid.proofs.SearchedWalks.{reads_some, start_keeps}
+use Rattle.automata_hybrid.proofs.SearchedWalks.{reads_some}
+use Rattle.automata_hybrid.proofs.UnitsRead.{start_had, unstarted}
 use Rattle.automata_hybrid.proofs.WalkCalls.{fresh_at}
 use Rattle.automata_hybrid.proofs.Searching.{false_true, state_first}
 use Rattle.automata_hybrid.proofs.Starting.{refusal_at}
@@ -223,26 +223,13 @@ module _ (way : Direction) (m : Machine) (input : Input) (w : Walk) (old new : C
       subst (λ (s : Stage). IfErr r (IsResumeRefusal way m new.store input s w.units)) (sym fresh)
       (IfErr-weaker r _ _ (refusal_at m input.anchored (tape_in way input).before (behind_offset way input) (offset_in way input 0) old new) h)
 
-  -- what was cleared was cleared for it
-  start_cleared :
-      (x : Result ℕ SearchError)
-      → IfOk x (IsStartAnswer m input.anchored (tape_in way input).before old new)
-      → IfErr x (IsStartRefusedAt m input.anchored (tape_in way input).before (behind_offset way input) (offset_in way input 0) old new)
-      → IsStartEffect m input.anchored (tape_in way input).before old new
-      → (new.store.clears ≡ old.store.clears) ⊎ IsClearedFor (state_in way m input 0) old.store new.store
-  start_cleared (Ok id) answer refusal effect = begin_clears way m input old new id effect answer
-  start_cleared (Err e) answer refusal effect = inl (same refusal.refused.unchanged) where
-    same : (new ≡ old) ⊎ (new ≡ counted old) → new.store.clears ≡ old.store.clears
-    same (inl u) = ap (λ (v : CacheView). v.store.clears) u
-    same (inr u) = ap (λ (v : CacheView). v.store.clears) u
-
   pub start_effect :
       IsWalkOf way m input w → IfOk r (IsStartAnswer m input.anchored (tape_in way input).before old new)
       → length old.store.starts ≡ slot_count m
       → IfErr r (IsStartRefusedAt m input.anchored (tape_in way input).before (behind_offset way input) (offset_in way input 0) old new)
       → IsStartEffect m input.anchored (tape_in way input).before old new
-      → IsResumeEffect way m input w.stage w.units old new r
-  start_effect (k, told) answer slots refusal effect = subst (λ (s : Stage). IsResumeEffect way m input s w.units old new r) (sym fresh) (record {
+      → IsResumeEffect way m input w.stage old new r
+  start_effect (k, told) answer slots refusal effect = subst (λ (s : Stage). IsResumeEffect way m input s old new r) (sym fresh) (record {
     cost = effect.counted;
     grown = grown_less old new effect.grown;
     there = λ _. effect.grown;
@@ -250,16 +237,12 @@ module _ (way : Direction) (m : Machine) (input : Input) (w : Walk) (old new : C
     known = λ knows.
         start_idle m old new input.anchored (tape_in way input).before r (behind_offset way input) (offset_in way input 0)
         slots refusal effect knows;
-    progress = effect.progress;
+    resumed = IfOk-weaker r _ _ (λ id a. start_had way m input old new id slots effect a) answer;
     err =
-        start_keeps m input.anchored (tape_in way input).before (behind_offset way input) (offset_in way input 0) old new r
+        IfErr-weaker r _ _
+        (λ e h. unstarted m input.anchored (tape_in way input).before (behind_offset way input) (offset_in way input 0) old new e h)
         refusal;
-    cleared =
-        subst (λ n. (new.store.clears ≡ old.store.clears) ⊎ IsClearedFor (state_in way m input n) old.store new.store) (sym first)
-        (start_cleared r answer refusal effect);
-  }) where
-    first : w.units ≡ 0
-    first = (subst (λ (s : Stage). HasToldAt way m input s w.units w.told k) fresh told).1
+  })
 
 -- what reading a unit makes of the cache, in a walk's words: the search moved, and the unit was read from its ID
 pub unit_effect :
@@ -268,14 +251,11 @@ pub unit_effect :
     → next (tape_in way input) place ≡ unit → mid ≡ with_store old (with_searched old.store s)
     → Names old.store.table id (state_in way m input place) → new.store.table.of ≡ m
     → IsReadEffect m id unit mid new r
-    → IsReadProgress m (next (tape_in way input) place) (given_up_offset way input place) old.store new.store r
-    → IsUnitEffect way m input place old new r
-unit_effect way m input place id unit old mid new r same moved named of e progress = record {
+    → OnOk r (IsUnitRead way m input place (with_search_moved way input place old.store) new.store)
+    → IfErr r (IsLeftAt way m input place old.store new.store) → IsUnitEffect way m input place old new r
+unit_effect way m input place id unit old mid new r same moved named of e read left = record {
   counted = omega (arith, e.counted, count);
   grown = grown;
-  cleared =
-      clears_unit way m input place id unit old.store new.store named same
-      (clears_moved m id unit old.store mid.store new.store (ap (λ (v : CacheView). v.store) moved) e.cleared);
   known = λ (other, names, known). (
       let one : other ≡ id = cc in
       let here : IsKnownTransition old.store id (unit_class m unit) =
@@ -293,7 +273,8 @@ unit_effect way m input place id unit old mid new r same moved named of e progre
         subst (λ u. unit_class m u < table_stride new.store.table.of) (sym same)
             (subst (λ (d : Machine). unit_class m unit < table_stride d) (sym of) e.below),
       )) (e.learned (nothing_second old mid new first e.grown nothing));
-  progress = progress;
+  read = read;
+  left = left;
 } where
   first : IsGrown old mid
   first = grown_moved old mid moved
@@ -316,23 +297,21 @@ pub back_effect :
     → IsWalkOf way m input w → (w.stage ≡ Fresh → ⊥) → (w.stage ≡ Ended → ⊥) → IsHeldAt t w.stage h → h ≡ held.State (Some handle)
     → Has new.store.table handle.state
     → IsPutBackEffect {T = T} {E = E} handle.state old new (Ok id)
-    → IsResumeEffect {T = T} way m input w.stage w.units old new (Ok id)
+    → IsResumeEffect {T = T} way m input w.stage old new (Ok id)
 back_effect {T} {E} way m input t w h handle old new id (k, told) fresh on at is has e = go w.stage told fresh on at where
-  cleared :
-      (q : Powerset) → (q ≡ dead → ⊥) → Has new.store.table q → IsPutBackEffect {T = T} {E = E} q old new (Ok id)
-      → (new.store.clears ≡ old.store.clears) ⊎ IsClearedFor q old.store new.store
-  cleared q alive there back = look (id_of old.store.table q) refl where
-    look :
-        (o : Option ℕ) → id_of old.store.table q ≡ o
-        → (new.store.clears ≡ old.store.clears) ⊎ IsClearedFor q old.store new.store
-    look (Some n) named = inl (ap (λ (v : CacheView). v.store.clears) (back.there (record { id = n; named = named })).0)
+  resumed : (q : Powerset) → IsPutBackEffect {T = T} {E = E} q old new (Ok id) → IsResumed way m input (At q) old.store new.store
+  resumed q back = look (id_of old.store.table q) refl where
+    look : (o : Option ℕ) → id_of old.store.table q ≡ o → IsResumed way m input (At q) old.store new.store
+    look (Some n) named =
+        let has : Has old.store.table q = record { id = n; named = named } in
+        inl (has, ap (λ (v : CacheView). v.store) (back.there has).0)
     look None none =
-        let put = back.again (λ had. none_some (sym none ∙ had.named)) in
-        back_clears q old new (none, alive) there back.grown put.0 put.1
+        let lacks : Has old.store.table q → ⊥ = λ had. none_some (sym none ∙ had.named) in
+        inr (lacks, (back.again lacks).1)
 
   go :
       (s : Stage) → HasToldAt way m input s w.units w.told k → (s ≡ Fresh → ⊥) → (s ≡ Ended → ⊥) → IsHeldAt t s h
-      → IsResumeEffect {T = T} way m input s w.units old new (Ok id)
+      → IsResumeEffect {T = T} way m input s old new (Ok id)
   go Fresh told fresh on at = absurd (fresh refl)
   go Ended told fresh on at = absurd (on refl)
   go (At q) told fresh on at =
@@ -346,26 +325,28 @@ back_effect {T} {E} way m input t w h handle old new id (k, told) fresh on at is
         put_back = λ p here lacks. (
             let one : q ≡ p = ap (at_state q) here in
             (subst (λ (x : Powerset). IsPutBack x old new) one (back.again (λ has. lacks (subst (λ (x : Powerset). Has old.store.table x) one has))), tt));
-        progress = back.progress;
+        resumed = resumed q back;
         err = tt;
-        cleared =
-            subst (λ p. (new.store.clears ≡ old.store.clears) ⊎ IsClearedFor p old.store new.store) told.state
-            (cleared q told.row.alive (subst (Has new.store.table) same has) back);
       }
 
 -- one of a set goes on from the ID of its row
 pub row_effect :
     (way : Direction) (m : Machine) (input : Input) (c : CacheView) (w : Walk) (h : Held) (id : ℕ)
-    → IsHeldAt c.store.table w.stage h → h ≡ held.Row (Some id) → IsResumeEffect {T = ℕ} way m input w.stage w.units c c (Ok id)
-row_effect way m input c w h id holds row = record {
+    → (w.stage ≡ Fresh → ⊥) → (w.stage ≡ Ended → ⊥) → IsHeldAt c.store.table w.stage h → h ≡ held.Row (Some id)
+    → IsResumeEffect {T = ℕ} way m input w.stage c c (Ok id)
+row_effect way m input c w h id fresh on holds row = record {
   cost = omega arith;
   grown = grown_less c c (grown_same c c refl);
   there = λ has. grown_same c c refl;
   known = λ knows. (refl, tt);
   put_back = λ q at lacks. absurd (lacks (record { id = id; named = named q at }));
-  progress = inl (refl, refl);
+  resumed = resumed w.stage refl;
   err = tt;
-  cleared = inl refl;
 } where
   named : (q : Powerset) → w.stage ≡ At q → Names c.store.table id q
   named q at = subst (λ (x : Held). Holds c.store.table x q) row (subst (λ (s : Stage). IsHeldAt c.store.table s h) at holds)
+
+  resumed : (s : Stage) → w.stage ≡ s → IsResumed way m input s c.store c.store
+  resumed Fresh e = absurd (fresh e)
+  resumed (At q) e = inl (record { id = id; named = named q e }, refl)
+  resumed Ended e = absurd (on e)

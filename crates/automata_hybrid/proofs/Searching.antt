@@ -143,6 +143,9 @@ first_stays kind a mode t k (suc n) pair l e = go (λ more. first_stays kind a m
   go before (inr less) =
       ap (λ o. earlier_or o (pair_at (told_at a kind mode t n) n None)) (before (omega (arith, less)))
 
+some_none : {pair : Pair} → Some pair ≡ None → ⊥
+some_none e = cc
+
 told_stays :
     (kind : MatchKind) (e : Bool) (a : Automaton) (mode : Anchored) (t : Tape) (k n : ℕ) (o : Option Pair)
     → k ≤ n → e ≡ true → told_upto kind e a mode t k ≡ o → (o ≡ None → ⊥)
@@ -185,6 +188,21 @@ pub at_reads :
     → ((q : Powerset) → Names t id q → q ≡ dead → ⊥) → Reads way m input k
 at_reads way m t input k id found at l alive =
     (l, alive (state_in way m input k) at.named, λ e. half_none way input (told_in way m input k) (sym at.told ∙ at.nothing e))
+
+-- it reads the units before one that it reads
+pub reads_before :
+    (way : Direction) (m : Machine) (input : Input) (j k : ℕ) → j ≤ k → Reads way m input k → Reads way m input j
+reads_before way m input j k l reads = (
+  omega (arith, l, reads.0),
+  λ dies. reads.1 (dead_more way m input j k l dies),
+  λ early. none early (told_in way m input j) refl,
+) where
+  none : input.earliest ≡ true → (o : Option Pair) → told_in way m input j ≡ o → told_in way m input j ≡ None
+  none early None e = e
+  none early (Some pair) e =
+      let stays : told_in way m input k ≡ told_in way m input j =
+      told_stays (match_kind_of m.config) input.earliest m.nfa input.anchored (tape_in way input) j k (Some pair) l early e some_none in
+      absurd (some_none (sym e ∙ (sym stays ∙ reads.2 early)))
 
 -- nothing is read behind the last unit
 pub stops_last :

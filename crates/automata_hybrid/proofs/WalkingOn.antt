@@ -12,24 +12,24 @@ use Rattle.automata_hybrid.specs.Machine.{Machine}
 use Rattle.automata_hybrid.specs.OwingWalks.{IsCallEffect}
 use Rattle.automata_hybrid.specs.Progressing.{finished, started}
 use Rattle.automata_hybrid.specs.Resuming.{IsAdvanceEffect, IsCallRefused, IsResumeAnswer, IsResumeEffect}
-use Rattle.automata_hybrid.specs.Searched.{IsOpenAt}
-use Rattle.automata_hybrid.specs.SearchedWalks.{EndsAtUnit, IsLeftAtUnit}
-use Rattle.automata_hybrid.specs.Searches.{HasReadNoQuit, Skips, given_up_offset, state_in, tape_in}
-use Rattle.automata_hybrid.specs.Stores.{with_searched}
+use Rattle.automata_hybrid.specs.Searched.{AreUnitsRead, HasEndedBehind, with_search_begun}
+use Rattle.automata_hybrid.specs.SearchedWalks.{IsCallStopped}
+use Rattle.automata_hybrid.specs.Searches.{HasReadNoQuit, Skips, given_up_offset, state_in}
+use Rattle.automata_hybrid.specs.Stores.{Stored, with_searched}
 use Rattle.automata_hybrid.specs.Walking.{Arrives, HasItsState, HasTold, HasToldBy, IsArrival, IsSilent, IsUnheld, IsWalkOf, WalkReads, start_count}
 use Rattle.automata_hybrid.specs.Walks.{Ended, Keeping, States, Walk}
 use Rattle.automata_hybrid.specs.declared.search.advance.Arrival.{Arrival}
 use Rattle.automata_hybrid.proofs.Growing.{grown_after, grown_moved, grown_trans, nothing_second}
 use Rattle.automata_hybrid.proofs.KnowingWalks.{has_state, nothing_after, state_still, unit_knows, units_all, units_moved}
 use Rattle.automata_hybrid.proofs.Resuming.{refused_on}
-use Rattle.automata_hybrid.proofs.SearchedWalks.{call_begun, reads_some, recounts_ended, recounts_left, span_ends, unit_high, unit_low}
+use Rattle.automata_hybrid.proofs.SearchedWalks.{reads_some, walk_reads_before}
+use Rattle.automata_hybrid.proofs.UnitsRead.{ended_here}
 use Rattle.automata_hybrid.proofs.WalkCalls.{told_here, walk_clears_none}
-use Rattle.automata_hybrid.proofs.Directions.{units_in}
 
 -- a walk was gone on with from an ID, a search began at its first unit, and it came to where it tells patterns, or to its end
 module _ (way : Direction) (m : Machine) (input : Input) (w : Walk) (from : ℕ) (old between begun mid : CacheView)
     (inside : input.end ≤ length input.haystack) (skips : Skips m ⊎ (Skips m → ⊥)) (told : IsWalkOf way m input w) (r : IsToRead input w.stage w.units w.told)
-    (e : IsResumeEffect {T = ℕ} way m input w.stage w.units old between (Ok from))
+    (e : IsResumeEffect {T = ℕ} way m input w.stage old between (Ok from))
     (resumes : IsResumeAnswer way m input w between.store from)
     (begins : begun ≡ with_store between (with_searched between.store (started between.store.searched (given_up_offset way input w.units))))
     (arrival : Arrival) (a : IsAdvanceEffect way m input w.units begun mid (Ok arrival))
@@ -51,16 +51,14 @@ module _ (way : Direction) (m : Machine) (input : Input) (w : Walk) (from : ℕ)
 
   abbrev Last : Type 0
   Last =
-      (k : ℕ) × (w.units ≤ k) × (arrival.units ≡ suc k) × WalkReads way m input k
-      × IsOpenAt way m input between.store.searched w.units (given_up_offset way input k) begun.store mid.store
+      (n : ℕ) × (arrival.units ≡ suc (w.units + n)) × WalkReads way m input (w.units + n)
+      × AreUnitsRead way m input w.units (suc n) begun.store mid.store
 
-  pub last : Last
-  last = a.moved between.store.searched (ap (λ (v : CacheView). v.store.searched) begins)
+  last : Last
+  last = a.read
 
-  last_within : last.0 ≤ input.end - input.start
-  last_within =
-      let units : input.end - input.start ≡ length (tape_in way input).bytes = units_in way input r.undone inside in
-      let few : last.0 ≤ length (tape_in way input).bytes = last.3.0 in omega (arith, units, few)
+  starts : begun.store ≡ with_search_begun way input w.units between.store
+  starts = ap (λ (v : CacheView). v.store) begins
 
   still : KnowsItsState way m old.store input w.stage → between.count ≡ old.count
   still knows = ap (λ (v : CacheView). v.count) (e.known (λ may. knows)).0
@@ -85,7 +83,7 @@ module _ (way : Direction) (m : Machine) (input : Input) (w : Walk) (from : ℕ)
   module _ (keeping : Keeping) (next : Walk) (new : CacheView) (at : ℕ) (units : next.units ≡ arrival.units)
       (place : at ≡ given_up_offset way input (arrival.units - 1))
       (ends : new ≡ with_store mid (with_searched mid.store (finished mid.store.searched at)))
-      (stops : next.stage ≡ Ended → (next.found ≡ None) × (WalkReads way m input (suc last.0) → ⊥)) where
+      (stops : next.stage ≡ Ended → (next.found ≡ None) × (WalkReads way m input arrival.units → ⊥)) where
     ended_count : new.count ≡ mid.count
     ended_count = ap (λ (v : CacheView). v.count) ends
 
@@ -95,20 +93,17 @@ module _ (way : Direction) (m : Machine) (input : Input) (w : Walk) (from : ℕ)
     ended_there : HasItsState old.store.table w.stage → IsGrown old new
     ended_there has = grown_trans old between new (e.there has) after
 
-    here_at : at ≡ given_up_offset way input last.0
-    here_at = place ∙ ap (given_up_offset way input) (omega (arith, last.2))
-
-    ends_at : EndsAtUnit way m input old.store.searched w.units last.0 old.store new.store
+    ends_at : HasEndedBehind way m input w.units (suc last.0) (with_search_begun way input w.units between.store) new.store
     ends_at =
-        recounts_ended way m input w.units (unit_low way input w.units r.undone) (unit_high way input w.units r.undone r.left)
-        old.store between.store begun.store new.store
-        (call_begun way m input w.units old between begun new e.grown begins (grown_trans begun mid new a.grown (grown_moved mid new ends)) e.progress e.cleared)
-        (given_up_offset way input last.0)
-        (span_ends way m input between.store.searched w.units last.0 (given_up_offset way input last.0) at begun mid new r.undone last_within a.grown last.4 here_at ends)
+        let k : w.units + (suc last.0 - 1) ≡ arrival.units - 1 = omega (arith, last.1) in (
+          mid.store,
+          subst (λ (c : Stored). AreUnitsRead way m input w.units (suc last.0) c mid.store) starts last.3,
+          ended_here way input (w.units + (suc last.0 - 1)) at mid new (ap (given_up_offset way input) k ∙ sym place) ends,
+        )
 
     pub effect_on : IsCallEffect {T = Unit {0}} keeping way m input w next old new (Ok tt)
     effect_on = record {
-      rises = omega (arith, units, last.1, last.2);
+      rises = omega (arith, units, last.1);
       cost = omega (arith, units, a.cost, e.cost, counts, ended_count);
       most = omega (arith, most, r.left, ended_count);
       started = λ knows. (
@@ -124,7 +119,18 @@ module _ (way : Direction) (m : Machine) (input : Input) (w : Walk) (from : ℕ)
             units_known k t second,
           ));
       known = λ knows. ((ended_there (has_known knows)).idle (ended_count ∙ knows_count knows), tt);
-      ended = inr (reads_some input w r, last.0, inr (last.1, units ∙ last.2, last.3, stops), ends_at);
+      ended = inr (
+        reads_some input w r,
+        between.store,
+        suc last.0,
+        e.resumed,
+        omega (arith, units, last.1),
+        (
+          λ k more less. walk_reads_before way m input k (w.units + last.0) (omega (arith, less, units, last.1)) last.2,
+          λ ends. ((stops ends).0, λ reads. (stops ends).1 (subst (WalkReads way m input) units reads)),
+        ),
+        ends_at,
+      );
       left = tt;
       ready = λ none. absurd (reads_some input w r none);
     } where
@@ -143,37 +149,41 @@ module _ (way : Direction) (m : Machine) (input : Input) (w : Walk) (from : ℕ)
 
   -- or the state there can't be held
   module _ (id : ℕ) (arrived : Arrives way m mid.store.table input w.units id arrival.units) where
-    same_place : arrived.place ≡ last.0
-    same_place = omega (arith, arrived.behind, last.2)
+    same_place : arrived.place ≡ w.units + last.0
+    same_place = omega (arith, arrived.behind, last.1)
 
-    clean_before : HasReadNoQuit way m input last.0
-    clean_before j byte l unit = arrived.clean j byte (omega (arith, l, last.2)) unit
+    clean_before : HasReadNoQuit way m input (w.units + last.0)
+    clean_before j byte l unit = arrived.clean j byte (omega (arith, l, last.1)) unit
 
-    pub unheld_on : IsUnheld way m input last.0 search.OutOfMemory
+    unheld_on : IsUnheld way m input (w.units + last.0) search.OutOfMemory
     unheld_on = record {
-      clean = λ byte unit. arrived.clean last.0 byte (omega (arith, last.2)) unit;
-      tells = subst (λ n. 0 < length (state_in way m input n).patterns) last.2 (arrived.tells (state_in way m input arrival.units) arrived.named);
+      clean = λ byte unit. arrived.clean (w.units + last.0) byte (omega (arith, last.1)) unit;
+      tells = subst (λ n. 0 < length (state_in way m input n).patterns) last.1 (arrived.tells (state_in way m input arrival.units) arrived.named);
       unskipped = subst (λ n. Skips m → is_split input.haystack (offset_in way input n) ≡ false) same_place arrived.unskipped;
       memory = refl;
     }
 
-    left_unheld : IsLeftAtUnit States way m input between.store.searched w.units begun.store mid.store search.OutOfMemory
-    left_unheld = (
-      last.0,
-      last.1,
-      last.3,
-      clean_before,
-      subst (IsSilent way m input w.units) same_place arrived.silent,
-      inr unheld_on,
-      inr (tt, last.4),
-    )
+    left_unheld : IsCallStopped States way m input w.units (with_search_begun way input w.units between.store) mid.store search.OutOfMemory
+    left_unheld = go (subst (λ (c : Stored). AreUnitsRead way m input w.units (suc last.0) c mid.store) starts last.3) where
+      go :
+          AreUnitsRead way m input w.units (suc last.0) (with_search_begun way input w.units between.store) mid.store
+          → IsCallStopped States way m input w.units (with_search_begun way input w.units between.store) mid.store search.OutOfMemory
+      go (before, reads, unit) = (
+        last.0,
+        before,
+        last.2,
+        clean_before,
+        subst (IsSilent way m input w.units) same_place arrived.silent,
+        reads,
+        inr (unheld_on, unit),
+      )
 
     pub refused_unheld : IsCallRefused States way m input w mid.store search.OutOfMemory
     refused_unheld = refused_on States way m input w mid.store search.OutOfMemory told r (λ k t. (
       r.undone,
       inr (
         resumes.may,
-        (last.0, last.1, last.3, clean_before, subst (λ n. HasToldBy way m input n k) same_place (arrived.silent k (here k t)), inr unheld_on),
+        (w.units + last.0, omega arith, last.2, clean_before, subst (λ n. HasToldBy way m input n k) same_place (arrived.silent k (here k t)), inr unheld_on),
       ),
     ))
 
@@ -188,10 +198,8 @@ module _ (way : Direction) (m : Machine) (input : Input) (w : Walk) (from : ℕ)
       there = there;
       put_back = λ q at lacks. inr (between, (e.put_back q at lacks).0, whole);
       learned = λ nothing. tt;
-      known = λ knows. ((there (has_known knows)).idle (knows_count knows), inr (last.0, last.1, unheld_on));
+      known = λ knows. ((there (has_known knows)).idle (knows_count knows), inr (w.units + last.0, omega arith, unheld_on));
       ended = tt;
-      left =
-          inr (recounts_left States way m input old.store between.store begun.store mid.store w.units r.undone r.left
-          (call_begun way m input w.units old between begun mid e.grown begins a.grown e.progress e.cleared) search.OutOfMemory left_unheld);
+      left = inr (between.store, e.resumed, left_unheld);
       ready = λ none. absurd (reads_some input w r none);
     }

@@ -1,7 +1,6 @@
 -- Units that a search reads from an ID: what the ID is that reading one answers, and what it makes of the cache.
-use Rattle.std.specs.Prelude.{ℕ, ◌≡◌, ◌+◌, ◌<◌, ◌≤◌, ◌⊎◌, false, Option, Result, IfErr, OnOk}
+use Rattle.std.specs.Prelude.{ℕ, ◌≡◌, ◌+◌, ◌<◌, ◌≤◌, ◌⊎◌, false, Option, Result, IfErr, IfOk, OnOk}
 use Rattle.automata_base.specs.Input.{Input}
-use Rattle.automata_base.specs.Paths.{next}
 use Rattle.automata_base.specs.Powerset.{Powerset, dead}
 use Rattle.automata_base.specs.Steps.{successor}
 use Rattle.automata_base.specs.Tapes.{Direction}
@@ -13,10 +12,13 @@ use Rattle.automata_hybrid.specs.Growing.{ClearedNothing, IsGrown, IsStill}
 use Rattle.automata_hybrid.specs.Knowing.{IsOfInput}
 use Rattle.automata_hybrid.specs.Machine.{Machine, table_stride}
 use Rattle.automata_hybrid.specs.Passing.{step_refusal}
-use Rattle.automata_hybrid.specs.Searched.{IsClearedBetween, IsEndedBy, IsLeftAt, IsLeftAtEnd, IsMovedTo}
-use Rattle.automata_hybrid.specs.Searches.{IsStepRefusal, given_up_offset, tape_in}
+use Rattle.automata_hybrid.specs.Progressing.{finished, updated}
+use Rattle.automata_hybrid.specs.Searched.{IsOfRoom, IsPassLeftAt, IsQuitUnit, IsUnitRead}
+use Rattle.automata_hybrid.specs.Searched.{with_search_ended, with_search_moved}
+use Rattle.automata_hybrid.specs.Searches.{IsStepRefusal}
 use Rattle.automata_hybrid.specs.Stepping.{IsStepRefused, KnowsStep, quits_on, unit_class}
-use Rattle.automata_hybrid.specs.Stores.{Stored}
+use Rattle.automata_hybrid.specs.Effects.{IsComputed}
+use Rattle.automata_hybrid.specs.Stores.{Stored, with_searched}
 use Rattle.automata_hybrid.specs.Table.{Leads, Names}
 
 -- what holds where a step from an ID on a unit is refused, and the error is told at an offset
@@ -45,12 +47,6 @@ abbrev pub IsReadRefusal :
 IsReadRefusal m id unit quit_at given_up_at old new e =
     (q : Powerset) → Names old.store.table id q → IsStepRefusal m new.store q unit quit_at given_up_at e
 
--- a step from an ID on a unit cleared nothing, or for the next state
-abbrev pub ClearsForNext : Machine → (id : ℕ) → (unit : Option ℕ) → (old new : Stored) → Type 0
-ClearsForNext m id unit old new =
-    (q : Powerset) → Names old.table id q
-    → (new.clears ≡ old.clears) ⊎ IsClearedBetween q (successor m.nfa (match_kind_of m.config) q unit) old new
-
 -- what reading a unit from an ID makes of the cache, answered or refused
 pub record IsReadEffect {T : Type 0} (m : Machine) (id : ℕ) (unit : Option ℕ) (old new : CacheView)
     (result : Result T SearchError) : Type 0 where
@@ -62,28 +58,35 @@ pub record IsReadEffect {T : Type 0} (m : Machine) (id : ℕ) (unit : Option ℕ
   pub counted : new.count ≤ old.count + 1
   -- The cache has grown; where the call cleared nothing, nothing is lost.
   pub grown : IsGrown old new
-  -- What was cleared was cleared for the next state.
-  pub cleared : ClearsForNext m id unit old.store new.store
   -- A known transition takes no memory, and nothing changes but the progress of searches.
   pub known : KnowsStep m old.store id unit → IsStill old new × IfErr result IsOfInput
   -- Where the call cleared nothing, the transition is known from then on.
   pub learned : ClearedNothing old.store new.store → OnOk result (KnowsStep m new.store id unit)
 
--- what reading a unit at an offset, to which the search moves, makes of the progress
-pub record IsReadProgress {T : Type 0} (m : Machine) (unit : Option ℕ) (at : ℕ) (old new : Stored)
-    (result : Result T SearchError) : Type 0 where
-  -- Answered, it leaves the search at the offset.
-  pub moved : OnOk result (IsMovedTo at old new)
-  -- Refused, it has ended the search there at a quit byte, and else leaves it there.
-  pub left : IfErr result (IsLeftAt m unit at old new)
+-- a step from an ID on a unit is taken: a known transition changes nothing, and any other one is computed
+abbrev pub IsStepTaken : Machine → (id : ℕ) → (unit : Option ℕ) → (old new : Stored) → (to : ℕ) → Type 0
+IsStepTaken m id unit old new to =
+    (KnowsStep m old id unit × (new ≡ old))
+    ⊎ ((KnowsStep m old id unit → ⊥)
+    × ((q : Powerset) → Names old.table id q
+    → IsComputed old id (unit_class m unit) q (successor m.nfa (match_kind_of m.config) q unit) new to))
 
--- what reading the last unit of a pass, at its place `k`, makes of the progress
-pub record IsEndProgress {T : Type 0} (way : Direction) (m : Machine) (input : Input) (id k : ℕ) (old new : Stored)
-    (result : Result T SearchError) : Type 0 where
-  -- What was cleared was cleared for the next state.
-  pub cleared : ClearsForNext m id (next (tape_in way input) k) old new
-  -- Answered, it has ended the search at its offset.
-  pub ended : OnOk result (IsEndedBy (given_up_offset way input k) old new)
-  -- Refused, it has ended the search there at a quit byte, and else leaves it there; back it has ended it before.
+-- what reading a unit at an offset, to which the search moves, makes of what the cache holds
+pub record IsReadStep (m : Machine) (id : ℕ) (unit : Option ℕ) (at : ℕ) (old new : Stored)
+    (result : Result ℕ SearchError) : Type 0 where
+  -- Answered, the step was taken with the search at the offset.
+  pub taken : IfOk result (IsStepTaken m id unit (with_searched old (updated old.searched at)) new)
+  -- Refused, only the search has ended there at a quit byte, and else it was moved there.
   pub left :
-      IfErr result (IsLeftAtEnd way m (next (tape_in way input) k) (given_up_offset way input k) old new)
+      IfErr result (λ e. (IsQuitUnit m unit × (new ≡ with_searched old (finished old.searched at)))
+      ⊎ (IsOfRoom at e × (new ≡ with_searched old (updated old.searched at))))
+
+-- what reading the last unit of a pass, at its place `k`, makes of what the cache holds
+pub record IsEndProgress {T : Type 0} (way : Direction) (m : Machine) (input : Input) (k : ℕ) (old new : Stored)
+    (result : Result T SearchError) : Type 0 where
+  -- Answered, the unit was read, and then the search has ended.
+  pub ended :
+      OnOk result ((mid : Stored) × IsUnitRead way m input k (with_search_moved way input k old) mid
+      × (new ≡ with_search_ended way input k mid))
+  -- Refused, the search has ended there at a quit byte, and else is left there; back it has ended before.
+  pub left : IfErr result (IsPassLeftAt way m input k old new)

@@ -1,27 +1,23 @@
 -- Going on with a walk: what the functions under its calls ask, what they answer, and what they make of their cache.
-use Rattle.std.specs.Prelude.{ℕ, suc, ◌≡◌, ◌+◌, ◌-◌, ◌≤◌, ◌⊎◌, Result}
+use Rattle.std.specs.Prelude.{ℕ, suc, ◌≡◌, ◌+◌, ◌-◌, ◌≤◌, Result}
 use Rattle.std.specs.Prelude.{IfErr, IfOk, OnErr, OnOk}
 use Rattle.automata_base.specs.Input.{Input}
-use Rattle.automata_base.specs.Paths.{next}
 use Rattle.automata_base.specs.Powerset.{Powerset}
 use Rattle.automata_base.specs.Tapes.{Direction}
 use Rattle.automata_config.specs.declared.error.SearchError.{SearchError}
-use Rattle.automata_hybrid.specs.declared.dfa.progress.Searched.{Searched}
 use Rattle.automata_hybrid.specs.declared.search.advance.Arrival.{Arrival}
 use Rattle.automata_hybrid.specs.Stores.{Stored}
 use Rattle.automata_hybrid.specs.Caches.{CacheView, counted}
-use Rattle.automata_hybrid.specs.Growing.{ClearedNothing, IsGrown, KeepsProgress}
+use Rattle.automata_hybrid.specs.Growing.{ClearedNothing, IsGrown}
 use Rattle.automata_hybrid.specs.Knowing.{IsOfInput, KnowsUnit}
 use Rattle.automata_hybrid.specs.KnowingWalks.{HasLearnedUnits, IsToRead, KnowsItsState, KnowsUnits}
 use Rattle.automata_hybrid.specs.Machine.{Machine}
 use Rattle.automata_hybrid.specs.Owing.{IsUnsupported, unsupported_error}
 use Rattle.automata_hybrid.specs.OwingWalks.{IsPutBack}
 use Rattle.automata_hybrid.specs.Passing.{HasLearnedUnit}
-use Rattle.automata_hybrid.specs.Progressing.{started}
-use Rattle.automata_hybrid.specs.Reading.{IsReadProgress}
-use Rattle.automata_hybrid.specs.Searched.{IsClearedBetween, IsClearedFor, IsOpenAt}
-use Rattle.automata_hybrid.specs.SearchedWalks.{IsLeftAtUnit, ReadsNoUnit}
-use Rattle.automata_hybrid.specs.Searches.{given_up_offset, state_in, tape_in}
+use Rattle.automata_hybrid.specs.Searched.{AreUnitsRead, IsLeftAt, IsUnitRead, with_search_moved}
+use Rattle.automata_hybrid.specs.SearchedWalks.{IsCallStopped, IsResumed, ReadsNoUnit}
+use Rattle.automata_hybrid.specs.Searches.{state_in, tape_in}
 use Rattle.automata_hybrid.specs.Starting.{MayStart}
 use Rattle.automata_hybrid.specs.Table.{Has, Leads, Names, Rows}
 use Rattle.automata_hybrid.specs.Walking.{GoesOn, HasItsState, HasTold, HasToldBy, IsWalkOf}
@@ -89,7 +85,7 @@ pub record IsResumeAnswer (way : Direction) (m : Machine) (input : Input) (walk 
   pub learned : KnowsItsState way m new input walk.stage
 
 -- what asking for it makes of the cache
-pub record IsResumeEffect {T : Type 0} (way : Direction) (m : Machine) (input : Input) (stage : Stage) (units : ℕ)
+pub record IsResumeEffect {T : Type 0} (way : Direction) (m : Machine) (input : Input) (stage : Stage)
     (old new : CacheView) (result : Result T SearchError) : Type 0 where
   -- it makes at most one determinisation, for a start
   pub cost : new.count ≤ old.count + start_count stage
@@ -103,11 +99,9 @@ pub record IsResumeEffect {T : Type 0} (way : Direction) (m : Machine) (input : 
   -- a held state that isn't there is put back
   pub put_back :
       (q : Powerset) → stage ≡ At q → (Has old.store.table q → ⊥) → OnOk result (IsPutBack q old new) × OnErr result (new ≡ old)
-  -- the progress of searches stays, but for a clear; and where it is refused
-  pub progress : KeepsProgress old.store new.store
-  pub err : OnErr result (new.store.searched ≡ old.store.searched)
-  -- what was cleared was cleared for the state that it goes on from
-  pub cleared : (new.store.clears ≡ old.store.clears) ⊎ IsClearedFor (state_in way m input units) old.store new.store
+  -- the state is its start, or was put back; refused, it has changed nothing
+  pub resumed : OnOk result (IsResumed way m input stage old.store new.store)
+  pub err : OnErr result (new.store ≡ old.store)
 
 -- what putting the state of a walk back makes of the cache
 pub record IsPutBackEffect {T E : Type 0} (q : Powerset) (old new : CacheView) (result : Result T E) : Type 0 where
@@ -118,8 +112,6 @@ pub record IsPutBackEffect {T E : Type 0} (q : Powerset) (old new : CacheView) (
   pub there : Has old.store.table q → (new ≡ old) × IfErr result (λ e. ⊥)
   -- one that isn't there is added again
   pub again : (Has old.store.table q → ⊥) → OnOk result (IsPutBack q old new)
-  -- the progress of searches stays, but for a clear
-  pub progress : KeepsProgress old.store new.store
 
 -- a walk has read so many units of its span, and one is left: the ID names its state there
 pub record StandsBehind (way : Direction) (m : Machine) (t : Rows) (input : Input) (units id : ℕ) : Type 0 where
@@ -134,17 +126,14 @@ pub record IsUnitEffect {T : Type 0} (way : Direction) (m : Machine) (input : In
   pub counted : new.count ≤ old.count + 1
   -- the cache has grown; where nothing was cleared, nothing is lost
   pub grown : IsGrown old new
-  -- what was cleared was cleared for the next state
-  pub cleared :
-      (new.store.clears ≡ old.store.clears)
-      ⊎ IsClearedBetween (state_in way m input place) (state_in way m input (suc place)) old.store new.store
   -- where its transition is known, it determinises nothing, and isn't refused for want of room
   pub known : KnowsUnit way m old.store input place → (new.count ≡ old.count) × IfErr result IsOfInput
   -- where nothing was cleared it is known from then on
   pub learned : ClearedNothing old.store new.store → OnOk result (HasLearnedUnit way m new.store input place)
-  -- the search has moved to the unit
-  pub progress :
-      IsReadProgress m (next (tape_in way input) place) (given_up_offset way input place) old.store new.store result
+  -- the search moved to the unit, and it was read; or is left there
+  pub read :
+      OnOk result (IsUnitRead way m input place (with_search_moved way input place old.store) new.store)
+  pub left : IfErr result (IsLeftAt way m input place old.store new.store)
 
 -- what going on over the units of a walk from there makes of the cache
 pub record IsAdvanceEffect (way : Direction) (m : Machine) (input : Input) (units : ℕ) (old new : CacheView)
@@ -161,12 +150,9 @@ pub record IsAdvanceEffect (way : Direction) (m : Machine) (input : Input) (unit
   -- where nothing was cleared it is known from then on
   pub learned :
       ClearedNothing old.store new.store → IfOk result (λ a. HasLearnedUnits way m new.store input units a.units)
-  -- a search that began there is open at the last unit that was read
-  pub moved :
-      (before : Searched) → old.store.searched ≡ started before (given_up_offset way input units)
-      → IfOk result (λ a. (k : ℕ) × (units ≤ k) × (a.units ≡ suc k) × WalkReads way m input k
-      × IsOpenAt way m input before units (given_up_offset way input k) old.store new.store)
-  -- or is left at the one that was refused
-  pub left :
-      (before : Searched) → old.store.searched ≡ started before (given_up_offset way input units)
-      → IfErr result (IsLeftAtUnit Ids way m input before units old.store new.store)
+  -- it read these units, one after another
+  pub read :
+      IfOk result (λ a. (n : ℕ) × (a.units ≡ suc (units + n)) × WalkReads way m input (units + n)
+      × AreUnitsRead way m input units (suc n) old.store new.store)
+  -- or was refused at one
+  pub left : IfErr result (IsCallStopped Ids way m input units old.store new.store)

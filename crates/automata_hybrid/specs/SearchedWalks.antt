@@ -1,19 +1,20 @@
--- What the calls of a walk leave of the progress: the searched bytes, and the search that is open.
-use Rattle.std.specs.Prelude.{ℕ, zero, suc, ◌≡◌, ◌<◌, ◌≤◌, ◌+◌, ◌⊎◌, Bool, List, length, take, None}
+-- What the calls of a walk make of their cache and of the progress, unit by unit.
+use Rattle.std.specs.Prelude.{ℕ, zero, suc, ◌≡◌, ◌<◌, ◌≤◌, ◌+◌, ◌⊎◌, Bool, false, List, length, take, None}
 use Rattle.automata_base.specs.Input.{Input}
-use Rattle.automata_base.specs.Paths.{next}
-use Rattle.automata_base.specs.Powerset.{Powerset, dead}
+use Rattle.automata_base.specs.Powerset.{Powerset}
 use Rattle.automata_base.specs.Selections.{Pair}
 use Rattle.automata_base.specs.Tapes.{Direction, Forward}
 use Rattle.automata_config.specs.declared.error.SearchError.{SearchError}
-use Rattle.automata_hybrid.specs.declared.dfa.progress.Searched.{Searched}
 use Rattle.automata_hybrid.specs.Stores.{Stored}
 use Rattle.automata_hybrid.specs.KnowingWalks.{IsOpen}
 use Rattle.automata_hybrid.specs.Machine.{Machine}
-use Rattle.automata_hybrid.specs.Searched.{IsEndedAt, IsOfRoom, IsOpenAt, IsQuitUnit}
-use Rattle.automata_hybrid.specs.Searches.{HasReadNoQuit, given_up_offset, state_in, tape_in}
-use Rattle.automata_hybrid.specs.Walking.{AreWalked, IsRefusalAt, IsResumeRefusal, IsSilent, TellsNext, WalkReads}
-use Rattle.automata_hybrid.specs.Walks.{At, Ended, Ids, Keeping, Walk, fresh_walk}
+use Rattle.automata_hybrid.specs.Effects.{IsAddedStart}
+use Rattle.automata_hybrid.specs.Searched.{AreUnitsRead, HasEndedBehind, HasItsStart, IsLeftAt, IsUnitRead}
+use Rattle.automata_hybrid.specs.Searched.{with_search_begun, with_search_moved}
+use Rattle.automata_hybrid.specs.Searches.{HasReadNoQuit, IsUnitRefusal}
+use Rattle.automata_hybrid.specs.Table.{Has}
+use Rattle.automata_hybrid.specs.Walking.{AreWalked, IsResumeRefusal, IsSilent, IsUnheld, TellsNext, WalkReads}
+use Rattle.automata_hybrid.specs.Walks.{At, Ended, Fresh, Ids, Keeping, Stage, States, Walk, fresh_walk}
 
 -- a call reads no unit: the walk has ended, has a pattern more to tell where it stands, or has no unit left in its span
 abbrev pub ReadsNoUnit : Input → Walk → Type 0
@@ -21,43 +22,51 @@ ReadsNoUnit input w =
     (w.stage ≡ Ended)
     ⊎ (((q : Powerset) × (w.stage ≡ At q) × (w.told < length q.patterns)) ⊎ (input.end < input.start + w.units))
 
--- the last unit that a call reads, behind which the walk tells a pattern, or has no match and none to read; and where
--- it is dead at once, so that it reads none, the one that would be next
-abbrev pub IsLastUnit : Direction → Machine → Input → (walk next : Walk) → (k : ℕ) → Type 0
-IsLastUnit way m input walk next k =
-    ((k ≡ walk.units) × (next.units ≡ k) × (state_in way m input k ≡ dead))
-    ⊎ ((walk.units ≤ k) × (next.units ≡ suc k) × WalkReads way m input k
-    × (next.stage ≡ Ended → (next.found ≡ None) × (WalkReads way m input (suc k) → ⊥)))
+-- a walk has the state that it goes on from: its start; or the state where it stands, which is put back where the cache
+-- lacks it
+abbrev pub IsResumed : Direction → Machine → Input → Stage → (old new : Stored) → Type 0
+IsResumed way m input Fresh old new = HasItsStart way m input old new
+IsResumed way m input (At q) old new =
+    (Has old.table q × (new ≡ old))
+    ⊎ ((Has old.table q → ⊥) × IsAddedStart old (record { state = q; started = false }) new)
+IsResumed way m input Ended old new = ⊥
 
--- a search that began at the unit at one place has ended at that at another
-abbrev pub EndsAtUnit : Direction → Machine → Input → (before : Searched) → (from k : ℕ) → (old new : Stored) → Type 0
-EndsAtUnit way m input before from k old new = IsEndedAt way m input before from (given_up_offset way input k) old new
+-- a call reads the units behind those of the walk: up to the one behind which the next one tells a pattern; or, where
+-- there is no match, up to the last that can be read
+abbrev pub ReadsItsUnits : Direction → Machine → Input → (walk next : Walk) → Type 0
+ReadsItsUnits way m input walk next =
+    ((k : ℕ) → walk.units ≤ k → k < next.units → WalkReads way m input k)
+    × (next.stage ≡ Ended → (next.found ≡ None) × (WalkReads way m input next.units → ⊥))
 
--- a call was refused at a unit, the first one from a place on to be: a quit byte ended the search there, and else it is
--- left open there
-abbrev pub IsLeftAtUnit :
-    Keeping → Direction → Machine → Input → (before : Searched) → (from : ℕ) → (old new : Stored) → SearchError
-    → Type 0
-IsLeftAtUnit keeping way m input before from old new e =
-    (k : ℕ) × (from ≤ k) × WalkReads way m input k × HasReadNoQuit way m input k × IsSilent way m input from k
-    × IsRefusalAt keeping way m new input k e
-    × ((IsQuitUnit m (next (tape_in way input) k) × EndsAtUnit way m input before from k old new)
-    ⊎ (IsOfRoom (given_up_offset way input k) e
-    × IsOpenAt way m input before from (given_up_offset way input k) old new))
-
--- a call that answers has ended at the last unit that it reads, counted from its first; one that reads none has changed
--- nothing
+-- a call that answers has read its units, and ended at the last of them; one that reads none has changed nothing
 abbrev pub EndsCall : Direction → Machine → Input → (walk next : Walk) → (old new : Stored) → Type 0
 EndsCall way m input walk next old new =
-    (ReadsNoUnit input walk × (new.searched ≡ old.searched))
-    ⊎ ((ReadsNoUnit input walk → ⊥) × (k : ℕ) × IsLastUnit way m input walk next k
-    × EndsAtUnit way m input old.searched walk.units k old new)
+    (ReadsNoUnit input walk × (new ≡ old))
+    ⊎ ((ReadsNoUnit input walk → ⊥) × (begun : Stored) × (units : ℕ) × IsResumed way m input walk.stage old begun
+    × (next.units ≡ walk.units + units) × ReadsItsUnits way m input walk next
+    × HasEndedBehind way m input walk.units units (with_search_begun way input walk.units begun) new)
+
+-- a call is refused at the unit at place `k`; or the unit was read, and the state behind it can't be held
+abbrev pub IsCallLeftAt : Keeping → Direction → Machine → Input → (k : ℕ) → (old new : Stored) → SearchError → Type 0
+IsCallLeftAt Ids way m input k old new e = IsUnitRefusal way m new input k e × IsLeftAt way m input k old new e
+IsCallLeftAt States way m input k old new e =
+    (IsUnitRefusal way m new input k e × IsLeftAt way m input k old new e)
+    ⊎ (IsUnheld way m input k e × IsUnitRead way m input k (with_search_moved way input k old) new)
+
+-- a call that has begun at a place was refused behind the first so many units from there, which tell nothing
+abbrev pub IsCallStopped :
+    Keeping → Direction → Machine → Input → (from : ℕ) → (begun new : Stored) → SearchError → Type 0
+IsCallStopped keeping way m input from begun new e =
+    (units : ℕ) × (mid : Stored) × WalkReads way m input (from + units) × HasReadNoQuit way m input (from + units)
+    × IsSilent way m input from (from + units) × AreUnitsRead way m input from units begun mid
+    × IsCallLeftAt keeping way m input (from + units) mid new e
 
 -- a call was refused: the walk isn't gone on with, which changed nothing, or at a unit
 abbrev pub LeavesCall : Keeping → Direction → Machine → Input → Walk → (old new : Stored) → SearchError → Type 0
 LeavesCall keeping way m input walk old new e =
-    (IsResumeRefusal way m new input walk.stage walk.units e × (new.searched ≡ old.searched))
-    ⊎ IsLeftAtUnit keeping way m input old.searched walk.units old new e
+    (IsResumeRefusal way m new input walk.stage walk.units e × (new ≡ old))
+    ⊎ ((begun : Stored) × IsResumed way m input walk.stage old begun
+    × IsCallStopped keeping way m input walk.units (with_search_begun way input walk.units begun) new e)
 
 -- a set is gone on with when its walk has told its first pairs
 abbrev pub IsOpenAfter : Machine → Input → (set : List Bool) → (told : ℕ) → Type 0

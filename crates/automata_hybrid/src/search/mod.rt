@@ -1,13 +1,12 @@
-ghost use Rattle.std.specs.Prelude.{◌≡◌, IsBitSet, slice_index, ◌<◌, IfOk, IfErr};
+ghost use Rattle.std.specs.Prelude.{◌≡◌, IsBitSet, slice_index, ◌<◌, IfOk, IfErr, OnErr};
 ghost use Rattle.std.specs.Prelude.{Some, None, true, false};
 ghost use Rattle.automata_base.specs.Input.{Allows};
 ghost use Rattle.automata_base.specs.Powerset.{Powerset};
 ghost use Rattle.automata_hybrid.specs.Caches.{IsCacheOf};
-ghost use Rattle.automata_hybrid.specs.Growing.{KeepsProgress};
 ghost use Rattle.automata_base.specs.Tapes.{is_split};
 ghost use Rattle.automata_hybrid.specs.Passing.{half_at, step_refusal};
-ghost use Rattle.automata_hybrid.specs.Reading.{IsReadAnswer, IsReadEffect, IsReadProgress, IsReadRefusal};
-ghost use Rattle.automata_hybrid.specs.Reading.{IsStepRefusedAt};
+ghost use Rattle.automata_hybrid.specs.Reading.{IsReadAnswer, IsReadEffect, IsReadRefusal};
+ghost use Rattle.automata_hybrid.specs.Reading.{IsReadStep, IsStepRefusedAt, IsStepTaken};
 ghost use Rattle.automata_hybrid.specs.Searches.{Skips};
 ghost use Rattle.automata_base.specs.declared.util.search.MatchErrorKind.TheVariants.{Quit as QuitAt};
 ghost use Rattle.automata_hybrid.specs.Stepping.{IsStepAnswer, IsStepEffect};
@@ -134,7 +133,7 @@ impl DFA {
         ensures answer { IfOk result (IsReadAnswer self.now id unit cache.old cache.new) }
         ensures refusal { IfErr result (IsReadRefusal self.now id unit quit_at at cache.old cache.new) }
         ensures effect { IsReadEffect self.now id unit cache.old cache.new result }
-        ensures progress { IsReadProgress self.now unit at cache.old.store cache.new.store result }
+        ensures step { IsReadStep self.now id unit at cache.old.store cache.new.store result }
     {
         self.see_classes();
         cache.see_ids();
@@ -168,7 +167,8 @@ impl DFA {
         ensures answer { IfOk result (IsReadAnswer self.now id unit cache.old cache.new) }
         ensures refusal { IfErr result (IsReadRefusal self.now id unit quit_at at cache.old cache.new) }
         ensures effect { IsReadEffect self.now id unit cache.old cache.new result }
-        ensures progress { KeepsProgress cache.old.store cache.new.store }
+        ensures taken { IfOk result (IsStepTaken self.now id unit cache.old.store cache.new.store) }
+        ensures kept { OnErr result (cache.new.store ≡ cache.old.store) }
     {
         self.see_classes();
         cache.see_ids();
@@ -198,7 +198,8 @@ impl DFA {
         ensures answer { IfOk result (IsReadAnswer self.now id None cache.old cache.new) }
         ensures refusal { IfErr result (IsReadRefusal self.now id None at at cache.old cache.new) }
         ensures effect { IsReadEffect self.now id None cache.old cache.new result }
-        ensures progress { KeepsProgress cache.old.store cache.new.store }
+        ensures taken { IfOk result (IsStepTaken self.now id None cache.old.store cache.new.store) }
+        ensures kept { OnErr result (cache.new.store ≡ cache.old.store) }
     {
         self.see_classes();
         cache.see_ids();

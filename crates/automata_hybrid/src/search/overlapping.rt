@@ -121,8 +121,7 @@ impl DFA {
             (IsResumeAnswer (way_of way) self.now input.now walk.now cache.new.store) }
         ensures refusal { IfErr result
             (IsResumeRefusal (way_of way) self.now cache.new.store input.now walk.now.stage walk.now.units) }
-        ensures effect { IsResumeEffect (way_of way) self.now input.now walk.now.stage walk.now.units
-            cache.old cache.new result }
+        ensures effect { IsResumeEffect (way_of way) self.now input.now walk.now.stage cache.old cache.new result }
     {
         if walk.is_fresh() {
             cache.see_slots();

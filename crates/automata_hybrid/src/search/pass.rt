@@ -1,19 +1,17 @@
 //! One run over the span of an input, in either direction.
-ghost use Rattle.std.specs.Prelude.{◌≡◌, ◌-◌, ◌≤◌, IfOk, IfErr, OnOk, Option};
+ghost use Rattle.std.specs.Prelude.{ℕ, ◌≡◌, ◌-◌, ◌<◌, ◌≤◌, IfOk, IfErr, OnErr, OnOk, Option};
 ghost use Rattle.std.specs.Prelude.{None, Err};
 ghost use Rattle.automata_base.specs.Matches as matches;
 ghost use Rattle.automata_base.specs.Paths.{next};
 ghost use Rattle.automata_base.specs.Powerset.{Powerset, dead};
 ghost use Rattle.automata_hybrid.specs.Caches.{IsCacheOf};
-ghost use Rattle.automata_hybrid.specs.Growing.{KeepsProgress};
+ghost use Rattle.automata_hybrid.specs.Knowing.{KnowsUnit};
 ghost use Rattle.automata_hybrid.specs.Owing.{IsUnsupported, unsupported_error};
 ghost use Rattle.automata_hybrid.specs.Passed.{IsPassAnswer, IsPassEffect, IsRestEffect, IsUnderway};
 ghost use Rattle.automata_hybrid.specs.Passing.{HasLearned, IsAt};
-ghost use Rattle.automata_hybrid.specs.Progressing.{started};
 ghost use Rattle.automata_hybrid.specs.Reading.{IsEndProgress};
-ghost use Rattle.automata_hybrid.specs.Searched.{EndsAtLast, IsStoppedAt, KeepsNone};
-ghost use Rattle.automata_hybrid.specs.declared.dfa.progress.Searched.{Searched};
-ghost use Rattle.automata_hybrid.specs.Searches.{given_up_offset, IsPassRefusal, IsUnitRefusal};
+ghost use Rattle.automata_hybrid.specs.Searched.{EndsAtLast, IsStoppedAt, IsUnitRead, KeepsNone};
+ghost use Rattle.automata_hybrid.specs.Searches.{IsPassRefusal, IsUnitRefusal};
 ghost use Rattle.automata_hybrid.specs.Table.{Names};
 ghost use Rattle.automata_hybrid.specs.Walks.{way_of};
 
@@ -93,6 +91,8 @@ impl DFA {
         ensures at { IsAt (way_of way) self.now cache.now.store.table input.now result.at result.id result.found }
         ensures learned { HasLearned (way_of way) self.now cache.now.store input.now start
             → HasLearned (way_of way) self.now cache.now.store input.now result.at }
+        ensures known { (k : ℕ) → start ≤ k → k < result.at
+            → KnowsUnit (way_of way) self.now cache.now.store input.now k }
     {
         let quiet = self.follow(cache, input, way, start, from);
         if input.get_earliest() {
@@ -134,12 +134,8 @@ impl DFA {
         ensures answer { IfOk result (IsPassAnswer (way_of way) self.now input.now) }
         ensures refusal { IfErr result (IsPassRefusal (way_of way) self.now cache.new.store input.now) }
         ensures effect { IsRestEffect (way_of way) self.now input.now 0 cache.old cache.new result }
-        ensures ended { (before : Searched)
-            → cache.old.store.searched ≡ started before (given_up_offset (way_of way) input.now 0)
-            → OnOk result (EndsAtLast (way_of way) self.now input.now before cache.old.store cache.new.store) }
-        ensures left { (before : Searched)
-            → cache.old.store.searched ≡ started before (given_up_offset (way_of way) input.now 0)
-            → IfErr result (IsStoppedAt (way_of way) self.now input.now before cache.old.store cache.new.store) }
+        ensures ended { OnOk result (EndsAtLast (way_of way) self.now input.now cache.old.store cache.new.store) }
+        ensures left { IfErr result (IsStoppedAt (way_of way) self.now input.now cache.old.store cache.new.store) }
     {
         let last = last_place(input);
         let mut at = 0;
@@ -185,13 +181,8 @@ impl DFA {
         ensures answer { IfOk result (IsPassAnswer (way_of way) self.now input.now) }
         ensures refusal { IfErr result (IsPassRefusal (way_of way) self.now cache.new.store input.now) }
         ensures effect { IsRestEffect (way_of way) self.now input.now 0 cache.old cache.new result }
-        ensures ended { (before : Searched)
-            → cache.old.store.searched ≡ started before (given_up_offset (way_of way) input.now 0)
-            → OnOk result (EndsAtLast (way_of way) self.now input.now before cache.old.store cache.new.store) }
-        ensures left { (before : Searched)
-            → cache.old.store.searched ≡ started before (given_up_offset (way_of way) input.now 0)
-            → IfErr result (IsStoppedAt (way_of way) self.now input.now before cache.old.store
-            cache.new.store) }
+        ensures ended { OnOk result (EndsAtLast (way_of way) self.now input.now cache.old.store cache.new.store) }
+        ensures left { IfErr result (IsStoppedAt (way_of way) self.now input.now cache.old.store cache.new.store) }
     {
         match way {
             Way::Forward => self.find_fwd(cache, input, start),
@@ -212,13 +203,8 @@ impl DFA {
         ensures answer { IfOk result (IsPassAnswer (way_of Way.Forward) self.now input.now) }
         ensures refusal { IfErr result (IsPassRefusal (way_of Way.Forward) self.now cache.new.store input.now) }
         ensures effect { IsRestEffect (way_of Way.Forward) self.now input.now 0 cache.old cache.new result }
-        ensures ended { (before : Searched)
-            → cache.old.store.searched ≡ started before (given_up_offset (way_of Way.Forward) input.now 0)
-            → OnOk result (EndsAtLast (way_of Way.Forward) self.now input.now before cache.old.store cache.new.store) }
-        ensures left { (before : Searched)
-            → cache.old.store.searched ≡ started before (given_up_offset (way_of Way.Forward) input.now 0)
-            → IfErr result (IsStoppedAt (way_of Way.Forward) self.now input.now before cache.old.store
-            cache.new.store) }
+        ensures ended { OnOk result (EndsAtLast (way_of Way.Forward) self.now input.now cache.old.store cache.new.store) }
+        ensures left { IfErr result (IsStoppedAt (way_of Way.Forward) self.now input.now cache.old.store cache.new.store) }
     {
         self.find(cache, input, Way::Forward, start)
     }
@@ -236,13 +222,8 @@ impl DFA {
         ensures answer { IfOk result (IsPassAnswer (way_of Way.Backward) self.now input.now) }
         ensures refusal { IfErr result (IsPassRefusal (way_of Way.Backward) self.now cache.new.store input.now) }
         ensures effect { IsRestEffect (way_of Way.Backward) self.now input.now 0 cache.old cache.new result }
-        ensures ended { (before : Searched)
-            → cache.old.store.searched ≡ started before (given_up_offset (way_of Way.Backward) input.now 0)
-            → OnOk result (EndsAtLast (way_of Way.Backward) self.now input.now before cache.old.store cache.new.store) }
-        ensures left { (before : Searched)
-            → cache.old.store.searched ≡ started before (given_up_offset (way_of Way.Backward) input.now 0)
-            → IfErr result (IsStoppedAt (way_of Way.Backward) self.now input.now before cache.old.store
-            cache.new.store) }
+        ensures ended { OnOk result (EndsAtLast (way_of Way.Backward) self.now input.now cache.old.store cache.new.store) }
+        ensures left { IfErr result (IsStoppedAt (way_of Way.Backward) self.now input.now cache.old.store cache.new.store) }
     {
         self.find(cache, input, Way::Backward, start)
     }
@@ -267,7 +248,7 @@ impl DFA {
         ensures effect { IsRestEffect (way_of way) self.now input.now (input.now.end - input.now.start)
             cache.old cache.new result }
         ensures alive { (q : Powerset) → Names cache.old.store.table id q → q ≡ dead → ⊥ }
-        ensures progress { IsEndProgress (way_of way) self.now input.now id (input.now.end - input.now.start)
+        ensures progress { IsEndProgress (way_of way) self.now input.now (input.now.end - input.now.start)
             cache.old.store cache.new.store result }
     {
         let last = last_place(input);
@@ -295,7 +276,9 @@ impl DFA {
         ensures refusal { IfErr result (IsUnitRefusal (way_of way) self.now cache.new.store input.now 0) }
         ensures effect { IsRestEffect (way_of way) self.now input.now 0 cache.old cache.new result }
         ensures alive { (q : Powerset) → Names cache.old.store.table id q → q ≡ dead → ⊥ }
-        ensures progress { KeepsProgress cache.old.store cache.new.store }
+        ensures read { OnOk result
+            (IsUnitRead (way_of way) self.now input.now 0 cache.old.store cache.new.store) }
+        ensures kept { OnErr result (cache.new.store ≡ cache.old.store) }
     {
         let _haystack = input.haystack();
         let at = span_offset(input, way, 0);

@@ -1,4 +1,4 @@
-use Rattle.std.proofs.Common.{ℕ, suc, ◌≡◌, ◌∙◌, ◌<◌, ◌≤◌, ◌+◌, ◌-◌, inl, inr, length, refl, sym, ap, subst, arith, ⊎_elim}
+use Rattle.std.proofs.Common.{ℕ, suc, ◌≡◌, ◌∙◌, ◌<◌, ◌≤◌, ◌+◌, ◌-◌, inl, inr, length, refl, sym, subst, arith, ⊎_elim}
 use Rattle.std.specs.Prelude.{Result}
 use Rattle.automata_base.specs.Powerset.{dead}
 use Rattle.automata_base.specs.Tapes.{Direction}
@@ -8,8 +8,7 @@ use Rattle.automata_hybrid.specs.Growing.{ClearedNothing}
 use Rattle.automata_hybrid.specs.KnowingWalks.{HasLearnedUnits}
 use Rattle.automata_hybrid.specs.Passing.{IsFollowed}
 use Rattle.automata_hybrid.specs.Resuming.{IsAdvanceEffect}
-use Rattle.automata_hybrid.specs.Searched.{IsOpenAt}
-use Rattle.automata_hybrid.specs.Searches.{HasReadNoQuit, given_up_offset, state_in, tape_in}
+use Rattle.automata_hybrid.specs.Searches.{HasReadNoQuit, state_in, tape_in}
 use Rattle.automata_hybrid.specs.Table.{Names}
 use Rattle.automata_hybrid.specs.Walking.{IsSilent, WalkReads}
 use Rattle.automata_hybrid.specs.Walks.{way_of}
@@ -17,7 +16,8 @@ use Rattle.automata_hybrid.proofs.Following.{followed_clean, followed_silent}
 use Rattle.automata_hybrid.proofs.Growing.{grown_same, grown_trans, nothing_first, nothing_second}
 use Rattle.automata_hybrid.proofs.KnowingWalks.{unit_knows, units_more, units_none}
 use Rattle.automata_hybrid.proofs.Reading.{at_err}
-use Rattle.automata_hybrid.proofs.SearchedWalks.{unit_left, unit_open}
+use Rattle.automata_hybrid.proofs.SearchedWalks.{arrived_read, call_stopped}
+use Rattle.automata_hybrid.proofs.UnitsRead.{AreReadTo, left_then, read_none, read_then}
 use Rattle.automata_hybrid.proofs.Searching.{false_true, if_err}
 use Rattle.automata_hybrid.proofs.Stepping.{dead_tagged}
 use Rattle.automata_hybrid.proofs.Walked.{clean_more, finish_dead, finish_read, silent_same, silent_step}
@@ -38,7 +38,7 @@ loop-read-init c =
       idle = λ n told knows. refl;
       learned = λ nothing. units_none d c.args.self.now c.args.cache.now.store c.args.input.now c.args.units;
       silent = silent_same d c.args.self.now c.args.input.now c.args.units;
-      progress = λ s e. (given_up_offset d c.args.input.now c.args.units, (s, given_up_offset d c.args.input.now c.args.units, inl (refl, refl, refl), e), λ less. absurd (omega (arith, less)));
+      progress = read_none d c.args.self.now c.args.input.now c.args.units c.args.cache.now.store c.args.cache.now.store refl;
       reads = λ less. absurd (omega (arith, less));
     }
 
@@ -73,13 +73,8 @@ loop-read-preserved c =
           (units_more d c.args.self.now c.loop-read.cache c.read_unit.new.cache c.args.input.now c.args.units c.loop-read.read k c.follow_walk-stop.result.id c.in_ok-next.ensures.effect.grown second
           (c.loop-read.invariant.learned first) f (c.in_ok-next.ensures.effect.learned second)));
       silent = subst (IsSilent d c.args.self.now c.args.input.now c.args.units) more silent;
-      progress = λ s e.
-          (let underway = c.loop-read.invariant.progress s e in (
-            given_up_offset d c.args.input.now k,
-            unit_open d c.args.self.now c.args.input.now s c.args.units k underway.0 c.args.cache.now c.loop-read.cache c.read_unit.new.cache c.requires.from.undone c.follow_walk-stop.ensures.within
-                c.loop-read.invariant.grown c.in_ok-next.ensures.effect.grown underway.1 c.in_ok-next.ensures.effect.cleared c.in_ok-next.ensures.effect.progress.moved,
-            λ less. ap (given_up_offset d c.args.input.now) (omega (arith, more)),
-          ));
+      progress = subst (λ n. AreReadTo d c.args.self.now c.args.input.now c.args.units n c.args.cache.now.store c.read_unit.new.cache.store) more
+          (read_then d c.args.self.now c.args.input.now c.args.units c.args.cache.now.store c.loop-read.read k c.loop-read.cache.store c.loop-read.invariant.progress f.more (λ j l h. (f.quiet j l h).known.0) c.read_unit.new.cache.store c.in_ok-next.ensures.effect.read);
       reads = λ less. (k, sym more, c.in_ok-next.ensures.reads);
     }
 
@@ -145,12 +140,11 @@ returns-in_err-next-clause-effect c =
           let here = c.in_err-next.ensures.effect.known (unit_knows d c.args.self.now c.args.cache.now c.loop-read.cache c.args.input.now c.args.units k n c.loop-read.invariant.grown count knows from c.in_err-next.ensures.reads (followed_clean f c.loop-read.invariant.clean) (followed_silent f c.loop-read.invariant.silent n told)) in
           (here.0 ∙ count, here.1));
       learned = λ nothing. tt;
-      moved = λ s e. tt;
-      left = λ s e. (
-          let underway = c.loop-read.invariant.progress s e in
-          unit_left d c.args.self.now c.args.input.now s c.args.units k underway.0 c.args.cache.now c.loop-read.cache c.read_unit.new.cache c.requires.from.undone c.follow_walk-stop.ensures.within
-          c.loop-read.invariant.grown c.in_err-next.ensures.effect.grown underway.1 c.in_err-next.ensures.effect.cleared c.in_err-next.field-0.0 from c.in_err-next.ensures.reads
-          (followed_clean f c.loop-read.invariant.clean) (followed_silent f c.loop-read.invariant.silent) c.in_err-next.ensures.refusal c.in_err-next.ensures.effect.progress.left);
+      read = tt;
+      left =
+          call_stopped d c.args.self.now c.args.input.now c.args.units k c.args.cache.now.store c.read_unit.new.cache.store c.in_err-next.field-0.0 c.in_err-next.ensures.reads
+          (followed_clean f c.loop-read.invariant.clean) (followed_silent f c.loop-read.invariant.silent) c.in_err-next.ensures.refusal
+          (left_then d c.args.self.now c.args.input.now c.args.units c.args.cache.now.store c.loop-read.read k c.loop-read.cache.store c.loop-read.invariant.progress f.more (λ j l h. (f.quiet j l h).known.0) c.read_unit.new.cache.store c.in_err-next.field-0.0 c.in_err-next.ensures.effect.left);
     })
 
 pub returns-then-is_dead-clause-effect : goal.returns-then-is_dead-clause-effect
@@ -174,16 +168,10 @@ returns-then-is_dead-clause-effect c =
           subst (HasLearnedUnits d c.args.self.now c.read_unit.new.cache.store c.args.input.now c.args.units) more
           (units_more d c.args.self.now c.loop-read.cache c.read_unit.new.cache c.args.input.now c.args.units c.loop-read.read k c.follow_walk-stop.result.id c.in_ok-next.ensures.effect.grown second
           (c.loop-read.invariant.learned first) f (c.in_ok-next.ensures.effect.learned second)));
-      moved = λ s e. (
-          let underway = c.loop-read.invariant.progress s e in (
-            k,
-            from,
-            sym more,
-            c.in_ok-next.ensures.reads,
-            unit_open d c.args.self.now c.args.input.now s c.args.units k underway.0 c.args.cache.now c.loop-read.cache c.read_unit.new.cache c.requires.from.undone c.follow_walk-stop.ensures.within
-                c.loop-read.invariant.grown c.in_ok-next.ensures.effect.grown underway.1 c.in_ok-next.ensures.effect.cleared c.in_ok-next.ensures.effect.progress.moved,
-          ));
-      left = λ s e. tt;
+      read =
+          arrived_read d c.args.self.now c.args.input.now c.args.units k (k + 1) c.args.cache.now.store c.read_unit.new.cache.store from more c.in_ok-next.ensures.reads
+          (read_then d c.args.self.now c.args.input.now c.args.units c.args.cache.now.store c.loop-read.read k c.loop-read.cache.store c.loop-read.invariant.progress f.more (λ j l h. (f.quiet j l h).known.0) c.read_unit.new.cache.store c.in_ok-next.ensures.effect.read);
+      left = tt;
     }
 
 pub returns-then-tells-clause-effect : goal.returns-then-tells-clause-effect
@@ -207,16 +195,10 @@ returns-then-tells-clause-effect c =
           subst (HasLearnedUnits d c.args.self.now c.read_unit.new.cache.store c.args.input.now c.args.units) more
           (units_more d c.args.self.now c.loop-read.cache c.read_unit.new.cache c.args.input.now c.args.units c.loop-read.read k c.follow_walk-stop.result.id c.in_ok-next.ensures.effect.grown second
           (c.loop-read.invariant.learned first) f (c.in_ok-next.ensures.effect.learned second)));
-      moved = λ s e. (
-          let underway = c.loop-read.invariant.progress s e in (
-            k,
-            from,
-            sym more,
-            c.in_ok-next.ensures.reads,
-            unit_open d c.args.self.now c.args.input.now s c.args.units k underway.0 c.args.cache.now c.loop-read.cache c.read_unit.new.cache c.requires.from.undone c.follow_walk-stop.ensures.within
-                c.loop-read.invariant.grown c.in_ok-next.ensures.effect.grown underway.1 c.in_ok-next.ensures.effect.cleared c.in_ok-next.ensures.effect.progress.moved,
-          ));
-      left = λ s e. tt;
+      read =
+          arrived_read d c.args.self.now c.args.input.now c.args.units k (k + 1) c.args.cache.now.store c.read_unit.new.cache.store from more c.in_ok-next.ensures.reads
+          (read_then d c.args.self.now c.args.input.now c.args.units c.args.cache.now.store c.loop-read.read k c.loop-read.cache.store c.loop-read.invariant.progress f.more (λ j l h. (f.quiet j l h).known.0) c.read_unit.new.cache.store c.in_ok-next.ensures.effect.read);
+      left = tt;
     }
 
 pub returns-clause-effect : goal.returns-clause-effect
@@ -230,15 +212,8 @@ returns-clause-effect c =
       most = omega (arith, c.loop-read.invariant.counted, c.loop-read.invariant.within);
       known = λ n told knows. (c.loop-read.invariant.idle n told knows, tt);
       learned = c.loop-read.invariant.learned;
-      moved = λ s e. (
-          let underway = c.loop-read.invariant.progress s e in
-          let place : c.loop-read.read - 1 ≡ last.0 = omega (arith, last.1) in (
-            last.0,
-            omega (arith, less, last.1),
-            last.1,
-            last.2,
-            subst (λ x. IsOpenAt d c.args.self.now c.args.input.now s c.args.units x c.args.cache.now.store c.loop-read.cache.store)
-                (underway.2 less ∙ ap (given_up_offset d c.args.input.now) place) underway.1,
-          ));
-      left = λ s e. tt;
+      read =
+          arrived_read d c.args.self.now c.args.input.now c.args.units last.0 c.loop-read.read c.args.cache.now.store c.loop-read.cache.store (omega (arith, less, last.1)) (sym last.1) last.2
+          (subst (λ n. AreReadTo d c.args.self.now c.args.input.now c.args.units n c.args.cache.now.store c.loop-read.cache.store) last.1 c.loop-read.invariant.progress);
+      left = tt;
     }

@@ -2,13 +2,11 @@ use Rattle.std.proofs.Common.{ℕ, suc, ◌≡◌, ◌<◌, ◌≤◌, ◌+◌, 
 use Rattle.automata_hybrid.specs.Caches.{IsCacheOf}
 use Rattle.automata_hybrid.specs.Growing.{ClearedNothing, IsGrown}
 use Rattle.automata_hybrid.specs.KnowingWalks.{HasLearnedUnits, KnowsUnits}
-use Rattle.automata_hybrid.specs.Progressing.{started}
-use Rattle.automata_hybrid.specs.Searched.{IsOpenAt}
-use Rattle.automata_hybrid.specs.Searches.{HasReadNoQuit, given_up_offset, state_in}
+use Rattle.automata_hybrid.specs.Searches.{HasReadNoQuit, state_in}
 use Rattle.automata_hybrid.specs.Table.{Names}
 use Rattle.automata_hybrid.specs.Walking.{HasToldBy, IsSilent, WalkReads}
 use Rattle.automata_hybrid.specs.Walks.{way_of}
-use Rattle.automata_hybrid.specs.declared.dfa.progress.Searched.{Searched}
+use Rattle.automata_hybrid.proofs.UnitsRead.{AreReadTo}
 use Rattle.automata_hybrid.proofs.dfa.DFA.advance.Given as goal
 
 abbrev pub invariant-loop-read : goal.invariant-loop-read
@@ -23,7 +21,7 @@ invariant-loop-read l = record {
   idle : (k : ℕ) → HasToldBy (way_of l.way) l.self l.input l.units k → KnowsUnits (way_of l.way) l.self l.fn.cache.store l.input l.units k → l.cache.count ≡ l.fn.cache.count;
   learned : ClearedNothing l.fn.cache.store l.cache.store → HasLearnedUnits (way_of l.way) l.self l.cache.store l.input l.units l.read;
   silent : IsSilent (way_of l.way) l.self l.input l.units l.read;
-  progress : (before : Searched) → l.fn.cache.store.searched ≡ started before (given_up_offset (way_of l.way) l.input l.units) → (x : ℕ) × IsOpenAt (way_of l.way) l.self l.input before l.units x l.fn.cache.store l.cache.store × (l.units < l.read → x ≡ given_up_offset (way_of l.way) l.input (l.read - 1));
+  progress : AreReadTo (way_of l.way) l.self l.input l.units l.read l.fn.cache.store l.cache.store;
   reads : l.units < l.read → (k : ℕ) × (l.read ≡ suc k) × WalkReads (way_of l.way) l.self l.input k;
 }
 

@@ -1,21 +1,19 @@
-use Rattle.std.proofs.Common.{ℕ, suc, ◌≡◌, ◌∙◌, ◌+◌, ◌-◌, ◌<◌, ◌≤◌, true, false, length, Some, None, inl, refl, sym, subst, arith}
+use Rattle.std.proofs.Common.{ℕ, suc, ◌≡◌, ◌∙◌, ◌+◌, ◌-◌, ◌<◌, ◌≤◌, true, length, Some, None, inr, refl, sym, subst, arith}
 use Rattle.automata_base.specs.Paths.{next}
 use Rattle.automata_base.specs.Tapes.{Direction}
-use Rattle.automata_hybrid.specs.Growing.{ClearedNothing, IsGrown}
+use Rattle.automata_hybrid.specs.Growing.{ClearedNothing}
 use Rattle.automata_hybrid.specs.Knowing.{KnowsPass}
 use Rattle.automata_hybrid.specs.Passing.{HasLearned, IsAt}
-use Rattle.automata_hybrid.specs.Searched.{IsOpenAt}
 use Rattle.automata_hybrid.specs.Searches.{Reads, given_up_offset, tape_in}
-use Rattle.automata_hybrid.proofs.Clearing.{clears_closed, clears_unit}
-use Rattle.automata_hybrid.proofs.Growing.{grown_moved, grown_same, grown_trans, nothing_first, nothing_second}
+use Rattle.automata_hybrid.proofs.Growing.{grown_same, grown_trans, nothing_first, nothing_second}
 use Rattle.automata_hybrid.proofs.Knowing.{knows_here, knows_still, learned_none, learned_step}
 use Rattle.std.proofs.lemmas.Result.{IfErr-weaker, IfOk-weaker}
 use Rattle.automata_hybrid.proofs.Passed.{dead_answer, dead_stops, first_answer, first_stops, rest_read, rest_refused, rest_then}
 use Rattle.automata_hybrid.proofs.Reading.{at_err}
 use Rattle.automata_hybrid.specs.Passed.{IsRestEffect}
-use Rattle.automata_hybrid.proofs.Searched.{ended_after, last_here, left_at_end, left_here, stays_open}
-use Rattle.automata_hybrid.proofs.Searching.{stops_dead, stops_ends, stops_last, more_leads, more_at, place_refuses, step_refuses, unit_refuses, if_both, if_err, false_true, some_is, none_is}
-use Rattle.automata_hybrid.proofs.Directions.{not_behind, quit_free, span_high, span_low, span_unit, units_in}
+use Rattle.automata_hybrid.proofs.UnitsRead.{AreReadTo, ended_here, pass_last, pass_left_then, pass_stopped, read_none, read_then, refused_here, taken_here}
+use Rattle.automata_hybrid.proofs.Searching.{at_reads, stops_dead, stops_ends, stops_last, more_leads, more_at, place_refuses, step_refuses, unit_refuses, if_both, if_err, false_true, some_is, none_is}
+use Rattle.automata_hybrid.proofs.Directions.{not_behind, quit_free, span_unit, units_in}
 use Rattle.automata_hybrid.proofs.Stepping.{dead_tagged}
 use Rattle.automata_hybrid.specs.Walks.{way_of}
 use Rattle.automata_hybrid.proofs.dfa.DFA.find.Goals as goal
@@ -32,7 +30,7 @@ loop-at-init c =
       learned = λ begin nothing. (begin, learned_none d c.args.self.now c.args.cache.now.store c.args.input.now);
       within = omega arith;
       at = c.requires.at.at;
-      progress = λ s e. (given_up_offset d c.args.input.now 0, (s, given_up_offset d c.args.input.now 0, inl (refl, refl, refl), e));
+      progress = read_none d c.args.self.now c.args.input.now 0 c.args.cache.now.store c.args.cache.now.store refl;
     }
 
 pub find_end-requires-clause-at : goal.find_end-requires-clause-at
@@ -155,13 +153,9 @@ loop-at-preserved c =
           (step.0, subst (HasLearned d c.args.self.now c.read.new.cache.store c.args.input.now) more step.1));
       within = omega (arith, inside);
       at = subst (λ n. IsAt d c.args.self.now c.read.new.cache.store.table c.args.input.now n c.in_ok-next.next c.found_at-found.result) more (more_at d c.args.self.now c.loop-at.cache.store.table c.read.new.cache.store.table c.args.input.now k c.run-run.result.id c.in_ok-next.next _ c.run-run.result.found c.found_at-found.result at read c.in_ok-next.ensures.answer.named (quit_free c.args.self.now _ c.in_ok-next.ensures.answer.clean) (c.place_offset.result, c.place_offset.ensures, c.found_at-found.ensures) first (λ l. (dead_tagged c.read.new.cache.store.table c.in_ok-next.next (c.see_ids.ensures.low c.in_ok-next.next) c.see_ids.ensures.small _ l).1 (λ b. false_true (c.if-is_dead.ensures.1 b))));
-      progress = λ s e.
-          (let underway : (x : ℕ) × IsOpenAt d c.args.self.now c.args.input.now s 0 x c.args.cache.now.store c.loop-at.cache.store = c.loop-at.invariant.progress s e in (
-            c.byte_offset-offset.result,
-            stays_open d c.args.self.now c.args.input.now s 0 c.args.cache.now c.loop-at.cache c.read.new.cache c.loop-at.invariant.grown c.in_ok-next.ensures.effect.grown
-                k c.byte_offset-offset.result given (clears_unit d c.args.self.now c.args.input.now k c.run-run.result.id (Some _) c.loop-at.cache.store c.read.new.cache.store at.named read c.in_ok-next.ensures.effect.cleared)
-                underway.0 c.byte_offset-offset.ensures.from (omega (arith, c.byte_offset-offset.ensures.within)) underway.1 c.in_ok-next.ensures.progress.moved,
-          ));
+      progress = subst (λ n. AreReadTo d c.args.self.now c.args.input.now 0 n c.args.cache.now.store c.read.new.cache.store) more
+          (read_then d c.args.self.now c.args.input.now 0 c.args.cache.now.store c.loop-at.at k c.loop-at.cache.store c.loop-at.invariant.progress c.run-run.ensures.from c.run-run.ensures.known c.read.new.cache.store
+          (taken_here d c.args.self.now c.args.input.now k c.run-run.result.id c.byte_offset-offset.result (Some _) c.loop-at.cache.store at.named read given c.read.new.cache.store c.in_ok-next.next c.in_ok-next.ensures.step.taken));
     }
 
 pub returns-in_err-next-clause-effect : goal.returns-in_err-next-clause-effect
@@ -202,7 +196,7 @@ returns-clause-effect c =
     c.find_end-2.ensures.effect
 
 pub returns-in_err-next-clause-left : goal.returns-in_err-next-clause-left
-returns-in_err-next-clause-left c = λ s e.
+returns-in_err-next-clause-left c =
     let d : Direction = way_of c.args.way in
     let k : ℕ = c.run-run.result.at in
     let inside : k < c.args.input.now.end - c.args.input.now.start = omega (arith, c.if-run-last.false, c.last_place-last.ensures.place) in
@@ -210,17 +204,19 @@ returns-in_err-next-clause-left c = λ s e.
     let given : given_up_offset d c.args.input.now k ≡ c.byte_offset-offset.result = span_unit d c.args.input.now k inside ∙ sym c.byte_offset-offset.ensures.unit in
     let read : next (tape_in d c.args.input.now) k ≡ Some c.byte_at-byte.result = c.byte_at-byte.ensures in
     let few : k ≤ length (tape_in d c.args.input.now).bytes = (let u = units_in d c.args.input.now c.requires.at.undone c.last_place-last.ensures.inside in omega (arith, u, inside)) in
-    let underway : (x : ℕ) × IsOpenAt d c.args.self.now c.args.input.now s 0 x c.args.cache.now.store c.loop-at.cache.store = c.loop-at.invariant.progress s e in
     if_err c.from_residual.result _ _ c.from_residual.ensures.1
-    (left_here d c.args.self.now c.args.input.now s c.args.cache.now c.loop-at.cache c.read.new.cache c.loop-at.invariant.grown c.in_err-next.ensures.effect.grown
-    k c.run-run.result.id c.byte_offset-offset.result underway.0 (Some _) c.run-run.result.found at few c.in_err-next.ensures.effect.alive read given c.byte_offset-offset.ensures.from (omega (arith, c.byte_offset-offset.ensures.within)) underway.1 c.in_err-next.ensures.effect.cleared
-    c.in_err-next.field-0.0
+    (pass_stopped d c.args.self.now c.args.input.now k c.args.cache.now.store c.read.new.cache.store c.in_err-next.field-0.0
+    (at_reads d c.args.self.now c.loop-at.cache.store.table c.args.input.now k c.run-run.result.id c.run-run.result.found at few c.in_err-next.ensures.effect.alive) at.clean
     (unit_refuses d c.args.self.now c.loop-at.cache.store.table c.read.new.cache.store c.args.input.now k c.run-run.result.id c.byte_offset-offset.result c.byte_offset-offset.result _ c.run-run.result.found c.in_err-next.field-0.0
     at read (sym c.byte_offset-offset.ensures.unit) given c.in_err-next.ensures.refusal)
-    (not_behind d c.args.input.now k inside (units_in d c.args.input.now c.requires.at.undone c.last_place-last.ensures.inside)) c.in_err-next.ensures.progress.left)
+    (pass_left_then d c.args.self.now c.args.input.now 0 c.args.cache.now.store c.loop-at.at k c.loop-at.cache.store c.loop-at.invariant.progress c.run-run.ensures.from c.run-run.ensures.known c.read.new.cache.store c.in_err-next.field-0.0
+    (inr (
+      not_behind d c.args.input.now k inside (units_in d c.args.input.now c.requires.at.undone c.last_place-last.ensures.inside),
+      refused_here d c.args.self.now c.args.input.now k c.run-run.result.id c.byte_offset-offset.result (Some _) c.loop-at.cache.store at.named read given c.read.new.cache.store c.in_err-next.field-0.0 c.in_err-next.ensures.step.left,
+    ))))
 
 pub returns-then-is_dead-clause-ended : goal.returns-then-is_dead-clause-ended
-returns-then-is_dead-clause-ended c = λ s e.
+returns-then-is_dead-clause-ended c =
     let d : Direction = way_of c.args.way in
     let k : ℕ = c.run-run.result.at in
     let inside : k < c.args.input.now.end - c.args.input.now.start = omega (arith, c.if-run-last.false, c.last_place-last.ensures.place) in
@@ -228,16 +224,15 @@ returns-then-is_dead-clause-ended c = λ s e.
     let given : given_up_offset d c.args.input.now k ≡ c.byte_offset-offset.result = span_unit d c.args.input.now k inside ∙ sym c.byte_offset-offset.ensures.unit in
     let read : next (tape_in d c.args.input.now) k ≡ Some c.byte_at-byte.result = c.byte_at-byte.ensures in
     let few : k ≤ length (tape_in d c.args.input.now).bytes = (let u = units_in d c.args.input.now c.requires.at.undone c.last_place-last.ensures.inside in omega (arith, u, inside)) in
-    let underway : (x : ℕ) × IsOpenAt d c.args.self.now c.args.input.now s 0 x c.args.cache.now.store c.loop-at.cache.store = c.loop-at.invariant.progress s e in
     let stops : Reads d c.args.self.now c.args.input.now (suc k) → ⊥ = stops_dead d c.args.self.now c.loop-at.cache.store.table c.read.new.cache.store.table c.args.input.now k c.run-run.result.id c.in_ok-next.next _ c.run-run.result.found None at read c.in_ok-next.ensures.answer.named (quit_free c.args.self.now _ c.in_ok-next.ensures.answer.clean) (λ l. (dead_tagged c.read.new.cache.store.table c.in_ok-next.next (c.see_ids.ensures.low c.in_ok-next.next) c.see_ids.ensures.small _ l).0 (c.if-is_dead.ensures.0 refl)) (suc k) (omega arith) in
-    let grown : IsGrown c.loop-at.cache c.end_search.new.self = grown_trans c.loop-at.cache c.read.new.cache c.end_search.new.self c.in_ok-next.ensures.effect.grown (grown_moved c.read.new.cache c.end_search.new.self c.end_search.ensures.value) in
-    last_here d c.args.self.now c.args.input.now s c.args.cache.now c.loop-at.cache c.end_search.new.self c.loop-at.invariant.grown grown
-    k c.run-run.result.id c.byte_offset-offset.result underway.0 (Some _) c.run-run.result.found at few c.in_ok-next.ensures.effect.alive read given c.byte_offset-offset.ensures.from (omega (arith, c.byte_offset-offset.ensures.within)) underway.1
-    (clears_closed c.args.self.now c.run-run.result.id (Some _) c.loop-at.cache.store c.read.new.cache c.end_search.new.self c.end_search.ensures.value c.in_ok-next.ensures.effect.cleared)
-    (ended_after c.loop-at.cache c.read.new.cache c.end_search.new.self c.byte_offset-offset.result c.in_ok-next.ensures.progress.moved c.end_search.ensures.value) stops
+    pass_last d c.args.self.now c.args.input.now k c.args.cache.now.store c.read.new.cache.store c.end_search.new.self.store
+    (at_reads d c.args.self.now c.loop-at.cache.store.table c.args.input.now k c.run-run.result.id c.run-run.result.found at few c.in_ok-next.ensures.effect.alive) stops
+    (read_then d c.args.self.now c.args.input.now 0 c.args.cache.now.store c.loop-at.at k c.loop-at.cache.store c.loop-at.invariant.progress c.run-run.ensures.from c.run-run.ensures.known c.read.new.cache.store
+    (taken_here d c.args.self.now c.args.input.now k c.run-run.result.id c.byte_offset-offset.result (Some _) c.loop-at.cache.store at.named read given c.read.new.cache.store c.in_ok-next.next c.in_ok-next.ensures.step.taken))
+    (ended_here d c.args.input.now k c.byte_offset-offset.result c.read.new.cache c.end_search.new.self given c.end_search.ensures.value)
 
 pub returns-then-is_some-clause-ended : goal.returns-then-is_some-clause-ended
-returns-then-is_some-clause-ended c = λ s e.
+returns-then-is_some-clause-ended c =
     let d : Direction = way_of c.args.way in
     let k : ℕ = c.run-run.result.at in
     let inside : k < c.args.input.now.end - c.args.input.now.start = omega (arith, c.if-run-last.false, c.last_place-last.ensures.place) in
@@ -245,64 +240,63 @@ returns-then-is_some-clause-ended c = λ s e.
     let given : given_up_offset d c.args.input.now k ≡ c.byte_offset-offset.result = span_unit d c.args.input.now k inside ∙ sym c.byte_offset-offset.ensures.unit in
     let read : next (tape_in d c.args.input.now) k ≡ Some c.byte_at-byte.result = c.byte_at-byte.ensures in
     let few : k ≤ length (tape_in d c.args.input.now).bytes = (let u = units_in d c.args.input.now c.requires.at.undone c.last_place-last.ensures.inside in omega (arith, u, inside)) in
-    let underway : (x : ℕ) × IsOpenAt d c.args.self.now c.args.input.now s 0 x c.args.cache.now.store c.loop-at.cache.store = c.loop-at.invariant.progress s e in
     let stops : Reads d c.args.self.now c.args.input.now (suc k) → ⊥ = stops_ends d c.args.self.now c.loop-at.cache.store.table c.read.new.cache.store.table c.args.input.now k c.run-run.result.id c.in_ok-next.next _ c.run-run.result.found c.found_at-found.result at read c.in_ok-next.ensures.answer.named (quit_free c.args.self.now _ c.in_ok-next.ensures.answer.clean) (c.place_offset.result, c.place_offset.ensures, c.found_at-found.ensures) (sym c.get_earliest.ensures ∙ c.if-get_earliest.true) (some_is c.found_at-found.result c.if-is_some.ensures) (suc k) (omega arith) in
-    let grown : IsGrown c.loop-at.cache c.end_search-then-is_some.new.self = grown_trans c.loop-at.cache c.read.new.cache c.end_search-then-is_some.new.self c.in_ok-next.ensures.effect.grown (grown_moved c.read.new.cache c.end_search-then-is_some.new.self c.end_search-then-is_some.ensures.value) in
-    last_here d c.args.self.now c.args.input.now s c.args.cache.now c.loop-at.cache c.end_search-then-is_some.new.self c.loop-at.invariant.grown grown
-    k c.run-run.result.id c.byte_offset-offset.result underway.0 (Some _) c.run-run.result.found at few c.in_ok-next.ensures.effect.alive read given c.byte_offset-offset.ensures.from (omega (arith, c.byte_offset-offset.ensures.within)) underway.1
-    (clears_closed c.args.self.now c.run-run.result.id (Some _) c.loop-at.cache.store c.read.new.cache c.end_search-then-is_some.new.self c.end_search-then-is_some.ensures.value c.in_ok-next.ensures.effect.cleared)
-    (ended_after c.loop-at.cache c.read.new.cache c.end_search-then-is_some.new.self c.byte_offset-offset.result c.in_ok-next.ensures.progress.moved c.end_search-then-is_some.ensures.value) stops
+    pass_last d c.args.self.now c.args.input.now k c.args.cache.now.store c.read.new.cache.store c.end_search-then-is_some.new.self.store
+    (at_reads d c.args.self.now c.loop-at.cache.store.table c.args.input.now k c.run-run.result.id c.run-run.result.found at few c.in_ok-next.ensures.effect.alive) stops
+    (read_then d c.args.self.now c.args.input.now 0 c.args.cache.now.store c.loop-at.at k c.loop-at.cache.store c.loop-at.invariant.progress c.run-run.ensures.from c.run-run.ensures.known c.read.new.cache.store
+    (taken_here d c.args.self.now c.args.input.now k c.run-run.result.id c.byte_offset-offset.result (Some _) c.loop-at.cache.store at.named read given c.read.new.cache.store c.in_ok-next.next c.in_ok-next.ensures.step.taken))
+    (ended_here d c.args.input.now k c.byte_offset-offset.result c.read.new.cache c.end_search-then-is_some.new.self given c.end_search-then-is_some.ensures.value)
 
 pub returns-then-run-last-clause-ended : goal.returns-then-run-last-clause-ended
-returns-then-run-last-clause-ended c = λ s e.
+returns-then-run-last-clause-ended c =
     let d : Direction = way_of c.args.way in
     let same : c.run-run.result.at ≡ c.args.input.now.end - c.args.input.now.start = omega (arith, c.if-run-last.true, c.run-run.ensures.within, c.last_place-last.ensures.place) in
     let k : ℕ = c.args.input.now.end - c.args.input.now.start in
     let at : IsAt d c.args.self.now c.loop-at.cache.store.table c.args.input.now k c.run-run.result.id c.run-run.result.found = subst (λ k. IsAt d c.args.self.now c.loop-at.cache.store.table c.args.input.now k c.run-run.result.id c.run-run.result.found) same c.run-run.ensures.at in
     let units : k ≡ length (tape_in d c.args.input.now).bytes = units_in d c.args.input.now c.requires.at.undone c.last_place-last.ensures.inside in
-    let underway : (x : ℕ) × IsOpenAt d c.args.self.now c.args.input.now s 0 x c.args.cache.now.store c.loop-at.cache.store = c.loop-at.invariant.progress s e in
     IfOk-weaker c.find_end.result _ _
-    (λ _ ended. last_here d c.args.self.now c.args.input.now s c.args.cache.now c.loop-at.cache c.find_end.new.cache c.loop-at.invariant.grown c.find_end.ensures.effect.grown
-    k c.run-run.result.id (given_up_offset d c.args.input.now k) underway.0 (next (tape_in d c.args.input.now) k) c.run-run.result.found at (omega (arith, units)) c.find_end.ensures.alive refl refl (span_low d c.args.input.now k) (span_high d c.args.input.now k c.requires.at.undone (omega arith)) underway.1 c.find_end.ensures.progress.cleared ended (λ r. stops_last d c.args.self.now c.args.input.now k units (suc k) (omega arith) r))
+    (λ _ ended. pass_last d c.args.self.now c.args.input.now k c.args.cache.now.store ended.0 c.find_end.new.cache.store
+    (at_reads d c.args.self.now c.loop-at.cache.store.table c.args.input.now k c.run-run.result.id c.run-run.result.found at (omega (arith, units)) c.find_end.ensures.alive) (λ r. stops_last d c.args.self.now c.args.input.now k units (suc k) (omega arith) r)
+    (read_then d c.args.self.now c.args.input.now 0 c.args.cache.now.store c.loop-at.at k c.loop-at.cache.store c.loop-at.invariant.progress (omega (arith, c.run-run.ensures.from, same)) (λ j from below. c.run-run.ensures.known j from (omega (arith, below, same))) ended.0 ended.1) ended.2)
     c.find_end.ensures.progress.ended
 
 pub returns-then-run-last-clause-left : goal.returns-then-run-last-clause-left
-returns-then-run-last-clause-left c = λ s e.
+returns-then-run-last-clause-left c =
     let d : Direction = way_of c.args.way in
     let same : c.run-run.result.at ≡ c.args.input.now.end - c.args.input.now.start = omega (arith, c.if-run-last.true, c.run-run.ensures.within, c.last_place-last.ensures.place) in
     let k : ℕ = c.args.input.now.end - c.args.input.now.start in
     let at : IsAt d c.args.self.now c.loop-at.cache.store.table c.args.input.now k c.run-run.result.id c.run-run.result.found = subst (λ k. IsAt d c.args.self.now c.loop-at.cache.store.table c.args.input.now k c.run-run.result.id c.run-run.result.found) same c.run-run.ensures.at in
     let units : k ≡ length (tape_in d c.args.input.now).bytes = units_in d c.args.input.now c.requires.at.undone c.last_place-last.ensures.inside in
-    let underway : (x : ℕ) × IsOpenAt d c.args.self.now c.args.input.now s 0 x c.args.cache.now.store c.loop-at.cache.store = c.loop-at.invariant.progress s e in
     if_both c.find_end.result _ _ _
-    (λ error refused left. left_at_end d c.args.self.now c.args.input.now s c.args.cache.now c.loop-at.cache c.find_end.new.cache c.loop-at.invariant.grown c.find_end.ensures.effect.grown
-    k c.run-run.result.id (given_up_offset d c.args.input.now k) underway.0 (next (tape_in d c.args.input.now) k) c.run-run.result.found at (omega (arith, units)) c.find_end.ensures.alive refl refl (span_low d c.args.input.now k) (span_high d c.args.input.now k c.requires.at.undone (omega arith)) underway.1 c.find_end.ensures.progress.cleared error refused units left)
+    (λ error refused left. pass_stopped d c.args.self.now c.args.input.now k c.args.cache.now.store c.find_end.new.cache.store error
+    (at_reads d c.args.self.now c.loop-at.cache.store.table c.args.input.now k c.run-run.result.id c.run-run.result.found at (omega (arith, units)) c.find_end.ensures.alive) at.clean refused
+    (pass_left_then d c.args.self.now c.args.input.now 0 c.args.cache.now.store c.loop-at.at k c.loop-at.cache.store c.loop-at.invariant.progress (omega (arith, c.run-run.ensures.from, same)) (λ j from below. c.run-run.ensures.known j from (omega (arith, below, same))) c.find_end.new.cache.store error left))
     c.find_end.ensures.refusal c.find_end.ensures.progress.left
 
 pub returns-clause-ended : goal.returns-clause-ended
-returns-clause-ended c = λ s e.
+returns-clause-ended c =
     let d : Direction = way_of c.args.way in
     let same : c.loop-at.at ≡ c.args.input.now.end - c.args.input.now.start = omega (arith, c.loop-at-test.false, c.loop-at.invariant.within, c.last_place-last.ensures.place) in
     let k : ℕ = c.args.input.now.end - c.args.input.now.start in
     let at : IsAt d c.args.self.now c.loop-at.cache.store.table c.args.input.now k c.loop-at.id c.loop-at.found = subst (λ k. IsAt d c.args.self.now c.loop-at.cache.store.table c.args.input.now k c.loop-at.id c.loop-at.found) same c.loop-at.invariant.at in
     let units : k ≡ length (tape_in d c.args.input.now).bytes = units_in d c.args.input.now c.requires.at.undone c.last_place-last.ensures.inside in
-    let underway : (x : ℕ) × IsOpenAt d c.args.self.now c.args.input.now s 0 x c.args.cache.now.store c.loop-at.cache.store = c.loop-at.invariant.progress s e in
     IfOk-weaker c.find_end-2.result _ _
-    (λ _ ended. last_here d c.args.self.now c.args.input.now s c.args.cache.now c.loop-at.cache c.find_end-2.new.cache c.loop-at.invariant.grown c.find_end-2.ensures.effect.grown
-    k c.loop-at.id (given_up_offset d c.args.input.now k) underway.0 (next (tape_in d c.args.input.now) k) c.loop-at.found at (omega (arith, units)) c.find_end-2.ensures.alive refl refl (span_low d c.args.input.now k) (span_high d c.args.input.now k c.requires.at.undone (omega arith)) underway.1 c.find_end-2.ensures.progress.cleared ended (λ r. stops_last d c.args.self.now c.args.input.now k units (suc k) (omega arith) r))
+    (λ _ ended. pass_last d c.args.self.now c.args.input.now k c.args.cache.now.store ended.0 c.find_end-2.new.cache.store
+    (at_reads d c.args.self.now c.loop-at.cache.store.table c.args.input.now k c.loop-at.id c.loop-at.found at (omega (arith, units)) c.find_end-2.ensures.alive) (λ r. stops_last d c.args.self.now c.args.input.now k units (suc k) (omega arith) r)
+    (read_then d c.args.self.now c.args.input.now 0 c.args.cache.now.store c.loop-at.at k c.loop-at.cache.store c.loop-at.invariant.progress (omega (arith, same)) (λ j from below. absurd (omega (arith, from, below, same))) ended.0 ended.1) ended.2)
     c.find_end-2.ensures.progress.ended
 
 pub returns-clause-left : goal.returns-clause-left
-returns-clause-left c = λ s e.
+returns-clause-left c =
     let d : Direction = way_of c.args.way in
     let same : c.loop-at.at ≡ c.args.input.now.end - c.args.input.now.start = omega (arith, c.loop-at-test.false, c.loop-at.invariant.within, c.last_place-last.ensures.place) in
     let k : ℕ = c.args.input.now.end - c.args.input.now.start in
     let at : IsAt d c.args.self.now c.loop-at.cache.store.table c.args.input.now k c.loop-at.id c.loop-at.found = subst (λ k. IsAt d c.args.self.now c.loop-at.cache.store.table c.args.input.now k c.loop-at.id c.loop-at.found) same c.loop-at.invariant.at in
     let units : k ≡ length (tape_in d c.args.input.now).bytes = units_in d c.args.input.now c.requires.at.undone c.last_place-last.ensures.inside in
-    let underway : (x : ℕ) × IsOpenAt d c.args.self.now c.args.input.now s 0 x c.args.cache.now.store c.loop-at.cache.store = c.loop-at.invariant.progress s e in
     if_both c.find_end-2.result _ _ _
-    (λ error refused left. left_at_end d c.args.self.now c.args.input.now s c.args.cache.now c.loop-at.cache c.find_end-2.new.cache c.loop-at.invariant.grown c.find_end-2.ensures.effect.grown
-    k c.loop-at.id (given_up_offset d c.args.input.now k) underway.0 (next (tape_in d c.args.input.now) k) c.loop-at.found at (omega (arith, units)) c.find_end-2.ensures.alive refl refl (span_low d c.args.input.now k) (span_high d c.args.input.now k c.requires.at.undone (omega arith)) underway.1 c.find_end-2.ensures.progress.cleared error refused units left)
+    (λ error refused left. pass_stopped d c.args.self.now c.args.input.now k c.args.cache.now.store c.find_end-2.new.cache.store error
+    (at_reads d c.args.self.now c.loop-at.cache.store.table c.args.input.now k c.loop-at.id c.loop-at.found at (omega (arith, units)) c.find_end-2.ensures.alive) at.clean refused
+    (pass_left_then d c.args.self.now c.args.input.now 0 c.args.cache.now.store c.loop-at.at k c.loop-at.cache.store c.loop-at.invariant.progress (omega (arith, same)) (λ j from below. absurd (omega (arith, from, below, same))) c.find_end-2.new.cache.store error left))
     c.find_end-2.ensures.refusal c.find_end-2.ensures.progress.left
 
 pub returns-then-run-last-clause-refusal : goal.returns-then-run-last-clause-refusal

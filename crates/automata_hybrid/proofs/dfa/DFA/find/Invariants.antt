@@ -1,13 +1,10 @@
-use Rattle.std.proofs.Common.{ℕ, ◌≡◌, ◌≤◌, ◌+◌, ◌-◌}
+use Rattle.std.proofs.Common.{◌≡◌, ◌≤◌, ◌+◌, ◌-◌}
 use Rattle.automata_hybrid.specs.Caches.{IsCacheOf}
 use Rattle.automata_hybrid.specs.Growing.{IsGrown, ClearedNothing}
 use Rattle.automata_hybrid.specs.Knowing.{KnowsItsStart, KnowsPass}
 use Rattle.automata_hybrid.specs.Passing.{HasLearned, IsAt}
-use Rattle.automata_hybrid.specs.Progressing.{started}
-use Rattle.automata_hybrid.specs.Searched.{IsOpenAt}
-use Rattle.automata_hybrid.specs.Searches.{given_up_offset}
 use Rattle.automata_hybrid.specs.Walks.{way_of}
-use Rattle.automata_hybrid.specs.declared.dfa.progress.Searched.{Searched}
+use Rattle.automata_hybrid.proofs.UnitsRead.{AreReadTo}
 use Rattle.automata_hybrid.proofs.dfa.DFA.find.Given as goal
 
 abbrev pub invariant-loop-at : goal.invariant-loop-at
@@ -19,7 +16,7 @@ invariant-loop-at l = record {
   idle : KnowsPass (way_of l.way) l.self l.fn.cache.store l.input → l.cache.count ≡ l.fn.cache.count;
   learned : KnowsItsStart (way_of l.way) l.self l.fn.cache.store l.input → ClearedNothing l.fn.cache.store l.cache.store → KnowsItsStart (way_of l.way) l.self l.cache.store l.input × HasLearned (way_of l.way) l.self l.cache.store l.input l.at;
   at : IsAt (way_of l.way) l.self l.cache.store.table l.input l.at l.id l.found;
-  progress : (before : Searched) → l.fn.cache.store.searched ≡ started before (given_up_offset (way_of l.way) l.input 0) → (x : ℕ) × IsOpenAt (way_of l.way) l.self l.input before 0 x l.fn.cache.store l.cache.store;
+  progress : AreReadTo (way_of l.way) l.self l.input 0 l.at l.fn.cache.store l.cache.store;
 }
 
 abbrev pub decreases-loop-at : goal.decreases-loop-at

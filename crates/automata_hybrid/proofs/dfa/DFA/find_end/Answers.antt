@@ -7,17 +7,17 @@ use Rattle.automata_base.specs.Tapes.{Direction}
 use Rattle.automata_hybrid.specs.Caches.{CacheView}
 use Rattle.automata_hybrid.specs.Passed.{IsRestEffect}
 use Rattle.automata_hybrid.specs.Passing.{IsAt}
-use Rattle.automata_hybrid.specs.Reading.{ClearsForNext, IsEndProgress}
-use Rattle.automata_hybrid.specs.Searched.{IsEndedBy, IsLeftAtEnd}
+use Rattle.automata_hybrid.specs.Reading.{IsEndProgress}
+use Rattle.automata_hybrid.specs.Searched.{before_last}
+use Rattle.automata_hybrid.specs.Stores.{with_searched}
 use Rattle.automata_hybrid.specs.Searches.{given_up_offset, state_in, tape_in, unit_offset}
 use Rattle.automata_config.specs.Options.{match_kind_of}
 use Rattle.automata_hybrid.specs.Table.{IsValid, Rows, Leads, Names}
 use Rattle.automata_hybrid.specs.Walks.{way_of}
-use Rattle.automata_hybrid.proofs.Clearing.{clears_closed, clears_moved}
 use Rattle.automata_hybrid.proofs.Directions.{units_in}
 use Rattle.automata_hybrid.proofs.Passed.{last_answer, rest_read, rest_refused, stands_alive}
 use Rattle.automata_hybrid.proofs.Reading.{at_err}
-use Rattle.automata_hybrid.proofs.Searched.{ended_after, ended_last, left_last}
+use Rattle.automata_hybrid.proofs.UnitsRead.{ended_here, last_left, last_read, refused_here, taken_here}
 use Rattle.automata_hybrid.proofs.Searching.{unit_refuses, stops_last, if_err}
 use Rattle.automata_hybrid.proofs.dfa.DFA.find_end.Goals as goal
 
@@ -65,16 +65,16 @@ returns-clause-progress c =
     let d : Direction = way_of c.args.way in
     let k : ℕ = c.args.input.now.end - c.args.input.now.start in
     let unit : next (tape_in d c.args.input.now) k ≡ c.unit_at-unit.result = sym (c.unit_at-unit.ensures ∙ ap (next (tape_in d c.args.input.now)) c.last_place-last.ensures.place) in
-    let place : c.span_offset-at.result ≡ given_up_offset d c.args.input.now k = c.span_offset-at.ensures ∙ ap (given_up_offset d c.args.input.now) c.last_place-last.ensures.place in
+    let place : given_up_offset d c.args.input.now k ≡ c.span_offset-at.result = sym (c.span_offset-at.ensures ∙ ap (given_up_offset d c.args.input.now) c.last_place-last.ensures.place) in
+    let begins : c.end_before_last.new.cache.store ≡ with_searched c.args.cache.now.store (before_last d c.args.cache.now.store.searched (given_up_offset d c.args.input.now k)) =
+    subst (λ at. c.end_before_last.new.cache.store ≡ with_searched c.args.cache.now.store (before_last d c.args.cache.now.store.searched at)) (sym place) (ap (λ (v : CacheView). v.store) c.end_before_last.ensures.value) in
+    let named : Names c.end_before_last.new.cache.store.table c.args.id (state_in d c.args.self.now c.args.input.now k) =
+    subst (λ (t : Rows). Names t c.args.id (state_in d c.args.self.now c.args.input.now k)) (sym c.end_before_last.ensures.table) c.requires.at.at.named in
     record {
-      cleared =
-          subst (λ u. ClearsForNext c.args.self.now c.args.id u c.args.cache.now.store c.end_search.new.self.store) (sym unit)
-          (clears_closed c.args.self.now c.args.id c.unit_at-unit.result c.args.cache.now.store c.read.new.cache c.end_search.new.self c.end_search.ensures.value
-          (clears_moved c.args.self.now c.args.id c.unit_at-unit.result c.args.cache.now.store c.end_before_last.new.cache.store c.read.new.cache.store (ap (λ (v : CacheView). v.store) c.end_before_last.ensures.value) c.in_ok-next.ensures.effect.cleared));
       ended =
-          subst (λ at. IsEndedBy at c.args.cache.now.store c.end_search.new.self.store) place
-          (ended_last d c.args.cache.now c.end_before_last.new.cache c.end_search.new.self c.span_offset-at.result c.end_before_last.ensures.value
-          (ended_after c.end_before_last.new.cache c.read.new.cache c.end_search.new.self c.span_offset-at.result c.in_ok-next.ensures.progress.moved c.end_search.ensures.value));
+          last_read d c.args.self.now c.args.input.now k c.args.cache.now.store c.end_before_last.new.cache.store c.read.new.cache.store c.end_search.new.self.store begins
+          (taken_here d c.args.self.now c.args.input.now k c.args.id c.span_offset-at.result c.unit_at-unit.result c.end_before_last.new.cache.store named unit place c.read.new.cache.store c.in_ok-next.next c.in_ok-next.ensures.step.taken)
+          (ended_here d c.args.input.now k c.span_offset-at.result c.read.new.cache c.end_search.new.self place c.end_search.ensures.value);
       left = tt;
     }
 
@@ -111,14 +111,15 @@ returns-in_err-next-clause-progress c =
     let d : Direction = way_of c.args.way in
     let k : ℕ = c.args.input.now.end - c.args.input.now.start in
     let unit : next (tape_in d c.args.input.now) k ≡ c.unit_at-unit.result = sym (c.unit_at-unit.ensures ∙ ap (next (tape_in d c.args.input.now)) c.last_place-last.ensures.place) in
-    let place : c.span_offset-at.result ≡ given_up_offset d c.args.input.now k = c.span_offset-at.ensures ∙ ap (given_up_offset d c.args.input.now) c.last_place-last.ensures.place in
-    at_err c.from_residual.result _ (IsEndProgress d c.args.self.now c.args.input.now c.args.id k c.args.cache.now.store c.read.new.cache.store) c.from_residual.ensures.1 (record {
-      cleared =
-          subst (λ u. ClearsForNext c.args.self.now c.args.id u c.args.cache.now.store c.read.new.cache.store) (sym unit)
-          (clears_moved c.args.self.now c.args.id c.unit_at-unit.result c.args.cache.now.store c.end_before_last.new.cache.store c.read.new.cache.store (ap (λ (v : CacheView). v.store) c.end_before_last.ensures.value) c.in_err-next.ensures.effect.cleared);
+    let place : given_up_offset d c.args.input.now k ≡ c.span_offset-at.result = sym (c.span_offset-at.ensures ∙ ap (given_up_offset d c.args.input.now) c.last_place-last.ensures.place) in
+    let begins : c.end_before_last.new.cache.store ≡ with_searched c.args.cache.now.store (before_last d c.args.cache.now.store.searched (given_up_offset d c.args.input.now k)) =
+    subst (λ at. c.end_before_last.new.cache.store ≡ with_searched c.args.cache.now.store (before_last d c.args.cache.now.store.searched at)) (sym place) (ap (λ (v : CacheView). v.store) c.end_before_last.ensures.value) in
+    let named : Names c.end_before_last.new.cache.store.table c.args.id (state_in d c.args.self.now c.args.input.now k) =
+    subst (λ (t : Rows). Names t c.args.id (state_in d c.args.self.now c.args.input.now k)) (sym c.end_before_last.ensures.table) c.requires.at.at.named in
+    at_err c.from_residual.result _ (IsEndProgress d c.args.self.now c.args.input.now k c.args.cache.now.store c.read.new.cache.store) c.from_residual.ensures.1 (record {
       ended = tt;
       left =
-          subst (λ at. IsLeftAtEnd d c.args.self.now (next (tape_in d c.args.input.now) k) at c.args.cache.now.store c.read.new.cache.store c.in_err-next.field-0.0) place
-          (subst (λ u. IsLeftAtEnd d c.args.self.now u c.span_offset-at.result c.args.cache.now.store c.read.new.cache.store c.in_err-next.field-0.0) (sym unit)
-          (left_last d c.args.self.now c.unit_at-unit.result c.args.cache.now c.end_before_last.new.cache c.read.new.cache c.span_offset-at.result c.end_before_last.ensures.value c.in_err-next.field-0.0 c.in_err-next.ensures.progress.left));
+          last_left d c.args.self.now c.args.input.now k c.args.cache.now.store c.end_before_last.new.cache.store c.read.new.cache.store c.in_err-next.field-0.0 begins
+          (units_in d c.args.input.now c.requires.at.undone c.last_place-last.ensures.inside)
+          (refused_here d c.args.self.now c.args.input.now k c.args.id c.span_offset-at.result c.unit_at-unit.result c.end_before_last.new.cache.store named unit place c.read.new.cache.store c.in_err-next.field-0.0 c.in_err-next.ensures.step.left);
     })

@@ -1,19 +1,16 @@
-use Rattle.std.proofs.Common.{◌≡◌, sym, subst}
+use Rattle.std.proofs.Common.{sym, subst}
 use Rattle.std.specs.Prelude.{OnOk}
-use Rattle.automata_hybrid.specs.Progressing.{started}
 use Rattle.automata_hybrid.specs.Searched.{EndsAtLast}
-use Rattle.automata_hybrid.specs.Searches.{given_up_offset}
 use Rattle.automata_hybrid.specs.Walks.{way_of}
-use Rattle.automata_hybrid.specs.declared.dfa.progress.Searched.{Searched}
 use Rattle.automata_hybrid.specs.declared.search.direction.Way.{Way}
 use Rattle.automata_hybrid.proofs.dfa.DFA.find_in.Goals as goal
 
 pub returns-in-Forward-clause-ended : goal.returns-in-Forward-clause-ended
 returns-in-Forward-clause-ended c =
-    subst (λ (w : Way). (before : Searched) → c.args.cache.now.store.searched ≡ started before (given_up_offset (way_of w) c.args.input.now 0) → OnOk c.find_fwd.result (EndsAtLast (way_of w) c.args.self.now c.args.input.now before c.args.cache.now.store c.find_fwd.new.cache.store)) (sym c.in-Forward.is)
+    subst (λ (w : Way). OnOk c.find_fwd.result (EndsAtLast (way_of w) c.args.self.now c.args.input.now c.args.cache.now.store c.find_fwd.new.cache.store)) (sym c.in-Forward.is)
     c.find_fwd.ensures.ended
 
 pub returns-in-Backward-clause-ended : goal.returns-in-Backward-clause-ended
 returns-in-Backward-clause-ended c =
-    subst (λ (w : Way). (before : Searched) → c.args.cache.now.store.searched ≡ started before (given_up_offset (way_of w) c.args.input.now 0) → OnOk c.find_rev.result (EndsAtLast (way_of w) c.args.self.now c.args.input.now before c.args.cache.now.store c.find_rev.new.cache.store)) (sym c.in-Backward.is)
+    subst (λ (w : Way). OnOk c.find_rev.result (EndsAtLast (way_of w) c.args.self.now c.args.input.now c.args.cache.now.store c.find_rev.new.cache.store)) (sym c.in-Backward.is)
     c.find_rev.ensures.ended

@@ -1,6 +1,8 @@
-use Rattle.std.proofs.Common.{◌≡◌, ◌-◌, length, None, refl, sym, arith}
-use Rattle.automata_base.specs.Paths.{next}
+use Rattle.std.proofs.Common.{◌≡◌, ◌-◌, length, Option, None, refl, sym, arith}
+use Rattle.std.specs.Prelude.{OnErr, Result}
+use Rattle.automata_base.specs.Matches.{HalfMatch}
 use Rattle.automata_base.specs.Tapes.{Direction}
+use Rattle.automata_config.specs.declared.error.SearchError.{SearchError}
 use Rattle.automata_hybrid.specs.Passed.{IsRestEffect}
 use Rattle.automata_hybrid.specs.Searches.{tape_in}
 use Rattle.automata_hybrid.specs.Walks.{way_of}
@@ -8,6 +10,7 @@ use Rattle.automata_hybrid.proofs.Directions.{none_empty, units_in}
 use Rattle.automata_hybrid.proofs.Passed.{last_answer, rest_read, rest_refused}
 use Rattle.automata_hybrid.proofs.Reading.{at_err}
 use Rattle.automata_hybrid.proofs.Searching.{unit_refuses, stops_last, if_err}
+use Rattle.automata_hybrid.proofs.UnitsRead.{step_reads}
 use Rattle.automata_hybrid.proofs.dfa.DFA.find_still.Goals as goal
 
 pub found_at-requires-clause-leads : goal.found_at-requires-clause-leads
@@ -39,3 +42,13 @@ returns-in_err-next-clause-effect c =
     let d : Direction = way_of c.args.way in
     at_err c.from_residual.result _ (IsRestEffect d c.args.self.now c.args.input.now 0 c.args.cache.now c.read_still.new.cache) c.from_residual.ensures.1
     (rest_refused d c.args.self.now c.args.input.now 0 c.args.id c.unit_at-unit.result None c.args.cache.now c.args.cache.now c.read_still.new.cache c.read_still.new.cache {s = c.args.cache.now.store.searched} {s' = c.read_still.new.cache.store.searched} refl refl c.requires.at (sym c.unit_at-unit.ensures) c.in_err-next.field-0.0 c.in_err-next.ensures.effect (omega arith) (omega arith))
+
+pub returns-clause-read : goal.returns-clause-read
+returns-clause-read c =
+    step_reads (way_of c.args.way) c.args.self.now c.args.input.now 0 c.args.id c.unit_at-unit.result c.args.cache.now.store c.read_still.new.cache.store c.in_ok-next.next
+    c.requires.at.at.named (sym c.unit_at-unit.ensures) c.in_ok-next.ensures.taken
+
+pub returns-in_err-next-clause-kept : goal.returns-in_err-next-clause-kept
+returns-in_err-next-clause-kept c =
+    at_err c.from_residual.result _ (λ (r : Result (Option HalfMatch) SearchError). OnErr r (c.read_still.new.cache.store ≡ c.args.cache.now.store)) c.from_residual.ensures.1
+    c.in_err-next.ensures.kept

@@ -1,23 +1,22 @@
-use Rattle.std.proofs.Common.{◌≡◌, ◌∙◌, ◌-◌, ap, None, refl, sym, subst, ◌≤◌, inl, inr, arith}
+use Rattle.std.proofs.Common.{◌≡◌, ◌∙◌, ap, None, refl, sym, subst, inl, inr, arith}
 use Rattle.std.specs.Prelude.{Err}
-use Rattle.std.proofs.lemmas.Result.{IfErr-weaker}
+use Rattle.std.proofs.lemmas.Result.{IfErr-weaker, IfOk-weaker}
 use Rattle.automata_base.specs.Powerset.{dead}
 use Rattle.automata_base.specs.Tapes.{Direction}
-use Rattle.automata_hybrid.specs.Stores.{with_searched}
-use Rattle.automata_hybrid.specs.Caches.{CacheView, with_store}
+use Rattle.automata_hybrid.specs.Stores.{Stored, with_searched}
+use Rattle.automata_hybrid.specs.Caches.{CacheView}
 use Rattle.automata_hybrid.specs.Machine.{Machine, slot_count}
 use Rattle.automata_hybrid.specs.Passed.{IsPassEffect}
-use Rattle.automata_hybrid.specs.Progressing.{finished, started}
-use Rattle.automata_hybrid.specs.Searches.{given_up_offset, state_in}
+use Rattle.automata_hybrid.specs.Progressing.{started}
+use Rattle.automata_hybrid.specs.Searched.{EndsAtLast, IsStoppedAt, with_search_begun, with_search_ended}
+use Rattle.automata_hybrid.specs.Searches.{Reads, state_in}
 use Rattle.automata_hybrid.specs.Table.{Rows, Names}
 use Rattle.automata_hybrid.specs.Walks.{way_of}
-use Rattle.automata_hybrid.proofs.Clearing.{begin_clears}
-use Rattle.automata_hybrid.proofs.Directions.{begins_alive, begins_dead, span_high, span_low}
-use Rattle.automata_hybrid.proofs.Growing.{grown_moved}
+use Rattle.automata_hybrid.proofs.Directions.{begins_alive, begins_dead}
 use Rattle.automata_hybrid.proofs.Passed.{pass_rest, pass_unstarted, rest_dead}
 use Rattle.automata_hybrid.proofs.Reading.{at_err}
-use Rattle.automata_hybrid.proofs.Searched.{kept_twice, on_ok, pass_dies, pass_ends, pass_stops}
-use Rattle.automata_hybrid.proofs.Searching.{clean_start, false_true, place_refuses, starts_at, starts_dead, stops_start}
+use Rattle.automata_hybrid.proofs.UnitsRead.{ended_here, pass_dies, start_had}
+use Rattle.automata_hybrid.proofs.Searching.{at_reads, clean_start, false_true, if_both, place_refuses, starts_at, starts_dead, stops_start}
 use Rattle.automata_hybrid.proofs.dfa.DFA.pass.Goals as goal
 
 pub returns-then-is_dead-clause-answer : goal.returns-then-is_dead-clause-answer
@@ -66,51 +65,59 @@ returns-then-is_dead-clause-effect c =
     let dies : state_in d c.args.self.now c.args.input.now 0 ≡ dead = begins_dead d c.args.self.now c.walk_start.new.cache.store.table c.args.input.now c.in_ok-start.start c.in_ok-start.ensures.answer.named (c.see_ids.ensures.low c.in_ok-start.start) c.see_ids.ensures.small (c.if-is_dead.ensures.0 refl) in
     pass_rest d c.args.self.now c.args.input.now c.in_ok-start.start c.args.cache.now c.walk_start.new.cache c.walk_start.new.cache c.walk_start.new.cache {s = c.walk_start.new.cache.store.searched} _ (c.see_slots.ensures ∙ ap (λ (d : Machine). slot_count d) c.requires.of)
     c.in_ok-start.ensures.answer c.in_ok-start.ensures.effect refl
-    (rest_dead d c.args.self.now c.args.input.now c.walk_start.new.cache c.walk_start.new.cache {s = c.walk_start.new.cache.store.searched} _ refl dies)
-    (inl (c.if-keeps_none.ensures.yes refl, c.in_ok-start.ensures.effect.progress))
+    (rest_dead d c.args.self.now c.args.input.now c.walk_start.new.cache c.walk_start.new.cache {s = c.walk_start.new.cache.store.searched} _ refl dies) (
+      c.walk_start.new.cache.store,
+      (start_had d c.args.self.now c.args.input.now c.args.cache.now c.walk_start.new.cache c.in_ok-start.start (c.see_slots.ensures ∙ ap (λ (d : Machine). slot_count d) c.requires.of) c.in_ok-start.ensures.effect c.in_ok-start.ensures.answer),
+      inl (c.if-keeps_none.ensures.yes refl, inr (stops_start d c.args.self.now c.args.input.now dies 0 (omega arith), refl)),
+    )
     tt
 
 pub returns-then-is_dead-2-clause-effect : goal.returns-then-is_dead-2-clause-effect
 returns-then-is_dead-2-clause-effect c =
     let d : Direction = way_of c.args.way in
-    let begins : c.search_start.new.self ≡ with_store c.walk_start.new.cache (with_searched c.walk_start.new.cache.store (started c.walk_start.new.cache.store.searched (given_up_offset d c.args.input.now 0))) =
-    subst (λ at. c.search_start.new.self ≡ with_store c.walk_start.new.cache (with_searched c.walk_start.new.cache.store (started c.walk_start.new.cache.store.searched at))) c.span_offset-first.ensures c.search_start.ensures.value in
-    let low : c.args.input.now.start ≤ given_up_offset d c.args.input.now 0 = span_low d c.args.input.now 0 in
-    let high : given_up_offset d c.args.input.now 0 ≤ c.args.input.now.end = span_high d c.args.input.now 0 c.requires.«open» (omega arith) in
+    let begins : c.search_start.new.self.store ≡ with_search_begun d c.args.input.now 0 c.walk_start.new.cache.store =
+    subst (λ at. c.search_start.new.self.store ≡ with_searched c.walk_start.new.cache.store (started c.walk_start.new.cache.store.searched at)) c.span_offset-first.ensures (ap (λ (v : CacheView). v.store) c.search_start.ensures.value) in
     let dies : state_in d c.args.self.now c.args.input.now 0 ≡ dead = begins_dead d c.args.self.now c.walk_start.new.cache.store.table c.args.input.now c.in_ok-start.start c.in_ok-start.ensures.answer.named (c.see_ids.ensures.low c.in_ok-start.start) c.see_ids.ensures.small (c.if-is_dead-2.ensures.0 refl) in
     pass_rest d c.args.self.now c.args.input.now c.in_ok-start.start c.args.cache.now c.walk_start.new.cache c.search_start.new.self c.end_search.new.self _ (c.see_slots.ensures ∙ ap (λ (d : Machine). slot_count d) c.requires.of)
     c.in_ok-start.ensures.answer c.in_ok-start.ensures.effect c.search_start.ensures.value
-    (rest_dead d c.args.self.now c.args.input.now c.search_start.new.self c.end_search.new.self _ c.end_search.ensures.value dies)
-    (inr (
-      c.if-keeps_none.ensures.no refl,
-      pass_dies d c.args.self.now c.args.input.now low high c.args.cache.now c.walk_start.new.cache c.search_start.new.self c.end_search.new.self c.in_ok-start.ensures.effect.grown c.in_ok-start.ensures.effect.progress
-          (begin_clears d c.args.self.now c.args.input.now c.args.cache.now c.walk_start.new.cache c.in_ok-start.start c.in_ok-start.ensures.effect c.in_ok-start.ensures.answer) begins
-          (grown_moved c.search_start.new.self c.end_search.new.self c.end_search.ensures.value) (stops_start d c.args.self.now c.args.input.now dies) (ap (λ (v : CacheView). v.store.clears) c.end_search.ensures.value)
-          (subst (λ at. c.end_search.new.self.store.searched ≡ finished c.search_start.new.self.store.searched at) c.span_offset-first.ensures (ap (λ (v : CacheView). v.store.searched) c.end_search.ensures.value)),
-    ))
+    (rest_dead d c.args.self.now c.args.input.now c.search_start.new.self c.end_search.new.self _ c.end_search.ensures.value dies) (
+      c.walk_start.new.cache.store,
+      (start_had d c.args.self.now c.args.input.now c.args.cache.now c.walk_start.new.cache c.in_ok-start.start (c.see_slots.ensures ∙ ap (λ (d : Machine). slot_count d) c.requires.of) c.in_ok-start.ensures.effect c.in_ok-start.ensures.answer),
+      inr (
+        c.if-keeps_none.ensures.no refl,
+        pass_dies d c.args.self.now c.args.input.now (with_search_begun d c.args.input.now 0 c.walk_start.new.cache.store) c.end_search.new.self.store
+            (stops_start d c.args.self.now c.args.input.now dies)
+            (ended_here d c.args.input.now 0 c.span_offset-first.result c.search_start.new.self c.end_search.new.self (sym c.span_offset-first.ensures) c.end_search.ensures.value
+            ∙ ap (λ (v : Stored). with_search_ended d c.args.input.now 0 v) begins),
+      ),
+    )
     tt
 
 pub returns-then-keeps_none-clause-effect : goal.returns-then-keeps_none-clause-effect
 returns-then-keeps_none-clause-effect c =
     let d : Direction = way_of c.args.way in
+    let reads : Reads d c.args.self.now c.args.input.now 0 =
+    at_reads d c.args.self.now c.walk_start.new.cache.store.table c.args.input.now 0 c.in_ok-start.start None
+    (starts_at d c.args.self.now c.walk_start.new.cache.store.table c.args.input.now c.in_ok-start.start
+    (begins_alive d c.args.self.now c.walk_start.new.cache.store.table c.args.input.now c.in_ok-start.start c.in_ok-start.ensures.answer.named (c.see_ids.ensures.low c.in_ok-start.start) c.see_ids.ensures.small (λ b. false_true (c.if-is_dead.ensures.1 b))))
+    (omega arith) c.find_still.ensures.alive in
     pass_rest d c.args.self.now c.args.input.now c.in_ok-start.start c.args.cache.now c.walk_start.new.cache c.walk_start.new.cache c.find_still.new.cache {s = c.walk_start.new.cache.store.searched} c.find_still.result (c.see_slots.ensures ∙ ap (λ (d : Machine). slot_count d) c.requires.of)
     c.in_ok-start.ensures.answer c.in_ok-start.ensures.effect refl
     c.find_still.ensures.effect
-    (on_ok c.find_still.result
-    (inl (
-      c.if-keeps_none.ensures.yes refl,
-      kept_twice c.args.cache.now c.walk_start.new.cache c.find_still.new.cache c.in_ok-start.ensures.effect.grown c.find_still.ensures.effect.grown c.in_ok-start.ensures.effect.progress c.find_still.ensures.progress,
-    )))
-    (IfErr-weaker c.find_still.result _ _
-    (λ error refused. inr (inl (
-      c.if-keeps_none.ensures.yes refl,
-      place_refuses d c.args.self.now c.walk_start.new.cache.store.table c.find_still.new.cache.store c.args.input.now 0 c.in_ok-start.start None error
-          (starts_at d c.args.self.now c.walk_start.new.cache.store.table c.args.input.now c.in_ok-start.start
-          (begins_alive d c.args.self.now c.walk_start.new.cache.store.table c.args.input.now c.in_ok-start.start c.in_ok-start.ensures.answer.named (c.see_ids.ensures.low c.in_ok-start.start) c.see_ids.ensures.small (λ b. false_true (c.if-is_dead.ensures.1 b))))
-          (omega arith) c.find_still.ensures.alive c.in_ok-start.ensures.answer.may.0 refused,
-      kept_twice c.args.cache.now c.walk_start.new.cache c.find_still.new.cache c.in_ok-start.ensures.effect.grown c.find_still.ensures.effect.grown c.in_ok-start.ensures.effect.progress c.find_still.ensures.progress,
-    )))
-    c.find_still.ensures.refusal)
+    (IfOk-weaker c.find_still.result _ _
+    (λ _ read. (
+      c.walk_start.new.cache.store,
+      (start_had d c.args.self.now c.args.input.now c.args.cache.now c.walk_start.new.cache c.in_ok-start.start (c.see_slots.ensures ∙ ap (λ (d : Machine). slot_count d) c.requires.of) c.in_ok-start.ensures.effect c.in_ok-start.ensures.answer),
+      inl (c.if-keeps_none.ensures.yes refl, inl (reads, read)),
+    ))
+    c.find_still.ensures.read)
+    (if_both c.find_still.result _ _ _
+    (λ error refused kept. inr (
+      c.walk_start.new.cache.store,
+      (start_had d c.args.self.now c.args.input.now c.args.cache.now c.walk_start.new.cache c.in_ok-start.start (c.see_slots.ensures ∙ ap (λ (d : Machine). slot_count d) c.requires.of) c.in_ok-start.ensures.effect c.in_ok-start.ensures.answer),
+      inl (c.if-keeps_none.ensures.yes refl, reads, refused, kept),
+    ))
+    c.find_still.ensures.refusal c.find_still.ensures.kept)
 
 pub returns-then-keeps_none-clause-refusal : goal.returns-then-keeps_none-clause-refusal
 returns-then-keeps_none-clause-refusal c =
@@ -125,36 +132,35 @@ returns-then-keeps_none-clause-refusal c =
 pub returns-clause-effect : goal.returns-clause-effect
 returns-clause-effect c =
     let d : Direction = way_of c.args.way in
-    let begins : c.search_start.new.self ≡ with_store c.walk_start.new.cache (with_searched c.walk_start.new.cache.store (started c.walk_start.new.cache.store.searched (given_up_offset d c.args.input.now 0))) =
-    subst (λ at. c.search_start.new.self ≡ with_store c.walk_start.new.cache (with_searched c.walk_start.new.cache.store (started c.walk_start.new.cache.store.searched at))) c.span_offset-first.ensures c.search_start.ensures.value in
-    let low : c.args.input.now.start ≤ given_up_offset d c.args.input.now 0 = span_low d c.args.input.now 0 in
-    let high : given_up_offset d c.args.input.now 0 ≤ c.args.input.now.end = span_high d c.args.input.now 0 c.requires.«open» (omega arith) in
+    let begins : c.search_start.new.self.store ≡ with_search_begun d c.args.input.now 0 c.walk_start.new.cache.store =
+    subst (λ at. c.search_start.new.self.store ≡ with_searched c.walk_start.new.cache.store (started c.walk_start.new.cache.store.searched at)) c.span_offset-first.ensures (ap (λ (v : CacheView). v.store) c.search_start.ensures.value) in
     pass_rest d c.args.self.now c.args.input.now c.in_ok-start.start c.args.cache.now c.walk_start.new.cache c.search_start.new.self c.find_in.new.cache _ (c.see_slots.ensures ∙ ap (λ (d : Machine). slot_count d) c.requires.of)
     c.in_ok-start.ensures.answer c.in_ok-start.ensures.effect c.search_start.ensures.value
-    c.in_ok-found.ensures.effect
-    (inr (
-      c.if-keeps_none.ensures.no refl,
-      pass_ends d c.args.self.now c.args.input.now low high c.args.cache.now c.walk_start.new.cache c.search_start.new.self c.find_in.new.cache c.in_ok-start.ensures.effect.grown c.in_ok-start.ensures.effect.progress
-          (begin_clears d c.args.self.now c.args.input.now c.args.cache.now c.walk_start.new.cache c.in_ok-start.start c.in_ok-start.ensures.effect c.in_ok-start.ensures.answer) begins c.in_ok-found.ensures.effect.grown
-          (c.in_ok-found.ensures.ended c.walk_start.new.cache.store.searched (ap (λ (v : CacheView). v.store.searched) begins)),
-    ))
+    c.in_ok-found.ensures.effect (
+      c.walk_start.new.cache.store,
+      (start_had d c.args.self.now c.args.input.now c.args.cache.now c.walk_start.new.cache c.in_ok-start.start (c.see_slots.ensures ∙ ap (λ (d : Machine). slot_count d) c.requires.of) c.in_ok-start.ensures.effect c.in_ok-start.ensures.answer),
+      inr (
+        c.if-keeps_none.ensures.no refl,
+        subst (λ (v : Stored). EndsAtLast d c.args.self.now c.args.input.now v c.find_in.new.cache.store) begins c.in_ok-found.ensures.ended,
+      ),
+    )
     tt
 
 pub returns-in_err-found-clause-effect : goal.returns-in_err-found-clause-effect
 returns-in_err-found-clause-effect c =
     let d : Direction = way_of c.args.way in
-    let begins : c.search_start.new.self ≡ with_store c.walk_start.new.cache (with_searched c.walk_start.new.cache.store (started c.walk_start.new.cache.store.searched (given_up_offset d c.args.input.now 0))) =
-    subst (λ at. c.search_start.new.self ≡ with_store c.walk_start.new.cache (with_searched c.walk_start.new.cache.store (started c.walk_start.new.cache.store.searched at))) c.span_offset-first.ensures c.search_start.ensures.value in
-    let low : c.args.input.now.start ≤ given_up_offset d c.args.input.now 0 = span_low d c.args.input.now 0 in
-    let high : given_up_offset d c.args.input.now 0 ≤ c.args.input.now.end = span_high d c.args.input.now 0 c.requires.«open» (omega arith) in
+    let begins : c.search_start.new.self.store ≡ with_search_begun d c.args.input.now 0 c.walk_start.new.cache.store =
+    subst (λ at. c.search_start.new.self.store ≡ with_searched c.walk_start.new.cache.store (started c.walk_start.new.cache.store.searched at)) c.span_offset-first.ensures (ap (λ (v : CacheView). v.store) c.search_start.ensures.value) in
     at_err c.from_residual-in_err-found.result _ (IsPassEffect d c.args.self.now c.args.input.now c.args.cache.now c.find_in.new.cache) c.from_residual-in_err-found.ensures.1
     (pass_rest d c.args.self.now c.args.input.now c.in_ok-start.start c.args.cache.now c.walk_start.new.cache c.search_start.new.self c.find_in.new.cache (Err c.in_err-found.field-0.0) (c.see_slots.ensures ∙ ap (λ (d : Machine). slot_count d) c.requires.of)
     c.in_ok-start.ensures.answer c.in_ok-start.ensures.effect c.search_start.ensures.value
     c.in_err-found.ensures.effect
     tt
-    (inr (inr (
-      c.if-keeps_none.ensures.no refl,
-      pass_stops d c.args.self.now c.args.input.now low high c.args.cache.now c.walk_start.new.cache c.search_start.new.self c.find_in.new.cache c.in_ok-start.ensures.effect.grown c.in_ok-start.ensures.effect.progress
-          (begin_clears d c.args.self.now c.args.input.now c.args.cache.now c.walk_start.new.cache c.in_ok-start.start c.in_ok-start.ensures.effect c.in_ok-start.ensures.answer) begins c.in_err-found.ensures.effect.grown c.in_err-found.field-0.0
-          (c.in_err-found.ensures.left c.walk_start.new.cache.store.searched (ap (λ (v : CacheView). v.store.searched) begins)),
-    ))))
+    (inr (
+      c.walk_start.new.cache.store,
+      (start_had d c.args.self.now c.args.input.now c.args.cache.now c.walk_start.new.cache c.in_ok-start.start (c.see_slots.ensures ∙ ap (λ (d : Machine). slot_count d) c.requires.of) c.in_ok-start.ensures.effect c.in_ok-start.ensures.answer),
+      inr (
+        c.if-keeps_none.ensures.no refl,
+        subst (λ (v : Stored). IsStoppedAt d c.args.self.now c.args.input.now v c.find_in.new.cache.store c.in_err-found.field-0.0) begins c.in_err-found.ensures.left,
+      ),
+    )))

@@ -1,4 +1,4 @@
-use Rattle.std.proofs.Common.{◌≡◌, ◌∙◌, None, Some, false, inl, refl, subst, sym}
+use Rattle.std.proofs.Common.{◌≡◌, ◌∙◌, None, Some, false, refl, subst, sym}
 use Rattle.automata_base.specs.Powerset.{Powerset}
 use Rattle.automata_base.proofs.Paths.Orders.{none_some}
 use Rattle.automata_hybrid.specs.Effects.{IsAddedStart}
@@ -18,7 +18,6 @@ returns-in-Some-clause-effect c =
       grown = grown_less c.args.cache.now c.args.cache.now (grown_same c.args.cache.now c.args.cache.now refl);
       there = λ has. (refl, tt);
       again = λ lacks. absurd (lacks (record { id = c.in-Some.id; named = named }));
-      progress = inl (refl, refl);
     }
 
 pub returns-in_err-state-clause-effect : goal.returns-in_err-state-clause-effect
@@ -31,7 +30,6 @@ returns-in_err-state-clause-effect c =
       grown = grown_less c.args.cache.now c.args.cache.now (grown_same c.args.cache.now c.args.cache.now refl);
       there = λ has. absurd (none_some (sym none ∙ has.named));
       again = λ lacks. tt;
-      progress = inl (refl, refl);
     })
 
 pub add_again-requires-clause-new : goal.add_again-requires-clause-new
@@ -55,5 +53,4 @@ returns-clause-effect c =
         subst (λ (q : Powerset). IsAddedStart c.args.cache.now.store (record { state = q; started = false }) c.add_again.new.self.store)
             c.in_ok-state.ensures.cases c.in_ok-id.ensures.added,
       );
-      progress = c.add_again.ensures.progress;
     }

@@ -1,5 +1,6 @@
-use Rattle.std.proofs.Common.{refl}
-use Rattle.automata_hybrid.proofs.Reading.{read_answered, read_refused, told_refusal}
+use Rattle.std.proofs.Common.{refl, ap}
+use Rattle.automata_hybrid.specs.Caches.{CacheView}
+use Rattle.automata_hybrid.proofs.Reading.{read_answered, read_refused, step_taken, told_refusal}
 use Rattle.automata_hybrid.proofs.dfa.DFA.read_end.Goals as goal
 
 pub returns-in-Ok-clause-answer : goal.returns-in-Ok-clause-answer
@@ -21,3 +22,11 @@ returns-in-Err-clause-effect c =
     read_refused c.args.self.now c.args.id _ c.args.cache.now c.args.cache.now c.next_eoi_state.new.cache {s = c.args.cache.now.store.searched} refl
     (c.see_ids.ensures.alive c.args.id) c.see_classes.ensures.end c.in-Err.ensures.effect c.args.at c.refusal.result
     (record { error = c.in-Err.error; refused = c.in-Err.ensures.refusal; told = c.refusal.ensures })
+
+pub returns-in-Ok-clause-taken : goal.returns-in-Ok-clause-taken
+returns-in-Ok-clause-taken c =
+    step_taken c.args.self.now c.args.id _ c.args.cache.now c.next_eoi_state.new.cache c.in-Ok.next
+    (c.see_ids.ensures.low c.args.id c.requires.valid.0 c.requires.valid.1) c.in-Ok.ensures.effect c.in-Ok.ensures.answer
+
+pub returns-in-Err-clause-kept : goal.returns-in-Err-clause-kept
+returns-in-Err-clause-kept c = ap (λ (v : CacheView). v.store) c.in-Err.ensures.refusal.unchanged

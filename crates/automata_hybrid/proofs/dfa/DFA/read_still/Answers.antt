@@ -1,8 +1,10 @@
-use Rattle.std.proofs.Common.{Some, refl, sym, subst, arith}
-use Rattle.std.specs.Prelude.{Err, Ok}
-use Rattle.automata_hybrid.specs.Reading.{IsReadAnswer, IsReadEffect}
+use Rattle.std.proofs.Common.{ℕ, ◌≡◌, Some, refl, sym, ap, subst, arith}
+use Rattle.std.specs.Prelude.{Err, IfOk, Ok, OnErr, Result}
+use Rattle.automata_config.specs.declared.error.SearchError.{SearchError}
+use Rattle.automata_hybrid.specs.Caches.{CacheView}
+use Rattle.automata_hybrid.specs.Reading.{IsReadAnswer, IsReadEffect, IsStepTaken}
 use Rattle.automata_hybrid.specs.Searches.{IsStepRefusal}
-use Rattle.automata_hybrid.proofs.Reading.{at_err, read_answered, read_quits, read_refused}
+use Rattle.automata_hybrid.proofs.Reading.{at_err, read_answered, read_quits, read_refused, step_taken}
 use Rattle.automata_hybrid.proofs.Searching.{false_true}
 use Rattle.automata_hybrid.proofs.Stepping.{quits, unquit}
 use Rattle.automata_hybrid.proofs.dfa.DFA.read_still.Goals as goal
@@ -47,3 +49,26 @@ returns-then-is_quit-clause-effect c =
     (c.see_ids.ensures.alive c.args.id) (c.see_classes.ensures.bytes c.in-Some.byte (omega arith)) c.in_ok-next-in-Some.ensures.effect
     c.in_ok-next-in-Some.next (c.see_ids.ensures.low c.args.id c.requires.valid.0 c.requires.valid.1) c.in_ok-next-in-Some.ensures.answer
     c.step.new.cache {s' = c.step.new.cache.store.searched} refl c.in-Some.byte c.args.quit_at c.quit.result c.quit.ensures)
+
+pub returns-else-is_quit-clause-taken : goal.returns-else-is_quit-clause-taken
+returns-else-is_quit-clause-taken c =
+    subst (λ u. IsStepTaken c.args.self.now c.args.id u c.args.cache.now.store c.step.new.cache.store c.in_ok-next-in-Some.next) (sym c.in-Some.is)
+    (step_taken c.args.self.now c.args.id _ c.args.cache.now c.step.new.cache c.in_ok-next-in-Some.next
+    (c.see_ids.ensures.low c.args.id c.requires.valid.0 c.requires.valid.1) c.in_ok-next-in-Some.ensures.effect c.in_ok-next-in-Some.ensures.answer)
+
+pub returns-in_err-next-in-Some-clause-kept : goal.returns-in_err-next-in-Some-clause-kept
+returns-in_err-next-in-Some-clause-kept c =
+    at_err c.from_residual.result _ (λ (r : Result ℕ SearchError). OnErr r (c.step.new.cache.store ≡ c.args.cache.now.store)) c.from_residual.ensures.1
+    (ap (λ (v : CacheView). v.store) c.in_err-next-in-Some.ensures.refusal.refused.unchanged)
+
+pub returns-then-is_quit-clause-kept : goal.returns-then-is_quit-clause-kept
+returns-then-is_quit-clause-kept c =
+    ap (λ (v : CacheView). v.store) (c.in_ok-next-in-Some.ensures.effect.quit
+    (quits c.args.self.now c.args.cache.now.store.table c.step.new.cache.store.table c.args.id c.in_ok-next-in-Some.next c.in-Some.byte c.requires.valid.0
+    c.see_ids-in-Some.ensures.small (λ p. c.see_ids-in-Some.ensures.low c.in_ok-next-in-Some.next p) (c.if-is_quit.ensures.0 refl) c.in_ok-next-in-Some.ensures.answer.named
+    c.requires.valid.1))
+
+pub returns-in-None-clause-taken : goal.returns-in-None-clause-taken
+returns-in-None-clause-taken c =
+    subst (λ u. IfOk c.read_end.result (IsStepTaken c.args.self.now c.args.id u c.args.cache.now.store c.read_end.new.cache.store)) (sym c.in-None.is)
+    c.read_end.ensures.taken

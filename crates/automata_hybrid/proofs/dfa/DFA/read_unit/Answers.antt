@@ -1,13 +1,13 @@
 use Rattle.std.proofs.Common.{◌∙◌, refl, sym, ap, subst}
-use Rattle.std.proofs.lemmas.Result.{IfOk-weaker}
+use Rattle.std.proofs.lemmas.Result.{IfErr-weaker, IfOk-weaker}
 use Rattle.automata_base.specs.Steps.{successor}
 use Rattle.automata_base.specs.Tapes.{Direction}
-use Rattle.automata_hybrid.specs.Reading.{IsReadProgress}
-use Rattle.automata_hybrid.specs.Searches.{given_up_offset, state_in}
+use Rattle.automata_hybrid.specs.Searches.{state_in}
 use Rattle.automata_hybrid.specs.Table.{Leads}
 use Rattle.automata_hybrid.specs.Walks.{way_of}
 use Rattle.automata_hybrid.proofs.Resuming.{unit_effect}
 use Rattle.automata_hybrid.proofs.Searching.{state_more}
+use Rattle.automata_hybrid.proofs.UnitsRead.{refused_here, taken_here}
 use Rattle.automata_hybrid.proofs.dfa.DFA.read_unit.Goals as goal
 use Rattle.automata_config.specs.Options.{match_kind_of}
 
@@ -24,6 +24,9 @@ returns-clause-effect c =
     let d : Direction = way_of c.args.way in
     unit_effect d c.args.self.now c.args.input.now c.args.place c.args.id c.unit_at.result c.args.cache.now c.args.cache.now c.read.new.cache {s = c.args.cache.now.store.searched} c.read.result
     (sym c.unit_at.ensures) refl c.requires.at.named c.read.ensures.of c.read.ensures.effect
-    (subst (λ u. IsReadProgress c.args.self.now u (given_up_offset d c.args.input.now c.args.place) c.args.cache.now.store c.read.new.cache.store c.read.result) c.unit_at.ensures
-    (subst (λ a. IsReadProgress c.args.self.now c.unit_at.result a c.args.cache.now.store c.read.new.cache.store c.read.result) c.span_offset-at.ensures
-    c.read.ensures.progress))
+    (IfOk-weaker c.read.result _ _
+    (λ n taken. taken_here d c.args.self.now c.args.input.now c.args.place c.args.id c.span_offset-at.result c.unit_at.result c.args.cache.now.store c.requires.at.named (sym c.unit_at.ensures) (sym c.span_offset-at.ensures) c.read.new.cache.store n taken)
+    c.read.ensures.step.taken)
+    (IfErr-weaker c.read.result _ _
+    (λ e left. refused_here d c.args.self.now c.args.input.now c.args.place c.args.id c.span_offset-at.result c.unit_at.result c.args.cache.now.store c.requires.at.named (sym c.unit_at.ensures) (sym c.span_offset-at.ensures) c.read.new.cache.store e left)
+    c.read.ensures.step.left)

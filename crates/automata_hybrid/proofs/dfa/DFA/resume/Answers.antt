@@ -33,4 +33,4 @@ returns-in-Row-Some-clause-effect c =
     let row : c.args.held.now ≡ held.Row (Some c.in-Row-Some.id) =
     c.in-Row-Some.is ∙ ap (λ (h : Option ℕ). held.Row h) (rw c.in-Row-Some.is at c.in-Row-Some.field-0-is) in
     row_effect (way_of c.args.way) c.args.self.now c.args.input.now c.args.cache.now c.args.walk.now c.args.held.now c.in-Row-Some.id
-    c.requires.walk.holds row
+    (c.is_fresh.ensures.no c.if-is_fresh.false) c.requires.walk.reads.on c.requires.walk.holds row

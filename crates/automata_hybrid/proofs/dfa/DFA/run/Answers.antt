@@ -1,6 +1,6 @@
 use Rattle.std.proofs.Common.{suc, ◌≡◌, ◌∙◌, ◌-◌, ◌<◌, inr, sym, arith}
 use Rattle.automata_hybrid.proofs.Following.{followed_at, followed_learned}
-use Rattle.automata_hybrid.proofs.Leading.{led_at, led_learned}
+use Rattle.automata_hybrid.proofs.Leading.{known_after, led_at, led_learned}
 use Rattle.automata_hybrid.proofs.dfa.DFA.run.Goals as goal
 
 pub returns-then-get_earliest-clause-at : goal.returns-then-get_earliest-clause-at
@@ -28,3 +28,12 @@ returns-clause-at c =
 
 pub returns-clause-learned : goal.returns-clause-learned
 returns-clause-learned c = λ learned. led_learned c.follow_matches-stop.ensures.led (followed_learned c.follow-quiet.ensures.followed learned)
+
+pub returns-then-get_earliest-clause-known : goal.returns-then-get_earliest-clause-known
+returns-then-get_earliest-clause-known c = λ k from below. (c.follow-quiet.ensures.followed.quiet k from below).known.0
+
+pub returns-then-stop-quiet-clause-known : goal.returns-then-stop-quiet-clause-known
+returns-then-stop-quiet-clause-known c = λ k from below. (c.follow-quiet.ensures.followed.quiet k from below).known.0
+
+pub returns-clause-known : goal.returns-clause-known
+returns-clause-known c = known_after c.follow-quiet.ensures.followed c.follow_matches-stop.ensures.led

@@ -1,4 +1,4 @@
-use Rattle.std.proofs.Common.{ℕ, ◌≡◌, ◌∙◌, ◌-◌, ◌≤◌, inl, inr, length, Option, refl, sym, ap, subst, arith}
+use Rattle.std.proofs.Common.{ℕ, ◌≡◌, ◌∙◌, ◌+◌, ◌-◌, ◌≤◌, inl, inr, length, Option, refl, sym, ap, subst, arith}
 use Rattle.std.specs.Prelude.{Err, Ok, Result}
 use Rattle.automata_base.specs.Input.{Input}
 use Rattle.automata_base.specs.Powerset.{dead}
@@ -9,11 +9,12 @@ use Rattle.automata_hybrid.specs.Caches.{CacheView, with_store}
 use Rattle.automata_hybrid.specs.Growing.{IsGrown}
 use Rattle.automata_hybrid.specs.Machine.{Machine}
 use Rattle.automata_hybrid.specs.OwingWalks.{IsCallEffect}
-use Rattle.automata_hybrid.specs.Progressing.{finished, started}
+use Rattle.automata_hybrid.specs.Progressing.{started}
 use Rattle.automata_hybrid.specs.Resuming.{IsAdvanceEffect, IsCallAnswer, IsCallRefused}
-use Rattle.automata_hybrid.specs.SearchedWalks.{IsLeftAtUnit}
+use Rattle.automata_hybrid.specs.Searched.{with_search_begun}
+use Rattle.automata_hybrid.specs.SearchedWalks.{IsCallStopped}
 use Rattle.automata_hybrid.specs.Searches.{HasReadNoQuit, given_up_offset, state_in, tape_in}
-use Rattle.automata_hybrid.specs.Stores.{with_searched}
+use Rattle.automata_hybrid.specs.Stores.{Stored, with_searched}
 use Rattle.automata_hybrid.specs.Table.{Rows, Leads, Names}
 use Rattle.automata_hybrid.specs.Walking.{Arrives, Finishes, HasItsState, HasToldBy, IsAdvanceRefusal, IsArrival}
 use Rattle.automata_hybrid.specs.Walks.{Holds, Ids, IsHeldAt, Stage, Walk, ended_walk, keeping_of, way_of}
@@ -22,13 +23,14 @@ use Rattle.automata_hybrid.proofs.Growing.{grown_after, grown_moved, grown_trans
 use Rattle.automata_hybrid.proofs.KnowingWalks.{has_state, state_after, still_same, unit_knows, units_none}
 use Rattle.automata_hybrid.proofs.Reading.{at_err}
 use Rattle.automata_hybrid.proofs.Resuming.{known_refusal, refused_on}
-use Rattle.automata_hybrid.proofs.SearchedWalks.{call_begun, dies_at, reads_some, recounts_left, step_leaves, step_refuses, unit_high, unit_low}
+use Rattle.automata_hybrid.proofs.SearchedWalks.{call_leaves, reads_some, step_refuses}
+use Rattle.automata_hybrid.proofs.UnitsRead.{ended_here}
 use Rattle.automata_hybrid.proofs.Searching.{dead_more, if_err}
 use Rattle.automata_hybrid.proofs.Stepping.{dead_tagged}
 use Rattle.automata_hybrid.proofs.WalkCalls.{clean_here, ended_at, next_finishes, told_here, walk_clears_none}
 use Rattle.automata_hybrid.proofs.Walked.{finish_start}
 use Rattle.automata_hybrid.proofs.Directions.{units_in}
-use Rattle.automata_hybrid.proofs.WalkingOn.{effect_on, effect_unheld, last, learned_on, refused_unheld}
+use Rattle.automata_hybrid.proofs.WalkingOn.{effect_on, effect_unheld, learned_on, refused_unheld}
 use Rattle.automata_hybrid.proofs.dfa.DFA.walk_on.Goals as goal
 
 pub returns-in_err-from-clause-refusal : goal.returns-in_err-from-clause-refusal
@@ -106,9 +108,8 @@ returns-then-is_dead-clause-effect c =
     let same : c.end.new.self ≡ ended_walk w w.units = c.end.ensures ∙ ap (ended_walk w) c.units-then-is_dead.ensures in
     let leads : Leads c.search_start.new.self.store.table c.in_ok-from.from (state_in d m input w.units) = subst (λ (t : Rows). Leads t c.in_ok-from.from (state_in d m input w.units)) (sym c.search_start.ensures.table) c.in_ok-from.ensures.answer.leads in
     let dies : state_in d m input w.units ≡ dead = (dead_tagged c.search_start.new.self.store.table c.in_ok-from.from (c.see_ids.ensures.low c.in_ok-from.from) c.see_ids.ensures.small _ leads).0 (c.if-is_dead.ensures.0 refl) in
-    let here : new.store.searched ≡ finished (started between.store.searched c.span_offset-place.result) c.span_offset-place.result =
-    ap (λ (v : CacheView). v.store.searched) c.end_search.ensures.value ∙ ap (λ (v : CacheView). finished v.store.searched c.span_offset-place.result) c.search_start.ensures.value in
-    let after : new.store.clears ≡ c.search_start.new.self.store.clears = ap (λ (v : CacheView). v.store.clears) c.end_search.ensures.value in
+    let begins : c.search_start.new.self.store ≡ with_search_begun d input w.units between.store =
+    subst (λ at. c.search_start.new.self.store ≡ with_searched between.store (started between.store.searched at)) first (ap (λ (v : CacheView). v.store) c.search_start.ensures.value) in
     let moved : IsGrown between new = grown_trans between c.search_start.new.self new
     (grown_moved between c.search_start.new.self c.search_start.ensures.value)
     (grown_moved c.search_start.new.self new c.end_search.ensures.value) in
@@ -137,13 +138,17 @@ returns-then-is_dead-clause-effect c =
           ((there (has_state d m old.store input w.stage all.0)).idle (count ∙ ap (λ (v : CacheView). v.count) still.0), tt));
       ended = inr (
         reads_some input w r,
-        w.units,
-        inl (refl, refl, dies),
-        dies_at d m input w.units (unit_low d input w.units r.undone) (unit_high d input w.units r.undone r.left)
-            old.store between.store c.search_start.new.self.store new.store
-            (call_begun d m input w.units old between c.search_start.new.self new e.grown c.search_start.ensures.value
-            (grown_moved c.search_start.new.self new c.end_search.ensures.value) e.progress e.cleared) after
-            (subst (λ a. new.store.searched ≡ finished (started between.store.searched a) a) first here),
+        between.store,
+        0,
+        e.resumed,
+        omega arith,
+        (λ k more less. absurd (omega (arith, more, less)), λ ended. (refl, λ reads. reads.1 dies)),
+        (
+          c.search_start.new.self.store,
+          begins,
+          ended_here d input (w.units + (0 - 1)) c.span_offset-place.result c.search_start.new.self new
+              (ap (given_up_offset d input) (omega arith) ∙ sym first) c.end_search.ensures.value,
+        ),
       );
       left = tt;
       ready = λ none. absurd (reads_some input w r none);
@@ -172,16 +177,16 @@ returns-in_err-arrival-clause-effect c =
     let between : CacheView = c.resume.new.cache in
     let begun : CacheView = c.search_start.new.self in
     let new : CacheView = c.advance.new.cache in
-    let first : c.span_offset-place.result ≡ given_up_offset d input c.units-2.result = c.span_offset-place.ensures ∙ ap (given_up_offset d input) (c.units.ensures ∙ sym c.units-2.ensures) in
-    let begins : begun.store.searched ≡ started between.store.searched (given_up_offset d input c.units-2.result) =
-    ap (λ (v : CacheView). v.store.searched) c.search_start.ensures.value ∙ ap (started between.store.searched) first in
+    let first : c.span_offset-place.result ≡ given_up_offset d input w.units = c.span_offset-place.ensures ∙ ap (given_up_offset d input) c.units.ensures in
+    let begins : begun.store ≡ with_search_begun d input w.units between.store =
+    subst (λ at. begun.store ≡ with_searched between.store (started between.store.searched at)) first (ap (λ (v : CacheView). v.store) c.search_start.ensures.value) in
     let began : IsGrown between begun = grown_moved between begun c.search_start.ensures.value in
     let moved : IsGrown between new = grown_trans between begun new began a.grown in
     let grown = grown_after old between new e.grown moved in
     let there : HasItsState old.store.table w.stage → IsGrown old new = (λ there. grown_trans old between new (e.there there) moved) in
-    let left : IsLeftAtUnit Ids d m input between.store.searched w.units begun.store new.store c.in_err-arrival.field-0.0 =
-    subst (λ n. IsLeftAtUnit Ids d m input between.store.searched n begun.store new.store c.in_err-arrival.field-0.0) c.units-2.ensures
-    (a.left between.store.searched begins) in
+    let left : IsCallStopped Ids d m input w.units (with_search_begun d input w.units between.store) new.store c.in_err-arrival.field-0.0 =
+    subst (λ (b : Stored). IsCallStopped Ids d m input w.units b new.store c.in_err-arrival.field-0.0) begins
+    (subst (λ n. IsCallStopped Ids d m input n begun.store new.store c.in_err-arrival.field-0.0) c.units-2.ensures a.left) in
     at_err c.from_residual-in_err-arrival.result _ (λ (x : Result (Unit {0}) SearchError). IsCallEffect (keeping_of c.args.held.now) d m input w w old new x) c.from_residual-in_err-arrival.ensures.1
     (record {
       rises = tt;
@@ -207,9 +212,11 @@ returns-in_err-arrival-clause-effect c =
           ((there has).idle (idle.0 ∙ count), known_refusal (keeping_of c.args.held.now) d m input w c.in_err-arrival.field-0.0 idle.1));
       ended = tt;
       left =
-          inr (recounts_left (keeping_of c.args.held.now) d m input old.store between.store begun.store new.store w.units r.undone r.left
-          (call_begun d m input w.units old between begun new e.grown c.search_start.ensures.value a.grown e.progress e.cleared)
-          c.in_err-arrival.field-0.0 (step_leaves (keeping_of c.args.held.now) d m input between.store.searched w.units begun.store new.store c.in_err-arrival.field-0.0 left));
+          inr (
+            between.store,
+            e.resumed,
+            call_leaves (keeping_of c.args.held.now) d m input w.units (with_search_begun d input w.units between.store) new.store c.in_err-arrival.field-0.0 left,
+          );
       ready = λ none. absurd (reads_some input w r none);
     })
 
@@ -242,11 +249,7 @@ returns-in_default-clause-answer c =
           (keeping_of c.args.held.now) (ended_walk w arrival.units) c.end_search-in_default.new.self c.span_offset-last.result refl c.span_offset-last.ensures c.end_search-in_default.ensures.value
           (λ e. (
             refl,
-            finish.stops _ (omega (
-              arith,
-              (last d m input w c.in_ok-from.from c.args.cache.now c.resume.new.cache c.search_start.new.self c.advance.new.cache
-                  c.haystack-haystack.ensures.within.1 c.see_skips.ensures c.requires.walk.told r c.in_ok-from.ensures.effect c.in_ok-from.ensures.answer begins arrival advanced arrives).2,
-            )),
+            finish.stops arrival.units (omega arith),
           ));
     })
 
@@ -273,11 +276,7 @@ returns-in_default-clause-effect c =
     (keeping_of c.args.held.now) (ended_walk w arrival.units) c.end_search-in_default.new.self c.span_offset-last.result refl c.span_offset-last.ensures c.end_search-in_default.ensures.value
     (λ e. (
       refl,
-      finish.stops _ (omega (
-        arith,
-        (last d m input w c.in_ok-from.from c.args.cache.now c.resume.new.cache c.search_start.new.self c.advance.new.cache
-            c.haystack-haystack.ensures.within.1 c.see_skips.ensures c.requires.walk.told r c.in_ok-from.ensures.effect c.in_ok-from.ensures.answer begins arrival advanced arrives).2,
-      )),
+      finish.stops arrival.units (omega arith),
     )))
 
 pub returns-in_err-next-clause-refusal : goal.returns-in_err-next-clause-refusal
