@@ -43,7 +43,9 @@ impl Searched {
     pub fn start(&mut self, at: usize)
         ensures { self.new ≡ started self.old at }
     {
-        self.bytes = self.total_len();
+        if let Some(running) = self.running {
+            self.bytes = self.bytes.saturating_add(running.distance());
+        }
         self.running = Some(Progress {
             start: at,
             place: at,
@@ -66,9 +68,14 @@ impl Searched {
     pub fn finish(&mut self, at: usize)
         ensures { self.new ≡ finished self.old at }
     {
-        self.update(at);
-        self.bytes = self.total_len();
-        self.running = None;
+        if let Some(running) = self.running {
+            let whole = Progress {
+                start: running.start,
+                place: at,
+            };
+            self.bytes = self.bytes.saturating_add(whole.distance());
+            self.running = None;
+        }
     }
 
     /// What a clear makes of it.
