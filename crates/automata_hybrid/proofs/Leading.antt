@@ -10,13 +10,14 @@ use Rattle.automata_base.specs.Steps.{successor}
 use Rattle.automata_base.specs.Tapes.{Direction}
 use Rattle.automata_base.proofs.Paths.Orders.{some_inj}
 use Rattle.automata_hybrid.specs.Stores.{Stored, IsKnownTransition}
-use Rattle.automata_hybrid.specs.Ids.{quit_id}
+use Rattle.automata_hybrid.specs.Ids.{IsRunTag, quit_id}
 use Rattle.automata_hybrid.specs.Stepping.{unit_class}
 use Rattle.automata_hybrid.specs.Machine.{Machine, table_stride}
 use Rattle.automata_hybrid.specs.Knowing.{KnowsUnit}
-use Rattle.automata_hybrid.specs.Passing.{HasLearned, HasLearnedUnit, IsAt, IsFollowed, IsLed, IsTaken, half_at, half_of}
+use Rattle.automata_hybrid.specs.Passing.{HasLearned, HasLearnedUnit, IsAt, IsFollowed, IsLed, IsRun, IsTagAt, IsTaken, half_at, half_of}
 use Rattle.automata_hybrid.specs.Searches.{HasReadNoQuit, state_in, tape_in, told_in}
 use Rattle.automata_hybrid.specs.Table.{Leads, Names}
+use Rattle.automata_hybrid.proofs.Following.{followed_none, followed_on}
 use Rattle.automata_hybrid.proofs.Searching.{false_true, found_more, lt_or_le, state_more}
 use Rattle.automata_hybrid.proofs.Stepping.{Leads-Names}
 use Rattle.automata_config.specs.Options.{match_kind_of}
@@ -77,6 +78,37 @@ led_on {way} {m} {c} {input} {from} {k} {to} {id} {id'} f on = join (on f.named)
     each : (j : ℕ) → from ≤ j → j < to → (j < k) ⊎ (k ≤ j) → IsTaken way m c input j
     each j l h (inl less) = f.taken j l less
     each j l h (inr more) = g.taken j more h
+
+-- a run between IDs with a tag: nothing yet, and on
+pub run_none :
+    {way : Direction} {m : Machine} {c : Stored} {input : Input} {tag from id : ℕ}
+    → IsTagAt way m c.table input tag from id → IsRun way m c input tag from from id
+run_none {way} {m} {c} {input} {tag} {from} {id} at = record {
+  led = led_none way m c input from id at.named;
+  quiet = λ none. followed_none way m c input from id at.named;
+  only = at.only;
+}
+
+-- from where a run has come to another one can go on
+pub run_at :
+    {way : Direction} {m : Machine} {c : Stored} {input : Input} {tag from to id : ℕ}
+    → IsRunTag tag → IsRun way m c input tag from to id → IsTagAt way m c.table input tag to id
+run_at tags f = record { kind = tags; only = f.only; named = f.led.named }
+
+pub run_on :
+    {way : Direction} {m : Machine} {c : Stored} {input : Input} {tag from k to id id' : ℕ}
+    → IsRun way m c input tag from k id → IsRun way m c input tag k to id' → IsRun way m c input tag from to id'
+run_on f g = record {
+  led = led_on f.led (λ n. g.led);
+  quiet = λ none. followed_on (f.quiet none) (λ n. g.quiet none);
+  only = g.only;
+}
+
+-- the same behind as many units, counted otherwise
+pub run_to :
+    {way : Direction} {m : Machine} {c : Stored} {input : Input} {tag from id k to : ℕ}
+    → k ≡ to → IsRun way m c input tag from k id → IsRun way m c input tag from to id
+run_to {way} {m} {c} {input} {tag} {from} {id} same f = subst (λ n. IsRun way m c input tag from n id) same f
 
 half_any : (ps : List ℕ) (at : ℕ) (a b : Option HalfMatch) → 0 < length ps → half_at ps at a ≡ half_at ps at b
 half_any [] at a b l = absurd (omega (arith, l))

@@ -8,7 +8,7 @@ use Rattle.std.proofs.Math.Nat.{mul-le-mul_right}
 use Rattle.automata_base.specs.Powerset.{Powerset, cost, dead}
 use Rattle.automata_base.specs.Equal.{powerset_eq, powerset_eq-Decides}
 use Rattle.automata_hybrid.specs.declared.dfa.row.Row.{Row}
-use Rattle.automata_hybrid.specs.Ids.{tags}
+use Rattle.automata_hybrid.specs.Ids.{HasOnly, tags}
 use Rattle.automata_hybrid.specs.Machine.{IsStateOf, next_of, greatest, template_of, table_stride}
 use Rattle.std.specs.List.{sum_by}
 use Rattle.std.proofs.lemmas.List.Sums.{sum_by-cons}
@@ -207,6 +207,12 @@ tags_bit x false false h = let i = bit_of 27 x 0 (x + tags false false) h (omega
 
 has_some : (q : Powerset) → has_patterns q ≡ true ↔ (0 < length q.patterns)
 has_some q = (λ e. ltb-true 0 (length q.patterns) e, λ l. lt-ltb 0 (length q.patterns) l)
+
+-- an ID with the match tag alone has it
+pub match_tagged : (id : ℕ) → HasOnly (2 ^ 27) id → IsBitSet id 27
+match_tagged id only =
+    let i = bit_of 27 (id - 2 ^ 27) 1 id (omega (arith, only.from, only.below)) (omega (arith, only.from)) in
+    i.1 refl
 
 pub Names-tagged : (t : Rows) (m : StateMap) (costs id : ℕ) (q : Powerset) → IsTable t m costs → Names t id q → IsBitSet id 27 ↔ (0 < length q.patterns)
 Names-tagged t m costs id q i h =

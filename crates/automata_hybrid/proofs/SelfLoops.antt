@@ -8,11 +8,11 @@ use Rattle.automata_base.specs.Powerset.{Powerset}
 use Rattle.automata_base.specs.Steps.{successor}
 use Rattle.automata_base.specs.Tapes.{Direction, Forward, Backward}
 use Rattle.automata_config.specs.Options.{match_kind_of}
-use Rattle.automata_hybrid.specs.SelfLoops.{Has, HasEither, IsKnownLoop, IsLoopRange, IsLoopRun, IsSelfLoop, LoopsAt, LoopsOn, LoopsOver, above, byte_in}
+use Rattle.automata_hybrid.specs.SelfLoops.{Has, HasEither, IsKnownLoop, IsLoopRange, IsLoopRun, IsSelfLoop, LoopsAt, LoopsOn, LoopsOver, byte_in}
 use Rattle.automata_hybrid.specs.Ids.{quit_id, unknown_id}
 use Rattle.automata_hybrid.specs.Machine.{IsMachine, Machine, next_of, table_stride, template_of}
 use Rattle.automata_hybrid.specs.Owned.{IsOwn}
-use Rattle.automata_hybrid.specs.Passing.{IsFollowed, IsLed}
+use Rattle.automata_hybrid.specs.Passing.{IsFollowed, IsLed, IsRun, IsTagAt}
 use Rattle.automata_hybrid.specs.Searches.{state_in, tape_in}
 use Rattle.automata_hybrid.specs.Stores.{Stored, cell_of}
 use Rattle.automata_hybrid.specs.Table.{IsCell, IsValid, Leads, MayLead, Names}
@@ -247,6 +247,16 @@ module _ {way : Direction} {m : Machine} {c : Stored} {input : Input} {id from :
       let e : from + (to - from) ≡ to = omega (arith, loop.more) in
       subst (λ k. IsLed way m c input from k id) e
       (led_upto (to - from) plain (λ k l below. loop.loops k l (omega (arith, below, e))) named)
+
+  -- a run between IDs with a tag goes along it too
+  pub run_loop :
+      {tag to : ℕ} → IsTagAt way m c.table input tag from id → IsSelfLoop way m c input id from to
+      → IsRun way m c input tag from to id
+  run_loop {tag} at loop = record {
+    led = led_loop (omega (arith, at.kind.upto, at.only.below)) loop at.named;
+    quiet = λ none. followed_loop (omega (arith, none, at.only.below)) loop at.named;
+    only = at.only;
+  }
 
 -- a run over the bytes from a place on is one of a pass from there
 pub loop_along :

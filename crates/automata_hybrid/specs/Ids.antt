@@ -1,5 +1,5 @@
 -- Identifiers of states: an offset of a row and tags, or one of the three fixed ones.
-use Rattle.std.specs.Prelude.{ℕ, ◌+◌, ◌*◌, ◌^◌, Bool, if◌then◌else◌}
+use Rattle.std.specs.Prelude.{ℕ, ◌+◌, ◌*◌, ◌%◌, ◌^◌, ◌<◌, ◌≤◌, ◌≡◌, Bool, if◌then◌else◌}
 
 -- the tags of a row: started, and with patterns
 abbrev pub tags : Bool → Bool → ℕ
@@ -8,6 +8,16 @@ tags started matches = (if started then 2 ^ 28 else 0) + (if matches then 2 ^ 27
 -- offsets of rows are below this
 abbrev pub offset_limit : ℕ
 offset_limit = 2 ^ 27
+
+-- no tag, or the match tag
+pub record IsRunTag (tag : ℕ) : Type 0 where
+  pub upto : tag ≤ offset_limit
+  pub whole : tag % offset_limit ≡ 0
+
+-- an ID has this tag and no other
+pub record HasOnly (tag id : ℕ) : Type 0 where
+  pub from : tag ≤ id
+  pub below : id < tag + offset_limit
 
 -- IDs of rows are below this, and the three fixed ones not
 abbrev pub fixed_from : ℕ

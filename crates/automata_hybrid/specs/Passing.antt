@@ -1,5 +1,5 @@
 -- A pass under way: what the functions of a search keep from unit to unit.
-use Rattle.std.specs.Prelude.{ℕ, suc, ◌≡◌, ◌<◌, ◌≤◌, IsBitSet, List, [], ◌∷◌, true, false, Option, Some, None}
+use Rattle.std.specs.Prelude.{ℕ, suc, ◌≡◌, ◌-◌, ◌<◌, ◌≤◌, IsBitSet, List, [], ◌∷◌, true, false, Option, Some, None}
 use Rattle.automata_base.specs.Answers.{offset_in}
 use Rattle.automata_base.specs.Classes.{is_quit}
 use Rattle.automata_base.specs.Input.{Input}
@@ -19,7 +19,8 @@ use Rattle.automata_hybrid.specs.Table.{Rows, Names, Leads}
 use Rattle.automata_hybrid.specs.Searches.{HasReadNoQuit, Reads, tape_in, state_in, told_in}
 use Rattle.automata_hybrid.specs.Stores.{Stored}
 use Rattle.automata_hybrid.specs.Knowing.{KnowsItsStart, KnowsUnit}
-use Rattle.automata_hybrid.specs.Stepping.{unit_class}
+use Rattle.automata_hybrid.specs.Ids.{HasOnly, IsRunTag, unknown_id}
+use Rattle.automata_hybrid.specs.Stepping.{known_step, unit_class}
 use Rattle.automata_config.specs.Options.{match_kind_of}
 
 -- a pair of a pass as a half match: its place is an offset
@@ -86,6 +87,23 @@ pub record IsLed (way : Direction) (m : Machine) (c : Stored) (input : Input) (f
   pub more : from ≤ to
   pub named : Names c.table id (state_in way m input to)
   pub taken : (k : ℕ) → from ≤ k → k < to → IsTaken way m c input k
+
+-- a pass has read `k` units: the ID names its state there, and has this tag, none or that of a match, and no other
+pub record IsTagAt (way : Direction) (m : Machine) (t : Rows) (input : Input) (tag k id : ℕ) : Type 0 where
+  pub kind : IsRunTag tag
+  pub only : HasOnly tag id
+  pub named : Names t id (state_in way m input k)
+
+-- known transitions led a pass so, between IDs that have this tag and no other: without a tag, none of them told anything
+pub record IsRun (way : Direction) (m : Machine) (c : Stored) (input : Input) (tag from to id : ℕ) : Type 0 where
+  pub led : IsLed way m c input from to id
+  pub quiet : tag ≡ 0 → IsFollowed way m c input from to id
+  pub only : HasOnly tag id
+
+-- this ID was met behind another one: if it isn't unknown, it is where the transition on the byte at place `k` leads
+abbrev pub IsMet : Direction → Machine → Stored → Input → (k id met : ℕ) → Type 0
+IsMet way m c input k id met =
+    met < unknown_id → (k < input.end - input.start) × (met ≡ known_step m c id (next (tape_in way input) k))
 
 -- so is each transition that a pass took on its first `k` units
 abbrev pub HasLearned : Direction → Machine → Stored → Input → ℕ → Type 0

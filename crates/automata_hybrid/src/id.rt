@@ -1,5 +1,5 @@
-ghost use Rattle.std.specs.Prelude.{◌≡◌, ◌+◌, ◌*◌, ◌%◌, ◌<◌, ◌≤◌, ◌↔◌, IsTrue, IsBitSet};
-ghost use Rattle.automata_hybrid.specs.Ids.{tags, unknown_id, dead_id, quit_id, fixed_from, offset_limit};
+ghost use Rattle.std.specs.Prelude.{◌≡◌, ◌+◌, ◌*◌, ◌%◌, ◌-◌, ◌<◌, ◌≤◌, ◌↔◌, IsTrue, IsBitSet};
+ghost use Rattle.automata_hybrid.specs.Ids.{tags, unknown_id, dead_id, quit_id, fixed_from, offset_limit, HasOnly};
 
 use std::marker::Model;
 
@@ -41,6 +41,9 @@ impl Model for LazyStateID {
 impl LazyStateID {
     /// The greatest ID without a tag.
     const MAX: u32 = 134217727;
+
+    /// The match tag.
+    pub(crate) const MATCH: u32 = 134217728;
 
     pub(crate) const UNKNOWN: LazyStateID = LazyStateID { id: 1 << 31 };
 
@@ -125,6 +128,24 @@ impl LazyStateID {
         ensures { IsTrue result ↔ (fixed_from ≤ self) }
     {
         self.id >= 1 << 29
+    }
+
+    /// Whether it has this tag and no other; without a tag, whether it has none.
+    #[inline(always)]
+    pub(crate) fn has_only(self, tag: u32) -> bool
+        requires { tag ≤ offset_limit }
+        ensures { IsTrue result ↔ HasOnly tag self }
+    {
+        self.id.wrapping_sub(tag) <= LazyStateID::MAX
+    }
+
+    /// The ID without its tag: the offset of its row.
+    #[inline(always)]
+    pub(crate) fn less(self, tag: u32) -> LazyStateID
+        requires { HasOnly tag self }
+        ensures { result ≡ self - tag }
+    {
+        LazyStateID { id: self.id - tag }
     }
 
     /// The offset of an ID without a tag: it needs no mask.

@@ -1,4 +1,4 @@
-ghost use Rattle.std.specs.Prelude.{ℕ, ◌≡◌, ◌*◌, ◌^◌, ◌<◌, ◌≤◌, IfOk, IfErr, OnOk, OnErr, slice_index};
+ghost use Rattle.std.specs.Prelude.{ℕ, ◌≡◌, ◌*◌, ◌%◌, ◌^◌, ◌<◌, ◌≤◌, IfOk, IfErr, OnOk, OnErr, slice_index};
 ghost use Rattle.std.specs.Prelude.{length, is_some, IsSome, IsTrue, ◌↔◌, IsBitSet, false};
 ghost use Rattle.automata_base.specs.Powerset.{Powerset, cost, dead};
 ghost use Rattle.automata_base.specs.Steps.{successor, start_state_of};
@@ -211,19 +211,19 @@ impl Cache {
         self.store.cell(id, class)
     }
 
-    /// The same, of an ID without a tag.
+    /// The same, of an ID whose row is at an offset that is known.
     #[inline(always)]
-    pub(crate) fn cell_untagged(&self, id: LazyStateID, class: usize) -> LazyStateID
+    pub(crate) fn cell_in_row(&self, id: LazyStateID, row: LazyStateID, class: usize) -> LazyStateID
         requires row { IsValid self.now.store.table id }
         requires class { class < table_stride self.now.store.table.of }
-        requires untagged { id < offset_limit }
+        requires offset { row ≡ id % offset_limit }
         ensures value { result ≡ cell_of self.now.store id class }
         ensures named { (q : Powerset) → Names self.now.store.table id q → IsCell self.now.store.table q class result }
         ensures tag { HasItsMatchTag self.now.store.table result }
         ensures stride { table_stride self.now.store.table.of ≤ 512 }
     {
         self.see_ids();
-        self.store.cell_untagged(id, class)
+        self.store.cell_in_row(id, row, class)
     }
 
     /// Writes a transition.

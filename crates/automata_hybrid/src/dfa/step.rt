@@ -1,4 +1,4 @@
-ghost use Rattle.std.specs.Prelude.{◌≡◌, ◌<◌, None, Some, IfOk, IfErr, IsBitSet, length};
+ghost use Rattle.std.specs.Prelude.{◌≡◌, ◌%◌, ◌<◌, None, Some, IfOk, IfErr, IsBitSet, length};
 ghost use Rattle.std.specs.Prelude.{slice_index, true, false};
 ghost use Rattle.automata_base.specs.Powerset.{Powerset};
 ghost use Rattle.automata_base.specs.Steps.{successor};
@@ -158,7 +158,7 @@ impl DFA {
         ensures row { result < unknown_id → HasRow cache.now.store.table result }
     {
         cache.see_state(id);
-        cache.cell_untagged(id, self.class_of(byte))
+        cache.cell_in_row(id, id, self.class_of(byte))
     }
 
     /// The same, of an ID that may have a tag.
@@ -176,6 +176,23 @@ impl DFA {
     {
         cache.see_state(id);
         cache.cell(id, self.class_of(byte))
+    }
+
+    /// The same, of an ID whose row is at an offset that is known.
+    #[inline(always)]
+    pub(crate) fn next_state_in_row(
+        &self,
+        cache: &Cache,
+        id: LazyStateID,
+        row: LazyStateID,
+        byte: u8,
+    ) -> LazyStateID
+        requires of { IsCacheOf cache.now self.now }
+        requires valid { IsValid cache.now.store.table id }
+        requires offset { row ≡ id % offset_limit }
+        ensures { result ≡ cell_of cache.now.store id (class_in self.now.classes byte) }
+    {
+        cache.cell_in_row(id, row, self.class_of(byte))
     }
 
     /// How many patterns match at a match state: at least one. The ID has to name a row of the cache and have the match

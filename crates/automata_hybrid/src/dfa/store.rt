@@ -1,4 +1,4 @@
-ghost use Rattle.std.specs.Prelude.{ℕ, ◌≡◌, ◌+◌, ◌-◌, ◌*◌, ◌^◌, ◌<◌, ◌≤◌, ◌↔◌, None, IfOk, OnOk, OnErr};
+ghost use Rattle.std.specs.Prelude.{ℕ, ◌≡◌, ◌+◌, ◌-◌, ◌*◌, ◌%◌, ◌^◌, ◌<◌, ◌≤◌, ◌↔◌, None, IfOk, OnOk, OnErr};
 ghost use Rattle.std.specs.Prelude.{length, slice_index, IsTrue, IfErr, is_some, true, IsBitSet};
 ghost use Rattle.automata_base.specs.Powerset.{Powerset, cost, dead};
 ghost use Rattle.automata_base.specs.Accounting.{minimum_capacity};
@@ -309,17 +309,17 @@ impl Store {
         self.table.cell(id, class)
     }
 
-    /// The same, of an ID without a tag.
+    /// The same, of an ID whose row is at an offset that is known.
     #[inline(always)]
-    pub fn cell_untagged(&self, id: LazyStateID, class: usize) -> LazyStateID
+    pub fn cell_in_row(&self, id: LazyStateID, row: LazyStateID, class: usize) -> LazyStateID
         requires row { IsValid self.now.table id }
         requires class { class < table_stride self.now.table.of }
-        requires untagged { id < offset_limit }
+        requires offset { row ≡ id % offset_limit }
         ensures value { result ≡ cell_of self.now id class }
         ensures named { (q : Powerset) → Names self.now.table id q → IsCell self.now.table q class result }
         ensures stride { table_stride self.now.table.of ≤ 512 }
     {
-        self.table.cell_untagged(id, class)
+        self.table.cell_in_row(id, row, class)
     }
 
     /// Writes a transition.

@@ -240,17 +240,17 @@ impl Table {
         cell_in(self.cells.as_slice(), id.offset() as usize, class)
     }
 
-    /// The same, of an ID without a tag.
+    /// The same, of an ID whose row is at an offset that is known: no tag has to be taken off.
     #[inline(always)]
-    pub fn cell_untagged(&self, id: LazyStateID, class: usize) -> LazyStateID
+    pub fn cell_in_row(&self, id: LazyStateID, row: LazyStateID, class: usize) -> LazyStateID
         requires row { IsValid self.now id }
         requires class { class < table_stride self.now.of }
-        requires untagged { id < offset_limit }
+        requires offset { row ≡ id % offset_limit }
         ensures value { result ≡ slice_index self.now.cells (cell_at id class) }
         ensures named { (q : Powerset) → Names self.now id q → IsCell self.now q class result }
         ensures stride { table_stride self.now.of ≤ 512 }
     {
-        cell_in(self.cells.as_slice(), id.untagged() as usize, class)
+        cell_in(self.cells.as_slice(), row.untagged() as usize, class)
     }
 
     /// Writes a transition.

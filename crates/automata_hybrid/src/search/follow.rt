@@ -1,11 +1,13 @@
-//! Following cached transitions, as many at once as can be: into states that tell nothing, into match states, and along
-//! self-loops.
-ghost use Rattle.std.specs.Prelude.{◌+◌, ◌-◌, ◌<◌, ◌≤◌, IsBitSet};
+//! Following cached transitions, as many at once as can be: into states that tell nothing or into match states, and
+//! along self-loops.
+ghost use Rattle.std.specs.Prelude.{ℕ, ◌≡◌, ◌+◌, ◌-◌, ◌<◌, ◌≤◌, IsBitSet};
+ghost use Rattle.automata_base.specs.Paths.{next};
 ghost use Rattle.automata_hybrid.specs.Caches.{IsCacheOf};
-ghost use Rattle.automata_hybrid.specs.Ids.{fixed_from, offset_limit};
-ghost use Rattle.automata_hybrid.specs.Passing.{IsBetween, IsFollowed, IsLed};
-ghost use Rattle.automata_hybrid.specs.Searches.{state_in};
+ghost use Rattle.automata_hybrid.specs.Ids.{fixed_from, offset_limit, HasOnly};
+ghost use Rattle.automata_hybrid.specs.Passing.{IsFollowed, IsLed, IsMet, IsRun, IsTagAt};
+ghost use Rattle.automata_hybrid.specs.Searches.{state_in, tape_in};
 ghost use Rattle.automata_hybrid.specs.SelfLoops.{IsSelfLoop};
+ghost use Rattle.automata_hybrid.specs.Stepping.{known_step};
 ghost use Rattle.automata_hybrid.specs.Table.{IsValid, Names};
 ghost use Rattle.automata_hybrid.specs.Walks.{way_of};
 
@@ -15,21 +17,21 @@ use crate::id::LazyStateID;
 use crate::search::direction::{Way, byte_at, bytes_from, last_place};
 use automata_base::util::search::Input;
 
-/// How many bytes are followed before a self-loop is looked for again, where one was looked for in vain.
+/// How many bytes are followed before a self-loop is looked for again, where one was looked for in vain. That look reads
+/// up to eight cells, which is little beside so many bytes.
 const PATIENCE: usize = 256;
-
-/// How many bytes of a match are followed one by one, before a self-loop is looked for.
-const FEW: usize = 8;
 
 /// Where cached transitions were followed to.
 #[derive(Clone, Copy)]
 pub(super) struct Stop {
     pub(super) at: usize,
     pub(super) id: LazyStateID,
+    /// The ID that comes next, at which this stopped: unknown where none was read.
+    pub(super) next: LazyStateID,
 }
 
 impl DFA {
-    /// Follows known transitions without a tag, from an ID that may have one.
+    /// Follows cached transitions without a tag, from an ID that may have one.
     #[inline(always)]
     pub(super) fn follow(
         &self,
@@ -45,25 +47,89 @@ impl DFA {
         requires named { Names cache.now.store.table from (state_in (way_of way) self.now input.now start) }
         ensures within { result.at ≤ input.now.end - input.now.start }
         ensures followed { IsFollowed (way_of way) self.now cache.now.store input.now start result.at result.id }
+        ensures met { IsMet (way_of way) self.now cache.now.store input.now result.at result.id result.next }
     {
-        if from.is_tagged() {
+        if from.has_only(0) {
+            return self.follow_tag(cache, input, way, start, from, 0);
+        }
+        if start >= last_place(input) {
             return Stop {
                 at: start,
                 id: from,
+                next: LazyStateID::UNKNOWN,
             };
         }
+        self.see_byte(cache, input, way, start, from);
+        Stop {
+            at: start,
+            id: from,
+            next: self.next_state_known(cache, from, byte_at(input, way, start)),
+        }
+    }
+
+    /// Follows cached transitions into states that have patterns, from an ID behind which another one was met.
+    #[inline(always)]
+    pub(super) fn follow_matches(
+        &self,
+        cache: &Cache,
+        input: &Input<'_>,
+        way: Way,
+        start: usize,
+        from: LazyStateID,
+        next: LazyStateID,
+    ) -> Stop
+        requires of { IsCacheOf cache.now self.now }
+        requires open { input.now.start ≤ input.now.end }
+        requires named { Names cache.now.store.table from (state_in (way_of way) self.now input.now start) }
+        requires met { IsMet (way_of way) self.now cache.now.store input.now start from next }
+        ensures within { start < result.at → result.at ≤ input.now.end - input.now.start }
+        ensures led { IsLed (way_of way) self.now cache.now.store input.now start result.at result.id }
+        ensures tells { start < result.at → IsBitSet result.id 27 }
+        ensures met { IsMet (way_of way) self.now cache.now.store input.now result.at result.id result.next }
+    {
+        let _haystack = input.haystack();
+        if !next.has_only(LazyStateID::MATCH) {
+            return Stop {
+                at: start,
+                id: from,
+                next,
+            };
+        }
+        self.see_byte(cache, input, way, start, from);
+        self.follow_tag(cache, input, way, start + 1, next, LazyStateID::MATCH)
+    }
+
+    /// Follows cached transitions between IDs that have a tag and no other.
+    #[inline(always)]
+    fn follow_tag(
+        &self,
+        cache: &Cache,
+        input: &Input<'_>,
+        way: Way,
+        start: usize,
+        from: LazyStateID,
+        tag: u32,
+    ) -> Stop
+        requires of { IsCacheOf cache.now self.now }
+        requires open { input.now.start ≤ input.now.end }
+        requires within { start ≤ input.now.end - input.now.start }
+        requires at { IsTagAt (way_of way) self.now cache.now.store.table input.now tag start from }
+        ensures within { result.at ≤ input.now.end - input.now.start }
+        ensures run { IsRun (way_of way) self.now cache.now.store input.now tag start result.at result.id }
+        ensures met { IsMet (way_of way) self.now cache.now.store input.now result.at result.id result.next }
+    {
         let last = last_place(input);
         let mut at = start;
         let mut id = from;
         let mut again = start;
-        'fours: while last - at >= 4 {
-            let four = self.follow_four(cache, input, way, at, id);
-            if four.at != at + 4 {
-                return four;
+        'eights: while last - at >= 8 {
+            let eight = self.follow_eight(cache, input, way, at, id, tag);
+            if eight.at != at + 8 {
+                return eight;
             }
-            let same = four.id == id;
-            at = four.at;
-            id = four.id;
+            let same = eight.id == id;
+            at = eight.at;
+            id = eight.id;
             if !same || at < again {
                 continue;
             }
@@ -73,61 +139,48 @@ impl DFA {
             }
             at = stop;
         }
-        self.follow_rest(cache, input, way, at, id)
+        self.follow_rest(cache, input, way, at, id, tag)
     }
 
-    /// The ID after the byte at a place, as far as it is known.
+    /// Follows eight of them, or those before the first other one.
     #[inline(always)]
-    fn follow_byte(
-        &self,
-        cache: &Cache,
-        input: &Input<'_>,
-        way: Way,
-        place: usize,
-        id: LazyStateID,
-    ) -> LazyStateID
-        requires of { IsCacheOf cache.now self.now }
-        requires untagged { id < offset_limit }
-        requires within { place < input.now.end - input.now.start }
-        requires named { Names cache.now.store.table id (state_in (way_of way) self.now input.now place) }
-        ensures { result < offset_limit
-            → IsFollowed (way_of way) self.now cache.now.store input.now place (place + 1) result }
-    {
-        self.see_classes();
-        self.next_state_untagged(cache, id, byte_at(input, way, place))
-    }
-
-    /// Follows four known transitions without a tag, or those before the first other one.
-    #[inline(always)]
-    fn follow_four(
+    fn follow_eight(
         &self,
         cache: &Cache,
         input: &Input<'_>,
         way: Way,
         start: usize,
         from: LazyStateID,
+        tag: u32,
     ) -> Stop
         requires of { IsCacheOf cache.now self.now }
-        requires untagged { from < offset_limit }
-        requires within { start + 4 ≤ input.now.end - input.now.start }
-        requires named { Names cache.now.store.table from (state_in (way_of way) self.now input.now start) }
-        ensures upto { result.at ≤ start + 4 }
-        ensures untagged { result.id < offset_limit }
-        ensures followed { IsFollowed (way_of way) self.now cache.now.store input.now start result.at result.id }
+        requires within { start + 8 ≤ input.now.end - input.now.start }
+        requires at { IsTagAt (way_of way) self.now cache.now.store.table input.now tag start from }
+        ensures upto { result.at ≤ start + 8 }
+        ensures run { IsRun (way_of way) self.now cache.now.store input.now tag start result.at result.id }
+        ensures met { IsMet (way_of way) self.now cache.now.store input.now result.at result.id result.next }
     {
         let _haystack = input.haystack();
         let mut id = from;
-        for k in 0..4usize {
-            let next = self.follow_byte(cache, input, way, start + k, id);
-            if next.is_tagged() {
-                return Stop { at: start + k, id };
+        for k in 0..8usize {
+            let next = self.follow_byte(cache, input, way, start + k, id, tag);
+            if !next.has_only(tag) {
+                return Stop {
+                    at: start + k,
+                    id,
+                    next,
+                };
             }
             id = next;
         }
-        Stop { at: start + 4, id }
+        Stop {
+            at: start + 8,
+            id,
+            next: LazyStateID::UNKNOWN,
+        }
     }
 
-    /// Follows known transitions without a tag one by one.
+    /// Follows them one by one.
     #[inline(always)]
     fn follow_rest(
         &self,
@@ -136,27 +189,72 @@ impl DFA {
         way: Way,
         start: usize,
         from: LazyStateID,
+        tag: u32,
     ) -> Stop
         requires of { IsCacheOf cache.now self.now }
-        requires untagged { from < offset_limit }
         requires open { input.now.start ≤ input.now.end }
         requires within { start ≤ input.now.end - input.now.start }
-        requires named { Names cache.now.store.table from (state_in (way_of way) self.now input.now start) }
+        requires at { IsTagAt (way_of way) self.now cache.now.store.table input.now tag start from }
         ensures within { result.at ≤ input.now.end - input.now.start }
-        ensures followed { IsFollowed (way_of way) self.now cache.now.store input.now start result.at result.id }
+        ensures run { IsRun (way_of way) self.now cache.now.store input.now tag start result.at result.id }
+        ensures met { IsMet (way_of way) self.now cache.now.store input.now result.at result.id result.next }
     {
         let last = last_place(input);
         let mut at = start;
         let mut id = from;
         'rest: while at < last {
-            let next = self.follow_byte(cache, input, way, at, id);
-            if next.is_tagged() {
-                return Stop { at, id };
+            let next = self.follow_byte(cache, input, way, at, id, tag);
+            if !next.has_only(tag) {
+                return Stop { at, id, next };
             }
             id = next;
             at += 1;
         }
-        Stop { at, id }
+        Stop {
+            at,
+            id,
+            next: LazyStateID::UNKNOWN,
+        }
+    }
+
+    /// The ID after the byte at a place, as far as it is known, of an ID that has a tag and no other.
+    #[inline(always)]
+    fn follow_byte(
+        &self,
+        cache: &Cache,
+        input: &Input<'_>,
+        way: Way,
+        place: usize,
+        id: LazyStateID,
+        tag: u32,
+    ) -> LazyStateID
+        requires of { IsCacheOf cache.now self.now }
+        requires within { place < input.now.end - input.now.start }
+        requires at { IsTagAt (way_of way) self.now cache.now.store.table input.now tag place id }
+        ensures run { HasOnly tag result
+            → IsRun (way_of way) self.now cache.now.store input.now tag place (place + 1) result }
+        ensures met { IsMet (way_of way) self.now cache.now.store input.now place id result }
+    {
+        self.see_byte(cache, input, way, place, id);
+        self.next_state_in_row(cache, id, id.less(tag), byte_at(input, way, place))
+    }
+
+    /// A cached transition on the byte at a place leads on, and if it leads to an ID without a tag, tells nothing. It does
+    /// nothing.
+    #[inline(always)]
+    fn see_byte(&self, cache: &Cache, input: &Input<'_>, way: Way, place: usize, id: LazyStateID)
+        requires of { IsCacheOf cache.now self.now }
+        requires within { place < input.now.end - input.now.start }
+        requires named { Names cache.now.store.table id (state_in (way_of way) self.now input.now place) }
+        ensures led { (to : ℕ) → to < fixed_from
+            → to ≡ known_step self.now cache.now.store id (next (tape_in (way_of way) input.now) place)
+            → IsLed (way_of way) self.now cache.now.store input.now place (place + 1) to }
+        ensures followed { (to : ℕ) → to < offset_limit
+            → to ≡ known_step self.now cache.now.store id (next (tape_in (way_of way) input.now) place)
+            → IsFollowed (way_of way) self.now cache.now.store input.now place (place + 1) to }
+    {
+        self.see_classes();
+        let _next = self.next_state_known(cache, id, byte_at(input, way, place));
     }
 
     /// Follows the self-loop of an ID that may have a tag, where it has one.
@@ -179,131 +277,5 @@ impl DFA {
     {
         let _haystack = input.haystack();
         start + self.follow_self_loop(cache, id, way, bytes_from(input, way, start))
-    }
-
-    /// The ID after the byte at a place, as far as it is known, of an ID that may have a tag.
-    #[inline(always)]
-    fn lead_byte(
-        &self,
-        cache: &Cache,
-        input: &Input<'_>,
-        way: Way,
-        place: usize,
-        id: LazyStateID,
-    ) -> LazyStateID
-        requires of { IsCacheOf cache.now self.now }
-        requires within { place < input.now.end - input.now.start }
-        requires named { Names cache.now.store.table id (state_in (way_of way) self.now input.now place) }
-        ensures { result < fixed_from
-            → IsLed (way_of way) self.now cache.now.store input.now place (place + 1) result }
-    {
-        self.see_classes();
-        self.next_state_known(cache, id, byte_at(input, way, place))
-    }
-
-    /// Follows known transitions into states that have patterns, one by one, up to a place.
-    #[inline(always)]
-    fn lead_few(
-        &self,
-        cache: &Cache,
-        input: &Input<'_>,
-        way: Way,
-        start: usize,
-        from: LazyStateID,
-        end: usize,
-    ) -> Stop
-        requires of { IsCacheOf cache.now self.now }
-        requires end { IsBetween start (input.now.end - input.now.start) end }
-        requires named { Names cache.now.store.table from (state_in (way_of way) self.now input.now start) }
-        ensures within { result.at ≤ end }
-        ensures led { IsLed (way_of way) self.now cache.now.store input.now start result.at result.id }
-        ensures tells { start < result.at → IsBitSet result.id 27 }
-    {
-        let mut at = start;
-        let mut id = from;
-        'few: while at < end {
-            let next = self.lead_byte(cache, input, way, at, id);
-            if next.is_fixed() {
-                return Stop { at, id };
-            }
-            if !next.is_match() {
-                return Stop { at, id };
-            }
-            id = next;
-            at += 1;
-        }
-        Stop { at, id }
-    }
-
-    /// Follows known transitions into states that have patterns, and along their self-loops.
-    #[inline(always)]
-    fn lead_many(
-        &self,
-        cache: &Cache,
-        input: &Input<'_>,
-        way: Way,
-        start: usize,
-        from: LazyStateID,
-    ) -> Stop
-        requires of { IsCacheOf cache.now self.now }
-        requires open { input.now.start ≤ input.now.end }
-        requires within { start ≤ input.now.end - input.now.start }
-        requires named { Names cache.now.store.table from (state_in (way_of way) self.now input.now start) }
-        ensures within { result.at ≤ input.now.end - input.now.start }
-        ensures led { IsLed (way_of way) self.now cache.now.store input.now start result.at result.id }
-        ensures tells { IsBitSet from 27 → IsBitSet result.id 27 }
-    {
-        let last = last_place(input);
-        let mut at = start;
-        let mut id = from;
-        let mut again = start;
-        'many: while at < last {
-            let next = self.lead_byte(cache, input, way, at, id);
-            if next.is_fixed() {
-                return Stop { at, id };
-            }
-            if !next.is_match() {
-                return Stop { at, id };
-            }
-            let same = next == id;
-            id = next;
-            at += 1;
-            if !same || at < again {
-                continue;
-            }
-            let stop = self.follow_loop(cache, input, way, at, id);
-            if stop == at {
-                again = at.saturating_add(PATIENCE);
-            }
-            at = stop;
-        }
-        Stop { at, id }
-    }
-
-    /// Follows known transitions into states that have patterns: a few one by one, since most matches are short, and
-    /// then many.
-    #[inline(always)]
-    pub(super) fn follow_matches(
-        &self,
-        cache: &Cache,
-        input: &Input<'_>,
-        way: Way,
-        start: usize,
-        from: LazyStateID,
-    ) -> Stop
-        requires of { IsCacheOf cache.now self.now }
-        requires open { input.now.start ≤ input.now.end }
-        requires within { start ≤ input.now.end - input.now.start }
-        requires named { Names cache.now.store.table from (state_in (way_of way) self.now input.now start) }
-        ensures within { result.at ≤ input.now.end - input.now.start }
-        ensures led { IsLed (way_of way) self.now cache.now.store input.now start result.at result.id }
-        ensures tells { start < result.at → IsBitSet result.id 27 }
-    {
-        let end = last_place(input).min(start.saturating_add(FEW));
-        let few = self.lead_few(cache, input, way, start, from, end);
-        if few.at - start < FEW {
-            return few;
-        }
-        self.lead_many(cache, input, way, few.at, few.id)
     }
 }

@@ -9,7 +9,8 @@ ghost use Rattle.automata_hybrid.specs.Reading.{IsReadAnswer, IsReadEffect, IsRe
 ghost use Rattle.automata_hybrid.specs.Reading.{IsReadStep, IsStepRefusedAt, IsStepTaken};
 ghost use Rattle.automata_hybrid.specs.Searches.{Skips};
 ghost use Rattle.automata_base.specs.declared.util.search.MatchErrorKind.TheVariants.{Quit as QuitAt};
-ghost use Rattle.automata_hybrid.specs.Stepping.{IsStepAnswer, IsStepEffect};
+ghost use Rattle.automata_hybrid.specs.Ids.{unknown_id};
+ghost use Rattle.automata_hybrid.specs.Stepping.{IsStepAnswer, IsStepEffect, known_step};
 ghost use Rattle.automata_hybrid.specs.Table.{IsValid, Leads, Names};
 
 mod advance;
@@ -117,6 +118,66 @@ impl DFA {
         }
     }
 
+    /// The same, where the ID of that state was met, unless it is unknown.
+    #[inline(always)]
+    fn step_met(
+        &self,
+        cache: &mut Cache,
+        id: LazyStateID,
+        met: LazyStateID,
+        byte: u8,
+        at: usize,
+    ) -> Result<LazyStateID, SearchError>
+        requires of { IsCacheOf cache.old self.now }
+        requires valid { IsValid cache.old.store.table id }
+        requires met { met < unknown_id → met ≡ known_step self.now cache.old.store id (Some byte) }
+        ensures of { IsCacheOf cache.new self.now }
+        ensures answer { IfOk result (IsStepAnswer self.now id (Some byte) cache.old cache.new) }
+        ensures refusal { IfErr result (IsStepRefusedAt self.now id (Some byte) at cache.old cache.new) }
+        ensures effect { IsStepEffect self.now id (Some byte) cache.old cache.new }
+    {
+        if met.is_unknown() {
+            return self.step(cache, id, byte, at);
+        }
+        cache.see_ids();
+        cache.see_state(id);
+        let _cell = cache.cell(id, self.class_of(byte));
+        Ok(met)
+    }
+
+    /// The state after a byte, to which the search moves, where the ID of that state was met, unless it is unknown. A
+    /// quit byte ends it, and is an error at its own offset.
+    #[inline(always)]
+    fn read_met(
+        &self,
+        cache: &mut Cache,
+        id: LazyStateID,
+        met: LazyStateID,
+        byte: u8,
+        quit_at: usize,
+        at: usize,
+    ) -> Result<LazyStateID, SearchError>
+        requires of { IsCacheOf cache.old self.now }
+        requires valid { IsValid cache.old.store.table id }
+        requires met { met < unknown_id → met ≡ known_step self.now cache.old.store id (Some byte) }
+        ensures of { IsCacheOf cache.new self.now }
+        ensures answer { IfOk result (IsReadAnswer self.now id (Some byte) cache.old cache.new) }
+        ensures refusal { IfErr result (IsReadRefusal self.now id (Some byte) quit_at at cache.old cache.new) }
+        ensures effect { IsReadEffect self.now id (Some byte) cache.old cache.new result }
+        ensures step { IsReadStep self.now id (Some byte) at cache.old.store cache.new.store result }
+    {
+        self.see_classes();
+        cache.see_ids();
+        cache.move_search(at);
+        let next = self.step_met(cache, id, met, byte, at)?;
+        cache.see_ids();
+        if next.is_quit() {
+            cache.end_search(at);
+            return Err(quit(byte, quit_at));
+        }
+        Ok(next)
+    }
+
     /// The state after a unit, to which the search moves. A quit byte ends it, and is an error at its own offset.
     #[inline(always)]
     fn read(
@@ -135,20 +196,12 @@ impl DFA {
         ensures effect { IsReadEffect self.now id unit cache.old cache.new result }
         ensures step { IsReadStep self.now id unit at cache.old.store cache.new.store result }
     {
-        self.see_classes();
-        cache.see_ids();
-        cache.move_search(at);
         match unit {
-            Some(byte) => {
-                let next = self.step(cache, id, byte, at)?;
-                cache.see_ids();
-                if next.is_quit() {
-                    cache.end_search(at);
-                    return Err(quit(byte, quit_at));
-                }
-                Ok(next)
+            Some(byte) => self.read_met(cache, id, LazyStateID::UNKNOWN, byte, quit_at, at),
+            None => {
+                cache.move_search(at);
+                self.read_end(cache, id, at)
             }
-            None => self.read_end(cache, id, at),
         }
     }
 

@@ -8,7 +8,7 @@ ghost use Rattle.automata_hybrid.specs.Caches.{IsCacheOf};
 ghost use Rattle.automata_hybrid.specs.Knowing.{KnowsUnit};
 ghost use Rattle.automata_hybrid.specs.Owing.{IsUnsupported, unsupported_error};
 ghost use Rattle.automata_hybrid.specs.Passed.{IsPassAnswer, IsPassEffect, IsRestEffect, IsUnderway};
-ghost use Rattle.automata_hybrid.specs.Passing.{HasLearned, IsAt};
+ghost use Rattle.automata_hybrid.specs.Passing.{HasLearned, IsAt, IsMet};
 ghost use Rattle.automata_hybrid.specs.Reading.{IsEndProgress};
 ghost use Rattle.automata_hybrid.specs.Searched.{EndsAtLast, IsStoppedAt, IsUnitRead, KeepsNone};
 ghost use Rattle.automata_hybrid.specs.Searches.{IsPassRefusal, IsUnitRefusal};
@@ -31,6 +31,8 @@ struct Place {
     at: usize,
     id: LazyStateID,
     found: Option<HalfMatch>,
+    /// The ID that comes next, where a run stopped at it: unknown where none was read.
+    next: LazyStateID,
 }
 
 impl DFA {
@@ -89,6 +91,7 @@ impl DFA {
         ensures from { start ≤ result.at }
         ensures within { result.at ≤ input.now.end - input.now.start }
         ensures at { IsAt (way_of way) self.now cache.now.store.table input.now result.at result.id result.found }
+        ensures met { IsMet (way_of way) self.now cache.now.store input.now result.at result.id result.next }
         ensures learned { HasLearned (way_of way) self.now cache.now.store input.now start
             → HasLearned (way_of way) self.now cache.now.store input.now result.at }
         ensures known { (k : ℕ) → start ≤ k → k < result.at
@@ -100,14 +103,16 @@ impl DFA {
                 at: quiet.at,
                 id: quiet.id,
                 found,
+                next: quiet.next,
             };
         }
-        let stop = self.follow_matches(cache, input, way, quiet.at, quiet.id);
+        let stop = self.follow_matches(cache, input, way, quiet.at, quiet.id, quiet.next);
         if stop.at == quiet.at {
             return Place {
                 at: quiet.at,
                 id: quiet.id,
                 found,
+                next: quiet.next,
             };
         }
         cache.see_ids();
@@ -116,6 +121,7 @@ impl DFA {
             at: stop.at,
             id: stop.id,
             found: self.found_at(cache, stop.id, offset, found),
+            next: stop.next,
         }
     }
 
@@ -148,7 +154,7 @@ impl DFA {
             }
             let offset = byte_offset(input, way, run.at);
             let byte = byte_at(input, way, run.at);
-            let next = self.read(cache, run.id, Some(byte), offset, offset)?;
+            let next = self.read_met(cache, run.id, run.next, byte, offset, offset)?;
             cache.see_ids();
             if next.is_dead() {
                 cache.end_search(offset);

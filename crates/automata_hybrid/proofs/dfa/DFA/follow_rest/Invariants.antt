@@ -1,14 +1,12 @@
-use Rattle.std.proofs.Common.{◌<◌, ◌≤◌, ◌-◌}
-use Rattle.automata_hybrid.specs.Ids.{offset_limit}
-use Rattle.automata_hybrid.specs.Passing.{IsFollowed}
+use Rattle.std.proofs.Common.{◌≤◌, ◌-◌}
+use Rattle.automata_hybrid.specs.Passing.{IsRun}
 use Rattle.automata_hybrid.specs.Walks.{way_of}
 use Rattle.automata_hybrid.proofs.dfa.DFA.follow_rest.Given as goal
 
 abbrev pub invariant-rest : goal.invariant-rest
 invariant-rest l = record {
-  untagged : l.id < offset_limit;
   within : l.at ≤ l.last;
-  followed : IsFollowed (way_of l.way) l.self l.cache.store l.input l.fn.start l.at l.id;
+  run : IsRun (way_of l.way) l.self l.cache.store l.input l.tag l.fn.start l.at l.id;
 }
 
 abbrev pub decreases-rest : goal.decreases-rest

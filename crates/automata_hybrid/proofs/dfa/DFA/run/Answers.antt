@@ -37,3 +37,7 @@ returns-then-stop-quiet-clause-known c = λ k from below. (c.follow-quiet.ensure
 
 pub returns-clause-known : goal.returns-clause-known
 returns-clause-known c = known_after c.follow-quiet.ensures.followed c.follow_matches-stop.ensures.led
+
+pub returns-clause-within : goal.returns-clause-within
+returns-clause-within c =
+    c.follow_matches-stop.ensures.within (omega (arith, c.follow_matches-stop.ensures.led.more, c.if-stop-quiet.false))
