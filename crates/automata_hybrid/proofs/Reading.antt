@@ -1,28 +1,24 @@
 -- Units that a search reads from an ID, from what the step on each answers and changes.
-use Rattle.std.proofs.Common.{ℕ, ◌≡◌, ◌∙◌, ◌+◌, ◌<◌, ◌≤◌, ◌⊎◌, true, inl, inr, Option, None, refl, sym, ap, subst, arith}
-use Rattle.std.specs.Prelude.{Result, Ok, Err, IfErr, IfOk, OnErr}
+use Rattle.std.proofs.Common.{ℕ, ◌≡◌, ◌∙◌, ◌+◌, ◌<◌, ◌≤◌, ◌⊎◌, true, false, inl, inr, Option, None, sym, ap, subst, arith}
+use Rattle.std.specs.Prelude.{Result, Ok, Err, IfOk, OnErr}
 use Rattle.std.specs.Result.{IsErrAnd}
 use Rattle.automata_base.specs.Powerset.{Powerset, dead}
 use Rattle.automata_base.specs.declared.util.search.MatchErrorKind.TheVariants.{Quit as QuitAt, GaveUp, UnsupportedAnchored as UnsupportedMode}
 use Rattle.automata_base.proofs.Paths.Orders.{none_some}
 use Rattle.automata_config.specs.declared.error.SearchError.{SearchError}
 use Rattle.automata_config.specs.declared.error.SearchError.TheVariants as search
-use Rattle.automata_config.specs.declared.error.StepError.{StepError}
-use Rattle.automata_config.specs.declared.error.StepError.TheVariants.{Cache, OutOfMemory}
 use Rattle.automata_hybrid.specs.declared.dfa.progress.Searched.{Searched}
 use Rattle.automata_hybrid.specs.Caches.{CacheView, with_store}
 use Rattle.automata_hybrid.specs.Growing.{IsGrown}
 use Rattle.automata_hybrid.specs.Ids.{fixed_from, unknown_id}
 use Rattle.automata_hybrid.specs.Knowing.{IsOfInput}
 use Rattle.automata_hybrid.specs.Machine.{Machine, table_stride}
-use Rattle.automata_hybrid.specs.Passing.{step_refusal}
 use Rattle.automata_hybrid.specs.Progressing.{finished, updated}
 use Rattle.automata_hybrid.specs.Reading.{IsReadEffect, IsReadRefusal, IsReadStep, IsStepRefusedAt, IsStepTaken}
-use Rattle.automata_hybrid.specs.Searched.{IsOfRoom, IsQuitUnit}
 use Rattle.automata_hybrid.specs.Searches.{IsStepRefusal}
 use Rattle.automata_hybrid.specs.Stepping.{IsStepAnswer, IsStepEffect, KnowsStep, known_step, quits_on, unit_class}
 use Rattle.automata_hybrid.specs.Stores.{Stored, with_searched}
-use Rattle.automata_hybrid.specs.Table.{IsValid, Names}
+use Rattle.automata_hybrid.specs.Table.{Names}
 use Rattle.automata_hybrid.proofs.Growing.{grown_moved, grown_trans, nothing_second}
 use Rattle.automata_hybrid.proofs.StepCalls.{no_quit_unit}
 use Rattle.automata_hybrid.proofs.Searching.{lt_or_le}
@@ -34,16 +30,7 @@ pub at_err : {A E : Type 0} (r : Result A E) (e : E) (P : Result A E → Type 0)
 at_err (Ok a) e P h p = absurd h
 at_err (Err x) e P h p = subst (λ v. P (Err v)) (sym h) p
 
--- a refused step is one for want of room or of memory
-pub told_room :
-    (m : Machine) (id : ℕ) (unit : Option ℕ) (at : ℕ) (old new : CacheView) (e : SearchError)
-    → IsStepRefusedAt m id unit at old new e → IsOfRoom at e
-told_room m id unit at old new e h = subst (IsOfRoom at) (sym h.told) (go h.error) where
-  go : (error : StepError) → IsOfRoom at (step_refusal error at)
-  go (Cache err) = refl
-  go OutOfMemory = tt
-
--- and so is what reads the unit
+-- a refused step is a refusal to read the unit
 pub told_refusal :
     (m : Machine) (id : ℕ) (unit : Option ℕ) (quit_at at : ℕ) (old new : CacheView) (e : SearchError)
     → IsStepRefusedAt m id unit at old new e → IsReadRefusal m id unit quit_at at old new e
@@ -52,18 +39,6 @@ told_refusal m id unit quit_at at old new e h q n =
     (refused m old.store new.store q unit quit_at at h.error (no_quit_unit m unit h.refused.clean)
     (λ other names known. (let one : other ≡ id = cc in h.refused.unknown (subst (λ k. KnowsStep m old.store k unit) one known)))
     (ap (λ (v : CacheView). v.store) h.refused.unchanged) (λ c. h.refused.gives_up c q n))
-
--- at the end no quit byte is met
-pub end_room :
-    (m : Machine) (id quit_at at : ℕ) (old new : CacheView) (e : SearchError)
-    → IsValid old.store.table id → IsReadRefusal m id None quit_at at old new e → IsOfRoom at e
-end_room m id quit_at at old new e valid why = go e (why valid.0 valid.1) where
-  go : (e : SearchError) → IsStepRefusal m new.store valid.0 None quit_at at e → IsOfRoom at e
-  go (search.Match (QuitAt byte offset)) why = absurd (none_some why.0)
-  go (search.Match (GaveUp offset)) why = why.2
-  go (search.Match (UnsupportedMode mode)) why = absurd why
-  go search.OutOfMemory why = tt
-  go search.NotAPair why = absurd why
 
 -- at the end no byte is read, so no offset of a quit byte is told
 pub unquit_at :
@@ -188,18 +163,18 @@ module _ (m : Machine) (id : ℕ) (unit : Option ℕ) (at : ℕ) (old mid next :
       (e : SearchError) → IsStepRefusedAt m id unit at mid next e → IsReadStep m id unit at old.store next.store (Err e)
   left_step e r = record {
     taken = tt;
-    left = inr (told_room m id unit at mid next e r, ap (λ (v : CacheView). v.store) r.refused.unchanged ∙ there);
+    left = inr (r.refused.clean, ap (λ (v : CacheView). v.store) r.refused.unchanged ∙ there);
   }
 
   pub quit_step :
-      (e : SearchError) (new : CacheView) → IsQuitUnit m unit → quits_on m unit ≡ true → IsStepEffect m id unit mid next
+      (e : SearchError) (new : CacheView) → quits_on m unit ≡ true → IsStepEffect m id unit mid next
       → new ≡ with_store next (with_searched next.store (finished next.store.searched at))
       → IsReadStep m id unit at old.store new.store (Err e)
-  quit_step e new quits on effect ended = record {
+  quit_step e new on effect ended = record {
     taken = tt;
     left =
         inl (
-          quits,
+          on,
           ap (λ (v : CacheView). v.store) ended
               ∙ (ap (λ (v : CacheView). with_searched v.store (finished v.store.searched at)) (effect.quit on ∙ moved)
               ∙ ap (λ (s : Searched). with_searched old.store s) (finished_moved old.store.searched at at)),
@@ -208,7 +183,7 @@ module _ (m : Machine) (id : ℕ) (unit : Option ℕ) (at : ℕ) (old mid next :
 
   pub end_step :
       (result : Result ℕ SearchError) → IfOk result (IsStepTaken m id unit mid.store next.store)
-      → OnErr result (next.store ≡ mid.store) → IfErr result (IsOfRoom at)
+      → OnErr result (next.store ≡ mid.store) → quits_on m unit ≡ false
       → IsReadStep m id unit at old.store next.store result
-  end_step (Ok to) taken kept room = took_step to taken
-  end_step (Err e) taken kept room = record { taken = tt; left = inr (room, kept ∙ there) }
+  end_step (Ok to) taken kept clean = took_step to taken
+  end_step (Err e) taken kept clean = record { taken = tt; left = inr (clean, kept ∙ there) }

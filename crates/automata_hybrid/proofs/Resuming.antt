@@ -1,7 +1,7 @@
 -- Going on with a walk: what the functions under its calls answer, and what they make of their cache.
 use Rattle.automata_hybrid.specs.declared.search.walk.Handle.{Handle}
 use Rattle.std.proofs.Common.{ℕ, suc, ◌≡◌, ◌∙◌, ◌<◌, inl, inr, false, length, Option, None, refl, sym, ap, subst, arith, Some}
-use Rattle.std.specs.Prelude.{Err, IfErr, IfOk, Ok, OnOk, Result}
+use Rattle.std.specs.Prelude.{Err, IfErr, IfOk, Ok, OnErr, OnOk, Result}
 use Rattle.std.proofs.lemmas.Result.{IfErr-weaker, IfOk-weaker, on_ok_weaker}
 use Rattle.automata_base.specs.Answers.{offset_in}
 use Rattle.automata_base.specs.Input.{Input}
@@ -252,7 +252,7 @@ pub unit_effect :
     → Names old.store.table id (state_in way m input place) → new.store.table.of ≡ m
     → IsReadEffect m id unit mid new r
     → OnOk r (IsUnitRead way m input place (with_search_moved way input place old.store) new.store)
-    → IfErr r (IsLeftAt way m input place old.store new.store) → IsUnitEffect way m input place old new r
+    → OnErr r (IsLeftAt way m input place old.store new.store) → IsUnitEffect way m input place old new r
 unit_effect way m input place id unit old mid new r same moved named of e read left = record {
   counted = omega (arith, e.counted, count);
   grown = grown;

@@ -37,7 +37,7 @@ pub call_stopped :
     (way : Direction) (m : Machine) (input : Input) (from k : ℕ) (old new : Stored) (e : SearchError)
     → WalkReads way m input k → HasReadNoQuit way m input k → IsSilent way m input from k
     → IsUnitRefusal way m new input k e
-    → ((run : Stored) × AreReadTo way m input from k old run × IsLeftAt way m input k run new e)
+    → ((run : Stored) × AreReadTo way m input from k old run × IsLeftAt way m input k run new)
     → IsCallStopped Ids way m input from old new e
 call_stopped way m input from k old new e reads clean silent refused (run, all, left) = (
   all.units,
@@ -46,7 +46,7 @@ call_stopped way m input from k old new e reads clean silent refused (run, all, 
   subst (HasReadNoQuit way m input) (sym all.upto) clean,
   subst (IsSilent way m input from) (sym all.upto) silent,
   all.read,
-  subst (λ j. IsUnitRefusal way m new input j e × IsLeftAt way m input j run new e) (sym all.upto) (refused, left),
+  subst (λ j. IsUnitRefusal way m new input j e × IsLeftAt way m input j run new) (sym all.upto) (refused, left),
 )
 
 -- a call that is to read units reads some
@@ -65,7 +65,7 @@ step_refuses States way m c input j e r = inl r
 
 step_leaves :
     (keeping : Keeping) (way : Direction) (m : Machine) (input : Input) (k : ℕ) (old new : Stored) (e : SearchError)
-    → IsUnitRefusal way m new input k e × IsLeftAt way m input k old new e → IsCallLeftAt keeping way m input k old new e
+    → IsUnitRefusal way m new input k e × IsLeftAt way m input k old new → IsCallLeftAt keeping way m input k old new e
 step_leaves Ids way m input k old new e left = left
 step_leaves States way m input k old new e left = inl left
 

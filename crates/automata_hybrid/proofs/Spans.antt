@@ -95,7 +95,7 @@ module _ (way : Direction) (m : Machine) (input : Input) (k : ℕ) (tries : Trie
 
       pub spans_ended : HaveEnded way m input (suc k) old.store new.store
       spans_ended =
-          (between.store, ended, subst (λ (i : Input). HasEnded way m i between.store new.store) same pass.ended, pass.grown.clears)
+          (between.store, ended, subst (λ (i : Input). HasEnded way m i between.store new.store) same pass.ended)
 
       pub spans_cost : IsCostOfPasses way m input (suc k) old new
       spans_cost = cost pass
@@ -134,7 +134,6 @@ module _ (way : Direction) (m : Machine) (input : Input) (k : ℕ) (tries : Trie
         spans_tried way m input k tries within,
         ended,
         subst (λ (i : Input). IsLeft way m i between.store new.store e) same pass.left,
-        pass.grown.clears,
       );
       done = λ over. absurd (omega (arith, over, within));
     }

@@ -1,5 +1,5 @@
 -- Units that are read one after another, and what the search under way is moved to on the way.
-use Rattle.std.proofs.Common.{ℕ, zero, suc, ◌≡◌, ◌∙◌, ◌+◌, ◌-◌, ◌<◌, ◌≤◌, ◌⊎◌, false, length, Option, None, Some, inl, inr, refl, sym, ap, subst, arith, cond, nat_lt, eq-or-lt_of_le}
+use Rattle.std.proofs.Common.{ℕ, zero, suc, ◌≡◌, ◌∙◌, ◌+◌, ◌-◌, ◌<◌, ◌≤◌, ◌⊎◌, true, false, length, Option, None, Some, inl, inr, refl, sym, ap, subst, arith, cond, nat_lt, eq-or-lt_of_le}
 use Rattle.automata_base.specs.Input.{Input}
 use Rattle.automata_base.specs.Paths.{next}
 use Rattle.automata_base.specs.Powerset.{Powerset}
@@ -17,11 +17,11 @@ use Rattle.automata_hybrid.specs.Ids.{unknown_id}
 use Rattle.automata_hybrid.specs.Machine.{Machine, slot_count}
 use Rattle.automata_hybrid.specs.Progressing.{finished, from_place, moved_to, progress_cleared, saturated, total_len, updated}
 use Rattle.automata_hybrid.specs.Reading.{IsStepTaken}
-use Rattle.automata_hybrid.specs.Searched.{AreUnitsRead, EndsAtLast, HasEndedBehind, HasItsStart, IsLeftAt, IsOfRoom, IsPassLeftAt, IsQuitUnit, IsStoppedAt, IsUnitRead, before_last, with_search_ended, with_search_moved}
+use Rattle.automata_hybrid.specs.Searched.{AreUnitsRead, EndsAtLast, HasEndedBehind, HasItsStart, IsLeftAt, IsPassLeftAt, IsStoppedAt, IsUnitRead, before_last, with_search_ended, with_search_moved}
 use Rattle.automata_hybrid.specs.Searches.{HasReadNoQuit, IsUnitRefusal, Reads, given_up_offset, state_in, tape_in}
 use Rattle.automata_hybrid.specs.Slots.{slot_behind}
 use Rattle.automata_hybrid.specs.Starting.{IsStartAnswer, IsStartEffect, IsStartRefusedAt, known_start}
-use Rattle.automata_hybrid.specs.Stepping.{KnowsStep, unit_class}
+use Rattle.automata_hybrid.specs.Stepping.{KnowsStep, quits_on, unit_class}
 use Rattle.automata_hybrid.specs.Stores.{IsKnownStart, Stored, with_next, with_searched}
 use Rattle.automata_hybrid.specs.Table.{Names}
 use Rattle.automata_hybrid.specs.Usage.{refuses_at, refuses_to_clear, short_of}
@@ -139,12 +139,12 @@ module _ (way : Direction) (m : Machine) (input : Input) (from : ℕ) (old : Sto
 
   -- or was refused
   pub left_then :
-      (new : Stored) (e : SearchError) → IsLeftAt way m input to c new e
-      → (run : Stored) × AreReadTo way m input from to old run × IsLeftAt way m input to run new e
-  left_then new e left = go followed left where
+      (new : Stored) → IsLeftAt way m input to c new
+      → (run : Stored) × AreReadTo way m input from to old run × IsLeftAt way m input to run new
+  left_then new left = go followed left where
     go :
-        ((run : Stored) × AreReadTo way m input from to old run × Lags c run) → IsLeftAt way m input to c new e
-        → (run : Stored) × AreReadTo way m input from to old run × IsLeftAt way m input to run new e
+        ((run : Stored) × AreReadTo way m input from to old run × Lags c run) → IsLeftAt way m input to c new
+        → (run : Stored) × AreReadTo way m input from to old run × IsLeftAt way m input to run new
     go (run, reads, lags) (inl (quits, same)) =
         (run, reads, inl (quits, same ∙ lags_ended way input to c run lags))
     go (run, reads, lags) (inr (room, same)) =
@@ -152,17 +152,17 @@ module _ (way : Direction) (m : Machine) (input : Input) (from : ℕ) (old : Sto
 
   -- which may be the last one of a pass
   pub pass_left_then :
-      (new : Stored) (e : SearchError) → IsPassLeftAt way m input to c new e
-      → (run : Stored) × AreReadTo way m input from to old run × IsPassLeftAt way m input to run new e
-  pass_left_then new e (inl (behind, same)) = go followed where
+      (new : Stored) → IsPassLeftAt way m input to c new
+      → (run : Stored) × AreReadTo way m input from to old run × IsPassLeftAt way m input to run new
+  pass_left_then new (inl (behind, same)) = go followed where
     go :
         ((run : Stored) × AreReadTo way m input from to old run × Lags c run)
-        → (run : Stored) × AreReadTo way m input from to old run × IsPassLeftAt way m input to run new e
+        → (run : Stored) × AreReadTo way m input from to old run × IsPassLeftAt way m input to run new
     go (run, reads, lags) = (run, reads, inl (behind, same ∙ lags_ended way input to c run lags))
-  pass_left_then new e (inr (inner, left)) = go (left_then new e left) where
+  pass_left_then new (inr (inner, left)) = go (left_then new left) where
     go :
-        ((run : Stored) × AreReadTo way m input from to old run × IsLeftAt way m input to run new e)
-        → (run : Stored) × AreReadTo way m input from to old run × IsPassLeftAt way m input to run new e
+        ((run : Stored) × AreReadTo way m input from to old run × IsLeftAt way m input to run new)
+        → (run : Stored) × AreReadTo way m input from to old run × IsPassLeftAt way m input to run new
     go (run, reads, there) = (run, reads, inr (inner, there))
 
 -- at least one was read
@@ -211,7 +211,7 @@ pass_last way m input k old mid new reads stops all ended = go (read_ended way m
 pub pass_stopped :
     (way : Direction) (m : Machine) (input : Input) (k : ℕ) (old new : Stored) (e : SearchError) → Reads way m input k
     → HasReadNoQuit way m input k → IsUnitRefusal way m new input k e
-    → ((run : Stored) × AreReadTo way m input 0 k old run × IsPassLeftAt way m input k run new e)
+    → ((run : Stored) × AreReadTo way m input 0 k old run × IsPassLeftAt way m input k run new)
     → IsStoppedAt way m input old new e
 pass_stopped way m input k old new e reads clean refused (run, all, left) =
     let upto : 0 + all.units ≡ k = all.upto in
@@ -386,15 +386,15 @@ last_read Backward m input k old begun mid new begins reads ended =
     (subst (λ (b : Stored). IsUnitRead Backward m input k (with_search_moved Backward input k b) mid) begins reads) ended
 
 pub last_left :
-    (way : Direction) (m : Machine) (input : Input) (k : ℕ) (old begun new : Stored) (e : SearchError)
+    (way : Direction) (m : Machine) (input : Input) (k : ℕ) (old begun new : Stored)
     → begun ≡ with_searched old (before_last way old.searched (given_up_offset way input k))
     → k ≡ length (tape_in way input).bytes
-    → IsLeftAt way m input k begun new e → IsPassLeftAt way m input k old new e
-last_left Forward m input k old begun new e begins last left =
-    inr ((λ none. none), subst (λ (b : Stored). IsLeftAt Forward m input k b new e) begins left)
-last_left Backward m input k old begun new e begins last (inl (quits, same)) =
+    → IsLeftAt way m input k begun new → IsPassLeftAt way m input k old new
+last_left Forward m input k old begun new begins last left =
+    inr ((λ none. none), subst (λ (b : Stored). IsLeftAt Forward m input k b new) begins left)
+last_left Backward m input k old begun new begins last (inl (quits, same)) =
     inl (last, same ∙ ap (λ (b : Stored). with_search_ended Backward input k b) begins)
-last_left Backward m input k old begun new e begins last (inr (room, same)) =
+last_left Backward m input k old begun new begins last (inr (clean, same)) =
     inl (last, same ∙ ap (λ (b : Stored). with_search_moved Backward input k b) begins)
 
 -- the unit at a place was come to at its offset, from an ID that names the state there
@@ -411,18 +411,14 @@ module _ (way : Direction) (m : Machine) (input : Input) (k id at : ℕ) (unit :
 
   -- or refused
   pub refused_here :
-      (new : Stored) (e : SearchError)
-      → (IsQuitUnit m unit × (new ≡ with_searched c (finished c.searched at)))
-      ⊎ (IsOfRoom at e × (new ≡ with_searched c (updated c.searched at)))
-      → IsLeftAt way m input k c new e
-  refused_here new e (inl (quits, same)) = inl (
-    subst (IsQuitUnit m) (sym is) quits,
-    same ∙ ap (λ a. with_searched c (finished c.searched a)) (sym place),
-  )
-  refused_here new e (inr (room, same)) = inr (
-    subst (λ a. IsOfRoom a e) (sym place) room,
-    same ∙ ap (λ a. with_searched c (updated c.searched a)) (sym place),
-  )
+      (new : Stored)
+      → ((quits_on m unit ≡ true) × (new ≡ with_searched c (finished c.searched at)))
+      ⊎ ((quits_on m unit ≡ false) × (new ≡ with_searched c (updated c.searched at)))
+      → IsLeftAt way m input k c new
+  refused_here new (inl (quits, same)) =
+      inl (ap (quits_on m) is ∙ quits, same ∙ ap (λ a. with_searched c (finished c.searched a)) (sym place))
+  refused_here new (inr (clean, same)) =
+      inr (ap (quits_on m) is ∙ clean, same ∙ ap (λ a. with_searched c (updated c.searched a)) (sym place))
 
 -- a search was ended at the offset of a unit
 pub ended_here :

@@ -10,7 +10,6 @@ use Rattle.automata_config.specs.Options.{specialize_start_states_of}
 use Rattle.automata_hybrid.specs.Machine.{greatest, slot_count, start_of, table_stride}
 use Rattle.automata_hybrid.specs.Progressing.{progress_cleared}
 use Rattle.automata_hybrid.specs.Table.{IsValid, Names, Rows}
-use Rattle.automata_hybrid.specs.declared.dfa.progress.Searched.{Searched}
 
 -- nothing is lost: each row, each known start and each known transition is as it was
 pub record Keeps (old new : Stored) : Type 0 where
@@ -24,14 +23,12 @@ pub record Keeps (old new : Stored) : Type 0 where
 abbrev pub ClearedNothing : Stored → Stored → Type 0
 ClearedNothing old new = (new.clears ≡ old.clears) × (old.clears < 2 ^ 64 - 1)
 
--- progress is as it was, and so is the count of clears; or, where something was cleared, it is as a clear makes it
-abbrev pub IsKeptOrCleared : (old new : Stored) → (from to : Searched) → Type 0
-IsKeptOrCleared old new from to =
-    ((new.clears ≡ old.clears) × (to ≡ from)) ⊎ ((ClearedNothing old new → ⊥) × (to ≡ progress_cleared from))
-
--- a step or a start moves no progress
+-- a step or a start moves no progress: it is as it was, and so is the count of clears; or, where something was cleared, it
+-- is as a clear makes it
 abbrev pub KeepsProgress : Stored → Stored → Type 0
-KeepsProgress old new = IsKeptOrCleared old new old.searched new.searched
+KeepsProgress old new =
+    ((new.clears ≡ old.clears) × (new.searched ≡ old.searched))
+    ⊎ ((ClearedNothing old new → ⊥) × (new.searched ≡ progress_cleared old.searched))
 
 -- there is room for so many more states, whatever they cost
 pub record HasRoom (c : Stored) (states : ℕ) : Type 0 where

@@ -1,5 +1,5 @@
 -- Units that a search reads from an ID: what the ID is that reading one answers, and what it makes of the cache.
-use Rattle.std.specs.Prelude.{ℕ, ◌≡◌, ◌+◌, ◌<◌, ◌≤◌, ◌⊎◌, false, Option, Result, IfErr, IfOk, OnOk}
+use Rattle.std.specs.Prelude.{ℕ, ◌≡◌, ◌+◌, ◌<◌, ◌≤◌, ◌⊎◌, true, false, Option, Result, IfErr, IfOk, OnErr, OnOk}
 use Rattle.automata_base.specs.Input.{Input}
 use Rattle.automata_base.specs.Powerset.{Powerset, dead}
 use Rattle.automata_base.specs.Steps.{successor}
@@ -13,7 +13,7 @@ use Rattle.automata_hybrid.specs.Knowing.{IsOfInput}
 use Rattle.automata_hybrid.specs.Machine.{Machine, table_stride}
 use Rattle.automata_hybrid.specs.Passing.{step_refusal}
 use Rattle.automata_hybrid.specs.Progressing.{finished, updated}
-use Rattle.automata_hybrid.specs.Searched.{IsOfRoom, IsPassLeftAt, IsQuitUnit, IsUnitRead}
+use Rattle.automata_hybrid.specs.Searched.{IsPassLeftAt, IsUnitRead}
 use Rattle.automata_hybrid.specs.Searched.{with_search_ended, with_search_moved}
 use Rattle.automata_hybrid.specs.Searches.{IsStepRefusal}
 use Rattle.automata_hybrid.specs.Stepping.{IsStepRefused, KnowsStep, quits_on, unit_class}
@@ -78,8 +78,8 @@ pub record IsReadStep (m : Machine) (id : ℕ) (unit : Option ℕ) (at : ℕ) (o
   pub taken : IfOk result (IsStepTaken m id unit (with_searched old (updated old.searched at)) new)
   -- Refused, only the search has ended there at a quit byte, and else it was moved there.
   pub left :
-      IfErr result (λ e. (IsQuitUnit m unit × (new ≡ with_searched old (finished old.searched at)))
-      ⊎ (IsOfRoom at e × (new ≡ with_searched old (updated old.searched at))))
+      OnErr result (((quits_on m unit ≡ true) × (new ≡ with_searched old (finished old.searched at)))
+      ⊎ ((quits_on m unit ≡ false) × (new ≡ with_searched old (updated old.searched at))))
 
 -- what reading the last unit of a pass, at its place `k`, makes of what the cache holds
 pub record IsEndProgress {T : Type 0} (way : Direction) (m : Machine) (input : Input) (k : ℕ) (old new : Stored)
@@ -89,4 +89,4 @@ pub record IsEndProgress {T : Type 0} (way : Direction) (m : Machine) (input : I
       OnOk result ((mid : Stored) × IsUnitRead way m input k (with_search_moved way input k old) mid
       × (new ≡ with_search_ended way input k mid))
   -- Refused, the search has ended there at a quit byte, and else is left there; back it has ended before.
-  pub left : IfErr result (IsPassLeftAt way m input k old new)
+  pub left : OnErr result (IsPassLeftAt way m input k old new)

@@ -133,7 +133,7 @@ pub record IsUnitEffect {T : Type 0} (way : Direction) (m : Machine) (input : In
   -- the search moved to the unit, and it was read; or is left there
   pub read :
       OnOk result (IsUnitRead way m input place (with_search_moved way input place old.store) new.store)
-  pub left : IfErr result (IsLeftAt way m input place old.store new.store)
+  pub left : OnErr result (IsLeftAt way m input place old.store new.store)
 
 -- what going on over the units of a walk from there makes of the cache
 pub record IsAdvanceEffect (way : Direction) (m : Machine) (input : Input) (units : ℕ) (old new : CacheView)

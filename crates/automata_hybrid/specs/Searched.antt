@@ -1,13 +1,10 @@
 -- What the passes of a search make of their cache and of the progress, unit by unit.
-use Rattle.std.specs.Prelude.{ℕ, zero, suc, ◌≡◌, ◌<◌, ◌≤◌, ◌+◌, ◌-◌, ◌⊎◌, length, true, Option, Some}
+use Rattle.std.specs.Prelude.{ℕ, zero, suc, ◌≡◌, ◌<◌, ◌≤◌, ◌+◌, ◌-◌, ◌⊎◌, length, true, false}
 use Rattle.automata_base.specs.Answers.{Tries, later, offset_in}
-use Rattle.automata_base.specs.Classes.{is_quit}
 use Rattle.automata_base.specs.Input.{Input}
 use Rattle.automata_base.specs.Paths.{next}
 use Rattle.automata_base.specs.Tapes.{Direction, Forward, Backward}
-use Rattle.automata_base.specs.declared.util.search.MatchErrorKind.TheVariants.{GaveUp}
 use Rattle.automata_config.specs.declared.error.SearchError.{SearchError}
-use Rattle.automata_config.specs.declared.error.SearchError.TheVariants as search
 use Rattle.automata_hybrid.specs.declared.dfa.progress.Searched.{Searched}
 use Rattle.automata_hybrid.specs.Stores.{Stored, with_searched}
 use Rattle.automata_hybrid.specs.Effects.{IsComputed, IsStarted}
@@ -18,19 +15,8 @@ use Rattle.automata_hybrid.specs.Searches.{Finds, HasReadNoQuit, IsUnitRefusal, 
 use Rattle.automata_hybrid.specs.Searches.{behind_offset, given_up_offset, state_in, tape_in}
 use Rattle.automata_hybrid.specs.Slots.{slot_behind}
 use Rattle.automata_hybrid.specs.Starting.{IsStartRefusalAt, start_row}
-use Rattle.automata_hybrid.specs.Stepping.{unit_class}
+use Rattle.automata_hybrid.specs.Stepping.{quits_on, unit_class}
 use Rattle.automata_hybrid.specs.Table.{Names}
-
--- a step found no room or no memory, which is told at an offset
-abbrev pub IsOfRoom : (at : ℕ) → SearchError → Type 0
-IsOfRoom at (search.Match (GaveUp offset)) = offset ≡ at
-IsOfRoom at (search.Match kind) = ⊥
-IsOfRoom at search.OutOfMemory = Unit {0}
-IsOfRoom at search.NotAPair = ⊥
-
--- the unit is a quit byte
-abbrev pub IsQuitUnit : Machine → Option ℕ → Type 0
-IsQuitUnit m unit = (byte : ℕ) × (unit ≡ Some byte) × (is_quit m.quits byte ≡ true)
 
 -- what a pass makes of the progress before its last step, which is at an offset: back it has ended there
 abbrev pub before_last : Direction → Searched → (at : ℕ) → Searched
@@ -68,12 +54,11 @@ HasEndedBehind way m input from units old new =
     (mid : Stored) × AreUnitsRead way m input from units old mid
     × (new ≡ with_search_ended way input (from + (units - 1)) mid)
 
--- a search was refused at the unit at place `k`, to which it has come: a quit byte has ended it there, and else it is
--- left open there
-abbrev pub IsLeftAt : Direction → Machine → Input → (k : ℕ) → (old new : Stored) → SearchError → Type 0
-IsLeftAt way m input k old new e =
-    (IsQuitUnit m (next (tape_in way input) k) × (new ≡ with_search_ended way input k old))
-    ⊎ (IsOfRoom (given_up_offset way input k) e × (new ≡ with_search_moved way input k old))
+-- the search was refused at the unit at place `k`: it has ended there at a quit byte, and else has come there
+abbrev pub IsLeftAt : Direction → Machine → Input → (k : ℕ) → (old new : Stored) → Type 0
+IsLeftAt way m input k old new =
+    ((quits_on m (next (tape_in way input) k) ≡ true) × (new ≡ with_search_ended way input k old))
+    ⊎ ((quits_on m (next (tape_in way input) k) ≡ false) × (new ≡ with_search_moved way input k old))
 
 -- a pass reads its first so many units, and no more: none, where its start is dead
 abbrev pub ReadsUnits : Direction → Machine → Input → (units : ℕ) → Type 0
@@ -91,16 +76,16 @@ IsBehindEnd Forward input k = ⊥
 IsBehindEnd Backward input k = k ≡ length (tape_in Backward input).bytes
 
 -- a pass is left so at a unit; but back, at its last one, it has ended
-abbrev pub IsPassLeftAt : Direction → Machine → Input → (k : ℕ) → (old new : Stored) → SearchError → Type 0
-IsPassLeftAt way m input k old new e =
+abbrev pub IsPassLeftAt : Direction → Machine → Input → (k : ℕ) → (old new : Stored) → Type 0
+IsPassLeftAt way m input k old new =
     (IsBehindEnd way input k × (new ≡ with_search_ended way input k old))
-    ⊎ ((IsBehindEnd way input k → ⊥) × IsLeftAt way m input k old new e)
+    ⊎ ((IsBehindEnd way input k → ⊥) × IsLeftAt way m input k old new)
 
 -- a pass that has begun was refused at a unit that it reads
 abbrev pub IsStoppedAt : Direction → Machine → Input → (begun new : Stored) → SearchError → Type 0
 IsStoppedAt way m input begun new e =
     (k : ℕ) × (mid : Stored) × Reads way m input k × HasReadNoQuit way m input k × IsUnitRefusal way m new input k e
-    × AreUnitsRead way m input 0 k begun mid × IsPassLeftAt way m input k mid new e
+    × AreUnitsRead way m input 0 k begun mid × IsPassLeftAt way m input k mid new
 
 -- a pass back over an empty span keeps no progress
 abbrev pub KeepsNone : Direction → Input → Type 0
@@ -149,7 +134,6 @@ abbrev pub HaveEnded : Direction → Machine → Input → (passes : ℕ) → (o
 HaveEnded way m input zero old new = new ≡ old
 HaveEnded way m input (suc passes) old new =
     (mid : Stored) × HaveEnded way m input passes old mid × HasEnded way m (later way passes input) mid new
-    × (mid.clears ≤ new.clears)
 
 -- a search that answers has ended the passes over all the spans that it tries
 abbrev pub EndsProgress : Direction → Machine → Input → (old new : Stored) → Type 0
@@ -161,4 +145,4 @@ EndsProgress way m input old new =
 abbrev pub LeavesProgress : Direction → Machine → Input → (old new : Stored) → SearchError → Type 0
 LeavesProgress way m input old new e =
     (passes : ℕ) × (mid : Stored) × TriesSpans way m input (suc passes) × HaveEnded way m input passes old mid
-    × IsLeft way m (later way passes input) mid new e × (mid.clears ≤ new.clears)
+    × IsLeft way m (later way passes input) mid new e

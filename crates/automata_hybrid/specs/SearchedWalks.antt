@@ -48,9 +48,9 @@ EndsCall way m input walk next old new =
 
 -- a call is refused at the unit at place `k`; or the unit was read, and the state behind it can't be held
 abbrev pub IsCallLeftAt : Keeping → Direction → Machine → Input → (k : ℕ) → (old new : Stored) → SearchError → Type 0
-IsCallLeftAt Ids way m input k old new e = IsUnitRefusal way m new input k e × IsLeftAt way m input k old new e
+IsCallLeftAt Ids way m input k old new e = IsUnitRefusal way m new input k e × IsLeftAt way m input k old new
 IsCallLeftAt States way m input k old new e =
-    (IsUnitRefusal way m new input k e × IsLeftAt way m input k old new e)
+    (IsUnitRefusal way m new input k e × IsLeftAt way m input k old new)
     ⊎ (IsUnheld way m input k e × IsUnitRead way m input k (with_search_moved way input k old) new)
 
 -- a call that has begun at a place was refused behind the first so many units from there, which tell nothing
@@ -78,7 +78,7 @@ abbrev pub HaveCalled : Machine → Input → (set : List Bool) → (calls : ℕ
 HaveCalled m input set zero old walk new = (walk ≡ fresh_walk) × (new ≡ old)
 HaveCalled m input set (suc calls) old walk new =
     (before : Walk) × (mid : Stored) × HaveCalled m input set calls old before mid × IsOpenAfter m input set calls
-    × TellsNext Forward m input before walk × EndsCall Forward m input before walk mid new × (mid.clears ≤ new.clears)
+    × TellsNext Forward m input before walk × EndsCall Forward m input before walk mid new
 
 -- a set that is answered has made calls of its walk, the last one where none is left or the set isn't gone on with
 abbrev pub EndsSet : Machine → Input → (set : List Bool) → (old new : Stored) → Type 0
@@ -91,4 +91,4 @@ EndsSet m input set old new =
 abbrev pub LeavesSet : Machine → Input → (set : List Bool) → (old new : Stored) → SearchError → Type 0
 LeavesSet m input set old new e =
     (calls : ℕ) × (walk : Walk) × (mid : Stored) × HaveCalled m input set calls old walk mid
-    × IsOpenAfter m input set calls × LeavesCall Ids Forward m input walk mid new e × (mid.clears ≤ new.clears)
+    × IsOpenAfter m input set calls × LeavesCall Ids Forward m input walk mid new e

@@ -76,7 +76,7 @@ called_told :
     → HasTold Forward m input walk calls × ((k : ℕ) → k < calls → IsOpenAfter m input set k)
 called_told m input set zero old walk new (fresh, same) =
     (subst (λ (w : Walk). HasTold Forward m input w 0) (sym fresh) (refl, refl), λ k l. absurd (omega (arith, l)))
-called_told m input set (suc calls) old walk new (before, mid, called, is_open, tells, ended, rising) =
+called_told m input set (suc calls) old walk new (before, mid, called, is_open, tells, ended) =
     let told = called_told m input set calls old before mid called in
     ((tells calls told.0).0, up_to (IsOpenAfter m input set) calls told.1 is_open)
 

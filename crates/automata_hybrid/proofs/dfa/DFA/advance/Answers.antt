@@ -144,7 +144,7 @@ returns-in_err-next-clause-effect c =
       left =
           call_stopped d c.args.self.now c.args.input.now c.args.units k c.args.cache.now.store c.read_unit.new.cache.store c.in_err-next.field-0.0 c.in_err-next.ensures.reads
           (followed_clean f c.loop-read.invariant.clean) (followed_silent f c.loop-read.invariant.silent) c.in_err-next.ensures.refusal
-          (left_then d c.args.self.now c.args.input.now c.args.units c.args.cache.now.store c.loop-read.read k c.loop-read.cache.store c.loop-read.invariant.progress f.more (λ j l h. (f.quiet j l h).known.0) c.read_unit.new.cache.store c.in_err-next.field-0.0 c.in_err-next.ensures.effect.left);
+          (left_then d c.args.self.now c.args.input.now c.args.units c.args.cache.now.store c.loop-read.read k c.loop-read.cache.store c.loop-read.invariant.progress f.more (λ j l h. (f.quiet j l h).known.0) c.read_unit.new.cache.store c.in_err-next.ensures.effect.left);
     })
 
 pub returns-then-is_dead-clause-effect : goal.returns-then-is_dead-clause-effect

@@ -85,7 +85,7 @@ returns-in_err-go_on-clause-effect c =
           (which_still m input c.args.patset.now old mid v.grown count knows)) in
           (grown.idle (here.0.0 ∙ count), here.1));
       ended = tt;
-      left = (j.k, walk, mid.store, v.joins.1, open_after m input walk c.args.patset.now c.walk.patset j, e.left, stepped.clears);
+      left = (j.k, walk, mid.store, v.joins.1, open_after m input walk c.args.patset.now c.walk.patset j, e.left);
       done = λ past. e.ready (inr (inr (omega (arith, past)))) ∙ (v.done past).0;
     })
 
@@ -151,7 +151,7 @@ returns-in_default-clause-effect c =
       ended = (
         suc j.k,
         next,
-        (walk, mid.store, v.joins.1, open_after m input walk c.args.patset.now c.walk.patset j, a.tells, e.ended, stepped.clears),
+        (walk, mid.store, v.joins.1, open_after m input walk c.args.patset.now c.walk.patset j, a.tells, e.ended),
         inl last,
       );
       left = tt;
@@ -232,7 +232,7 @@ returns-then-is_full-clause-effect c =
       ended = (
         suc j.k,
         next,
-        (walk, mid.store, v.joins.1, open_after m input walk c.args.patset.now c.walk.patset j, a.tells, e.ended, stepped.clears),
+        (walk, mid.store, v.joins.1, open_after m input walk c.args.patset.now c.walk.patset j, a.tells, e.ended),
         inr (λ pairs walked.
             closes input c.args.patset.now (set c.walk.patset c.in-Some.half.pattern true) pairs j.k c.in-Some.half
             (sym ((a.tells j.k j.told).1 pairs walked).0 ∙ found) capacity
@@ -316,7 +316,7 @@ returns-then-get_earliest-clause-effect c =
       ended = (
         suc j.k,
         next,
-        (walk, mid.store, v.joins.1, open_after m input walk c.args.patset.now c.walk.patset j, a.tells, e.ended, stepped.clears),
+        (walk, mid.store, v.joins.1, open_after m input walk c.args.patset.now c.walk.patset j, a.tells, e.ended),
         inr (λ pairs walked.
             closes input c.args.patset.now (set c.walk.patset c.in-Some.half.pattern true) pairs j.k c.in-Some.half
             (sym ((a.tells j.k j.told).1 pairs walked).0 ∙ found) capacity
@@ -400,6 +400,6 @@ walk-preserved c =
           subst (λ (s : List Bool). (i : Joins c.args.self.now c.args.input.now c.go_on.new.walk c.args.patset.now s) × HaveCalled c.args.self.now c.args.input.now c.args.patset.now i.k c.args.cache.now.store c.go_on.new.walk c.go_on.new.cache.store) (sym put) (
             joins_more c.args.self.now c.args.input.now c.args.patset.now c.walk.walk c.go_on.new.walk c.walk.patset c.walk.invariant.joins.0 c.in_ok-go_on.ensures.answer.tells list c.in-Some.half found (sym c.get_earliest.ensures ∙ c.if-get_earliest.false) lacks,
             calls_more c.args.self.now c.args.input.now c.args.patset.now c.walk.walk c.go_on.new.walk c.walk.patset c.walk.invariant.joins.0 c.in_ok-go_on.ensures.answer.tells list c.in-Some.half found (sym c.get_earliest.ensures ∙ c.if-get_earliest.false) lacks c.args.cache.now.store c.go_on.new.cache.store
-                (c.walk.walk, c.walk.cache.store, c.walk.invariant.joins.1, open_after c.args.self.now c.args.input.now c.walk.walk c.args.patset.now c.walk.patset j, c.in_ok-go_on.ensures.answer.tells, c.in_ok-go_on.ensures.effect.ended, (c.in_ok-go_on.ensures.effect.there c.walk.invariant.there).clears),
+                (c.walk.walk, c.walk.cache.store, c.walk.invariant.joins.1, open_after c.args.self.now c.args.input.now c.walk.walk c.args.patset.now c.walk.patset j, c.in_ok-go_on.ensures.answer.tells, c.in_ok-go_on.ensures.effect.ended),
           );
     }

@@ -214,10 +214,10 @@ returns-in_err-next-clause-left c =
     (at_reads d c.args.self.now c.loop-at.cache.store.table c.args.input.now k c.run-run.result.id c.run-run.result.found at few c.in_err-next.ensures.effect.alive) at.clean
     (unit_refuses d c.args.self.now c.loop-at.cache.store.table c.read_met.new.cache.store c.args.input.now k c.run-run.result.id c.byte_offset-offset.result c.byte_offset-offset.result _ c.run-run.result.found c.in_err-next.field-0.0
     at read (sym c.byte_offset-offset.ensures.unit) given c.in_err-next.ensures.refusal)
-    (pass_left_then d c.args.self.now c.args.input.now 0 c.args.cache.now.store c.loop-at.at k c.loop-at.cache.store c.loop-at.invariant.progress c.run-run.ensures.from c.run-run.ensures.known c.read_met.new.cache.store c.in_err-next.field-0.0
+    (pass_left_then d c.args.self.now c.args.input.now 0 c.args.cache.now.store c.loop-at.at k c.loop-at.cache.store c.loop-at.invariant.progress c.run-run.ensures.from c.run-run.ensures.known c.read_met.new.cache.store
     (inr (
       not_behind d c.args.input.now k inside (units_in d c.args.input.now c.requires.at.undone c.last_place-last.ensures.inside),
-      refused_here d c.args.self.now c.args.input.now k c.run-run.result.id c.byte_offset-offset.result (Some _) c.loop-at.cache.store at.named read given c.read_met.new.cache.store c.in_err-next.field-0.0 c.in_err-next.ensures.step.left,
+      refused_here d c.args.self.now c.args.input.now k c.run-run.result.id c.byte_offset-offset.result (Some _) c.loop-at.cache.store at.named read given c.read_met.new.cache.store c.in_err-next.ensures.step.left,
     ))))
 
 pub returns-then-is_dead-clause-ended : goal.returns-then-is_dead-clause-ended
@@ -275,7 +275,7 @@ returns-then-run-last-clause-left c =
     if_both c.find_end.result _ _ _
     (λ error refused left. pass_stopped d c.args.self.now c.args.input.now k c.args.cache.now.store c.find_end.new.cache.store error
     (at_reads d c.args.self.now c.loop-at.cache.store.table c.args.input.now k c.run-run.result.id c.run-run.result.found at (omega (arith, units)) c.find_end.ensures.alive) at.clean refused
-    (pass_left_then d c.args.self.now c.args.input.now 0 c.args.cache.now.store c.loop-at.at k c.loop-at.cache.store c.loop-at.invariant.progress (omega (arith, c.run-run.ensures.from, same)) (λ j from below. c.run-run.ensures.known j from (omega (arith, below, same))) c.find_end.new.cache.store error left))
+    (pass_left_then d c.args.self.now c.args.input.now 0 c.args.cache.now.store c.loop-at.at k c.loop-at.cache.store c.loop-at.invariant.progress (omega (arith, c.run-run.ensures.from, same)) (λ j from below. c.run-run.ensures.known j from (omega (arith, below, same))) c.find_end.new.cache.store left))
     c.find_end.ensures.refusal c.find_end.ensures.progress.left
 
 pub returns-clause-ended : goal.returns-clause-ended
@@ -301,7 +301,7 @@ returns-clause-left c =
     if_both c.find_end-2.result _ _ _
     (λ error refused left. pass_stopped d c.args.self.now c.args.input.now k c.args.cache.now.store c.find_end-2.new.cache.store error
     (at_reads d c.args.self.now c.loop-at.cache.store.table c.args.input.now k c.loop-at.id c.loop-at.found at (omega (arith, units)) c.find_end-2.ensures.alive) at.clean refused
-    (pass_left_then d c.args.self.now c.args.input.now 0 c.args.cache.now.store c.loop-at.at k c.loop-at.cache.store c.loop-at.invariant.progress (omega (arith, same)) (λ j from below. absurd (omega (arith, from, below, same))) c.find_end-2.new.cache.store error left))
+    (pass_left_then d c.args.self.now c.args.input.now 0 c.args.cache.now.store c.loop-at.at k c.loop-at.cache.store c.loop-at.invariant.progress (omega (arith, same)) (λ j from below. absurd (omega (arith, from, below, same))) c.find_end-2.new.cache.store left))
     c.find_end-2.ensures.refusal c.find_end-2.ensures.progress.left
 
 pub returns-then-run-last-clause-refusal : goal.returns-then-run-last-clause-refusal

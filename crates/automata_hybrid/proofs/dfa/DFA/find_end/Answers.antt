@@ -119,7 +119,7 @@ returns-in_err-next-clause-progress c =
     at_err c.from_residual.result _ (IsEndProgress d c.args.self.now c.args.input.now k c.args.cache.now.store c.read.new.cache.store) c.from_residual.ensures.1 (record {
       ended = tt;
       left =
-          last_left d c.args.self.now c.args.input.now k c.args.cache.now.store c.end_before_last.new.cache.store c.read.new.cache.store c.in_err-next.field-0.0 begins
+          last_left d c.args.self.now c.args.input.now k c.args.cache.now.store c.end_before_last.new.cache.store c.read.new.cache.store begins
           (units_in d c.args.input.now c.requires.at.undone c.last_place-last.ensures.inside)
-          (refused_here d c.args.self.now c.args.input.now k c.args.id c.span_offset-at.result c.unit_at-unit.result c.end_before_last.new.cache.store named unit place c.read.new.cache.store c.in_err-next.field-0.0 c.in_err-next.ensures.step.left);
+          (refused_here d c.args.self.now c.args.input.now k c.args.id c.span_offset-at.result c.unit_at-unit.result c.end_before_last.new.cache.store named unit place c.read.new.cache.store c.in_err-next.ensures.step.left);
     })

@@ -1,8 +1,6 @@
-use Rattle.std.proofs.Common.{sym, subst}
-use Rattle.std.proofs.lemmas.Result.{IfErr-weaker}
+use Rattle.std.proofs.Common.{refl, sym, subst}
 use Rattle.automata_hybrid.specs.Reading.{IsReadEffect, IsReadStep}
-use Rattle.automata_hybrid.specs.Table.{IsValid, Rows}
-use Rattle.automata_hybrid.proofs.Reading.{end_room, end_step, read_after}
+use Rattle.automata_hybrid.proofs.Reading.{end_step, read_after}
 use Rattle.automata_hybrid.proofs.dfa.DFA.read.Goals as goal
 
 pub returns-in-None-clause-effect : goal.returns-in-None-clause-effect
@@ -14,8 +12,4 @@ pub returns-in-None-clause-step : goal.returns-in-None-clause-step
 returns-in-None-clause-step c =
     subst (λ u. IsReadStep c.args.self.now c.args.id u c.args.at c.args.cache.now.store c.read_end.new.cache.store c.read_end.result) (sym c.in-None.is)
     (end_step c.args.self.now c.args.id None c.args.at c.args.cache.now c.move_search.new.self c.read_end.new.cache c.move_search.ensures.value c.read_end.result
-    c.read_end.ensures.taken c.read_end.ensures.kept
-    (IfErr-weaker c.read_end.result _ _
-    (λ error refused. end_room c.args.self.now c.args.id c.args.at c.args.at c.move_search.new.self c.read_end.new.cache error
-    (subst (λ (t : Rows). IsValid t c.args.id) (sym c.move_search.ensures.table) c.requires.valid) refused)
-    c.read_end.ensures.refusal))
+    c.read_end.ensures.taken c.read_end.ensures.kept refl)

@@ -62,4 +62,4 @@ returns-then-is_quit-clause-step c =
     c.see_ids-2.ensures.small (λ p. c.see_ids-2.ensures.low c.in_ok-next.next p) (c.if-is_quit.ensures.0 refl) c.in_ok-next.ensures.answer.named
     (subst (λ (t : Rows). Names t c.args.id c.requires.valid.0) (sym c.move_search.ensures.table) c.requires.valid.1) in
     quit_step c.args.self.now c.args.id (Some c.args.byte) c.args.at c.args.cache.now c.move_search.new.self c.step_met.new.cache c.move_search.ensures.value c.quit.result c.end_search.new.self
-    (c.args.byte, refl, on) on c.in_ok-next.ensures.effect c.end_search.ensures.value
+    on c.in_ok-next.ensures.effect c.end_search.ensures.value

@@ -28,5 +28,5 @@ returns-clause-effect c =
     (λ n taken. taken_here d c.args.self.now c.args.input.now c.args.place c.args.id c.span_offset-at.result c.unit_at.result c.args.cache.now.store c.requires.at.named (sym c.unit_at.ensures) (sym c.span_offset-at.ensures) c.read.new.cache.store n taken)
     c.read.ensures.step.taken)
     (IfErr-weaker c.read.result _ _
-    (λ e left. refused_here d c.args.self.now c.args.input.now c.args.place c.args.id c.span_offset-at.result c.unit_at.result c.args.cache.now.store c.requires.at.named (sym c.unit_at.ensures) (sym c.span_offset-at.ensures) c.read.new.cache.store e left)
+    (λ e left. refused_here d c.args.self.now c.args.input.now c.args.place c.args.id c.span_offset-at.result c.unit_at.result c.args.cache.now.store c.requires.at.named (sym c.unit_at.ensures) (sym c.span_offset-at.ensures) c.read.new.cache.store left)
     c.read.ensures.step.left)
