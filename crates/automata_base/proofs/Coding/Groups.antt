@@ -9,7 +9,7 @@ use Rattle.std.proofs.lemmas.Bool.{cond-true, cond-false, lt-ltb, le-ltb, ltb-tr
 use Rattle.std.proofs.lemmas.Bool.Decides.{nat_tests}
 use Rattle.std.proofs.lemmas.Nat.{from_le_bytes-to_le_bytes_4}
 use Rattle.automata_base.specs.Powerset.{IsId}
-use Rattle.automata_base.specs.Code.{FitsGroups, IsFront, AreIds, groups, varint, numbers, with_low, difference, id_at, ids_code, ids_of, four_bytes, numbers_at}
+use Rattle.automata_base.specs.Code.{FitsGroups, IsFront, AreIds, groups, varint, numbers, with_low, difference, id_at, ids_code, ids_of, four_bytes, numbers_at, bit}
 
 pub groups-more : (k n : ℕ) → FitsGroups k n → groups k n ≡ groups (suc k) n
 unfolding groups
@@ -91,6 +91,37 @@ pub length-ids_code : (before : ℕ) (ids : List ℕ) → length (ids_code befor
 unfolding ids_code
 length-ids_code before [] = omega arith
 length-ids_code before (id ∷ ids) = omega (arith, length-append (varint (difference before id)) (ids_code id ids), length-groups 4 (difference before id), length-ids_code id ids)
+
+length-with_low : (low : ℕ) (ns : List ℕ) → length (with_low low ns) ≡ length ns
+length-with_low low [] = refl
+length-with_low low (n ∷ ns) = refl
+
+length-numbers : (b : ℕ) (bytes : List ℕ) → length (numbers (b ∷ bytes)) ≡ bit (nat_lt b 128) + length (numbers bytes)
+unfolding numbers
+length-numbers b bytes =
+    cond_both (nat_lt b 128) (b ∷ numbers bytes) (with_low (b - 128) (numbers bytes)) (λ x. length x ≡ bit (nat_lt b 128) + length (numbers bytes))
+    (λ e. let one : bit (nat_lt b 128) ≡ 1 = ap bit e in omega (arith, one))
+    (λ e. let none : bit (nat_lt b 128) ≡ 0 = ap bit e in omega (arith, none, length-with_low (b - 128) (numbers bytes)))
+
+-- the numbers from an index on, where those before it are counted
+pub counted-next : (bytes : List ℕ) (i count one all : ℕ) → i < length bytes → one ≡ bit (nat_lt (get_or bytes i 0) 128)
+    → count + length (numbers (drop i bytes)) ≡ all → (count + one) + length (numbers (drop (i + 1) bytes)) ≡ all
+counted-next bytes i count one all l e p =
+    let step : length (numbers (drop i bytes)) ≡ bit (nat_lt (get_or bytes i 0) 128) + length (numbers (drop (suc i) bytes)) =
+    ap (λ x. length (numbers x)) (drop-cons bytes i 0 l) ∙ length-numbers (get_or bytes i 0) (drop (suc i) bytes) in
+    let next : length (numbers (drop (i + 1) bytes)) ≡ length (numbers (drop (suc i) bytes)) = ap (λ n. length (numbers (drop n bytes))) (add-one i) in
+    omega (arith, e, p, step, next)
+
+pub counted-all : (bytes : List ℕ) (i count all : ℕ) → length bytes ≤ i → count + length (numbers (drop i bytes)) ≡ all → count ≡ all
+unfolding numbers
+counted-all bytes i count all l p =
+    let none : length (numbers (drop i bytes)) ≡ 0 = ap (λ x. length (numbers x)) (drop_all i bytes l) in
+    omega (arith, p, none)
+
+pub length-ids_of : (before : ℕ) (zs : List ℕ) → length (ids_of before zs) ≡ length zs
+unfolding ids_of
+length-ids_of before [] = refl
+length-ids_of before (z ∷ zs) = ap suc (length-ids_of (id_at before z) zs)
 
 -- ---- reading
 

@@ -1,5 +1,5 @@
 -- The steps of the walk over a stack with fixed room.
-use Rattle.std.proofs.Common.{◌≡◌, ◌<◌, ◌≤◌, ◌+◌, ◌⊎◌, ℕ, zero, suc, List, [], ◌∷◌, ◌++◌, length, get_or, take, refl, sym, ap, ◌∙◌, subst, inl, inr, arith, length-append, reverse, append_assoc}
+use Rattle.std.proofs.Common.{◌≡◌, ◌<◌, ◌≤◌, ◌+◌, ◌⊎◌, Bool, true, false, ℕ, zero, suc, List, [], ◌∷◌, ◌++◌, length, get_or, take, refl, sym, ap, ◌∙◌, subst, inl, inr, arith, length-append, reverse, append_assoc}
 use Rattle.std.specs.Prelude.{Contains, sum_by, slice_index_or}
 use Rattle.std.proofs.lemmas.Bool.{cond_both}
 use Rattle.std.proofs.lemmas.List.{take_all, reverse-append, length-reverse}
@@ -162,6 +162,16 @@ pub old_step : (a : Automaton) (looks : ℕ) (old : List ℕ) (start : ℕ) (ord
 old_step a looks old start order order' stack q had same w =
     let P : List ℕ → Type 0 = λ o. Walking a looks old start o stack × (work a o stack < work a order (q ∷ stack)) in
     subst P (sym same) (walk_skips a looks old start order stack q had w, work_skips a order stack q)
+
+-- a state without epsilon edges: the set has it, and nothing is left
+pub leaf_step : (a : Automaton) (looks : ℕ) (old : List ℕ) (start : ℕ) (after : List ℕ) (state : State) (added : Bool) →
+    IsDoor a → state ≡ get_or a.states start state → children_at (node_of state) (truth_of looks) ≡ [] → start < length a.states →
+    (added ≡ true → Contains old start → ⊥) → (added ≡ true → after ≡ old ++ start ∷ []) →
+    (added ≡ false → Contains old start) → (added ≡ false → after ≡ old) → Walking a looks old start after []
+leaf_step a looks old start after state true door is leaf below new grown had same =
+    (new_step a looks old start old after [] [] start state door is (new refl) (grown refl) (ap (λ z. z ++ []) (sym leaf)) (walk_begins a looks old start below)).0
+leaf_step a looks old start after state false door is leaf below new grown had same =
+    (old_step a looks old start old after [] start (had refl) (same refl) (walk_begins a looks old start below)).0
 
 -- the children of a new state find room
 pub step_room : (a : Automaton) (looks : ℕ) (old : List ℕ) (start : ℕ) (order items : List ℕ) (q : ℕ) (state : State) → state ≡ get_or a.states q state → (Contains order q → ⊥) →

@@ -33,7 +33,7 @@ pub fn cost(state: &State) -> usize
     requires { cost state.now < 2 ^ 64 }
     ensures { result ≡ cost state.now }
 {
-    HEAD_COST + PATTERN_COST * state.match_len() + ID_COST * state.nfa().count()
+    HEAD_COST + PATTERN_COST * state.match_len() + ID_COST * state.nfa_len()
 }
 
 /// Whether nothing can match after a state.

@@ -1,5 +1,6 @@
 ghost use Rattle.std.specs.Prelude.{◌≡◌, ◌+◌, ◌<◌, ◌≤◌, ◌∷◌, ◌++◌, List, ℕ, length, reverse, All, vec_len};
-ghost use Rattle.std.specs.Prelude.{vec_capacity, option_to_list};
+ghost use Rattle.std.specs.Prelude.{vec_capacity, option_to_list, IsTrue, []};
+ghost use Rattle.automata_base.specs.Nfa.{Truth};
 ghost use Rattle.automata_base.specs.Paths.{IsClosure};
 ghost use Rattle.automata_base.specs.Visits.{children_at, IsUnderWay};
 ghost use Rattle.automata_base.specs.Nodes.{node_of, nfa_of};
@@ -59,9 +60,25 @@ fn expand(state: &State, looks: LookSet, stack: &mut Vec<StateID>) -> Option<Sta
     }
 }
 
-/// Adds what epsilon edges reach from `start` to the set. The stack's room is made beforehand, so the call takes no
-/// memory.
-pub fn close_one(
+// Whether no epsilon edge leaves the state.
+fn is_leaf(state: &State) -> bool
+    ensures { IsTrue result → (truth : Truth) → children_at (node_of state.now) truth ≡ [] }
+{
+    match state {
+        State::ByteRange { .. } => true,
+        State::Sparse(_) => true,
+        State::Dense(_) => true,
+        State::Fail => true,
+        State::Match { .. } => true,
+        State::Look { .. } => false,
+        State::Union { .. } => false,
+        State::BinaryUnion { .. } => false,
+        State::Capture { .. } => false,
+    }
+}
+
+// Adds what epsilon edges reach from `start` to the set, by the stack.
+fn close_from(
     nfa: &NFA,
     start: StateID,
     looks: LookSet,
@@ -88,6 +105,30 @@ pub fn close_one(
             None => break,
         }
     }
+}
+
+/// Adds what epsilon edges reach from `start` to the set. The stack's room is made beforehand, so the call takes no
+/// memory. Most states have no such edge, and need no stack.
+#[inline(always)]
+pub fn close_one(
+    nfa: &NFA,
+    start: StateID,
+    looks: LookSet,
+    stack: &mut Vec<StateID>,
+    set: &mut SparseSet,
+)
+    requires start { start < length nfa.now.states }
+    requires room { IsClosureRoom nfa.now stack.old set.old }
+    ensures way { (roots tail : List ℕ)
+        → IsUnderWay (nfa_of nfa.now) (truth_of looks) roots (start ∷ tail) set.old.items
+        → IsUnderWay (nfa_of nfa.now) (truth_of looks) roots tail set.new.items }
+    ensures room { IsClosureRoom nfa.now stack.new set.new }
+{
+    if is_leaf(nfa.state(start)) {
+        let _added = set.insert(start);
+        return;
+    }
+    close_from(nfa, start, looks, stack, set);
 }
 
 /// Makes the set what epsilon edges reach from the roots.

@@ -1,7 +1,7 @@
 // Reading of coded bytes.
 ghost use Rattle.std.specs.Prelude.{◌≡◌, ◌+◌, ◌<◌, ◌≤◌, ◌^◌, ℕ, List, length};
-ghost use Rattle.std.specs.Prelude.{slice_index, OnOk};
-ghost use Rattle.automata_base.specs.Code.{IsFront, IsCode, number_at, id_at, is_set, patterns_of, ids_bytes};
+ghost use Rattle.std.specs.Prelude.{slice_index, OnOk, nat_lt};
+ghost use Rattle.automata_base.specs.Code.{IsFront, IsCode, number_at, id_at, is_set, patterns_of, ids_bytes, numbers, bit};
 
 use crate::util::primitives::PatternID;
 use std::alloc::AllocError;
@@ -19,8 +19,8 @@ pub fn u32_at(bytes: &[u8], place: usize) -> u32
     ])
 }
 
-/// The number in groups at the front, and what comes after it.
-pub fn number_in(bytes: &[u8]) -> (u64, &[u8])
+/// The number in groups at the front, and what comes after it, group by group.
+fn groups_in(bytes: &[u8]) -> (u64, &[u8])
     requires { (n : ℕ) × (tail : List ℕ) × IsFront bytes.now n tail }
     ensures { (n : ℕ) (tail : List ℕ) → IsFront bytes.now n tail → (result.0 ≡ n) × (result.1.now ≡ tail) }
 {
@@ -30,10 +30,43 @@ pub fn number_in(bytes: &[u8]) -> (u64, &[u8])
             if *first < 128 {
                 return (u64::from(*first), rest);
             }
-            let (high, rest) = number_in(rest);
+            let (high, rest) = groups_in(rest);
             (u64::from(*first) - 128 + 128 * high, rest)
         }
     }
+}
+
+/// The number in groups at the front, and what comes after it. A number of one group is read in line.
+#[inline(always)]
+pub fn number_in(bytes: &[u8]) -> (u64, &[u8])
+    requires { (n : ℕ) × (tail : List ℕ) × IsFront bytes.now n tail }
+    ensures { (n : ℕ) (tail : List ℕ) → IsFront bytes.now n tail → (result.0 ≡ n) × (result.1.now ≡ tail) }
+{
+    if let [first, rest @ ..] = bytes {
+        if *first < 128 {
+            return (u64::from(*first), rest);
+        }
+    }
+    groups_in(bytes)
+}
+
+/// One for the last byte of a number, and none for another.
+fn last_count(byte: u8) -> usize
+    ensures value { result ≡ bit (nat_lt byte 128) }
+    ensures few { result ≤ 1 }
+{
+    if byte < 128 { 1 } else { 0 }
+}
+
+/// How many numbers in groups there are. Each has one last byte, by which it is counted.
+pub fn number_count(bytes: &[u8]) -> usize
+    ensures { result ≡ length (numbers bytes.now) }
+{
+    let mut count = 0usize;
+    for byte in bytes {
+        count += last_count(*byte);
+    }
+    count
 }
 
 /// The NFA state at a difference from the one before.

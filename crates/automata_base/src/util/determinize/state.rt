@@ -10,7 +10,9 @@ ghost use Rattle.automata_base.specs.Starts.{IsOf};
 use crate::nfa::thompson::NFA;
 use crate::util::determinize::ids::{Ids, are_below, read_ids};
 use crate::util::determinize::key::Key;
-use crate::util::determinize::read::{ids_in, pattern_at, pattern_count, read_patterns, u32_at};
+use crate::util::determinize::read::{
+    ids_in, number_count, pattern_at, pattern_count, read_patterns, u32_at,
+};
 use crate::util::determinize::valid::are_distinct;
 use crate::util::determinize::write::push_state;
 use crate::util::primitives::{PatternID, StateID, see_patterns};
@@ -166,6 +168,13 @@ impl State {
         ensures { result ≡ self.now.nfa }
     {
         Ids::new(ids_in(self.bytes.as_slice()))
+    }
+
+    /// How many NFA states there are. It does not read them.
+    pub fn nfa_len(&self) -> usize
+        ensures { result ≡ length self.now.nfa }
+    {
+        number_count(ids_in(self.bytes.as_slice()))
     }
 
     /// How many patterns there are.

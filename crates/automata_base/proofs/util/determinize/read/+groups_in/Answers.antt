@@ -1,6 +1,6 @@
 use Rattle.std.proofs.Common.{rules, arith, ◌<◌, ◌^◌, ◌/◌, ◌∙◌, get_or}
 use Rattle.automata_base.proofs.Coding.Groups.{split_bytes, front_last_of, front_more_of, front_none}
-use Rattle.automata_base.proofs.util.determinize.read.+number_in.Goals as goal
+use Rattle.automata_base.proofs.util.determinize.read.+groups_in.Goals as goal
 
 pub returns-then-first-lt128 : goal.returns-then-first-lt128
 returns-then-first-lt128 t c = λ n tail f.
@@ -8,8 +8,8 @@ returns-then-first-lt128 t c = λ n tail f.
     let r = front_last_of c.args.bytes.now (get_or c.args.bytes.now 0 0) n _ tail e f c.if-first-lt128.true in
     (c.from.ensures ∙ r.0, r.1)
 
-pub number_in-high-requires : goal.number_in-high-requires
-number_in-high-requires t c =
+pub groups_in-high-requires : goal.groups_in-high-requires
+groups_in-high-requires t c =
     let e = split_bytes c.args.bytes.now c.in-len1-up.len_at_least in
     let r = front_more_of c.args.bytes.now (get_or c.args.bytes.now 0 0) c.requires.0 _ c.requires.1 e c.requires.2 c.if-first-lt128.false in
     (search rules, (c.requires.0 / 128, c.requires.1, r.0))
@@ -18,7 +18,7 @@ pub overflow_mul-result : goal.overflow_mul-result
 overflow_mul-result t c =
     let e = split_bytes c.args.bytes.now c.in-len1-up.len_at_least in
     let r = front_more_of c.args.bytes.now (get_or c.args.bytes.now 0 0) c.requires.0 _ c.requires.1 e c.requires.2 c.if-first-lt128.false in
-    let h = c.number_in-high.ensures (c.requires.0 / 128) c.requires.1 r.0 in
+    let h = c.groups_in-high.ensures (c.requires.0 / 128) c.requires.1 r.0 in
     let b : c.requires.0 < 2 ^ 35 = c.requires.2.1 in
     omega (arith, h.0)
 
@@ -26,7 +26,7 @@ pub overflow_add-result : goal.overflow_add-result
 overflow_add-result t c =
     let e = split_bytes c.args.bytes.now c.in-len1-up.len_at_least in
     let r = front_more_of c.args.bytes.now (get_or c.args.bytes.now 0 0) c.requires.0 _ c.requires.1 e c.requires.2 c.if-first-lt128.false in
-    let h = c.number_in-high.ensures (c.requires.0 / 128) c.requires.1 r.0 in
+    let h = c.groups_in-high.ensures (c.requires.0 / 128) c.requires.1 r.0 in
     let b : c.requires.0 < 2 ^ 35 = c.requires.2.1 in
     omega (arith, h.0, c.from-in-len1-up.ensures, r.1)
 
@@ -37,5 +37,5 @@ pub returns-else-first-lt128 : goal.returns-else-first-lt128
 returns-else-first-lt128 t c = λ n tail f.
     let e = split_bytes c.args.bytes.now c.in-len1-up.len_at_least in
     let r = front_more_of c.args.bytes.now (get_or c.args.bytes.now 0 0) n _ tail e f c.if-first-lt128.false in
-    let h = c.number_in-high.ensures (n / 128) tail r.0 in
+    let h = c.groups_in-high.ensures (n / 128) tail r.0 in
     (omega (arith, h.0, c.from-in-len1-up.ensures, r.1), h.1)

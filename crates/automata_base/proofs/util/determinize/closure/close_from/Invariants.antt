@@ -1,6 +1,6 @@
 use Rattle.std.proofs.Common.{◌≡◌, ◌≤◌, ◌∷◌, length, reverse, vec_capacity}
 use Rattle.automata_base.proofs.Determinizing.Walking.{Walking, work}
-use Rattle.automata_base.proofs.util.determinize.closure.close_one.Given as goal
+use Rattle.automata_base.proofs.util.determinize.closure.close_from.Given as goal
 
 abbrev pub invariant-visit : goal.invariant-visit
 invariant-visit l =
