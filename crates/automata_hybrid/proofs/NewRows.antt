@@ -1,4 +1,4 @@
-use Rattle.std.proofs.Common.{◌≡◌, ℕ, ◌+◌, ◌^◌, List, length, Bool, true, false, cond, set, replicate, refl, sym, ap, ◌∙◌, add-one, length-set}
+use Rattle.std.proofs.Common.{◌≡◌, ℕ, zero, suc, arith, ◌<◌, ◌+◌, ◌^◌, List, length, Bool, true, false, cond, set, replicate, refl, sym, ap, ◌∙◌, add-one, length-set}
 use Rattle.automata_base.specs.Classes.{class_in, is_quit}
 use Rattle.automata_hybrid.specs.Ids.{quit_id}
 use Rattle.automata_hybrid.specs.Machine.{marked}
@@ -19,3 +19,11 @@ marked-step classes quits stride byte before after class quit quits_at was at cl
 pub length-cond : (xs ys : List ℕ) (class quit : ℕ) (b : Bool) → ys ≡ cond b (set xs class quit) xs → length ys ≡ length xs
 length-cond xs ys class quit true e = ap length e ∙ length-set xs class quit
 length-cond xs ys class quit false e = ap length e
+
+-- where no byte is a quit byte
+pub marked-none : (classes : List ℕ) (quits : List Bool) (stride bytes : ℕ) → ((b : ℕ) → b < bytes → is_quit quits b ≡ false) → marked classes quits stride bytes ≡ replicate stride (2 ^ 31)
+unfolding marked
+marked-none classes quits stride zero none = refl
+marked-none classes quits stride (suc byte) none =
+    ap (λ z. cond z (set (marked classes quits stride byte) (class_in classes byte) (quit_id stride)) (marked classes quits stride byte)) (none byte (omega arith))
+    ∙ marked-none classes quits stride byte (λ b l. none b (omega arith))

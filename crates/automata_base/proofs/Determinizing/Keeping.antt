@@ -4,10 +4,10 @@ use Rattle.std.proofs.lemmas.List.{at_drop_more, take_more, drop_all, take_all}
 use Rattle.std.proofs.lemmas.Nat.Bits.{bit_at-zero}
 use Rattle.automata_base.specs.Lists.{In, pick, cons_some}
 use Rattle.automata_base.specs.Looks.{Look}
-use Rattle.automata_base.specs.Nfa.{Nfa, Node, Split, Assert, Read, Accept, node, keep, stays_at, accepts}
+use Rattle.automata_base.specs.Nfa.{Nfa, Node, Split, Assert, Read, Accept, node, keep, stays_at, accepts, accepts_at, takes, takes_at}
 use Rattle.automata_base.specs.Computed.{looks_at, any_state, is_in}
 use Rattle.automata_base.specs.Looks.{look_index}
-use Rattle.automata_base.specs.Cuts.{cut, cut_behind}
+use Rattle.automata_base.specs.Cuts.{cut, cut_behind, targets}
 use Rattle.automata_base.specs.Truths.{truth_of}
 use Rattle.automata_base.proofs.Determinizing.Distinct.{In-get_or, In-either, distinct_append, distinct_below}
 use Rattle.automata_base.specs.Once.{once_from, Distinct}
@@ -132,6 +132,32 @@ pub cut_picks_done :
     (n : Nfa) (xs : List ℕ) (i : ℕ) → length xs ≤ i
     → pick (accepts n) (cut n xs) ≡ pick (accepts n) (cut n (drop i xs)) → pick (accepts n) (cut n xs) ≡ []
 cut_picks_done n xs i l h = h ∙ ap (λ z. pick (accepts n) (cut n z)) (drop_all i xs l)
+
+-- The targets of what counts are, as long as no match state came, the next state's and those of the rest, and none then.
+pub cut_targets_next :
+    (n : Nfa) (xs : List ℕ) (u i x : ℕ) → i < length xs → x ≡ get_or xs i x → accepts n x ≡ None
+    → targets n (Some u) (cut n (drop i xs)) ≡ cons_some (takes n x u) (targets n (Some u) (cut n (drop (i + 1) xs)))
+cut_targets_next n xs u i x l e none =
+    ap (λ z. targets n (Some u) (cut n z)) (next_drop xs i x l e)
+    ∙ ap (λ z. targets n (Some u) (cut_behind z x (cut n (drop (i + 1) xs)))) none
+
+takes_none : (m : Node) (u p : ℕ) → accepts_at m ≡ Some p → takes_at m u ≡ None
+takes_none (Split alternates) u p e = refl
+takes_none (Assert look next) u p e = refl
+takes_none (Read ranges) u p e = absurd cc
+takes_none (Accept q) u p e = refl
+
+pub cut_targets_here :
+    (n : Nfa) (xs : List ℕ) (u i x p : ℕ) → i < length xs → x ≡ get_or xs i x → accepts n x ≡ Some p
+    → targets n (Some u) (cut n (drop i xs)) ≡ []
+cut_targets_here n xs u i x p l e some =
+    ap (λ z. targets n (Some u) (cut n z)) (next_drop xs i x l e)
+    ∙ (ap (λ z. targets n (Some u) (cut_behind z x (cut n (drop (i + 1) xs)))) some
+    ∙ ap (λ z. cons_some z []) (takes_none (node n x) u p some))
+
+pub cut_targets_done :
+    (n : Nfa) (xs : List ℕ) (u i : ℕ) → length xs ≤ i → targets n (Some u) (cut n (drop i xs)) ≡ []
+cut_targets_done n xs u i l = ap (λ z. targets n (Some u) (cut n z)) (drop_all i xs l)
 
 -- One pattern, or none, is a list in which no pattern stands twice.
 pub matched_one : (a : Automaton) (list : List ℕ) (p : ℕ) → p < length a.start_pattern

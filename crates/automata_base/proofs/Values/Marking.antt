@@ -1,10 +1,11 @@
 -- How marks before bytes add up.
-use Rattle.std.proofs.Common.{ℕ, ◌≡◌, ◌+◌, ◌<◌, ◌⊎◌, ◌&&◌, ◌||◌, Bool, true, false, eqb, ltb, List, drop, refl, sym, ap, ◌∙◌, inl, inr, arith}
+use Rattle.std.proofs.Common.{ℕ, ◌≡◌, ◌+◌, ◌-◌, ◌<◌, ◌⊎◌, ◌&&◌, ◌||◌, Bool, true, false, eqb, ltb, List, drop, refl, sym, ap, ◌∙◌, inl, inr, arith}
+use borrow.Author.Count.{below_more}
 use Rattle.std.proofs.lemmas.Bool.{lt-ltb, le-ltb}
 use Rattle.std.proofs.lemmas.Bool.Decides.{eqb_tells}
 use Rattle.std.proofs.lemmas.Grind.{common_steps}
-use Rattle.automata_base.specs.Classes.{bounds, look_bounds, states_bound, quits_bound, is_boundary}
-use Rattle.automata_base.specs.Looks.{Look, Start, End, StartLF, EndLF, StartCRLF, EndCRLF}
+use Rattle.automata_base.specs.Classes.{bounds, look_bounds, states_bound, quits_bound, is_boundary, is_quit}
+use Rattle.automata_base.specs.Looks.{differ, Look, Start, End, StartLF, EndLF, StartCRLF, EndCRLF}
 use Rattle.automata_base.specs.Marks.{is_marked, Adds}
 use Rattle.automata_base.specs.Nodes.{Automaton}
 
@@ -56,6 +57,26 @@ runs_next m n o f k is e x y = adds_both m n o (upto k f) (λ b. eqb b k && is) 
 -- A loop over a list whose items each have their bytes.
 abbrev pub Left : {X : Type 0} → (List X → ℕ → Bool) → List Bool → List Bool → List X → ℕ → Type 0
 Left G m n xs i = (b : ℕ) → b < 256 → (is_marked n b || G (drop i xs) b) ≡ (is_marked m b || G xs b)
+
+-- No byte is a quit byte.
+or_none : (a b : Bool) → a || b ≡ false → (a ≡ false) × (b ≡ false)
+or_none true b e = absurd cc
+or_none false b e = (refl, e)
+
+pub none_next :
+    (quits : List Bool) (k : ℕ) (any at now : Bool) → at ≡ is_quit quits k → now ≡ any || at
+    → (any ≡ false → (b : ℕ) → b < k → is_quit quits b ≡ false) → now ≡ false → (b : ℕ) → b < k + 1 → is_quit quits b ≡ false
+none_next quits k any at now is sum before none b l =
+    let o = or_none any at (sym sum ∙ none) in
+    below_more (λ i. is_quit quits i ≡ false) k (λ i j. before o.0 i j) (sym is ∙ o.1) b l
+
+pub adds_no_quits :
+    (m : List Bool) (quits : List Bool) → ((b : ℕ) → b < 256 → is_quit quits b ≡ false) → Adds m m (quits_bound quits)
+adds_no_quits m quits none = record {
+  marks = λ b l.
+      let bound : quits_bound quits b ≡ false = ap (λ z. differ z (is_quit quits (b - 1))) (none b l) ∙ none (b - 1) (omega arith) in
+      sym (ap (λ z. is_marked m b || z) bound ∙ or-false (is_marked m b));
+}
 
 -- Looks and states.
 pub word_bounds :

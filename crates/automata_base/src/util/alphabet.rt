@@ -1,6 +1,6 @@
-ghost use Rattle.std.specs.Prelude.{◌≡◌, ◌+◌, ◌-◌, ◌<◌, ◌≤◌, ◌&&◌, ℕ, false, eqb, length};
+ghost use Rattle.std.specs.Prelude.{◌≡◌, ◌+◌, ◌-◌, ◌<◌, ◌≤◌, ◌&&◌, ◌||◌, ℕ, false, eqb, length, IsFalse};
 ghost use Rattle.automata_base.specs.Classes.{bounds, transitions_bound, targets_bound, quits_bound, look_bounds};
-ghost use Rattle.automata_base.specs.Classes.{state_bounds, states_bound, is_boundary, boundary_count, class_in};
+ghost use Rattle.automata_base.specs.Classes.{state_bounds, states_bound, is_boundary, boundary_count, class_in, is_quit};
 ghost use Rattle.automata_base.specs.Marks.{is_marked, Adds};
 
 use crate::nfa::thompson::{NFA, State, Transition};
@@ -173,9 +173,29 @@ fn are_quits_apart(quits: &[bool; 256], byte: usize) -> bool
     quits[byte] != quits[byte - 1]
 }
 
+fn either(a: bool, b: bool) -> bool
+    ensures { result ≡ (a || b) }
+{
+    a || b
+}
+
+/// Whether some byte is a quit byte. It does not stop at the first, so that many bytes are looked at at once.
+pub fn has_quit(quits: &[bool; 256]) -> bool
+    ensures { IsFalse result → (byte : ℕ) → byte < 256 → is_quit quits.now byte ≡ false }
+{
+    let mut any = false;
+    for byte in 0..256usize {
+        any = either(any, quits[byte]);
+    }
+    any
+}
+
 fn mark_quits(marks: &mut [bool; 257], quits: &[bool; 256])
     ensures { Adds marks.old marks.new (quits_bound quits.now) }
 {
+    if !has_quit(quits) {
+        return;
+    }
     for byte in 1..256 {
         mark_if(marks, byte, are_quits_apart(quits, byte));
     }

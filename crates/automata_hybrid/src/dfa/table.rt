@@ -14,7 +14,7 @@ ghost use Rattle.automata_hybrid.specs.Clears.{AllStarts};
 use crate::dfa::row::Row;
 use crate::dfa::{DFA, row};
 use crate::id::LazyStateID;
-use automata_base::util::alphabet::ByteClasses;
+use automata_base::util::alphabet::{ByteClasses, has_quit};
 use automata_base::util::determinize::{Key, State};
 use std::alloc::{AllocError, AllocFailed, Global};
 use std::collections::HashMap;
@@ -303,9 +303,12 @@ pub fn new_row(
     requires stride { stride ≤ 512 }
     ensures { IfOk result (λ v. v.items ≡ marked classes.now quits.now stride 256) }
 {
-    let quit = LazyStateID::quit(stride as u32);
     let mut cells = Vec::new(alloc);
     cells.resize(stride, LazyStateID::UNKNOWN)?;
+    if !has_quit(quits) {
+        return Ok(cells);
+    }
+    let quit = LazyStateID::quit(stride as u32);
     for byte in 0..256usize {
         let class = classes.get(byte as u8);
         mark(&mut cells, usize::from(class), quit, quits[byte]);

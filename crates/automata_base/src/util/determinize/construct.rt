@@ -1,7 +1,7 @@
 ghost use Rattle.std.specs.Prelude.{◌≡◌, ◌<◌, ◌≤◌, [], ◌∷◌, List, ℕ, length, true, false, IsTrue, IsFalse};
-ghost use Rattle.std.specs.Prelude.{Option, Some, None, ◌&&◌};
+ghost use Rattle.std.specs.Prelude.{Option, Some, None, ◌&&◌, vec_capacity};
 ghost use Rattle.automata_base.specs.Computed.{known_looks, any_node, is_full};
-ghost use Rattle.automata_base.specs.Cuts.{cut_for, targets};
+ghost use Rattle.automata_base.specs.Cuts.{cut, cut_for, targets};
 ghost use Rattle.automata_base.specs.Door.{IsDoor};
 ghost use Rattle.automata_base.specs.Lists.{In, cons_some};
 ghost use Rattle.automata_base.specs.Looks.{Look};
@@ -17,16 +17,16 @@ ghost use Rattle.automata_base.specs.Truths.{truth_of};
 ghost use Rattle.automata_base.specs.Visits.{IsUnderWay};
 
 use crate::nfa::thompson::NFA;
-use crate::nfa::thompson::reading::target;
+use crate::nfa::thompson::reading::{pattern_of, target};
 use crate::util::determinize::closure::{close, close_one};
 use crate::util::determinize::deciding::{
     first_of, has_news, is_unit, is_word_unit, known_behind, news,
 };
-use crate::util::determinize::lists::{cut_length, keep_states};
+use crate::util::determinize::lists::{cut_first, keep_states, read_patterns};
 use crate::util::determinize::sparse_set::SparseSet;
 use crate::util::determinize::state::{Parts, State};
 use crate::util::look::LookSet;
-use crate::util::primitives::StateID;
+use crate::util::primitives::{PatternID, StateID};
 use crate::util::search::{Anchored, MatchKind};
 
 fn has_word(nfa: &NFA) -> bool
@@ -89,29 +89,6 @@ fn fill(nfa: &NFA, set: &SparseSet, known: LookSet, prev: Option<u8>, parts: &mu
         has_crlf(nfa),
         is_unit(first_of(nfa.flags().reverse), prev),
     );
-}
-
-/// The targets of the byte states of a list that take the unit: closed in order, made a powerset state.
-fn arrive(
-    nfa: &NFA,
-    list: &[StateID],
-    unit: Option<u8>,
-    stack: &mut Vec<StateID>,
-    set: &mut SparseSet,
-    parts: &mut Parts,
-)
-    requires below { (q : ℕ) → In q list.now → q < length nfa.now.states }
-    requires room { IsClosureRoom nfa.now stack.old set.old }
-    requires parts { IsPartsRoom nfa.now parts.old }
-    ensures made { IsClosureMade nfa.now parts.old.patterns.items (targets (nfa_of nfa.now) unit list.now) unit
-        (powerset_of parts.new) }
-    ensures room { IsClosureRoom nfa.now stack.new set.new }
-    ensures parts { IsPartsRoom nfa.now parts.new }
-{
-    let known = known_behind(nfa, unit);
-    set.clear();
-    close_unit(nfa, list, unit, known, stack, set);
-    fill(nfa, set, known, unit, parts);
 }
 
 fn close_unit(
@@ -244,6 +221,76 @@ pub fn start_into(
     }
 }
 
+// Reads a list up to its first match state: closes the targets of the byte states that take the byte. The pattern is
+// that of the match state.
+fn read_first(
+    nfa: &NFA,
+    list: &[StateID],
+    u: u8,
+    known: LookSet,
+    stack: &mut Vec<StateID>,
+    set: &mut SparseSet,
+    patterns: &mut Vec<PatternID>,
+)
+    requires below { (q : ℕ) → In q list.now → q < length nfa.now.states }
+    requires room { IsClosureRoom nfa.now stack.old set.old }
+    requires patterns { length nfa.now.start_pattern ≤ vec_capacity patterns.old }
+    requires fresh { set.old.items ≡ [] }
+    ensures matched { AreMatched nfa.now (cut (nfa_of nfa.now) list.now) patterns.new.items }
+    ensures closure { IsClosure (nfa_of nfa.now) (truth_of known)
+        (targets (nfa_of nfa.now) (Some u) (cut (nfa_of nfa.now) list.now)) set.new.items }
+    ensures room { IsClosureRoom nfa.now stack.new set.new }
+    ensures patterns { vec_capacity patterns.old ≤ vec_capacity patterns.new }
+{
+    patterns.clear();
+    for i in 0..list.len() {
+        let state = nfa.state(list[i]);
+        match pattern_of(state) {
+            Some(pattern) => {
+                patterns.push(pattern).unwrap();
+                return;
+            }
+            None => {}
+        }
+        close_maybe(nfa, target(state, u), known, stack, set);
+    }
+}
+
+// Reads what of a list counts under the kind: its patterns, and the targets of the byte states that take the unit.
+fn read_list(
+    kind: MatchKind,
+    nfa: &NFA,
+    list: &[StateID],
+    unit: Option<u8>,
+    known: LookSet,
+    stack: &mut Vec<StateID>,
+    set: &mut SparseSet,
+    patterns: &mut Vec<PatternID>,
+)
+    requires below { (q : ℕ) → In q list.now → q < length nfa.now.states }
+    requires room { IsClosureRoom nfa.now stack.old set.old }
+    requires patterns { length nfa.now.start_pattern ≤ vec_capacity patterns.old }
+    requires fresh { set.old.items ≡ [] }
+    ensures matched { AreMatched nfa.now (cut_for kind (nfa_of nfa.now) list.now) patterns.new.items }
+    ensures closure { IsClosure (nfa_of nfa.now) (truth_of known)
+        (targets (nfa_of nfa.now) unit (cut_for kind (nfa_of nfa.now) list.now)) set.new.items }
+    ensures room { IsClosureRoom nfa.now stack.new set.new }
+    ensures patterns { vec_capacity patterns.old ≤ vec_capacity patterns.new }
+{
+    match kind {
+        MatchKind::All => {
+            read_patterns(nfa, list, patterns);
+            close_unit(nfa, list, unit, known, stack, set);
+        }
+        MatchKind::LeftmostFirst => match unit {
+            Some(u) => read_first(nfa, list, u, known, stack, set, patterns),
+            None => {
+                let _end = cut_first(nfa, list, patterns);
+            }
+        },
+    }
+}
+
 // What a list whose looks are decided leads to.
 fn advance(
     nfa: &NFA,
@@ -263,8 +310,19 @@ fn advance(
     ensures room { IsClosureRoom nfa.now stack.new set.new }
     ensures parts { IsPartsRoom nfa.now parts.new }
 {
-    let end = cut_length(nfa, kind, list, &mut parts.patterns);
-    arrive(nfa, &list[..end], unit, stack, set, parts);
+    let known = known_behind(nfa, unit);
+    set.clear();
+    read_list(
+        kind,
+        nfa,
+        list,
+        unit,
+        known,
+        stack,
+        set,
+        &mut parts.patterns,
+    );
+    fill(nfa, set, known, unit, parts);
 }
 
 /// The state that follows on a unit.

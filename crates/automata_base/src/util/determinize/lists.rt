@@ -4,7 +4,7 @@ ghost use Rattle.automata_base.specs.Lists.{In, pick};
 ghost use Rattle.automata_base.specs.Nfa.{keep};
 ghost use Rattle.automata_base.specs.Computed.{any_state};
 ghost use Rattle.automata_base.specs.Looks.{look_index};
-ghost use Rattle.automata_base.specs.Cuts.{cut_for, cut};
+ghost use Rattle.automata_base.specs.Cuts.{cut};
 ghost use Rattle.automata_base.specs.Made.{AreMatched};
 ghost use Rattle.automata_base.specs.Nodes.{nfa_of};
 ghost use Rattle.automata_base.specs.Truths.{truth_of};
@@ -16,7 +16,6 @@ use crate::nfa::thompson::NFA;
 use crate::nfa::thompson::reading::{add_look, pattern_of, stays};
 use crate::util::look::LookSet;
 use crate::util::primitives::{PatternID, StateID};
-use crate::util::search::MatchKind;
 
 fn push_if(kept: &mut Vec<StateID>, id: StateID, passes: bool)
     requires { vec_len kept.old < vec_capacity kept.old }
@@ -49,8 +48,8 @@ pub fn keep_states(nfa: &NFA, states: &[StateID], kept: &mut Vec<StateID>) -> Lo
     looks
 }
 
-// The patterns of the match states of a list, each once.
-fn read_patterns(nfa: &NFA, list: &[StateID], patterns: &mut Vec<PatternID>)
+/// The patterns of the match states of a list, each once.
+pub fn read_patterns(nfa: &NFA, list: &[StateID], patterns: &mut Vec<PatternID>)
     requires below { (q : ℕ) → In q list.now → q < length nfa.now.states }
     requires room { length nfa.now.start_pattern ≤ vec_capacity patterns.old }
     ensures matched { AreMatched nfa.now list.now patterns.new.items }
@@ -76,8 +75,8 @@ fn add_maybe(patterns: &mut Vec<PatternID>, pattern: Option<PatternID>)
     }
 }
 
-// How many states of a list stand up to the first match state, whose pattern is the one that matches.
-fn cut_first(nfa: &NFA, states: &[StateID], patterns: &mut Vec<PatternID>) -> usize
+/// How many states of a list stand up to the first match state, whose pattern is the one that matches.
+pub fn cut_first(nfa: &NFA, states: &[StateID], patterns: &mut Vec<PatternID>) -> usize
     requires below { (q : ℕ) → In q states.now → q < length nfa.now.states }
     requires room { length nfa.now.start_pattern ≤ vec_capacity patterns.old }
     ensures below { result ≤ length states.now }
@@ -96,29 +95,6 @@ fn cut_first(nfa: &NFA, states: &[StateID], patterns: &mut Vec<PatternID>) -> us
         }
     }
     states.len()
-}
-
-/// How many states of a list count under the kind. The patterns are those that these match.
-pub fn cut_length(
-    nfa: &NFA,
-    kind: MatchKind,
-    states: &[StateID],
-    patterns: &mut Vec<PatternID>,
-) -> usize
-    requires below { (q : ℕ) → In q states.now → q < length nfa.now.states }
-    requires room { length nfa.now.start_pattern ≤ vec_capacity patterns.old }
-    ensures below { result ≤ length states.now }
-    ensures cut { take result states.now ≡ cut_for kind (nfa_of nfa.now) states.now }
-    ensures matched { AreMatched nfa.now (cut_for kind (nfa_of nfa.now) states.now) patterns.new.items }
-    ensures room { vec_capacity patterns.old ≤ vec_capacity patterns.new }
-{
-    match kind {
-        MatchKind::All => {
-            read_patterns(nfa, states, patterns);
-            states.len()
-        }
-        MatchKind::LeftmostFirst => cut_first(nfa, states, patterns),
-    }
 }
 
 fn is_same(p: PatternID, q: PatternID) -> bool

@@ -44,6 +44,9 @@ impl Model for Scratch {
     ghost invariant = { IsScratch };
 }
 
+/// How many bytes of a key there is room for from the start.
+const KEY_ROOM: usize = 64;
+
 impl Scratch {
     /// Buffers for an NFA. The only error is out of memory.
     pub fn new(nfa: &NFA) -> Result<Scratch, AllocError>
@@ -72,7 +75,7 @@ impl Scratch {
             stack,
             list,
             parts,
-            bytes: Vec::new(alloc),
+            bytes: Vec::with_capacity(alloc, KEY_ROOM)?,
             count: Count::zero(),
         })
     }

@@ -1,8 +1,11 @@
 use Rattle.automata_base.specs.Classes.{quits_bound}
-use Rattle.automata_base.proofs.Values.Marking.{runs_next}
+use Rattle.automata_base.proofs.Values.Marking.{runs_next, adds_no_quits}
 use Rattle.automata_base.proofs.util.alphabet.mark_quits.Goals as goal
 
 pub loop-byte-preserved : goal.loop-byte-preserved
 loop-byte-preserved c =
     runs_next c.args.marks.now c.loop-byte.marks c.mark_if.new.marks (quits_bound c.args.quits.now) c.loop-byte.byte c.are_quits_apart.result
     c.are_quits_apart.ensures c.loop-byte.invariant c.mark_if.ensures
+
+pub returns-then-not-has_quit : goal.returns-then-not-has_quit
+returns-then-not-has_quit c = adds_no_quits c.args.marks.now c.args.quits.now (c.has_quit.ensures c.if-not-has_quit.true)

@@ -2,7 +2,7 @@ use Rattle.std.proofs.Common.{◌≡◌, ◌∙◌, ap, sym, length, refl, arith
 use Rattle.std.proofs.lemmas.List.{length-replicate}
 use Rattle.std.proofs.lemmas.Grind.{common_steps}
 use Rattle.automata_base.specs.Classes.{class_in}
-use Rattle.automata_hybrid.proofs.NewRows.{marked-zero, marked-step, length-cond}
+use Rattle.automata_hybrid.proofs.NewRows.{marked-zero, marked-step, marked-none, length-cond}
 use Rattle.automata_hybrid.proofs.dfa.table.new_row.Goals as goal
 
 pub loop-byte-init : goal.loop-byte-init
@@ -21,3 +21,8 @@ loop-byte-preserved c =
       marked = marked-step c.args.classes.now c.args.quits.now c.args.stride c.loop-byte.byte c.loop-byte.cells.items c.mark.new.cells.items c.from.result c.quit-quit.result _ i.marked refl class c.quit-quit.ensures c.mark.ensures;
       whole = length-cond c.loop-byte.cells.items c.mark.new.cells.items c.from.result c.quit-quit.result _ c.mark.ensures ∙ i.whole;
     }
+
+pub returns-then-not-has_quit : goal.returns-then-not-has_quit
+returns-then-not-has_quit c =
+    let cells : c.resize.new.self.items ≡ replicate c.args.stride (2 ^ 31) = grind (arith, common_steps) in
+    cells ∙ sym (marked-none c.args.classes.now c.args.quits.now c.args.stride 256 (c.has_quit.ensures c.if-not-has_quit.true))

@@ -1,0 +1,19 @@
+use Rattle.std.proofs.Common.{◌≡◌, ◌≤◌, [], drop, Some, vec_capacity}
+use Rattle.automata_base.specs.Cuts.{cut, targets}
+use Rattle.automata_base.specs.Lists.{pick}
+use Rattle.automata_base.specs.Nfa.{accepts}
+use Rattle.automata_base.specs.Nodes.{nfa_of}
+use Rattle.automata_base.specs.Rooms.{IsClosureRoom}
+use Rattle.automata_base.specs.Truths.{truth_of}
+use Rattle.automata_base.specs.Visits.{IsUnderWay}
+use Rattle.automata_base.proofs.util.determinize.construct.read_first.Given as goal
+
+abbrev pub invariant-loop-i : goal.invariant-loop-i
+invariant-loop-i l = record {
+  way : IsUnderWay (nfa_of l.nfa) (truth_of l.known) (targets (nfa_of l.nfa) (Some l.u) (cut (nfa_of l.nfa) l.list))
+      (targets (nfa_of l.nfa) (Some l.u) (cut (nfa_of l.nfa) (drop l.i l.list))) l.set.items;
+  room : IsClosureRoom l.nfa l.stack l.set;
+  picks : pick (accepts (nfa_of l.nfa)) (cut (nfa_of l.nfa) l.list) ≡ pick (accepts (nfa_of l.nfa)) (cut (nfa_of l.nfa) (drop l.i l.list));
+  none : l.patterns.items ≡ [];
+  capacity : vec_capacity l.fn.patterns ≤ vec_capacity l.patterns;
+}
