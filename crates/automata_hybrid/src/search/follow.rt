@@ -119,6 +119,9 @@ impl DFA {
         ensures met { IsMet (way_of way) self.now cache.now.store input.now result.at result.id result.next }
     {
         let last = last_place(input);
+        if last - start < 8 {
+            return self.follow_rest(cache, input, way, start, from, tag);
+        }
         let mut at = start;
         let mut id = from;
         let mut again = start;

@@ -35,8 +35,8 @@ eights-preserved-then-stop-at c =
 pub returns-then-eight-at-clause-run : goal.returns-then-eight-at-clause-run
 returns-then-eight-at-clause-run c = run_on c.eights.invariant.run c.follow_eight-eight.ensures.run
 
-pub follow_rest-requires-clause-at : goal.follow_rest-requires-clause-at
-follow_rest-requires-clause-at c = run_at c.requires.at.kind c.eights.invariant.run
+pub follow_rest-requires-2-clause-at : goal.follow_rest-requires-2-clause-at
+follow_rest-requires-2-clause-at c = run_at c.requires.at.kind c.eights.invariant.run
 
 pub returns-clause-run : goal.returns-clause-run
-returns-clause-run c = run_on c.eights.invariant.run c.follow_rest.ensures.run
+returns-clause-run c = run_on c.eights.invariant.run c.follow_rest-2.ensures.run
