@@ -94,7 +94,8 @@ pub record IsTagAt (way : Direction) (m : Machine) (t : Rows) (input : Input) (t
   pub only : HasOnly tag id
   pub named : Names t id (state_in way m input k)
 
--- known transitions led a pass so, between IDs that have this tag and no other: without a tag, none of them told anything
+-- known transitions led a pass so, between IDs that have this tag and no other: without a tag, none of them told
+-- anything
 pub record IsRun (way : Direction) (m : Machine) (c : Stored) (input : Input) (tag from to id : ℕ) : Type 0 where
   pub led : IsLed way m c input from to id
   pub quiet : tag ≡ 0 → IsFollowed way m c input from to id

@@ -17,8 +17,8 @@ use crate::id::LazyStateID;
 use crate::search::direction::{Way, byte_at, bytes_from, last_place};
 use automata_base::util::search::Input;
 
-/// How many bytes are followed before a self-loop is looked for again, where one was looked for in vain. That look reads
-/// up to eight cells, which is little beside so many bytes.
+/// How many bytes are followed before a self-loop is looked for again, where one was looked for in vain. That look
+/// reads up to eight cells, which is little beside so many bytes.
 const PATIENCE: usize = 256;
 
 /// Where cached transitions were followed to.
@@ -242,8 +242,8 @@ impl DFA {
         self.next_state_in_row(cache, id, id.less(tag), byte_at(input, way, place))
     }
 
-    /// A cached transition on the byte at a place leads on, and if it leads to an ID without a tag, tells nothing. It does
-    /// nothing.
+    /// A cached transition on the byte at a place leads on, and if it leads to an ID without a tag, tells nothing. This
+    /// does nothing.
     #[inline(always)]
     fn see_byte(&self, cache: &Cache, input: &Input<'_>, way: Way, place: usize, id: LazyStateID)
         requires of { IsCacheOf cache.now self.now }
