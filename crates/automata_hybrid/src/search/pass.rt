@@ -209,8 +209,10 @@ impl DFA {
         ensures answer { IfOk result (IsPassAnswer (way_of Way.Forward) self.now input.now) }
         ensures refusal { IfErr result (IsPassRefusal (way_of Way.Forward) self.now cache.new.store input.now) }
         ensures effect { IsRestEffect (way_of Way.Forward) self.now input.now 0 cache.old cache.new result }
-        ensures ended { OnOk result (EndsAtLast (way_of Way.Forward) self.now input.now cache.old.store cache.new.store) }
-        ensures left { IfErr result (IsStoppedAt (way_of Way.Forward) self.now input.now cache.old.store cache.new.store) }
+        ensures ended { OnOk result
+            (EndsAtLast (way_of Way.Forward) self.now input.now cache.old.store cache.new.store) }
+        ensures left { IfErr result
+            (IsStoppedAt (way_of Way.Forward) self.now input.now cache.old.store cache.new.store) }
     {
         self.find(cache, input, Way::Forward, start)
     }
@@ -228,8 +230,10 @@ impl DFA {
         ensures answer { IfOk result (IsPassAnswer (way_of Way.Backward) self.now input.now) }
         ensures refusal { IfErr result (IsPassRefusal (way_of Way.Backward) self.now cache.new.store input.now) }
         ensures effect { IsRestEffect (way_of Way.Backward) self.now input.now 0 cache.old cache.new result }
-        ensures ended { OnOk result (EndsAtLast (way_of Way.Backward) self.now input.now cache.old.store cache.new.store) }
-        ensures left { IfErr result (IsStoppedAt (way_of Way.Backward) self.now input.now cache.old.store cache.new.store) }
+        ensures ended { OnOk result
+            (EndsAtLast (way_of Way.Backward) self.now input.now cache.old.store cache.new.store) }
+        ensures left { IfErr result
+            (IsStoppedAt (way_of Way.Backward) self.now input.now cache.old.store cache.new.store) }
     {
         self.find(cache, input, Way::Backward, start)
     }
