@@ -5,7 +5,7 @@
 # have to be those that compare/model.py finds by following the paths of the NFA one by one. It prints how many replies
 # it compared, and the shortest script with a wrong one. Nothing is proved: the program runs under a sanitizer.
 set -eu
-scripts=${1:-10000}
+scripts=${1:-3000}
 seed=${2:-1}
 tools=$(cd "$(dirname "$0")" && pwd)
 copy=$(mktemp -d)
