@@ -1,4 +1,4 @@
--- A walk of kind all tells the patterns of the accepting paths.
+-- A walk of `MatchKind::All` reports the patterns of the accepting paths.
 use Rattle.std.proofs.Common.{ℕ, ◌≡◌, ◌<◌, ◌≤◌, ◌⊎◌, inl, inr, Bool, true, false, List, [], ◌∷◌, length, Some, refl, sym, ap, subst}
 use Rattle.std.specs.Prelude.{Ok, ◌↔◌}
 use Rattle.automata_base.specs.Answers.{HasPattern, IsInput, first_alone}

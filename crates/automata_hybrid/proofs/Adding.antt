@@ -67,7 +67,7 @@ next_fits old new from next q fits e kept named = record {
   of = ap (λ (s : Stored). s.table.of) e;
 }
 
--- a state stepped to that doesn't fit: the cache was cleared, and the row stepped from was put back
+-- a state stepped to that does not fit: the cache was cleared, and the row stepped from was put back
 pub next_clears :
     (old fresh between new : Stored) (from now next : ℕ) (q : Powerset)
     → (Fits old (cost q) → ⊥) → IsCleared old fresh
@@ -107,7 +107,7 @@ start_fits old new r id fits e named = record {
   of = ap (λ (s : Stored). s.table.of) e;
 }
 
--- a start state that doesn't fit: the cache was cleared
+-- a start state that does not fit: the cache was cleared
 pub start_clears :
     (old fresh new : Stored) (r : Row) (id : ℕ)
     → (Fits old (cost r.state) → ⊥) → IsCleared old fresh → new ≡ grown fresh r → Names new.table id r.state

@@ -1,4 +1,4 @@
--- A search finds one answer, and walks tell one list.
+-- A search finds one answer, and walks report one list.
 use Rattle.std.proofs.Common.{◌∙◌, List, sym, subst}
 use Rattle.automata_base.specs.Nodes.{Automaton}
 use Rattle.automata_base.specs.Selections.{Pair}

@@ -1,4 +1,4 @@
--- Where no quit byte is in reach, no clear limit is set and the mode is supported, a search is refused by memory alone.
+-- Where no quit byte is in reach, no clear limit is set and the mode is supported, a search fails by memory alone.
 use Rattle.std.proofs.Common.{ℕ, zero, suc, ◌≡◌, ◌∙◌, ◌≤◌, ◌+◌, ◌-◌, inl, inr, Bool, true, false, cond, length, Option, Some, None, refl, sym, ap, subst, arith}
 use Rattle.automata_base.specs.Answers.{later}
 use Rattle.automata_base.specs.Classes.{is_quit}
@@ -122,7 +122,7 @@ module _ (way : Direction) (m : Machine) (c : Stored) (input : Input) (k : ℕ) 
   pass_memory e (inl r) = start_memory _ _ e r
   pass_memory e (inr r) = step_memory r.0 _ _ _ e r.2.0 r.4
 
--- a search that no named cause forbids is refused by want of memory alone
+-- a search that no named cause forbids fails by out of memory alone
 pub refused_memory :
     (way : Direction) (m : Machine) (c : Stored) (input : Input) (e : SearchError)
     → input.end ≤ length input.haystack → c.table.of ≡ m → NoQuitInReach m input → supports m input.anchored ≡ true

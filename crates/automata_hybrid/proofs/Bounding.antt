@@ -142,7 +142,7 @@ IsCache-start c settings slot id i leads within =
           (λ (ne : k ≡ slot → ⊥). i.named k x (slice_get-get_or c.starts k 0 inside ∙ ap Some (sym (get_or-set_other c.starts slot k id 0 ne) ∙ read)))
           (cases_eq k slot)
 
--- what leads to a state is known
+-- what leads to a state is cached
 pub Leads-known : (t : Rows) (id : ℕ) (q : Powerset) → ((n : ℕ) (p : Powerset) → Names t n p → n < 2 ^ 29) → table_stride t.of ≤ 512 → Leads t id q → id < 2 ^ 31
 Leads-known t id q low small (inl (e, d)) = omega (arith, e, small)
 Leads-known t id q low small (inr h) = omega (arith, low id q h)

@@ -62,7 +62,7 @@ later_none Forward input =
 later_none Backward input =
     let same : input.end - 0 ≡ input.end = omega arith in ap (λ n. record input { end = n }) same
 
--- a pass that determinised so often, and grew the cache, has cleared nothing where there was room
+-- a pass that determinized so often, and grew the cache, has cleared nothing where there was room
 pub cost_of_pass :
     (way : Direction) (m : Machine) (input : Input) (old new : CacheView)
     → IsGrown old new → new.count ≤ old.count + (input.end - input.start + 2)
@@ -74,7 +74,7 @@ cost_of_pass way m input old new grown counted started = record {
   room = λ room. clears_none old new (input.end - input.start + 2) grown counted room;
 }
 
--- how often so many passes of a search determinised, and how often where their starts were known
+-- how often so many passes of a search determinized, and how often where their starts were cached
 pub record AreCounted (way : Direction) (m : Machine) (input : Input) (passes : ℕ) (old new : CacheView) : Type 0 where
   pub each : AreCostsInTurn way m input passes old new
   pub most : new.count ≤ old.count + passes_most passes (input.end - input.start)
@@ -150,7 +150,7 @@ module _ (way : Direction) (m : Machine) (input : Input) (old new : CacheView) w
       second (inl e) = omega (arith, e)
       second (inr free) = whole free
 
-  -- whose start, where it is known, isn't determinised again
+  -- whose start, where it is cached, is not determinized again
   pub cost_known :
       IsCostOfSearch way m input old new → (Skips m × (input.anchored ≡ No) → ⊥) → KnowsItsStart way m old.store input
       → new.count ≤ old.count + (input.end - input.start + 1)

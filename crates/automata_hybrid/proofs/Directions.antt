@@ -143,7 +143,7 @@ pub span_high :
 span_high Forward input k s l = omega (arith, s, l)
 span_high Backward input k s l = omega (arith, s)
 
--- a place before the last one isn't the end of a pass back
+-- a place before the last one is not the end of a pass back
 pub not_behind :
     (way : Direction) (input : Input) (k : ℕ) → k < input.end - input.start
     → input.end - input.start ≡ length (tape_in way input).bytes → IsBehindEnd way input k → ⊥

@@ -27,7 +27,7 @@ one_id t a b q f g = some_id a b (sym f ∙ g)
 pub counts_up : (n m : ℕ) → m ≡ saturated (n + 1) → m ≡ n → n < 2 ^ 64 - 1 → ⊥
 counts_up n m e same l = omega (arith, e, same, l)
 
--- a cell that wasn't known is written
+-- a cell that was not cached is written
 Keeps-next : (old : Stored) (id class next : ℕ) → (IsKnownTransition old id class → ⊥) → Keeps old (with_next old id class next)
 Keeps-next old id class next free = record {
   rows = λ i q h. h;
@@ -35,7 +35,7 @@ Keeps-next old id class next free = record {
   cells = λ i d v l k. get_or-set_other old.table.cells (cell_at id class) (cell_at i d) next 0 (λ e. free (subst (λ n. get_or old.table.cells n 0 < 2 ^ 31) e k));
 }
 
--- a start that wasn't known is written
+-- a start state that was not cached is written
 Keeps-start : (old : Stored) (slot id : ℕ) → (IsKnownStart old slot → ⊥) → Keeps old (with_start old slot id)
 Keeps-start old slot id free = record {
   rows = λ i q h. h;

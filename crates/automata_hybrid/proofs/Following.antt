@@ -1,4 +1,4 @@
--- Known transitions that are followed without a stop.
+-- Cached transitions that are followed without a stop.
 use Rattle.std.proofs.Common.{ℕ, zero, suc, ◌≡◌, ◌∙◌, ◌<◌, ◌≤◌, ◌^◌, ◌⊎◌, inl, inr, Bool, true, false, Option, Some, refl, sym, ap, subst, arith, eq-or-lt_of_le}
 use Rattle.automata_base.specs.Classes.{class_in, is_quit}
 use Rattle.automata_base.specs.Input.{Input}
@@ -28,7 +28,7 @@ pub followed_none :
 followed_none way m c input from id n =
     record { more = omega arith; named = n; quiet = λ k l h. absurd (omega (arith, l, h)) }
 
--- one known transition more, to an untagged ID
+-- one cached transition more, to an untagged ID
 pub followed_more :
     (way : Direction) (m : Machine) (c : Stored) (input : Input) (from k id id' byte : ℕ)
     → id' < 2 ^ 27 → next (tape_in way input) k ≡ Some byte
@@ -121,7 +121,7 @@ module _ {way : Direction} {m : Machine} {c : Stored} {input : Input} {from to i
     go (inl less) = learned j less reads
     go (inr more) = (f.quiet j more l).known
 
-  -- a walk is told nothing on the way
+  -- a walk is reported nothing on the way
   silent_upto : (n : ℕ) → from ≤ n → n ≤ to → IsSilent way m input from n
   silent_upto zero l h = let z : from ≡ 0 = omega (arith, l) in subst (IsSilent way m input from) z (silent_same way m input from)
   silent_upto (suc n) l h = go (λ more. silent_upto n more (omega (arith, h))) (eq-or-lt_of_le l) where

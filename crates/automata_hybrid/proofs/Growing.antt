@@ -75,7 +75,7 @@ grown_same old new e = subst (IsGrown old) (sym e) (grown_searched old old.store
 pub grown_moved : (old new : CacheView) {s : Searched} → new ≡ with_store old (with_searched old.store s) → IsGrown old new
 grown_moved old new {s} e = subst (IsGrown old) (sym e) (grown_searched old s)
 
--- one determinisation
+-- one determinization
 pub grown_one :
     (old new : CacheView)
     → new.store.table.of ≡ old.store.table.of
@@ -100,7 +100,7 @@ grown_one old new of count clears one starts tagged kept roomy =
       roomy = λ states r. roomy states (room_less old.store (states + (new.count - old.count)) (states + 1) (omega (arith, count)) r);
     }
 
--- that was refused
+-- that failed
 pub grown_counted : (old new : CacheView) → new ≡ counted old → IsGrown old new
 grown_counted old new e =
     subst (IsGrown old) (sym e)
@@ -155,7 +155,7 @@ grown_trans a b c f g =
           (second.0, second.1 ∙ first.1));
     }
 
--- nothing is cleared where there is room for all that is determinised
+-- nothing is cleared where there is room for all that is determinized
 pub clears_none :
     (old new : CacheView) (n : ℕ) → IsGrown old new → new.count ≤ old.count + n → HasRoom old.store n → new.store.clears ≡ old.store.clears
 clears_none old new n g few room = (g.roomy 0 (room_less old.store n (0 + (new.count - old.count)) (omega (arith, few)) room)).1
@@ -170,7 +170,7 @@ again_change :
     → IsOneChange old new
 again_change old new q lacks reached added = inr (inr (inr (record { state = q; lacks = lacks; reached = reached; added = added })))
 
--- a state put back counts as one determinisation would
+-- a state put back counts as one determinization would
 pub grown_again :
     (old new : CacheView) (q : Powerset) → Lacks old.store.table q → IsReached old.store.table.of q
     → IsAddedStart old.store (again_row q) new.store → new.count ≡ old.count → new.store.table.of ≡ old.store.table.of
@@ -217,7 +217,7 @@ grown_after old between new f g = grown_trans old (counted between) (counted new
 pub grown_less : (old new : CacheView) → IsGrown old new → IsGrown old (counted new)
 grown_less old new g = grown_trans old new (counted new) g (grown_counted new (counted new) refl)
 
--- nothing is cleared where there is room for all that is determinised and a state put back
+-- nothing is cleared where there is room for all that is determinized and a state put back
 pub clears_none_back :
     (old new : CacheView) (n : ℕ)
     → IsGrown old (counted new) → new.count ≤ old.count + n → HasRoom old.store (n + 1) → new.store.clears ≡ old.store.clears

@@ -102,7 +102,7 @@ AllStarts-none t xs e = subst (λ ys. AllStarts t ys) (sym e) none where
   none : AllStarts t []
   none slot id h = cc
 
--- a state that another table lacks isn't brought by one of its rows
+-- a state that another table lacks is not brought by one of its rows
 pub absent-more : (old t : Rows) (r : Row) (q : Powerset) → (id_of old r.state ≡ None → ⊥) → id_of old q ≡ None → id_of t q ≡ None → id_of (with_row t r) q ≡ None
 absent-more old t r q had o n = ⊎_elim
     (λ (e : powerset_eq q r.state ≡ true). absurd (had (subst (λ p. id_of old p ≡ None) ((powerset_eq-Decides q r.state).0 e) o)))

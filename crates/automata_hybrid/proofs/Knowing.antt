@@ -1,4 +1,4 @@
--- Searches whose start and transitions are all known.
+-- Searches whose start and transitions are all cached.
 use Rattle.std.proofs.Common.{ℕ, suc, ◌≡◌, ◌∙◌, ◌+◌, ◌^◌, ◌<◌, ◌≤◌, ◌⊎◌, inl, inr, Bool, true, false, length, Option, Some, None, refl, sym, subst, arith}
 use Rattle.std.specs.Prelude.{Result, IfErr}
 use Rattle.std.proofs.lemmas.Result.{IfErr-weaker}
@@ -31,13 +31,13 @@ use Rattle.automata_hybrid.proofs.Searching.{at_reads, false_true, lt_or_le}
 pub one_id : (t : Rows) (a b : ℕ) (q : Powerset) → Names t a q → Names t b q → a ≡ b
 one_id t a b q f g = some_inj (sym f ∙ g)
 
--- where nothing is determinised, what a pass knows it still knows
+-- where nothing is determinized, what a pass has cached it still has cached
 pub knows_still :
     (way : Direction) (m : Machine) (input : Input) (old new : CacheView)
     → IsGrown old new → new.count ≡ old.count → KnowsPass way m old.store input → KnowsPass way m new.store input
 knows_still way m input old new g same h = subst (λ (c : Stored). KnowsPass way m c input) (sym (g.idle same).1) h
 
--- the transition that a pass takes where it stands is known
+-- the transition that a pass takes where it stands is cached
 pub knows_here :
     (way : Direction) (m : Machine) (c : Stored) (input : Input) (k id : ℕ) (found : Option HalfMatch) (u : Option ℕ)
     → KnowsPass way m c input → MayStart m input.anchored (tape_in way input).before
@@ -54,7 +54,7 @@ knows_here way m c input k id found u knows may at few alive unit =
 pub learned_none : (way : Direction) (m : Machine) (c : Stored) (input : Input) → HasLearned way m c input 0
 learned_none way m c input = λ j l. absurd (omega (arith, l))
 
--- where nothing is lost, what was learned is known
+-- where nothing is lost, what was learned is cached
 module _ (way : Direction) (m : Machine) (old new : Stored) (input : Input) (of : new.table.of ≡ old.table.of) (keeps : Keeps old new) where
   pub unit_still : (j : ℕ) → HasLearnedUnit way m old input j → HasLearnedUnit way m new input j
   unit_still j had =
@@ -95,7 +95,7 @@ learned_all way m c input k begin learned stops = (begin, λ j reads. go j reads
   go j reads (inl less) = learned j less reads
   go j reads (inr more) = absurd (stops j more reads)
 
--- what a pass has learned it knows
+-- what a pass has learned it has cached
 pub learned_knows : (way : Direction) (m : Machine) (c : Stored) (input : Input) → HasLearnedAll way m c input → KnowsPass way m c input
 learned_knows way m c input all = λ may. (all.0, λ k reads clean. (all.1 k reads).0)
 
@@ -145,7 +145,7 @@ pub begun_moved :
 begun_moved way m input old between new k e f =
     subst (λ (c : CacheView). ClearedNothing old.store c.store → KnowsItsStart way m c.store input × HasLearned way m c.store input k) (sym e) f
 
--- a start that is known, where it may be asked for, changes nothing and isn't refused for want of room
+-- a start state that is cached, where it may be asked for, changes nothing and does not fail for lack of room
 module _ (m : Machine) (old new : CacheView) (mode : Anchored) (behind : Option ℕ) (r : Result ℕ SearchError) (behind_at start_at : ℕ)
     (slots : length old.store.starts ≡ slot_count m)
     (refusal : IfErr r (IsStartRefusedAt m mode behind behind_at start_at old new))
@@ -198,7 +198,7 @@ spans_more way m c input now k same spans all = λ j l. go j (lt_or_le j k) l wh
       let here : k ≡ j = omega (arith, more, l) in
       subst (λ i. HasLearnedAll way m c (later way i input)) here (subst (HasLearnedAll way m c) same all)
 
--- a search that tries no other span knows all that it used
+-- a search that tries no other span has cached all that it used
 pub spans_all :
     (way : Direction) (m : Machine) (c : Stored) (input : Input) (k : ℕ)
     → LearnedSpans way m c input k
@@ -208,7 +208,7 @@ spans_all way m c input k spans stops = λ j tries within. go j tries within (lt
   go j tries within (inl less) = learned_knows way m c (later way j input) (spans j less)
   go j tries within (inr more) = absurd (stops j more tries within)
 
--- where nothing is determinised, what a search knows it still knows
+-- where nothing is determinized, what a search has cached it still has cached
 pub search_still :
     (way : Direction) (m : Machine) (input : Input) (old new : CacheView)
     → IsGrown old new → new.count ≡ old.count → Knows way m old.store input → Knows way m new.store input

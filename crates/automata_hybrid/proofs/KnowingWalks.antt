@@ -1,4 +1,4 @@
--- Walk calls whose start or held state, and whose transitions, are all known.
+-- Walk calls whose start or held state, and whose transitions, are all cached.
 use Rattle.std.proofs.Common.{ℕ, suc, ◌≡◌, ◌+◌, ◌<◌, ◌≤◌, ◌⊎◌, inl, inr, List, length, Option, Some, None, sym, ap, subst, arith}
 use Rattle.automata_base.specs.Input.{Input}
 use Rattle.automata_base.specs.Tapes.{Direction}
@@ -36,7 +36,7 @@ units_more way m old new input from read k id g nothing learned f here = λ j l 
   go j l h (inr more) (inl less) = unit_still way m old.store new.store input g.of (g.kept nothing) j (f.quiet j more less).known
   go j l h (inr more) (inr last) = let same : k ≡ j = omega (arith, h, last) in subst (HasLearnedUnit way m new.store input) same here
 
--- with nothing determinised what is known stays known
+-- with nothing determinized what is cached stays cached
 pub unit_knows :
     (way : Direction) (m : Machine) (old new : CacheView) (input : Input) (from j k : ℕ)
     → IsGrown old new → new.count ≡ old.count → KnowsUnits way m old.store input from k
@@ -53,7 +53,7 @@ pub units_moved :
 units_moved way m input old between new from to e f =
     subst (λ (c : CacheView). ClearedNothing old.store c.store → HasLearnedUnits way m c.store input from to) (sym e) f
 
--- behind where it arrives a walk reads no unit, or has been told a pair more
+-- behind where it arrives a walk reads no unit, or has been reported a pair more
 pub arrival_stops :
     (way : Direction) (m : Machine) (t : Rows) (input : Input) (from : ℕ) (id : Option ℕ) (units k j : ℕ)
     → IsArrival way m t input from id units → HasToldBy way m input from k
@@ -85,7 +85,7 @@ pub nothing_after :
     → IsGrown old (counted between) → IsGrown between new → ClearedNothing old.store new.store → ClearedNothing between.store new.store
 nothing_after old between new f g nothing = nothing_second old (counted between) (counted new) f (grown_both between new g) nothing
 
--- what a walk goes on from is known still, if it was put back before
+-- what a walk goes on from is cached still, if it was put back before
 pub state_after :
     (way : Direction) (m : Machine) (old between new : CacheView) (input : Input) (s : Stage)
     → IsGrown old (counted between) → IsGrown between new → ClearedNothing old.store new.store
@@ -97,7 +97,7 @@ state_after way m old between new input s f g nothing knows =
 pub still_same : (old new : CacheView) → new ≡ old → IsStill old new
 still_same old new e = (grown_same old new e).idle (ap (λ (c : CacheView). c.count) e)
 
--- a walk that learned each unit to where it arrives knows all that it read
+-- a walk that learned each unit to where it arrives has cached all that it read
 pub units_all :
     (way : Direction) (m : Machine) (c : Stored) (input : Input) (from k : ℕ) (id : Option ℕ) (units : ℕ)
     → IsArrival way m c.table input from id units → HasToldBy way m input from k → HasLearnedUnits way m c input from units

@@ -1,4 +1,4 @@
--- What the mask of 32 lanes tells of the bytes under them.
+-- What the mask of 32 lanes reports of the bytes under them.
 use Rattle.std.proofs.Common.{◌≡◌, ◌∙◌, ℕ, zero, suc, ◌*◌, ◌+◌, ◌-◌, ◌%◌, ◌^◌, ◌<◌, ◌≤◌, List, [], ◌∷◌, Bool, true, false, cond, leb, length, get_or, map, replicate, refl, sym, ap, subst, arith, w8, w64, slice_index, min, ◌⊎◌, inl, inr, ⊎_elim}
 use lib.Count.{count_trailing_zeros}
 use Rattle.std.specs.Int.{bit_at}
@@ -52,7 +52,7 @@ module _ (low size : ℕ) (xs : List ℕ) (i : ℕ) (room : i + 32 ≤ length xs
       subst (λ n. n < 2 ^ 32) (sym (mask_is low size (chunk i 32 xs) long))
       (subst (λ n. mask_l (map (is_outside low size) (chunk i 32 xs)) < 2 ^ n) lanes (mask_l-lt (map (is_outside low size) (chunk i 32 xs))))
 
-  -- a lane whose bit isn't set is in the range
+  -- a lane whose bit is not set is in the range
   pub mask_near : (k : ℕ) → k < 32 → bit_at (mask_of low size (chunk i 32 xs)) k ≡ 0 → above low (slice_index xs (i + k)) < size
   mask_near k few clear =
       omega (arith, leb-false size (above low (slice_index xs (i + k))) (sym lane ∙ unset _ (sym (bit_mask_l (map (is_outside low size) (chunk i 32 xs)) k) ∙ bit)))
@@ -85,7 +85,7 @@ trailing_few mask some small = ⊎_elim
 pub leading_clear : (mask top n : ℕ) → mask < 2 * 2 ^ top → n ≡ 31 - top → (k : ℕ) → k < n → bit_at mask (31 - k) ≡ 0
 leading_clear mask top n high e k l = bit_at_above mask (suc top) (31 - k) (omega (arith, two-pow-succ top, high)) (omega (arith, e, l))
 
--- a bit that isn't set in both isn't set in one
+-- a bit that is not set in both is not set in one
 pub both_clear : (a b k : ℕ) → bit_at (bit_and a b) k ≡ 0 → (bit_at a k ≡ 0) ⊎ (bit_at b k ≡ 0)
 both_clear a b k clear = least (bit_at a k) (bit_at b k) (sym (bit_at_and a b k) ∙ clear) where
   least : (x y : ℕ) → min x y ≡ 0 → (x ≡ 0) ⊎ (y ≡ 0)
@@ -97,7 +97,7 @@ module _
     (way : Direction) (P : ℕ → Type 0) (at mask : ℕ) (xs : List ℕ)
     (near : (k : ℕ) → k < 32 → bit_at mask (lane_of way k) ≡ 0 → P (byte_in way xs (at + k)))
   where
-    -- the bytes of the lanes whose bits aren't set
+    -- the bytes of the lanes whose bits are not set
     pub near_upto :
         (n : ℕ) → n ≤ 32 → ((k : ℕ) → k < n → bit_at mask (lane_of way k) ≡ 0)
         → (k : ℕ) → at ≤ k → k < at + n → P (byte_in way xs k)

@@ -1,4 +1,4 @@
--- Known transitions that are followed whatever they tell.
+-- Cached transitions that are followed whatever they report.
 use Rattle.std.proofs.Common.{ℕ, suc, ◌≡◌, ◌∙◌, ◌<◌, ◌≤◌, ◌^◌, ◌⊎◌, inl, inr, Bool, true, false, List, [], ◌∷◌, length, Option, Some, refl, sym, ap, subst, arith}
 use Rattle.automata_base.specs.Answers.{offset_in}
 use Rattle.automata_base.specs.Classes.{class_in, is_quit}
@@ -29,7 +29,7 @@ pub led_none :
 led_none way m c input from id n =
     record { more = omega arith; named = n; taken = λ k l h. absurd (omega (arith, l, h)) }
 
--- one known transition more, to the ID of a row
+-- one cached transition more, to the ID of a row
 pub led_more :
     (way : Direction) (m : Machine) (c : Stored) (input : Input) (from k id id' byte : ℕ)
     → id' < 2 ^ 29 → next (tape_in way input) k ≡ Some byte
@@ -129,7 +129,7 @@ module _ {way : Direction} {m : Machine} {c : Stored} {input : Input} {from to i
     go (inl less) = learned j less reads
     go (inr more) = (f.taken j more l).known
 
-  -- a pass that was there is here, and has found what the state here tells, if that has patterns and the search isn't an earliest one
+  -- a pass that was there is here, and has found what the state here reports, if that has patterns and the search is not an earliest one
   pub led_at :
       {start : ℕ} (j o : ℕ) {found found' : Option HalfMatch} → input.earliest ≡ false → to ≡ suc j → o ≡ offset_in way input j
       → 0 < length (state_in way m input to).patterns → ((q : Powerset) → Leads c.table id q → found' ≡ half_at q.patterns o found)
@@ -146,7 +146,7 @@ module _ {way : Direction} {m : Machine} {c : Stored} {input : Input} {from to i
           ∙ (sym (found_more way m input j (λ e. absurd (false_true (sym late ∙ e))))
           ∙ ap (λ n. half_of way input (told_in way m input n)) (sym here)))))
 
--- each unit that was followed, and then each that was led along, is known
+-- each unit that was followed, and then each that was led along, is cached
 pub known_after :
     {way : Direction} {m : Machine} {c : Stored} {input : Input} {from mid to id id' : ℕ}
     → IsFollowed way m c input from mid id → IsLed way m c input mid to id'

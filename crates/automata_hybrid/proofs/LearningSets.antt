@@ -1,4 +1,4 @@
--- What a set of patterns took to be found is known.
+-- What a set of patterns took to be found is cached.
 use Rattle.std.proofs.Common.{ℕ, zero, suc, ◌≡◌, ◌<◌, ◌≤◌, ◌+◌, ◌⊎◌, inl, inr, Bool, true, List, [], ◌∷◌, ◌++◌, length, take, None, refl, sym, ap, ◌∙◌, subst, arith}
 use Rattle.automata_base.specs.Answers.{AreUnsplit, HasPattern}
 use Rattle.automata_base.specs.Input.{Input}
@@ -25,7 +25,7 @@ use Rattle.automata_hybrid.proofs.WalkCalls.{told_place}
 use Rattle.automata_hybrid.proofs.Walked.{Begins, told_rises, walked_begin}
 use Rattle.automata_hybrid.proofs.WalkSets.{flag_in, full_at}
 
--- a walk hasn't begun, or its start and all transitions that it took are known
+-- a walk has not begun, or its start and all transitions that it took are cached
 abbrev pub HasLearnedWalk : Machine → Stored → Input → Walk → Type 0
 HasLearnedWalk m c input w =
     ((w.stage ≡ Fresh) × (w.units ≡ 0))
@@ -108,7 +108,7 @@ module _ (m : Machine) (input : Input) (v : Walk) (k : ℕ) (told : HasTold Forw
       among (inr (b, h)) =
           other (taken_front pairs begins.rest (suc k) p least (subst (λ (ps : List Pair). HasPattern p (take (suc k) ps)) begins.joined h))
 
--- a set that stops knows all that it took
+-- a set that stops has cached all that it took
 pub set_knows :
     (m : Machine) (c : Stored) (input : Input) (set : List Bool) (v : Walk)
     → KnowsItsStart Forward m c input × HasLearnedUnits Forward m c input 0 v.units

@@ -42,7 +42,7 @@ module _ (way : Direction) (m : Machine) (input : Input) (k id : ℕ) (u : Optio
   there : (q : Powerset) → Names old.store.table id q → Names mid.store.table id q
   there q n = subst (λ (v : CacheView). Names v.store.table id q) (sym moved) n
 
-  -- the state that it reads it from isn't dead
+  -- the state that it reads it from is not dead
   pub stands_alive :
       ((q : Powerset) → Names mid.store.table id q → q ≡ dead → ⊥)
       → (q : Powerset) → Names old.store.table id q → q ≡ dead → ⊥
@@ -93,7 +93,7 @@ module _ (way : Direction) (m : Machine) (input : Input) (k id : ℕ) (u : Optio
     learned = learns (Ok n) effect few of effect.learned stops;
   }
 
-  -- which is refused
+  -- which fails
   pub rest_refused :
       {T U : Type 0} (e : SearchError) → IsReadEffect {T = T} m id u mid after (Err e)
       → k ≤ input.end - input.start → k ≤ length (tape_in way input).bytes
@@ -124,7 +124,7 @@ module _ (way : Direction) (m : Machine) (input : Input) (k id : ℕ) (u : Optio
       supported = underway.may.1;
     }
 
-    -- where the state behind it is dead
+    -- where the state after it is dead
     module _ (dies : Leads after.store.table n (state_in way m input (suc k)) → state_in way m input (suc k) ≡ dead) where
       pub dead_answer : k ≤ length (tape_in way input).bytes → IsPassAnswer way m input found
       dead_answer few = record {
@@ -196,7 +196,7 @@ rest_dead way m input mid new answer ended dies = record {
   count : new.count ≡ mid.count
   count = ap (λ (v : CacheView). v.count) ended
 
--- a pass that was refused at its start
+-- a pass that failed at its start
 pub pass_unstarted :
     {T : Type 0} (way : Direction) (m : Machine) (input : Input) (behind_at start_at : ℕ) (old new : CacheView) (e : SearchError)
     → length old.store.starts ≡ slot_count m

@@ -30,7 +30,7 @@ pub at_err : {A E : Type 0} (r : Result A E) (e : E) (P : Result A E → Type 0)
 at_err (Ok a) e P h p = absurd h
 at_err (Err x) e P h p = subst (λ v. P (Err v)) (sym h) p
 
--- a refused step is a refusal to read the unit
+-- a failed step is a refusal to read the unit
 pub told_refusal :
     (m : Machine) (id : ℕ) (unit : Option ℕ) (quit_at at : ℕ) (old new : CacheView) (e : SearchError)
     → IsStepRefusedAt m id unit at old new e → IsReadRefusal m id unit quit_at at old new e
@@ -40,7 +40,7 @@ told_refusal m id unit quit_at at old new e h q n =
     (λ other names known. (let one : other ≡ id = cc in h.refused.unknown (subst (λ k. KnowsStep m old.store k unit) one known)))
     (ap (λ (v : CacheView). v.store) h.refused.unchanged) (λ c. h.refused.gives_up c q n))
 
--- at the end no byte is read, so no offset of a quit byte is told
+-- at the end no byte is read, so no offset of a quit byte is reported
 pub unquit_at :
     (m : Machine) (c : Stored) (q : Powerset) (quit_at other_at at : ℕ) (e : SearchError)
     → IsStepRefusal m c q None quit_at at e → IsStepRefusal m c q None other_at at e

@@ -46,7 +46,7 @@ use Rattle.automata_hybrid.proofs.WalkCalls.{fresh_at}
 use Rattle.automata_hybrid.proofs.Searching.{false_true, state_first}
 use Rattle.automata_hybrid.proofs.Starting.{refusal_at}
 
--- a start in a mode that isn't supported is refused for that, behind no quit byte
+-- a start in a mode that is not supported fails for that, behind no quit byte
 unsupported_start :
     (m : Machine) (c : Stored) (mode : Anchored) (behind : Option ℕ) (behind_at start_at : ℕ) (e : SearchError)
     → IsStartRefusalAt m c mode behind behind_at start_at e → quit_behind m behind ≡ None → supports m mode ≡ false
@@ -67,7 +67,7 @@ unsupported_call keeping way m c input w k e fresh u (l, inl (told, r)) =
     (subst (λ (s : Stage). IsResumeRefusal way m c input s w.units e) fresh r) u.behind u.mode
 unsupported_call keeping way m c input w k e fresh u (l, inr (may, r)) = absurd (false_true (sym u.mode ∙ may.1))
 
--- and it isn't answered
+-- and it is not answered
 pub supported_call :
     (way : Direction) (m : Machine) (input : Input) (walk next : Walk)
     → IsWalkOf way m input walk → TellsNext way m input walk next → IsUnsupported way m input → ⊥
@@ -80,7 +80,7 @@ supported_call way m input walk next (k, told) tells u = go next.stage (tells k 
     | inr (may, clean) ↦ false_true (sym u.mode ∙ may.1)
   ]
 
--- why a call is refused that reads units
+-- why a call fails that reads units
 pub refused_on :
     (keeping : Keeping) (way : Direction) (m : Machine) (input : Input) (w : Walk) (new : Stored) (e : SearchError)
     → IsWalkOf way m input w → IsToRead input w.stage w.units w.told
@@ -92,7 +92,7 @@ refused_on keeping way m input w new e told reads why = record {
   ready = λ none. reads_some input w reads none;
 }
 
--- a refusal for what was given is one of a call that knows all
+-- a refusal for what was given is one of a call that has cached all
 pub known_refusal :
     (keeping : Keeping) (way : Direction) (m : Machine) (input : Input) (w : Walk) (e : SearchError) → IsOfInput e
     → IsKnownRefusal keeping way m input w e
@@ -200,7 +200,7 @@ effect_none keeping way m input w next c none same = record {
   ready = λ _. refl;
 }
 
--- a walk that hasn't begun goes on from its start
+-- a walk that has not begun goes on from its start
 module _ (way : Direction) (m : Machine) (input : Input) (w : Walk) (old new : CacheView) (r : Result ℕ SearchError)
     (fresh : w.stage ≡ Fresh) where
   pub start_answer :

@@ -85,7 +85,7 @@ IsTable-stepped t r template whole old k class x h l = go (at_push t.rows r k x 
         new (inl q) = inl (q, q)
         new (inr u) = inr (u, inl u)
 
--- a new row, and the map that knows it
+-- a new row, and the map that has cached it
 pub IsTable-with_row : (t : Rows) (r : Row) (m n : StateMap) (costs : ℕ) → IsTable t m costs → id_of t r.state ≡ None → (r.state ≡ dead → ⊥) → cost r.state ≤ greatest t.of → IsStateOf t.of r.state → length t.cells < 2 ^ 27
     → ((p : Powerset) → get powerset_eq n p ≡ cond (powerset_eq r.state p) (Some (row_id (length t.cells) r)) (get powerset_eq m p)) → IsTable (with_row t r) n (costs + cost r.state)
 IsTable-with_row t r m n costs i none live cheap of fits new =
@@ -117,7 +117,7 @@ IsTable-with_row t r m n costs i none live cheap of fits new =
       other : (p : Powerset) → powerset_eq r.state p ≡ false → get powerset_eq n p ≡ id_of (with_row t r) p
       other p e = new p ∙ rw e (i.mapped p ∙ sym (find_id-push_other (table_stride t.of) (3 * table_stride t.of) p t.rows r (flipped r.state p e)))
 
--- a state that isn't in the map isn't in the rows
+-- a state that is not in the map is not in the rows
 pub IsTable-map : (t : Rows) (m n : StateMap) (costs : ℕ) → IsTable t m costs → ((p : Powerset) → get powerset_eq n p ≡ get powerset_eq m p) → IsTable t n costs
 IsTable-map t m n costs i same = record {
   template = i.template;

@@ -32,7 +32,7 @@ arrived_read way m input from k units old new more same reads all = go (read_som
       × AreUnitsRead way m input from (suc n) old new
   go (n, here, read) = (n, omega (arith, here, same), subst (WalkReads way m input) (sym here) reads, read)
 
--- a call that was refused at a unit
+-- a call that failed at a unit
 pub call_stopped :
     (way : Direction) (m : Machine) (input : Input) (from k : ℕ) (old new : Stored) (e : SearchError)
     → WalkReads way m input k → HasReadNoQuit way m input k → IsSilent way m input from k
@@ -56,7 +56,7 @@ reads_some input w r (inr (inl (q, at, few))) =
     (let all : length q.patterns ≤ w.told = r.all_told q at in omega (arith, all, few))
 reads_some input w r (inr (inr past)) = omega (arith, r.undone, r.left, past)
 
--- a refused step is a refusal at its unit, whatever is kept
+-- a failed step is a refusal at its unit, whatever is kept
 pub step_refuses :
     (keeping : Keeping) (way : Direction) (m : Machine) (c : Stored) (input : Input) (j : ℕ) (e : SearchError)
     → IsUnitRefusal way m c input j e → IsRefusalAt keeping way m c input j e

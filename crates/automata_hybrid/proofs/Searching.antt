@@ -62,7 +62,7 @@ found_by way input kind true a mode t k first =
     ∙ (pair_half way input (told_at a kind mode t k) k None
     ∙ ap (λ o. half_at (told_at a kind mode t k) (offset_in way input k) (half_of way input o)) (sym none))
 
--- after one unit more a pass has found what the state there tells, or what it had
+-- after one unit more a pass has found what the state there reports, or what it had
 pub found_more :
     (way : Direction) (m : Machine) (input : Input) (k : ℕ)
     → (input.earliest ≡ true → half_of way input (told_in way m input k) ≡ None)
@@ -70,7 +70,7 @@ pub found_more :
     ≡ half_at (state_in way m input (suc k)).patterns (offset_in way input k) (half_of way input (told_in way m input k))
 found_more way m input k first = found_by way input (match_kind_of m.config) input.earliest m.nfa input.anchored (tape_in way input) k first
 
--- the dead state stays, and tells nothing
+-- the dead state stays, and reports nothing
 pub dead_more :
     (way : Direction) (m : Machine) (input : Input) (k n : ℕ)
     → k ≤ n → state_in way m input k ≡ dead → state_in way m input n ≡ dead
@@ -96,7 +96,7 @@ silent kind false a mode t k n = ap (λ ps. pair_at ps k (last_told a kind mode 
 silent kind true a mode t k n =
     ap (λ ps. earlier_or (first_told a kind mode t k) (pair_at ps k None)) n ∙ earlier_none (first_told a kind mode t k)
 
--- a unit behind which the state has no patterns tells nothing
+-- a unit after which the state has no patterns reports nothing
 pub told_quiet :
     (way : Direction) (m : Machine) (input : Input) (k : ℕ)
     → (state_in way m input (suc k)).patterns ≡ [] → told_in way m input (suc k) ≡ told_in way m input k
@@ -168,7 +168,7 @@ found_first way m input k l e some =
 pub lt_or_le : (j k : ℕ) → (j < k) ⊎ (k ≤ j)
 lt_or_le j k = grind arith
 
--- a pass has met no quit byte if it hasn't up to a place, and reads nothing from there on
+-- a pass has met no quit byte if it does not have up to a place, and reads nothing from there on
 clean_all :
     (way : Direction) (m : Machine) (input : Input) (k : ℕ)
     → quit_behind m (tape_in way input).before ≡ None
@@ -215,7 +215,7 @@ module _ (way : Direction) (m : Machine) (t t' : Rows) (input : Input) (k id id'
     (found found' : Option HalfMatch) (at : IsAt way m t input k id found) (unit : next (tape_in way input) k ≡ u)
     (reads : (q : Powerset) → Names t id q → Leads t' id' (successor m.nfa (match_kind_of m.config) q u))
     (free : (byte : ℕ) → u ≡ Some byte → is_quit m.quits byte ≡ false) where
-  -- the ID found tells its patterns at the offset of the place
+  -- the ID found reports its patterns at the offset of the place
   abbrev pub Tells : Type 0
   Tells = (o : ℕ) × (o ≡ offset_in way input k) × ((q : Powerset) → Leads t' id' q → found' ≡ half_at q.patterns o found)
 
@@ -330,7 +330,7 @@ pub clean_start :
 clean_start way m input d behind =
     clean_all way m input 0 behind (λ j byte l e. absurd (omega (arith, l))) (stops_start way m input d)
 
--- a refused step from an ID refuses the unit of its place
+-- a failed step from an ID refuses the unit of its place
 pub unit_refuses :
     (way : Direction) (m : Machine) (t : Rows) (c : Stored) (input : Input) (k id quit_at given_up_at : ℕ) (u : Option ℕ)
     (found : Option HalfMatch) (e : SearchError)

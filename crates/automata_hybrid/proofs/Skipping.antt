@@ -114,7 +114,7 @@ module _ (way : Direction) (m : Machine) (input now : Input) (k : ℕ) (same : n
       let none : told_over way m.nfa (match_kind_of m.config) (later way k input) ≡ None = half_none way (later way k input) _ (sym (there None e)) in
       some_none (split.1.0 ∙ none)
 
-  -- or what isn't left out
+  -- or what is not left out
   pub some_stops :
       (half : HalfMatch) → Some half ≡ found_over way m now → (Skips m → is_split now.haystack half.offset ≡ false)
       → (j : ℕ) → k < j → Tries (Finds way m) (Skips m) way input j → ⊥
@@ -137,7 +137,7 @@ module _ (way : Direction) (m : Machine) (input now : Input) (k : ℕ) (same : n
     go (inl z) = omega (arith, z, less)
     go (inr skips) = anchored skips.1
 
-  -- or it was refused
+  -- or it failed
   pub refuses :
       (c : Stored) (e : SearchError) → IsPassRefusal way m c now e → IsRefused way m c input e
   refuses c e r = (k, tries, within, subst (λ i. IsPassRefusal way m c i e) same r)
@@ -148,7 +148,7 @@ pub finds_no_more :
     → Tries (Finds way m) (Skips m) way input k → input.end < input.start + k → IsFound way m input None
 finds_no_more way m input k tries past = (k, tries, inl past)
 
--- what a search finds is what its passes tell
+-- what a search finds is what its passes report
 pub found_told :
     (way : Direction) (m : Machine) (input : Input) (o : Option Half)
     → IsFound way m input o → IsTold way m.nfa (match_kind_of m.config) input o

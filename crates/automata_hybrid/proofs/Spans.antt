@@ -115,7 +115,7 @@ module _ (way : Direction) (m : Machine) (input : Input) (k : ℕ) (tries : Trie
         done = λ over. absurd (omega (arith, over, within));
       }
 
-    -- which was refused
+    -- which failed
     pub effect_refused :
         {T U : Type 0} (e : SearchError) → IsPassEffect {T = U} way m now between new (Err e)
         → IsSearchEffect {T = T} way m input old new (Err e)

@@ -31,7 +31,7 @@ use Rattle.automata_hybrid.proofs.Units.{forward_unit, forward_units, nth_past, 
 first_span : (input : Input) → input ≡ later Forward 0 input
 first_span input = ap (λ n. record input { start = n }) (sym (add-zero input.start))
 
--- what the rows of a cache are known by
+-- what the rows of a cache are cached by
 pub record Tagged (m : Machine) (t : Rows) : Type 0 where
   pub of : t.of ≡ m
   pub low : (id : ℕ) (q : Powerset) → Names t id q → id < fixed_from
@@ -200,7 +200,7 @@ module _ (m : Machine) (input : Input) (old new : CacheView) (at id to : ℕ) (u
       dead_here (inl (e, d)) b = dies_here e d
       dead_here (inr n) b = absurd (let l : to < fixed_from = after.low to (successor m.nfa (match_kind_of m.config) (state_in Forward m input k) u) n in low_bit 30 to (omega (arith, l)) b)
 
-      -- no match is told
+      -- no match is reported
       module _ (silent : IsBitSet to 27 → ⊥) where
         tells : (q : Powerset) → Leads new.store.table to q → None ≡ half_at q.patterns at None
         tells q l = sym (ap (λ ps. half_at ps at None) (Leads-untagged new.store.table to q l (answer.tag q) silent))

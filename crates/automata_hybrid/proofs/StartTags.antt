@@ -39,7 +39,7 @@ IsIn t r = (k : ℕ) × (slice_get t.rows k ≡ Some r)
 abbrev pub AllFrom : Rows → Rows → Type 0
 AllFrom old new = (k : ℕ) (r : Row) → slice_get new.rows k ≡ Some r → IsIn old r
 
--- each row is one that was there, or has this mark and a state that wasn't there
+-- each row is one that was there, or has this mark and a state that was not there
 abbrev pub AllFromOr : Rows → Rows → Bool → Type 0
 AllFromOr old new started = (k : ℕ) (r : Row) → slice_get new.rows k ≡ Some r → IsIn old r ⊎ ((id_of old r.state ≡ None) × (r.started ≡ started))
 
@@ -110,7 +110,7 @@ unfolding keep_slots
 from_slots old k [] all = all
 from_slots old k (id ∷ ids) all = from_slots old (keep_slot old k id) ids (from_slot old k id all)
 
--- a clear brings no row that wasn't there, and changes no mark
+-- a clear brings no row that was not there, and changes no mark
 from_cleared : (c : Stored) → AllFrom c.table (cleared c).table
 from_cleared c = from_slots c.table (record { table = fresh c.table.of; starts = [] }) c.starts (λ k r h. cc)
 
@@ -179,7 +179,7 @@ tagged_none old new keeps adds q (id, named, tag) = go (id_of old q) refl where
   go None none = absurd (let e : false ≡ true = (adds q id none named).0 tag in cc)
   go (Some before) had = (before, had, (keeps q before id had named).1 tag)
 
--- where a start is given it, as the settings specialise starts, a state that has it had it, or is that start
+-- where a start is given it, as the settings specialize starts, a state that has it had it, or is that start
 pub tagged_start :
     (old new : Stored) (slot : ℕ) (start : Powerset)
     → KeepsStartTags old.table new.table → TagsNewStates old.table new.table (specialize_start_states_of new.table.of.config)

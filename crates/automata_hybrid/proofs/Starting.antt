@@ -39,7 +39,7 @@ pub slot_leads :
 slot_leads m mode behind slot t id q at of same leads =
     subst (λ (p : Powerset). Leads t id p) (same ∙ (slot_state m mode behind slot at ∙ ap (λ (d : Machine). start_of d slot) (sym of))) leads
 
--- the start of a mode's slot is known
+-- the start of a mode's slot is cached
 pub knows_slot :
     (m : Machine) (c : Stored) (mode : Anchored) (behind : Option ℕ) (slot : ℕ)
     → IsStartSlot m mode behind slot → length c.starts ≡ slot_count m → IsKnownStart c slot → KnowsStart m c mode behind
@@ -51,7 +51,7 @@ pub leads_row : (t : Rows) (id : ℕ) (q : Powerset) → Leads t id q → HasRow
 leads_row t id q (inl dies) = inl dies.0
 leads_row t id q (inr names) = inr (inr (q, names))
 
--- a start that is known changes nothing
+-- a start state that is cached changes nothing
 pub known_effect :
     (m : Machine) (mode : Anchored) (behind : Option ℕ) (c : CacheView)
     → KnowsStart m c.store mode behind → IsStartEffect m mode behind c c
@@ -95,7 +95,7 @@ known_answer m mode behind c slot id of at knows value low may tag = record {
       subst (λ (q : Powerset). Leads c.store.table id q)
       (ap (λ (d : Machine). start_of d slot) of ∙ sym (slot_state m mode behind slot at)) h
 
--- what a refused start makes of its cache
+-- what a failed start makes of its cache
 pub refused_effect :
     (m : Machine) (mode : Anchored) (behind : Option ℕ) (old new : CacheView) (slot : ℕ)
     → IsStartSlot m mode behind slot → (KnowsStart m old.store mode behind → ⊥) → new ≡ counted old
@@ -130,7 +130,7 @@ pub record ComputesStart (m : Machine) (mode : Anchored) (behind : Option ℕ) (
   pub of : new.store.table.of ≡ old.store.table.of
   pub counted : new.count ≡ old.count + 1
 
--- a known start is written among the others
+-- a cached start state is written among the others
 keeps_written :
     (old xs : List ℕ) (slot id : ℕ) → KeepsStarts old xs → get_or (set xs slot id) slot 0 < 2 ^ 31 → KeepsStarts old (set xs slot id)
 keeps_written old xs slot id keeps found other k = go (lt_or_le other slot) (lt_or_le slot other) where

@@ -1,4 +1,4 @@
--- What is known stays known where nothing is lost.
+-- What is cached stays cached where nothing is lost.
 use Rattle.std.proofs.Common.{ℕ, ◌≡◌, ◌∙◌, ◌+◌, ◌<◌, ◌≤◌, Option, None, Some, sym, subst, arith}
 use Rattle.automata_base.specs.Answers.{IsInput, later}
 use Rattle.automata_base.specs.Classes.{class_in, eoi_class}

@@ -62,14 +62,14 @@ fixed_answer m id unit c high below row = record {
   apart : (q : Powerset) → Names c.store.table id q → ⊥
   apart q n = let low : id < fixed_from = below q n in absurd (omega (arith, low, high))
 
--- what a cell tells at the class of a unit
+-- what a cell reports at the class of a unit
 module _ (m : Machine) (id : ℕ) (unit : Option ℕ) (c : CacheView) (class next : ℕ) (of : IsCacheOf c m) (valid : IsValid c.store.table id)
     (at : class ≡ unit_class m unit) (small : table_stride m ≤ 512)
     (quit : quits_on m unit ≡ true → slice_index (template_of m) class ≡ quit_id (table_stride m))
     (free : quits_on m unit ≡ false → slice_index (template_of m) class ≡ unknown_id)
     (value : next ≡ cell_of c.store id class)
     (cell : (q : Powerset) → Names c.store.table id q → IsCell c.store.table q class next) where
-  -- the class isn't both
+  -- the class is not both
   clash : slice_index (template_of m) class ≡ quit_id (table_stride m) → slice_index (template_of m) class ≡ unknown_id → ⊥
   clash a b = absurd (omega (arith, a, b, small))
 
@@ -95,7 +95,7 @@ module _ (m : Machine) (id : ℕ) (unit : Option ℕ) (c : CacheView) (class nex
   pub cell_known : next < unknown_id → KnowsStep m c.store id unit
   cell_known low = subst (IsKnownTransition c.store id) at (subst (λ n. n < unknown_id) value low)
 
-  -- a known cell is the answer
+  -- a cached cell is the answer
   pub known_answer :
       id < fixed_from → next < unknown_id → HasItsMatchTag c.store.table next
       → ((q : Powerset) → Names c.store.table id q → successor m.nfa (match_kind_of m.config) q unit ≡ next_of m q class)
@@ -132,7 +132,7 @@ module _ (m : Machine) (id : ℕ) (unit : Option ℕ) (c : CacheView) (class nex
     leads clean q n (inr (a, inr h)) =
         subst (λ (p : Powerset). Leads c.store.table next p) (ap (λ (d : Machine). next_of d q class) of ∙ sym (same q n)) h
 
--- what a refused step makes of the cache
+-- what a failed step makes of the cache
 pub refused_effect :
     (m : Machine) (id : ℕ) (unit : Option ℕ) (old new : CacheView)
     → id < fixed_from → quits_on m unit ≡ false → (KnowsStep m old.store id unit → ⊥) → new ≡ counted old
@@ -319,7 +319,7 @@ module _ (m : Machine) (id : ℕ) (unit : Option ℕ) (old new : CacheView) (cla
     only = step.only;
   }
 
--- a unit that isn't a quit byte
+-- a unit that is not a quit byte
 pub no_quit_unit : (m : Machine) (unit : Option ℕ) → quits_on m unit ≡ false → IsNoQuit m unit
 no_quit_unit m None clean byte e = absurd (none_some e)
 no_quit_unit m (Some read) clean byte e = subst (λ b. is_quit m.quits b ≡ false) (some_inj e) clean

@@ -17,7 +17,7 @@ use Rattle.automata_base.specs.Classes.{is_quit}
 use Rattle.automata_base.specs.Steps.{successor}
 use Rattle.automata_config.specs.Options.{match_kind_of}
 
--- an ID that isn't fixed is that of a row
+-- an ID that is not fixed is that of a row
 pub HasRow-valid : (t : Rows) (id : ℕ) → HasRow t id → id < 2 ^ 29 → IsValid t id
 HasRow-valid t id (inl e) l = absurd (omega (arith, e, l))
 HasRow-valid t id (inr (inl e)) l = absurd (omega (arith, e, l))
@@ -38,7 +38,7 @@ pub Leads-Names : (t : Rows) (id : ℕ) (q : Powerset) → Leads t id q → id <
 Leads-Names t id q (inl (e, d)) l = absurd (omega (arith, e, l))
 Leads-Names t id q (inr h) l = h
 
--- an ID without the match bit tells nothing
+-- an ID without the match bit reports nothing
 pub Leads-untagged :
     (t : Rows) (id : ℕ) (q : Powerset) → Leads t id q → (Names t id q → IsBitSet id 27 ↔ (0 < length q.patterns)) → (IsBitSet id 27 → ⊥)
     → q.patterns ≡ []
@@ -65,7 +65,7 @@ dead_tagged t id low small q (inl (e, d)) =
 dead_tagged t id low small q (inr h) =
     (λ b. absurd (let l : id < 2 ^ 29 = low q h in low_bit 30 id (omega (arith, l)) b), λ clear. h)
 
--- a refused step, told at an offset
+-- a failed step, reported at an offset
 pub refused :
     (m : Machine) (c c' : Stored) (q : Powerset) (unit : Option ℕ) (quit_at at : ℕ) (e : StepError)
     → IsNoQuit m unit → LacksStep m c q unit → c' ≡ c → (IsCacheError e → GivesUp c (successor m.nfa (match_kind_of m.config) q unit))
@@ -104,7 +104,7 @@ quits m t t' id id' byte q small low bit named h = go (is_quit m.quits byte) ref
   go false e =
       absurd (Leads-quit t' id' (successor m.nfa (match_kind_of m.config) q (Some byte)) (named e q h) (low (successor m.nfa (match_kind_of m.config) q (Some byte))) small bit)
 
--- of one pattern the first that a list tells is that one
+-- of one pattern the first that a list reports is that one
 pub only_pattern : (ps : List ℕ) → 0 < length ps → ((p : ℕ) → In p ps → p < 1) → 0 ≡ get_or ps 0 0
 only_pattern [] some own = absurd (omega (arith, some))
 only_pattern (p ∷ ps) some own = let low : p < 1 = own p (inl refl) in omega (arith, low)

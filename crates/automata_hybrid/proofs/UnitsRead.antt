@@ -87,7 +87,7 @@ module _ (way : Direction) (m : Machine) (input : Input) (from : ℕ) (old : Sto
         );
       }
 
-  -- units whose transitions are known change nothing else
+  -- units whose transitions are cached change nothing else
   pub read_known :
       (k to : ℕ) (c : Stored) → AreReadTo way m input from k old c → k ≤ to
       → ((j : ℕ) → k ≤ j → j < to → KnowsUnit way m c input j)
@@ -118,7 +118,7 @@ module _ (way : Direction) (m : Machine) (input : Input) (from : ℕ) (old : Sto
       go (inl same) before_it = (c, subst (λ n. AreReadTo way m input from n old c) same before, lags_none c)
       go (inr less) before_it = on (known to (omega (arith, less)) (omega arith)) (before_it (omega (arith, less)))
 
--- units were read, and then known ones were followed
+-- units were read, and then cached ones were followed
 module _ (way : Direction) (m : Machine) (input : Input) (from : ℕ) (old : Stored) (k to : ℕ) (c : Stored)
     (before : AreReadTo way m input from k old c) (more : k ≤ to)
     (known : (j : ℕ) → k ≤ j → j < to → KnowsUnit way m c input j) where
@@ -137,7 +137,7 @@ module _ (way : Direction) (m : Machine) (input : Input) (from : ℕ) (old : Sto
         read_more way m input from old to run new reads
         (subst (λ (v : Stored). IsUnitRead way m input to v new) (lags_moved way input to c run lags) here)
 
-  -- or was refused
+  -- or failed
   pub left_then :
       (new : Stored) → IsLeftAt way m input to c new
       → (run : Stored) × AreReadTo way m input from to old run × IsLeftAt way m input to run new
@@ -429,7 +429,7 @@ ended_here way input k at mid new place ended =
     ap (λ (v : CacheView). v.store) ended
     ∙ ap (λ a. with_searched mid.store (finished mid.store.searched a)) (sym place)
 
--- a start that is answered was known, or was computed
+-- a start that is answered was cached, or was computed
 pub start_had :
     (way : Direction) (m : Machine) (input : Input) (old new : CacheView) (id : ℕ) → length old.store.starts ≡ slot_count m
     → IsStartEffect m input.anchored (tape_in way input).before old new
@@ -457,7 +457,7 @@ start_had way m input old new id slots effect a =
       a.computed within (λ k. absurd (omega (arith, free, k.1.1))),
     )
 
--- a refused start changes nothing
+-- a failed start changes nothing
 pub unstarted :
     (m : Machine) (mode : Anchored) (behind : Option ℕ) (behind_at start_at : ℕ) (old new : CacheView) (e : SearchError)
     → IsStartRefusedAt m mode behind behind_at start_at old new e → new.store ≡ old.store

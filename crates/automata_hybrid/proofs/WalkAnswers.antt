@@ -1,4 +1,4 @@
--- Where no quit byte is in reach, no clear limit is set and the mode is supported, a walk call is refused by memory alone.
+-- Where no quit byte is in reach, no clear limit is set and the mode is supported, a walk call fails by memory alone.
 use Rattle.std.proofs.Common.{ℕ, ◌≡◌, ◌≤◌, inl, inr, true, length, Some, None, refl, sym, ◌∙◌}
 use Rattle.automata_base.specs.Classes.{is_quit}
 use Rattle.automata_base.specs.Input.{Input}

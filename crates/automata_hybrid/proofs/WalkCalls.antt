@@ -39,13 +39,13 @@ undone b s e done «is» = go (lt_or_le e s) where
   go (inr l) = l
 
 module _ (way : Direction) (m : Machine) (input : Input) where
-  -- nothing is told by no unit
+  -- nothing is reported by no unit
   pub told_none : Skips m ⊎ (Skips m → ⊥) → HasToldBy way m input 0 0
   unfolding pairs_told
   told_none (inl s) = record { pairs = []; unsplit = inl (s, refl); count = refl }
   told_none (inr n) = record { pairs = []; unsplit = inr (n, refl); count = refl }
 
-  -- all that a place tells
+  -- all that a place reports
   pub told_place :
       (place e : ℕ)
       → (Skips m → is_split input.haystack (offset_in way input place) ≡ false) → HasToldBy way m input place e
@@ -60,7 +60,7 @@ module _ (way : Direction) (m : Machine) (input : Input) where
         count = omega (arith, one, both, t.count);
       }
 
-  -- a walk that has told all of where it stands
+  -- a walk that has reported all of where it stands
   pub told_here :
       (w : Walk) (k : ℕ)
       → Skips m ⊎ (Skips m → ⊥) → HasTold way m input w k → (w.stage ≡ Ended → ⊥)
@@ -110,7 +110,7 @@ module _ (way : Direction) (m : Machine) (input : Input) where
         omega (arith, long, more, one, less, told.count),
       )
 
-  -- a walk that has told all
+  -- a walk that has reported all
   all_none : (k : ℕ) (pairs : List Pair) → HasToldAll way m input k → AreWalked way m input pairs → half_nth pairs k ≡ None
   all_none k pairs t walked =
       let same : pairs ≡ t.pairs = walks_one way m.nfa (match_kind_of m.config) input pairs t.pairs walked t.all in
@@ -126,7 +126,7 @@ module _ (way : Direction) (m : Machine) (input : Input) where
         λ pairs walked. (sym (all_none k pairs all walked), λ l. e),
       )
 
-  -- the walk ends where all is told
+  -- the walk ends where all is reported
   ends : (w : Walk) (units k : ℕ) → HasToldAll way m input k → HasTold way m input (ended_walk w units) (suc k) × ((pairs : List Pair) → AreWalked way m input pairs → ((ended_walk w units).found ≡ half_nth pairs k) × (length pairs ≤ k → Ended ≡ Ended))
   ends w units k all = (all_more k all, λ pairs walked. (sym (all_none k pairs all walked), λ l. refl))
 
@@ -138,7 +138,7 @@ module _ (way : Direction) (m : Machine) (input : Input) where
     go (At q) s on = absurd (omega (arith, done, s.undone))
     go Ended t on = absurd (on refl)
 
-  -- all units have told these pairs
+  -- all units have reported these pairs
   all_told :
       (k : ℕ) → input.start ≤ input.end → MayStart m input.anchored (tape_in way input).before
       → WalkMeetsNoQuit way m input
@@ -210,7 +210,7 @@ module _ (way : Direction) (m : Machine) (input : Input) where
       → Finishes way m input w.units units → TellsNext way m input w (ended_walk v units)
   next_finishes w v units s may here f k t = ends v units k (all_told k s may f.clean (f.silent k (here k t)))
 
-  -- or to a state that tells patterns, and tells the first one
+  -- or to a state that reports patterns, and reports the first one
   pub next_arrives :
       (w : Walk) (t : Rows) (id units : ℕ) (q : Powerset) (half : HalfMatch)
       → input.start ≤ input.end → MayStart m input.anchored (tape_in way input).before

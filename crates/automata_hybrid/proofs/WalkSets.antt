@@ -151,7 +151,7 @@ one_of : (pairs : List Pair) → first_alone true pairs ≡ take 1 pairs
 one_of [] = refl
 one_of (x ∷ xs) = refl
 
--- some pattern below its capacity isn't in a set
+-- some pattern below its capacity is not in a set
 pub record IsLacking (xs : List Bool) : Type 0 where
   pub pattern : ℕ
   pub below : pattern < length xs
@@ -164,7 +164,7 @@ lacking (true ∷ xs) j full =
     let rest : IsLacking xs = lacking xs (suc j) (λ e. full (ap suc e)) in
     record { pattern = suc rest.pattern; below = omega (arith, rest.below); absent = rest.absent }
 
--- a set with the patterns of the first pairs of a walk, as many as the walk has told; an earliest search goes on with none
+-- a set with the patterns of the first pairs of a walk, as many as the walk has reported; an earliest search goes on with none
 pub record Joins (m : Machine) (input : Input) (walk : Walk) (old new : List Bool) : Type 0 where
   pub k : ℕ
   pub told : HasTold Forward m input walk k
@@ -293,7 +293,7 @@ module _ (m : Machine) (input : Input) (old : List Bool) where
       unfolding joins_more
       calls_more e lacks cache last called = called
 
--- a walk that hasn't begun has made no call
+-- a walk that has not begun has made no call
 pub joins_begin :
     (m : Machine) (input : Input) (walk : Walk) (set : List Bool) (c : Stored) → walk ≡ fresh_walk
     → (j : Joins m input walk set set) × HaveCalled m input set j.k c walk c
@@ -314,7 +314,7 @@ abbrev pub steps_left : Machine → Input → Walk → ℕ
 steps_left m input w = (input.end - input.start + 2 - w.units) * (greatest m + 1) + (greatest m - w.told)
 
 module _ (m : Machine) (input : Input) (inside : input.end ≤ length input.haystack) where
-  -- a walk that tells a pair stands where it may, with no more patterns told than states may have
+  -- a walk that reports a pair stands where it may, with no more patterns reported than states may have
   pub record StandsWell (w : Walk) : Type 0 where
     pub units : w.units ≤ input.end - input.start + 1
     pub told : w.told ≤ greatest m
@@ -351,7 +351,7 @@ module _ (m : Machine) (input : Input) (inside : input.end ≤ length input.hays
       let times : (input.end - input.start + 2 - new.units) * (greatest m + 1) ≡ (input.end - input.start + 2 - old.units) * (greatest m + 1) = ap (λ n. n * (greatest m + 1)) units in
       omega (arith, times, more, s.told)
 
--- what the walk tells is what the ordered paths do, where no cycle passes a look
+-- what the walk reports is what the ordered paths do, where no cycle passes a look
 pub patterns_of :
     (m : Machine) (input : Input) → WalkIsRight m.nfa → IsInput input → (old new : List Bool)
     → IsLookAcyclic (nfa_of m.nfa)
@@ -369,7 +369,7 @@ pub on_found :
 on_found old new half (inl none) e = absurd (none_half half (sym none ∙ e))
 on_found old new half (inr h) e = h
 
--- two counts of the pairs that a walk has told are one
+-- two counts of the pairs that a walk has reported are one
 told_one :
     (m : Machine) (input : Input) (w : Walk) (a b : ℕ)
     → (w.stage ≡ Ended → ⊥) → HasTold Forward m input w a → HasTold Forward m input w b → a ≡ b
@@ -390,7 +390,7 @@ no_pairs : (xs : List Pair) → length xs ≡ 0 → xs ≡ []
 no_pairs [] e = refl
 no_pairs (x ∷ xs) e = absurd (omega (arith, e))
 
--- a set whose walk knows all that it uses goes on by calls that know what they use
+-- a set whose walk has cached all that it uses goes on by calls that know what they use
 module _ (m : Machine) (c : Stored) (input : Input) (walk : Walk) (old new : List Bool) (j : Joins m input walk old new)
     (list : (pairs : List Pair) × AreWalked Forward m input pairs) where
   still_open : (n : ℕ) (t : HasToldBy Forward m input n j.k) → input.start ≤ input.end → n ≤ length (tape_in Forward input).bytes → IsOpen input old t.pairs
@@ -431,7 +431,7 @@ module _ (m : Machine) (c : Stored) (input : Input) (walk : Walk) (old new : Lis
       state (At q) holds begins = holds
       state Ended holds begins = tt
 
--- what its walk goes on from is known, where its start was
+-- what its walk goes on from is cached, where its start was
 pub begun_state :
     (m : Machine) (input : Input) (stage : Stage) (old mid : CacheView)
     → IsGrown old mid → HasItsState mid.store.table stage → KnowsItsStart Forward m old.store input
@@ -440,7 +440,7 @@ begun_state m input Fresh old mid grown holds begins = λ slot. grown.starts _ (
 begun_state m input (At q) old mid grown holds begins = holds
 begun_state m input Ended old mid grown holds begins = tt
 
--- a walk that has told a pair has a span that isn't done
+-- a walk that has reported a pair has a span that is not done
 pub told_undone :
     (m : Machine) (input : Input) (w : Walk) (k : ℕ)
     → HasTold Forward m input w (suc k) → (w.stage ≡ Ended → ⊥) → input.start ≤ input.end
@@ -455,7 +455,7 @@ pub which_still :
     → IsGrown old new → new.count ≡ old.count → KnowsWhich m old.store input set → KnowsWhich m new.store input set
 which_still m input set old new g same knows = subst (λ (c : Stored). KnowsWhich m c input set) (sym (g.idle same).1) knows
 
--- a set that is gone on with is open after the pairs that its walk has told
+-- a set that is gone on with is open after the pairs that its walk has reported
 pub open_after :
     (m : Machine) (input : Input) (walk : Walk) (old new : List Bool) (j : Joins m input walk old new)
     (pairs : List Pair) → AreWalked Forward m input pairs → IsOpen input old (take j.k pairs)
@@ -479,7 +479,7 @@ open_after m input walk old new j pairs walked = go j.open_at input.earliest ref
         ),
       )
 
--- an earliest set or a full one isn't gone on with
+-- an earliest set or a full one is not gone on with
 pub closes :
     (input : Input) (old new : List Bool) (pairs : List Pair) (k : ℕ) (half : HalfMatch)
     → half_nth pairs k ≡ Some half → length new ≡ length old → IsJoined (take (suc k) pairs) old new

@@ -1,4 +1,4 @@
--- The pairs that walks tell lie in their span.
+-- The pairs that walks report lie in their span.
 use Rattle.std.proofs.Common.{ℕ, zero, suc, ◌≡◌, ◌∙◌, ◌≤◌, inl, inr, List, [], ◌∷◌, Option, Some, None, length, refl, sym, ap}
 use Rattle.std.specs.Prelude.{Result, Ok, Err, IfSome, OnErr, OnOk}
 use Rattle.automata_base.specs.Input.{Input}

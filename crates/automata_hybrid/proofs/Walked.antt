@@ -1,4 +1,4 @@
--- What a walk tells, unit by unit.
+-- What a walk reports, unit by unit.
 use Rattle.std.proofs.Common.{ℕ, zero, suc, ◌≡◌, ◌<◌, ◌≤◌, ◌+◌, ◌⊎◌, inl, inr, Bool, true, false, cond, List, [], ◌∷◌, ◌++◌, length, Some, None, refl, sym, ap, ap₂, ◌∙◌, subst, arith, length-append, eq-or-lt_of_le, get_or}
 use Rattle.automata_base.specs.Answers.{AreUnsplit, offset_in, with_offsets, without_split}
 use Rattle.automata_base.specs.Classes.{is_quit}
@@ -52,7 +52,7 @@ join_none [] = refl
 join_none (x ∷ xs) = ap (λ (zs : List Pair). x ∷ zs) (join_none xs)
 
 module _ (way : Direction) (m : Machine) (input : Input) where
-  -- the patterns of the state behind the unit at a place
+  -- the patterns of the state after the unit at a place
   abbrev pub at : ℕ → List ℕ
   at i = (state_in way m input (suc i)).patterns
 
@@ -60,7 +60,7 @@ module _ (way : Direction) (m : Machine) (input : Input) where
   unfolding pairs_told
   pairs_more i = refl
 
-  -- one unit more, at a place that isn't skipped
+  -- one unit more, at a place that is not skipped
   pub told_more :
       (i : ℕ) (pairs : List Pair)
       → (Skips m → is_split input.haystack (offset_in way input i) ≡ false)
@@ -119,7 +119,7 @@ module _ (way : Direction) (m : Machine) (input : Input) where
   pub silent_trans : (a b c : ℕ) → IsSilent way m input a b → IsSilent way m input b c → IsSilent way m input a c
   silent_trans a b c f g k t = g k (f k t)
 
-  -- the dead state tells nothing from there on
+  -- the dead state reports nothing from there on
   pub silent_dead : (k n : ℕ) → k ≤ n → state_in way m input k ≡ dead → IsSilent way m input k n
   silent_dead k zero l e = let z : k ≡ 0 = omega (arith, l) in subst (λ i. IsSilent way m input k i) z (silent_same k)
   silent_dead k (suc n) l e = go (λ more. silent_dead k n more e) (eq-or-lt_of_le l) where
@@ -192,7 +192,7 @@ module _ (way : Direction) (m : Machine) (input : Input) where
         stops = λ j more r. absurd (let few : j ≤ length (tape_in way input).bytes = r.0 in omega (arith, few, more, e));
       }
 
-  -- one step of a walk that tells nothing
+  -- one step of a walk that reports nothing
   pub silent_step :
       (from k : ℕ)
       → IsSilent way m input from k
@@ -201,7 +201,7 @@ module _ (way : Direction) (m : Machine) (input : Input) where
   silent_step from k silent (inl (s, split)) = silent_trans from k (suc k) silent (silent_skipped k s split)
   silent_step from k silent (inr none) = silent_trans from k (suc k) silent (silent_none k none)
 
-  -- what is told by fewer units is a beginning
+  -- what is reported by fewer units is a beginning
   pub record Begins (xs ys : List Pair) : Type 0 where
     pub rest : List Pair
     pub joined : ys ≡ xs ++ rest
@@ -247,7 +247,7 @@ module _ (way : Direction) (m : Machine) (input : Input) where
             ∙ (offsets_join way input xs j.rest ∙ ap (λ (zs : List Pair). zs ++ with_offsets way input j.rest) (sym e)));
       }
 
-  -- the whole list begins with what fewer units tell
+  -- the whole list begins with what fewer units report
   pub walked_begin :
       (i : ℕ) (a b : List Pair)
       → input.start ≤ input.end → i ≤ suc (length (tape_in way input).bytes)
@@ -257,13 +257,13 @@ module _ (way : Direction) (m : Machine) (input : Input) where
       unsplit_begin (pairs_in way m input i) pairs a b
       (subst (λ (zs : List Pair). Begins (pairs_in way m input i) zs) (sym told) (pairs_begin i (suc (length (tape_in way input).bytes)) l)) u v
 
-  -- what all units tell is the whole list
+  -- what all units report is the whole list
   pub walked_all :
       (a : List Pair) → input.start ≤ input.end
       → AreUnsplit (Skips m) way input (pairs_in way m input (suc (length (tape_in way input).bytes))) a → AreWalked way m input a
   walked_all a s u = inr (s, (pairs_in way m input (suc (length (tape_in way input).bytes)), refl, u))
 
-  -- more units tell no fewer pairs
+  -- more units report no fewer pairs
   pub told_rises : (i n a b : ℕ) → i ≤ n → HasToldBy way m input i a → HasToldBy way m input n b → a ≤ b
   told_rises i n a b l t u =
       let more : Begins t.pairs u.pairs = unsplit_begin (pairs_in way m input i) (pairs_in way m input n) t.pairs u.pairs (pairs_begin i n l) t.unsplit u.unsplit in

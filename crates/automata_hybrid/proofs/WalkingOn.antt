@@ -26,7 +26,7 @@ use Rattle.automata_hybrid.proofs.SearchedWalks.{reads_some, walk_reads_before}
 use Rattle.automata_hybrid.proofs.UnitsRead.{ended_here}
 use Rattle.automata_hybrid.proofs.WalkCalls.{told_here, walk_clears_none}
 
--- a walk was gone on with from an ID, a search began at its first unit, and it came to where it tells patterns, or to its end
+-- a walk was gone on with from an ID, a search began at its first unit, and it came to where it reports patterns, or to its end
 module _ (way : Direction) (m : Machine) (input : Input) (w : Walk) (from : ℕ) (old between begun mid : CacheView)
     (inside : input.end ≤ length input.haystack) (skips : Skips m ⊎ (Skips m → ⊥)) (told : IsWalkOf way m input w) (r : IsToRead input w.stage w.units w.told)
     (e : IsResumeEffect {T = ℕ} way m input w.stage old between (Ok from))
@@ -147,7 +147,7 @@ module _ (way : Direction) (m : Machine) (input : Input) (w : Walk) (from : ℕ)
         (nothing_second between begun new began (grown_trans begun mid new a.grown (grown_moved mid new ends))
         (nothing_after old between new e.grown after nothing)))
 
-  -- or the state there can't be held
+  -- or the state there cannot be held
   module _ (id : ℕ) (arrived : Arrives way m mid.store.table input w.units id arrival.units) where
     same_place : arrived.place ≡ w.units + last.0
     same_place = omega (arith, arrived.behind, last.1)

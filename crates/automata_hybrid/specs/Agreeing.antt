@@ -18,8 +18,8 @@ AnswersAgree =
     → IsFound way m input first → IsFound way other input second
     → first ≡ second
 
--- Two walks over one input that have told `k` pairs each tell the same match by the next call that answers, whatever
--- cache it is made over; and so do walks of two DFAs of one automaton and one kind.
+-- Two walks over one input that have each reported `k` pairs report the same match by the next call that answers,
+-- whatever cache it uses; and so do walks of two DFAs of one NFA and one match kind.
 abbrev pub WalksAgree : Machine → Type 0
 WalksAgree m =
     (way : Direction) (other : Machine) (input : Input) (first second first_told second_told : Walk) (k : ℕ)

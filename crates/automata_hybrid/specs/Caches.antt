@@ -5,7 +5,7 @@ use Rattle.automata_hybrid.specs.Machine.{Machine, table_stride}
 use Rattle.automata_hybrid.specs.Table.{Rows, IsValid}
 use Rattle.automata_hybrid.specs.Stores.{Stored, fresh_store}
 
--- what contracts see of a cache: its states, and how often it determinised
+-- what contracts see of a cache: its states, and how often it determinized
 pub record CacheView : Type 0 where
   pub store : Stored
   pub count : ℕ
@@ -18,7 +18,7 @@ IsCacheOf c m = c.store.table.of ≡ m
 abbrev pub fresh_cache : Machine → CacheView
 fresh_cache m = record { store = fresh_store m; count = 0 }
 
--- one more determinisation
+-- one more determinization
 abbrev pub counted : CacheView → CacheView
 counted c = record { store = c.store; count = c.count + 1 }
 

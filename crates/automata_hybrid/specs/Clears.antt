@@ -78,7 +78,7 @@ pub record KeepsSlot (old : Rows) (id : ℕ) (before after : Kept) : Type 0 wher
   pub slots : length after.starts ≡ length before.starts + 1
   -- The slots before it are as they were.
   pub front : (slot : ℕ) → slot < length before.starts → slice_index after.starts slot ≡ slice_index before.starts slot
-  -- If its start was known, it is known.
+  -- If its start state was cached, it is cached.
   pub known : id < unknown_id → slice_index after.starts (length before.starts) < unknown_id
   -- No state is there that neither table had.
   pub absent : (q : Powerset) → id_of old q ≡ None → id_of before.table q ≡ None → id_of after.table q ≡ None
@@ -95,9 +95,9 @@ pub record KeepsAllStarts (old : Rows) (starts : List ℕ) (k : Kept) : Type 0 w
   pub few : length k.table.rows ≤ length starts
   -- There are as many slots as before.
   pub slots : length k.starts ≡ length starts
-  -- Each start that was known is known.
+  -- Each start state that was cached is cached.
   pub known : KeepsStarts starts k.starts
-  -- No state is there that wasn't.
+  -- No state is there that was not there before.
   pub absent : (q : Powerset) → id_of old q ≡ None → id_of k.table q ≡ None
   -- The rows are of the same machine.
   pub of : k.table.of ≡ old.of

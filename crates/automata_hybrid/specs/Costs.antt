@@ -1,4 +1,4 @@
--- How often searches determinise, and when they clear nothing.
+-- How often searches determinize, and when they clear nothing.
 use Rattle.std.specs.Prelude.{ℕ, zero, suc, ◌≡◌, ◌+◌, ◌-◌, ◌*◌, ◌<◌, ◌≤◌}
 use Rattle.automata_base.specs.Answers.{Tries, later}
 use Rattle.automata_base.specs.Input.{Input}
@@ -10,8 +10,8 @@ use Rattle.automata_hybrid.specs.Knowing.{KnowsItsStart}
 use Rattle.automata_hybrid.specs.Machine.{Machine}
 use Rattle.automata_hybrid.specs.Searches.{Finds, Skips}
 
--- the most determinisations of so many passes, the first over so many bytes and each later one over one byte less: a
--- pass determinises at most once for each byte, for its start and at its end
+-- the most determinizations of so many passes, the first over so many bytes and each later one over one byte less: a
+-- pass determinizes at most once for each byte, for its start and at its end
 abbrev pub passes_most : (passes bytes : ℕ) → ℕ
 passes_most zero bytes = 0
 passes_most (suc passes) bytes = passes_most passes bytes + (bytes - passes + 2)
@@ -19,7 +19,7 @@ passes_most (suc passes) bytes = passes_most passes bytes + (bytes - passes + 2)
 -- what a pass over the span of an input costs a cache
 pub record IsCostOfPass (way : Direction) (m : Machine) (input : Input) (old new : CacheView) : Type 0 where
   pub counted : new.count ≤ old.count + (input.end - input.start + 2)
-  -- a start that is known isn't determinised again
+  -- a start state that is cached is not determinized again
   pub started : KnowsItsStart way m old.store input → new.count ≤ old.count + (input.end - input.start + 1)
   -- where there is room for as many states, nothing is cleared
   pub room : HasRoom old.store (input.end - input.start + 2) → new.store.clears ≡ old.store.clears
@@ -39,7 +39,7 @@ pub record IsCostOfPasses (way : Direction) (m : Machine) (input : Input) (passe
   -- each costs what a pass over its span may; and so all of them together
   pub each : AreCostsInTurn way m input passes old new
   pub counted : new.count ≤ old.count + passes_most passes (input.end - input.start)
-  -- a start that is known isn't determinised again: where those of all are, each pass determinises once less
+  -- a start state that is cached is not determinized again: where those of all are, each pass determinizes once less
   pub started :
       ((k : ℕ) → k < passes → KnowsItsStart way m old.store (later way k input))
       → new.count + passes ≤ old.count + passes_most passes (input.end - input.start)
@@ -50,8 +50,8 @@ pub record IsCostOfPasses (way : Direction) (m : Machine) (input : Input) (passe
 abbrev pub IsCostOfSearch : Direction → Machine → Input → CacheView → CacheView → Type 0
 IsCostOfSearch way m input old new = (passes : ℕ) × IsCostOfPasses way m input passes old new
 
--- How often a search determinises by the bytes of its span alone: as one pass may, where no place is skipped or the
--- search is anchored; and else no more than a pass over the whole span for each of its places.
+-- How often a search determinizes by the bytes of its span alone: as one pass may, if no place is skipped or the search
+-- is anchored; and else no more than a pass over the whole span for each of its places.
 abbrev pub SearchesCostFew : Type 0
 SearchesCostFew =
     (way : Direction) (m : Machine) (input : Input) (old new : CacheView) → IsCostOfSearch way m input old new

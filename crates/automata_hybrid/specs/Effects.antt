@@ -39,7 +39,7 @@ pub record AddsNext (old new : Stored) (from : ℕ) (q : Powerset) (now next : �
   pub named : Names new.table next q
   -- No other state was added.
   pub only : (p : Powerset) → Has new.table p → Has old.table p ⊎ (p ≡ q)
-  -- Each start that was known is known.
+  -- Each start state that was cached is cached.
   pub starts : KeepsStarts old.starts new.starts
   -- The cache is of the same machine.
   pub of : new.table.of ≡ old.table.of
@@ -70,7 +70,7 @@ pub record AddsStart (old new : Stored) (r : Row) (id : ℕ) : Type 0 where
   pub only : (p : Powerset) → Has new.table p → Has old.table p ⊎ (p ≡ r.state)
   -- There are as many slots as before.
   pub slots : length new.starts ≡ length old.starts
-  -- Each start that was known is known.
+  -- Each start state that was cached is cached.
   pub starts : KeepsStarts old.starts new.starts
   -- The cache is of the same machine.
   pub of : new.table.of ≡ old.table.of
@@ -81,7 +81,7 @@ IsStarted old slot r new id =
     (Leads old.table id r.state × (new ≡ with_start old slot id))
     ⊎ (Lacks old.table r.state × (between : Stored) × IsAddedStart old r between × (new ≡ with_start between slot id))
 
--- a transition that wasn't known is computed
+-- a transition that was not cached is computed
 pub record IsStepChange (old new : Stored) : Type 0 where
   pub id : ℕ
   pub class : ℕ
@@ -96,7 +96,7 @@ pub record IsStepChange (old new : Stored) : Type 0 where
 abbrev pub slot_row : Machine → ℕ → Row
 slot_row m slot = record { state = start_of m slot; started = specialize_start_states_of m.config }
 
--- a start that wasn't known is computed
+-- a start state that was not cached is computed
 pub record IsStartChange (old new : Stored) : Type 0 where
   pub slot : ℕ
   pub within : slot < slot_count old.table.of
@@ -111,7 +111,7 @@ pub record IsBackChange (old new : Stored) : Type 0 where
   pub reached : IsReached old.table.of state
   pub added : IsAddedStart old (record { state = state; started = false }) new
 
--- a step, a start or a state that is put back; one that is refused changes nothing
+-- a step, a start state, or a state that is put back; one that fails changes nothing
 abbrev pub IsOneChange : Stored → Stored → Type 0
 IsOneChange old new = (new ≡ old) ⊎ (IsStepChange old new ⊎ (IsStartChange old new ⊎ IsBackChange old new))
 

@@ -1,4 +1,4 @@
--- What steps and searches make of a cache, and a reset doesn't.
+-- What steps and searches do to a cache. A reset does more.
 use Rattle.std.specs.Prelude.{◌≡◌, ℕ, ◌+◌, ◌-◌, ◌*◌, ◌^◌, ◌<◌, ◌≤◌, ◌⊎◌, IsBitSet, length, slice_index, true}
 use Rattle.automata_base.specs.Powerset.{Powerset}
 use Rattle.automata_hybrid.specs.Stores.{Stored, IsKnownStart, IsKnownTransition, KeepsStarts, cell_of, with_searched}
@@ -11,7 +11,7 @@ use Rattle.automata_hybrid.specs.Machine.{greatest, slot_count, start_of, table_
 use Rattle.automata_hybrid.specs.Progressing.{progress_cleared}
 use Rattle.automata_hybrid.specs.Table.{IsValid, Names, Rows}
 
--- nothing is lost: each row, each known start and each known transition is as it was
+-- nothing is lost: each row, each cached start state and each cached transition is as it was
 pub record Keeps (old new : Stored) : Type 0 where
   pub rows : (id : ℕ) (q : Powerset) → Names old.table id q → Names new.table id q
   pub starts : (slot : ℕ) → IsKnownStart old slot → slice_index new.starts slot ≡ slice_index old.starts slot
@@ -39,7 +39,7 @@ pub record HasRoom (c : Stored) (states : ℕ) : Type 0 where
 abbrev pub HasStartTag : Rows → Powerset → Type 0
 HasStartTag t q = (id : ℕ) × Names t id q × IsBitSet id 28
 
--- a state may be given the start tag: starts are specialised, and it's the start of a slot that is known
+-- a state may get the start tag: start states are specialized, and it is that of a slot which is cached
 abbrev pub MayHaveStartTag : Stored → Powerset → Type 0
 MayHaveStartTag c q =
     (specialize_start_states_of c.table.of.config ≡ true)
@@ -54,19 +54,19 @@ pub record IsGrown (old new : CacheView) : Type 0 where
   pub of : new.store.table.of ≡ old.store.table.of
   pub counted : old.count ≤ new.count
   pub clears : old.store.clears ≤ new.store.clears
-  -- each determinisation made one change: so a state that was added fitted, or the cache was cleared for it
+  -- each determinization made one change: so a state that was added fitted, or the cache was cleared for it
   pub made : AreChanges (new.count - old.count) old.store new.store
-  -- a start that is known stays known, across clears too
+  -- a start state that is cached stays cached, across clears too
   pub starts : KeepsStarts old.store.starts new.store.starts
-  -- a state that hadn't the start tag is given it only as a start, where starts are specialised
+  -- a state that did not have the start tag gets it only as a start state, and only if these are specialized
   pub tagged :
       (q : Powerset) → HasStartTag new.store.table q
       → HasStartTag old.store.table q ⊎ MayHaveStartTag new.store q
-  -- with nothing determinised nothing has changed but the progress of searches
+  -- if nothing was determinized, nothing has changed but the progress of searches
   pub idle : new.count ≡ old.count → IsStill old new
   -- with nothing cleared nothing is lost
   pub kept : ClearedNothing old.store new.store → Keeps old.store new.store
-  -- and nothing is cleared where there is room for as many states as are determinised
+  -- nothing is cleared if there is room for as many states as are determinized
   pub roomy :
       (states : ℕ) → HasRoom old.store (states + (new.count - old.count))
       → HasRoom new.store states × (new.store.clears ≡ old.store.clears)

@@ -23,7 +23,7 @@ pub record HasOnly (tag id : ℕ) : Type 0 where
 abbrev pub fixed_from : ℕ
 fixed_from = 2 ^ 29
 
--- what stands where nothing is known
+-- what stands where nothing is cached
 abbrev pub unknown_id : ℕ
 unknown_id = 2 ^ 31
 

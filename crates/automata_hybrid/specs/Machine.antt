@@ -43,7 +43,7 @@ mode_of zero = No
 mode_of (suc zero) = Yes
 mode_of (suc (suc pattern)) = Pattern pattern
 
--- something of each kind that a start looks behind to: an other byte, a word byte, none, line feed, carriage return,
+-- an example of each kind of look-behind: an other byte, a word byte, none, line feed, carriage return,
 -- the terminator
 abbrev pub sample_of : (terminator kind : ℕ) → Option ℕ
 sample_of terminator zero = Some (cond (eqb 0 terminator) 1 0)

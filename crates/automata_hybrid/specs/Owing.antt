@@ -29,8 +29,8 @@ use Rattle.automata_hybrid.specs.Starting.{quit_behind}
 use Rattle.automata_hybrid.specs.Within.{LiesIn, LiesPast}
 use Rattle.automata_config.specs.Options.{match_kind_of, minimum_cache_clear_count_of}
 
--- a cache of this DFA: its rows fit together, each start slot has its own start or none yet, and its accounted bytes are
--- within the settings
+-- a cache of this DFA: its rows fit together, each start slot has its own start or none yet, and its accounted bytes
+-- are within the settings
 pub record IsStoreOf (c : Stored) (m : Machine) : Type 0 where
   pub of : c.table.of ≡ m
   pub rows : AreRows c.table
@@ -38,18 +38,18 @@ pub record IsStoreOf (c : Stored) (m : Machine) : Type 0 where
   pub slots : length c.starts ≡ slot_count m
   pub within : usage c ≤ m.capacity
 
--- want of memory
+-- the error is out of memory
 abbrev pub IsMemory : SearchError → Type 0
 IsMemory e = e ≡ search.OutOfMemory
 
--- nothing but want of memory stands in the way of an answer: no quit byte is in reach, the mode is supported, and no
--- clear limit is set
+-- nothing but a lack of memory can prevent an answer: no quit byte is in reach, the anchored mode is supported, and no
+-- limit on clears is set
 pub record IsUnhindered (m : Machine) (input : Input) : Type 0 where
   pub reach : NoQuitInReach m input
   pub supported : supports m input.anchored ≡ true
   pub clears : minimum_cache_clear_count_of m.config ≡ None
 
--- the span isn't done, no quit byte is behind the start, and the mode isn't supported
+-- the span is not done, the look-behind byte is no quit byte, and the anchored mode is not supported
 pub record IsUnsupported (way : Direction) (m : Machine) (input : Input) : Type 0 where
   pub undone : input.start ≤ input.end
   pub behind : quit_behind m (tape_in way input).before ≡ None
@@ -58,7 +58,7 @@ pub record IsUnsupported (way : Direction) (m : Machine) (input : Input) : Type 
 abbrev pub unsupported_error : Input → SearchError
 unsupported_error input = search.Match (UnsupportedMode input.anchored)
 
--- some cache of the DFA, within its settings, refuses the search so
+-- over some cache of the DFA, within its settings, the search may fail so
 abbrev pub MayRefuse : Direction → Machine → Input → SearchError → Type 0
 MayRefuse way m input e = (c : Stored) × IsStoreOf c m × IsRefused way m c input e
 
@@ -108,14 +108,14 @@ IsBased m input result =
 -- what a search in a direction makes of its cache
 pub record IsSearchEffect {T : Type 0} (way : Direction) (m : Machine) (input : Input) (old new : CacheView)
     (result : Result T SearchError) : Type 0 where
-  -- a pass over n bytes makes at most n + 2 determinisations, and each is over another span that is tried: one, where
-  -- no place is skipped or the search is anchored; nothing is cleared where there is room for as many states
+  -- a pass over n bytes determinizes at most n + 2 times, and each is over another span that is tried: one, if no place
+  -- is skipped or the search is anchored; nothing is cleared if there is room for as many states
   pub cost : IsCostOfSearch way m input old new
   -- until the next clear nothing is lost
   pub grown : IsGrown old new
-  -- and what it used is known
+  -- and all that it used is cached
   pub learned : ClearedNothing old.store new.store → OnOk result (Knows way m new.store input)
-  -- with all that known it takes no memory, and changes nothing but the progress
+  -- with all that cached, it takes no memory and changes nothing but the progress
   pub known : Knows way m old.store input → IsStill old new × IfErr result IsOfInput
   -- the searched bytes, and the search that is open: what its passes leave one after another
   pub ended : OnOk result (EndsProgress way m input old.store new.store)

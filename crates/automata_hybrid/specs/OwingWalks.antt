@@ -29,40 +29,40 @@ use Rattle.automata_hybrid.specs.Table.{Has}
 use Rattle.automata_hybrid.specs.Within.{LiesIn}
 use Rattle.automata_config.specs.Options.{match_kind_of}
 
--- some cache of the DFA, within its settings, refuses so a call of this walk, which has told so many pairs
+-- over some cache of the DFA, within its settings, a call of this walk, which has reported so many pairs, may fail so
 abbrev pub MayRefuseCall : Direction → Machine → Input → Walk → (told : ℕ) → SearchError → Type 0
 MayRefuseCall way m input w told e = (c : Stored) × IsStoreOf c m × IsWalkRefusal States way m c input w told e
 
 -- what a call of a walk answers, and what it makes of the walk
 pub record IsWalkCall (way : Direction) (m : Machine) (input : Input) (old new : Walk)
     (result : Result (Unit {0}) SearchError) : Type 0 where
-  -- for every automaton, the next pair that its passes tell
+  -- for every NFA, the next pair that its pass reports
   pub tells : OnOk result (TellsNext way m input old new)
-  -- where no cycle passes a look, that of the list that the ordered paths define
+  -- if no cycle passes a look, that of the list which the ordered paths define
   pub paths :
       IsLookAcyclic (nfa_of m.nfa) → (k : ℕ) (pairs : List Pair) → HasTold way m input old k
       → IsOverlapping way (engine_of m.nfa (match_kind_of m.config)) input pairs
       → OnOk result (new.found ≡ half_nth pairs k)
-  -- it lies in the input's span, and its pattern is one of the automaton's
+  -- it lies in the input's span, and its pattern is one of the NFA's
   pub within : IfSome new.found (LiesIn m input)
-  -- a refused walk is as before, but for its match, which is none
+  -- a walk whose call fails is unchanged, except that it has no match
   pub refused : OnErr result (new ≡ without_match old)
-  -- a refusal is one that some cache may give
+  -- an error is one that some cache may give
   pub errors : (k : ℕ) → HasTold way m input old k → IfErr result (MayRefuseCall way m input old k)
-  -- of a walk that hasn't begun, a mode that isn't supported is told
+  -- of a walk that has not begun, an anchored mode that is not supported is reported
   pub unsupported : old.stage ≡ Fresh → IsUnsupported way m input → result ≡ Err (unsupported_error input)
-  -- where nothing stands in the way, only want of memory is a refusal
+  -- if nothing else can prevent an answer, the only error is out of memory
   pub free : IsUnhindered m input → IfErr result IsMemory
-  -- one that reads no unit is never refused
+  -- one that reads no unit never fails
   pub ready : ReadsNoUnit input old → IfErr result (λ e. ⊥)
 
--- a state was added again, without the start tag; the cache was cleared for it only where it doesn't fit
+-- a state was added again, without the start tag; the cache was cleared for it only if it does not fit
 abbrev pub IsPutBack : Powerset → (old new : CacheView) → Type 0
 IsPutBack q old new =
     (new.count ≡ old.count) × IsAddedStart old.store (record { state = q; started = false }) new.store
 
--- why a call is refused that knows all that it uses: for what it was given; or, where states are kept, since the one that
--- tells the next pair can't be held
+-- why a call fails though all that it uses is cached: because of its input; or, where states are kept, since the one
+-- that reports the next pair cannot be held
 abbrev pub IsKnownRefusal : Keeping → Direction → Machine → Input → Walk → SearchError → Type 0
 IsKnownRefusal Ids way m input walk e = IsOfInput e
 IsKnownRefusal States way m input walk e = IsOfInput e ⊎ ((j : ℕ) × (walk.units ≤ j) × IsUnheld way m input j e)
@@ -70,28 +70,28 @@ IsKnownRefusal States way m input walk e = IsOfInput e ⊎ ((j : ℕ) × (walk.u
 -- what a call of a walk makes of its cache
 pub record IsCallEffect {T : Type 0} (keeping : Keeping) (way : Direction) (m : Machine) (input : Input)
     (walk next : Walk) (old new : CacheView) (result : Result T SearchError) : Type 0 where
-  -- it makes at most one determinisation for each unit by which those read rise, and one for a start; a refused call
-  -- one for each unit left
+  -- it determinizes at most once for each unit by which the units read rise, and once for a start state; a call that
+  -- fails at most once for each unit left
   pub rises : OnOk result (walk.units ≤ next.units)
   pub cost : OnOk result (new.count + walk.units ≤ old.count + next.units + start_count walk.stage)
   pub most : new.count ≤ old.count + (input.end - input.start + 1 - walk.units) + start_count walk.stage
-  -- a start that is known isn't determinised again
+  -- a start state that is cached is not determinized again
   pub started :
       KnowsItsState way m old.store input walk.stage
       → (new.count ≤ old.count + (input.end - input.start + 1 - walk.units))
       × OnOk result (new.count + walk.units ≤ old.count + next.units)
   -- nothing is cleared where there is room for as many states, and for the walk's own
   pub roomy : HasRoom old.store (input.end - input.start + 1 - walk.units + 1) → new.store.clears ≡ old.store.clears
-  -- it grows the cache as one determinisation more would, and where the cache has the walk's state as those made do
+  -- the cache has grown as by one determinization more; if it had the walk's state, as by those that were made
   pub grown : IsGrown old (counted new)
   pub there : HasItsState old.store.table walk.stage → IsGrown old new
   -- a held state that the cache lacks is put back first, and the cache grows from there
   pub put_back :
       (q : Powerset) → walk.stage ≡ At q → (Has old.store.table q → ⊥)
       → (new ≡ old) ⊎ ((between : CacheView) × IsPutBack q old between × IsGrown between new)
-  -- where nothing was cleared what it used is known
+  -- if nothing was cleared, what it used is cached
   pub learned : ClearedNothing old.store new.store → OnOk result (KnowsWalk way m new.store input walk)
-  -- with all that known it takes no memory, and changes nothing but the progress
+  -- with all that cached, it takes no memory and changes nothing but the progress
   pub known :
       KnowsWalk way m old.store input walk
       → IsStill old new × IfErr result (IsKnownRefusal keeping way m input walk)
@@ -101,51 +101,50 @@ pub record IsCallEffect {T : Type 0} (keeping : Keeping) (way : Direction) (m : 
   -- one that reads no unit changes nothing at all
   pub ready : ReadsNoUnit input walk → new ≡ old
 
--- some cache of the DFA, within its settings, refuses a walk so, whose patterns the set was joined with
+-- over some cache of the DFA, within its settings, a walk may fail so after it reported what the set was joined with
 abbrev pub MayRefuseWhich : Machine → Input → (old new : List Bool) → SearchError → Type 0
 MayRefuseWhich m input old new e = (c : Stored) × IsStoreOf c m × IsWhichRefusal m c input old new e
 
 -- what a set is joined with
 pub record IsSetTold (m : Machine) (input : Input) (old new : List Bool)
     (result : Result (Unit {0}) SearchError) : Type 0 where
-  -- for every automaton, the patterns below its capacity that the walk tells
+  -- for every NFA, the patterns below its capacity that the walk reports
   pub found :
       OnOk result (ArePatterns (AreWalked Forward m input) input (length old) (members old) (members new))
-  -- where no cycle passes a look, those of the ordered paths
+  -- if no cycle passes a look, those of the ordered paths
   pub paths :
       IsLookAcyclic (nfa_of m.nfa)
       → OnOk result (ArePatternsFound (engine_of m.nfa (match_kind_of m.config)) input (length old) (members old)
       (members new))
   pub capacity : length new ≡ length old
-  -- a mode that isn't supported is told, and the set is as it was
+  -- an anchored mode that is not supported is reported, and the set is unchanged
   pub unsupported : IsUnsupported Forward m input → (result ≡ Err (unsupported_error input)) × (new ≡ old)
-  -- so it is with a span that is done, which is no refusal
+  -- if the span is done, the set is unchanged too, and the call returns Ok
   pub done : input.end < input.start → IsOk result × (new ≡ old)
 
 -- what a call that joins a set owes
 pub record IsWhich (m : Machine) (input : Input) (old new : List Bool)
     (result : Result (Unit {0}) SearchError) : Type 0 where
-  -- the set is joined with what the walk tells
+  -- the set is joined with what the walk reports
   pub told : IsSetTold m input old new result
-  -- a refusal is one that some cache may give
+  -- an error is one that some cache may give
   pub errors : IfErr result (MayRefuseWhich m input old new)
-  -- where nothing stands in the way, only want of memory is a refusal
+  -- if nothing else can prevent an answer, the only error is out of memory
   pub free : IsUnhindered m input → IfErr result IsMemory
 
 -- what the walk that joins a set makes of its cache
 pub record IsWhichEffect (m : Machine) (input : Input) (set : List Bool) (old new : CacheView)
     (result : Result (Unit {0}) SearchError) : Type 0 where
-  -- over a span of n bytes it makes at most n + 2 determinisations, and clears nothing where there is room for as many
-  -- states
+  -- over a span of n bytes it determinizes at most n + 2 times, and clears nothing if there is room for as many states
   pub cost : new.count ≤ old.count + (input.end - input.start + 2)
   pub roomy : HasRoom old.store (input.end - input.start + 2) → new.store.clears ≡ old.store.clears
-  -- a start that is known isn't determinised again
+  -- a start state that is cached is not determinized again
   pub started : KnowsItsStart Forward m old.store input → new.count ≤ old.count + (input.end - input.start + 1)
   -- until the next clear nothing is lost
   pub grown : IsGrown old new
-  -- and what it used is known
+  -- and all that it used is cached
   pub learned : ClearedNothing old.store new.store → OnOk result (KnowsWhich m new.store input set)
-  -- with all that known it takes no memory, and changes nothing but the progress
+  -- with all that cached, it takes no memory and changes nothing but the progress
   pub known : KnowsWhich m old.store input set → IsStill old new × IfErr result IsOfInput
   -- the searched bytes, and the search that is open: what the calls of its walk leave one after another
   pub ended : OnOk result (EndsSet m input set old.store new.store)

@@ -24,44 +24,44 @@ pub record IsPassAnswer (way : Direction) (m : Machine) (input : Input) (half : 
   -- The mode is supported.
   pub supported : supports m input.anchored ≡ true
 
--- what a pass over the span of an input makes of its cache, answered or refused
+-- what a pass over the span of an input does to its cache, whether it returns Ok or an error
 pub record IsPassEffect {T : Type 0} (way : Direction) (m : Machine) (input : Input) (old new : CacheView)
     (result : Result T SearchError) : Type 0 where
-  -- It determinised at most once for each byte of the span, for its start and at its end.
+  -- It determinized at most once for each byte of the span, once for its start state, and once at its end.
   pub counted : new.count ≤ old.count + (input.end - input.start + 2)
-  -- A start that is known isn't determinised again.
+  -- A start state that is cached is not determinized again.
   pub started : KnowsItsStart way m old.store input → new.count ≤ old.count + (input.end - input.start + 1)
   -- The cache has grown; where the pass cleared nothing, nothing is lost.
   pub grown : IsGrown old new
-  -- With all known that it uses it takes no memory, and nothing changes but the progress of searches.
+  -- If all that it uses is cached, it takes no memory, and nothing changes but the progress of searches.
   pub known : KnowsPass way m old.store input → IsStill old new × IfErr result IsOfInput
-  -- Where the pass cleared nothing, all that it used is known from then on.
+  -- If the pass cleared nothing, all that it used is cached from then on.
   pub learned : ClearedNothing old.store new.store → OnOk result (HasLearnedAll way m new.store input)
-  -- Answered, it has ended.
+  -- If it returns Ok, it has ended.
   pub ended : OnOk result (HasEnded way m input old.store new.store)
-  -- Refused, it never began, has ended, or is left open.
+  -- If it fails, it never began, has ended, or is left open.
   pub left : IfErr result (IsLeft way m input old.store new.store)
 
 -- a pass over the span of an input has read its first `k` units
 pub record IsUnderway (way : Direction) (m : Machine) (t : Rows) (input : Input) (k id : ℕ)
     (found : Option HalfMatch) : Type 0 where
-  -- The span isn't done.
+  -- The span is not done.
   pub undone : input.start ≤ input.end
   -- The search may start.
   pub may : MayStart m input.anchored (tape_in way input).before
-  -- The ID names the state behind those units, and what they tell was found.
+  -- The ID names the state after those units, and what they report was found.
   pub at : IsAt way m t input k id found
 
--- what the rest of a pass, behind its first `k` units, makes of its cache, answered or refused
+-- what the rest of a pass, after its first `k` units, does to its cache, whether it returns Ok or an error
 pub record IsRestEffect {T : Type 0} (way : Direction) (m : Machine) (input : Input) (k : ℕ) (old new : CacheView)
     (result : Result T SearchError) : Type 0 where
-  -- It determinised at most once for each byte that is left of the span, and at its end.
+  -- It determinized at most once for each byte that is left of the span, and at its end.
   pub counted : new.count ≤ old.count + (input.end - input.start + 1 - k)
   -- The cache has grown; where the pass cleared nothing, nothing is lost.
   pub grown : IsGrown old new
-  -- With all known that the pass uses it takes no memory, and nothing changes but the progress of searches.
+  -- If all that the pass uses is cached, it takes no memory, and nothing changes but the progress of searches.
   pub known : KnowsPass way m old.store input → IsStill old new × IfErr result IsOfInput
-  -- Where it cleared nothing, and what the first units used was known, all that the pass used is known from then on.
+  -- If it cleared nothing, and what the first units used was cached, all that the pass used is cached from then on.
   pub learned :
       KnowsItsStart way m old.store input → HasLearned way m old.store input k → ClearedNothing old.store new.store
       → OnOk result (HasLearnedAll way m new.store input)

@@ -28,7 +28,7 @@ abbrev pub half_of : Direction → Input → Option Pair → Option HalfMatch
 half_of way input None = None
 half_of way input (Some pair) = Some (record { pattern = pair.pattern; offset = offset_in way input pair.place })
 
--- what was found last, once these patterns are told at an offset
+-- what was found last, once these patterns are reported at an offset
 abbrev pub half_at : List ℕ → ℕ → Option HalfMatch → Option HalfMatch
 half_at [] at found = found
 half_at (pattern ∷ patterns) at found = Some (record { pattern = pattern; offset = at })
@@ -45,21 +45,21 @@ pub record IsAt (way : Direction) (m : Machine) (t : Rows) (input : Input) (k id
   pub nothing : input.earliest ≡ true → found ≡ None
   pub clean : HasReadNoQuit way m input k
 
--- the dead tag of an ID tells whether it leads to the dead state, which no row has
+-- an ID has the dead tag exactly if it leads to the dead state, which no row has
 abbrev pub IsDeadTagged : Rows → ℕ → Type 0
 IsDeadTagged t id = (q : Powerset) → Leads t id q → (IsBitSet id 30 → q ≡ dead) × ((IsBitSet id 30 → ⊥) → Names t id q)
 
--- a refused step, as a search tells it at an offset
+-- the error of a step, as a search reports it at an offset
 abbrev pub step_refusal : StepError → (at : ℕ) → SearchError
 step_refusal (step.Cache err) at = search.Match (GaveUp at)
 step_refusal step.OutOfMemory at = search.OutOfMemory
 
--- the transition on the unit at place `k` is known, at a class that rows have
+-- the transition on the unit at place `k` is cached, at a class that rows have
 abbrev pub HasLearnedUnit : Direction → Machine → Stored → Input → ℕ → Type 0
 HasLearnedUnit way m c input k =
     KnowsUnit way m c input k × (unit_class m (next (tape_in way input) k) < table_stride c.table.of)
 
--- the unit at place `k` is no quit byte, its transition is known, and the state behind it tells nothing
+-- the unit at place `k` is no quit byte, its transition is cached, and the state after it reports nothing
 pub record IsQuiet (way : Direction) (m : Machine) (c : Stored) (input : Input) (k : ℕ) : Type 0 where
   pub clean : (byte : ℕ) → next (tape_in way input) k ≡ Some byte → is_quit m.quits byte ≡ false
   pub known : HasLearnedUnit way m c input k
@@ -70,19 +70,19 @@ pub record IsBetween (low high at : ℕ) : Type 0 where
   pub from : low ≤ at
   pub upto : at ≤ high
 
--- known transitions led a pass from its first `from` units on, to this ID behind its first `to`; none of them told
+-- cached transitions led a pass from its first `from` units on to this ID after its first `to`; none of them reported
 -- anything
 pub record IsFollowed (way : Direction) (m : Machine) (c : Stored) (input : Input) (from to id : ℕ) : Type 0 where
   pub more : from ≤ to
   pub named : Names c.table id (state_in way m input to)
   pub quiet : (k : ℕ) → from ≤ k → k < to → IsQuiet way m c input k
 
--- the unit at place `k` is no quit byte, and its transition is known
+-- the unit at place `k` is no quit byte, and its transition is cached
 pub record IsTaken (way : Direction) (m : Machine) (c : Stored) (input : Input) (k : ℕ) : Type 0 where
   pub clean : (byte : ℕ) → next (tape_in way input) k ≡ Some byte → is_quit m.quits byte ≡ false
   pub known : HasLearnedUnit way m c input k
 
--- known transitions led a pass from its first `from` units on, to this ID behind its first `to`, whatever they told
+-- cached transitions led a pass from its first `from` units on, to this ID after its first `to`, whatever they reported
 pub record IsLed (way : Direction) (m : Machine) (c : Stored) (input : Input) (from to id : ℕ) : Type 0 where
   pub more : from ≤ to
   pub named : Names c.table id (state_in way m input to)
@@ -94,14 +94,14 @@ pub record IsTagAt (way : Direction) (m : Machine) (t : Rows) (input : Input) (t
   pub only : HasOnly tag id
   pub named : Names t id (state_in way m input k)
 
--- known transitions led a pass so, between IDs that have this tag and no other: without a tag, none of them told
+-- cached transitions led a pass so, between IDs that have this tag and no other: without a tag, none of them reported
 -- anything
 pub record IsRun (way : Direction) (m : Machine) (c : Stored) (input : Input) (tag from to id : ℕ) : Type 0 where
   pub led : IsLed way m c input from to id
   pub quiet : tag ≡ 0 → IsFollowed way m c input from to id
   pub only : HasOnly tag id
 
--- this ID was met behind another one: if it isn't unknown, it is where the transition on the byte at place `k` leads
+-- this ID was met after another one: unless it is the unknown one, the transition on the byte at place `k` leads to it
 abbrev pub IsMet : Direction → Machine → Stored → Input → (k id met : ℕ) → Type 0
 IsMet way m c input k id met =
     met < unknown_id → (k < input.end - input.start) × (met ≡ known_step m c id (next (tape_in way input) k))

@@ -21,14 +21,14 @@ use Rattle.automata_hybrid.specs.Effects.{IsComputed}
 use Rattle.automata_hybrid.specs.Stores.{Stored, with_searched}
 use Rattle.automata_hybrid.specs.Table.{Leads, Names}
 
--- what holds where a step from an ID on a unit is refused, and the error is told at an offset
+-- what holds if a step from an ID on a unit fails, and the error is reported at an offset
 pub record IsStepRefusedAt (m : Machine) (id : ℕ) (unit : Option ℕ) (at : ℕ) (old new : CacheView) (e : SearchError) :
     Type 0 where
-  -- There is a step's error.
+  -- It stems from the error of a step.
   pub error : StepError
-  -- The step is refused by it.
+  -- The step fails with it.
   pub refused : IsStepRefused m id unit old new error
-  -- It is told at its offset.
+  -- It is reported at this offset.
   pub told : e ≡ step_refusal error at
 
 -- what the ID is that reading a unit from an ID answers
@@ -40,30 +40,30 @@ pub record IsReadAnswer (m : Machine) (id : ℕ) (unit : Option ℕ) (old new : 
       (q : Powerset) → Names old.store.table id q
       → Leads new.store.table next (successor m.nfa (match_kind_of m.config) q unit)
 
--- why reading a unit from an ID is refused: the step from its state is; a quit byte and the giving up are each told at
--- an offset
+-- why reading a unit from an ID fails: the step from its state does; a quit byte and the "gave up" error each have an
+-- offset
 abbrev pub IsReadRefusal :
     Machine → (id : ℕ) → (unit : Option ℕ) → (quit_at given_up_at : ℕ) → (old new : CacheView) → SearchError → Type 0
 IsReadRefusal m id unit quit_at given_up_at old new e =
     (q : Powerset) → Names old.store.table id q → IsStepRefusal m new.store q unit quit_at given_up_at e
 
--- what reading a unit from an ID makes of the cache, answered or refused
+-- what reading a unit from an ID does to the cache, whether it returns Ok or an error
 pub record IsReadEffect {T : Type 0} (m : Machine) (id : ℕ) (unit : Option ℕ) (old new : CacheView)
     (result : Result T SearchError) : Type 0 where
-  -- The state that it begins from isn't dead.
+  -- The state that it begins from is not dead.
   pub alive : (q : Powerset) → Names old.store.table id q → q ≡ dead → ⊥
   -- The unit is of a class that rows have.
   pub below : unit_class m unit < table_stride m
-  -- It determinised at most once.
+  -- It determinized at most once.
   pub counted : new.count ≤ old.count + 1
   -- The cache has grown; where the call cleared nothing, nothing is lost.
   pub grown : IsGrown old new
-  -- A known transition takes no memory, and nothing changes but the progress of searches.
+  -- A cached transition takes no memory, and nothing changes but the progress of searches.
   pub known : KnowsStep m old.store id unit → IsStill old new × IfErr result IsOfInput
-  -- Where the call cleared nothing, the transition is known from then on.
+  -- If the call cleared nothing, the transition is cached from then on.
   pub learned : ClearedNothing old.store new.store → OnOk result (KnowsStep m new.store id unit)
 
--- a step from an ID on a unit is taken: a known transition changes nothing, and any other one is computed
+-- a step from an ID on a unit is taken: a cached transition changes nothing, and any other one is computed
 abbrev pub IsStepTaken : Machine → (id : ℕ) → (unit : Option ℕ) → (old new : Stored) → (to : ℕ) → Type 0
 IsStepTaken m id unit old new to =
     (KnowsStep m old id unit × (new ≡ old))
@@ -74,9 +74,9 @@ IsStepTaken m id unit old new to =
 -- what reading a unit at an offset, to which the search moves, makes of what the cache holds
 pub record IsReadStep (m : Machine) (id : ℕ) (unit : Option ℕ) (at : ℕ) (old new : Stored)
     (result : Result ℕ SearchError) : Type 0 where
-  -- Answered, the step was taken with the search at the offset.
+  -- If it returns Ok, the step was taken with the search at the offset.
   pub taken : IfOk result (IsStepTaken m id unit (with_searched old (updated old.searched at)) new)
-  -- Refused, only the search has ended there at a quit byte, and else it was moved there.
+  -- If it fails, the search has only ended there at a quit byte, and else only moved there.
   pub left :
       OnErr result (((quits_on m unit ≡ true) × (new ≡ with_searched old (finished old.searched at)))
       ⊎ ((quits_on m unit ≡ false) × (new ≡ with_searched old (updated old.searched at))))
@@ -84,9 +84,9 @@ pub record IsReadStep (m : Machine) (id : ℕ) (unit : Option ℕ) (at : ℕ) (o
 -- what reading the last unit of a pass, at its place `k`, makes of what the cache holds
 pub record IsEndProgress {T : Type 0} (way : Direction) (m : Machine) (input : Input) (k : ℕ) (old new : Stored)
     (result : Result T SearchError) : Type 0 where
-  -- Answered, the unit was read, and then the search has ended.
+  -- If it returns Ok, the unit was read, and then the search has ended.
   pub ended :
       OnOk result ((mid : Stored) × IsUnitRead way m input k (with_search_moved way input k old) mid
       × (new ≡ with_search_ended way input k mid))
-  -- Refused, the search has ended there at a quit byte, and else is left there; back it has ended before.
+  -- If it fails, the search has ended there at a quit byte, and else is left there; back it has ended before.
   pub left : OnErr result (IsPassLeftAt way m input k old new)

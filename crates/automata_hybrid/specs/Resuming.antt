@@ -51,9 +51,9 @@ pub record HoldsOn (t : Rows) (next : Walk) (old new : Held) : Type 0 where
 -- what a call of a walk answers
 pub record IsCallAnswer (way : Direction) (m : Machine) (input : Input) (walk next : Walk) (old new : Stored) :
     Type 0 where
-  -- the walk has told the next pair, or has ended
+  -- the walk has reported the next pair, or has ended
   pub tells : TellsNext way m input walk next
-  -- with a match it has read more units or told one pattern more
+  -- with a match it has read more units or reported one pattern more
   pub goes_on : GoesOn walk next
   -- where it has ended it reads no unit more
   pub stops :
@@ -61,56 +61,57 @@ pub record IsCallAnswer (way : Direction) (m : Machine) (input : Input) (walk ne
       → WalkReads way m input j → ⊥
   -- the cache has its state, if it had the one before
   pub there : HasItsState old.table walk.stage → HasItsState new.table next.stage
-  -- where nothing was cleared the transition is known on each unit that it read
+  -- if nothing was cleared, the transition is cached on each unit that it read
   pub learned : ClearedNothing old new → HasLearnedUnits way m new input walk.units next.units
 
--- why a call of a walk is refused
+-- why a call of a walk fails
 pub record IsCallRefused (keeping : Keeping) (way : Direction) (m : Machine) (input : Input) (walk : Walk)
     (new : Stored) (e : SearchError) : Type 0 where
-  -- the walk isn't gone on with, or it is refused at a unit
+  -- the walk cannot go on from where it is, or it fails at a unit
   pub why : (k : ℕ) → HasTold way m input walk k → IsWalkRefusal keeping way m new input walk k e
-  -- of one that hasn't begun, a mode that isn't supported is told
+  -- of one that has not begun, an anchored mode that is not supported is reported
   pub unsupported : walk.stage ≡ Fresh → IsUnsupported way m input → e ≡ unsupported_error input
-  -- one that reads no unit isn't
+  -- one that reads no unit does not fail
   pub ready : ReadsNoUnit input walk → ⊥
 
 -- what the ID is that a walk goes on from
 pub record IsResumeAnswer (way : Direction) (m : Machine) (input : Input) (walk : Walk) (new : Stored) (id : ℕ) :
     Type 0 where
-  -- it leads to the state behind the units read
+  -- it leads to the state after the units read
   pub leads : Leads new.table id (state_in way m input walk.units)
   -- the walk may start, or has started
   pub may : MayStart m input.anchored (tape_in way input).before
-  -- what it goes on from is known
+  -- what it goes on from is cached
   pub learned : KnowsItsState way m new input walk.stage
 
 -- what asking for it makes of the cache
 pub record IsResumeEffect {T : Type 0} (way : Direction) (m : Machine) (input : Input) (stage : Stage)
     (old new : CacheView) (result : Result T SearchError) : Type 0 where
-  -- it makes at most one determinisation, for a start
+  -- it determinizes at most once, for a start state
   pub cost : new.count ≤ old.count + start_count stage
-  -- it grows the cache as one determinisation more would, and where the cache has the walk's state as those made do
+  -- the cache has grown as by one determinization more; if it had the walk's state, as by those that were made
   pub grown : IsGrown old (counted new)
   pub there : HasItsState old.store.table stage → IsGrown old new
-  -- where what it goes on from is known, nothing changes, and nothing is refused for want of room
+  -- if what it goes on from is cached, nothing changes, and it does not fail for lack of room
   pub known :
       (MayStart m input.anchored (tape_in way input).before → KnowsItsState way m old.store input stage)
       → (new ≡ old) × IfErr result IsOfInput
-  -- a held state that isn't there is put back
+  -- a held state that is not there is put back
   pub put_back :
-      (q : Powerset) → stage ≡ At q → (Has old.store.table q → ⊥) → OnOk result (IsPutBack q old new) × OnErr result (new ≡ old)
-  -- the state is its start, or was put back; refused, it has changed nothing
+      (q : Powerset) → stage ≡ At q → (Has old.store.table q → ⊥)
+      → OnOk result (IsPutBack q old new) × OnErr result (new ≡ old)
+  -- the state is its start, or was put back; if that fails, nothing has changed
   pub resumed : OnOk result (IsResumed way m input stage old.store new.store)
   pub err : OnErr result (new.store ≡ old.store)
 
 -- what putting the state of a walk back makes of the cache
 pub record IsPutBackEffect {T E : Type 0} (q : Powerset) (old new : CacheView) (result : Result T E) : Type 0 where
-  -- it determinises nothing, and grows the cache as one determinisation would
+  -- it determinizes nothing, and grows the cache as one determinization would
   pub cost : new.count ≡ old.count
   pub grown : IsGrown old (counted new)
   -- a state that is there is answered, and nothing changes
   pub there : Has old.store.table q → (new ≡ old) × IfErr result (λ e. ⊥)
-  -- one that isn't there is added again
+  -- one that is not there is added again
   pub again : (Has old.store.table q → ⊥) → OnOk result (IsPutBack q old new)
 
 -- a walk has read so many units of its span, and one is left: the ID names its state there
@@ -122,13 +123,13 @@ pub record StandsBehind (way : Direction) (m : Machine) (t : Rows) (input : Inpu
 -- what reading that one makes of the cache
 pub record IsUnitEffect {T : Type 0} (way : Direction) (m : Machine) (input : Input) (place : ℕ) (old new : CacheView)
     (result : Result T SearchError) : Type 0 where
-  -- it determinises at most once
+  -- it determinizes at most once
   pub counted : new.count ≤ old.count + 1
   -- the cache has grown; where nothing was cleared, nothing is lost
   pub grown : IsGrown old new
-  -- where its transition is known, it determinises nothing, and isn't refused for want of room
+  -- if its transition is cached, it determinizes nothing, and does not fail for lack of room
   pub known : KnowsUnit way m old.store input place → (new.count ≡ old.count) × IfErr result IsOfInput
-  -- where nothing was cleared it is known from then on
+  -- if nothing was cleared, it is cached from then on
   pub learned : ClearedNothing old.store new.store → OnOk result (HasLearnedUnit way m new.store input place)
   -- the search moved to the unit, and it was read; or is left there
   pub read :
@@ -140,19 +141,19 @@ pub record IsAdvanceEffect (way : Direction) (m : Machine) (input : Input) (unit
     (result : Result Arrival SearchError) : Type 0 where
   -- the cache has grown; where nothing was cleared, nothing is lost
   pub grown : IsGrown old new
-  -- it makes at most one determinisation for each unit read; a refused one for each that was left
+  -- it determinizes at most once for each unit read; if it fails, at most once for each that was left
   pub cost : IfOk result (λ a. new.count + units ≤ old.count + a.units)
   pub most : new.count + units ≤ old.count + (input.end - input.start + 1)
-  -- where the transition on each unit that is read is known, it makes none, and isn't refused for want of room
+  -- if the transition on each unit that is read is cached, it determinizes nothing, and does not fail for lack of room
   pub known :
       (k : ℕ) → HasToldBy way m input units k → KnowsUnits way m old.store input units k
       → (new.count ≡ old.count) × IfErr result IsOfInput
-  -- where nothing was cleared it is known from then on
+  -- if nothing was cleared, it is cached from then on
   pub learned :
       ClearedNothing old.store new.store → IfOk result (λ a. HasLearnedUnits way m new.store input units a.units)
   -- it read these units, one after another
   pub read :
       IfOk result (λ a. (n : ℕ) × (a.units ≡ suc (units + n)) × WalkReads way m input (units + n)
       × AreUnitsRead way m input units (suc n) old.store new.store)
-  -- or was refused at one
+  -- or failed at one
   pub left : IfErr result (IsCallStopped Ids way m input units old.store new.store)

@@ -18,7 +18,7 @@ use Rattle.automata_hybrid.specs.Starting.{IsStartRefusalAt, start_row}
 use Rattle.automata_hybrid.specs.Stepping.{quits_on, unit_class}
 use Rattle.automata_hybrid.specs.Table.{Names}
 
--- what a pass makes of the progress before its last step, which is at an offset: back it has ended there
+-- what a pass makes of the progress before its last step, which is at an offset: backward it has ended there
 abbrev pub before_last : Direction → Searched → (at : ℕ) → Searched
 before_last Forward s at = s
 before_last Backward s at = finished s at
@@ -33,7 +33,7 @@ with_search_moved way input k c = with_searched c (updated c.searched (given_up_
 abbrev pub with_search_ended : Direction → Input → (k : ℕ) → Stored → Stored
 with_search_ended way input k c = with_searched c (finished c.searched (given_up_offset way input k))
 
--- the unit at place `k` is read: where its transition is known nothing changes, and else that transition is computed
+-- the unit at place `k` is read: if its transition is cached nothing changes, and if not, that transition is computed
 abbrev pub IsUnitRead : Direction → Machine → Input → (k : ℕ) → (old new : Stored) → Type 0
 IsUnitRead way m input k old new =
     (KnowsUnit way m old input k × (new ≡ old))
@@ -54,13 +54,13 @@ HasEndedBehind way m input from units old new =
     (mid : Stored) × AreUnitsRead way m input from units old mid
     × (new ≡ with_search_ended way input (from + (units - 1)) mid)
 
--- the search was refused at the unit at place `k`: it has ended there at a quit byte, and else has come there
+-- the search failed at the unit at place `k`: at a quit byte it has ended there, and else it has only moved there
 abbrev pub IsLeftAt : Direction → Machine → Input → (k : ℕ) → (old new : Stored) → Type 0
 IsLeftAt way m input k old new =
     ((quits_on m (next (tape_in way input) k) ≡ true) × (new ≡ with_search_ended way input k old))
     ⊎ ((quits_on m (next (tape_in way input) k) ≡ false) × (new ≡ with_search_moved way input k old))
 
--- a pass reads its first so many units, and no more: none, where its start is dead
+-- a pass reads its first so many units, and no more: none, if its start state is dead
 abbrev pub ReadsUnits : Direction → Machine → Input → (units : ℕ) → Type 0
 ReadsUnits way m input units =
     ((k : ℕ) → k < units → Reads way m input k) × (Reads way m input units → ⊥)
@@ -70,34 +70,34 @@ abbrev pub EndsAtLast : Direction → Machine → Input → (begun new : Stored)
 EndsAtLast way m input begun new =
     (units : ℕ) × ReadsUnits way m input units × HasEndedBehind way m input 0 units begun new
 
--- the last unit of a pass back, behind its span: the pass has ended before it reads it
+-- the last unit of a pass backward, after its span: the pass has ended before it reads it
 abbrev pub IsBehindEnd : Direction → Input → ℕ → Type 0
 IsBehindEnd Forward input k = ⊥
 IsBehindEnd Backward input k = k ≡ length (tape_in Backward input).bytes
 
--- a pass is left so at a unit; but back, at its last one, it has ended
+-- a pass is left so at a unit; but backward, at its last one, it has ended
 abbrev pub IsPassLeftAt : Direction → Machine → Input → (k : ℕ) → (old new : Stored) → Type 0
 IsPassLeftAt way m input k old new =
     (IsBehindEnd way input k × (new ≡ with_search_ended way input k old))
     ⊎ ((IsBehindEnd way input k → ⊥) × IsLeftAt way m input k old new)
 
--- a pass that has begun was refused at a unit that it reads
+-- a pass that has begun failed at a unit that it reads
 abbrev pub IsStoppedAt : Direction → Machine → Input → (begun new : Stored) → SearchError → Type 0
 IsStoppedAt way m input begun new e =
     (k : ℕ) × (mid : Stored) × Reads way m input k × HasReadNoQuit way m input k × IsUnitRefusal way m new input k e
     × AreUnitsRead way m input 0 k begun mid × IsPassLeftAt way m input k mid new
 
--- a pass back over an empty span keeps no progress
+-- a pass backward over an empty span keeps no progress
 abbrev pub KeepsNone : Direction → Input → Type 0
 KeepsNone Forward input = ⊥
 KeepsNone Backward input = input.start ≡ input.end
 
--- its one unit was read, unless its start is dead
+-- its one unit was read, unless its start state is dead
 abbrev pub EndsStill : Direction → Machine → Input → (begun new : Stored) → Type 0
 EndsStill way m input begun new =
     (Reads way m input 0 × IsUnitRead way m input 0 begun new) ⊎ ((Reads way m input 0 → ⊥) × (new ≡ begun))
 
--- a pass has its start: where that is known nothing changes, and else it is computed
+-- a pass has its start state: if that is cached nothing changes, and if not, it is computed
 abbrev pub HasItsStart : Direction → Machine → Input → (old new : Stored) → Type 0
 HasItsStart way m input old new =
     (KnowsItsStart way m old input × (new ≡ old))
@@ -112,7 +112,7 @@ HasEnded way m input old new =
     × ((KeepsNone way input × EndsStill way m input begun new)
     ⊎ ((KeepsNone way input → ⊥) × EndsAtLast way m input (with_search_begun way input 0 begun) new))
 
--- a pass was refused: at its start, which isn't known, and which changes nothing; or at a unit
+-- a pass failed: at its start, which is not cached, and which changes nothing; or at a unit
 abbrev pub IsLeft : Direction → Machine → Input → (old new : Stored) → SearchError → Type 0
 IsLeft way m input old new e =
     (IsStartRefusalAt m new input.anchored (tape_in way input).before
@@ -121,7 +121,7 @@ IsLeft way m input old new e =
     × ((KeepsNone way input × Reads way m input 0 × IsUnitRefusal way m new input 0 e × (new ≡ begun))
     ⊎ ((KeepsNone way input → ⊥) × IsStoppedAt way m input (with_search_begun way input 0 begun) new e)))
 
--- a search tries the span that begins so many places later, which isn't done
+-- a search tries the span that begins so many places later, which is not done
 abbrev pub TriesSpan : Direction → Machine → Input → (k : ℕ) → Type 0
 TriesSpan way m input k = Tries (Finds way m) (Skips m) way input k × (input.start + k ≤ input.end)
 
@@ -141,7 +141,7 @@ EndsProgress way m input old new =
     (passes : ℕ) × TriesSpans way m input passes × (TriesSpan way m input passes → ⊥)
     × HaveEnded way m input passes old new
 
--- one that is refused has ended some passes, and the next one was refused
+-- a search that fails has ended some passes, and the next one failed
 abbrev pub LeavesProgress : Direction → Machine → Input → (old new : Stored) → SearchError → Type 0
 LeavesProgress way m input old new e =
     (passes : ℕ) × (mid : Stored) × TriesSpans way m input (suc passes) × HaveEnded way m input passes old mid

@@ -16,7 +16,7 @@ use Rattle.automata_hybrid.specs.Table.{Has}
 use Rattle.automata_hybrid.specs.Walking.{AreWalked, IsResumeRefusal, IsSilent, IsUnheld, TellsNext, WalkReads}
 use Rattle.automata_hybrid.specs.Walks.{At, Ended, Fresh, Ids, Keeping, Stage, States, Walk, fresh_walk}
 
--- a call reads no unit: the walk has ended, has a pattern more to tell where it stands, or has no unit left in its span
+-- a call reads no unit: the walk has ended, has another pattern to report at its state, or has no unit left in its span
 abbrev pub ReadsNoUnit : Input → Walk → Type 0
 ReadsNoUnit input w =
     (w.stage ≡ Ended)
@@ -31,8 +31,8 @@ IsResumed way m input (At q) old new =
     ⊎ ((Has old.table q → ⊥) × IsAddedStart old (record { state = q; started = false }) new)
 IsResumed way m input Ended old new = ⊥
 
--- a call reads the units behind those of the walk: up to the one behind which the next one tells a pattern; or, where
--- there is no match, up to the last that can be read
+-- a call reads the units after those of the walk: up to the one after which the next match is reported, or if there is
+-- none, up to the last one that can be read
 abbrev pub ReadsItsUnits : Direction → Machine → Input → (walk next : Walk) → Type 0
 ReadsItsUnits way m input walk next =
     ((k : ℕ) → walk.units ≤ k → k < next.units → WalkReads way m input k)
@@ -46,14 +46,14 @@ EndsCall way m input walk next old new =
     × (next.units ≡ walk.units + units) × ReadsItsUnits way m input walk next
     × HasEndedBehind way m input walk.units units (with_search_begun way input walk.units begun) new)
 
--- a call is refused at the unit at place `k`; or the unit was read, and the state behind it can't be held
+-- a call fails at the unit at place `k`; or the unit was read, and the state after it cannot be held
 abbrev pub IsCallLeftAt : Keeping → Direction → Machine → Input → (k : ℕ) → (old new : Stored) → SearchError → Type 0
 IsCallLeftAt Ids way m input k old new e = IsUnitRefusal way m new input k e × IsLeftAt way m input k old new
 IsCallLeftAt States way m input k old new e =
     (IsUnitRefusal way m new input k e × IsLeftAt way m input k old new)
     ⊎ (IsUnheld way m input k e × IsUnitRead way m input k (with_search_moved way input k old) new)
 
--- a call that has begun at a place was refused behind the first so many units from there, which tell nothing
+-- a call that has begun at a place failed after the first so many units from there, which report nothing
 abbrev pub IsCallStopped :
     Keeping → Direction → Machine → Input → (from : ℕ) → (begun new : Stored) → SearchError → Type 0
 IsCallStopped keeping way m input from begun new e =
@@ -61,33 +61,33 @@ IsCallStopped keeping way m input from begun new e =
     × IsSilent way m input from (from + units) × AreUnitsRead way m input from units begun mid
     × IsCallLeftAt keeping way m input (from + units) mid new e
 
--- a call was refused: the walk isn't gone on with, which changed nothing, or at a unit
+-- a call failed: the walk could not go on, and nothing changed; or it failed at a unit
 abbrev pub LeavesCall : Keeping → Direction → Machine → Input → Walk → (old new : Stored) → SearchError → Type 0
 LeavesCall keeping way m input walk old new e =
     (IsResumeRefusal way m new input walk.stage walk.units e × (new ≡ old))
     ⊎ ((begun : Stored) × IsResumed way m input walk.stage old begun
     × IsCallStopped keeping way m input walk.units (with_search_begun way input walk.units begun) new e)
 
--- a set is gone on with when its walk has told its first pairs
+-- a set is still open once its walk has reported its first pairs
 abbrev pub IsOpenAfter : Machine → Input → (set : List Bool) → (told : ℕ) → Type 0
 IsOpenAfter m input set told =
     (pairs : List Pair) → AreWalked Forward m input pairs → IsOpen input set (take told pairs)
 
--- so many calls of the walk of a set have ended, one after another, each where the set was gone on with
+-- so many calls of the walk of a set have ended, one after another, each while the set was open
 abbrev pub HaveCalled : Machine → Input → (set : List Bool) → (calls : ℕ) → Stored → Walk → Stored → Type 0
 HaveCalled m input set zero old walk new = (walk ≡ fresh_walk) × (new ≡ old)
 HaveCalled m input set (suc calls) old walk new =
     (before : Walk) × (mid : Stored) × HaveCalled m input set calls old before mid × IsOpenAfter m input set calls
     × TellsNext Forward m input before walk × EndsCall Forward m input before walk mid new
 
--- a set that is answered has made calls of its walk, the last one where none is left or the set isn't gone on with
+-- a search for a set that returns Ok has made calls of its walk, up to one that finds no match or leaves the set closed
 abbrev pub EndsSet : Machine → Input → (set : List Bool) → (old new : Stored) → Type 0
 EndsSet m input set old new =
     (calls : ℕ) × (walk : Walk) × HaveCalled m input set calls old walk new
     × ((walk.stage ≡ Ended)
     ⊎ ((pairs : List Pair) → AreWalked Forward m input pairs → IsOpen input set (take calls pairs) → ⊥))
 
--- one that is refused has made calls of its walk, and the next one was refused
+-- one that fails has made calls of its walk, and the next one failed
 abbrev pub LeavesSet : Machine → Input → (set : List Bool) → (old new : Stored) → SearchError → Type 0
 LeavesSet m input set old new e =
     (calls : ℕ) × (walk : Walk) × (mid : Stored) × HaveCalled m input set calls old walk mid

@@ -1,4 +1,4 @@
--- Searches by steps: where one stands that ends at its first match, and what a step of it tells.
+-- Searches by steps: where a search stands that ends at its first match, and what a step of it means.
 use Rattle.std.specs.Prelude.{ℕ, ◌≡◌, ◌+◌, ◌-◌, ◌<◌, ◌≤◌, ◌⊎◌, IsBitSet, true, length, Option, Some, None, slice_index}
 use Rattle.automata_base.specs.Engines.{engine_of}
 use Rattle.automata_base.specs.Input.{Input}
@@ -57,7 +57,7 @@ pub record IsStepAt (m : Machine) (c : CacheView) (input : Input) (at next : ℕ
   pub row : HoldsRow c next
   -- With the match tag its state has patterns.
   pub tells : IsBitSet next 27 → HasPatterns c next
-  -- With the match tag a match ends at the offset: matches are told one unit late.
+  -- With the match tag a match ends at the offset: matches are delayed by one unit.
   pub found :
       IsBitSet next 27 → (pattern : ℕ) → IsFirstPattern c next pattern
       → IsFirstMatch m input (Some (record { pattern = pattern; offset = at }))

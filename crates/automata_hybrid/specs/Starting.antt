@@ -1,4 +1,4 @@
--- Starts: when there is one, what it is, why it is refused, and what a call of it makes of the cache.
+-- Start states: when there is one, what it is, why a call for it fails, and what that does to the cache.
 use Rattle.std.specs.Prelude.{ℕ, ◌≡◌, ◌+◌, ◌<◌, ◌≤◌, ◌⊎◌, true, false, cond, Option, None, Some, slice_index}
 use Rattle.automata_base.specs.Powerset.{Powerset}
 use Rattle.automata_base.specs.Classes.{is_quit}
@@ -24,12 +24,12 @@ use Rattle.automata_hybrid.specs.Growing.{IsGrown, KeepsProgress}
 use Rattle.automata_hybrid.specs.Slots.{supports, slot_behind, HasStart}
 use Rattle.automata_config.specs.Options.{specialize_start_states_of}
 
--- the byte behind a start, where it is a quit byte
+-- the look-behind byte, if it is a quit byte
 abbrev pub quit_behind : Machine → Option ℕ → Option ℕ
 quit_behind m None = None
 quit_behind m (Some byte) = cond (is_quit m.quits byte) (Some byte) None
 
--- a search may start: behind it is no quit byte, and the mode is supported
+-- a search may start: the look-behind byte is no quit byte, and the anchored mode is supported
 abbrev pub MayStart : Machine → Anchored → Option ℕ → Type 0
 MayStart m mode behind = (quit_behind m behind ≡ None) × (supports m mode ≡ true)
 
@@ -39,9 +39,9 @@ HasSlot m mode behind = slot_behind m mode behind < slot_count m
 
 -- a search may start, and this is the slot of its start
 pub record IsStartSlot (m : Machine) (mode : Anchored) (behind : Option ℕ) (slot : ℕ) : Type 0 where
-  -- Behind it is no quit byte, and its mode is supported.
+  -- The look-behind byte is no quit byte, and the anchored mode is supported.
   pub may : MayStart m mode behind
-  -- The slot is that of the mode and of what is behind.
+  -- The slot is that of the anchored mode and of the look-behind byte.
   pub at : slot ≡ slot_behind m mode behind
   -- There is such a slot.
   pub within : slot < slot_count m
@@ -53,39 +53,39 @@ start_row m mode behind = record {
   started = specialize_start_states_of m.config;
 }
 
--- a search may start, and its start state is known
+-- a search may start, and its start state is cached
 abbrev pub KnowsStart : Machine → Stored → Anchored → Option ℕ → Type 0
 KnowsStart m c mode behind = MayStart m mode behind × HasStart c (slot_behind m mode behind)
 
--- the ID of a start state that is known
+-- the ID of a start state that is cached
 abbrev pub known_start : Machine → Stored → Anchored → Option ℕ → ℕ
 known_start m c mode behind = slice_index c.starts (slot_behind m mode behind)
 
 -- why there is no start state
 abbrev pub IsStartRefusal : Machine → Stored → Anchored → Option ℕ → StartError → Type 0
--- a quit byte is behind the start, and it is this one
+-- the look-behind byte is a quit byte, and it is this one
 IsStartRefusal m c mode behind (start.Quit byte) = quit_behind m behind ≡ Some byte
--- no quit byte is behind, and the mode isn't supported
+-- it is none, and the anchored mode is not supported
 IsStartRefusal m c mode behind (start.UnsupportedAnchored told) =
     (quit_behind m behind ≡ None) × (supports m mode ≡ false) × (told ≡ mode)
--- the cache hasn't the state, has no room for it, and may not be cleared
+-- the cache does not have the state, has no room for it, and may not be cleared
 IsStartRefusal m c mode behind (start.Cache err) = MayStart m mode behind × GivesUp c (start_state_of m.nfa mode behind)
 IsStartRefusal m c mode behind start.OutOfMemory = MayStart m mode behind
 
--- a refused step, as a start tells it
+-- the error of a step, as a call for a start state reports it
 abbrev pub start_refusal : StepError → StartError
 start_refusal (step.Cache err) = start.Cache err
 start_refusal step.OutOfMemory = start.OutOfMemory
 
--- a refused start, as a search tells it: a quit byte and the giving up each at an offset
+-- the error of a start state, as a search reports it: a quit byte and the "gave up" error each have an offset
 abbrev pub search_refusal : StartError → (behind at : ℕ) → SearchError
 search_refusal (start.Cache err) behind at = search.Match (GaveUp at)
 search_refusal (start.Quit byte) behind at = search.Match (QuitAt byte behind)
 search_refusal (start.UnsupportedAnchored mode) behind at = search.Match (UnsupportedMode mode)
 search_refusal start.OutOfMemory behind at = search.OutOfMemory
 
--- why a search has no start state: why there is none, told with the offset of the byte behind or of the start; it isn't
--- known
+-- why a search has no start state: why there is none, reported with the offset of the look-behind byte or of the start;
+-- it is not cached
 abbrev pub IsStartRefusalAt : Machine → Stored → Anchored → Option ℕ → (behind_at start_at : ℕ) → SearchError → Type 0
 IsStartRefusalAt m c mode behind behind_at start_at e =
     (error : StartError) × IsStartRefusal m c mode behind error × (e ≡ search_refusal error behind_at start_at)
@@ -94,7 +94,7 @@ IsStartRefusalAt m c mode behind behind_at start_at e =
 -- what the ID is that a start answers
 pub record IsStartAnswer (m : Machine) (mode : Anchored) (behind : Option ℕ) (old new : CacheView) (id : ℕ) :
     Type 0 where
-  -- A start is answered only where a search may start: no quit byte is behind, and the mode is supported.
+  -- The call returns Ok only if a search may start: the look-behind byte is no quit byte, and the mode is supported.
   pub may : MayStart m mode behind
   -- Its row is there.
   pub row : HasRow new.store.table id
@@ -102,62 +102,62 @@ pub record IsStartAnswer (m : Machine) (mode : Anchored) (behind : Option ℕ) (
   pub named : Leads new.store.table id (start_state_of m.nfa mode behind)
   -- It has the match tag exactly if its state has patterns.
   pub tag : HasItsMatchTag new.store.table id
-  -- A start that was known is answered as it stood.
+  -- A start state that was cached is returned as it is.
   pub known : KnowsStart m old.store mode behind → id ≡ known_start m old.store mode behind
   -- Past the last pattern the start is dead.
   pub past : slot_count m ≤ slot_behind m mode behind → id ≡ dead_id (table_stride m)
-  -- A start that wasn't known was computed, and this is all that it did to the states.
+  -- A start state that was not cached was computed, and this is all that it did to the states.
   pub computed :
       HasSlot m mode behind → (KnowsStart m old.store mode behind → ⊥)
       → IsStarted old.store (slot_behind m mode behind) (start_row m mode behind) new.store id
-  -- A start that wasn't known had room, or the cache could be cleared for it.
+  -- A start state that was not cached had room, or the cache could be cleared for it.
   pub room : (KnowsStart m old.store mode behind → ⊥) → GivesUp old.store (start_state_of m.nfa mode behind) → ⊥
-  -- The start is known from then on, also where it cleared.
+  -- The start state is cached from then on, also where it cleared.
   pub learned : HasSlot m mode behind → KnowsStart m new.store mode behind
-  -- It is this one that is known.
+  -- It is this one that is cached.
   pub written : HasSlot m mode behind → known_start m new.store mode behind ≡ id
 
--- what holds where a start is refused
+-- what holds if a call for a start state fails
 pub record IsStartRefused (m : Machine) (mode : Anchored) (behind : Option ℕ) (old new : CacheView) (e : StartError) :
     Type 0 where
   -- The error says why.
   pub why : IsStartRefusal m old.store mode behind e
-  -- A known start is never refused.
+  -- A cached start state never fails.
   pub unknown : KnowsStart m old.store mode behind → ⊥
-  -- Past the last pattern nothing is refused where a search may start.
+  -- Past the last pattern nothing fails if a search may start.
   pub slot : MayStart m mode behind → HasSlot m mode behind
-  -- Nothing has changed but the count of determinisations.
+  -- Nothing has changed but the count of determinizations.
   pub unchanged : (new ≡ old) ⊎ (new ≡ counted old)
 
--- the same of a search, which tells the error with the offset of the byte behind or of the start
+-- the same of a search, which reports the error with the offset of the look-behind byte or of the start
 pub record IsStartRefusedAt (m : Machine) (mode : Anchored) (behind : Option ℕ) (behind_at start_at : ℕ)
     (old new : CacheView) (e : SearchError) : Type 0 where
-  -- There is a start's error.
+  -- It stems from the error of a start state.
   pub error : StartError
-  -- The start is refused by it.
+  -- The call for the start state fails with it.
   pub refused : IsStartRefused m mode behind old new error
-  -- It is told at its offset.
+  -- It is reported at this offset.
   pub told : e ≡ search_refusal error behind_at start_at
 
--- what a start makes of the cache, answered or refused
+-- what asking for a start state does to the cache, whether that returns Ok or an error
 pub record IsStartEffect (m : Machine) (mode : Anchored) (behind : Option ℕ) (old new : CacheView) : Type 0 where
   -- The cache has grown; where the call cleared nothing, nothing is lost.
   pub grown : IsGrown old new
-  -- It determinised at most once.
+  -- It determinized at most once.
   pub counted : new.count ≤ old.count + 1
-  -- It determinised exactly once for a start that has a slot and wasn't known.
+  -- It determinized exactly once for a start that has a slot and was not cached.
   pub computed :
       MayStart m mode behind → HasSlot m mode behind → (KnowsStart m old.store mode behind → ⊥)
       → new.count ≡ old.count + 1
   -- Where a search may not start, nothing has changed.
   pub barred : (MayStart m mode behind → ⊥) → new ≡ old
-  -- A known start takes no memory, and changes nothing.
+  -- A cached start state takes no memory, and changes nothing.
   pub known : KnowsStart m old.store mode behind → new ≡ old
   -- Past the last pattern nothing has changed.
   pub past : MayStart m mode behind → slot_count m ≤ slot_behind m mode behind → new ≡ old
   -- A state that was there keeps its start tag or its lack of one, through a clear too.
   pub start_tags : KeepsStartTags old.store.table new.store.table
-  -- The progress of searches stays, but for a clear.
+  -- The progress of searches is unchanged, except for what a clear does to it.
   pub progress : KeepsProgress old.store new.store
   -- A state that was added has the start tag exactly if the settings specialize start states.
   pub added : TagsNewStates old.store.table new.store.table (specialize_start_states_of m.config)

@@ -24,11 +24,11 @@ abbrev pub quits_on : Machine → Option ℕ → Bool
 quits_on m None = false
 quits_on m (Some byte) = is_quit m.quits byte
 
--- the transition from a state on a unit is known
+-- the transition from a state on a unit is cached
 abbrev pub KnowsStep : Machine → Stored → (id : ℕ) → (unit : Option ℕ) → Type 0
 KnowsStep m c id unit = IsKnownTransition c id (unit_class m unit)
 
--- the ID that a known transition leads to
+-- the ID that a cached transition leads to
 abbrev pub known_step : Machine → Stored → (id : ℕ) → (unit : Option ℕ) → ℕ
 known_step m c id unit = cell_of c id (unit_class m unit)
 
@@ -46,51 +46,51 @@ pub record IsStepAnswer (m : Machine) (id : ℕ) (unit : Option ℕ) (old new : 
   pub named :
       quits_on m unit ≡ false → (q : Powerset) → Names old.store.table id q
       → Leads new.store.table next (successor m.nfa (match_kind_of m.config) q unit)
-  -- A transition that was known is answered as it stood.
+  -- A transition that was cached is returned as it is.
   pub known : id < fixed_from → KnowsStep m old.store id unit → next ≡ known_step m old.store id unit
-  -- A transition that wasn't known was computed, and this is all that it did to the states.
+  -- A transition that was not cached was computed, and this is all that it did to the states.
   pub computed :
       id < fixed_from → (KnowsStep m old.store id unit → ⊥) → (q : Powerset) → Names old.store.table id q
       → IsComputed old.store id (unit_class m unit) q (successor m.nfa (match_kind_of m.config) q unit) new.store next
-  -- A state that wasn't known to be next had room, or the cache could be cleared for it.
+  -- A state that was not known to be next had room, or the cache could be cleared for it.
   pub room :
       (q : Powerset) → Names old.store.table id q → (KnowsStep m old.store id unit → ⊥)
       → GivesUp old.store (successor m.nfa (match_kind_of m.config) q unit) → ⊥
-  -- Where the call cleared nothing, the transition is known from then on.
+  -- If the call cleared nothing, the transition is cached from then on.
   pub learned : id < fixed_from → ClearedNothing old.store new.store → KnowsStep m new.store id unit
   -- It leads to this ID.
   pub written : id < fixed_from → ClearedNothing old.store new.store → known_step m new.store id unit ≡ next
 
--- what holds where a step from an ID on a unit is refused
+-- what holds if a step from an ID on a unit fails
 pub record IsStepRefused (m : Machine) (id : ℕ) (unit : Option ℕ) (old new : CacheView) (e : StepError) : Type 0 where
-  -- A cache error says that the successor isn't there, has no room, and the cache may not be cleared for it.
+  -- A cache error says that the successor is not there, has no room, and the cache may not be cleared for it.
   pub gives_up :
       IsCacheError e → (q : Powerset) → Names old.store.table id q
       → GivesUp old.store (successor m.nfa (match_kind_of m.config) q unit)
-  -- A step from dead or quit is never refused.
+  -- A step from dead or quit never fails.
   pub low : id < fixed_from
-  -- A step on a quit byte is never refused.
+  -- A step on a quit byte never fails.
   pub clean : quits_on m unit ≡ false
-  -- A known transition is never refused.
+  -- A cached transition never fails.
   pub unknown : KnowsStep m old.store id unit → ⊥
-  -- Nothing has changed but the count of determinisations.
+  -- Nothing has changed but the count of determinizations.
   pub unchanged : new ≡ counted old
 
--- what a step from an ID on a unit makes of the cache, answered or refused
+-- what a step from an ID on a unit does to the cache, whether it returns Ok or an error
 pub record IsStepEffect (m : Machine) (id : ℕ) (unit : Option ℕ) (old new : CacheView) : Type 0 where
   -- The cache has grown; where the call cleared nothing, nothing is lost.
   pub grown : IsGrown old new
-  -- It determinised at most once.
+  -- It determinized at most once.
   pub counted : new.count ≤ old.count + 1
-  -- It determinised exactly once for a transition that wasn't known.
+  -- It determinized exactly once for a transition that was not cached.
   pub computed : id < fixed_from → (KnowsStep m old.store id unit → ⊥) → new.count ≡ old.count + 1
   -- A step from dead or quit changes nothing.
   pub fixed : fixed_from ≤ id → new ≡ old
   -- A quit byte takes no memory, and changes nothing.
   pub quit : quits_on m unit ≡ true → new ≡ old
-  -- A known transition takes no memory, and changes nothing.
+  -- A cached transition takes no memory, and changes nothing.
   pub known : KnowsStep m old.store id unit → new ≡ old
-  -- The progress of searches stays, but for a clear.
+  -- The progress of searches is unchanged, except for what a clear does to it.
   pub progress : KeepsProgress old.store new.store
   -- A state that was there keeps its start tag or its lack of one, through a clear too.
   pub start_tags : KeepsStartTags old.store.table new.store.table

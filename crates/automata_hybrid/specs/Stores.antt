@@ -30,7 +30,7 @@ settings_of m = record {
 abbrev pub with_table : Stored → Rows → Stored
 with_table c t = record { table = t; starts = c.starts; clears = c.clears; searched = c.searched }
 
--- a step was refused for want of room, and not of memory
+-- a step failed for lack of room, and not of memory
 abbrev pub IsCacheError : StepError → Type 0
 IsCacheError (Cache e) = Unit {0}
 IsCacheError OutOfMemory = ⊥
@@ -39,7 +39,7 @@ IsCacheError OutOfMemory = ⊥
 abbrev pub cell_of : Stored → ℕ → ℕ → ℕ
 cell_of c id class = slice_index c.table.cells (cell_at id class)
 
--- the transition is known
+-- the transition is cached
 abbrev pub IsKnownTransition : Stored → ℕ → ℕ → Type 0
 IsKnownTransition c id class = cell_of c id class < unknown_id
 
@@ -65,11 +65,11 @@ fresh_store m = record {
   searched = record { bytes = 0; running = None };
 }
 
--- the slot's start is known
+-- the slot's start state is cached
 abbrev pub IsKnownStart : Stored → ℕ → Type 0
 IsKnownStart c slot = slice_index c.starts slot < unknown_id
 
--- each start that was known is known
+-- each start state that was cached is cached
 abbrev pub KeepsStarts : List ℕ → List ℕ → Type 0
 KeepsStarts old new = (slot : ℕ) → slice_index old slot < unknown_id → slice_index new slot < unknown_id
 

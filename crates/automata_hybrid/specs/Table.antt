@@ -23,7 +23,7 @@ row_id at r = at + tags r.started (has_patterns r.state)
 abbrev pub row_cost : Row → ℕ
 row_cost r = cost r.state
 
--- what contracts see of a table: the rows behind the three fixed ones, and all cells
+-- what contracts see of a table: the rows after the three fixed ones, and all cells
 pub record Rows : Type 0 where
   pub of : Machine
   pub cells : List ℕ
@@ -38,7 +38,7 @@ find_id s at q (r ∷ rs) = cond (powerset_eq q r.state) (Some (row_id at r)) (f
 abbrev pub id_of : Rows → Powerset → Option ℕ
 id_of t q = find_id (table_stride t.of) (3 * table_stride t.of) q t.rows
 
--- a state that isn't dead, and that no row has
+-- a state that is not dead, and that no row has
 abbrev pub Lacks : Rows → Powerset → Type 0
 Lacks t q = (id_of t q ≡ None) × (q ≡ dead → ⊥)
 
@@ -55,7 +55,7 @@ abbrev pub KeepsStartTags : Rows → Rows → Type 0
 KeepsStartTags old new =
     (q : Powerset) (before now : ℕ) → Names old before q → Names new now q → IsBitSet before 28 ↔ IsBitSet now 28
 
--- a state that wasn't there and is there has the start tag exactly if it was to have it
+-- a state that was added has the start tag exactly if it was to have it
 abbrev pub TagsNewStates : Rows → Rows → Bool → Type 0
 TagsNewStates old new started =
     (q : Powerset) (id : ℕ) → id_of old q ≡ None → Names new id q → IsBitSet id 28 ↔ (started ≡ true)
@@ -69,7 +69,7 @@ pub record Has (t : Rows) (q : Powerset) : Type 0 where
 abbrev pub Leads : Rows → ℕ → Powerset → Type 0
 Leads t id q = ((id ≡ dead_id (table_stride t.of)) × (q ≡ dead)) ⊎ Names t id q
 
--- a cell that isn't known, or that names what it should
+-- a cell that is not cached, or that names what it should
 abbrev pub MayLead : Rows → ℕ → Powerset → Type 0
 MayLead t id q = (id ≡ unknown_id) ⊎ Leads t id q
 
@@ -95,7 +95,7 @@ with_row t r = record { of = t.of; cells = t.cells ++ template_of t.of; rows = t
 abbrev pub StateMap : Type 0
 StateMap = HashMap Powerset ℕ (BuildHasherDefault FoldHasher)
 
--- each known cell of a row names the next state of that row's state
+-- each cached cell of a row names the next state of that row's state
 abbrev pub IsStepped : Rows → Type 0
 IsStepped t =
     (k class : ℕ) (r : Row) → slice_get t.rows k ≡ Some r → class < table_stride t.of
@@ -118,7 +118,7 @@ IsAlive t =
     (k : ℕ) (r : Row) → slice_get t.rows k ≡ Some r
     → (r.state ≡ dead → ⊥) × (cost r.state ≤ greatest t.of) × IsStateOf t.of r.state
 
--- rows and cells fit each other: the fixed rows come first, no state has two rows, and each known cell leads where its
+-- rows and cells fit each other: the fixed rows come first, no state has two rows, and each cached cell leads where its
 -- row's state goes
 pub record AreRows (t : Rows) : Type 0 where
   pub whole : length t.cells ≡ (length t.rows + 3) * table_stride t.of
@@ -154,7 +154,7 @@ cell_at id class = id % offset_limit + class
 
 -- a state that may be added to a table
 pub record IsNewState (t : Rows) (q : Powerset) : Type 0 where
-  -- No row has it, and it isn't dead.
+  -- No row has it, and it is not dead.
   pub lacks : Lacks t q
   -- It costs no more than a state may.
   pub cheap : cost q ≤ greatest t.of

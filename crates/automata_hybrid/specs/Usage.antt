@@ -1,4 +1,4 @@
--- The accounted bytes of a cache, what fits, and when a clear is refused.
+-- The accounted bytes of a cache, what fits, and when a clear is not allowed.
 use Rattle.std.specs.Prelude.{◌≡◌, ℕ, ◌+◌, ◌*◌, ◌^◌, ◌<◌, ◌≤◌, length, Bool, true, false, cond, Option, None, Some}
 use Rattle.std.specs.Prelude.{sum_by, nat_lt}
 use Rattle.automata_base.specs.Powerset.{Powerset, cost}
@@ -14,7 +14,7 @@ use Rattle.automata_hybrid.specs.Stores.{Stored, settings_of}
 use Rattle.automata_config.specs.Options.{minimum_cache_clear_count_of, minimum_bytes_per_state_of}
 
 -- the accounted bytes: those of the cells and of the slots, of the rows with the three fixed ones, and of their places
--- in the map, which has one of these three; the costs of all states, and the room for determinisation
+-- in the map, which has one of these three; the costs of all states, and the room for determinization
 abbrev pub usage_by : Rows → ℕ → ℕ → ℕ
 usage_by t slots fixed =
     cell_size * length t.cells + cell_size * slots + row_size * (length t.rows + 3) + entry_size * (length t.rows + 1)
@@ -38,7 +38,7 @@ abbrev pub short_of : Option ℕ → ℕ → ℕ → Bool
 short_of None states searched = true
 short_of (Some bytes) states searched = nat_lt searched (saturated (bytes * states))
 
--- no clear is refused up to the limit, and past it where too few bytes were searched since the last one
+-- a clear is allowed up to the limit, and past it only if enough bytes were searched since the last one
 abbrev pub refuses_at : Option ℕ → Stored → Bool
 refuses_at None c = false
 refuses_at (Some limit) c =
@@ -79,6 +79,6 @@ pub record IsCache (c : Stored) (settings : Settings) : Type 0 where
   pub same : settings ≡ settings_of c.table.of
   pub bounded : c.table.of.capacity < 2 ^ 64
 
--- why a state is refused: it isn't there, it doesn't fit, and the clear rule refuses
+-- why a call gives up at a state: it is not there, it does not fit, and the clear rule does not allow a clear
 abbrev pub GivesUp : Stored → Powerset → Type 0
 GivesUp c q = Lacks c.table q × (Fits c (cost q) → ⊥) × (refuses_to_clear c ≡ true)

@@ -1,4 +1,4 @@
--- What an overlapping walk has told, and why a call of it is refused.
+-- What an overlapping walk has reported, and why a call of it fails.
 use Rattle.std.specs.Prelude.{ℕ, zero, suc, ◌≡◌, ◌<◌, ◌≤◌, ◌+◌, ◌⊎◌, false, List, [], ◌∷◌, length, Option, None, Some}
 use Rattle.automata_base.specs.Answers.{AreUnsplit, offset_in}
 use Rattle.automata_base.specs.Classes.{is_quit}
@@ -23,7 +23,7 @@ use Rattle.automata_hybrid.specs.Table.{Rows, Has, Names}
 use Rattle.automata_hybrid.specs.Walks.{At, Ended, Fresh, Ids, Keeping, Stage, States, Walk}
 use Rattle.automata_config.specs.Options.{match_kind_of}
 
--- the pairs that a pass tells by its first `k` units; their places are the pass's
+-- the pairs that a pass reports by its first `k` units; their places are the pass's
 abbrev pub pairs_in : Direction → Machine → Input → ℕ → List Pair
 pairs_in way m input k = pairs_told m.nfa (match_kind_of m.config) input.anchored (tape_in way input) k
 
@@ -37,13 +37,13 @@ half_nth [] k = None
 half_nth (pair ∷ pairs) zero = Some (record { pattern = pair.pattern; offset = pair.place })
 half_nth (pair ∷ pairs) (suc k) = half_nth pairs k
 
--- by its first `n` units a pass tells a walk `k` pairs, the split ones left out where they are skipped
+-- by its first `n` units a pass reports `k` pairs to a walk, the split ones left out where they are skipped
 pub record HasToldBy (way : Direction) (m : Machine) (input : Input) (n k : ℕ) : Type 0 where
   pub pairs : List Pair
   pub unsplit : AreUnsplit (Skips m) way input (pairs_in way m input n) pairs
   pub count : k ≡ length pairs
 
--- a walk over this input reads the unit at place `k`: the state there isn't dead
+-- a walk over this input reads the unit at place `k`: the state there is not dead
 abbrev pub WalkReads : Direction → Machine → Input → ℕ → Type 0
 WalkReads way m input k = (k ≤ length (tape_in way input).bytes) × (state_in way m input k ≡ dead → ⊥)
 
@@ -58,8 +58,8 @@ pub record IsRowState (m : Machine) (q : Powerset) : Type 0 where
   pub cheap : cost q ≤ greatest m
   pub alive : q ≡ dead → ⊥
 
--- a walk stands at the state behind the unit at a place that isn't skipped, none of its units a quit byte; it has told
--- `told` patterns of this state, at least one, and `k` pairs in all
+-- a walk stands at the state after the unit at a place that is not skipped, none of its units a quit byte; it has
+-- reported `told` patterns of this state, at least one, and `k` pairs in all
 pub record Stands (way : Direction) (m : Machine) (input : Input) (q : Powerset) (units told k : ℕ) : Type 0 where
   pub undone : input.start ≤ input.end
   pub may : MayStart m input.anchored (tape_in way input).before
@@ -76,7 +76,7 @@ pub record Stands (way : Direction) (m : Machine) (input : Input) (q : Powerset)
   pub before : HasToldBy way m input place earlier
   pub count : k ≡ earlier + told
 
--- a walk has told all that there is to tell: its span was done, or it met no quit byte to its end
+-- a walk has reported all that there is to report: its span was done, or it met no quit byte to its end
 pub record HasToldAll (way : Direction) (m : Machine) (input : Input) (k : ℕ) : Type 0 where
   pub clean :
       (input.end < input.start) ⊎ (MayStart m input.anchored (tape_in way input).before × WalkMeetsNoQuit way m input)
@@ -89,7 +89,7 @@ HasToldAt way m input Fresh units told k = (k ≡ 0) × (units ≡ 0)
 HasToldAt way m input (At q) units told k = Stands way m input q units told k
 HasToldAt way m input Ended units told k = HasToldAll way m input k
 
--- a walk has told the first `k` pairs of the walk over this input
+-- a walk has reported the first `k` pairs of the walk over this input
 abbrev pub HasTold : Direction → Machine → Input → Walk → ℕ → Type 0
 HasTold way m input w k = HasToldAt way m input w.stage w.units w.told k
 
@@ -97,8 +97,8 @@ HasTold way m input w k = HasToldAt way m input w.stage w.units w.told k
 abbrev pub IsWalkOf : Direction → Machine → Input → Walk → Type 0
 IsWalkOf way m input w = (k : ℕ) × HasTold way m input w k
 
--- a call that answered: where `k` pairs were told, so is the next one, and it is the match; where none is left there is
--- no match, and the walk has ended
+-- a call that returned Ok: after `k` pairs it reports the next one, which is the match; if none is left there is no
+-- match, and the walk has ended
 abbrev pub TellsNext : Direction → Machine → Input → Walk → Walk → Type 0
 TellsNext way m input old new =
     (k : ℕ) → HasTold way m input old k
@@ -106,35 +106,35 @@ TellsNext way m input old new =
     × ((pairs : List Pair) → AreWalked way m input pairs
     → (new.found ≡ half_nth pairs k) × (length pairs ≤ k → new.stage ≡ Ended))
 
--- why its state isn't put back, which the cache hasn't: memory is wanting, or there is no room for it, and the cache
--- may not be cleared
+-- why its state is not put back, which the cache does not have: memory runs out, or there is no room for it and the
+-- cache may not be cleared
 abbrev pub IsPutBackRefusal : Stored → Powerset → (given_up_at : ℕ) → SearchError → Type 0
 IsPutBackRefusal c q at e =
     ((Has c.table q → ⊥) × (e ≡ search.OutOfMemory)) ⊎ (GivesUp c q × (e ≡ search.Match (GaveUp at)))
 
--- why a walk isn't gone on with: it hasn't begun and its start is refused, or it has and its state isn't put back
+-- why a walk cannot go on: it has not begun and its start state fails, or it has and its state is not put back
 abbrev pub IsResumeRefusal : Direction → Machine → Stored → Input → Stage → (units : ℕ) → SearchError → Type 0
 IsResumeRefusal way m c input Fresh units e =
     IsStartRefusalAt m c input.anchored (tape_in way input).before (behind_offset way input) (offset_in way input 0) e
 IsResumeRefusal way m c input (At q) units e = IsPutBackRefusal c q (given_up_offset way input units) e
 IsResumeRefusal way m c input Ended units e = ⊥
 
--- the state behind the unit at place `j` tells a pair, and can't be held: no user more of it can be counted, which is told
--- as want of memory
+-- the state after the unit at place `j` reports a pair, and cannot be held: its users cannot be counted once more,
+-- which is reported as out of memory
 pub record IsUnheld (way : Direction) (m : Machine) (input : Input) (j : ℕ) (e : SearchError) : Type 0 where
   pub clean : IsNoQuit m (next (tape_in way input) j)
   pub tells : 0 < length (state_in way m input (suc j)).patterns
   pub unskipped : Skips m → is_split input.haystack (offset_in way input j) ≡ false
   pub memory : e ≡ search.OutOfMemory
 
--- why a call is refused at the unit at place `j`: the step on it is; or, where states are kept, the one behind it can't be
+-- why a call fails at the unit at place `j`: the step on it does; or, where states are kept, the one after it cannot be
 -- held
 abbrev pub IsRefusalAt : Keeping → Direction → Machine → Stored → Input → ℕ → SearchError → Type 0
 IsRefusalAt Ids way m c input j e = IsUnitRefusal way m c input j e
 IsRefusalAt States way m c input j e = IsUnitRefusal way m c input j e ⊎ IsUnheld way m input j e
 
--- why a call is refused that was to tell the pair behind the first `k`: it isn't gone on with, or it is refused at a unit
--- that it reads, no quit byte having been met before; the units before tell these `k` pairs
+-- why a call fails that was to report the pair after the first `k`: the walk cannot go on, or it fails at a unit that
+-- it reads, and no quit byte was met before; the units before report these `k` pairs
 abbrev pub IsWalkRefusal : Keeping → Direction → Machine → Stored → Input → Walk → ℕ → SearchError → Type 0
 IsWalkRefusal keeping way m c input w k e =
     (input.start ≤ input.end)
@@ -143,12 +143,12 @@ IsWalkRefusal keeping way m c input w k e =
     × ((j : ℕ) × (w.units ≤ j) × WalkReads way m input j × HasReadNoQuit way m input j × HasToldBy way m input j k
     × IsRefusalAt keeping way m c input j e)))
 
--- the units from one place of a pass to another tell a walk nothing
+-- the units from one place of a pass to another report nothing to a walk
 abbrev pub IsSilent : Direction → Machine → Input → (from to : ℕ) → Type 0
 IsSilent way m input from to = (k : ℕ) → HasToldBy way m input from k → HasToldBy way m input to k
 
--- from its first `from` units a walk went on, without a quit byte, to a state that tells patterns at a place that isn't
--- skipped, and the ID names it
+-- from its first `from` units a walk went on, without a quit byte, to a state that reports patterns at a place that is
+-- not skipped, and the ID names it
 pub record Arrives (way : Direction) (m : Machine) (t : Rows) (input : Input) (from id units : ℕ) : Type 0 where
   pub place : ℕ
   pub behind : units ≡ suc place
@@ -167,12 +167,12 @@ pub record Finishes (way : Direction) (m : Machine) (input : Input) (from units 
   pub silent : IsSilent way m input from (suc (length (tape_in way input).bytes))
   pub stops : (j : ℕ) → units ≤ j → WalkReads way m input j → ⊥
 
--- to a state that tells patterns, if there is an ID, and else to its end
+-- to a state that reports patterns, if there is an ID, and else to its end
 abbrev pub IsArrival : Direction → Machine → Rows → Input → (from : ℕ) → Option ℕ → (units : ℕ) → Type 0
 IsArrival way m t input from None units = Finishes way m input from units
 IsArrival way m t input from (Some id) units = Arrives way m t input from id units
 
--- why going on from the first `from` units is refused: the step on a unit from there on is, those before telling
+-- why going on from the first `from` units fails: the step on a unit from there on does, and those before report
 -- nothing
 abbrev pub IsAdvanceRefusal : Direction → Machine → Stored → Input → (from : ℕ) → SearchError → Type 0
 IsAdvanceRefusal way m c input from e =
@@ -185,13 +185,13 @@ HasItsState t Fresh = Unit {0}
 HasItsState t (At q) = Has t q
 HasItsState t Ended = Unit {0}
 
--- a call found no match, or the walk has read more units, or has told one pattern more
+-- a call found no match, or the walk has read more units, or has reported one pattern more
 abbrev pub GoesOn : Walk → Walk → Type 0
 GoesOn old new =
     (new.found ≡ None)
     ⊎ ((new.stage ≡ Ended → ⊥) × ((old.units < new.units) ⊎ ((new.units ≡ old.units) × (new.told ≡ suc old.told))))
 
--- one determinisation for the start of a walk that hasn't begun
+-- one determinization for the start state of a walk that has not begun
 abbrev pub start_count : Stage → ℕ
 start_count Fresh = 1
 start_count (At q) = 0

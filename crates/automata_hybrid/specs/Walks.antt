@@ -14,20 +14,20 @@ use Rattle.automata_hybrid.specs.declared.search.walk.Stage.{Stage as AStage}
 use Rattle.automata_hybrid.specs.declared.search.walk.Stage.TheVariants as stage
 use Rattle.automata_hybrid.specs.declared.search.walk.Cursor.TheInside.{Inside}
 
--- a walk hasn't begun, stands at a powerset state, or has ended
+-- a walk has not begun, stands at a powerset state, or has ended
 pub data Stage : Type 0 where
   Fresh : Stage
   At : Powerset → Stage
   Ended : Stage
 
--- how many units it has read, how many patterns of its state it has told, and its match
+-- how many units it has read, how many patterns of its state it has reported, and its match
 pub record Walk : Type 0 where
   pub stage : Stage
   pub units : ℕ
   pub told : ℕ
   pub found : Option HalfMatch
 
--- a walk that hasn't begun
+-- a walk that has not begun
 abbrev pub fresh_walk : Walk
 fresh_walk = record { stage = Fresh; units = 0; told = 0; found = None }
 
@@ -35,7 +35,7 @@ fresh_walk = record { stage = Fresh; units = 0; told = 0; found = None }
 abbrev pub without_match : Walk → Walk
 without_match w = record { stage = w.stage; units = w.units; told = w.told; found = None }
 
--- with the next pattern of its state told
+-- with the next pattern of its state reported
 abbrev pub with_match : Walk → HalfMatch → Walk
 with_match w half = record { stage = w.stage; units = w.units; told = suc w.told; found = Some half }
 
@@ -48,8 +48,8 @@ abbrev pub way_of : Way → Direction
 way_of way.Forward = tapes.Forward
 way_of way.Backward = tapes.Backward
 
--- what a walk keeps of the state where it stands: the state itself, over whatever caches; or, in the walk of a set, which
--- is over with its call, the ID of the state's row alone
+-- what a walk keeps of the state where it stands: the state itself, over whatever caches; or, in the walk of a set,
+-- which is over with its call, the ID of the state's row alone
 pub data Keeping : Type 0 where
   States : Keeping
   Ids : Keeping

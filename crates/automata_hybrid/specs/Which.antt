@@ -18,8 +18,8 @@ abbrev pub IsJoined : List Pair → (old new : List Bool) → Type 0
 IsJoined pairs old new =
     (p : ℕ) → In p (members new) ↔ (In p (members old) ⊎ ((p < length old) × HasPattern p pairs))
 
--- a call was refused that was to tell the pair behind the first `k`, and the set has the patterns of these, with which it
--- was gone on with
+-- a call failed that was to report the pair after the first `k`; the set has the patterns of these, and was still open
+-- with them
 abbrev pub IsWhichRefusal : Machine → Stored → Input → (old new : List Bool) → SearchError → Type 0
 IsWhichRefusal m c input old new e =
     (walk : Walk) × (k : ℕ) × HasTold Forward m input walk k

@@ -23,13 +23,13 @@ pub fn walks_agree(dfa: &DFA)
     walk_is_right(dfa.get_nfa());
 }
 
-/// Over m bytes a search determinises at most m + 2 times where no place is skipped or it is anchored, and never more
+/// Over m bytes a search determinizes at most m + 2 times where no place is skipped or it is anchored, and never more
 /// than (m + 1)(m + 2) times.
 pub fn costs_are_few()
     ensures { SearchesCostFew }
 {}
 
-/// What a search knows of its start and transitions it still knows where no row, start or transition was lost.
+/// If no row, start state or transition was lost, what a search uses of them is still cached.
 pub fn known_stays(dfa: &DFA)
     ensures { KnownStays dfa.now }
 {

@@ -211,7 +211,7 @@ impl Cache {
         self.store.cell(id, class)
     }
 
-    /// The same, of an ID whose row is at an offset that is known.
+    /// The same, of an ID whose row's offset is known.
     #[inline(always)]
     pub(crate) fn cell_in_row(&self, id: LazyStateID, row: LazyStateID, class: usize) -> LazyStateID
         requires row { IsValid self.now.store.table id }
@@ -375,7 +375,7 @@ impl Cache {
         self.store.state(id).match_pattern(index)
     }
 
-    /// What was found of the self-loop that was followed last. No contract knows it, so it is tested before it is used.
+    /// What was found of the self-loop that was followed last. No contract speaks of it, so it is tested before use.
     #[inline(always)]
     pub(crate) fn self_loop(&self) -> KnownLoop {
         self.self_loop.get()

@@ -285,7 +285,7 @@ impl DFA {
     }
 }
 
-/// A start state's error as a search reports it: a quit byte at one offset, giving up at another.
+/// A start state's error as a search reports it: a quit byte at one offset, the "gave up" error at another.
 fn search_refusal(error: StartError, behind: usize, at: usize) -> SearchError
     ensures { result ≡ search_refusal error behind at }
 {

@@ -178,7 +178,7 @@ impl DFA {
         cache.cell(id, self.class_of(byte))
     }
 
-    /// The same, of an ID whose row is at an offset that is known.
+    /// The same, of an ID whose row's offset is known.
     #[inline(always)]
     pub(crate) fn next_state_in_row(
         &self,

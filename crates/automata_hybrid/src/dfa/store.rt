@@ -135,7 +135,7 @@ impl Store {
         self.searched.finish(at);
     }
 
-    /// The slot of a start, which may not be known yet.
+    /// The slot of a start, which may not be cached yet.
     pub fn start_slot(&self, slot: usize) -> LazyStateID
         requires { slot < length self.now.starts }
         ensures value { result ≡ slice_index self.now.starts slot }
@@ -298,7 +298,7 @@ impl Store {
         LazyStateID::dead(self.table.stride() as u32)
     }
 
-    /// The cell of a row at a class, which may not be known yet.
+    /// The cell of a row at a class, which may not be cached yet.
     pub fn cell(&self, id: LazyStateID, class: usize) -> LazyStateID
         requires row { IsValid self.now.table id }
         requires class { class < table_stride self.now.table.of }
@@ -309,7 +309,7 @@ impl Store {
         self.table.cell(id, class)
     }
 
-    /// The same, of an ID whose row is at an offset that is known.
+    /// The same, of an ID whose row's offset is known.
     #[inline(always)]
     pub fn cell_in_row(&self, id: LazyStateID, row: LazyStateID, class: usize) -> LazyStateID
         requires row { IsValid self.now.table id }
@@ -407,7 +407,7 @@ impl Store {
         Ok(id)
     }
 
-    /// Adds a state that the cache lacks, stepped to from a row; clears first where it doesn't fit. It answers the
+    /// Adds a state that the cache lacks, stepped to from a row; clears first where it does not fit. It answers the
     /// row's ID as it is now, and the new one. A refusal changes nothing.
     pub fn add_next(
         &mut self,

@@ -240,7 +240,7 @@ impl Table {
         cell_in(self.cells.as_slice(), id.offset() as usize, class)
     }
 
-    /// The same, of an ID whose row is at an offset that is known: no tag has to be taken off.
+    /// The same, of an ID whose row's offset is known: no tag has to be taken off.
     #[inline(always)]
     pub fn cell_in_row(&self, id: LazyStateID, row: LazyStateID, class: usize) -> LazyStateID
         requires row { IsValid self.now id }

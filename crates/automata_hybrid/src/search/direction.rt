@@ -20,7 +20,7 @@ pub(crate) enum Way {
     Backward,
 }
 
-/// The last place of a search: behind the bytes of its span.
+/// The last place of a search: after the bytes of its span.
 #[inline(always)]
 pub(crate) fn last_place(input: &Input<'_>) -> usize
     requires { input.now.start ≤ input.now.end }
@@ -85,7 +85,7 @@ pub(crate) fn bytes_from<'h>(input: &Input<'h>, way: Way, place: usize) -> &'h [
     }
 }
 
-/// What is read at a place: a byte of the span or the one behind it, or none after the haystack.
+/// What is read at a place: a byte of the span or the one after it, or none after the haystack.
 #[inline(always)]
 pub(crate) fn unit_at(input: &Input<'_>, way: Way, place: usize) -> Option<u8>
     requires open { input.now.start ≤ input.now.end }
@@ -152,7 +152,7 @@ pub(crate) fn keeps_none(input: &Input<'_>, way: Way) -> bool
     }
 }
 
-/// A run back has ended before it reads the byte behind its span.
+/// A run back has ended before it reads the byte after its span.
 #[inline(always)]
 pub(crate) fn end_before_last(cache: &mut Cache, way: Way, at: usize)
     ensures value { cache.new ≡ with_store cache.old (with_searched cache.old.store

@@ -1,4 +1,4 @@
-//! Following cached transitions, as many at once as can be: into states that tell nothing or into match states, and
+//! Following cached transitions, as many at once as can be: into states that report nothing or into match states, and
 //! along self-loops.
 ghost use Rattle.std.specs.Prelude.{ℕ, ◌≡◌, ◌+◌, ◌-◌, ◌<◌, ◌≤◌, IsBitSet};
 ghost use Rattle.automata_base.specs.Paths.{next};
@@ -220,7 +220,7 @@ impl DFA {
         }
     }
 
-    /// The ID after the byte at a place, as far as it is known, of an ID that has a tag and no other.
+    /// The ID after the byte at a place, as far as it is cached, of an ID that has a tag and no other.
     #[inline(always)]
     fn follow_byte(
         &self,
@@ -242,7 +242,7 @@ impl DFA {
         self.next_state_in_row(cache, id, id.less(tag), byte_at(input, way, place))
     }
 
-    /// A cached transition on the byte at a place leads on, and if it leads to an ID without a tag, tells nothing. This
+    /// A cached transition on the byte at a place leads on, and if it leads to an ID without a tag, reports nothing. This
     /// does nothing.
     #[inline(always)]
     fn see_byte(&self, cache: &Cache, input: &Input<'_>, way: Way, place: usize, id: LazyStateID)

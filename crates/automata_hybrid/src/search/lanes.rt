@@ -74,7 +74,7 @@ pub(super) fn are_in_either(
     outside_both(way, first, second, bytes, at) == 0
 }
 
-/// How many of them are, before the first that isn't.
+/// How many of them are, before the first that is not.
 #[inline(always)]
 pub(super) fn count_in_either(
     way: Way,

@@ -36,7 +36,7 @@ struct Place {
 }
 
 impl DFA {
-    /// One run over the span, which isn't done.
+    /// One run over the span, which is not done.
     #[inline(always)]
     pub(super) fn pass(
         &self,
@@ -72,7 +72,7 @@ impl DFA {
         Ok(found)
     }
 
-    /// Follows known transitions as far as they tell nothing, and then into states that have patterns: the last of
+    /// Follows cached transitions as far as they report nothing, and then into states that have patterns: the last of
     /// these is asked for its pattern. An earliest search follows the first ones alone.
     #[inline(always)]
     fn run(
@@ -238,7 +238,7 @@ impl DFA {
         self.find(cache, input, Way::Backward, start)
     }
 
-    /// The step at the last place: on the byte behind the span, or on the haystack's end.
+    /// The step at the last place: on the byte after the span, or on the haystack's end.
     #[inline(always)]
     fn find_end(
         &self,

@@ -20,7 +20,7 @@ const MANY: usize = 256;
 /// And before they are looked for again, where they are of many classes, or too many bytes were outside them.
 const AGAIN: usize = 2048;
 
-/// Ranges of more classes than these aren't kept from one run to the next, since each class is tested then.
+/// Ranges of more classes than these are not kept from one run to the next, since each class is tested then.
 const CLASSES: u16 = 8;
 
 /// A scan ends where more than one byte in `LANES` was outside its ranges, once there were so many bytes.
@@ -37,7 +37,7 @@ pub(crate) struct KnownLoop {
 }
 
 impl KnownLoop {
-    /// A row's, of which no range is known.
+    /// A self-loop of which no range is known.
     fn new(id: LazyStateID, wait: usize) -> KnownLoop {
         KnownLoop {
             id,
