@@ -1,60 +1,21 @@
-pub mod Accounting
-pub mod Alike
-pub mod Answers
-pub mod Automata
-pub mod Classes
-pub mod Code
-pub mod Computed
-pub mod Copies
-pub mod Cuts
-pub mod Decoders
-pub mod Door
-pub mod Drafts
-pub mod Engines
-pub mod Equal
-pub mod Finishing
-pub mod Getters
-pub mod Input
-pub mod Key
-pub mod LateIsRight
-pub mod Lists
-pub mod Looks
-pub mod Made
-pub mod Marks
-pub mod Matches
-pub mod Members
-pub mod Mirrors
-pub mod Nfa
-pub mod Nodes
-pub mod Once
-pub mod Order
-pub mod Parts
-pub mod Passes
+-- The definitions by subject, in the order in which a reader needs them. What an answer means stands in these:
+--
+--     Haystacks    haystacks, spans, the tape that a direction makes of a span, where a look holds
+--     Nfas         an NFA as paths see it (Nfa, Engines), and what its builder and its constructor do
+--     Paths        edges and paths, their order, which path a search selects
+--     Answers      what a search, a walk, a span and a set answer by paths (Answers, Spans), and what a pass reports of
+--                  every NFA (OfPasses)
+--     Powersets    powerset states, closures, successors, passes; their bytes and their cost
+--     Laws         the theorems, as statements; functions of `laws` have them as contracts
+--
+-- Retraced has definitions that follow a loop of the code. No promise rests on one of them alone: the law
+-- `steps_are_right` ties the steps to the relations of Powersets, and proofs do so with the others.
+pub mod Haystacks
+pub mod ByteClasses
+pub mod Nfas
 pub mod Paths
-pub mod PatternSet
-pub mod Powerset
-pub mod Reach
-pub mod Refusals
-pub mod ReversedSizes
-pub mod Rooms
-pub mod Runs
-pub mod Scratches
-pub mod Selections
-pub mod Spans
-pub mod Shapes
-pub mod Sparse
-pub mod StartConfig
-pub mod StartIsRight
-pub mod Starts
-pub mod StepLaws
-pub mod Steps
-pub mod Tapes
-pub mod Telling
-pub mod Told
-pub mod TruePairs
-pub mod Truths
-pub mod Turns
-pub mod Utf8
-pub mod Visits
-pub mod WalkLaws
-pub mod Within
+pub mod Answers
+pub mod Powersets
+pub mod Laws
+pub mod Retraced
+pub mod Lists

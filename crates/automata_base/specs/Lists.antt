@@ -1,6 +1,6 @@
 -- Lists of numbers: their members, and states in the order of their least keys.
 use Rattle.std.specs.Prelude.{ℕ, zero, suc, ◌≡◌, ◌&&◌, Bool, true, ltb, List, [], ◌∷◌, ◌⊎◌, Option, Some, None}
-use Rattle.automata_base.specs.Order.{Before, Upto}
+use Rattle.automata_base.specs.Paths.Order.{Before, Upto}
 
 abbrev pub In : ℕ → List ℕ → Type 0
 In x [] = ⊥

@@ -1,17 +1,18 @@
 //! The laws that searches are built on. Each function does nothing: its contract is the law.
-ghost use Rattle.automata_base.specs.Drafts.{PrefixesSkipLazily};
-ghost use Rattle.automata_base.specs.LateIsRight.{SearchesAreRight, WalksAreRight, NearestEndsAreRight, EndsAreRight};
-ghost use Rattle.automata_base.specs.LateIsRight.{PairsAreRight};
-ghost use Rattle.automata_base.specs.Mirrors.{PatternsAreReversed, ReversedIsTrue};
-ghost use Rattle.automata_base.specs.StartIsRight.{StartsAreRight, SpansAreFound, AreOne, IterationsAreRight};
-ghost use Rattle.automata_base.specs.StartIsRight.{AllEndsRise, MatchIffFound, BackMeetsNone};
-ghost use Rattle.automata_base.specs.StepLaws.{ClassesStepAlike, ClassesQuitAlike, StartsAreAlike, DeadStaysDead};
-ghost use Rattle.automata_base.specs.StepLaws.{PassesSelect, PassesFindNearest, PassesFindFarthest};
-ghost use Rattle.automata_base.specs.StepLaws.{PowersetStartsAreRight, SuccessorsAreRight};
-ghost use Rattle.automata_base.specs.Told.{ToldEndsAreRight, ToldIsOne, ToldIsRight};
-ghost use Rattle.automata_base.specs.WalkLaws.{AllPairsAreTold, OverlappingIsTold, WalkIsRight, WalksAreOne};
-ghost use Rattle.automata_base.specs.WalkLaws.{WalksAreTold};
-ghost use Rattle.automata_base.specs.Within.{StatesTellOwn, ToldLiesWithin, WalkLiesWithin};
+ghost use Rattle.automata_base.specs.Nfas.Drafts.{PrefixesSkipLazily};
+ghost use Rattle.automata_base.specs.Laws.LateIsRight.{SearchesAreRight, WalksAreRight, NearestEndsAreRight};
+ghost use Rattle.automata_base.specs.Laws.LateIsRight.{EndsAreRight};
+ghost use Rattle.automata_base.specs.Laws.LateIsRight.{PairsAreRight};
+ghost use Rattle.automata_base.specs.Nfas.Mirrors.{PatternsAreReversed, ReversedIsTrue};
+ghost use Rattle.automata_base.specs.Laws.StartIsRight.{StartsAreRight, SpansAreFound, AreOne, IterationsAreRight};
+ghost use Rattle.automata_base.specs.Laws.StartIsRight.{AllEndsRise, MatchIffFound, BackMeetsNone};
+ghost use Rattle.automata_base.specs.Laws.Steps.{ClassesStepAlike, ClassesQuitAlike, StartsAreAlike, DeadStaysDead};
+ghost use Rattle.automata_base.specs.Laws.Steps.{PassesSelect, PassesFindNearest, PassesFindFarthest};
+ghost use Rattle.automata_base.specs.Laws.Steps.{PowersetStartsAreRight, SuccessorsAreRight};
+ghost use Rattle.automata_base.specs.Answers.OfPasses.{ToldEndsAreRight, ToldIsOne, ToldIsRight};
+ghost use Rattle.automata_base.specs.Laws.Walks.{AllPairsAreTold, OverlappingIsTold, WalkIsRight, WalksAreOne};
+ghost use Rattle.automata_base.specs.Laws.Walks.{WalksAreTold};
+ghost use Rattle.automata_base.specs.Answers.Within.{StatesTellOwn, ToldLiesWithin, WalkLiesWithin};
 
 use crate::nfa::thompson::NFA;
 

@@ -1,6 +1,6 @@
 -- The bytes from 0x80 on in a quit set.
 use Rattle.std.proofs.Common.{ℕ, suc, ◌≡◌, ◌+◌, ◌-◌, ◌<◌, ◌≤◌, ◌&&◌, Bool, true, List, refl, ap, ◌∙◌, arith}
-use Rattle.automata_base.specs.Classes.{is_quit}
+use Rattle.automata_base.specs.ByteClasses.Classes.{is_quit}
 use Rattle.automata_config.specs.Settling.{are_quits}
 
 more : (quits : List Bool) (b n : ℕ) → are_quits quits b (suc n) ≡ is_quit quits b && are_quits quits (b + 1) n

@@ -1,12 +1,14 @@
 -- When a configuration fails, and what it settles otherwise.
-use Rattle.std.proofs.Common.{ℕ, ◌≡◌, ◌<◌, ◌≤◌, ◌&&◌, ◌||◌, Bool, true, false, cond, leb, ltb, List, [], ◌∷◌, length, get_or, Some, None, refl, sym, ap, ◌∙◌}
+use Rattle.std.proofs.Common.{ℕ, ◌≡◌, ◌<◌, ◌≤◌, ◌&&◌, ◌||◌, Bool, true, false, cond, leb, ltb, List, [], ◌∷◌, length}
+use Rattle.std.proofs.Common.{get_or, Some, None, refl, sym, ap, ◌∙◌}
 use Rattle.std.specs.List.{list_any}
 use Rattle.std.proofs.lemmas.Bool.{le-ltb, lt-ltb}
 use Rattle.std.proofs.lemmas.List.FromFn.{fill_by_all}
-use Rattle.automata_base.specs.Classes.{is_quit}
-use Rattle.automata_base.specs.Nodes.{Automaton}
+use Rattle.automata_base.specs.ByteClasses.Classes.{is_quit}
+use Rattle.automata_base.specs.Nfas.Nodes.{Automaton}
 use Rattle.automata_config.specs.Options.{Options, quits_of, unicode_word_boundary_of}
-use Rattle.automata_config.specs.Settling.{has_unicode_word, settled_quits, is_unsupported, is_too_small, greatest_offset, settling_refusal}
+use Rattle.automata_config.specs.Settling.{has_unicode_word, settled_quits, is_unsupported, is_too_small}
+use Rattle.automata_config.specs.Settling.{greatest_offset, settling_refusal}
 use Rattle.automata_config.specs.declared.error.BuildError.{BuildError}
 use Rattle.automata_config.specs.declared.error.BuildError.TheVariants.{InsufficientStateIDCapacity}
 

@@ -1,5 +1,5 @@
 ghost use Rattle.std.specs.Prelude.{◌≡◌, ◌≤◌, ◌+◌, ◌*◌, ◌^◌, length};
-ghost use Rattle.automata_base.specs.Accounting as bytes;
+ghost use Rattle.automata_base.specs.Powersets.Accounting as bytes;
 
 use automata_base::nfa::thompson::NFA;
 

@@ -1,6 +1,6 @@
 ghost use Rattle.std.specs.Prelude.{◌≡◌, ◌<◌, ◌||◌, ℕ, length, nat_le};
-ghost use Rattle.automata_base.specs.Classes.{is_quit};
-ghost use Rattle.automata_base.specs.Truths.{truth_of};
+ghost use Rattle.automata_base.specs.ByteClasses.Classes.{is_quit};
+ghost use Rattle.automata_base.specs.Haystacks.LookSets.{truth_of};
 ghost use Rattle.std.specs.List.{list_any};
 ghost use Rattle.automata_config.specs.Settling.{has_unicode_word, holds_non_ascii};
 
@@ -65,7 +65,7 @@ impl Config {
     ghost use Rattle.std.specs.Result.{result_err};
     ghost use Rattle.automata_config.specs.Settling.{settled_minimum, settled_stride, settled_quits, greatest_offset};
     ghost use Rattle.automata_config.specs.Settling.{is_unsupported, settling_refusal, IsSettled};
-    ghost use Rattle.automata_base.specs.Classes.{is_quit};
+    ghost use Rattle.automata_base.specs.ByteClasses.Classes.{is_quit};
     ghost use Rattle.automata_config.specs.Options.{unset, overwritten};
     ghost use Rattle.automata_config.specs.Options as options;
 
@@ -467,7 +467,7 @@ impl Model for Settled {
 
 impl Settled {
     ghost use Rattle.std.specs.Prelude.{◌≡◌};
-    ghost use Rattle.automata_base.specs.Classes.{is_quit};
+    ghost use Rattle.automata_base.specs.ByteClasses.Classes.{is_quit};
 
     /// The classes of bytes that the NFA or the quit set distinguishes.
     pub fn classes(&self) -> &ByteClasses

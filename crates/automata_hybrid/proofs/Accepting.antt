@@ -1,21 +1,22 @@
 -- A walk of `MatchKind::All` reports the patterns of the accepting paths.
-use Rattle.std.proofs.Common.{ℕ, ◌≡◌, ◌<◌, ◌≤◌, ◌⊎◌, inl, inr, Bool, true, false, List, [], ◌∷◌, length, Some, refl, sym, ap, subst}
+use Rattle.std.proofs.Common.{ℕ, ◌≡◌, ◌<◌, ◌≤◌, ◌⊎◌, inl, inr, Bool, true, false, List, [], ◌∷◌, length, Some, refl}
+use Rattle.std.proofs.Common.{sym, ap, subst}
 use Rattle.std.specs.Prelude.{Ok, ◌↔◌}
-use Rattle.automata_base.specs.Answers.{HasPattern, IsInput, first_alone}
-use Rattle.automata_base.specs.Input.{Input}
+use Rattle.automata_base.specs.Answers.Answers.{HasPattern, IsInput, first_alone}
+use Rattle.automata_base.specs.Haystacks.Input.{Input}
 use Rattle.automata_base.specs.Lists.{In}
-use Rattle.automata_base.specs.PatternSet.{members}
-use Rattle.automata_base.specs.Selections.{Pair}
-use Rattle.automata_base.specs.Starts.{mode_start}
-use Rattle.automata_base.specs.Tapes.{Forward}
-use Rattle.automata_base.specs.WalkLaws.{AllPairsAreTold, AreTold, InPairs, WalksAreTold}
-use Rattle.automata_base.specs.Within.{WalkLiesWithin}
+use Rattle.automata_base.specs.Haystacks.PatternSet.{members}
+use Rattle.automata_base.specs.Paths.Selections.{Pair}
+use Rattle.automata_base.specs.Paths.Starts.{mode_start}
+use Rattle.automata_base.specs.Haystacks.Tapes.{Forward}
+use Rattle.automata_base.specs.Laws.Walks.{AllPairsAreTold, AreTold, InPairs, WalksAreTold}
+use Rattle.automata_base.specs.Answers.Within.{WalkLiesWithin}
 use Rattle.automata_base.specs.declared.util.search.MatchKind.{MatchKind}
 use Rattle.automata_base.specs.declared.util.search.MatchKind.TheVariants.{All as KindAll}
 use Rattle.automata_config.specs.Options.{match_kind_of}
-use Rattle.automata_hybrid.specs.Accepting.{MatchesIn, SetsHaveMatching}
-use Rattle.automata_hybrid.specs.Machine.{Machine}
-use Rattle.automata_hybrid.specs.OwingWalks.{IsWhich}
+use Rattle.automata_hybrid.specs.Walks.SetsByPaths.{MatchesIn, SetsHaveMatching}
+use Rattle.automata_hybrid.specs.Machines.Machine.{Machine}
+use Rattle.automata_hybrid.specs.Walks.Contracts.{IsWhich}
 
 pair_of : (p : ℕ) (pairs : List Pair) → HasPattern p pairs → (at : ℕ) × InPairs (record { pattern = p; place = at }) pairs
 pair_of p [] h = elim h [ ]

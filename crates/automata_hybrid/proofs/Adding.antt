@@ -1,16 +1,16 @@
 -- What a look-up of a state finds, and what adding one gives, where it fits and where the cache was cleared first.
 use Rattle.std.proofs.Common.{◌≡◌, ◌∙◌, ◌≤◌, ◌⊎◌, ℕ, length, None, false, ap, inl, inr, subst, sym}
-use Rattle.automata_base.specs.Powerset.{Powerset, cost}
+use Rattle.automata_base.specs.Powersets.Powerset.{Powerset, cost}
 use Rattle.automata_hybrid.specs.declared.dfa.cache.Found.{Found}
 use Rattle.automata_hybrid.specs.declared.dfa.row.Row.{Row}
-use Rattle.automata_hybrid.specs.Caches.{CacheView}
-use Rattle.automata_hybrid.specs.Clears.{row_of}
-use Rattle.automata_hybrid.specs.Effects.{AddsNext, AddsStart, cleared_saving, grown, put_found}
-use Rattle.automata_hybrid.specs.Founds.{IsLookedUp}
-use Rattle.automata_hybrid.specs.Machine.{IsStateOf, Machine, greatest}
-use Rattle.automata_hybrid.specs.Stores.{KeepsStarts, Stored, with_table}
-use Rattle.automata_hybrid.specs.Table.{Has, IsNewState, Lacks, Names, Rows, id_of}
-use Rattle.automata_hybrid.specs.Usage.{Fits, IsCleared}
+use Rattle.automata_hybrid.specs.Cache.Caches.{CacheView}
+use Rattle.automata_hybrid.specs.Cache.Clears.{row_of}
+use Rattle.automata_hybrid.specs.Cache.Changes.{AddsNext, AddsStart, cleared_saving, grown, put_found}
+use Rattle.automata_hybrid.specs.Cache.LookUps.{IsLookedUp}
+use Rattle.automata_hybrid.specs.Machines.Machine.{IsStateOf, Machine, greatest}
+use Rattle.automata_hybrid.specs.Cache.Stores.{KeepsStarts, Stored, with_table}
+use Rattle.automata_hybrid.specs.Cache.Table.{Has, IsNewState, Lacks, Names, Rows, id_of}
+use Rattle.automata_hybrid.specs.Cache.Usage.{Fits, IsCleared}
 use Rattle.automata_hybrid.proofs.Effects.{only-grown}
 
 -- a state to be added, by the machine that a table is of

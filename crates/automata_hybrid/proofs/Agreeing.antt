@@ -1,13 +1,13 @@
 -- A search finds one answer, and walks report one list.
 use Rattle.std.proofs.Common.{◌∙◌, List, sym, subst}
-use Rattle.automata_base.specs.Nodes.{Automaton}
-use Rattle.automata_base.specs.Selections.{Pair}
-use Rattle.automata_base.specs.Told.{IsTold, ToldIsOne}
-use Rattle.automata_base.specs.WalkLaws.{AreTold, WalksAreTold}
+use Rattle.automata_base.specs.Nfas.Nodes.{Automaton}
+use Rattle.automata_base.specs.Paths.Selections.{Pair}
+use Rattle.automata_base.specs.Answers.OfPasses.{IsTold, ToldIsOne}
+use Rattle.automata_base.specs.Laws.Walks.{AreTold, WalksAreTold}
 use Rattle.automata_base.specs.declared.util.search.MatchKind.{MatchKind}
-use Rattle.automata_hybrid.specs.Agreeing.{AnswersAgree, WalksAgree}
-use Rattle.automata_hybrid.specs.Machine.{Machine}
-use Rattle.automata_hybrid.specs.Walking.{AreWalked}
+use Rattle.automata_hybrid.specs.Searches.Agreement.{AnswersAgree, WalksAgree}
+use Rattle.automata_hybrid.specs.Machines.Machine.{Machine}
+use Rattle.automata_hybrid.specs.Walks.Answers.{AreWalked}
 use Rattle.automata_hybrid.proofs.Skipping.{found_told}
 use Rattle.automata_config.specs.Options.{match_kind_of}
 

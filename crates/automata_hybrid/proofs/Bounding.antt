@@ -1,21 +1,22 @@
-use Rattle.std.proofs.Common.{◌≡◌, ℕ, ◌+◌, ◌*◌, ◌^◌, ◌<◌, ◌≤◌, length, List, sym, ◌∙◌, subst, arith, length-append, replicate, slice_get, get_or, set, length-set, Some, inl, inr, ⊎_elim, ap, [], ◌∷◌, ◌++◌}
+use Rattle.std.proofs.Common.{◌≡◌, ℕ, ◌+◌, ◌*◌, ◌^◌, ◌<◌, ◌≤◌, length, List, sym, ◌∙◌, subst, arith, length-append}
+use Rattle.std.proofs.Common.{replicate, slice_get, get_or, set, length-set, Some, inl, inr, ⊎_elim, ap, [], ◌∷◌, ◌++◌}
 use Rattle.std.specs.List.{sum_by}
 use Rattle.std.proofs.Math.Nat.{mul-le-mul_right}
 use Rattle.std.proofs.lemmas.List.Sums.{sum_by_push}
-use Rattle.automata_base.specs.Powerset.{Powerset, cost}
-use Rattle.automata_base.specs.Accounting.{minimum_capacity, fixed_cost}
+use Rattle.automata_base.specs.Powersets.Powerset.{Powerset, cost}
+use Rattle.automata_base.specs.Powersets.Accounting.{minimum_capacity, fixed_cost}
 use Rattle.automata_hybrid.specs.declared.dfa.row.Row.{Row}
-use Rattle.automata_hybrid.specs.Ids.{dead_id, quit_id}
-use Rattle.automata_hybrid.specs.Machine.{Machine, greatest, template_of, start_of, table_stride, slot_count}
+use Rattle.automata_hybrid.specs.Cache.Ids.{dead_id, quit_id}
+use Rattle.automata_hybrid.specs.Machines.Machine.{Machine, greatest, template_of, start_of, table_stride, slot_count}
 use Rattle.std.proofs.lemmas.List.{length-replicate, get_or-replicate, get_or-set_same, get_or-set_other}
 use Rattle.std.proofs.lemmas.Option.{slice_get_within, get_or_from_slice_get, slice_get-get_or}
 use Rattle.std.proofs.lemmas.Bool.{cases_eq}
 use Rattle.automata_hybrid.specs.declared.dfa.settings.Settings.{Settings}
 use Rattle.automata_hybrid.specs.declared.dfa.progress.Searched.{Searched}
-use Rattle.automata_hybrid.specs.Table.{Rows, MayLead, Leads, Names, row_cost, with_row, fresh, fixed_rows}
-use Rattle.automata_hybrid.specs.Clears.{AllStarts}
-use Rattle.automata_hybrid.specs.Stores.{Stored, with_table, fresh_store, settings_of, with_start}
-use Rattle.automata_hybrid.specs.Usage.{usage_by, IsCache, usage, Fits}
+use Rattle.automata_hybrid.specs.Cache.Table.{Rows, MayLead, Leads, Names, row_cost, with_row, fresh, fixed_rows}
+use Rattle.automata_hybrid.specs.Cache.Clears.{AllStarts}
+use Rattle.automata_hybrid.specs.Cache.Stores.{Stored, with_table, fresh_store, settings_of, with_start}
+use Rattle.automata_hybrid.specs.Cache.Usage.{usage_by, IsCache, usage, Fits}
 
 -- a cache with so few rows is within its capacity
 pub few_within : (n cells most stride slots sum fixed capacity : ℕ) → n ≤ slots + 1 → cells ≡ (n + 3) * stride → sum ≤ n * most → minimum_capacity stride slots most fixed ≤ capacity

@@ -1,19 +1,22 @@
-use Rattle.std.proofs.Common.{◌≡◌, ℕ, zero, suc, ◌+◌, ◌-◌, ◌*◌, ◌^◌, ◌<◌, ◌≤◌, List, length, Bool, true, false, cond, set, get_or, None, Some, refl, sym, ap, ◌∙◌, subst, ◌⊎◌, inl, inr, ⊎_elim, arith, length-set, lit<}
+use Rattle.std.proofs.Common.{◌≡◌, ℕ, zero, suc, ◌+◌, ◌-◌, ◌*◌, ◌^◌, ◌<◌, ◌≤◌, List, length, Bool, true, false, cond}
+use Rattle.std.proofs.Common.{set, get_or, None, Some, refl, sym, ap, ◌∙◌, subst, ◌⊎◌, inl, inr, ⊎_elim, arith}
+use Rattle.std.proofs.Common.{length-set, lit<}
 use Rattle.std.specs.Prelude.{◌==◌}
 use Rattle.std.proofs.lemmas.Bool.{cases_lt, cases_eq, eqb-true, eqb-false}
 use Rattle.std.proofs.lemmas.List.{length-replicate, get_or-replicate, get_or-set_same, get_or-set_other}
-use Rattle.automata_base.specs.Accounting.{fixed_cost, start_slots, minimum_capacity, effective_capacity}
-use Rattle.automata_base.specs.Classes.{class_in, eoi_class, is_quit, is_boundary, boundary_count, class_of, stride_of, stride_for}
-use Rattle.automata_base.specs.Powerset.{Powerset}
-use Rattle.automata_base.specs.Steps.{successor}
+use Rattle.automata_base.specs.Powersets.Accounting.{fixed_cost, start_slots, minimum_capacity, effective_capacity}
+use Rattle.automata_base.specs.ByteClasses.Classes.{class_in, eoi_class, is_quit, is_boundary, boundary_count, class_of}
+use Rattle.automata_base.specs.ByteClasses.Classes.{stride_of, stride_for}
+use Rattle.automata_base.specs.Powersets.Powerset.{Powerset}
+use Rattle.automata_base.specs.Retraced.Steps.{successor}
 use Rattle.automata_base.proofs.Determinizing.AlikeClasses.{class_step, class_quits}
 use Rattle.automata_config.specs.Options.{starts_for_each_pattern_of, byte_classes_of, match_kind_of, cache_capacity_of}
 use Rattle.automata_config.specs.Settled.{Settled}
 use Rattle.automata_config.specs.Settling.{IsSettled, settled_minimum, greatest_offset}
-use Rattle.automata_hybrid.specs.Ids.{quit_id}
-use Rattle.automata_hybrid.specs.Owned.{IsOwn}
-use Rattle.automata_hybrid.specs.Machine.{Machine, IsMachine, marked, template_of, byte_of, next_of, greatest}
-use Rattle.automata_hybrid.specs.Machine.{table_stride, slot_count}
+use Rattle.automata_hybrid.specs.Cache.Ids.{quit_id}
+use Rattle.automata_hybrid.specs.Machines.OwnStates.{IsOwn}
+use Rattle.automata_hybrid.specs.Machines.Machine.{Machine, IsMachine, marked, template_of, byte_of, next_of, greatest}
+use Rattle.automata_hybrid.specs.Machines.Machine.{table_stride, slot_count}
 
 count_more : (f : ℕ → Bool) (n : ℕ) → boundary_count f n ≤ boundary_count f (suc n)
 unfolding boundary_count

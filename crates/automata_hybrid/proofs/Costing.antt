@@ -1,16 +1,18 @@
 -- What the passes of a search cost.
-use Rattle.std.proofs.Common.{ℕ, zero, suc, ◌≡◌, ◌<◌, ◌≤◌, ◌+◌, ◌*◌, ◌-◌, ◌⊎◌, inl, inr, Option, refl, sym, ap, subst, arith, eq-or-lt_of_le}
-use Rattle.automata_base.specs.Answers.{Tries, later}
+use Rattle.std.proofs.Common.{ℕ, zero, suc, ◌≡◌, ◌<◌, ◌≤◌, ◌+◌, ◌*◌, ◌-◌, ◌⊎◌, inl, inr, Option, refl, sym, ap, subst}
+use Rattle.std.proofs.Common.{arith, eq-or-lt_of_le}
+use Rattle.automata_base.specs.Answers.Answers.{Tries, later}
 use Rattle.automata_base.specs.declared.util.search.Anchored.TheVariants.{No}
-use Rattle.automata_base.specs.Input.{Input}
-use Rattle.automata_base.specs.Selections.{Pair}
-use Rattle.automata_base.specs.Tapes.{Direction, Forward, Backward}
-use Rattle.automata_hybrid.specs.Caches.{CacheView}
-use Rattle.automata_hybrid.specs.Costs.{AreCostsInTurn, IsCostOfPass, IsCostOfPasses, IsCostOfSearch, SearchesCostFew, passes_most}
-use Rattle.automata_hybrid.specs.Growing.{IsGrown}
-use Rattle.automata_hybrid.specs.Knowing.{KnowsItsStart}
-use Rattle.automata_hybrid.specs.Machine.{Machine}
-use Rattle.automata_hybrid.specs.Searches.{Finds, Skips}
+use Rattle.automata_base.specs.Haystacks.Input.{Input}
+use Rattle.automata_base.specs.Paths.Selections.{Pair}
+use Rattle.automata_base.specs.Haystacks.Tapes.{Direction, Forward, Backward}
+use Rattle.automata_hybrid.specs.Cache.Caches.{CacheView}
+use Rattle.automata_hybrid.specs.Searches.Costs.{AreCostsInTurn, IsCostOfPass, IsCostOfPasses, IsCostOfSearch}
+use Rattle.automata_hybrid.specs.Searches.Costs.{SearchesCostFew, passes_most}
+use Rattle.automata_hybrid.specs.Cache.Growth.{IsGrown}
+use Rattle.automata_hybrid.specs.Searches.Cached.{KnowsItsStart}
+use Rattle.automata_hybrid.specs.Machines.Machine.{Machine}
+use Rattle.automata_hybrid.specs.Searches.Passes.{Finds, Skips}
 use Rattle.automata_hybrid.proofs.Growing.{clears_none, grown_trans}
 
 -- one pass more

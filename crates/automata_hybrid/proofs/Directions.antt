@@ -1,27 +1,29 @@
 -- The directions of a search: the units at its places and their offsets, and where it begins.
 use Rattle.std.specs.Prelude.{IsBitSet}
-use Rattle.std.proofs.Common.{ℕ, suc, ◌≡◌, ◌∙◌, ◌+◌, ◌-◌, ◌≤◌, ◌<◌, ◌^◌, false, List, length, take, drop, get_or, Option, Some, refl, sym, ap, subst, arith}
+use Rattle.std.proofs.Common.{ℕ, suc, ◌≡◌, ◌∙◌, ◌+◌, ◌-◌, ◌≤◌, ◌<◌, ◌^◌, false, List, length, take, drop, get_or}
+use Rattle.std.proofs.Common.{Option, Some, refl, sym, ap, subst, arith}
 use Rattle.std.proofs.lemmas.Simd.{get_or-chunk, length-chunk}
-use Rattle.automata_base.specs.Answers.{later, offset_in}
-use Rattle.automata_base.specs.Classes.{is_quit}
-use Rattle.automata_base.specs.Input.{Input}
+use Rattle.automata_base.specs.Answers.Answers.{later, offset_in}
+use Rattle.automata_base.specs.ByteClasses.Classes.{is_quit}
+use Rattle.automata_base.specs.Haystacks.Input.{Input}
 use Rattle.automata_base.specs.Lists.{nth}
-use Rattle.automata_base.specs.Paths.{next}
-use Rattle.automata_base.specs.Powerset.{Powerset, dead}
-use Rattle.automata_base.specs.Steps.{start_state_of}
-use Rattle.automata_base.specs.Tapes.{Direction, Forward, Backward, byte_before}
+use Rattle.automata_base.specs.Paths.Paths.{next}
+use Rattle.automata_base.specs.Powersets.Powerset.{Powerset, dead}
+use Rattle.automata_base.specs.Retraced.Steps.{start_state_of}
+use Rattle.automata_base.specs.Haystacks.Tapes.{Direction, Forward, Backward, byte_before}
 use Rattle.automata_base.proofs.Paths.Orders.{some_inj}
-use Rattle.automata_hybrid.specs.Machine.{Machine, table_stride}
-use Rattle.automata_hybrid.specs.Searched.{IsBehindEnd, KeepsNone}
-use Rattle.automata_hybrid.specs.Searches.{given_up_offset, state_in, tape_in, unit_offset}
-use Rattle.automata_hybrid.specs.SelfLoops.{byte_in}
-use Rattle.automata_hybrid.specs.Table.{Rows, Leads, Names}
-use Rattle.automata_hybrid.specs.Walks.{way_of}
+use Rattle.automata_hybrid.specs.Machines.Machine.{Machine, table_stride}
+use Rattle.automata_hybrid.specs.Searches.Progress.{IsBehindEnd, KeepsNone}
+use Rattle.automata_hybrid.specs.Searches.Passes.{given_up_offset, state_in, tape_in, unit_offset}
+use Rattle.automata_hybrid.specs.Searches.SelfLoops.{byte_in}
+use Rattle.automata_hybrid.specs.Cache.Table.{Rows, Leads, Names}
+use Rattle.automata_hybrid.specs.Walks.State.{way_of}
 use Rattle.automata_hybrid.specs.declared.search.direction.Way.{Way}
 use Rattle.automata_hybrid.specs.declared.search.direction.Way.TheVariants as way
 use Rattle.automata_hybrid.proofs.Searching.{state_first}
 use Rattle.automata_hybrid.proofs.Stepping.{dead_tagged}
-use Rattle.automata_hybrid.proofs.Units.{backward_read, backward_unit, backward_units, forward_read, forward_unit, forward_units, nth_read}
+use Rattle.automata_hybrid.proofs.Units.{backward_read, backward_unit, backward_units, forward_read, forward_unit}
+use Rattle.automata_hybrid.proofs.Units.{forward_units, nth_read}
 
 pub units_in :
     (way : Direction) (input : Input) → input.start ≤ input.end → input.end ≤ length input.haystack

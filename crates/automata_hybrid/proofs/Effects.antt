@@ -1,18 +1,20 @@
 -- What a step or a start does to a cache, from its whole effect.
-use Rattle.std.proofs.Common.{◌≡◌, ℕ, ◌+◌, ◌-◌, ◌*◌, ◌^◌, ◌<◌, ◌≤◌, None, [], ◌∷◌, ◌++◌, length, get_or, set, Option, Some, false, refl, sym, ap, ◌∙◌, subst, inl, inr, arith, length-append, length-set, true, ⊎_elim, ◌⊎◌}
+use Rattle.std.proofs.Common.{◌≡◌, ℕ, ◌+◌, ◌-◌, ◌*◌, ◌^◌, ◌<◌, ◌≤◌, None, [], ◌∷◌, ◌++◌, length, get_or, set, Option}
+use Rattle.std.proofs.Common.{Some, false, refl, sym, ap, ◌∙◌, subst, inl, inr, arith, length-append, length-set, true}
+use Rattle.std.proofs.Common.{⊎_elim, ◌⊎◌}
 use Rattle.std.specs.List.{sum_by}
 use Rattle.std.proofs.lemmas.List.{get_or-set_same, get_or-set_other, get_or_append_left}
 use Rattle.std.proofs.lemmas.List.Sums.{sum_by_push}
-use Rattle.automata_base.specs.Powerset.{Powerset, cost}
+use Rattle.automata_base.specs.Powersets.Powerset.{Powerset, cost}
 use Rattle.automata_hybrid.specs.declared.dfa.row.Row.{Row}
-use Rattle.automata_hybrid.specs.Machine.{Machine, greatest, template_of, table_stride}
-use Rattle.automata_hybrid.specs.Table.{id_of, Rows, Names, HasCells, row_cost, cell_at, with_row, Has}
-use Rattle.automata_hybrid.specs.Stores.{Stored, cell_of, with_next, with_start, IsKnownTransition, IsKnownStart}
-use Rattle.automata_hybrid.specs.Usage.{row_usage, usage, Fits}
-use Rattle.automata_hybrid.specs.Effects.{grown, IsComputed, IsStarted}
-use Rattle.automata_hybrid.specs.Growing.{Keeps, ClearedNothing, HasRoom}
-use Rattle.automata_hybrid.specs.Progressing.{saturated}
-use Rattle.automata_base.specs.Equal.{powerset_eq, powerset_eq-Decides}
+use Rattle.automata_hybrid.specs.Machines.Machine.{Machine, greatest, template_of, table_stride}
+use Rattle.automata_hybrid.specs.Cache.Table.{id_of, Rows, Names, HasCells, row_cost, cell_at, with_row, Has}
+use Rattle.automata_hybrid.specs.Cache.Stores.{Stored, cell_of, with_next, with_start, IsKnownTransition, IsKnownStart}
+use Rattle.automata_hybrid.specs.Cache.Usage.{row_usage, usage, Fits}
+use Rattle.automata_hybrid.specs.Cache.Changes.{grown, IsComputed, IsStarted}
+use Rattle.automata_hybrid.specs.Cache.Growth.{Keeps, ClearedNothing, HasRoom}
+use Rattle.automata_hybrid.specs.Cache.Progress.{saturated}
+use Rattle.automata_base.specs.Powersets.Equal.{powerset_eq, powerset_eq-Decides}
 use Rattle.automata_base.proofs.Paths.Orders.{none_some}
 use Rattle.std.proofs.lemmas.Bool.{cases_Bool}
 use Rattle.automata_hybrid.proofs.Rows.{Names-more, find_id-push_other}

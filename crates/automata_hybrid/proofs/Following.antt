@@ -1,21 +1,22 @@
 -- Cached transitions that are followed without a stop.
-use Rattle.std.proofs.Common.{ℕ, zero, suc, ◌≡◌, ◌∙◌, ◌<◌, ◌≤◌, ◌^◌, ◌⊎◌, inl, inr, Bool, true, false, Option, Some, refl, sym, ap, subst, arith, eq-or-lt_of_le}
-use Rattle.automata_base.specs.Classes.{class_in, is_quit}
-use Rattle.automata_base.specs.Input.{Input}
-use Rattle.automata_base.specs.Matches.{HalfMatch}
-use Rattle.automata_base.specs.Paths.{next}
-use Rattle.automata_base.specs.Powerset.{Powerset}
-use Rattle.automata_base.specs.Steps.{successor}
-use Rattle.automata_base.specs.Tapes.{Direction}
+use Rattle.std.proofs.Common.{ℕ, zero, suc, ◌≡◌, ◌∙◌, ◌<◌, ◌≤◌, ◌^◌, ◌⊎◌, inl, inr, Bool, true, false, Option, Some}
+use Rattle.std.proofs.Common.{refl, sym, ap, subst, arith, eq-or-lt_of_le}
+use Rattle.automata_base.specs.ByteClasses.Classes.{class_in, is_quit}
+use Rattle.automata_base.specs.Haystacks.Input.{Input}
+use Rattle.automata_base.specs.Haystacks.Matches.{HalfMatch}
+use Rattle.automata_base.specs.Paths.Paths.{next}
+use Rattle.automata_base.specs.Powersets.Powerset.{Powerset}
+use Rattle.automata_base.specs.Retraced.Steps.{successor}
+use Rattle.automata_base.specs.Haystacks.Tapes.{Direction}
 use Rattle.automata_base.proofs.Paths.Orders.{some_inj}
-use Rattle.automata_hybrid.specs.Stores.{Stored, IsKnownTransition}
-use Rattle.automata_hybrid.specs.Ids.{quit_id}
-use Rattle.automata_hybrid.specs.Stepping.{unit_class}
-use Rattle.automata_hybrid.specs.Machine.{Machine, table_stride}
-use Rattle.automata_hybrid.specs.Passing.{HasLearned, HasLearnedUnit, IsAt, IsFollowed, IsQuiet, half_of}
-use Rattle.automata_hybrid.specs.Searches.{HasReadNoQuit, state_in, tape_in, told_in}
-use Rattle.automata_hybrid.specs.Table.{Leads, Names}
-use Rattle.automata_hybrid.specs.Walking.{IsSilent}
+use Rattle.automata_hybrid.specs.Cache.Stores.{Stored, IsKnownTransition}
+use Rattle.automata_hybrid.specs.Cache.Ids.{quit_id}
+use Rattle.automata_hybrid.specs.Steps.Steps.{unit_class}
+use Rattle.automata_hybrid.specs.Machines.Machine.{Machine, table_stride}
+use Rattle.automata_hybrid.specs.Searches.PassState.{HasLearned, HasLearnedUnit, IsAt, IsFollowed, IsQuiet, half_of}
+use Rattle.automata_hybrid.specs.Searches.Passes.{HasReadNoQuit, state_in, tape_in, told_in}
+use Rattle.automata_hybrid.specs.Cache.Table.{Leads, Names}
+use Rattle.automata_hybrid.specs.Walks.Answers.{IsSilent}
 use Rattle.automata_hybrid.proofs.Searching.{lt_or_le, state_more, told_quiet}
 use Rattle.automata_hybrid.proofs.Stepping.{Leads-Names, Leads-silent}
 use Rattle.automata_hybrid.proofs.Walked.{silent_none, silent_same, silent_trans}

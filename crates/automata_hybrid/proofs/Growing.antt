@@ -1,19 +1,21 @@
 -- What steps and searches make of a cache, one after another.
-use Rattle.std.proofs.Common.{ℕ, zero, suc, false, ⊎_elim, ◌≡◌, ◌∙◌, ◌+◌, ◌-◌, ◌*◌, ◌^◌, ◌<◌, ◌≤◌, ◌⊎◌, inl, inr, length, true, refl, sym, ap, subst, arith}
+use Rattle.std.proofs.Common.{ℕ, zero, suc, false, ⊎_elim, ◌≡◌, ◌∙◌, ◌+◌, ◌-◌, ◌*◌, ◌^◌, ◌<◌, ◌≤◌, ◌⊎◌, inl, inr}
+use Rattle.std.proofs.Common.{length, true, refl, sym, ap, subst, arith}
 use Rattle.std.proofs.Math.Nat.{mul-le-mul_right}
 use Rattle.automata_hybrid.specs.declared.dfa.progress.Searched.{Searched}
-use Rattle.automata_hybrid.specs.Stores.{Stored, KeepsStarts, with_searched}
-use Rattle.automata_hybrid.specs.Usage.{row_usage, usage}
-use Rattle.automata_hybrid.specs.Effects.{AreChanges, IsAddedStart, IsOneChange}
-use Rattle.automata_hybrid.specs.Caches.{CacheView, counted, with_store}
-use Rattle.automata_hybrid.specs.Growing.{IsGrown, Keeps, ClearedNothing, HasRoom, HasStartTag, MayHaveStartTag}
+use Rattle.automata_hybrid.specs.Cache.Stores.{Stored, KeepsStarts, with_searched}
+use Rattle.automata_hybrid.specs.Cache.Usage.{row_usage, usage}
+use Rattle.automata_hybrid.specs.Cache.Changes.{AreChanges, IsAddedStart, IsOneChange}
+use Rattle.automata_hybrid.specs.Cache.Caches.{CacheView, counted, with_store}
+use Rattle.automata_hybrid.specs.Cache.Growth.{IsGrown, Keeps, ClearedNothing, HasRoom, HasStartTag, MayHaveStartTag}
 use Rattle.automata_hybrid.proofs.Effects.{HasRoom-Fits, HasRoom-grown, Keeps-grown, Keeps-trans, counts_up}
-use Rattle.automata_base.specs.Powerset.{Powerset, cost}
+use Rattle.automata_base.specs.Powersets.Powerset.{Powerset, cost}
 use Rattle.automata_config.specs.Options.{specialize_start_states_of}
 use Rattle.automata_hybrid.specs.declared.dfa.row.Row.{Row}
-use Rattle.automata_hybrid.specs.Machine.{IsReached, Machine, greatest, slot_count, start_of, template_of, table_stride}
-use Rattle.automata_hybrid.specs.Progressing.{saturated}
-use Rattle.automata_hybrid.specs.Table.{HasCells, Lacks}
+use Rattle.automata_hybrid.specs.Machines.Machine.{IsReached, Machine, greatest, slot_count, start_of, template_of}
+use Rattle.automata_hybrid.specs.Machines.Machine.{table_stride}
+use Rattle.automata_hybrid.specs.Cache.Progress.{saturated}
+use Rattle.automata_hybrid.specs.Cache.Table.{HasCells, Lacks}
 
 -- room for fewer states
 pub room_less : (c : Stored) (n k : ℕ) → k ≤ n → HasRoom c n → HasRoom c k

@@ -1,17 +1,20 @@
-use Rattle.std.proofs.Common.{◌≡◌, ℕ, ◌+◌, ◌*◌, ◌^◌, ◌<◌, ◌≤◌, zero, suc, List, [], ◌∷◌, ◌++◌, length, true, false, cond, Option, None, Some, get_or, take, slice_get, refl, sym, ap, ◌∙◌, subst, ◌⊎◌, inl, inr, ⊎_elim, arith, length-append}
+use Rattle.std.proofs.Common.{◌≡◌, ℕ, ◌+◌, ◌*◌, ◌^◌, ◌<◌, ◌≤◌, zero, suc, List, [], ◌∷◌, ◌++◌, length, true, false}
+use Rattle.std.proofs.Common.{cond, Option, None, Some, get_or, take, slice_get, refl, sym, ap, ◌∙◌, subst, ◌⊎◌, inl}
+use Rattle.std.proofs.Common.{inr, ⊎_elim, arith, length-append}
 use Rattle.std.proofs.lemmas.List.{get_or_append_left}
 use Rattle.std.specs.Prelude.{nat_le}
 use Rattle.std.proofs.lemmas.List.{take_more}
 use Rattle.std.proofs.lemmas.Bool.Decides.{nat_tests}
 use Rattle.std.proofs.lemmas.Grind.{get_or_default_zero}
 use Rattle.std.proofs.lemmas.Bool.{cases_Bool}
-use Rattle.automata_base.specs.Powerset.{Powerset}
-use Rattle.automata_base.specs.Equal.{powerset_eq, powerset_eq-Decides}
+use Rattle.automata_base.specs.Powersets.Powerset.{Powerset}
+use Rattle.automata_base.specs.Powersets.Equal.{powerset_eq, powerset_eq-Decides}
 use Rattle.automata_hybrid.specs.declared.dfa.row.Row.{Row}
-use Rattle.automata_hybrid.specs.Ids.{dead_id}
-use Rattle.automata_hybrid.specs.Machine.{Machine, start_of, table_stride}
-use Rattle.automata_hybrid.specs.Table.{Rows, id_of, Names, MayLead, with_row}
-use Rattle.automata_hybrid.specs.Clears.{AllStarts, row_of, put_if, put, or_unknown, Kept, KeepsSlot, keep_found, keep_slot, keep_slots, IsPut}
+use Rattle.automata_hybrid.specs.Cache.Ids.{dead_id}
+use Rattle.automata_hybrid.specs.Machines.Machine.{Machine, start_of, table_stride}
+use Rattle.automata_hybrid.specs.Cache.Table.{Rows, id_of, Names, MayLead, with_row}
+use Rattle.automata_hybrid.specs.Cache.Clears.{AllStarts, row_of, put_if, put, or_unknown, Kept, KeepsSlot, keep_found}
+use Rattle.automata_hybrid.specs.Cache.Clears.{keep_slot, keep_slots, IsPut}
 use Rattle.automata_hybrid.proofs.Rows.{Names-more, find_id-push_other}
 
 pub keep_slots-push : (old : Rows) (k : Kept) (ids : List ℕ) (id : ℕ) → keep_slots old k (ids ++ id ∷ []) ≡ keep_slot old (keep_slots old k ids) id

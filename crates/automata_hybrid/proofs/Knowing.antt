@@ -1,30 +1,32 @@
 -- Searches whose start and transitions are all cached.
-use Rattle.std.proofs.Common.{ℕ, suc, ◌≡◌, ◌∙◌, ◌+◌, ◌^◌, ◌<◌, ◌≤◌, ◌⊎◌, inl, inr, Bool, true, false, length, Option, Some, None, refl, sym, subst, arith}
+use Rattle.std.proofs.Common.{ℕ, suc, ◌≡◌, ◌∙◌, ◌+◌, ◌^◌, ◌<◌, ◌≤◌, ◌⊎◌, inl, inr, Bool, true, false, length, Option}
+use Rattle.std.proofs.Common.{Some, None, refl, sym, subst, arith}
 use Rattle.std.specs.Prelude.{Result, IfErr}
 use Rattle.std.proofs.lemmas.Result.{IfErr-weaker}
-use Rattle.automata_base.specs.Answers.{Tries, later}
-use Rattle.automata_base.specs.Input.{Input}
-use Rattle.automata_base.specs.Matches.{HalfMatch}
-use Rattle.automata_base.specs.Paths.{next}
-use Rattle.automata_base.specs.Powerset.{Powerset, dead}
-use Rattle.automata_base.specs.Tapes.{Direction}
+use Rattle.automata_base.specs.Answers.Answers.{Tries, later}
+use Rattle.automata_base.specs.Haystacks.Input.{Input}
+use Rattle.automata_base.specs.Haystacks.Matches.{HalfMatch}
+use Rattle.automata_base.specs.Paths.Paths.{next}
+use Rattle.automata_base.specs.Powersets.Powerset.{Powerset, dead}
+use Rattle.automata_base.specs.Haystacks.Tapes.{Direction}
 use Rattle.automata_base.specs.declared.util.search.Anchored.{Anchored}
 use Rattle.automata_base.proofs.Paths.Orders.{none_some, some_inj}
 use Rattle.automata_config.specs.declared.error.StartError.{StartError}
 use Rattle.automata_config.specs.declared.error.StartError.TheVariants as start
 use Rattle.automata_config.specs.declared.error.SearchError.{SearchError}
 use Rattle.automata_hybrid.specs.declared.dfa.progress.Searched.{Searched}
-use Rattle.automata_hybrid.specs.Stores.{Stored, IsKnownStart, IsKnownTransition, with_searched}
-use Rattle.automata_hybrid.specs.Caches.{CacheView, with_store}
-use Rattle.automata_hybrid.specs.Growing.{IsGrown, ClearedNothing, Keeps}
-use Rattle.automata_hybrid.specs.Knowing.{IsOfInput, Knows, KnowsItsStart, KnowsPass, KnowsUnit}
-use Rattle.automata_hybrid.specs.Stepping.{unit_class}
-use Rattle.automata_hybrid.specs.Machine.{Machine, table_stride, slot_count}
-use Rattle.automata_hybrid.specs.Passing.{HasLearned, HasLearnedAll, HasLearnedUnit, IsAt}
-use Rattle.automata_hybrid.specs.Searches.{Finds, Reads, Skips, state_in, tape_in}
-use Rattle.automata_hybrid.specs.Slots.{slot_behind, supports}
-use Rattle.automata_hybrid.specs.Starting.{HasSlot, IsStartEffect, IsStartRefusal, IsStartRefusedAt, KnowsStart, MayStart, quit_behind, search_refusal}
-use Rattle.automata_hybrid.specs.Table.{Names, Rows}
+use Rattle.automata_hybrid.specs.Cache.Stores.{Stored, IsKnownStart, IsKnownTransition, with_searched}
+use Rattle.automata_hybrid.specs.Cache.Caches.{CacheView, with_store}
+use Rattle.automata_hybrid.specs.Cache.Growth.{IsGrown, ClearedNothing, Keeps}
+use Rattle.automata_hybrid.specs.Searches.Cached.{IsOfInput, Knows, KnowsItsStart, KnowsPass, KnowsUnit}
+use Rattle.automata_hybrid.specs.Steps.Steps.{unit_class}
+use Rattle.automata_hybrid.specs.Machines.Machine.{Machine, table_stride, slot_count}
+use Rattle.automata_hybrid.specs.Searches.PassState.{HasLearned, HasLearnedAll, HasLearnedUnit, IsAt}
+use Rattle.automata_hybrid.specs.Searches.Passes.{Finds, Reads, Skips, state_in, tape_in}
+use Rattle.automata_hybrid.specs.Machines.StartSlots.{slot_behind, supports}
+use Rattle.automata_hybrid.specs.Steps.Starts.{HasSlot, IsStartEffect, IsStartRefusal, IsStartRefusedAt, KnowsStart}
+use Rattle.automata_hybrid.specs.Steps.Starts.{MayStart, quit_behind, search_refusal}
+use Rattle.automata_hybrid.specs.Cache.Table.{Names, Rows}
 use Rattle.automata_hybrid.proofs.Searching.{at_reads, false_true, lt_or_le}
 
 -- a state has one ID

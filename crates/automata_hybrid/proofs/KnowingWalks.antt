@@ -1,19 +1,20 @@
 -- Walk calls whose start or held state, and whose transitions, are all cached.
-use Rattle.std.proofs.Common.{ℕ, suc, ◌≡◌, ◌+◌, ◌<◌, ◌≤◌, ◌⊎◌, inl, inr, List, length, Option, Some, None, sym, ap, subst, arith}
-use Rattle.automata_base.specs.Input.{Input}
-use Rattle.automata_base.specs.Tapes.{Direction}
+use Rattle.std.proofs.Common.{ℕ, suc, ◌≡◌, ◌+◌, ◌<◌, ◌≤◌, ◌⊎◌, inl, inr, List, length, Option, Some, None, sym, ap}
+use Rattle.std.proofs.Common.{subst, arith}
+use Rattle.automata_base.specs.Haystacks.Input.{Input}
+use Rattle.automata_base.specs.Haystacks.Tapes.{Direction}
 use Rattle.automata_hybrid.specs.declared.dfa.progress.Searched.{Searched}
-use Rattle.automata_hybrid.specs.Stores.{Stored, with_searched}
-use Rattle.automata_hybrid.specs.Caches.{CacheView, counted, with_store}
-use Rattle.automata_hybrid.specs.Growing.{ClearedNothing, IsGrown, IsStill}
-use Rattle.automata_hybrid.specs.Knowing.{KnowsUnit}
-use Rattle.automata_hybrid.specs.KnowingWalks.{HasLearnedUnits, KnowsItsState, KnowsUnits}
-use Rattle.automata_hybrid.specs.Machine.{Machine}
-use Rattle.automata_hybrid.specs.Passing.{HasLearnedUnit, IsFollowed}
-use Rattle.automata_hybrid.specs.Searches.{HasReadNoQuit, state_in}
-use Rattle.automata_hybrid.specs.Table.{Rows}
-use Rattle.automata_hybrid.specs.Walking.{HasItsState, HasToldBy, IsArrival, WalkReads}
-use Rattle.automata_hybrid.specs.Walks.{At, Ended, Fresh, Stage}
+use Rattle.automata_hybrid.specs.Cache.Stores.{Stored, with_searched}
+use Rattle.automata_hybrid.specs.Cache.Caches.{CacheView, counted, with_store}
+use Rattle.automata_hybrid.specs.Cache.Growth.{ClearedNothing, IsGrown, IsStill}
+use Rattle.automata_hybrid.specs.Searches.Cached.{KnowsUnit}
+use Rattle.automata_hybrid.specs.Walks.Cached.{HasLearnedUnits, KnowsItsState, KnowsUnits}
+use Rattle.automata_hybrid.specs.Machines.Machine.{Machine}
+use Rattle.automata_hybrid.specs.Searches.PassState.{HasLearnedUnit, IsFollowed}
+use Rattle.automata_hybrid.specs.Searches.Passes.{HasReadNoQuit, state_in}
+use Rattle.automata_hybrid.specs.Cache.Table.{Rows}
+use Rattle.automata_hybrid.specs.Walks.Answers.{HasItsState, HasToldBy, IsArrival, WalkReads}
+use Rattle.automata_hybrid.specs.Walks.State.{At, Ended, Fresh, Stage}
 use Rattle.automata_hybrid.proofs.Growing.{grown_both, grown_same, nothing_second}
 use Rattle.automata_hybrid.proofs.Knowing.{begin_still, unit_still}
 use Rattle.automata_hybrid.proofs.Searching.{lt_or_le}

@@ -1,16 +1,19 @@
 -- What the mask of 32 lanes reports of the bytes under them.
-use Rattle.std.proofs.Common.{◌≡◌, ◌∙◌, ℕ, zero, suc, ◌*◌, ◌+◌, ◌-◌, ◌%◌, ◌^◌, ◌<◌, ◌≤◌, List, [], ◌∷◌, Bool, true, false, cond, leb, length, get_or, map, replicate, refl, sym, ap, subst, arith, w8, w64, slice_index, min, ◌⊎◌, inl, inr, ⊎_elim}
+use Rattle.std.proofs.Common.{◌≡◌, ◌∙◌, ℕ, zero, suc, ◌*◌, ◌+◌, ◌-◌, ◌%◌, ◌^◌, ◌<◌, ◌≤◌, List, [], ◌∷◌, Bool, true}
+use Rattle.std.proofs.Common.{false, cond, leb, length, get_or, map, replicate, refl, sym, ap, subst, arith, w8, w64}
+use Rattle.std.proofs.Common.{slice_index, min, ◌⊎◌, inl, inr, ⊎_elim}
 use lib.Count.{count_trailing_zeros}
 use Rattle.std.specs.Int.{bit_at}
 use Rattle.std.specs.Int.Bits.{bit_and}
 use Rattle.std.specs.Simd.Lanes.{chunk, mask_l, top, zip2}
-use Rattle.std.proofs.lemmas.Simd.{bit_mask_l, get_or-chunk, length-chunk, map-map, mask_l-lt, mask_l-mod, tops_compared, zip2_splat}
+use Rattle.std.proofs.lemmas.Simd.{bit_mask_l, get_or-chunk, length-chunk, map-map, mask_l-lt, mask_l-mod}
+use Rattle.std.proofs.lemmas.Simd.{tops_compared, zip2_splat}
 use Rattle.std.proofs.lemmas.Bool.{cases_lt, leb-false}
 use Rattle.std.proofs.lemmas.Nat.Bits.{bit_at_above, bit_at_and, bit_at-trailing_zeros, bit_at-zero}
 use Rattle.std.proofs.Math.Nat.{two-pow-succ}
 use Rattle.std.proofs.lemmas.List.{length-map}
-use Rattle.automata_base.specs.Tapes.{Direction}
-use Rattle.automata_hybrid.specs.SelfLoops.{above, byte_in, lane_of}
+use Rattle.automata_base.specs.Haystacks.Tapes.{Direction}
+use Rattle.automata_hybrid.specs.Searches.SelfLoops.{above, byte_in, lane_of}
 
 -- a byte is outside a range
 abbrev pub is_outside : ℕ → ℕ → ℕ → Bool

@@ -1,22 +1,24 @@
 -- Cached transitions that are followed whatever they report.
-use Rattle.std.proofs.Common.{ℕ, suc, ◌≡◌, ◌∙◌, ◌<◌, ◌≤◌, ◌^◌, ◌⊎◌, inl, inr, Bool, true, false, List, [], ◌∷◌, length, Option, Some, refl, sym, ap, subst, arith}
-use Rattle.automata_base.specs.Answers.{offset_in}
-use Rattle.automata_base.specs.Classes.{class_in, is_quit}
-use Rattle.automata_base.specs.Input.{Input}
-use Rattle.automata_base.specs.Matches.{HalfMatch}
-use Rattle.automata_base.specs.Paths.{next}
-use Rattle.automata_base.specs.Powerset.{Powerset}
-use Rattle.automata_base.specs.Steps.{successor}
-use Rattle.automata_base.specs.Tapes.{Direction}
+use Rattle.std.proofs.Common.{ℕ, suc, ◌≡◌, ◌∙◌, ◌<◌, ◌≤◌, ◌^◌, ◌⊎◌, inl, inr, Bool, true, false, List, [], ◌∷◌, length}
+use Rattle.std.proofs.Common.{Option, Some, refl, sym, ap, subst, arith}
+use Rattle.automata_base.specs.Answers.Answers.{offset_in}
+use Rattle.automata_base.specs.ByteClasses.Classes.{class_in, is_quit}
+use Rattle.automata_base.specs.Haystacks.Input.{Input}
+use Rattle.automata_base.specs.Haystacks.Matches.{HalfMatch}
+use Rattle.automata_base.specs.Paths.Paths.{next}
+use Rattle.automata_base.specs.Powersets.Powerset.{Powerset}
+use Rattle.automata_base.specs.Retraced.Steps.{successor}
+use Rattle.automata_base.specs.Haystacks.Tapes.{Direction}
 use Rattle.automata_base.proofs.Paths.Orders.{some_inj}
-use Rattle.automata_hybrid.specs.Stores.{Stored, IsKnownTransition}
-use Rattle.automata_hybrid.specs.Ids.{IsRunTag, quit_id}
-use Rattle.automata_hybrid.specs.Stepping.{unit_class}
-use Rattle.automata_hybrid.specs.Machine.{Machine, table_stride}
-use Rattle.automata_hybrid.specs.Knowing.{KnowsUnit}
-use Rattle.automata_hybrid.specs.Passing.{HasLearned, HasLearnedUnit, IsAt, IsFollowed, IsLed, IsRun, IsTagAt, IsTaken, half_at, half_of}
-use Rattle.automata_hybrid.specs.Searches.{HasReadNoQuit, state_in, tape_in, told_in}
-use Rattle.automata_hybrid.specs.Table.{Leads, Names}
+use Rattle.automata_hybrid.specs.Cache.Stores.{Stored, IsKnownTransition}
+use Rattle.automata_hybrid.specs.Cache.Ids.{IsRunTag, quit_id}
+use Rattle.automata_hybrid.specs.Steps.Steps.{unit_class}
+use Rattle.automata_hybrid.specs.Machines.Machine.{Machine, table_stride}
+use Rattle.automata_hybrid.specs.Searches.Cached.{KnowsUnit}
+use Rattle.automata_hybrid.specs.Searches.PassState.{HasLearned, HasLearnedUnit, IsAt, IsFollowed, IsLed, IsRun}
+use Rattle.automata_hybrid.specs.Searches.PassState.{IsTagAt, IsTaken, half_at, half_of}
+use Rattle.automata_hybrid.specs.Searches.Passes.{HasReadNoQuit, state_in, tape_in, told_in}
+use Rattle.automata_hybrid.specs.Cache.Table.{Leads, Names}
 use Rattle.automata_hybrid.proofs.Following.{followed_none, followed_on}
 use Rattle.automata_hybrid.proofs.Searching.{false_true, found_more, lt_or_le, state_more}
 use Rattle.automata_hybrid.proofs.Stepping.{Leads-Names}

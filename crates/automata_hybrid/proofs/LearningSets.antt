@@ -1,24 +1,25 @@
 -- What a set of patterns took to be found is cached.
-use Rattle.std.proofs.Common.{ℕ, zero, suc, ◌≡◌, ◌<◌, ◌≤◌, ◌+◌, ◌⊎◌, inl, inr, Bool, true, List, [], ◌∷◌, ◌++◌, length, take, None, refl, sym, ap, ◌∙◌, subst, arith}
-use Rattle.automata_base.specs.Answers.{AreUnsplit, HasPattern}
-use Rattle.automata_base.specs.Input.{Input}
+use Rattle.std.proofs.Common.{ℕ, zero, suc, ◌≡◌, ◌<◌, ◌≤◌, ◌+◌, ◌⊎◌, inl, inr, Bool, true, List, [], ◌∷◌, ◌++◌, length}
+use Rattle.std.proofs.Common.{take, None, refl, sym, ap, ◌∙◌, subst, arith}
+use Rattle.automata_base.specs.Answers.Answers.{AreUnsplit, HasPattern}
+use Rattle.automata_base.specs.Haystacks.Input.{Input}
 use Rattle.automata_base.specs.Lists.{In}
-use Rattle.automata_base.specs.PatternSet.{members}
-use Rattle.automata_base.specs.Powerset.{Powerset}
-use Rattle.automata_base.specs.Selections.{Pair}
-use Rattle.automata_base.specs.Tapes.{Forward}
-use Rattle.automata_hybrid.specs.Stores.{Stored}
-use Rattle.automata_hybrid.specs.Caches.{CacheView}
-use Rattle.automata_hybrid.specs.Growing.{ClearedNothing, IsGrown}
-use Rattle.automata_hybrid.specs.Knowing.{KnowsItsStart, KnowsUnit}
-use Rattle.automata_hybrid.specs.KnowingWalks.{HasLearnedUnits, IsOpen, IsToRead, KnowsItsState, KnowsWalk}
-use Rattle.automata_hybrid.specs.Machine.{Machine}
-use Rattle.automata_hybrid.specs.Passing.{HasLearnedUnit}
-use Rattle.automata_hybrid.specs.Searches.{HasReadNoQuit, Skips, state_in, tape_in}
-use Rattle.automata_hybrid.specs.Starting.{MayStart}
-use Rattle.automata_hybrid.specs.Walking.{AreWalked, HasTold, HasToldAt, HasToldBy, WalkReads, half_nth, pairs_in}
-use Rattle.automata_hybrid.specs.Walks.{At, Ended, Fresh, Stage, Walk}
-use Rattle.automata_hybrid.specs.Which.{IsJoined}
+use Rattle.automata_base.specs.Haystacks.PatternSet.{members}
+use Rattle.automata_base.specs.Powersets.Powerset.{Powerset}
+use Rattle.automata_base.specs.Paths.Selections.{Pair}
+use Rattle.automata_base.specs.Haystacks.Tapes.{Forward}
+use Rattle.automata_hybrid.specs.Cache.Stores.{Stored}
+use Rattle.automata_hybrid.specs.Cache.Caches.{CacheView}
+use Rattle.automata_hybrid.specs.Cache.Growth.{ClearedNothing, IsGrown}
+use Rattle.automata_hybrid.specs.Searches.Cached.{KnowsItsStart, KnowsUnit}
+use Rattle.automata_hybrid.specs.Walks.Cached.{HasLearnedUnits, IsOpen, IsToRead, KnowsItsState, KnowsWalk}
+use Rattle.automata_hybrid.specs.Machines.Machine.{Machine}
+use Rattle.automata_hybrid.specs.Searches.PassState.{HasLearnedUnit}
+use Rattle.automata_hybrid.specs.Searches.Passes.{HasReadNoQuit, Skips, state_in, tape_in}
+use Rattle.automata_hybrid.specs.Steps.Starts.{MayStart}
+use Rattle.automata_hybrid.specs.Walks.Answers.{AreWalked, HasTold, HasToldAt, HasToldBy, WalkReads, half_nth, pairs_in}
+use Rattle.automata_hybrid.specs.Walks.State.{At, Ended, Fresh, Stage, Walk}
+use Rattle.automata_hybrid.specs.Walks.Sets.{IsJoined}
 use Rattle.automata_hybrid.proofs.Knowing.{begin_still, unit_still}
 use Rattle.automata_hybrid.proofs.Searching.{false_true, lt_or_le}
 use Rattle.automata_hybrid.proofs.WalkCalls.{told_place}

@@ -1,7 +1,8 @@
-use Rattle.std.proofs.Common.{◌≡◌, ℕ, zero, suc, arith, ◌<◌, ◌+◌, ◌^◌, List, length, Bool, true, false, cond, set, replicate, refl, sym, ap, ◌∙◌, add-one, length-set}
-use Rattle.automata_base.specs.Classes.{class_in, is_quit}
-use Rattle.automata_hybrid.specs.Ids.{quit_id}
-use Rattle.automata_hybrid.specs.Machine.{marked}
+use Rattle.std.proofs.Common.{◌≡◌, ℕ, zero, suc, arith, ◌<◌, ◌+◌, ◌^◌, List, length, Bool, true, false, cond, set}
+use Rattle.std.proofs.Common.{replicate, refl, sym, ap, ◌∙◌, add-one, length-set}
+use Rattle.automata_base.specs.ByteClasses.Classes.{class_in, is_quit}
+use Rattle.automata_hybrid.specs.Cache.Ids.{quit_id}
+use Rattle.automata_hybrid.specs.Machines.Machine.{marked}
 
 pub marked-zero : (classes : List ℕ) (quits : List Bool) (stride : ℕ) → marked classes quits stride 0 ≡ replicate stride (2 ^ 31)
 unfolding marked

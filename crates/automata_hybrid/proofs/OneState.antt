@@ -1,13 +1,15 @@
 -- An automaton of one state that asks for no look and unites no others is settled by the default settings.
-use Rattle.std.proofs.Common.{ℕ, ◌≡◌, ◌≤◌, ◌&&◌, ◌||◌, not, Bool, true, false, cond, ltb, List, [], ◌∷◌, length, Some, None, refl, sym, ap, subst, arith}
+use Rattle.std.proofs.Common.{ℕ, ◌≡◌, ◌≤◌, ◌&&◌, ◌||◌, not, Bool, true, false, cond, ltb, List, [], ◌∷◌, length, Some}
+use Rattle.std.proofs.Common.{None, refl, sym, ap, subst, arith}
 use Rattle.std.proofs.lemmas.Bool.{le-ltb}
 use Rattle.std.proofs.lemmas.Bool.Decides.{nat_tests}
-use Rattle.automata_base.specs.Classes.{stride_for}
-use Rattle.automata_base.specs.Nodes.{Automaton, stack_room}
+use Rattle.automata_base.specs.ByteClasses.Classes.{stride_for}
+use Rattle.automata_base.specs.Nfas.Nodes.{Automaton, stack_room}
 use Rattle.automata_base.specs.declared.nfa.thompson.State.{State}
 use Rattle.automata_base.specs.declared.nfa.thompson.State.TheVariants.{Match, Fail}
 use Rattle.automata_config.specs.Options.{quits_of, unicode_word_boundary_of, unset}
-use Rattle.automata_config.specs.Settling.{greatest_offset, has_unicode_word, holds_non_ascii, is_too_small, is_unsupported, settling_refusal, settled_minimum, settled_stride}
+use Rattle.automata_config.specs.Settling.{greatest_offset, has_unicode_word, holds_non_ascii, is_too_small}
+use Rattle.automata_config.specs.Settling.{is_unsupported, settling_refusal, settled_minimum, settled_stride}
 
 stride_few : (n : ℕ) → stride_for n ≤ 512
 unfolding stride_for

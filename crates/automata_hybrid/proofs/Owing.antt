@@ -2,18 +2,19 @@
 use Rattle.std.proofs.Common.{ℕ, ◌≡◌, Option, Some, None, refl, sym, ap, subst}
 use Rattle.std.specs.Prelude.{Result, Ok, Err, IfErr, IfOk}
 use Rattle.std.specs.Result.{IsErrAnd}
-use Rattle.automata_base.specs.Answers.{Half}
-use Rattle.automata_base.specs.Input.{Input}
-use Rattle.automata_base.specs.Matches.{HalfMatch}
-use Rattle.automata_base.specs.Tapes.{Direction, Forward}
+use Rattle.automata_base.specs.Answers.Answers.{Half}
+use Rattle.automata_base.specs.Haystacks.Input.{Input}
+use Rattle.automata_base.specs.Haystacks.Matches.{HalfMatch}
+use Rattle.automata_base.specs.Haystacks.Tapes.{Direction, Forward}
 use Rattle.automata_config.specs.declared.error.SearchError.{SearchError}
-use Rattle.automata_hybrid.specs.Stores.{Stored}
-use Rattle.automata_hybrid.specs.Caches.{CacheView}
-use Rattle.automata_hybrid.specs.Knowing.{IsOfInput}
-use Rattle.automata_hybrid.specs.Machine.{Machine}
-use Rattle.automata_hybrid.specs.Owing.{IsBased, IsHalf, IsSearchEffect, IsStoreOf, MayRefuse, based_half, halves}
-use Rattle.automata_hybrid.specs.Searched.{LeavesProgress}
-use Rattle.automata_hybrid.specs.Searches.{IsRefused, WithoutBase, with_base}
+use Rattle.automata_hybrid.specs.Cache.Stores.{Stored}
+use Rattle.automata_hybrid.specs.Cache.Caches.{CacheView}
+use Rattle.automata_hybrid.specs.Searches.Cached.{IsOfInput}
+use Rattle.automata_hybrid.specs.Machines.Machine.{Machine}
+use Rattle.automata_hybrid.specs.Searches.Contracts.{IsBased, IsHalf, IsSearchEffect, IsStoreOf, MayRefuse, based_half}
+use Rattle.automata_hybrid.specs.Searches.Contracts.{halves}
+use Rattle.automata_hybrid.specs.Searches.Progress.{LeavesProgress}
+use Rattle.automata_hybrid.specs.Searches.Passes.{IsRefused, WithoutBase, with_base}
 use Rattle.automata_hybrid.proofs.Searching.{ok_err}
 
 -- a cache that is of its DFA and keeps its bounds is one of it, within its settings

@@ -1,13 +1,13 @@
 -- What calls of a walk and sets owe whatever the cache.
 use Rattle.std.proofs.Common.{Bool, List}
 use Rattle.std.specs.Prelude.{Result, Ok, Err, IfErr}
-use Rattle.automata_base.specs.Input.{Input}
+use Rattle.automata_base.specs.Haystacks.Input.{Input}
 use Rattle.automata_config.specs.declared.error.SearchError.{SearchError}
-use Rattle.automata_hybrid.specs.Stores.{Stored}
-use Rattle.automata_hybrid.specs.Machine.{Machine}
-use Rattle.automata_hybrid.specs.Owing.{IsStoreOf}
-use Rattle.automata_hybrid.specs.OwingWalks.{MayRefuseWhich}
-use Rattle.automata_hybrid.specs.Which.{IsWhichRefusal}
+use Rattle.automata_hybrid.specs.Cache.Stores.{Stored}
+use Rattle.automata_hybrid.specs.Machines.Machine.{Machine}
+use Rattle.automata_hybrid.specs.Searches.Contracts.{IsStoreOf}
+use Rattle.automata_hybrid.specs.Walks.Contracts.{MayRefuseWhich}
+use Rattle.automata_hybrid.specs.Walks.Sets.{IsWhichRefusal}
 
 -- a refusal over some cache
 pub may_refuse_which :

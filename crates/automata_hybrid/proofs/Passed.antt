@@ -1,34 +1,37 @@
 -- What a pass answers and makes of its cache, from what its parts do.
-use Rattle.std.proofs.Common.{ℕ, suc, ◌≡◌, ◌∙◌, ◌+◌, ◌-◌, ◌≤◌, length, Option, Some, None, true, false, inl, sym, ap, subst, arith}
+use Rattle.std.proofs.Common.{ℕ, suc, ◌≡◌, ◌∙◌, ◌+◌, ◌-◌, ◌≤◌, length, Option, Some, None, true, false, inl, sym, ap}
+use Rattle.std.proofs.Common.{subst, arith}
 use Rattle.std.specs.Prelude.{Result, Ok, Err, IfErr, OnOk}
-use Rattle.automata_base.specs.Answers.{offset_in}
-use Rattle.automata_base.specs.Classes.{is_quit}
-use Rattle.automata_base.specs.Input.{Input}
-use Rattle.automata_base.specs.Matches.{HalfMatch}
-use Rattle.automata_base.specs.Paths.{next}
-use Rattle.automata_base.specs.Powerset.{Powerset, dead}
-use Rattle.automata_base.specs.Steps.{successor}
-use Rattle.automata_base.specs.Tapes.{Direction}
+use Rattle.automata_base.specs.Answers.Answers.{offset_in}
+use Rattle.automata_base.specs.ByteClasses.Classes.{is_quit}
+use Rattle.automata_base.specs.Haystacks.Input.{Input}
+use Rattle.automata_base.specs.Haystacks.Matches.{HalfMatch}
+use Rattle.automata_base.specs.Paths.Paths.{next}
+use Rattle.automata_base.specs.Powersets.Powerset.{Powerset, dead}
+use Rattle.automata_base.specs.Retraced.Steps.{successor}
+use Rattle.automata_base.specs.Haystacks.Tapes.{Direction}
 use Rattle.automata_config.specs.Options.{match_kind_of}
 use Rattle.automata_config.specs.declared.error.SearchError.{SearchError}
 use Rattle.automata_hybrid.specs.declared.dfa.progress.Searched.{Searched}
-use Rattle.automata_hybrid.specs.Caches.{CacheView, with_store}
-use Rattle.automata_hybrid.specs.Growing.{ClearedNothing, IsGrown}
-use Rattle.automata_hybrid.specs.Knowing.{KnowsItsStart, KnowsPass}
-use Rattle.automata_hybrid.specs.Machine.{Machine, slot_count}
-use Rattle.automata_hybrid.specs.Passed.{IsPassAnswer, IsPassEffect, IsRestEffect, IsUnderway}
-use Rattle.automata_hybrid.specs.Passing.{HasLearned, HasLearnedAll, half_at}
-use Rattle.automata_hybrid.specs.Reading.{IsReadAnswer, IsReadEffect}
-use Rattle.automata_hybrid.specs.Searched.{HasEnded, IsLeft}
-use Rattle.automata_hybrid.specs.Searches.{Reads, behind_offset, state_in, tape_in}
-use Rattle.automata_hybrid.specs.Slots.{slot_behind}
-use Rattle.automata_hybrid.specs.Starting.{IsStartAnswer, IsStartEffect, IsStartRefusalAt, IsStartRefusedAt}
-use Rattle.automata_hybrid.specs.Stepping.{KnowsStep}
-use Rattle.automata_hybrid.specs.Stores.{IsKnownStart, with_searched}
-use Rattle.automata_hybrid.specs.Table.{Leads, Names}
+use Rattle.automata_hybrid.specs.Cache.Caches.{CacheView, with_store}
+use Rattle.automata_hybrid.specs.Cache.Growth.{ClearedNothing, IsGrown}
+use Rattle.automata_hybrid.specs.Searches.Cached.{KnowsItsStart, KnowsPass}
+use Rattle.automata_hybrid.specs.Machines.Machine.{Machine, slot_count}
+use Rattle.automata_hybrid.specs.Searches.PassContracts.{IsPassAnswer, IsPassEffect, IsRestEffect, IsUnderway}
+use Rattle.automata_hybrid.specs.Searches.PassState.{HasLearned, HasLearnedAll, half_at}
+use Rattle.automata_hybrid.specs.Searches.Units.{IsReadAnswer, IsReadEffect}
+use Rattle.automata_hybrid.specs.Searches.Progress.{HasEnded, IsLeft}
+use Rattle.automata_hybrid.specs.Searches.Passes.{Reads, behind_offset, state_in, tape_in}
+use Rattle.automata_hybrid.specs.Machines.StartSlots.{slot_behind}
+use Rattle.automata_hybrid.specs.Steps.Starts.{IsStartAnswer, IsStartEffect, IsStartRefusalAt, IsStartRefusedAt}
+use Rattle.automata_hybrid.specs.Steps.Steps.{KnowsStep}
+use Rattle.automata_hybrid.specs.Cache.Stores.{IsKnownStart, with_searched}
+use Rattle.automata_hybrid.specs.Cache.Table.{Leads, Names}
 use Rattle.automata_hybrid.proofs.Growing.{grown_moved, grown_trans, nothing_first, nothing_second}
-use Rattle.automata_hybrid.proofs.Knowing.{begun_moved, knows_here, knows_still, learned_all, learned_ends, learned_moved, learned_none, start_idle}
-use Rattle.automata_hybrid.proofs.Searching.{clean_dead, clean_ends, clean_last, more_dead, more_ends, more_last, stops_dead, stops_ends, stops_start}
+use Rattle.automata_hybrid.proofs.Knowing.{begun_moved, knows_here, knows_still, learned_all, learned_ends}
+use Rattle.automata_hybrid.proofs.Knowing.{learned_moved, learned_none, start_idle}
+use Rattle.automata_hybrid.proofs.Searching.{clean_dead, clean_ends, clean_last, more_dead, more_ends, more_last}
+use Rattle.automata_hybrid.proofs.Searching.{stops_dead, stops_ends, stops_start}
 use Rattle.automata_hybrid.proofs.Starting.{refusal_at}
 use Rattle.automata_hybrid.proofs.StepCalls.{no_quit_unit}
 use Rattle.automata_hybrid.proofs.UnitsRead.{unstarted}

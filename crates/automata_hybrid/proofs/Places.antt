@@ -1,18 +1,22 @@
-use Rattle.std.proofs.Common.{◌≡◌, ℕ, ◌+◌, ◌-◌, ◌*◌, ◌/◌, ◌%◌, ◌^◌, ◌<◌, ◌≤◌, suc, List, [], ◌∷◌, length, Bool, true, false, cond, Some, get_or, set, slice_get, refl, sym, ap, ◌∙◌, subst, inr, ⊎_elim, arith, length-set}
+use Rattle.std.proofs.Common.{◌≡◌, ℕ, ◌+◌, ◌-◌, ◌*◌, ◌/◌, ◌%◌, ◌^◌, ◌<◌, ◌≤◌, suc, List, [], ◌∷◌, length, Bool, true}
+use Rattle.std.proofs.Common.{false, cond, Some, get_or, set, slice_get, refl, sym, ap, ◌∙◌, subst, inr, ⊎_elim, arith}
+use Rattle.std.proofs.Common.{length-set}
 use Rattle.std.proofs.lemmas.Bool.{cases_eq, ltb-true, lt-ltb}
 use Rattle.std.proofs.lemmas.Option.{slice_get_within}
 use Rattle.std.proofs.lemmas.Nat.{div-mul-add, mod-mul-add, bit_set_by_shift}
 use Rattle.std.specs.Prelude.{IsBitSet, bit_and, ◌↔◌}
 use Rattle.std.proofs.lemmas.List.{get_or-set_same, get_or-set_other, take-set-le}
 use Rattle.std.proofs.Math.Nat.{mul-le-mul_right}
-use Rattle.automata_base.specs.Powerset.{Powerset, cost, dead}
-use Rattle.automata_base.specs.Equal.{powerset_eq, powerset_eq-Decides}
+use Rattle.automata_base.specs.Powersets.Powerset.{Powerset, cost, dead}
+use Rattle.automata_base.specs.Powersets.Equal.{powerset_eq, powerset_eq-Decides}
 use Rattle.automata_hybrid.specs.declared.dfa.row.Row.{Row}
-use Rattle.automata_hybrid.specs.Ids.{HasOnly, tags}
-use Rattle.automata_hybrid.specs.Machine.{IsStateOf, next_of, greatest, template_of, table_stride}
+use Rattle.automata_hybrid.specs.Cache.Ids.{HasOnly, tags}
+use Rattle.automata_hybrid.specs.Machines.Machine.{IsStateOf, next_of, greatest, template_of, table_stride}
 use Rattle.std.specs.List.{sum_by}
 use Rattle.std.proofs.lemmas.List.Sums.{sum_by-cons}
-use Rattle.automata_hybrid.specs.Table.{Rows, has_patterns, find_id, Names, IsValid, Leads, IsCell, row_id, with_cell, cell_at, HasRowIds, IsTable, IsStepped, HasState, StateMap, row_cost}
+use Rattle.automata_hybrid.specs.Cache.Table.{Rows, has_patterns, find_id, Names, IsValid, Leads, IsCell, row_id}
+use Rattle.automata_hybrid.specs.Cache.Table.{with_cell, cell_at, HasRowIds, IsTable, IsStepped, HasState, StateMap}
+use Rattle.automata_hybrid.specs.Cache.Table.{row_cost}
 use Rattle.automata_hybrid.proofs.Rows.{inside}
 
 -- the row that a look-up met

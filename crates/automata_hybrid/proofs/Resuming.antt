@@ -1,12 +1,13 @@
 -- Going on with a walk: what the functions under its calls answer, and what they make of their cache.
 use Rattle.automata_hybrid.specs.declared.search.walk.Handle.{Handle}
-use Rattle.std.proofs.Common.{ℕ, suc, ◌≡◌, ◌∙◌, ◌<◌, inl, inr, false, length, Option, None, refl, sym, ap, subst, arith, Some}
+use Rattle.std.proofs.Common.{ℕ, suc, ◌≡◌, ◌∙◌, ◌<◌, inl, inr, false, length, Option, None, refl, sym, ap, subst, arith}
+use Rattle.std.proofs.Common.{Some}
 use Rattle.std.specs.Prelude.{Err, IfErr, IfOk, Ok, OnErr, OnOk, Result}
 use Rattle.std.proofs.lemmas.Result.{IfErr-weaker, IfOk-weaker, on_ok_weaker}
-use Rattle.automata_base.specs.Answers.{offset_in}
-use Rattle.automata_base.specs.Input.{Input}
-use Rattle.automata_base.specs.Paths.{next}
-use Rattle.automata_base.specs.Tapes.{Direction}
+use Rattle.automata_base.specs.Answers.Answers.{offset_in}
+use Rattle.automata_base.specs.Haystacks.Input.{Input}
+use Rattle.automata_base.specs.Paths.Paths.{next}
+use Rattle.automata_base.specs.Haystacks.Tapes.{Direction}
 use Rattle.automata_base.specs.declared.util.search.Anchored.{Anchored}
 use Rattle.automata_base.specs.declared.util.search.MatchErrorKind.TheVariants.{UnsupportedAnchored as UnsupportedMode}
 use Rattle.automata_base.proofs.Paths.Orders.{none_some}
@@ -14,27 +15,30 @@ use Rattle.automata_config.specs.declared.error.StartError.{StartError}
 use Rattle.automata_config.specs.declared.error.StartError.TheVariants as start
 use Rattle.automata_config.specs.declared.error.SearchError.{SearchError}
 use Rattle.automata_config.specs.declared.error.SearchError.TheVariants as search
-use Rattle.automata_hybrid.specs.Stores.{IsKnownTransition, Stored, with_searched}
+use Rattle.automata_hybrid.specs.Cache.Stores.{IsKnownTransition, Stored, with_searched}
 use Rattle.automata_hybrid.specs.declared.dfa.progress.Searched.{Searched}
-use Rattle.automata_hybrid.specs.Caches.{CacheView, with_store}
-use Rattle.automata_hybrid.specs.KnowingWalks.{IsToRead, KnowsItsState}
-use Rattle.automata_hybrid.specs.Growing.{IsGrown}
-use Rattle.automata_hybrid.specs.Knowing.{IsOfInput}
-use Rattle.automata_hybrid.specs.Machine.{Machine, slot_count, table_stride}
-use Rattle.automata_hybrid.specs.Owing.{IsUnsupported, unsupported_error}
-use Rattle.automata_hybrid.specs.OwingWalks.{IsCallEffect, IsKnownRefusal, IsPutBack}
-use Rattle.automata_hybrid.specs.Reading.{IsReadEffect}
-use Rattle.automata_hybrid.specs.Resuming.{IsCallAnswer, IsCallRefused, IsResumeAnswer, IsResumeEffect, IsUnitEffect, IsPutBackEffect}
-use Rattle.automata_hybrid.specs.Searched.{IsLeftAt, IsUnitRead, with_search_moved}
-use Rattle.automata_hybrid.specs.SearchedWalks.{IsResumed, LeavesCall, ReadsNoUnit}
-use Rattle.automata_hybrid.specs.Searches.{behind_offset, state_in, tape_in}
-use Rattle.automata_hybrid.specs.Slots.{supports}
-use Rattle.automata_hybrid.specs.Starting.{IsStartAnswer, IsStartEffect, IsStartRefusal, IsStartRefusalAt, IsStartRefusedAt, quit_behind, search_refusal}
-use Rattle.automata_hybrid.specs.Stepping.{unit_class}
-use Rattle.automata_base.specs.Powerset.{Powerset}
-use Rattle.automata_hybrid.specs.Table.{Has, Leads, Names, Rows, id_of}
-use Rattle.automata_hybrid.specs.Walking.{HasTold, HasToldAt, IsResumeRefusal, IsWalkOf, IsWalkRefusal, TellsNext}
-use Rattle.automata_hybrid.specs.Walks.{At, Ended, Fresh, HoldsNone, Ids, IsHeldAt, IsHeldItself, Keeping, Stage, States, Walk, keeping_of, without_match, Holds}
+use Rattle.automata_hybrid.specs.Cache.Caches.{CacheView, with_store}
+use Rattle.automata_hybrid.specs.Walks.Cached.{IsToRead, KnowsItsState}
+use Rattle.automata_hybrid.specs.Cache.Growth.{IsGrown}
+use Rattle.automata_hybrid.specs.Searches.Cached.{IsOfInput}
+use Rattle.automata_hybrid.specs.Machines.Machine.{Machine, slot_count, table_stride}
+use Rattle.automata_hybrid.specs.Searches.Contracts.{IsUnsupported, unsupported_error}
+use Rattle.automata_hybrid.specs.Walks.Contracts.{IsCallEffect, IsKnownRefusal, IsPutBack}
+use Rattle.automata_hybrid.specs.Searches.Units.{IsReadEffect}
+use Rattle.automata_hybrid.specs.Walks.Parts.{IsCallAnswer, IsCallRefused, IsResumeAnswer, IsResumeEffect, IsUnitEffect}
+use Rattle.automata_hybrid.specs.Walks.Parts.{IsPutBackEffect}
+use Rattle.automata_hybrid.specs.Searches.Progress.{IsLeftAt, IsUnitRead, with_search_moved}
+use Rattle.automata_hybrid.specs.Walks.Progress.{IsResumed, LeavesCall, ReadsNoUnit}
+use Rattle.automata_hybrid.specs.Searches.Passes.{behind_offset, state_in, tape_in}
+use Rattle.automata_hybrid.specs.Machines.StartSlots.{supports}
+use Rattle.automata_hybrid.specs.Steps.Starts.{IsStartAnswer, IsStartEffect, IsStartRefusal, IsStartRefusalAt}
+use Rattle.automata_hybrid.specs.Steps.Starts.{IsStartRefusedAt, quit_behind, search_refusal}
+use Rattle.automata_hybrid.specs.Steps.Steps.{unit_class}
+use Rattle.automata_base.specs.Powersets.Powerset.{Powerset}
+use Rattle.automata_hybrid.specs.Cache.Table.{Has, Leads, Names, Rows, id_of}
+use Rattle.automata_hybrid.specs.Walks.Answers.{HasTold, HasToldAt, IsResumeRefusal, IsWalkOf, IsWalkRefusal, TellsNext}
+use Rattle.automata_hybrid.specs.Walks.State.{At, Ended, Fresh, HoldsNone, Ids, IsHeldAt, IsHeldItself, Keeping, Stage}
+use Rattle.automata_hybrid.specs.Walks.State.{States, Walk, keeping_of, without_match, Holds}
 use Rattle.automata_hybrid.specs.declared.search.walk.Held.{Held}
 use Rattle.automata_hybrid.specs.declared.search.walk.Held.TheVariants as held
 use Rattle.automata_hybrid.proofs.Growing.{grown_less, grown_moved, grown_same, grown_trans, nothing_second}

@@ -1,4 +1,6 @@
-use Rattle.std.proofs.Common.{◌≡◌, ℕ, ◌+◌, ◌*◌, ◌^◌, ◌<◌, ◌≤◌, zero, suc, List, [], ◌∷◌, ◌++◌, length, Bool, true, false, cond, None, Some, get_or, slice_get, refl, sym, ap, ◌∙◌, subst, ◌⊎◌, inl, inr, ⊎_elim, arith, length-append}
+use Rattle.std.proofs.Common.{◌≡◌, ℕ, ◌+◌, ◌*◌, ◌^◌, ◌<◌, ◌≤◌, zero, suc, List, [], ◌∷◌, ◌++◌, length, Bool, true}
+use Rattle.std.proofs.Common.{false, cond, None, Some, get_or, slice_get, refl, sym, ap, ◌∙◌, subst, ◌⊎◌, inl, inr}
+use Rattle.std.proofs.Common.{⊎_elim, arith, length-append}
 use Rattle.std.specs.HashMap.{get}
 use Rattle.std.specs.Cmp.{decided}
 use Rattle.std.proofs.lemmas.Bool.{cases_Bool}
@@ -6,13 +8,14 @@ use Rattle.std.proofs.lemmas.Option.{slice_get_within}
 use Rattle.std.proofs.lemmas.List.{get_or_append_left, get_or-append-add, take-append-le}
 use Rattle.std.proofs.Math.Nat.{mul-le-mul_right}
 use Rattle.std.proofs.lemmas.List.Sums.{sum_by_push}
-use Rattle.automata_base.specs.Powerset.{Powerset, cost}
-use Rattle.automata_base.specs.Equal.{powerset_eq, powerset_eq-Decides}
+use Rattle.automata_base.specs.Powersets.Powerset.{Powerset, cost}
+use Rattle.automata_base.specs.Powersets.Equal.{powerset_eq, powerset_eq-Decides}
 use Rattle.automata_hybrid.specs.declared.dfa.row.Row.{Row}
-use Rattle.automata_base.specs.Powerset.{dead}
-use Rattle.automata_hybrid.specs.Ids.{quit_id}
-use Rattle.automata_hybrid.specs.Machine.{IsStateOf, next_of, greatest, template_of, IsTemplate, table_stride}
-use Rattle.automata_hybrid.specs.Table.{Rows, find_id, id_of, Names, Leads, IsCell, row_id, row_cost, with_row, IsTable, IsStepped, StateMap}
+use Rattle.automata_base.specs.Powersets.Powerset.{dead}
+use Rattle.automata_hybrid.specs.Cache.Ids.{quit_id}
+use Rattle.automata_hybrid.specs.Machines.Machine.{IsStateOf, next_of, greatest, template_of, IsTemplate, table_stride}
+use Rattle.automata_hybrid.specs.Cache.Table.{Rows, find_id, id_of, Names, Leads, IsCell, row_id, row_cost, with_row}
+use Rattle.automata_hybrid.specs.Cache.Table.{IsTable, IsStepped, StateMap}
 
 -- a state that rows have keeps its ID when more come
 find_id-more : (s at : ℕ) (q : Powerset) (rs ys : List Row) (id : ℕ) → find_id s at q rs ≡ Some id → find_id s at q (rs ++ ys) ≡ Some id

@@ -1,17 +1,17 @@
 -- What steps and starts make of the progress, and the spans that a search tries.
 use Rattle.std.proofs.Common.{ℕ, suc, ◌≡◌, ◌∙◌, ◌+◌, ◌≤◌, inl, inr, ap, arith}
-use Rattle.automata_base.specs.Answers.{Tries}
-use Rattle.automata_base.specs.Input.{Input}
-use Rattle.automata_base.specs.Powerset.{Powerset}
-use Rattle.automata_base.specs.Tapes.{Direction}
+use Rattle.automata_base.specs.Answers.Answers.{Tries}
+use Rattle.automata_base.specs.Haystacks.Input.{Input}
+use Rattle.automata_base.specs.Powersets.Powerset.{Powerset}
+use Rattle.automata_base.specs.Haystacks.Tapes.{Direction}
 use Rattle.automata_hybrid.specs.declared.dfa.row.Row.{Row}
-use Rattle.automata_hybrid.specs.Stores.{Stored}
-use Rattle.automata_hybrid.specs.Effects.{IsAddedStart, IsComputed, IsStarted}
-use Rattle.automata_hybrid.specs.Growing.{KeepsProgress}
-use Rattle.automata_hybrid.specs.Machine.{Machine}
-use Rattle.automata_hybrid.specs.Progressing.{progress_cleared, saturated}
-use Rattle.automata_hybrid.specs.Searched.{TriesSpans}
-use Rattle.automata_hybrid.specs.Searches.{Finds, Skips}
+use Rattle.automata_hybrid.specs.Cache.Stores.{Stored}
+use Rattle.automata_hybrid.specs.Cache.Changes.{IsAddedStart, IsComputed, IsStarted}
+use Rattle.automata_hybrid.specs.Cache.Growth.{KeepsProgress}
+use Rattle.automata_hybrid.specs.Machines.Machine.{Machine}
+use Rattle.automata_hybrid.specs.Cache.Progress.{progress_cleared, saturated}
+use Rattle.automata_hybrid.specs.Searches.Progress.{TriesSpans}
+use Rattle.automata_hybrid.specs.Searches.Passes.{Finds, Skips}
 use Rattle.automata_hybrid.proofs.Costing.{tries_before}
 use Rattle.automata_hybrid.proofs.Effects.{counts_up}
 

@@ -1,16 +1,16 @@
 -- What the calls of a walk make of their cache and of the progress.
 use Rattle.std.proofs.Common.{ℕ, suc, ◌≡◌, ◌+◌, ◌≤◌, length, inl, inr, sym, subst, arith}
-use Rattle.automata_base.specs.Input.{Input}
-use Rattle.automata_base.specs.Tapes.{Direction}
+use Rattle.automata_base.specs.Haystacks.Input.{Input}
+use Rattle.automata_base.specs.Haystacks.Tapes.{Direction}
 use Rattle.automata_config.specs.declared.error.SearchError.{SearchError}
-use Rattle.automata_hybrid.specs.Stores.{Stored}
-use Rattle.automata_hybrid.specs.KnowingWalks.{IsToRead}
-use Rattle.automata_hybrid.specs.Machine.{Machine}
-use Rattle.automata_hybrid.specs.Searched.{AreUnitsRead, IsLeftAt}
-use Rattle.automata_hybrid.specs.SearchedWalks.{IsCallLeftAt, IsCallStopped, ReadsNoUnit}
-use Rattle.automata_hybrid.specs.Searches.{HasReadNoQuit, IsUnitRefusal}
-use Rattle.automata_hybrid.specs.Walking.{IsRefusalAt, IsSilent, WalkReads}
-use Rattle.automata_hybrid.specs.Walks.{Ids, Keeping, States, Walk}
+use Rattle.automata_hybrid.specs.Cache.Stores.{Stored}
+use Rattle.automata_hybrid.specs.Walks.Cached.{IsToRead}
+use Rattle.automata_hybrid.specs.Machines.Machine.{Machine}
+use Rattle.automata_hybrid.specs.Searches.Progress.{AreUnitsRead, IsLeftAt}
+use Rattle.automata_hybrid.specs.Walks.Progress.{IsCallLeftAt, IsCallStopped, ReadsNoUnit}
+use Rattle.automata_hybrid.specs.Searches.Passes.{HasReadNoQuit, IsUnitRefusal}
+use Rattle.automata_hybrid.specs.Walks.Answers.{IsRefusalAt, IsSilent, WalkReads}
+use Rattle.automata_hybrid.specs.Walks.State.{Ids, Keeping, States, Walk}
 use Rattle.automata_hybrid.proofs.Searching.{dead_more}
 use Rattle.automata_hybrid.proofs.UnitsRead.{AreReadTo, read_some}
 

@@ -1,29 +1,31 @@
 -- What a pass has found so far, unit by unit.
-use Rattle.std.proofs.Common.{ℕ, zero, suc, ◌≡◌, ◌<◌, ◌≤◌, ◌⊎◌, inl, inr, Bool, true, false, List, [], ◌∷◌, length, Option, Some, None, refl, sym, ap, ◌∙◌, subst, arith, eq-or-lt_of_le}
-use Rattle.automata_base.specs.Answers.{offset_in}
-use Rattle.automata_base.specs.Computed.{pair_at, earlier_or}
+use Rattle.std.proofs.Common.{ℕ, zero, suc, ◌≡◌, ◌<◌, ◌≤◌, ◌⊎◌, inl, inr, Bool, true, false, List, [], ◌∷◌, length}
+use Rattle.std.proofs.Common.{Option, Some, None, refl, sym, ap, ◌∙◌, subst, arith, eq-or-lt_of_le}
+use Rattle.automata_base.specs.Answers.Answers.{offset_in}
+use Rattle.automata_base.specs.Retraced.ComputedPass.{pair_at, earlier_or}
 use Rattle.automata_base.specs.declared.util.search.MatchKind.{MatchKind}
 use Rattle.automata_base.specs.declared.util.search.Anchored.{Anchored}
-use Rattle.automata_base.specs.Input.{Input}
-use Rattle.automata_base.specs.Matches.{HalfMatch}
-use Rattle.automata_base.specs.Nodes.{Automaton}
-use Rattle.automata_base.specs.Paths.{Tape, next}
-use Rattle.automata_base.specs.Powerset.{Powerset, dead}
-use Rattle.automata_base.specs.Selections.{Pair}
-use Rattle.automata_base.specs.Steps.{start_state_of, successor}
-use Rattle.automata_base.specs.Tapes.{Direction}
-use Rattle.automata_base.specs.Telling.{state_after, told_at, last_told, first_told, told_upto}
+use Rattle.automata_base.specs.Haystacks.Input.{Input}
+use Rattle.automata_base.specs.Haystacks.Matches.{HalfMatch}
+use Rattle.automata_base.specs.Nfas.Nodes.{Automaton}
+use Rattle.automata_base.specs.Paths.Paths.{Tape, next}
+use Rattle.automata_base.specs.Powersets.Powerset.{Powerset, dead}
+use Rattle.automata_base.specs.Paths.Selections.{Pair}
+use Rattle.automata_base.specs.Retraced.Steps.{start_state_of, successor}
+use Rattle.automata_base.specs.Haystacks.Tapes.{Direction}
+use Rattle.automata_base.specs.Retraced.Passes.{state_after, told_at, last_told, first_told, told_upto}
 use Rattle.automata_base.proofs.Determinizing.Alike.{dead_stays}
 use Rattle.std.specs.Prelude.{Result, Ok, Err, IfErr, is_some}
 use Rattle.std.specs.Result.{IsErrAnd}
 use Rattle.automata_config.specs.declared.error.SearchError.{SearchError}
-use Rattle.automata_hybrid.specs.Stores.{Stored}
-use Rattle.automata_hybrid.specs.Machine.{Machine}
-use Rattle.automata_hybrid.specs.Passing.{half_of, half_at, found_over, IsAt}
-use Rattle.automata_hybrid.specs.Searches.{IsPassRefusal, IsStepRefusal, IsUnitRefusal, MeetsNoQuit, Reads, given_up_offset, state_in, tape_in, told_in, unit_offset}
-use Rattle.automata_hybrid.specs.Starting.{quit_behind}
-use Rattle.automata_hybrid.specs.Table.{Rows, Leads, Names}
-use Rattle.automata_base.specs.Classes.{is_quit}
+use Rattle.automata_hybrid.specs.Cache.Stores.{Stored}
+use Rattle.automata_hybrid.specs.Machines.Machine.{Machine}
+use Rattle.automata_hybrid.specs.Searches.PassState.{half_of, half_at, found_over, IsAt}
+use Rattle.automata_hybrid.specs.Searches.Passes.{IsPassRefusal, IsStepRefusal, IsUnitRefusal, MeetsNoQuit, Reads}
+use Rattle.automata_hybrid.specs.Searches.Passes.{given_up_offset, state_in, tape_in, told_in, unit_offset}
+use Rattle.automata_hybrid.specs.Steps.Starts.{quit_behind}
+use Rattle.automata_hybrid.specs.Cache.Table.{Rows, Leads, Names}
+use Rattle.automata_base.specs.ByteClasses.Classes.{is_quit}
 use Rattle.automata_config.specs.Options.{match_kind_of}
 
 -- one unit more

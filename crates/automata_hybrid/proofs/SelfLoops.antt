@@ -1,21 +1,23 @@
 -- What is learned of the bytes on which a row leads back to itself, and what follows for a pass that stands at it.
-use Rattle.std.proofs.Common.{ℕ, zero, suc, ◌≡◌, ◌∙◌, ◌+◌, ◌-◌, ◌<◌, ◌≤◌, ◌^◌, Bool, true, false, List, Some, refl, sym, subst, arith, get_or, length, slice_index, ◌⊎◌, inl, inr, ⊎_elim}
+use Rattle.std.proofs.Common.{ℕ, zero, suc, ◌≡◌, ◌∙◌, ◌+◌, ◌-◌, ◌<◌, ◌≤◌, ◌^◌, Bool, true, false, List, Some, refl, sym}
+use Rattle.std.proofs.Common.{subst, arith, get_or, length, slice_index, ◌⊎◌, inl, inr, ⊎_elim}
 use Rattle.std.proofs.lemmas.Bool.{cases_lt}
-use Rattle.automata_base.specs.Classes.{AreClasses, class_in, is_quit}
-use Rattle.automata_base.specs.Input.{Input}
-use Rattle.automata_base.specs.Paths.{next}
-use Rattle.automata_base.specs.Powerset.{Powerset}
-use Rattle.automata_base.specs.Steps.{successor}
-use Rattle.automata_base.specs.Tapes.{Direction, Forward, Backward}
+use Rattle.automata_base.specs.ByteClasses.Classes.{AreClasses, class_in, is_quit}
+use Rattle.automata_base.specs.Haystacks.Input.{Input}
+use Rattle.automata_base.specs.Paths.Paths.{next}
+use Rattle.automata_base.specs.Powersets.Powerset.{Powerset}
+use Rattle.automata_base.specs.Retraced.Steps.{successor}
+use Rattle.automata_base.specs.Haystacks.Tapes.{Direction, Forward, Backward}
 use Rattle.automata_config.specs.Options.{match_kind_of}
-use Rattle.automata_hybrid.specs.SelfLoops.{Has, HasEither, IsKnownLoop, IsLoopRange, IsLoopRun, IsSelfLoop, LoopsAt, LoopsOn, LoopsOver, byte_in}
-use Rattle.automata_hybrid.specs.Ids.{quit_id, unknown_id}
-use Rattle.automata_hybrid.specs.Machine.{IsMachine, Machine, next_of, table_stride, template_of}
-use Rattle.automata_hybrid.specs.Owned.{IsOwn}
-use Rattle.automata_hybrid.specs.Passing.{IsFollowed, IsLed, IsRun, IsTagAt}
-use Rattle.automata_hybrid.specs.Searches.{state_in, tape_in}
-use Rattle.automata_hybrid.specs.Stores.{Stored, cell_of}
-use Rattle.automata_hybrid.specs.Table.{IsCell, IsValid, Leads, MayLead, Names}
+use Rattle.automata_hybrid.specs.Searches.SelfLoops.{Has, HasEither, IsKnownLoop, IsLoopRange, IsLoopRun, IsSelfLoop}
+use Rattle.automata_hybrid.specs.Searches.SelfLoops.{LoopsAt, LoopsOn, LoopsOver, byte_in}
+use Rattle.automata_hybrid.specs.Cache.Ids.{quit_id, unknown_id}
+use Rattle.automata_hybrid.specs.Machines.Machine.{IsMachine, Machine, next_of, table_stride, template_of}
+use Rattle.automata_hybrid.specs.Machines.OwnStates.{IsOwn}
+use Rattle.automata_hybrid.specs.Searches.PassState.{IsFollowed, IsLed, IsRun, IsTagAt}
+use Rattle.automata_hybrid.specs.Searches.Passes.{state_in, tape_in}
+use Rattle.automata_hybrid.specs.Cache.Stores.{Stored, cell_of}
+use Rattle.automata_hybrid.specs.Cache.Table.{IsCell, IsValid, Leads, MayLead, Names}
 use Rattle.automata_hybrid.specs.declared.search.loop_range.LoopRange.{LoopRange}
 use Rattle.automata_hybrid.specs.declared.search.self_loop.KnownLoop.{KnownLoop}
 use Rattle.automata_hybrid.proofs.Following.{followed_more, followed_none}

@@ -1,18 +1,20 @@
 -- Spans tried one after another.
-use Rattle.std.proofs.Common.{ℕ, suc, ◌≡◌, ◌<◌, ◌≤◌, ◌+◌, ◌⊎◌, inl, inr, true, Option, Some, None, false, refl, sym, ap, ap₂, ◌∙◌, subst, arith}
-use Rattle.automata_base.specs.Answers.{Half, later, offset_in, IsSplit, Tries}
+use Rattle.std.proofs.Common.{ℕ, suc, ◌≡◌, ◌<◌, ◌≤◌, ◌+◌, ◌⊎◌, inl, inr, true, Option, Some, None, false, refl, sym, ap}
+use Rattle.std.proofs.Common.{ap₂, ◌∙◌, subst, arith}
+use Rattle.automata_base.specs.Answers.Answers.{Half, later, offset_in, IsSplit, Tries}
 use Rattle.automata_base.specs.declared.util.search.Anchored.TheVariants.{No}
-use Rattle.automata_base.specs.Input.{Input}
-use Rattle.automata_base.specs.Matches.{HalfMatch}
-use Rattle.automata_base.specs.Selections.{Pair}
-use Rattle.automata_base.specs.Tapes.{Direction, Forward, Backward, is_split}
-use Rattle.automata_base.specs.Told.{TellsOver, IsTold, told_over}
+use Rattle.automata_base.specs.Haystacks.Input.{Input}
+use Rattle.automata_base.specs.Haystacks.Matches.{HalfMatch}
+use Rattle.automata_base.specs.Paths.Selections.{Pair}
+use Rattle.automata_base.specs.Haystacks.Tapes.{Direction, Forward, Backward, is_split}
+use Rattle.automata_base.specs.Answers.OfPasses.{TellsOver, IsTold, told_over}
 use Rattle.automata_base.proofs.Spans.Turning.{turn_answers}
 use Rattle.automata_config.specs.declared.error.SearchError.{SearchError}
-use Rattle.automata_hybrid.specs.Stores.{Stored}
-use Rattle.automata_hybrid.specs.Machine.{Machine}
-use Rattle.automata_hybrid.specs.Passing.{half_of, found_over}
-use Rattle.automata_hybrid.specs.Searches.{Finds, Skips, IsFound, IsRefused, IsPassRefusal, MeetsNoQuit, with_base}
+use Rattle.automata_hybrid.specs.Cache.Stores.{Stored}
+use Rattle.automata_hybrid.specs.Machines.Machine.{Machine}
+use Rattle.automata_hybrid.specs.Searches.PassState.{half_of, found_over}
+use Rattle.automata_hybrid.specs.Searches.Passes.{Finds, Skips, IsFound, IsRefused, IsPassRefusal, MeetsNoQuit}
+use Rattle.automata_hybrid.specs.Searches.Passes.{with_base}
 use Rattle.automata_hybrid.proofs.Searching.{false_true, half_none}
 use Rattle.automata_config.specs.Options.{match_kind_of}
 

@@ -1,18 +1,19 @@
-use Rattle.std.proofs.Common.{◌≡◌, ℕ, ◌+◌, ◌*◌, ◌/◌, ◌%◌, ◌<◌, ◌≤◌, length, Bool, true, false, cond, eqb, Option, None, Some, refl, sym, ap, ◌∙◌, subst, arith, lit<}
+use Rattle.std.proofs.Common.{◌≡◌, ℕ, ◌+◌, ◌*◌, ◌/◌, ◌%◌, ◌<◌, ◌≤◌, length, Bool, true, false, cond, eqb, Option, None}
+use Rattle.std.proofs.Common.{Some, refl, sym, ap, ◌∙◌, subst, arith, lit<}
 use Rattle.std.proofs.lemmas.Bool.{eqb-true, eq-eqb}
 use Rattle.std.proofs.lemmas.Nat.{div-mul-add, mod-mul-add}
 use Rattle.std.proofs.lemmas.Option.{slice_get_past}
-use Rattle.automata_base.specs.Accounting.{start_slots}
-use Rattle.automata_base.specs.Nodes.{Automaton}
-use Rattle.automata_base.specs.Powerset.{dead}
-use Rattle.automata_base.specs.Alike.{behind_of}
-use Rattle.automata_base.specs.Looks.{is_word_byte}
-use Rattle.automata_base.specs.Steps.{start_state_of}
+use Rattle.automata_base.specs.Powersets.Accounting.{start_slots}
+use Rattle.automata_base.specs.Nfas.Nodes.{Automaton}
+use Rattle.automata_base.specs.Powersets.Powerset.{dead}
+use Rattle.automata_base.specs.ByteClasses.LookBehind.{behind_of}
+use Rattle.automata_base.specs.Haystacks.Looks.{is_word_byte}
+use Rattle.automata_base.specs.Retraced.Steps.{start_state_of}
 use Rattle.automata_base.specs.declared.util.search.Anchored.{Anchored}
 use Rattle.automata_base.specs.declared.util.search.Anchored.TheVariants.{No, Yes, Pattern}
 use Rattle.automata_base.proofs.Determinizing.Alike.{behind_alike}
-use Rattle.automata_hybrid.specs.Machine.{Machine, mode_of, sample_of, start_of}
-use Rattle.automata_hybrid.specs.Slots.{group_of, slot_of}
+use Rattle.automata_hybrid.specs.Machines.Machine.{Machine, mode_of, sample_of, start_of}
+use Rattle.automata_hybrid.specs.Machines.StartSlots.{group_of, slot_of}
 
 -- a sample of a kind is of that kind
 abbrev pub IsSample : ℕ → ℕ → Type 0

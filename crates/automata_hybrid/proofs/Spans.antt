@@ -1,19 +1,19 @@
 -- What a search makes of its cache, span after span.
 use Rattle.std.proofs.Common.{ℕ, zero, suc, ◌≡◌, ◌∙◌, ◌+◌, ◌-◌, ◌<◌, ◌≤◌, refl, sym, subst, arith}
 use Rattle.std.specs.Prelude.{Result, Ok, Err}
-use Rattle.automata_base.specs.Answers.{Tries, later}
-use Rattle.automata_base.specs.Input.{Input}
-use Rattle.automata_base.specs.Tapes.{Direction, Forward, Backward}
+use Rattle.automata_base.specs.Answers.Answers.{Tries, later}
+use Rattle.automata_base.specs.Haystacks.Input.{Input}
+use Rattle.automata_base.specs.Haystacks.Tapes.{Direction, Forward, Backward}
 use Rattle.automata_config.specs.declared.error.SearchError.{SearchError}
-use Rattle.automata_hybrid.specs.Caches.{CacheView}
-use Rattle.automata_hybrid.specs.Costs.{IsCostOfPasses}
-use Rattle.automata_hybrid.specs.Growing.{ClearedNothing, IsGrown}
-use Rattle.automata_hybrid.specs.Knowing.{Knows, KnowsPass}
-use Rattle.automata_hybrid.specs.Machine.{Machine}
-use Rattle.automata_hybrid.specs.Owing.{IsSearchEffect}
-use Rattle.automata_hybrid.specs.Passed.{IsPassEffect}
-use Rattle.automata_hybrid.specs.Searched.{HasEnded, HaveEnded, IsLeft}
-use Rattle.automata_hybrid.specs.Searches.{Finds, Skips}
+use Rattle.automata_hybrid.specs.Cache.Caches.{CacheView}
+use Rattle.automata_hybrid.specs.Searches.Costs.{IsCostOfPasses}
+use Rattle.automata_hybrid.specs.Cache.Growth.{ClearedNothing, IsGrown}
+use Rattle.automata_hybrid.specs.Searches.Cached.{Knows, KnowsPass}
+use Rattle.automata_hybrid.specs.Machines.Machine.{Machine}
+use Rattle.automata_hybrid.specs.Searches.Contracts.{IsSearchEffect}
+use Rattle.automata_hybrid.specs.Searches.PassContracts.{IsPassEffect}
+use Rattle.automata_hybrid.specs.Searches.Progress.{HasEnded, HaveEnded, IsLeft}
+use Rattle.automata_hybrid.specs.Searches.Passes.{Finds, Skips}
 use Rattle.automata_hybrid.proofs.Costing.{AreCounted, cost_before, cost_more, cost_of_pass, counted_more}
 use Rattle.automata_hybrid.proofs.Growing.{grown_trans, nothing_first, nothing_second}
 use Rattle.automata_hybrid.proofs.Knowing.{LearnedSpans, search_still, spans_all, spans_more, spans_still}

@@ -1,29 +1,32 @@
 -- Searches by steps stand where their steps led.
-use Rattle.std.proofs.Common.{ℕ, suc, ◌≡◌, ◌∙◌, ◌+◌, ◌*◌, ◌-◌, ◌<◌, ◌≤◌, ◌⊎◌, inl, inr, Bool, true, false, List, [], ◌∷◌, length, Option, Some, None, refl, sym, ap, subst, arith, get_or, add-zero}
+use Rattle.std.proofs.Common.{ℕ, suc, ◌≡◌, ◌∙◌, ◌+◌, ◌*◌, ◌-◌, ◌<◌, ◌≤◌, ◌⊎◌, inl, inr, Bool, true, false, List, []}
+use Rattle.std.proofs.Common.{◌∷◌, length, Option, Some, None, refl, sym, ap, subst, arith, get_or, add-zero}
 use Rattle.std.specs.Prelude.{IsBitSet}
-use Rattle.automata_base.specs.Answers.{later}
-use Rattle.automata_base.specs.Classes.{is_quit}
-use Rattle.automata_base.specs.Input.{Input}
-use Rattle.automata_base.specs.Matches.{HalfMatch}
-use Rattle.automata_base.specs.Paths.{next}
-use Rattle.automata_base.specs.Powerset.{Powerset, dead}
-use Rattle.automata_base.specs.Steps.{start_state_of, successor}
-use Rattle.automata_base.specs.Tapes.{Forward, byte_before}
-use Rattle.automata_base.specs.Told.{ToldEndsAreRight}
+use Rattle.automata_base.specs.Answers.Answers.{later}
+use Rattle.automata_base.specs.ByteClasses.Classes.{is_quit}
+use Rattle.automata_base.specs.Haystacks.Input.{Input}
+use Rattle.automata_base.specs.Haystacks.Matches.{HalfMatch}
+use Rattle.automata_base.specs.Paths.Paths.{next}
+use Rattle.automata_base.specs.Powersets.Powerset.{Powerset, dead}
+use Rattle.automata_base.specs.Retraced.Steps.{start_state_of, successor}
+use Rattle.automata_base.specs.Haystacks.Tapes.{Forward, byte_before}
+use Rattle.automata_base.specs.Answers.OfPasses.{ToldEndsAreRight}
 use Rattle.automata_base.proofs.Paths.Orders.{some_inj, none_some}
 use Rattle.automata_config.specs.Options.{match_kind_of}
-use Rattle.automata_hybrid.specs.Caches.{CacheView}
-use Rattle.automata_hybrid.specs.Ids.{dead_id, fixed_from, quit_id}
-use Rattle.automata_hybrid.specs.Machine.{Machine, table_stride}
-use Rattle.automata_hybrid.specs.Passed.{IsUnderway}
-use Rattle.automata_hybrid.specs.Passing.{half_at}
-use Rattle.automata_hybrid.specs.Searches.{IsFound, Skips, WithoutBase, state_in, tape_in, with_base}
-use Rattle.automata_hybrid.specs.Standing.{FirstMatchIsFound, HasPatterns, IsFirstMatch, IsFirstPattern, IsStepAt, IsUnitAt, StandsAt}
-use Rattle.automata_hybrid.specs.Starting.{IsStartAnswer}
-use Rattle.automata_hybrid.specs.Stepping.{IsStepAnswer, quits_on}
-use Rattle.automata_hybrid.specs.Table.{Leads, Names, Rows}
+use Rattle.automata_hybrid.specs.Cache.Caches.{CacheView}
+use Rattle.automata_hybrid.specs.Cache.Ids.{dead_id, fixed_from, quit_id}
+use Rattle.automata_hybrid.specs.Machines.Machine.{Machine, table_stride}
+use Rattle.automata_hybrid.specs.Searches.PassContracts.{IsUnderway}
+use Rattle.automata_hybrid.specs.Searches.PassState.{half_at}
+use Rattle.automata_hybrid.specs.Searches.Passes.{IsFound, Skips, WithoutBase, state_in, tape_in, with_base}
+use Rattle.automata_hybrid.specs.Steps.BySteps.{FirstMatchIsFound, HasPatterns, IsFirstMatch, IsFirstPattern, IsStepAt}
+use Rattle.automata_hybrid.specs.Steps.BySteps.{IsUnitAt, StandsAt}
+use Rattle.automata_hybrid.specs.Steps.Starts.{IsStartAnswer}
+use Rattle.automata_hybrid.specs.Steps.Steps.{IsStepAnswer, quits_on}
+use Rattle.automata_hybrid.specs.Cache.Table.{Leads, Names, Rows}
 use Rattle.automata_hybrid.proofs.Places.{bit_of, zero_one}
-use Rattle.automata_hybrid.proofs.Searching.{clean_dead, clean_ends, clean_last, clean_start, more_at, more_dead, more_ends, more_last, starts_at, starts_dead, state_first, state_more}
+use Rattle.automata_hybrid.proofs.Searching.{clean_dead, clean_ends, clean_last, clean_start, more_at, more_dead}
+use Rattle.automata_hybrid.proofs.Searching.{more_ends, more_last, starts_at, starts_dead, state_first, state_more}
 use Rattle.automata_hybrid.proofs.Skipping.{finds_none, finds_some, found_told}
 use Rattle.automata_hybrid.proofs.Stepping.{Leads-untagged, low_bit}
 use Rattle.automata_hybrid.proofs.Units.{forward_unit, forward_units, nth_past, nth_read}

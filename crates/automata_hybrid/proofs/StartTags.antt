@@ -1,21 +1,23 @@
 -- What a step or a start does to the start tags of IDs, from its whole effect.
-use Rattle.std.proofs.Common.{◌≡◌, ℕ, ◌+◌, ◌*◌, ◌^◌, ◌<◌, ◌⊎◌, List, [], ◌∷◌, ◌++◌, length, Bool, true, false, cond, Option, None, Some, slice_get, refl, sym, ap, ◌∙◌, subst, inl, inr, arith}
+use Rattle.std.proofs.Common.{◌≡◌, ℕ, ◌+◌, ◌*◌, ◌^◌, ◌<◌, ◌⊎◌, List, [], ◌∷◌, ◌++◌, length, Bool, true, false, cond}
+use Rattle.std.proofs.Common.{Option, None, Some, slice_get, refl, sym, ap, ◌∙◌, subst, inl, inr, arith}
 use Rattle.std.specs.Prelude.{IsBitSet, ◌↔◌, nat_le}
-use Rattle.automata_base.specs.Powerset.{Powerset}
+use Rattle.automata_base.specs.Powersets.Powerset.{Powerset}
 use Rattle.automata_base.proofs.Paths.Orders.{none_some}
 use Rattle.automata_hybrid.specs.declared.dfa.row.Row.{Row}
-use Rattle.automata_hybrid.specs.Ids.{tags}
-use Rattle.automata_hybrid.specs.Growing.{HasStartTag, MayHaveStartTag}
-use Rattle.automata_hybrid.specs.Table.{Has, Rows, fresh, id_of, has_patterns, Names, HasRowIds, KeepsStartTags, TagsNewStates, row_id, with_row}
-use Rattle.automata_hybrid.specs.Clears.{put_if, put, row_of, Kept, keep_found, keep_slot, keep_slots}
-use Rattle.automata_hybrid.specs.Stores.{Stored, IsKnownStart}
-use Rattle.automata_hybrid.specs.Usage.{cleared}
-use Rattle.automata_hybrid.specs.Effects.{cleared_saving, put_found, IsAdded, IsAddedStart, IsComputed, IsStarted}
+use Rattle.automata_hybrid.specs.Cache.Ids.{tags}
+use Rattle.automata_hybrid.specs.Cache.Growth.{HasStartTag, MayHaveStartTag}
+use Rattle.automata_hybrid.specs.Cache.Table.{Has, Rows, fresh, id_of, has_patterns, Names, HasRowIds, KeepsStartTags}
+use Rattle.automata_hybrid.specs.Cache.Table.{TagsNewStates, row_id, with_row}
+use Rattle.automata_hybrid.specs.Cache.Clears.{put_if, put, row_of, Kept, keep_found, keep_slot, keep_slots}
+use Rattle.automata_hybrid.specs.Cache.Stores.{Stored, IsKnownStart}
+use Rattle.automata_hybrid.specs.Cache.Usage.{cleared}
+use Rattle.automata_hybrid.specs.Cache.Changes.{cleared_saving, put_found, IsAdded, IsAddedStart, IsComputed, IsStarted}
 use Rattle.automata_hybrid.proofs.Rows.{at_push}
 use Rattle.automata_hybrid.proofs.Places.{Found, find_id-Found, bit_of, zero_one}
 use Rattle.automata_hybrid.proofs.Effects.{one_id}
 use Rattle.automata_config.specs.Options.{specialize_start_states_of}
-use Rattle.automata_hybrid.specs.Machine.{slot_count, start_of, table_stride}
+use Rattle.automata_hybrid.specs.Machines.Machine.{slot_count, start_of, table_stride}
 
 -- the start tag of an ID at a row's offset
 tags_start : (x : ℕ) (a b : Bool) → x < 2 ^ 27 → IsBitSet (x + tags a b) 28 ↔ (a ≡ true)

@@ -1,23 +1,26 @@
 -- Starts: what a call answers and changes, from what its parts do.
-use Rattle.automata_hybrid.specs.Growing.{HasStartTag, MayHaveStartTag}
-use Rattle.std.proofs.Common.{ℕ, ◌≡◌, ◌+◌, ◌^◌, ◌<◌, ◌≤◌, ◌⊎◌, List, length, length-set, get_or, set, Bool, Option, refl, sym, ap, ◌∙◌, subst, arith, inl, inr}
+use Rattle.automata_hybrid.specs.Cache.Growth.{HasStartTag, MayHaveStartTag}
+use Rattle.std.proofs.Common.{ℕ, ◌≡◌, ◌+◌, ◌^◌, ◌<◌, ◌≤◌, ◌⊎◌, List, length, length-set, get_or, set, Bool, Option}
+use Rattle.std.proofs.Common.{refl, sym, ap, ◌∙◌, subst, arith, inl, inr}
 use Rattle.std.proofs.lemmas.List.{get_or-set_other}
 use Rattle.std.specs.Prelude.{slice_index}
-use Rattle.automata_base.specs.Powerset.{Powerset, cost}
-use Rattle.automata_base.specs.Steps.{start_state_of}
+use Rattle.automata_base.specs.Powersets.Powerset.{Powerset, cost}
+use Rattle.automata_base.specs.Retraced.Steps.{start_state_of}
 use Rattle.automata_base.specs.declared.util.search.Anchored.{Anchored}
 use Rattle.automata_base.proofs.Paths.Orders.{none_some}
 use Rattle.automata_config.specs.declared.error.SearchError.{SearchError}
 use Rattle.automata_hybrid.specs.declared.dfa.row.Row.{Row}
-use Rattle.automata_hybrid.specs.Ids.{unknown_id}
-use Rattle.automata_hybrid.specs.Machine.{Machine, greatest, slot_count, start_of, table_stride, template_of}
-use Rattle.automata_hybrid.specs.Table.{Has, HasCells, HasItsMatchTag, HasRowIds, Lacks, Leads, MayLead, Names, Rows, TagsNewStates}
-use Rattle.automata_hybrid.specs.Stores.{Stored, IsKnownStart, KeepsStarts, with_start}
-use Rattle.automata_hybrid.specs.Usage.{GivesUp}
-use Rattle.automata_hybrid.specs.Effects.{AddsStart, IsOneChange, IsStarted, slot_row}
-use Rattle.automata_hybrid.specs.Caches.{CacheView, HasRow, IsCacheOf, counted, with_store}
-use Rattle.automata_hybrid.specs.Progressing.{saturated}
-use Rattle.automata_hybrid.specs.Starting.{IsStartAnswer, IsStartEffect, IsStartRefusal, IsStartRefusalAt, IsStartRefusedAt, IsStartSlot, KnowsStart, known_start, start_row}
+use Rattle.automata_hybrid.specs.Cache.Ids.{unknown_id}
+use Rattle.automata_hybrid.specs.Machines.Machine.{Machine, greatest, slot_count, start_of, table_stride, template_of}
+use Rattle.automata_hybrid.specs.Cache.Table.{Has, HasCells, HasItsMatchTag, HasRowIds, Lacks, Leads, MayLead, Names}
+use Rattle.automata_hybrid.specs.Cache.Table.{Rows, TagsNewStates}
+use Rattle.automata_hybrid.specs.Cache.Stores.{Stored, IsKnownStart, KeepsStarts, with_start}
+use Rattle.automata_hybrid.specs.Cache.Usage.{GivesUp}
+use Rattle.automata_hybrid.specs.Cache.Changes.{AddsStart, IsOneChange, IsStarted, slot_row}
+use Rattle.automata_hybrid.specs.Cache.Caches.{CacheView, HasRow, IsCacheOf, counted, with_store}
+use Rattle.automata_hybrid.specs.Cache.Progress.{saturated}
+use Rattle.automata_hybrid.specs.Steps.Starts.{IsStartAnswer, IsStartEffect, IsStartRefusal, IsStartRefusalAt}
+use Rattle.automata_hybrid.specs.Steps.Starts.{IsStartRefusedAt, IsStartSlot, KnowsStart, known_start, start_row}
 use Rattle.automata_hybrid.proofs.Effects.{Keeps-started, roomy-started}
 use Rattle.automata_hybrid.proofs.Growing.{grown_counted, grown_one, grown_same}
 use Rattle.automata_hybrid.proofs.Searched.{started_progress}

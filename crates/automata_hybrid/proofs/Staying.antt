@@ -1,18 +1,18 @@
 -- What is cached stays cached where nothing is lost.
 use Rattle.std.proofs.Common.{ℕ, ◌≡◌, ◌∙◌, ◌+◌, ◌<◌, ◌≤◌, Option, None, Some, sym, subst, arith}
-use Rattle.automata_base.specs.Answers.{IsInput, later}
-use Rattle.automata_base.specs.Classes.{class_in, eoi_class}
-use Rattle.automata_base.specs.Input.{Input}
-use Rattle.automata_base.specs.Passes.{IsUnit}
-use Rattle.automata_base.specs.Paths.{next}
-use Rattle.automata_base.specs.Tapes.{Direction, Forward, Backward}
+use Rattle.automata_base.specs.Answers.Answers.{IsInput, later}
+use Rattle.automata_base.specs.ByteClasses.Classes.{class_in, eoi_class}
+use Rattle.automata_base.specs.Haystacks.Input.{Input}
+use Rattle.automata_base.specs.Powersets.Passes.{IsUnit}
+use Rattle.automata_base.specs.Paths.Paths.{next}
+use Rattle.automata_base.specs.Haystacks.Tapes.{Direction, Forward, Backward}
 use Rattle.automata_base.proofs.Spans.Total.{tape_units}
-use Rattle.automata_hybrid.specs.Stores.{Stored}
-use Rattle.automata_hybrid.specs.Growing.{Keeps}
-use Rattle.automata_hybrid.specs.Knowing.{KnownStays, KnowsPass}
-use Rattle.automata_hybrid.specs.Stepping.{unit_class}
-use Rattle.automata_hybrid.specs.Machine.{Machine, table_stride}
-use Rattle.automata_hybrid.specs.Searches.{tape_in}
+use Rattle.automata_hybrid.specs.Cache.Stores.{Stored}
+use Rattle.automata_hybrid.specs.Cache.Growth.{Keeps}
+use Rattle.automata_hybrid.specs.Searches.Cached.{KnownStays, KnowsPass}
+use Rattle.automata_hybrid.specs.Steps.Steps.{unit_class}
+use Rattle.automata_hybrid.specs.Machines.Machine.{Machine, table_stride}
+use Rattle.automata_hybrid.specs.Searches.Passes.{tape_in}
 use Rattle.automata_hybrid.proofs.Knowing.{begin_still, unit_still}
 
 later_input : (way : Direction) (input : Input) (k : ℕ) → IsInput input → IsInput (later way k input)

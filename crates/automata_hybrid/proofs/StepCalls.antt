@@ -1,21 +1,23 @@
 -- Steps: what a call answers and changes, from what its parts do.
-use Rattle.std.proofs.Common.{ℕ, ◌≡◌, ◌+◌, ◌^◌, ◌<◌, ◌≤◌, ◌⊎◌, Bool, length, true, false, Option, None, Some, refl, sym, ap, ◌∙◌, subst, arith, inl, inr}
+use Rattle.std.proofs.Common.{ℕ, ◌≡◌, ◌+◌, ◌^◌, ◌<◌, ◌≤◌, ◌⊎◌, Bool, length, true, false, Option, None, Some, refl, sym}
+use Rattle.std.proofs.Common.{ap, ◌∙◌, subst, arith, inl, inr}
 use Rattle.std.specs.Prelude.{slice_index}
-use Rattle.automata_base.specs.Classes.{is_quit}
-use Rattle.automata_base.specs.Powerset.{Powerset, cost}
-use Rattle.automata_base.specs.Steps.{successor}
+use Rattle.automata_base.specs.ByteClasses.Classes.{is_quit}
+use Rattle.automata_base.specs.Powersets.Powerset.{Powerset, cost}
+use Rattle.automata_base.specs.Retraced.Steps.{successor}
 use Rattle.automata_base.proofs.Paths.Orders.{none_some, some_inj}
-use Rattle.automata_hybrid.specs.Stores.{IsKnownTransition, KeepsStarts, Stored, cell_of, with_next}
-use Rattle.automata_hybrid.specs.Usage.{GivesUp}
-use Rattle.automata_hybrid.specs.Effects.{AddsNext, IsAdded, IsComputed, IsOneChange}
-use Rattle.automata_hybrid.specs.Caches.{CacheView, HasRow, IsCacheOf, counted, with_store}
-use Rattle.automata_hybrid.specs.Growing.{ClearedNothing}
-use Rattle.automata_hybrid.specs.Ids.{fixed_from, quit_id, unknown_id}
-use Rattle.automata_hybrid.specs.Machine.{Machine, greatest, next_of, template_of, table_stride}
-use Rattle.automata_hybrid.specs.Progressing.{saturated}
-use Rattle.automata_hybrid.specs.Searches.{IsNoQuit}
-use Rattle.automata_hybrid.specs.Stepping.{IsStepAnswer, IsStepEffect, KnowsStep, quits_on, unit_class}
-use Rattle.automata_hybrid.specs.Table.{Has, HasCells, HasItsMatchTag, HasRowIds, IsCell, IsValid, Lacks, Leads, Names, Rows}
+use Rattle.automata_hybrid.specs.Cache.Stores.{IsKnownTransition, KeepsStarts, Stored, cell_of, with_next}
+use Rattle.automata_hybrid.specs.Cache.Usage.{GivesUp}
+use Rattle.automata_hybrid.specs.Cache.Changes.{AddsNext, IsAdded, IsComputed, IsOneChange}
+use Rattle.automata_hybrid.specs.Cache.Caches.{CacheView, HasRow, IsCacheOf, counted, with_store}
+use Rattle.automata_hybrid.specs.Cache.Growth.{ClearedNothing}
+use Rattle.automata_hybrid.specs.Cache.Ids.{fixed_from, quit_id, unknown_id}
+use Rattle.automata_hybrid.specs.Machines.Machine.{Machine, greatest, next_of, template_of, table_stride}
+use Rattle.automata_hybrid.specs.Cache.Progress.{saturated}
+use Rattle.automata_hybrid.specs.Searches.Passes.{IsNoQuit}
+use Rattle.automata_hybrid.specs.Steps.Steps.{IsStepAnswer, IsStepEffect, KnowsStep, quits_on, unit_class}
+use Rattle.automata_hybrid.specs.Cache.Table.{Has, HasCells, HasItsMatchTag, HasRowIds, IsCell, IsValid, Lacks, Leads}
+use Rattle.automata_hybrid.specs.Cache.Table.{Names, Rows}
 use Rattle.automata_hybrid.proofs.Bounding.{Leads-known}
 use Rattle.automata_hybrid.proofs.Effects.{Keeps-computed, roomy-computed, written-computed}
 use Rattle.automata_hybrid.proofs.Growing.{grown_counted, grown_one, grown_same}

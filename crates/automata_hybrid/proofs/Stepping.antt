@@ -1,20 +1,21 @@
-use Rattle.std.proofs.Common.{◌≡◌, ℕ, List, ◌∷◌, length, Bool, true, false, Some, [], ◌+◌, ◌*◌, ◌^◌, ◌<◌, ◌≤◌, inl, inr, refl, sym, ap, subst, arith, get_or, Option}
+use Rattle.std.proofs.Common.{◌≡◌, ℕ, List, ◌∷◌, length, Bool, true, false, Some, [], ◌+◌, ◌*◌, ◌^◌, ◌<◌, ◌≤◌, inl, inr}
+use Rattle.std.proofs.Common.{refl, sym, ap, subst, arith, get_or, Option}
 use Rattle.automata_base.specs.Lists.{In}
-use Rattle.automata_base.specs.Powerset.{Powerset}
-use Rattle.automata_hybrid.specs.Machine.{Machine, table_stride}
-use Rattle.automata_hybrid.specs.Table.{Rows, IsValid, Leads, Names}
-use Rattle.automata_hybrid.specs.Ids.{quit_id}
-use Rattle.automata_hybrid.specs.Caches.{HasRow}
-use Rattle.automata_hybrid.specs.Stores.{Stored, IsCacheError}
-use Rattle.automata_hybrid.specs.Usage.{GivesUp}
-use Rattle.automata_hybrid.specs.Passing.{IsDeadTagged, step_refusal}
-use Rattle.automata_hybrid.specs.Searches.{IsNoQuit, IsStepRefusal, LacksStep}
+use Rattle.automata_base.specs.Powersets.Powerset.{Powerset}
+use Rattle.automata_hybrid.specs.Machines.Machine.{Machine, table_stride}
+use Rattle.automata_hybrid.specs.Cache.Table.{Rows, IsValid, Leads, Names}
+use Rattle.automata_hybrid.specs.Cache.Ids.{quit_id}
+use Rattle.automata_hybrid.specs.Cache.Caches.{HasRow}
+use Rattle.automata_hybrid.specs.Cache.Stores.{Stored, IsCacheError}
+use Rattle.automata_hybrid.specs.Cache.Usage.{GivesUp}
+use Rattle.automata_hybrid.specs.Searches.PassState.{IsDeadTagged, step_refusal}
+use Rattle.automata_hybrid.specs.Searches.Passes.{IsNoQuit, IsStepRefusal, LacksStep}
 use Rattle.automata_config.specs.declared.error.StepError.{StepError}
 use Rattle.automata_config.specs.declared.error.StepError.TheVariants.{Cache, OutOfMemory}
 use Rattle.std.specs.Prelude.{IsBitSet, ◌↔◌}
 use Rattle.automata_hybrid.proofs.Places.{Names-silent, no_patterns, bit_of, zero_one}
-use Rattle.automata_base.specs.Classes.{is_quit}
-use Rattle.automata_base.specs.Steps.{successor}
+use Rattle.automata_base.specs.ByteClasses.Classes.{is_quit}
+use Rattle.automata_base.specs.Retraced.Steps.{successor}
 use Rattle.automata_config.specs.Options.{match_kind_of}
 
 -- an ID that is not fixed is that of a row

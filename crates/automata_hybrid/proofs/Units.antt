@@ -1,11 +1,12 @@
 -- The units that a pass reads are bytes of the haystack.
-use Rattle.std.proofs.Common.{ℕ, zero, suc, ◌≡◌, ◌<◌, ◌≤◌, ◌+◌, ◌-◌, List, [], ◌∷◌, length, Some, None, refl, sym, ap, ap₂, ◌∙◌, arith, get_or, slice_get}
-use Rattle.automata_base.specs.Input.{Input}
+use Rattle.std.proofs.Common.{ℕ, zero, suc, ◌≡◌, ◌<◌, ◌≤◌, ◌+◌, ◌-◌, List, [], ◌∷◌, length, Some, None, refl, sym, ap}
+use Rattle.std.proofs.Common.{ap₂, ◌∙◌, arith, get_or, slice_get}
+use Rattle.automata_base.specs.Haystacks.Input.{Input}
 use Rattle.automata_base.specs.Lists.{nth}
-use Rattle.automata_base.specs.Paths.{next}
-use Rattle.automata_base.specs.Tapes.{Forward, Backward, byte_before}
+use Rattle.automata_base.specs.Paths.Paths.{next}
+use Rattle.automata_base.specs.Haystacks.Tapes.{Forward, Backward, byte_before}
 use Rattle.automata_base.proofs.Spans.Bytes.{forward_next, forward_length, reverse_next, tape_length}
-use Rattle.automata_hybrid.specs.Searches.{tape_in}
+use Rattle.automata_hybrid.specs.Searches.Passes.{tape_in}
 
 -- forward the unit at an offset is the byte there
 pub forward_unit :

@@ -1,30 +1,35 @@
 -- Units that are read one after another, and what the search under way is moved to on the way.
-use Rattle.std.proofs.Common.{ℕ, zero, suc, ◌≡◌, ◌∙◌, ◌+◌, ◌-◌, ◌<◌, ◌≤◌, ◌⊎◌, true, false, length, Option, None, Some, inl, inr, refl, sym, ap, subst, arith, cond, nat_lt, eq-or-lt_of_le}
-use Rattle.automata_base.specs.Input.{Input}
-use Rattle.automata_base.specs.Paths.{next}
-use Rattle.automata_base.specs.Powerset.{Powerset}
-use Rattle.automata_base.specs.Tapes.{Direction, Forward, Backward}
+use Rattle.std.proofs.Common.{ℕ, zero, suc, ◌≡◌, ◌∙◌, ◌+◌, ◌-◌, ◌<◌, ◌≤◌, ◌⊎◌, true, false, length, Option, None, Some}
+use Rattle.std.proofs.Common.{inl, inr, refl, sym, ap, subst, arith, cond, nat_lt, eq-or-lt_of_le}
+use Rattle.automata_base.specs.Haystacks.Input.{Input}
+use Rattle.automata_base.specs.Paths.Paths.{next}
+use Rattle.automata_base.specs.Powersets.Powerset.{Powerset}
+use Rattle.automata_base.specs.Haystacks.Tapes.{Direction, Forward, Backward}
 use Rattle.automata_config.specs.Options.{minimum_bytes_per_state_of, minimum_cache_clear_count_of}
 use Rattle.automata_config.specs.declared.error.SearchError.{SearchError}
 use Rattle.automata_hybrid.specs.declared.dfa.progress.Progress.{Progress}
 use Rattle.automata_hybrid.specs.declared.dfa.progress.Searched.{Searched}
 use Rattle.automata_hybrid.specs.declared.dfa.row.Row.{Row}
 use Rattle.automata_base.specs.declared.util.search.Anchored.{Anchored}
-use Rattle.automata_hybrid.specs.Caches.{CacheView, counted, with_store}
-use Rattle.automata_hybrid.specs.Effects.{IsComputed, cleared_saving, grown}
-use Rattle.automata_hybrid.specs.Knowing.{KnowsUnit}
-use Rattle.automata_hybrid.specs.Ids.{unknown_id}
-use Rattle.automata_hybrid.specs.Machine.{Machine, slot_count}
-use Rattle.automata_hybrid.specs.Progressing.{finished, from_place, moved_to, progress_cleared, saturated, total_len, updated}
-use Rattle.automata_hybrid.specs.Reading.{IsStepTaken}
-use Rattle.automata_hybrid.specs.Searched.{AreUnitsRead, EndsAtLast, HasEndedBehind, HasItsStart, IsLeftAt, IsPassLeftAt, IsStoppedAt, IsUnitRead, before_last, with_search_ended, with_search_moved}
-use Rattle.automata_hybrid.specs.Searches.{HasReadNoQuit, IsUnitRefusal, Reads, given_up_offset, state_in, tape_in}
-use Rattle.automata_hybrid.specs.Slots.{slot_behind}
-use Rattle.automata_hybrid.specs.Starting.{IsStartAnswer, IsStartEffect, IsStartRefusedAt, known_start}
-use Rattle.automata_hybrid.specs.Stepping.{KnowsStep, quits_on, unit_class}
-use Rattle.automata_hybrid.specs.Stores.{IsKnownStart, Stored, with_next, with_searched}
-use Rattle.automata_hybrid.specs.Table.{Names}
-use Rattle.automata_hybrid.specs.Usage.{refuses_at, refuses_to_clear, short_of}
+use Rattle.automata_hybrid.specs.Cache.Caches.{CacheView, counted, with_store}
+use Rattle.automata_hybrid.specs.Cache.Changes.{IsComputed, cleared_saving, grown}
+use Rattle.automata_hybrid.specs.Searches.Cached.{KnowsUnit}
+use Rattle.automata_hybrid.specs.Cache.Ids.{unknown_id}
+use Rattle.automata_hybrid.specs.Machines.Machine.{Machine, slot_count}
+use Rattle.automata_hybrid.specs.Cache.Progress.{finished, from_place, moved_to, progress_cleared, saturated, total_len}
+use Rattle.automata_hybrid.specs.Cache.Progress.{updated}
+use Rattle.automata_hybrid.specs.Searches.Units.{IsStepTaken}
+use Rattle.automata_hybrid.specs.Searches.Progress.{AreUnitsRead, EndsAtLast, HasEndedBehind, HasItsStart, IsLeftAt}
+use Rattle.automata_hybrid.specs.Searches.Progress.{IsPassLeftAt, IsStoppedAt, IsUnitRead, before_last}
+use Rattle.automata_hybrid.specs.Searches.Progress.{with_search_ended, with_search_moved}
+use Rattle.automata_hybrid.specs.Searches.Passes.{HasReadNoQuit, IsUnitRefusal, Reads, given_up_offset, state_in}
+use Rattle.automata_hybrid.specs.Searches.Passes.{tape_in}
+use Rattle.automata_hybrid.specs.Machines.StartSlots.{slot_behind}
+use Rattle.automata_hybrid.specs.Steps.Starts.{IsStartAnswer, IsStartEffect, IsStartRefusedAt, known_start}
+use Rattle.automata_hybrid.specs.Steps.Steps.{KnowsStep, quits_on, unit_class}
+use Rattle.automata_hybrid.specs.Cache.Stores.{IsKnownStart, Stored, with_next, with_searched}
+use Rattle.automata_hybrid.specs.Cache.Table.{Names}
+use Rattle.automata_hybrid.specs.Cache.Usage.{refuses_at, refuses_to_clear, short_of}
 use Rattle.automata_hybrid.proofs.Searching.{lt_or_le, reads_before, state_more}
 
 -- a search that moves twice is where it moved last

@@ -1,21 +1,22 @@
 -- Where no quit byte is in reach, no clear limit is set and the mode is supported, a walk call fails by memory alone.
 use Rattle.std.proofs.Common.{ℕ, ◌≡◌, ◌≤◌, inl, inr, true, length, Some, None, refl, sym, ◌∙◌}
-use Rattle.automata_base.specs.Classes.{is_quit}
-use Rattle.automata_base.specs.Input.{Input}
-use Rattle.automata_base.specs.Paths.{next}
-use Rattle.automata_base.specs.Powerset.{Powerset}
-use Rattle.automata_base.specs.Tapes.{Direction}
-use Rattle.automata_base.specs.declared.util.search.MatchErrorKind.TheVariants.{Quit as QuitAt, GaveUp, UnsupportedAnchored as UnsupportedMode}
+use Rattle.automata_base.specs.ByteClasses.Classes.{is_quit}
+use Rattle.automata_base.specs.Haystacks.Input.{Input}
+use Rattle.automata_base.specs.Paths.Paths.{next}
+use Rattle.automata_base.specs.Powersets.Powerset.{Powerset}
+use Rattle.automata_base.specs.Haystacks.Tapes.{Direction}
+use Rattle.automata_base.specs.declared.util.search.MatchErrorKind.TheVariants.{Quit as QuitAt, GaveUp}
+use Rattle.automata_base.specs.declared.util.search.MatchErrorKind.TheVariants.{UnsupportedAnchored as UnsupportedMode}
 use Rattle.automata_config.specs.declared.error.StartError.TheVariants as start
 use Rattle.automata_config.specs.declared.error.SearchError.{SearchError}
 use Rattle.automata_config.specs.declared.error.SearchError.TheVariants as search
-use Rattle.automata_hybrid.specs.Stores.{Stored}
-use Rattle.automata_hybrid.specs.Machine.{Machine}
-use Rattle.automata_hybrid.specs.Searches.{IsStepRefusal, NoQuitInReach, tape_in}
-use Rattle.automata_hybrid.specs.Slots.{supports}
-use Rattle.automata_hybrid.specs.Starting.{IsStartRefusalAt}
-use Rattle.automata_hybrid.specs.Walking.{IsRefusalAt, IsResumeRefusal, IsWalkRefusal}
-use Rattle.automata_hybrid.specs.Walks.{At, Ended, Fresh, Ids, Keeping, Stage, States, Walk}
+use Rattle.automata_hybrid.specs.Cache.Stores.{Stored}
+use Rattle.automata_hybrid.specs.Machines.Machine.{Machine}
+use Rattle.automata_hybrid.specs.Searches.Passes.{IsStepRefusal, NoQuitInReach, tape_in}
+use Rattle.automata_hybrid.specs.Machines.StartSlots.{supports}
+use Rattle.automata_hybrid.specs.Steps.Starts.{IsStartRefusalAt}
+use Rattle.automata_hybrid.specs.Walks.Answers.{IsRefusalAt, IsResumeRefusal, IsWalkRefusal}
+use Rattle.automata_hybrid.specs.Walks.State.{At, Ended, Fresh, Ids, Keeping, Stage, States, Walk}
 use Rattle.automata_hybrid.proofs.Answering.{InReach, behind_reach, is_behind, no_limit, unit_reach}
 use Rattle.automata_hybrid.proofs.Searching.{false_true}
 use Rattle.automata_config.specs.Options.{minimum_cache_clear_count_of}

@@ -1,25 +1,29 @@
 -- What a call makes of a walk.
-use Rattle.std.proofs.Common.{ℕ, suc, ◌≡◌, ◌<◌, ◌≤◌, ◌+◌, ◌-◌, ◌⊎◌, ◌↔◌, inl, inr, Bool, false, List, [], ◌∷◌, ◌++◌, length, Some, None, refl, sym, ap, ap₂, ◌∙◌, subst, arith, length-append, get_or}
+use Rattle.std.proofs.Common.{ℕ, suc, ◌≡◌, ◌<◌, ◌≤◌, ◌+◌, ◌-◌, ◌⊎◌, ◌↔◌, inl, inr, Bool, false, List, [], ◌∷◌, ◌++◌}
+use Rattle.std.proofs.Common.{length, Some, None, refl, sym, ap, ap₂, ◌∙◌, subst, arith, length-append, get_or}
 use Rattle.std.specs.Prelude.{Err, IsTrue, Ok, OnErr, OnOk, Result}
-use Rattle.automata_base.specs.Answers.{offset_in}
-use Rattle.automata_base.specs.Input.{Input}
-use Rattle.automata_base.specs.Matches.{HalfMatch}
-use Rattle.automata_base.specs.Powerset.{Powerset}
-use Rattle.automata_base.specs.Selections.{Pair, at_place}
-use Rattle.automata_base.specs.Tapes.{Direction, is_split}
-use Rattle.automata_base.specs.Telling.{pairs_told}
+use Rattle.automata_base.specs.Answers.Answers.{offset_in}
+use Rattle.automata_base.specs.Haystacks.Input.{Input}
+use Rattle.automata_base.specs.Haystacks.Matches.{HalfMatch}
+use Rattle.automata_base.specs.Powersets.Powerset.{Powerset}
+use Rattle.automata_base.specs.Paths.Selections.{Pair, at_place}
+use Rattle.automata_base.specs.Haystacks.Tapes.{Direction, is_split}
+use Rattle.automata_base.specs.Retraced.Passes.{pairs_told}
 use Rattle.automata_base.proofs.Determinizing.ToldWalks.{walks_one}
-use Rattle.automata_hybrid.specs.Caches.{CacheView, counted}
-use Rattle.automata_hybrid.specs.Growing.{HasRoom, IsGrown}
-use Rattle.automata_hybrid.specs.Machine.{Machine}
-use Rattle.automata_hybrid.specs.Searches.{HasReadNoQuit, Skips, state_in, tape_in}
-use Rattle.automata_hybrid.specs.Starting.{MayStart}
-use Rattle.automata_hybrid.specs.Table.{Rows}
-use Rattle.automata_hybrid.specs.Walking.{AreWalked, Arrives, Finishes, HasItsState, HasTold, HasToldAll, HasToldAt, HasToldBy, IsRowState, Stands, TellsNext, WalkMeetsNoQuit, half_nth, start_count}
-use Rattle.automata_hybrid.specs.Walks.{At, Ended, Fresh, Stage, Walk, ended_walk, with_match, without_match}
+use Rattle.automata_hybrid.specs.Cache.Caches.{CacheView, counted}
+use Rattle.automata_hybrid.specs.Cache.Growth.{HasRoom, IsGrown}
+use Rattle.automata_hybrid.specs.Machines.Machine.{Machine}
+use Rattle.automata_hybrid.specs.Searches.Passes.{HasReadNoQuit, Skips, state_in, tape_in}
+use Rattle.automata_hybrid.specs.Steps.Starts.{MayStart}
+use Rattle.automata_hybrid.specs.Cache.Table.{Rows}
+use Rattle.automata_hybrid.specs.Walks.Answers.{AreWalked, Arrives, Finishes, HasItsState, HasTold, HasToldAll}
+use Rattle.automata_hybrid.specs.Walks.Answers.{HasToldAt, HasToldBy, IsRowState, Stands, TellsNext, WalkMeetsNoQuit}
+use Rattle.automata_hybrid.specs.Walks.Answers.{half_nth, start_count}
+use Rattle.automata_hybrid.specs.Walks.State.{At, Ended, Fresh, Stage, Walk, ended_walk, with_match, without_match}
 use Rattle.automata_hybrid.proofs.Growing.{clears_none, clears_none_back}
 use Rattle.automata_hybrid.proofs.Searching.{false_true, lt_or_le}
-use Rattle.automata_hybrid.proofs.Walked.{Begins, finish_all, half_at_place, half_behind, half_past, place_length, told_more, walked_all, walked_begin}
+use Rattle.automata_hybrid.proofs.Walked.{Begins, finish_all, half_at_place, half_behind, half_past, place_length}
+use Rattle.automata_hybrid.proofs.Walked.{told_more, walked_all, walked_begin}
 use Rattle.automata_config.specs.Options.{match_kind_of}
 
 pub fresh_at : (q : Powerset) → Fresh ≡ At q → ⊥

@@ -1,32 +1,35 @@
 -- The patterns that a walk puts into a set.
-use Rattle.std.proofs.Common.{ℕ, zero, suc, ◌≡◌, ◌<◌, ◌≤◌, ◌+◌, ◌-◌, ◌*◌, ◌⊎◌, ◌↔◌, inl, inr, Bool, true, false, List, [], ◌∷◌, length, take, set, Option, Some, None, refl, sym, ap, ap₂, ◌∙◌, ◌++◌, subst, arith, length-set}
+use Rattle.std.proofs.Common.{ℕ, zero, suc, ◌≡◌, ◌<◌, ◌≤◌, ◌+◌, ◌-◌, ◌*◌, ◌⊎◌, ◌↔◌, inl, inr, Bool, true, false, List}
+use Rattle.std.proofs.Common.{[], ◌∷◌, length, take, set, Option, Some, None, refl, sym, ap, ap₂, ◌∙◌, ◌++◌, subst}
+use Rattle.std.proofs.Common.{arith, length-set}
 use Rattle.std.proofs.lemmas.Bool.{cases_eq}
 use Rattle.std.proofs.lemmas.List.{get_or-set_other, get_or-set_same}
-use Rattle.automata_base.specs.Answers.{ArePatterns, ArePatternsFound, HasPattern, IsInput, first_alone}
-use Rattle.automata_base.specs.Engines.{engine_of}
-use Rattle.automata_base.specs.Input.{Input}
+use Rattle.automata_base.specs.Answers.Answers.{ArePatterns, ArePatternsFound, HasPattern, IsInput, first_alone}
+use Rattle.automata_base.specs.Nfas.Engines.{engine_of}
+use Rattle.automata_base.specs.Haystacks.Input.{Input}
 use Rattle.automata_base.specs.Lists.{In}
-use Rattle.automata_base.specs.Matches.{HalfMatch}
-use Rattle.automata_base.specs.Nodes.{nfa_of}
-use Rattle.automata_base.specs.Paths.{IsLookAcyclic}
-use Rattle.automata_base.specs.PatternSet.{has, members, members_from}
-use Rattle.automata_base.specs.Selections.{Pair}
-use Rattle.automata_base.specs.Tapes.{Forward}
-use Rattle.automata_base.specs.WalkLaws.{WalkIsRight}
+use Rattle.automata_base.specs.Haystacks.Matches.{HalfMatch}
+use Rattle.automata_base.specs.Nfas.Nodes.{nfa_of}
+use Rattle.automata_base.specs.Paths.Paths.{IsLookAcyclic}
+use Rattle.automata_base.specs.Haystacks.PatternSet.{has, members, members_from}
+use Rattle.automata_base.specs.Paths.Selections.{Pair}
+use Rattle.automata_base.specs.Haystacks.Tapes.{Forward}
+use Rattle.automata_base.specs.Laws.Walks.{WalkIsRight}
 use Rattle.automata_config.specs.Options.{match_kind_of}
 use Rattle.automata_base.proofs.Values.PatternsInSets.{members-few}
-use Rattle.automata_hybrid.specs.Stores.{Stored}
-use Rattle.automata_hybrid.specs.Caches.{CacheView}
-use Rattle.automata_hybrid.specs.Growing.{IsGrown}
-use Rattle.automata_hybrid.specs.Knowing.{KnowsItsStart}
-use Rattle.automata_hybrid.specs.KnowingWalks.{IsOpen, KnowsItsState, KnowsWalk, KnowsWhich}
-use Rattle.automata_hybrid.specs.Machine.{Machine, greatest}
-use Rattle.automata_base.specs.Powerset.{Powerset, cost}
-use Rattle.automata_hybrid.specs.SearchedWalks.{HaveCalled}
-use Rattle.automata_hybrid.specs.Searches.{tape_in}
-use Rattle.automata_hybrid.specs.Walking.{AreWalked, GoesOn, HasItsState, HasTold, HasToldAt, HasToldBy, TellsNext, half_nth, start_count}
-use Rattle.automata_hybrid.specs.Walks.{At, Ended, Fresh, Stage, Walk, fresh_walk}
-use Rattle.automata_hybrid.specs.Which.{IsJoined}
+use Rattle.automata_hybrid.specs.Cache.Stores.{Stored}
+use Rattle.automata_hybrid.specs.Cache.Caches.{CacheView}
+use Rattle.automata_hybrid.specs.Cache.Growth.{IsGrown}
+use Rattle.automata_hybrid.specs.Searches.Cached.{KnowsItsStart}
+use Rattle.automata_hybrid.specs.Walks.Cached.{IsOpen, KnowsItsState, KnowsWalk, KnowsWhich}
+use Rattle.automata_hybrid.specs.Machines.Machine.{Machine, greatest}
+use Rattle.automata_base.specs.Powersets.Powerset.{Powerset, cost}
+use Rattle.automata_hybrid.specs.Walks.Progress.{HaveCalled}
+use Rattle.automata_hybrid.specs.Searches.Passes.{tape_in}
+use Rattle.automata_hybrid.specs.Walks.Answers.{AreWalked, GoesOn, HasItsState, HasTold, HasToldAt, HasToldBy}
+use Rattle.automata_hybrid.specs.Walks.Answers.{TellsNext, half_nth, start_count}
+use Rattle.automata_hybrid.specs.Walks.State.{At, Ended, Fresh, Stage, Walk, fresh_walk}
+use Rattle.automata_hybrid.specs.Walks.Sets.{IsJoined}
 use Rattle.automata_hybrid.proofs.Searching.{false_true}
 use Rattle.automata_hybrid.proofs.Walked.{Begins, told_rises, walked_begin}
 use Rattle.automata_hybrid.proofs.Directions.{units_in}

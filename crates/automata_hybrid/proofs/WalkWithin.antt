@@ -1,16 +1,17 @@
 -- The pairs that walks report lie in their span.
-use Rattle.std.proofs.Common.{ℕ, zero, suc, ◌≡◌, ◌∙◌, ◌≤◌, inl, inr, List, [], ◌∷◌, Option, Some, None, length, refl, sym, ap}
+use Rattle.std.proofs.Common.{ℕ, zero, suc, ◌≡◌, ◌∙◌, ◌≤◌, inl, inr, List, [], ◌∷◌, Option, Some, None, length, refl}
+use Rattle.std.proofs.Common.{sym, ap}
 use Rattle.std.specs.Prelude.{Result, Ok, Err, IfSome, OnErr, OnOk}
-use Rattle.automata_base.specs.Input.{Input}
-use Rattle.automata_base.specs.Matches.{HalfMatch}
-use Rattle.automata_base.specs.Selections.{Pair}
-use Rattle.automata_base.specs.Tapes.{Direction}
-use Rattle.automata_base.specs.WalkLaws.{InPairs, WalksAreTold}
-use Rattle.automata_base.specs.Within.{WalkLiesWithin}
-use Rattle.automata_hybrid.specs.Machine.{Machine}
-use Rattle.automata_hybrid.specs.Walking.{IsWalkOf, TellsNext, half_nth}
-use Rattle.automata_hybrid.specs.Walks.{Walk, without_match}
-use Rattle.automata_hybrid.specs.Within.{LiesIn}
+use Rattle.automata_base.specs.Haystacks.Input.{Input}
+use Rattle.automata_base.specs.Haystacks.Matches.{HalfMatch}
+use Rattle.automata_base.specs.Paths.Selections.{Pair}
+use Rattle.automata_base.specs.Haystacks.Tapes.{Direction}
+use Rattle.automata_base.specs.Laws.Walks.{InPairs, WalksAreTold}
+use Rattle.automata_base.specs.Answers.Within.{WalkLiesWithin}
+use Rattle.automata_hybrid.specs.Machines.Machine.{Machine}
+use Rattle.automata_hybrid.specs.Walks.Answers.{IsWalkOf, TellsNext, half_nth}
+use Rattle.automata_hybrid.specs.Walks.State.{Walk, without_match}
+use Rattle.automata_hybrid.specs.Searches.Within.{LiesIn}
 use Rattle.automata_config.specs.Options.{match_kind_of}
 
 none_some : {A : Type 0} {a : A} → ◌≡◌ {A = Option A} None (Some a) → ⊥

@@ -1,16 +1,19 @@
 -- What a walk reports, unit by unit.
-use Rattle.std.proofs.Common.{ℕ, zero, suc, ◌≡◌, ◌<◌, ◌≤◌, ◌+◌, ◌⊎◌, inl, inr, Bool, true, false, cond, List, [], ◌∷◌, ◌++◌, length, Some, None, refl, sym, ap, ap₂, ◌∙◌, subst, arith, length-append, eq-or-lt_of_le, get_or}
-use Rattle.automata_base.specs.Answers.{AreUnsplit, offset_in, with_offsets, without_split}
-use Rattle.automata_base.specs.Classes.{is_quit}
-use Rattle.automata_base.specs.Input.{Input}
-use Rattle.automata_base.specs.Paths.{next}
-use Rattle.automata_base.specs.Powerset.{Powerset, dead}
-use Rattle.automata_base.specs.Selections.{Pair, at_place}
-use Rattle.automata_base.specs.Tapes.{Direction, is_split}
-use Rattle.automata_base.specs.Telling.{pairs_told}
-use Rattle.automata_hybrid.specs.Machine.{Machine}
-use Rattle.automata_hybrid.specs.Searches.{HasReadNoQuit, Skips, state_in, tape_in}
-use Rattle.automata_hybrid.specs.Walking.{AreWalked, Finishes, HasToldBy, IsSilent, WalkMeetsNoQuit, WalkReads, half_nth, pairs_in}
+use Rattle.std.proofs.Common.{ℕ, zero, suc, ◌≡◌, ◌<◌, ◌≤◌, ◌+◌, ◌⊎◌, inl, inr, Bool, true, false, cond, List, [], ◌∷◌}
+use Rattle.std.proofs.Common.{◌++◌, length, Some, None, refl, sym, ap, ap₂, ◌∙◌, subst, arith, length-append}
+use Rattle.std.proofs.Common.{eq-or-lt_of_le, get_or}
+use Rattle.automata_base.specs.Answers.Answers.{AreUnsplit, offset_in, with_offsets, without_split}
+use Rattle.automata_base.specs.ByteClasses.Classes.{is_quit}
+use Rattle.automata_base.specs.Haystacks.Input.{Input}
+use Rattle.automata_base.specs.Paths.Paths.{next}
+use Rattle.automata_base.specs.Powersets.Powerset.{Powerset, dead}
+use Rattle.automata_base.specs.Paths.Selections.{Pair, at_place}
+use Rattle.automata_base.specs.Haystacks.Tapes.{Direction, is_split}
+use Rattle.automata_base.specs.Retraced.Passes.{pairs_told}
+use Rattle.automata_hybrid.specs.Machines.Machine.{Machine}
+use Rattle.automata_hybrid.specs.Searches.Passes.{HasReadNoQuit, Skips, state_in, tape_in}
+use Rattle.automata_hybrid.specs.Walks.Answers.{AreWalked, Finishes, HasToldBy, IsSilent, WalkMeetsNoQuit, WalkReads}
+use Rattle.automata_hybrid.specs.Walks.Answers.{half_nth, pairs_in}
 use Rattle.automata_hybrid.proofs.Searching.{dead_more, lt_or_le}
 
 -- lists joined

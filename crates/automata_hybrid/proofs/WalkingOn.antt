@@ -1,26 +1,29 @@
 -- One call of a walk that reads units: what it makes of its cache.
-use Rattle.std.proofs.Common.{ℕ, suc, ◌≡◌, ◌∙◌, ◌+◌, ◌-◌, ◌≤◌, ◌<◌, ◌⊎◌, inr, false, length, None, refl, sym, ap, subst, arith}
+use Rattle.std.proofs.Common.{ℕ, suc, ◌≡◌, ◌∙◌, ◌+◌, ◌-◌, ◌≤◌, ◌<◌, ◌⊎◌, inr, false, length, None, refl, sym, ap, subst}
+use Rattle.std.proofs.Common.{arith}
 use Rattle.std.specs.Prelude.{Err, Ok}
-use Rattle.automata_base.specs.Answers.{offset_in}
-use Rattle.automata_base.specs.Input.{Input}
-use Rattle.automata_base.specs.Tapes.{Direction, is_split}
+use Rattle.automata_base.specs.Answers.Answers.{offset_in}
+use Rattle.automata_base.specs.Haystacks.Input.{Input}
+use Rattle.automata_base.specs.Haystacks.Tapes.{Direction, is_split}
 use Rattle.automata_config.specs.declared.error.SearchError.TheVariants as search
-use Rattle.automata_hybrid.specs.Caches.{CacheView, with_store}
-use Rattle.automata_hybrid.specs.Growing.{ClearedNothing, IsGrown}
-use Rattle.automata_hybrid.specs.KnowingWalks.{HasLearnedUnits, IsToRead, KnowsItsState, KnowsUnits, KnowsWalk}
-use Rattle.automata_hybrid.specs.Machine.{Machine}
-use Rattle.automata_hybrid.specs.OwingWalks.{IsCallEffect}
-use Rattle.automata_hybrid.specs.Progressing.{finished, started}
-use Rattle.automata_hybrid.specs.Resuming.{IsAdvanceEffect, IsCallRefused, IsResumeAnswer, IsResumeEffect}
-use Rattle.automata_hybrid.specs.Searched.{AreUnitsRead, HasEndedBehind, with_search_begun}
-use Rattle.automata_hybrid.specs.SearchedWalks.{IsCallStopped}
-use Rattle.automata_hybrid.specs.Searches.{HasReadNoQuit, Skips, given_up_offset, state_in}
-use Rattle.automata_hybrid.specs.Stores.{Stored, with_searched}
-use Rattle.automata_hybrid.specs.Walking.{Arrives, HasItsState, HasTold, HasToldBy, IsArrival, IsSilent, IsUnheld, IsWalkOf, WalkReads, start_count}
-use Rattle.automata_hybrid.specs.Walks.{Ended, Keeping, States, Walk}
+use Rattle.automata_hybrid.specs.Cache.Caches.{CacheView, with_store}
+use Rattle.automata_hybrid.specs.Cache.Growth.{ClearedNothing, IsGrown}
+use Rattle.automata_hybrid.specs.Walks.Cached.{HasLearnedUnits, IsToRead, KnowsItsState, KnowsUnits, KnowsWalk}
+use Rattle.automata_hybrid.specs.Machines.Machine.{Machine}
+use Rattle.automata_hybrid.specs.Walks.Contracts.{IsCallEffect}
+use Rattle.automata_hybrid.specs.Cache.Progress.{finished, started}
+use Rattle.automata_hybrid.specs.Walks.Parts.{IsAdvanceEffect, IsCallRefused, IsResumeAnswer, IsResumeEffect}
+use Rattle.automata_hybrid.specs.Searches.Progress.{AreUnitsRead, HasEndedBehind, with_search_begun}
+use Rattle.automata_hybrid.specs.Walks.Progress.{IsCallStopped}
+use Rattle.automata_hybrid.specs.Searches.Passes.{HasReadNoQuit, Skips, given_up_offset, state_in}
+use Rattle.automata_hybrid.specs.Cache.Stores.{Stored, with_searched}
+use Rattle.automata_hybrid.specs.Walks.Answers.{Arrives, HasItsState, HasTold, HasToldBy, IsArrival, IsSilent, IsUnheld}
+use Rattle.automata_hybrid.specs.Walks.Answers.{IsWalkOf, WalkReads, start_count}
+use Rattle.automata_hybrid.specs.Walks.State.{Ended, Keeping, States, Walk}
 use Rattle.automata_hybrid.specs.declared.search.advance.Arrival.{Arrival}
 use Rattle.automata_hybrid.proofs.Growing.{grown_after, grown_moved, grown_trans, nothing_second}
-use Rattle.automata_hybrid.proofs.KnowingWalks.{has_state, nothing_after, state_still, unit_knows, units_all, units_moved}
+use Rattle.automata_hybrid.proofs.KnowingWalks.{has_state, nothing_after, state_still, unit_knows, units_all}
+use Rattle.automata_hybrid.proofs.KnowingWalks.{units_moved}
 use Rattle.automata_hybrid.proofs.Resuming.{refused_on}
 use Rattle.automata_hybrid.proofs.SearchedWalks.{reads_some, walk_reads_before}
 use Rattle.automata_hybrid.proofs.UnitsRead.{ended_here}

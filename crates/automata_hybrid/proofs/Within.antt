@@ -1,16 +1,16 @@
 -- Answers lie in their span.
 use Rattle.std.proofs.Common.{ℕ, ◌≡◌, ◌≤◌, Option, Some, None, length, sym, subst}
 use Rattle.std.specs.Prelude.{Result, Ok, Err, IfOk, IfSome, option_map}
-use Rattle.automata_base.specs.Answers.{Half}
-use Rattle.automata_base.specs.Input.{Input}
-use Rattle.automata_base.specs.Matches.{HalfMatch}
-use Rattle.automata_base.specs.Tapes.{Direction, Forward}
-use Rattle.automata_base.specs.Within.{IsInSpan, ToldLiesWithin}
+use Rattle.automata_base.specs.Answers.Answers.{Half}
+use Rattle.automata_base.specs.Haystacks.Input.{Input}
+use Rattle.automata_base.specs.Haystacks.Matches.{HalfMatch}
+use Rattle.automata_base.specs.Haystacks.Tapes.{Direction, Forward}
+use Rattle.automata_base.specs.Answers.Within.{IsInSpan, ToldLiesWithin}
 use Rattle.automata_base.proofs.Determinizing.Within.{told_within}
 use Rattle.automata_config.specs.declared.error.SearchError.{SearchError}
-use Rattle.automata_hybrid.specs.Machine.{Machine}
-use Rattle.automata_hybrid.specs.Searches.{IsFound, WithoutBase, with_base, without_base}
-use Rattle.automata_hybrid.specs.Within.{LiesIn, LiesPast}
+use Rattle.automata_hybrid.specs.Machines.Machine.{Machine}
+use Rattle.automata_hybrid.specs.Searches.Passes.{IsFound, WithoutBase, with_base, without_base}
+use Rattle.automata_hybrid.specs.Searches.Within.{LiesIn, LiesPast}
 use Rattle.automata_hybrid.proofs.Skipping.{found_told}
 use Rattle.automata_config.specs.Options.{match_kind_of}
 

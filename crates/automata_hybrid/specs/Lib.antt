@@ -1,37 +1,20 @@
-pub mod Ids
-pub mod Owned
-pub mod DFAs
-pub mod Machine
-pub mod Table
-pub mod Clears
-pub mod Progressing
-pub mod Stores
-pub mod Usage
-pub mod Effects
-pub mod Builds
-pub mod Caches
-pub mod Growing
-pub mod Starting
-pub mod Stepping
-pub mod Slots
-pub mod Founds
+-- The definitions by subject, in the order in which a reader needs them. To learn what a call promises, begin with the
+-- record that its contract names, and follow what its fields name:
+--
+--     what a search returns, and does to its cache         Searches.Contracts: IsHalf, IsBased, IsSearchEffect
+--     what a call of a walk returns, and does              Walks.Contracts: IsWalkCall, IsCallEffect
+--     what a set of patterns is joined with                Walks.Contracts: IsWhich, IsWhichEffect; Walks.SetsByPaths
+--     what a step returns, when it fails, what it does     Steps.Steps: IsStepAnswer, IsStepRefused, IsStepEffect
+--     the same of a start state                            Steps.Starts: IsStartAnswer, IsStartRefused, IsStartEffect
+--     a search by steps                                    Steps.BySteps: HoldsRow, StandsAt, IsStepAt
+--     how much memory, and when a clear is allowed         Cache.Usage: usage, Fits, refuses_to_clear
+--     what every call keeps of a cache                     Cache.Growth: IsGrown
+--     which progress is left                               Searches.Progress, Walks.Progress
+--
+-- What a DFA is stands in Machines; what its cache is, in Cache.Table and Cache.Stores. The functions below the public
+-- calls alone use Searches.PassState, Searches.PassContracts, Searches.Units, Searches.SelfLoops and Walks.Parts.
+pub mod Machines
+pub mod Cache
+pub mod Steps
 pub mod Searches
-pub mod Searched
-pub mod Costs
-pub mod Knowing
-pub mod Passing
-pub mod SelfLoops
-pub mod Reading
-pub mod Passed
 pub mod Walks
-pub mod Walking
-pub mod KnowingWalks
-pub mod Agreeing
-pub mod SearchedWalks
-pub mod Which
-pub mod Within
-pub mod Owing
-pub mod OwingWalks
-pub mod Resuming
-pub mod Standing
-pub mod Accepting

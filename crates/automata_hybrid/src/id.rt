@@ -1,5 +1,6 @@
 ghost use Rattle.std.specs.Prelude.{◌≡◌, ◌+◌, ◌*◌, ◌%◌, ◌-◌, ◌<◌, ◌≤◌, ◌↔◌, IsTrue, IsBitSet};
-ghost use Rattle.automata_hybrid.specs.Ids.{tags, unknown_id, dead_id, quit_id, fixed_from, offset_limit, HasOnly};
+ghost use Rattle.automata_hybrid.specs.Cache.Ids.{tags, unknown_id, dead_id, quit_id, fixed_from, offset_limit};
+ghost use Rattle.automata_hybrid.specs.Cache.Ids.{HasOnly};
 
 use std::marker::Model;
 

@@ -1,9 +1,9 @@
 //! Laws that searches and walks stand on. The contract of each function is the law; what it does is to cite others.
-ghost use Rattle.automata_hybrid.specs.Accepting.{SetsHaveMatching};
-ghost use Rattle.automata_hybrid.specs.Agreeing.{AnswersAgree, WalksAgree};
-ghost use Rattle.automata_hybrid.specs.Costs.{SearchesCostFew};
-ghost use Rattle.automata_hybrid.specs.Knowing.{KnownStays};
-ghost use Rattle.automata_hybrid.specs.Standing.{FirstMatchIsFound};
+ghost use Rattle.automata_hybrid.specs.Walks.SetsByPaths.{SetsHaveMatching};
+ghost use Rattle.automata_hybrid.specs.Searches.Agreement.{AnswersAgree, WalksAgree};
+ghost use Rattle.automata_hybrid.specs.Searches.Costs.{SearchesCostFew};
+ghost use Rattle.automata_hybrid.specs.Searches.Cached.{KnownStays};
+ghost use Rattle.automata_hybrid.specs.Steps.BySteps.{FirstMatchIsFound};
 
 use crate::dfa::DFA;
 use automata_base::laws::{passes_tell_paths, told_is_right, walk_is_right};

@@ -1,23 +1,24 @@
 -- Searches over two lazy DFAs find one match.
-use Rattle.std.proofs.Common.{ℕ, ◌≡◌, ◌∙◌, ◌⊎◌, inl, inr, Bool, true, false, Option, Some, None, refl, sym, ap, ap₂, subst}
+use Rattle.std.proofs.Common.{ℕ, ◌≡◌, ◌∙◌, ◌⊎◌, inl, inr, Bool, true, false, Option, Some, None, refl, sym, ap, ap₂}
+use Rattle.std.proofs.Common.{subst}
 use Rattle.std.specs.Prelude.{is_some}
-use Rattle.automata_base.specs.Answers.{Half}
-use Rattle.automata_base.specs.Engines.{Engine, engine_of}
-use Rattle.automata_base.specs.Input.{Input}
-use Rattle.automata_base.specs.Matches.{Match}
-use Rattle.automata_base.specs.Nodes.{Automaton}
-use Rattle.automata_base.specs.Spans.{FindsStartBy, back, in_full}
-use Rattle.automata_base.specs.Tapes.{Backward, Forward}
-use Rattle.automata_base.specs.Told.{IsTold, ToldIsOne}
+use Rattle.automata_base.specs.Answers.Answers.{Half}
+use Rattle.automata_base.specs.Nfas.Engines.{Engine, engine_of}
+use Rattle.automata_base.specs.Haystacks.Input.{Input}
+use Rattle.automata_base.specs.Haystacks.Matches.{Match}
+use Rattle.automata_base.specs.Nfas.Nodes.{Automaton}
+use Rattle.automata_base.specs.Answers.Spans.{FindsStartBy, back, in_full}
+use Rattle.automata_base.specs.Haystacks.Tapes.{Backward, Forward}
+use Rattle.automata_base.specs.Answers.OfPasses.{IsTold, ToldIsOne}
 use Rattle.automata_base.specs.declared.util.search.MatchKind.{MatchKind}
-use Rattle.automata_hybrid.specs.Agreeing.{AnswersAgree}
-use Rattle.automata_hybrid.specs.Machine.{Machine}
-use Rattle.automata_hybrid.specs.Searches.{IsFound, Skips}
+use Rattle.automata_hybrid.specs.Searches.Agreement.{AnswersAgree}
+use Rattle.automata_hybrid.specs.Machines.Machine.{Machine}
+use Rattle.automata_hybrid.specs.Searches.Passes.{IsFound, Skips}
 use Rattle.automata_hybrid.proofs.Skipping.{found_told}
-use Rattle.regex_automata.specs.Agreeing.{AreAlike, MatchesAgree, TruthIffFound, TruthsAgree}
-use Rattle.regex_automata.specs.Matching.{IsMatchTold}
-use Rattle.regex_automata.specs.Outcomes.{FindsMatch, IsStartFound}
-use Rattle.regex_automata.specs.SoundPairs.{forward_engine}
+use Rattle.regex_automata.specs.Spans.Agreement.{AreAlike, MatchesAgree, TruthIffFound, TruthsAgree}
+use Rattle.regex_automata.specs.Spans.IsMatch.{IsMatchTold}
+use Rattle.regex_automata.specs.Spans.Outcomes.{FindsMatch, IsStartFound}
+use Rattle.regex_automata.specs.Regexes.SoundPairs.{forward_engine}
 use Rattle.regex_automata.specs.declared.hybrid.regex.Regex.{Regex}
 use Rattle.regex_automata.proofs.Matching.{match_told}
 use Rattle.regex_automata.proofs.Results.{none_some, same_some, some_none}

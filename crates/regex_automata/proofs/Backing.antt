@@ -1,20 +1,21 @@
 -- With one quit set the search back meets no quit byte; and by no search alone two DFAs are no pair.
-use Rattle.std.proofs.Common.{ℕ, ◌≡◌, ◌∙◌, ◌+◌, ◌-◌, ◌≤◌, ◌⊎◌, inl, inr, Bool, true, false, cond, List, length, Option, Some, None, refl, sym, subst, arith}
-use Rattle.automata_base.specs.Answers.{Half, later}
-use Rattle.automata_base.specs.Classes.{is_quit}
-use Rattle.automata_base.specs.Input.{Input}
-use Rattle.automata_base.specs.Spans.{back}
-use Rattle.automata_base.specs.StartIsRight.{BackMeetsNone}
-use Rattle.automata_base.specs.Tapes.{Direction, Forward, Backward, MeetsNone, forward_tape, reverse_tape}
+use Rattle.std.proofs.Common.{ℕ, ◌≡◌, ◌∙◌, ◌+◌, ◌-◌, ◌≤◌, ◌⊎◌, inl, inr, Bool, true, false, cond, List, length, Option}
+use Rattle.std.proofs.Common.{Some, None, refl, sym, subst, arith}
+use Rattle.automata_base.specs.Answers.Answers.{Half, later}
+use Rattle.automata_base.specs.ByteClasses.Classes.{is_quit}
+use Rattle.automata_base.specs.Haystacks.Input.{Input}
+use Rattle.automata_base.specs.Answers.Spans.{back}
+use Rattle.automata_base.specs.Laws.StartIsRight.{BackMeetsNone}
+use Rattle.automata_base.specs.Haystacks.Tapes.{Direction, Forward, Backward, MeetsNone, forward_tape, reverse_tape}
 use Rattle.automata_base.specs.declared.util.search.Anchored.{Anchored}
 use Rattle.automata_base.specs.declared.util.search.Anchored.TheVariants.{No, Yes}
 use Rattle.automata_base.specs.declared.util.search.MatchErrorKind.TheVariants.{Quit as QuitAt}
 use Rattle.automata_config.specs.declared.error.StartError.TheVariants as start
 use Rattle.automata_config.specs.declared.error.SearchError.TheVariants as search
-use Rattle.automata_hybrid.specs.Stores.{Stored}
-use Rattle.automata_hybrid.specs.Machine.{Machine}
-use Rattle.automata_hybrid.specs.Searches.{IsFound, IsPassRefusal, IsRefused, Skips, tape_in}
-use Rattle.automata_hybrid.specs.Starting.{quit_behind}
+use Rattle.automata_hybrid.specs.Cache.Stores.{Stored}
+use Rattle.automata_hybrid.specs.Machines.Machine.{Machine}
+use Rattle.automata_hybrid.specs.Searches.Passes.{IsFound, IsPassRefusal, IsRefused, Skips, tape_in}
+use Rattle.automata_hybrid.specs.Steps.Starts.{quit_behind}
 use Rattle.regex_automata.proofs.Results.{none_some, same_some, some_none}
 use Rattle.regex_automata.proofs.Telling.{told_reads, units}
 

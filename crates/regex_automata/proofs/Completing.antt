@@ -1,8 +1,9 @@
 -- The tokens that a loop over them collects.
-use Rattle.std.proofs.Common.{ℕ, ◌≡◌, ◌∙◌, ◌≤◌, ◌⊎◌, inl, inr, Bool, true, false, List, [], ◌∷◌, ◌++◌, append_assoc, append-nil, Option, sym, ap, subst, arith}
+use Rattle.std.proofs.Common.{ℕ, ◌≡◌, ◌∙◌, ◌≤◌, ◌⊎◌, inl, inr, Bool, true, false, List, [], ◌∷◌, ◌++◌, append_assoc}
+use Rattle.std.proofs.Common.{append-nil, Option, sym, ap, subst, arith}
 use Rattle.std.specs.Prelude.{Result, Ok}
-use Rattle.automata_base.specs.Matches.{Match}
-use Rattle.automata_hybrid.specs.Machine.{Machine}
+use Rattle.automata_base.specs.Haystacks.Matches.{Match}
+use Rattle.automata_hybrid.specs.Machines.Machine.{Machine}
 use Rattle.regex_automata.specs.Tokens.{AreGiven, IsItemAt}
 use Rattle.regex_automata.specs.declared.hybrid.regex.Regex.{Regex}
 use Rattle.regex_automata.specs.declared.tokens.error.TokenError.{TokenError}

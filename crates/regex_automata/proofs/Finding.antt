@@ -2,28 +2,28 @@
 use Rattle.std.specs.Prelude.{IfSome}
 use Rattle.std.proofs.Common.{ℕ, ◌≡◌, ◌∙◌, ◌+◌, ◌-◌, ◌≤◌, inr, length, Option, Some, None, refl, sym, ap, subst, arith}
 use Rattle.std.specs.Option.{option_map}
-use Rattle.automata_base.specs.Answers.{Half}
-use Rattle.automata_base.specs.Input.{Input}
-use Rattle.automata_base.specs.Matches.{HalfMatch, Match}
-use Rattle.automata_base.specs.Spans.{IsShort, back}
-use Rattle.automata_base.specs.Tapes.{Backward, Forward}
+use Rattle.automata_base.specs.Answers.Answers.{Half}
+use Rattle.automata_base.specs.Haystacks.Input.{Input}
+use Rattle.automata_base.specs.Haystacks.Matches.{HalfMatch, Match}
+use Rattle.automata_base.specs.Answers.Spans.{IsShort, back}
+use Rattle.automata_base.specs.Haystacks.Tapes.{Backward, Forward}
 use Rattle.automata_base.specs.declared.util.search.Anchored.{Anchored}
 use Rattle.automata_base.specs.declared.util.search.Anchored.TheVariants.{No, Yes}
-use Rattle.automata_hybrid.specs.Agreeing.{AnswersAgree}
-use Rattle.automata_hybrid.specs.Caches.{CacheView}
-use Rattle.automata_hybrid.specs.Costs.{IsCostOfSearch}
-use Rattle.automata_hybrid.specs.Growing.{IsGrown}
-use Rattle.automata_hybrid.specs.Knowing.{Knows, KnowsItsStart}
-use Rattle.automata_hybrid.specs.Machine.{Machine}
-use Rattle.automata_hybrid.specs.Searches.{IsFound, NoQuitInReach, Skips, WithoutBase, with_base}
-use Rattle.automata_hybrid.specs.Within.{LiesPast}
+use Rattle.automata_hybrid.specs.Searches.Agreement.{AnswersAgree}
+use Rattle.automata_hybrid.specs.Cache.Caches.{CacheView}
+use Rattle.automata_hybrid.specs.Searches.Costs.{IsCostOfSearch}
+use Rattle.automata_hybrid.specs.Cache.Growth.{IsGrown}
+use Rattle.automata_hybrid.specs.Searches.Cached.{Knows, KnowsItsStart}
+use Rattle.automata_hybrid.specs.Machines.Machine.{Machine}
+use Rattle.automata_hybrid.specs.Searches.Passes.{IsFound, NoQuitInReach, Skips, WithoutBase, with_base}
+use Rattle.automata_hybrid.specs.Searches.Within.{LiesPast}
 use Rattle.automata_hybrid.proofs.Costing.{cost_known, cost_once}
 use Rattle.automata_hybrid.proofs.Growing.{clears_none}
 use Rattle.automata_hybrid.proofs.Within.{found_within}
-use Rattle.regex_automata.specs.Costs.{IsBackCost, IsPassCost, KnowsBackStart}
-use Rattle.regex_automata.specs.Outcomes.{FindsMatch, IsStartFound, MatchLiesIn}
-use Rattle.regex_automata.specs.RegexCaches.{KnowsBack, KnowsBoth}
-use Rattle.regex_automata.specs.SoundPairs.{forward_engine}
+use Rattle.regex_automata.specs.Spans.Costs.{IsBackCost, IsPassCost, KnowsBackStart}
+use Rattle.regex_automata.specs.Spans.Outcomes.{FindsMatch, IsStartFound, MatchLiesIn}
+use Rattle.regex_automata.specs.Regexes.Caches.{KnowsBack, KnowsBoth}
+use Rattle.regex_automata.specs.Regexes.SoundPairs.{forward_engine}
 use Rattle.regex_automata.specs.declared.hybrid.regex.Regex.{Regex}
 use Rattle.regex_automata.specs.declared.hybrid.regex.caches.Cache.{Cache}
 use Rattle.regex_automata.proofs.Results.{none_some, same_some, some_none}

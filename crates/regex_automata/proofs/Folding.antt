@@ -1,10 +1,11 @@
 -- Replies one after another.
-use Rattle.std.proofs.Common.{◌≡◌, ◌∙◌, ℕ, zero, suc, ◌+◌, ◌<◌, ◌≤◌, List, [], ◌∷◌, ◌++◌, length, drop, get_or, append_assoc, append-nil, add-one, ap, arith, drop-cons, Some, refl, subst, sym}
+use Rattle.std.proofs.Common.{◌≡◌, ◌∙◌, ℕ, zero, suc, ◌+◌, ◌<◌, ◌≤◌, List, [], ◌∷◌, ◌++◌, length, drop, get_or}
+use Rattle.std.proofs.Common.{append_assoc, append-nil, add-one, ap, arith, drop-cons, Some, refl, subst, sym}
 use Rattle.std.proofs.Math.ListN.{drop_of_length-le}
-use Rattle.regex_automata.specs.Histories.{History, start, after}
-use Rattle.regex_automata.specs.RegexCaches.{AreFresh}
-use Rattle.regex_automata.specs.ReplayCaches.{AreAnswered, AreAnsweredAfter, AreMade}
-use Rattle.regex_automata.specs.Replies.{IsReply, AreReplies, AreRepliesAfter}
+use Rattle.regex_automata.specs.Replay.Histories.{History, start, after}
+use Rattle.regex_automata.specs.Regexes.Caches.{AreFresh}
+use Rattle.regex_automata.specs.Replay.Caches.{AreAnswered, AreAnsweredAfter, AreMade}
+use Rattle.regex_automata.specs.Replay.Replies.{IsReply, AreReplies, AreRepliesAfter}
 use Rattle.automata_base.specs.Lists.{nth}
 use Rattle.regex_automata.specs.declared.hybrid.regex.caches.Cache.{Cache}
 use Rattle.regex_automata.proofs.Results.{same_some}

@@ -1,17 +1,19 @@
 -- One item after another.
-use Rattle.std.proofs.Common.{ℕ, ◌≡◌, ◌∙◌, ◌+◌, ◌-◌, ◌<◌, ◌≤◌, Bool, true, false, cond, eqb, eq-eqb, eqb-true, Option, Some, None, refl, sym, ap, subst, arith}
+use Rattle.std.proofs.Common.{ℕ, ◌≡◌, ◌∙◌, ◌+◌, ◌-◌, ◌<◌, ◌≤◌, Bool, true, false, cond, eqb, eq-eqb, eqb-true, Option}
+use Rattle.std.proofs.Common.{Some, None, refl, sym, ap, subst, arith}
 use Rattle.std.specs.Prelude.{Result, Ok, Err, IfErr, IfSome, IsOk}
-use Rattle.automata_base.specs.Input.{Input}
-use Rattle.automata_base.specs.Matches.{Match}
-use Rattle.automata_base.specs.Spans.{from}
-use Rattle.automata_base.specs.Tapes.{Forward}
+use Rattle.automata_base.specs.Haystacks.Input.{Input}
+use Rattle.automata_base.specs.Haystacks.Matches.{Match}
+use Rattle.automata_base.specs.Answers.Spans.{from}
+use Rattle.automata_base.specs.Haystacks.Tapes.{Forward}
 use Rattle.automata_config.specs.declared.error.SearchError.{SearchError}
-use Rattle.automata_hybrid.specs.Owing.{IsUnsupported, unsupported_error}
-use Rattle.regex_automata.specs.Iterating.{GivesItem, GoesPast, IsNextMatch, IsNextRefusal, KnowsNext, LearnsItem, most_items}
-use Rattle.regex_automata.specs.Outcomes.{MatchLiesIn}
-use Rattle.regex_automata.specs.Owing.{TellsUnsupported}
-use Rattle.regex_automata.specs.RegexCaches.{AreStill, NothingCleared}
-use Rattle.regex_automata.specs.RegexRefusals.{IsOfGiven}
+use Rattle.automata_hybrid.specs.Searches.Contracts.{IsUnsupported, unsupported_error}
+use Rattle.regex_automata.specs.Spans.Iteration.{GivesItem, GoesPast, IsNextMatch, IsNextRefusal, KnowsNext, LearnsItem}
+use Rattle.regex_automata.specs.Spans.Iteration.{most_items}
+use Rattle.regex_automata.specs.Spans.Outcomes.{MatchLiesIn}
+use Rattle.regex_automata.specs.Spans.Contracts.{TellsUnsupported}
+use Rattle.regex_automata.specs.Regexes.Caches.{AreStill, NothingCleared}
+use Rattle.regex_automata.specs.Spans.Errors.{IsOfGiven}
 use Rattle.regex_automata.specs.declared.hybrid.regex.Regex.{Regex}
 use Rattle.regex_automata.specs.declared.hybrid.regex.caches.Cache.{Cache}
 use Rattle.regex_automata.proofs.Backing.{false_true}

@@ -1,9 +1,10 @@
 -- The walks that a replay keeps, beside those of the history.
-use Rattle.std.proofs.Common.{◌≡◌, ℕ, zero, suc, ◌<◌, ◌≤◌, List, [], ◌∷◌, ◌++◌, length, get_or, refl, sym, ◌∙◌, ap, arith, subst, Some, None}
+use Rattle.std.proofs.Common.{◌≡◌, ℕ, zero, suc, ◌<◌, ◌≤◌, List, [], ◌∷◌, ◌++◌, length, get_or, refl, sym, ◌∙◌, ap}
+use Rattle.std.proofs.Common.{arith, subst, Some, None}
 use Rattle.std.proofs.Math.ListN.{set}
 use Rattle.automata_base.specs.Lists.{nth}
-use Rattle.regex_automata.specs.Histories.{Begun, stepped, step_at}
-use Rattle.regex_automata.specs.Players.{IsWalk, AreWalks}
+use Rattle.regex_automata.specs.Replay.Histories.{Begun, stepped, step_at}
+use Rattle.regex_automata.specs.Replay.Players.{IsWalk, AreWalks}
 use Rattle.regex_automata.specs.declared.hybrid.regex.Regex.{Regex}
 use Rattle.regex_automata.specs.declared.replay.walks.KeptWalk.{KeptWalk}
 use Rattle.regex_automata.proofs.Results.{same_some}

@@ -1,16 +1,18 @@
 -- The matches that a replay lists, and why the next one fails.
-use Rattle.std.proofs.Common.{◌≡◌, ◌∙◌, ◌⊎◌, ◌≤◌, ℕ, suc, arith, Bool, Result, Ok, true, false, List, [], ◌∷◌, Option, Some, None, Err, IfSome, inl, inr, ap, subst, sym}
-use Rattle.automata_base.specs.Input.{Input}
-use Rattle.automata_base.specs.Matches.{Match}
-use Rattle.automata_base.specs.Spans.{from}
-use Rattle.automata_base.specs.Tapes.{Forward}
+use Rattle.std.proofs.Common.{◌≡◌, ◌∙◌, ◌⊎◌, ◌≤◌, ℕ, suc, arith, Bool, Result, Ok, true, false, List, [], ◌∷◌, Option}
+use Rattle.std.proofs.Common.{Some, None, Err, IfSome, inl, inr, ap, subst, sym}
+use Rattle.automata_base.specs.Haystacks.Input.{Input}
+use Rattle.automata_base.specs.Haystacks.Matches.{Match}
+use Rattle.automata_base.specs.Answers.Spans.{from}
+use Rattle.automata_base.specs.Haystacks.Tapes.{Forward}
 use Rattle.automata_config.specs.declared.error.SearchError.{SearchError}
-use Rattle.automata_hybrid.specs.Owing.{IsMemory, IsUnsupported, unsupported_error}
-use Rattle.regex_automata.specs.Iterating.{GivesItem, IsNextRefusal}
-use Rattle.regex_automata.specs.Outcomes.{FindsMatch}
-use Rattle.regex_automata.specs.Owing.{AreStoresOf, IsRefusedBehind, MayRefuseNext, TellsUnsupported, end_behind, place_behind}
-use Rattle.regex_automata.specs.RegexRefusals.{IsFree}
-use Rattle.regex_automata.specs.SoundPairs.{IsSoundPair}
+use Rattle.automata_hybrid.specs.Searches.Contracts.{IsMemory, IsUnsupported, unsupported_error}
+use Rattle.regex_automata.specs.Spans.Iteration.{GivesItem, IsNextRefusal}
+use Rattle.regex_automata.specs.Spans.Outcomes.{FindsMatch}
+use Rattle.regex_automata.specs.Spans.Contracts.{AreStoresOf, IsRefusedBehind, MayRefuseNext, TellsUnsupported}
+use Rattle.regex_automata.specs.Spans.Contracts.{end_behind, place_behind}
+use Rattle.regex_automata.specs.Spans.Errors.{IsFree}
+use Rattle.regex_automata.specs.Regexes.SoundPairs.{IsSoundPair}
 use Rattle.regex_automata.specs.declared.hybrid.regex.Regex.{Regex}
 use Rattle.regex_automata.specs.declared.hybrid.regex.caches.Cache.{Cache}
 use Rattle.regex_automata.proofs.Collecting.{ComesTo}

@@ -1,27 +1,28 @@
 -- Whether there is a match: if nothing is skipped, the first match that is seen decides it as the whole search does.
-use Rattle.std.proofs.Common.{ℕ, zero, suc, ◌≡◌, ◌∙◌, ◌<◌, ◌≤◌, ◌+◌, ◌⊎◌, inl, inr, Bool, true, List, [], ◌∷◌, length, Option, Some, None, refl, sym, ap, subst, arith}
+use Rattle.std.proofs.Common.{ℕ, zero, suc, ◌≡◌, ◌∙◌, ◌<◌, ◌≤◌, ◌+◌, ◌⊎◌, inl, inr, Bool, true, List, [], ◌∷◌, length}
+use Rattle.std.proofs.Common.{Option, Some, None, refl, sym, ap, subst, arith}
 use Rattle.std.specs.Prelude.{is_some}
 use Rattle.std.specs.Option.{option_map}
-use Rattle.automata_base.specs.Answers.{Half, IsInput, IsSplit, Tries, later, offset_in}
-use Rattle.automata_base.specs.Computed.{earlier_or, pair_at}
-use Rattle.automata_base.specs.Engines.{engine_of}
-use Rattle.automata_base.specs.Input.{Input}
-use Rattle.automata_base.specs.Matches.{HalfMatch}
-use Rattle.automata_base.specs.Nodes.{Automaton, nfa_of}
-use Rattle.automata_base.specs.Paths.{IsLookAcyclic, Tape}
-use Rattle.automata_base.specs.Selections.{Pair}
-use Rattle.automata_base.specs.Spans.{IsMatch, in_full}
-use Rattle.automata_base.specs.Tapes.{Forward, forward_tape}
-use Rattle.automata_base.specs.Telling.{first_told, last_told, told_at}
-use Rattle.automata_base.specs.Told.{IsNearestAnswer, IsTold, TellsOver, ToldIsRight, told_over}
+use Rattle.automata_base.specs.Answers.Answers.{Half, IsInput, IsSplit, Tries, later, offset_in}
+use Rattle.automata_base.specs.Retraced.ComputedPass.{earlier_or, pair_at}
+use Rattle.automata_base.specs.Nfas.Engines.{engine_of}
+use Rattle.automata_base.specs.Haystacks.Input.{Input}
+use Rattle.automata_base.specs.Haystacks.Matches.{HalfMatch}
+use Rattle.automata_base.specs.Nfas.Nodes.{Automaton, nfa_of}
+use Rattle.automata_base.specs.Paths.Paths.{IsLookAcyclic, Tape}
+use Rattle.automata_base.specs.Paths.Selections.{Pair}
+use Rattle.automata_base.specs.Answers.Spans.{IsMatch, in_full}
+use Rattle.automata_base.specs.Haystacks.Tapes.{Forward, forward_tape}
+use Rattle.automata_base.specs.Retraced.Passes.{first_told, last_told, told_at}
+use Rattle.automata_base.specs.Answers.OfPasses.{IsNearestAnswer, IsTold, TellsOver, ToldIsRight, told_over}
 use Rattle.automata_base.specs.declared.util.search.Anchored.{Anchored}
 use Rattle.automata_base.specs.declared.util.search.Anchored.TheVariants.{No}
 use Rattle.automata_base.specs.declared.util.search.MatchKind.{MatchKind}
-use Rattle.automata_hybrid.specs.Machine.{Machine}
-use Rattle.automata_hybrid.specs.Searches.{IsFound, Skips, WithoutBase, without_base}
+use Rattle.automata_hybrid.specs.Machines.Machine.{Machine}
+use Rattle.automata_hybrid.specs.Searches.Passes.{IsFound, Skips, WithoutBase, without_base}
 use Rattle.automata_hybrid.proofs.Searching.{lt_or_le}
 use Rattle.automata_hybrid.proofs.Skipping.{found_told}
-use Rattle.regex_automata.specs.Matching.{IsAsked, IsMatchTold, IsNearestThere, IsTruthFound, in_part}
+use Rattle.regex_automata.specs.Spans.IsMatch.{IsAsked, IsMatchTold, IsNearestThere, IsTruthFound, in_part}
 use Rattle.automata_config.specs.Options.{match_kind_of}
 
 -- the first match is there if the last one is

@@ -1,17 +1,17 @@
 -- One match after another.
 use Rattle.std.proofs.Common.{ℕ, suc, ◌≡◌, ◌∙◌, ◌<◌, ◌≤◌, ◌⊎◌, inl, inr, Option, Some, None, sym, ap, subst, arith}
 use Rattle.std.specs.Prelude.{Result, Ok, Err, IfOk, IfErr, IfSome, OnErr}
-use Rattle.automata_base.specs.Input.{Input}
-use Rattle.automata_base.specs.Matches.{Match}
-use Rattle.automata_base.specs.Spans.{IsEmptyAt, from}
+use Rattle.automata_base.specs.Haystacks.Input.{Input}
+use Rattle.automata_base.specs.Haystacks.Matches.{Match}
+use Rattle.automata_base.specs.Answers.Spans.{IsEmptyAt, from}
 use Rattle.automata_config.specs.declared.error.SearchError.{SearchError}
 use Rattle.automata_hybrid.proofs.Growing.{grown_trans}
 use Rattle.automata_hybrid.proofs.Searching.{lt_or_le}
-use Rattle.regex_automata.specs.Costs.{AreCostsOf}
-use Rattle.regex_automata.specs.Iterating.{AreCostsTwice, FindsEmptyAt, GoesPast, IsNextMatch, IsNextRefusal}
-use Rattle.regex_automata.specs.Outcomes.{FindsMatch, MatchLiesIn}
-use Rattle.regex_automata.specs.RegexCaches.{AreGrown}
-use Rattle.regex_automata.specs.RegexRefusals.{IsRegexRefusal}
+use Rattle.regex_automata.specs.Spans.Costs.{AreCostsOf}
+use Rattle.regex_automata.specs.Spans.Iteration.{AreCostsTwice, FindsEmptyAt, GoesPast, IsNextMatch, IsNextRefusal}
+use Rattle.regex_automata.specs.Spans.Outcomes.{FindsMatch, MatchLiesIn}
+use Rattle.regex_automata.specs.Regexes.Caches.{AreGrown}
+use Rattle.regex_automata.specs.Spans.Errors.{IsRegexRefusal}
 use Rattle.regex_automata.specs.declared.hybrid.regex.Regex.{Regex}
 use Rattle.regex_automata.specs.declared.hybrid.regex.caches.Cache.{Cache}
 use Rattle.regex_automata.proofs.Results.{err_ok, none_some, same_some}

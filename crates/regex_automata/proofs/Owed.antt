@@ -1,24 +1,26 @@
 -- What calls return whatever the cache, from their clauses.
-use Rattle.std.proofs.Common.{◌≡◌, ◌<◌, ◌≤◌, Option, None, Result, Ok, Err, IfErr, IfOk, Bool, true, false, inl, inr, ap}
-use Rattle.automata_base.specs.Input.{Input}
-use Rattle.automata_base.specs.Matches.{Match}
-use Rattle.automata_base.specs.Nodes.{nfa_of}
-use Rattle.automata_base.specs.Paths.{IsLookAcyclic}
-use Rattle.automata_base.specs.Spans.{IsMatch, IsSpan, TryFinds}
-use Rattle.automata_base.specs.Tapes.{Forward}
+use Rattle.std.proofs.Common.{◌≡◌, ◌<◌, ◌≤◌, Option, None, Result, Ok, Err, IfErr, IfOk, Bool, true, false, inl, inr}
+use Rattle.std.proofs.Common.{ap}
+use Rattle.automata_base.specs.Haystacks.Input.{Input}
+use Rattle.automata_base.specs.Haystacks.Matches.{Match}
+use Rattle.automata_base.specs.Nfas.Nodes.{nfa_of}
+use Rattle.automata_base.specs.Paths.Paths.{IsLookAcyclic}
+use Rattle.automata_base.specs.Answers.Spans.{IsMatch, IsSpan, TryFinds}
+use Rattle.automata_base.specs.Haystacks.Tapes.{Forward}
 use Rattle.automata_config.specs.declared.error.SearchError.{SearchError}
-use Rattle.automata_hybrid.specs.Caches.{CacheView}
-use Rattle.automata_hybrid.specs.Machine.{Machine}
-use Rattle.automata_hybrid.specs.Owing.{IsMemory, IsStoreOf, MayRefuse, unsupported_error}
-use Rattle.automata_hybrid.specs.Searches.{NoQuitInReach, Skips, tape_in}
-use Rattle.automata_hybrid.specs.Slots.{supports}
-use Rattle.automata_hybrid.specs.Starting.{quit_behind}
+use Rattle.automata_hybrid.specs.Cache.Caches.{CacheView}
+use Rattle.automata_hybrid.specs.Machines.Machine.{Machine}
+use Rattle.automata_hybrid.specs.Searches.Contracts.{IsMemory, IsStoreOf, MayRefuse, unsupported_error}
+use Rattle.automata_hybrid.specs.Searches.Passes.{NoQuitInReach, Skips, tape_in}
+use Rattle.automata_hybrid.specs.Machines.StartSlots.{supports}
+use Rattle.automata_hybrid.specs.Steps.Starts.{quit_behind}
 use Rattle.automata_hybrid.proofs.Owing.{is_store}
-use Rattle.regex_automata.specs.Matching.{IsAsked, IsMatchTold, IsNearestThere, IsTruthFound}
-use Rattle.regex_automata.specs.Owing.{AreStoresOf, IsSpanOf, IsSpanTold, IsTruthOf, MayRefuseSpan, MayRefuseTruth}
-use Rattle.regex_automata.specs.RegexCaches.{AreCachesOf, AreFresh}
-use Rattle.regex_automata.specs.RegexRefusals.{IsFree, IsOfMemory, IsRegexRefusal}
-use Rattle.regex_automata.specs.SoundPairs.{AreLookAcyclic, IsSoundPair, forward_engine, reverse_engine}
+use Rattle.regex_automata.specs.Spans.IsMatch.{IsAsked, IsMatchTold, IsNearestThere, IsTruthFound}
+use Rattle.regex_automata.specs.Spans.Contracts.{AreStoresOf, IsSpanOf, IsSpanTold, IsTruthOf, MayRefuseSpan}
+use Rattle.regex_automata.specs.Spans.Contracts.{MayRefuseTruth}
+use Rattle.regex_automata.specs.Regexes.Caches.{AreCachesOf, AreFresh}
+use Rattle.regex_automata.specs.Spans.Errors.{IsFree, IsOfMemory, IsRegexRefusal}
+use Rattle.regex_automata.specs.Regexes.SoundPairs.{AreLookAcyclic, IsSoundPair, forward_engine, reverse_engine}
 use Rattle.regex_automata.specs.declared.hybrid.regex.Regex.{Regex}
 use Rattle.regex_automata.specs.declared.hybrid.regex.caches.Cache.{Cache}
 use Rattle.automata_config.specs.Options.{minimum_cache_clear_count_of}

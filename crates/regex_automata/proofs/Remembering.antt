@@ -1,24 +1,24 @@
 -- What is cached from item to item.
 use Rattle.std.proofs.Common.{ℕ, suc, ◌≡◌, ◌∙◌, ◌≤◌, length, Option, Some, None, refl, sym, ap, subst, arith}
 use Rattle.std.specs.Prelude.{Result, Ok, Err, IfErr, OnOk}
-use Rattle.automata_base.specs.Answers.{Half, IsInput}
-use Rattle.automata_base.specs.Input.{Input}
-use Rattle.automata_base.specs.Matches.{Match}
-use Rattle.automata_base.specs.Spans.{IsEmptyAt, back, from}
-use Rattle.automata_base.specs.Tapes.{Backward, Forward}
+use Rattle.automata_base.specs.Answers.Answers.{Half, IsInput}
+use Rattle.automata_base.specs.Haystacks.Input.{Input}
+use Rattle.automata_base.specs.Haystacks.Matches.{Match}
+use Rattle.automata_base.specs.Answers.Spans.{IsEmptyAt, back, from}
+use Rattle.automata_base.specs.Haystacks.Tapes.{Backward, Forward}
 use Rattle.automata_config.specs.declared.error.SearchError.{SearchError}
-use Rattle.automata_hybrid.specs.Stores.{Stored, with_searched}
-use Rattle.automata_hybrid.specs.Caches.{CacheView}
-use Rattle.automata_hybrid.specs.Growing.{IsStill}
-use Rattle.automata_hybrid.specs.Knowing.{KnownStays, Knows}
-use Rattle.automata_hybrid.specs.Searches.{IsFound}
+use Rattle.automata_hybrid.specs.Cache.Stores.{Stored, with_searched}
+use Rattle.automata_hybrid.specs.Cache.Caches.{CacheView}
+use Rattle.automata_hybrid.specs.Cache.Growth.{IsStill}
+use Rattle.automata_hybrid.specs.Searches.Cached.{KnownStays, Knows}
+use Rattle.automata_hybrid.specs.Searches.Passes.{IsFound}
 use Rattle.automata_hybrid.proofs.Growing.{nothing_first, nothing_second}
 use Rattle.automata_hybrid.proofs.Within.{found_within}
-use Rattle.regex_automata.specs.Agreeing.{AreAlike, MatchesAgree}
-use Rattle.regex_automata.specs.Iterating.{FindsEmptyAt, KnowsNext}
-use Rattle.regex_automata.specs.Outcomes.{FindsMatch}
-use Rattle.regex_automata.specs.RegexCaches.{AreCachesOf, AreGrown, AreStill, KnowsBack, KnowsBoth, NothingCleared}
-use Rattle.regex_automata.specs.RegexRefusals.{IsOfGiven}
+use Rattle.regex_automata.specs.Spans.Agreement.{AreAlike, MatchesAgree}
+use Rattle.regex_automata.specs.Spans.Iteration.{FindsEmptyAt, KnowsNext}
+use Rattle.regex_automata.specs.Spans.Outcomes.{FindsMatch}
+use Rattle.regex_automata.specs.Regexes.Caches.{AreCachesOf, AreGrown, AreStill, KnowsBack, KnowsBoth, NothingCleared}
+use Rattle.regex_automata.specs.Spans.Errors.{IsOfGiven}
 use Rattle.regex_automata.specs.declared.hybrid.regex.Regex.{Regex}
 use Rattle.regex_automata.specs.declared.hybrid.regex.caches.Cache.{Cache}
 use Rattle.regex_automata.proofs.Results.{none_some, same_some}

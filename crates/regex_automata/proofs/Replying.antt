@@ -1,11 +1,12 @@
 -- Replies and histories, request by request.
-use Rattle.std.proofs.Common.{◌≡◌, ℕ, List, [], ◌∷◌, Option, Some, None, MatchOption, Err, true, nat_lt, length, if◌then◌else◌, ap, refl, sym, subst}
+use Rattle.std.proofs.Common.{◌≡◌, ℕ, List, [], ◌∷◌, Option, Some, None, MatchOption, Err, true, nat_lt, length}
+use Rattle.std.proofs.Common.{if◌then◌else◌, ap, refl, sym, subst}
 use Rattle.automata_base.specs.Lists.{nth}
 use Rattle.regex_automata.specs.declared.hybrid.regex.Regex.{Regex}
-use Rattle.regex_automata.specs.Histories.{History}
-use Rattle.regex_automata.specs.RegexCaches.{AreFresh}
-use Rattle.regex_automata.specs.ReplayCaches.{AreFreshOf, IsMadeBy, IsMadeByOf}
-use Rattle.regex_automata.specs.Replies.{IsReply, IsOwed, IsOwedBy, own_fault}
+use Rattle.regex_automata.specs.Replay.Histories.{History}
+use Rattle.regex_automata.specs.Regexes.Caches.{AreFresh}
+use Rattle.regex_automata.specs.Replay.Caches.{AreFreshOf, IsMadeBy, IsMadeByOf}
+use Rattle.regex_automata.specs.Replay.Replies.{IsReply, IsOwed, IsOwedBy, own_fault}
 use Rattle.regex_automata.specs.declared.hybrid.regex.caches.Cache.{Cache}
 use Rattle.regex_automata.specs.declared.replay.requests.Request.{Request}
 use Rattle.regex_automata.specs.declared.replay.requests.Reply.{Reply}

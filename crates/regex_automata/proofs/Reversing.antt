@@ -2,16 +2,16 @@
 use Rattle.std.proofs.Common.{sym, subst}
 use Rattle.automata_base.specs.declared.util.search.MatchKind.{MatchKind}
 use Rattle.automata_base.specs.declared.util.search.MatchKind.TheVariants.{All}
-use Rattle.automata_base.specs.Engines.{engine_of}
-use Rattle.automata_base.specs.Nodes.{Automaton, nfa_of}
-use Rattle.automata_base.specs.Paths.{IsLookAcyclic}
-use Rattle.automata_base.specs.Tapes.{Forward}
-use Rattle.automata_base.specs.TruePairs.{IsTruePair, KeepsUtf8}
+use Rattle.automata_base.specs.Nfas.Engines.{engine_of}
+use Rattle.automata_base.specs.Nfas.Nodes.{Automaton, nfa_of}
+use Rattle.automata_base.specs.Paths.Paths.{IsLookAcyclic}
+use Rattle.automata_base.specs.Haystacks.Tapes.{Forward}
+use Rattle.automata_base.specs.Answers.TruePairs.{IsTruePair, KeepsUtf8}
 use Rattle.automata_config.specs.Options.{Options, match_kind_of}
-use Rattle.automata_hybrid.specs.Machine.{Machine}
+use Rattle.automata_hybrid.specs.Machines.Machine.{Machine}
 use Rattle.regex_automata.specs.declared.hybrid.regex.Regex.{Regex}
-use Rattle.regex_automata.specs.RegexBuilds.{BuildsPair}
-use Rattle.regex_automata.specs.SoundPairs.{IsSoundPair, forward_engine, reverse_engine}
+use Rattle.regex_automata.specs.Regexes.Builds.{BuildsPair}
+use Rattle.regex_automata.specs.Regexes.SoundPairs.{IsSoundPair, forward_engine, reverse_engine}
 
 module _ (o : Options) (a b : Automaton) (p : Regex) (built : BuildsPair o a b p) where
   pair_is :

@@ -1,25 +1,26 @@
 -- What the passes of two DFAs report is what the ordered paths define.
 use Rattle.std.proofs.Common.{ℕ, ◌≡◌, ◌∙◌, inl, inr, Option, Some, refl, sym, subst, arith}
 use Rattle.std.specs.Prelude.{Result, Ok, Err, IfErr}
-use Rattle.automata_base.specs.Answers.{Half, IsAnswer, IsInput}
-use Rattle.automata_base.specs.Input.{Input}
-use Rattle.automata_base.specs.Matches.{Match}
-use Rattle.automata_base.specs.Nodes.{nfa_of}
-use Rattle.automata_base.specs.Paths.{IsLookAcyclic}
-use Rattle.automata_base.specs.Spans.{FindsSpan, Found, IsFarSearch, IsSpan, IsTrySearch, NotAPair, Outcome, back}
-use Rattle.automata_base.specs.StartIsRight.{BackMeetsNone, StartsAreRight}
-use Rattle.automata_base.specs.Tapes.{Forward, Backward}
-use Rattle.automata_base.specs.Told.{IsFarthestAnswer, ToldEndsAreRight, ToldIsRight}
+use Rattle.automata_base.specs.Answers.Answers.{Half, IsAnswer, IsInput}
+use Rattle.automata_base.specs.Haystacks.Input.{Input}
+use Rattle.automata_base.specs.Haystacks.Matches.{Match}
+use Rattle.automata_base.specs.Nfas.Nodes.{nfa_of}
+use Rattle.automata_base.specs.Paths.Paths.{IsLookAcyclic}
+use Rattle.automata_base.specs.Answers.Spans.{FindsSpan, Found, IsFarSearch, IsSpan, IsTrySearch, NotAPair, Outcome}
+use Rattle.automata_base.specs.Answers.Spans.{back}
+use Rattle.automata_base.specs.Laws.StartIsRight.{BackMeetsNone, StartsAreRight}
+use Rattle.automata_base.specs.Haystacks.Tapes.{Forward, Backward}
+use Rattle.automata_base.specs.Answers.OfPasses.{IsFarthestAnswer, ToldEndsAreRight, ToldIsRight}
 use Rattle.automata_base.proofs.Spans.Turning.{turn_outcome}
 use Rattle.automata_base.specs.declared.util.search.MatchErrorKind.TheVariants.{Quit as QuitAt}
 use Rattle.automata_config.specs.declared.error.SearchError.{SearchError}
 use Rattle.automata_config.specs.declared.error.SearchError.TheVariants as search
-use Rattle.automata_hybrid.specs.Searches.{IsFound, IsRefused}
+use Rattle.automata_hybrid.specs.Searches.Passes.{IsFound, IsRefused}
 use Rattle.automata_hybrid.proofs.Skipping.{found_told}
 use Rattle.automata_hybrid.proofs.Within.{found_within}
-use Rattle.regex_automata.specs.Outcomes.{FindsMatch, IsOutcome}
-use Rattle.regex_automata.specs.RegexRefusals.{HasReason, IsFree, IsOfMemory, IsRegexRefusal}
-use Rattle.regex_automata.specs.SoundPairs.{AreLookAcyclic, IsSoundPair, forward_engine, reverse_engine}
+use Rattle.regex_automata.specs.Spans.Outcomes.{FindsMatch, IsOutcome}
+use Rattle.regex_automata.specs.Spans.Errors.{HasReason, IsFree, IsOfMemory, IsRegexRefusal}
+use Rattle.regex_automata.specs.Regexes.SoundPairs.{AreLookAcyclic, IsSoundPair, forward_engine, reverse_engine}
 use Rattle.regex_automata.specs.declared.hybrid.regex.Regex.{Regex}
 use Rattle.regex_automata.specs.declared.hybrid.regex.caches.Cache.{Cache}
 use Rattle.regex_automata.proofs.Backing.{back_free, never_pair}

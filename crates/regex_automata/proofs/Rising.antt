@@ -1,14 +1,15 @@
 -- Matches of an iteration lie in the span, and their ends rise, over any two DFAs.
-use Rattle.std.proofs.Common.{ℕ, suc, ◌≡◌, ◌+◌, ◌-◌, ◌<◌, ◌≤◌, inl, inr, length, List, [], ◌∷◌, Option, Some, None, refl, arith}
-use Rattle.automata_base.specs.Input.{Input}
-use Rattle.automata_base.specs.Matches.{Match}
-use Rattle.automata_base.specs.Spans.{AreMatches, IsNextItem, Rise, from}
-use Rattle.automata_base.specs.Tapes.{Forward}
+use Rattle.std.proofs.Common.{ℕ, suc, ◌≡◌, ◌+◌, ◌-◌, ◌<◌, ◌≤◌, inl, inr, length, List, [], ◌∷◌, Option, Some, None}
+use Rattle.std.proofs.Common.{refl, arith}
+use Rattle.automata_base.specs.Haystacks.Input.{Input}
+use Rattle.automata_base.specs.Haystacks.Matches.{Match}
+use Rattle.automata_base.specs.Answers.Spans.{AreMatches, IsNextItem, Rise, from}
+use Rattle.automata_base.specs.Haystacks.Tapes.{Forward}
 use Rattle.automata_config.specs.declared.error.SearchError.{SearchError}
 use Rattle.automata_hybrid.proofs.Within.{found_within}
-use Rattle.regex_automata.specs.Iterating.{AreCollected, AreFirst}
-use Rattle.regex_automata.specs.Outcomes.{FindsMatch, IsStartFound}
-use Rattle.regex_automata.specs.Owing.{place_behind}
+use Rattle.regex_automata.specs.Spans.Iteration.{AreCollected, AreFirst}
+use Rattle.regex_automata.specs.Spans.Outcomes.{FindsMatch, IsStartFound}
+use Rattle.regex_automata.specs.Spans.Contracts.{place_behind}
 use Rattle.regex_automata.specs.declared.hybrid.regex.Regex.{Regex}
 use Rattle.regex_automata.proofs.Finding.{back_within}
 use Rattle.regex_automata.proofs.Nexts.{past_last}

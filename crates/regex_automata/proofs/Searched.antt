@@ -1,13 +1,15 @@
 -- What the searches for the items of a list do to the caches, one after another.
-use Rattle.std.proofs.Common.{ℕ, ◌≡◌, ◌∙◌, Bool, false, List, [], ◌∷◌, ◌++◌, append_assoc, append-nil, Option, Some, None, refl, sym, subst}
+use Rattle.std.proofs.Common.{ℕ, ◌≡◌, ◌∙◌, Bool, false, List, [], ◌∷◌, ◌++◌, append_assoc, append-nil, Option, Some}
+use Rattle.std.proofs.Common.{None, refl, sym, subst}
 use Rattle.std.specs.Prelude.{Result, Ok}
-use Rattle.automata_base.specs.Input.{Input}
-use Rattle.automata_base.specs.Matches.{Match}
-use Rattle.automata_base.specs.Spans.{from}
+use Rattle.automata_base.specs.Haystacks.Input.{Input}
+use Rattle.automata_base.specs.Haystacks.Matches.{Match}
+use Rattle.automata_base.specs.Answers.Spans.{from}
 use Rattle.automata_config.specs.declared.error.SearchError.{SearchError}
-use Rattle.automata_hybrid.specs.Machine.{Machine}
-use Rattle.regex_automata.specs.ReplayCaches.{AreSearched, AreSearchedLast, AreTokensSearched, IsTokenMade, IsTokenSearchedLast}
-use Rattle.regex_automata.specs.RegexEffects.{IsItemEffect}
+use Rattle.automata_hybrid.specs.Machines.Machine.{Machine}
+use Rattle.regex_automata.specs.Replay.Caches.{AreSearched, AreSearchedLast, AreTokensSearched, IsTokenMade}
+use Rattle.regex_automata.specs.Replay.Caches.{IsTokenSearchedLast}
+use Rattle.regex_automata.specs.Spans.Effects.{IsItemEffect}
 use Rattle.regex_automata.specs.Tokens.{match_of}
 use Rattle.regex_automata.specs.declared.hybrid.regex.Regex.{Regex}
 use Rattle.regex_automata.specs.declared.hybrid.regex.caches.Cache.{Cache}

@@ -1,25 +1,26 @@
 -- The list of the patterns of a set, and what walks say of it.
-use Rattle.std.proofs.Common.{◌≡◌, ◌∙◌, ◌<◌, ◌≤◌, ◌⊎◌, ℕ, zero, suc, Bool, true, false, List, [], ◌∷◌, Some, None, Result, Ok, Err, IfErr, OnOk, IfSome, arith, inl, inr, length, refl, subst, sym, ap}
+use Rattle.std.proofs.Common.{◌≡◌, ◌∙◌, ◌<◌, ◌≤◌, ◌⊎◌, ℕ, zero, suc, Bool, true, false, List, [], ◌∷◌, Some, None}
+use Rattle.std.proofs.Common.{Result, Ok, Err, IfErr, OnOk, IfSome, arith, inl, inr, length, refl, subst, sym, ap}
 use Rattle.std.specs.Prelude.{IsOk}
 use Rattle.std.proofs.lemmas.List.{length-replicate}
 use Rattle.std.specs.Result.{result_err}
-use Rattle.automata_base.specs.Answers.{ArePatterns}
-use Rattle.automata_base.specs.Input.{Input}
-use Rattle.automata_base.specs.PatternSet.{members, members_from}
-use Rattle.automata_base.specs.Selections.{Pair}
-use Rattle.automata_base.specs.Tapes.{Forward}
+use Rattle.automata_base.specs.Answers.Answers.{ArePatterns}
+use Rattle.automata_base.specs.Haystacks.Input.{Input}
+use Rattle.automata_base.specs.Haystacks.PatternSet.{members, members_from}
+use Rattle.automata_base.specs.Paths.Selections.{Pair}
+use Rattle.automata_base.specs.Haystacks.Tapes.{Forward}
 use Rattle.automata_config.specs.declared.error.SearchError.{SearchError}
 use Rattle.automata_config.specs.declared.error.SearchError.TheVariants as search
-use Rattle.automata_hybrid.specs.Machine.{Machine}
-use Rattle.automata_hybrid.specs.Owing.{IsMemory}
-use Rattle.automata_hybrid.specs.OwingWalks.{MayRefuseWhich}
-use Rattle.automata_hybrid.specs.SearchedWalks.{EndsSet, HaveCalled, IsOpenAfter}
-use Rattle.automata_hybrid.specs.Stores.{Stored}
-use Rattle.automata_hybrid.specs.Walking.{HasTold}
-use Rattle.automata_hybrid.specs.Walks.{Walk}
+use Rattle.automata_hybrid.specs.Machines.Machine.{Machine}
+use Rattle.automata_hybrid.specs.Searches.Contracts.{IsMemory}
+use Rattle.automata_hybrid.specs.Walks.Contracts.{MayRefuseWhich}
+use Rattle.automata_hybrid.specs.Walks.Progress.{EndsSet, HaveCalled, IsOpenAfter}
+use Rattle.automata_hybrid.specs.Cache.Stores.{Stored}
+use Rattle.automata_hybrid.specs.Walks.Answers.{HasTold}
+use Rattle.automata_hybrid.specs.Walks.State.{Walk}
 use Rattle.automata_hybrid.proofs.Searching.{false_true, lt_or_le}
 use Rattle.regex_automata.proofs.Results.{some_none}
-use Rattle.regex_automata.specs.Owing.{AreRising, ArePatternsUpto, HasToldSet, MayRefusePatterns, empty_set}
+use Rattle.regex_automata.specs.Spans.Contracts.{AreRising, ArePatternsUpto, HasToldSet, MayRefusePatterns, empty_set}
 
 -- what rises from a number rises from a lower one
 rising_from : (low k : ℕ) (ks : List ℕ) → low ≤ k → AreRising k ks → AreRising low ks

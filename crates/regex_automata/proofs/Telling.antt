@@ -1,20 +1,21 @@
 -- What a pass has read when it reports.
-use Rattle.std.proofs.Common.{ℕ, zero, suc, ◌≡◌, ◌∙◌, ◌<◌, ◌≤◌, ◌-◌, ◌⊎◌, inl, inr, Bool, true, false, length, Option, Some, None, refl, sym, ap, subst, arith, eq-or-lt_of_le}
-use Rattle.automata_base.specs.Computed.{earlier_or, pair_at}
+use Rattle.std.proofs.Common.{ℕ, zero, suc, ◌≡◌, ◌∙◌, ◌<◌, ◌≤◌, ◌-◌, ◌⊎◌, inl, inr, Bool, true, false, length, Option}
+use Rattle.std.proofs.Common.{Some, None, refl, sym, ap, subst, arith, eq-or-lt_of_le}
+use Rattle.automata_base.specs.Retraced.ComputedPass.{earlier_or, pair_at}
 use Rattle.automata_base.specs.declared.util.search.Anchored.{Anchored}
-use Rattle.automata_base.specs.Input.{Input}
+use Rattle.automata_base.specs.Haystacks.Input.{Input}
 use Rattle.automata_base.specs.Lists.{In}
-use Rattle.automata_base.specs.Nodes.{Automaton}
-use Rattle.automata_base.specs.Paths.{Tape}
-use Rattle.automata_base.specs.Powerset.{Powerset, dead}
-use Rattle.automata_base.specs.Selections.{Pair}
-use Rattle.automata_base.specs.Tapes.{Direction, Forward, Backward}
-use Rattle.automata_base.specs.Telling.{first_told, told_at, told_upto}
-use Rattle.automata_base.specs.Told.{told_over}
+use Rattle.automata_base.specs.Nfas.Nodes.{Automaton}
+use Rattle.automata_base.specs.Paths.Paths.{Tape}
+use Rattle.automata_base.specs.Powersets.Powerset.{Powerset, dead}
+use Rattle.automata_base.specs.Paths.Selections.{Pair}
+use Rattle.automata_base.specs.Haystacks.Tapes.{Direction, Forward, Backward}
+use Rattle.automata_base.specs.Retraced.Passes.{first_told, told_at, told_upto}
+use Rattle.automata_base.specs.Answers.OfPasses.{told_over}
 use Rattle.automata_base.specs.declared.util.search.MatchKind.{MatchKind}
 use Rattle.automata_base.proofs.Determinizing.Within.{ToldBelow, first_below, over_below}
-use Rattle.automata_hybrid.specs.Machine.{Machine}
-use Rattle.automata_hybrid.specs.Searches.{Reads, state_in, tape_in}
+use Rattle.automata_hybrid.specs.Machines.Machine.{Machine}
+use Rattle.automata_hybrid.specs.Searches.Passes.{Reads, state_in, tape_in}
 use Rattle.automata_hybrid.proofs.Searching.{dead_more, false_true}
 use Rattle.automata_hybrid.proofs.Units.{backward_units, forward_units}
 use Rattle.automata_config.specs.Options.{match_kind_of}

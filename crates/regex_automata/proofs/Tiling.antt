@@ -1,19 +1,21 @@
 -- What the tokens of a span are, by the answers of its searches, and how they tile it.
-use Rattle.std.proofs.Common.{ℕ, ◌≡◌, ◌∙◌, ◌<◌, ◌≤◌, ◌+◌, ◌-◌, ◌⊎◌, inl, inr, Bool, true, false, List, [], ◌∷◌, ◌++◌, length, take, drop, append_assoc, Option, Some, None, refl, sym, ap, subst, arith}
+use Rattle.std.proofs.Common.{ℕ, ◌≡◌, ◌∙◌, ◌<◌, ◌≤◌, ◌+◌, ◌-◌, ◌⊎◌, inl, inr, Bool, true, false, List, [], ◌∷◌, ◌++◌}
+use Rattle.std.proofs.Common.{length, take, drop, append_assoc, Option, Some, None, refl, sym, ap, subst, arith}
 use Rattle.std.specs.Prelude.{Result, Ok, Err, IfErr, IfSome, nat_lt, if◌then◌else◌, slice_range}
 use Rattle.std.proofs.Math.Seq.{take-add}
 use Rattle.std.proofs.lemmas.Bool.{ltb-true, ltb-false}
 use Rattle.std.proofs.lemmas.List.{drop-drop}
-use Rattle.automata_base.specs.Input.{Input}
-use Rattle.automata_base.specs.Matches.{HalfMatch, Match}
-use Rattle.automata_base.specs.Tapes.{Forward}
+use Rattle.automata_base.specs.Haystacks.Input.{Input}
+use Rattle.automata_base.specs.Haystacks.Matches.{HalfMatch, Match}
+use Rattle.automata_base.specs.Haystacks.Tapes.{Forward}
 use Rattle.automata_config.specs.declared.error.SearchError.{SearchError}
-use Rattle.automata_hybrid.specs.Machine.{Machine}
-use Rattle.automata_hybrid.specs.Owing.{IsHalf, IsUnhindered}
-use Rattle.automata_hybrid.specs.Searches.{IsRefused}
-use Rattle.automata_hybrid.specs.Stores.{Stored}
-use Rattle.automata_hybrid.specs.Within.{LiesIn}
-use Rattle.regex_automata.specs.Tokens.{AreFoundBy, AreGiven, IsBeginningOf, IsGivenAt, IsItemAt, IsNoTokenOrMemory, IsTokenAt, asked, match_bytes, item_of, joined, match_of}
+use Rattle.automata_hybrid.specs.Machines.Machine.{Machine}
+use Rattle.automata_hybrid.specs.Searches.Contracts.{IsHalf, IsUnhindered}
+use Rattle.automata_hybrid.specs.Searches.Passes.{IsRefused}
+use Rattle.automata_hybrid.specs.Cache.Stores.{Stored}
+use Rattle.automata_hybrid.specs.Searches.Within.{LiesIn}
+use Rattle.regex_automata.specs.Tokens.{AreFoundBy, AreGiven, IsBeginningOf, IsGivenAt, IsItemAt, IsNoTokenOrMemory}
+use Rattle.regex_automata.specs.Tokens.{IsTokenAt, asked, match_bytes, item_of, joined, match_of}
 use Rattle.regex_automata.specs.declared.tokens.error.TokenError.{TokenError}
 use Rattle.regex_automata.specs.declared.tokens.error.TokenError.TheVariants.{NoToken, Search}
 use Rattle.regex_automata.specs.declared.tokens.token.Token.{Token}

@@ -1,13 +1,13 @@
 -- Why there is no next token.
 use Rattle.std.proofs.Common.{ℕ, ◌≡◌, Bool, true, false, List, Option, Some, None, sym, subst}
 use Rattle.std.specs.Prelude.{Result, Ok, Err, IfErr, OnOk, if◌then◌else◌, nat_lt}
-use Rattle.automata_base.specs.Matches.{HalfMatch, Match}
-use Rattle.automata_base.specs.Tapes.{Forward}
+use Rattle.automata_base.specs.Haystacks.Matches.{HalfMatch, Match}
+use Rattle.automata_base.specs.Haystacks.Tapes.{Forward}
 use Rattle.automata_config.specs.declared.error.SearchError.{SearchError}
-use Rattle.automata_hybrid.specs.Stores.{Stored}
-use Rattle.automata_hybrid.specs.Knowing.{IsOfInput, Knows}
-use Rattle.automata_hybrid.specs.Machine.{Machine}
-use Rattle.automata_hybrid.specs.Searched.{EndsProgress, LeavesProgress}
+use Rattle.automata_hybrid.specs.Cache.Stores.{Stored}
+use Rattle.automata_hybrid.specs.Searches.Cached.{IsOfInput, Knows}
+use Rattle.automata_hybrid.specs.Machines.Machine.{Machine}
+use Rattle.automata_hybrid.specs.Searches.Progress.{EndsProgress, LeavesProgress}
 use Rattle.regex_automata.specs.Tokens.{HasLearnedAt, IsTokenOfInput, LeavesAt, asked, item_of}
 use Rattle.regex_automata.specs.declared.tokens.error.TokenError.{TokenError}
 use Rattle.regex_automata.specs.declared.tokens.error.TokenError.TheVariants.{NoToken, Search}

@@ -1,25 +1,26 @@
 -- Calls of a walk, by how many have answered before.
-use Rattle.std.proofs.Common.{◌≡◌, ◌∙◌, ◌+◌, ℕ, false, List, Option, Ok, Err, IfSome, add-one, ap, arith, inl, inr, refl, subst, sym}
-use Rattle.automata_base.specs.Answers.{IsOverlapping}
-use Rattle.automata_base.specs.Engines.{engine_of}
-use Rattle.automata_base.specs.Input.{Input}
-use Rattle.automata_base.specs.Matches.{HalfMatch}
-use Rattle.automata_base.specs.Nodes.{nfa_of}
-use Rattle.automata_base.specs.Paths.{IsLookAcyclic}
-use Rattle.automata_base.specs.Selections.{Pair}
-use Rattle.automata_base.specs.Tapes.{Direction}
+use Rattle.std.proofs.Common.{◌≡◌, ◌∙◌, ◌+◌, ℕ, false, List, Option, Ok, Err, IfSome, add-one, ap, arith, inl, inr}
+use Rattle.std.proofs.Common.{refl, subst, sym}
+use Rattle.automata_base.specs.Answers.Answers.{IsOverlapping}
+use Rattle.automata_base.specs.Nfas.Engines.{engine_of}
+use Rattle.automata_base.specs.Haystacks.Input.{Input}
+use Rattle.automata_base.specs.Haystacks.Matches.{HalfMatch}
+use Rattle.automata_base.specs.Nfas.Nodes.{nfa_of}
+use Rattle.automata_base.specs.Paths.Paths.{IsLookAcyclic}
+use Rattle.automata_base.specs.Paths.Selections.{Pair}
+use Rattle.automata_base.specs.Haystacks.Tapes.{Direction}
 use Rattle.automata_base.specs.declared.util.search.Anchored.{Anchored}
 use Rattle.automata_config.specs.declared.error.SearchError.{SearchError}
-use Rattle.automata_hybrid.specs.Machine.{Machine}
-use Rattle.automata_hybrid.specs.Owing.{IsMemory, IsUnhindered, IsUnsupported, unsupported_error}
-use Rattle.automata_hybrid.specs.OwingWalks.{MayRefuseCall}
-use Rattle.automata_hybrid.specs.Slots.{supports}
-use Rattle.automata_hybrid.specs.Starting.{MayStart}
-use Rattle.automata_hybrid.specs.Walking.{HasTold, HasToldAt, TellsNext, half_nth}
-use Rattle.automata_hybrid.specs.Walks.{At, Ended, Fresh, Stage, Walk, fresh_walk, without_match}
-use Rattle.automata_hybrid.specs.Within.{LiesIn}
-use Rattle.regex_automata.specs.Owing.{IsStep}
-use Rattle.regex_automata.specs.Players.{HasAnswered}
+use Rattle.automata_hybrid.specs.Machines.Machine.{Machine}
+use Rattle.automata_hybrid.specs.Searches.Contracts.{IsMemory, IsUnhindered, IsUnsupported, unsupported_error}
+use Rattle.automata_hybrid.specs.Walks.Contracts.{MayRefuseCall}
+use Rattle.automata_hybrid.specs.Machines.StartSlots.{supports}
+use Rattle.automata_hybrid.specs.Steps.Starts.{MayStart}
+use Rattle.automata_hybrid.specs.Walks.Answers.{HasTold, HasToldAt, TellsNext, half_nth}
+use Rattle.automata_hybrid.specs.Walks.State.{At, Ended, Fresh, Stage, Walk, fresh_walk, without_match}
+use Rattle.automata_hybrid.specs.Searches.Within.{LiesIn}
+use Rattle.regex_automata.specs.Spans.Contracts.{IsStep}
+use Rattle.regex_automata.specs.Replay.Players.{HasAnswered}
 use Rattle.automata_config.specs.Options.{match_kind_of}
 
 not_supported : (m : Machine) (mode : Anchored) (behind : Option ℕ) → MayStart m mode behind → supports m mode ≡ false → ⊥

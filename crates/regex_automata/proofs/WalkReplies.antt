@@ -1,19 +1,20 @@
 -- A step of a walk, by what is kept of it and by the history.
-use Rattle.std.proofs.Common.{◌≡◌, ℕ, ◌+◌, ◌<◌, ◌≤◌, List, length, get_or, Option, Some, None, Result, Ok, Err, Bool, eq-eqb, if◌then◌else◌, sym, subst, ap, refl, ◌∙◌}
+use Rattle.std.proofs.Common.{◌≡◌, ℕ, ◌+◌, ◌<◌, ◌≤◌, List, length, get_or, Option, Some, None, Result, Ok, Err, Bool}
+use Rattle.std.proofs.Common.{eq-eqb, if◌then◌else◌, sym, subst, ap, refl, ◌∙◌}
 use Rattle.std.proofs.Math.ListN.{set}
 use Rattle.std.proofs.lemmas.Bool.{ne_eqb}
 use Rattle.automata_base.specs.Lists.{nth}
-use Rattle.automata_base.specs.Input.{Input}
-use Rattle.automata_base.specs.Matches.{HalfMatch}
+use Rattle.automata_base.specs.Haystacks.Input.{Input}
+use Rattle.automata_base.specs.Haystacks.Matches.{HalfMatch}
 use Rattle.automata_config.specs.declared.error.SearchError.{SearchError}
 use Rattle.regex_automata.specs.declared.hybrid.regex.Regex.{Regex}
-use Rattle.regex_automata.specs.Replies.{dfa_of, direction_of}
-use Rattle.regex_automata.specs.RegexCaches.{AreCachesOf}
-use Rattle.regex_automata.specs.Histories.{Begun, History, stepped, after_step}
-use Rattle.regex_automata.specs.Replies.{IsReply, IsStepOf, walk_fault}
-use Rattle.regex_automata.specs.Owing.{IsStep}
-use Rattle.regex_automata.specs.Players.{IsWalk, AreWalks, HasPlayed, HasAnsweredBy, IsStepFrom, Goes, MakesStep}
-use Rattle.regex_automata.specs.ReplayCaches.{AreMade, IsCalled, IsMadeByOf, IsWalkStepped, other_of, own_of}
+use Rattle.regex_automata.specs.Replay.Replies.{dfa_of, direction_of}
+use Rattle.regex_automata.specs.Regexes.Caches.{AreCachesOf}
+use Rattle.regex_automata.specs.Replay.Histories.{Begun, History, stepped, after_step}
+use Rattle.regex_automata.specs.Replay.Replies.{IsReply, IsStepOf, walk_fault}
+use Rattle.regex_automata.specs.Spans.Contracts.{IsStep}
+use Rattle.regex_automata.specs.Replay.Players.{IsWalk, AreWalks, HasPlayed, HasAnsweredBy, IsStepFrom, Goes, MakesStep}
+use Rattle.regex_automata.specs.Replay.Caches.{AreMade, IsCalled, IsMadeByOf, IsWalkStepped, other_of, own_of}
 use Rattle.regex_automata.specs.declared.hybrid.regex.caches.Cache.{Cache}
 use Rattle.regex_automata.specs.declared.replay.requests.Request.TheVariants as request
 use Rattle.regex_automata.specs.declared.replay.requests.Reply.TheVariants as reply

@@ -1,15 +1,17 @@
 -- The Ok replies to the steps of a walk, in their order, are the pairs of its list, and then none.
-use Rattle.std.proofs.Common.{◌≡◌, ◌==◌, ℕ, zero, suc, Bool, true, false, List, [], ◌∷◌, ◌++◌, Option, Some, None, Result, Ok, Err, IfOk, MatchOption, if◌then◌else◌, ap, refl, sym, subst, ◌∙◌, add-one}
+use Rattle.std.proofs.Common.{◌≡◌, ◌==◌, ℕ, zero, suc, Bool, true, false, List, [], ◌∷◌, ◌++◌, Option, Some, None}
+use Rattle.std.proofs.Common.{Result, Ok, Err, IfOk, MatchOption, if◌then◌else◌, ap, refl, sym, subst, ◌∙◌, add-one}
 use Rattle.std.proofs.lemmas.Bool.{eqb-true, eqb-false}
-use Rattle.automata_base.specs.Input.{Input}
+use Rattle.automata_base.specs.Haystacks.Input.{Input}
 use Rattle.automata_base.specs.Lists.{nth}
-use Rattle.automata_base.specs.Matches.{HalfMatch}
-use Rattle.automata_base.specs.Selections.{Pair}
+use Rattle.automata_base.specs.Haystacks.Matches.{HalfMatch}
+use Rattle.automata_base.specs.Paths.Selections.{Pair}
 use Rattle.automata_config.specs.declared.error.SearchError.{SearchError}
-use Rattle.automata_hybrid.specs.Walking.{half_nth}
-use Rattle.regex_automata.specs.Histories.{Begun, History, start, stepped, step_at, after, history}
-use Rattle.regex_automata.specs.Owing.{IsStep}
-use Rattle.regex_automata.specs.Replies.{IsReply, IsOwedBy, IsStepOf, walk_fault, AreReplies, AreRepliesAfter, AreToldFrom, tell, told_to, TellWalks, dfa_of, direction_of}
+use Rattle.automata_hybrid.specs.Walks.Answers.{half_nth}
+use Rattle.regex_automata.specs.Replay.Histories.{Begun, History, start, stepped, step_at, after, history}
+use Rattle.regex_automata.specs.Spans.Contracts.{IsStep}
+use Rattle.regex_automata.specs.Replay.Replies.{IsReply, IsOwedBy, IsStepOf, walk_fault, AreReplies, AreRepliesAfter}
+use Rattle.regex_automata.specs.Replay.Replies.{AreToldFrom, tell, told_to, TellWalks, dfa_of, direction_of}
 use Rattle.regex_automata.specs.declared.hybrid.regex.Regex.{Regex}
 use Rattle.regex_automata.specs.declared.replay.requests.Request.{Request}
 use Rattle.regex_automata.specs.declared.replay.requests.Request.TheVariants as request

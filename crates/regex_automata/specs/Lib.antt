@@ -1,19 +1,12 @@
-pub mod SoundPairs
-pub mod Outcomes
-pub mod RegexBuilds
-pub mod RegexCaches
-pub mod RegexRefusals
-pub mod Costs
-pub mod Iterating
-pub mod Lending
-pub mod Agreeing
-pub mod Matching
-pub mod RegexEffects
-pub mod RegexProgress
-pub mod Owing
+-- The definitions by subject. A caller needs one module, Promises: it has the words for contracts of one's own. What the
+-- calls of a regex promise stands in these:
+--
+--     Regexes    the two DFAs of a regex, when they are a sound pair, how a builder makes them; the two caches
+--     Spans      what a search for a match with its start returns (Contracts); iterations, errors, effects, costs
+--     Tokens     the tokens of an input, one after another
+--     Replay     a list of requests over one cache: each reply is its request's own value (Replies)
+pub mod Regexes
+pub mod Spans
+pub mod Replay
 pub mod Tokens
-pub mod Histories
-pub mod Replies
-pub mod ReplayCaches
-pub mod Players
 pub mod Promises

@@ -2,52 +2,53 @@
 -- `m.config` its settings.
 
 -- The cache belongs to the DFA; the caches belong to the two DFAs of the regex. Each call needs it and gives it back.
-pub use Rattle.automata_hybrid.specs.Caches.{CacheView, IsCacheOf}
-pub use Rattle.regex_automata.specs.RegexCaches.{AreCachesOf}
+pub use Rattle.automata_hybrid.specs.Cache.Caches.{CacheView, IsCacheOf}
+pub use Rattle.regex_automata.specs.Regexes.Caches.{AreCachesOf}
 -- What contracts see of a DFA; its NFA, as paths need it; its match kind.
-pub use Rattle.automata_hybrid.specs.Machine.{Machine}
-pub use Rattle.automata_base.specs.Nodes.{nfa_of}
+pub use Rattle.automata_hybrid.specs.Machines.Machine.{Machine}
+pub use Rattle.automata_base.specs.Nfas.Nodes.{nfa_of}
 pub use Rattle.automata_config.specs.Options.{match_kind_of}
 pub use Rattle.automata_base.specs.declared.util.search.MatchKind.TheVariants.{All as KindAll, LeftmostFirst}
 -- What is searched: a span of a haystack, an anchored mode, and whether the search stops at its first match. A span
 -- that may be set.
-pub use Rattle.automata_base.specs.Input.{Input, Allows}
-pub use Rattle.automata_base.specs.Tapes.{IsHaystack}
+pub use Rattle.automata_base.specs.Haystacks.Input.{Input, Allows}
+pub use Rattle.automata_base.specs.Haystacks.Tapes.{IsHaystack}
 pub use Rattle.automata_base.specs.declared.util.search.Anchored.TheVariants.{No, Yes, Pattern}
 -- No cycle of epsilon transitions passes a look-around assertion. Answers by ordered paths need it.
-pub use Rattle.automata_base.specs.Paths.{IsLookAcyclic}
+pub use Rattle.automata_base.specs.Paths.Paths.{IsLookAcyclic}
 -- A match's pattern and end: of a search that returns it; and of one by paths, with the start of the span that gave it.
-pub use Rattle.automata_base.specs.Matches.{HalfMatch}
-pub use Rattle.automata_base.specs.Answers.{Half}
+pub use Rattle.automata_base.specs.Haystacks.Matches.{HalfMatch}
+pub use Rattle.automata_base.specs.Answers.Answers.{Half}
 -- The forward search's answer by the ordered paths; the nearest end of any path.
-pub use Rattle.automata_base.specs.Answers.{IsAnswer}
-pub use Rattle.automata_base.specs.Told.{IsNearestAnswer}
-pub use Rattle.automata_base.specs.Engines.{engine_of}
-pub use Rattle.automata_base.specs.Tapes.{Backward, Forward}
+pub use Rattle.automata_base.specs.Answers.Answers.{IsAnswer}
+pub use Rattle.automata_base.specs.Answers.OfPasses.{IsNearestAnswer}
+pub use Rattle.automata_base.specs.Nfas.Engines.{engine_of}
+pub use Rattle.automata_base.specs.Haystacks.Tapes.{Backward, Forward}
 -- What a search returns by its DFA and its input alone, and the part of it that holds for every NFA.
-pub use Rattle.automata_hybrid.specs.Owing.{IsHalf}
-pub use Rattle.automata_hybrid.specs.Searches.{IsFound, Skips, WithoutBase, without_base}
-pub use Rattle.automata_hybrid.specs.Agreeing.{AnswersAgree}
+pub use Rattle.automata_hybrid.specs.Searches.Contracts.{IsHalf}
+pub use Rattle.automata_hybrid.specs.Searches.Passes.{IsFound, Skips, WithoutBase, without_base}
+pub use Rattle.automata_hybrid.specs.Searches.Agreement.{AnswersAgree}
 -- An overlapping search as contracts see it; it belongs to this input, and has reported so many matches; the list that it
 -- reports, the match at an index of it, and what a call returns and does to the walk.
-pub use Rattle.automata_hybrid.specs.Walks.{Walk}
-pub use Rattle.automata_hybrid.specs.Walking.{AreWalked, HasTold, IsWalkOf, TellsNext, half_nth}
-pub use Rattle.automata_hybrid.specs.OwingWalks.{IsWalkCall}
+pub use Rattle.automata_hybrid.specs.Walks.State.{Walk}
+pub use Rattle.automata_hybrid.specs.Walks.Answers.{AreWalked, HasTold, IsWalkOf, TellsNext, half_nth}
+pub use Rattle.automata_hybrid.specs.Walks.Contracts.{IsWalkCall}
 -- Some path of the pattern, from a start and through the span of an input, ends in a match; under `MatchKind::All` a set
 -- has exactly these patterns after a call that answers.
-pub use Rattle.automata_hybrid.specs.Accepting.{MatchesIn, SetsHaveMatching}
-pub use Rattle.automata_hybrid.specs.OwingWalks.{IsWhich}
+pub use Rattle.automata_hybrid.specs.Walks.SetsByPaths.{MatchesIn, SetsHaveMatching}
+pub use Rattle.automata_hybrid.specs.Walks.Contracts.{IsWhich}
 -- The two DFAs of a regex are a sound pair: spans need it. A regex that `build_from_nfa` returns is one.
-pub use Rattle.regex_automata.specs.SoundPairs.{IsSoundPair}
+pub use Rattle.regex_automata.specs.Regexes.SoundPairs.{IsSoundPair}
 -- The patterns of a set, as a list; a member of a list.
-pub use Rattle.automata_base.specs.PatternSet.{members}
+pub use Rattle.automata_base.specs.Haystacks.PatternSet.{members}
 pub use Rattle.automata_base.specs.Lists.{In}
 -- A token at an offset: it begins there, ends later, and has the bytes between. No token at an offset: the search there
 -- finds no match, or an empty one. The type `Token` itself is in `specs.declared.tokens.Token`.
 pub use Rattle.regex_automata.specs.Tokens.{IsTokenAt, IsNoTokenAt}
 -- A step may be taken from this ID: the cache has its row. Each start and each step gives this for the ID that it
 -- returns.
-pub use Rattle.automata_hybrid.specs.Standing.{HoldsRow}
+pub use Rattle.automata_hybrid.specs.Steps.BySteps.{HoldsRow}
 -- A search by steps that stops at its first match stands before the byte at an offset, in the state of this ID; the
 -- unit at an offset; what a step over it means; the first pattern of a match state; the first match, or none.
-pub use Rattle.automata_hybrid.specs.Standing.{StandsAt, IsUnitAt, IsStepAt, IsFirstPattern, HasPatterns, IsFirstMatch, FirstMatchIsFound}
+pub use Rattle.automata_hybrid.specs.Steps.BySteps.{StandsAt, IsUnitAt, IsStepAt, IsFirstPattern, HasPatterns}
+pub use Rattle.automata_hybrid.specs.Steps.BySteps.{IsFirstMatch, FirstMatchIsFound}

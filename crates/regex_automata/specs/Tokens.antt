@@ -1,25 +1,25 @@
 -- The tokens of an input, one after another.
 use Rattle.std.specs.Prelude.{ℕ, ◌≡◌, ◌<◌, ◌≤◌, ◌⊎◌, ◌-◌, ◌++◌, Bool, true, false, if◌then◌else◌, nat_lt, List, [], ◌∷◌}
 use Rattle.std.specs.Prelude.{length, Option, None, Some, Result, Ok, Err, IfErr, IfSome, slice_range}
-use Rattle.automata_base.specs.Answers.{IsAnswer}
-use Rattle.automata_base.specs.Engines.{engine_of}
-use Rattle.automata_base.specs.Input.{Input}
-use Rattle.automata_base.specs.Matches.{HalfMatch, Match}
-use Rattle.automata_base.specs.Nodes.{nfa_of}
-use Rattle.automata_base.specs.Paths.{IsLookAcyclic}
-use Rattle.automata_base.specs.Tapes.{Forward}
+use Rattle.automata_base.specs.Answers.Answers.{IsAnswer}
+use Rattle.automata_base.specs.Nfas.Engines.{engine_of}
+use Rattle.automata_base.specs.Haystacks.Input.{Input}
+use Rattle.automata_base.specs.Haystacks.Matches.{HalfMatch, Match}
+use Rattle.automata_base.specs.Nfas.Nodes.{nfa_of}
+use Rattle.automata_base.specs.Paths.Paths.{IsLookAcyclic}
+use Rattle.automata_base.specs.Haystacks.Tapes.{Forward}
 use Rattle.automata_base.specs.declared.util.search.Anchored.TheVariants.{Yes}
 use Rattle.automata_config.specs.declared.error.SearchError.{SearchError}
 use Rattle.automata_config.specs.declared.error.SearchError.TheVariants as search
-use Rattle.automata_hybrid.specs.Caches.{CacheView}
-use Rattle.automata_hybrid.specs.Growing.{ClearedNothing, IsGrown, IsStill}
-use Rattle.automata_hybrid.specs.Knowing.{IsOfInput, Knows, KnowsItsStart}
-use Rattle.automata_hybrid.specs.Stores.{Stored}
-use Rattle.automata_hybrid.specs.Machine.{Machine}
-use Rattle.automata_hybrid.specs.Owing.{IsHalf, IsMemory, IsUnhindered}
-use Rattle.automata_hybrid.specs.Searched.{EndsProgress, LeavesProgress}
-use Rattle.automata_hybrid.specs.Searches.{IsFound, IsRefused, WithoutBase}
-use Rattle.regex_automata.specs.Costs.{IsPassCost}
+use Rattle.automata_hybrid.specs.Cache.Caches.{CacheView}
+use Rattle.automata_hybrid.specs.Cache.Growth.{ClearedNothing, IsGrown, IsStill}
+use Rattle.automata_hybrid.specs.Searches.Cached.{IsOfInput, Knows, KnowsItsStart}
+use Rattle.automata_hybrid.specs.Cache.Stores.{Stored}
+use Rattle.automata_hybrid.specs.Machines.Machine.{Machine}
+use Rattle.automata_hybrid.specs.Searches.Contracts.{IsHalf, IsMemory, IsUnhindered}
+use Rattle.automata_hybrid.specs.Searches.Progress.{EndsProgress, LeavesProgress}
+use Rattle.automata_hybrid.specs.Searches.Passes.{IsFound, IsRefused, WithoutBase}
+use Rattle.regex_automata.specs.Spans.Costs.{IsPassCost}
 use Rattle.regex_automata.specs.declared.tokens.error.TokenError.{TokenError}
 use Rattle.regex_automata.specs.declared.tokens.error.TokenError.TheVariants.{NoToken, Search}
 use Rattle.regex_automata.specs.declared.tokens.token.Token.{Token}

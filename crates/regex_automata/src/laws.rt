@@ -1,5 +1,5 @@
 //! Laws about searches over two lazy DFAs. The contract of each function is the law; its body only cites other laws.
-ghost use Rattle.regex_automata.specs.Agreeing.{MatchesAgree, TruthIffFound, TruthsAgree};
+ghost use Rattle.regex_automata.specs.Spans.Agreement.{MatchesAgree, TruthIffFound, TruthsAgree};
 
 use automata_base::laws::passes_tell_paths;
 pub use automata_base::laws::{start_is_right, walk_is_right};

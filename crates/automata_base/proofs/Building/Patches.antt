@@ -1,13 +1,14 @@
 -- One state of a list is patched.
-use Rattle.std.proofs.Common.{ℕ, ◌≡◌, ◌<◌, List, length, map, set, get_or, Option, Some, None, Result, Ok, Err, refl, sym, ap, ◌∙◌}
+use Rattle.std.proofs.Common.{ℕ, ◌≡◌, ◌<◌, List, length, map, set, get_or, Option, Some, None, Result, Ok, Err, refl}
+use Rattle.std.proofs.Common.{sym, ap, ◌∙◌}
 use Rattle.std.specs.Prelude.{slice_get, OnOk, OnErr}
 use Rattle.std.proofs.Math.Seq.{map-set_same}
 use Rattle.std.proofs.lemmas.List.{map-set}
 use Rattle.std.proofs.lemmas.Option.{slice_get-map, slice_get_read}
 use Rattle.automata_base.specs.declared.nfa.thompson.building.Added.{Added}
 use Rattle.automata_base.specs.declared.nfa.thompson.Flags.{Flags}
-use Rattle.automata_base.specs.Drafts.{Draft, with_states}
-use Rattle.automata_base.specs.Shapes.{Shape, shape_added, patched}
+use Rattle.automata_base.specs.Nfas.Drafts.{Draft, with_states}
+use Rattle.automata_base.specs.Nfas.Shapes.{Shape, shape_added, patched}
 
 same_shape : (x y : Shape) → ◌≡◌ {A = Option Shape} (Some x) (Some y) → x ≡ y
 same_shape x y e = cc

@@ -1,21 +1,24 @@
 -- An NFA that starts at a lazy loop which was added last skips lazily.
-use Rattle.std.proofs.Common.{ℕ, zero, suc, ◌≡◌, ◌<◌, ◌+◌, List, [], ◌∷◌, ◌++◌, length, map, Option, Some, None, inl, inr, refl, sym, ap, ◌∙◌, subst, arith}
+use Rattle.std.proofs.Common.{ℕ, zero, suc, ◌≡◌, ◌<◌, ◌+◌, List, [], ◌∷◌, ◌++◌, length, map, Option, Some, None, inl}
+use Rattle.std.proofs.Common.{inr, refl, sym, ap, ◌∙◌, subst, arith}
 use Rattle.std.specs.Prelude.{slice_get}
 use Rattle.std.specs.Option.{option_map}
 use Rattle.std.proofs.lemmas.List.{map-append, length-map}
 use Rattle.std.proofs.lemmas.Option.{slice_get-map}
 use Rattle.automata_base.specs.declared.nfa.thompson.State.{State}
 use Rattle.automata_base.specs.declared.nfa.thompson.State.TheVariants as is
-use Rattle.automata_base.specs.Door.{IsDoor}
-use Rattle.automata_base.specs.Drafts.{Outline, PrefixesSkipLazily, prefix_of}
-use Rattle.automata_base.specs.Engines.{HasEdge, Road, Reaches}
-use Rattle.automata_base.specs.Getters.{SkipsLazily}
+use Rattle.automata_base.specs.Nfas.Accepted.{IsDoor}
+use Rattle.automata_base.specs.Nfas.Drafts.{Outline, PrefixesSkipLazily, prefix_of}
+use Rattle.automata_base.specs.Nfas.Engines.{HasEdge, Road, Reaches}
+use Rattle.automata_base.specs.Nfas.Getters.{SkipsLazily}
 use Rattle.automata_base.specs.Lists.{nth}
-use Rattle.automata_base.specs.Nfa.{Node, Split, Assert, Read, Accept, node, node_or_fail, hop_at, takes_at}
-use Rattle.automata_base.specs.Nodes.{Automaton, nfa_of, node_of, nodes_of, ranges_of, dense_from}
-use Rattle.automata_base.specs.Paths.{all_true}
-use Rattle.automata_base.specs.Shapes.{Shape, EmptyShape, RangeShape, SparseShape, DenseShape, LookShape, UnionShape, UnionReverseShape, BinaryUnionShape, CaptureShape, FailShape, MatchShape, shape_of, built_of}
-use Rattle.automata_base.specs.Visits.{children}
+use Rattle.automata_base.specs.Nfas.Nfa.{Node, Split, Assert, Read, Accept, node, node_or_fail, hop_at, takes_at}
+use Rattle.automata_base.specs.Nfas.Nodes.{Automaton, nfa_of, node_of, nodes_of, ranges_of, dense_from}
+use Rattle.automata_base.specs.Paths.Paths.{all_true}
+use Rattle.automata_base.specs.Nfas.Shapes.{Shape, EmptyShape, RangeShape, SparseShape, DenseShape, LookShape}
+use Rattle.automata_base.specs.Nfas.Shapes.{UnionShape, UnionReverseShape, BinaryUnionShape, CaptureShape, FailShape}
+use Rattle.automata_base.specs.Nfas.Shapes.{MatchShape, shape_of, built_of}
+use Rattle.automata_base.specs.Powersets.Closure.{children}
 use Rattle.automata_base.proofs.Paths.FirstVisits.{hop_children}
 use Rattle.automata_base.proofs.Reaching.DepthFirst.{nth_in}
 

@@ -1,5 +1,6 @@
 -- `NFA::from_states` fails on the states that are built exactly as on all states of the same shapes.
-use Rattle.std.proofs.Common.{ℕ, ◌≡◌, ◌⊎◌, List, [], ◌++◌, map, Some, None, Result, Ok, Err, inl, inr, refl, sym, ap, ◌∙◌, subst}
+use Rattle.std.proofs.Common.{ℕ, ◌≡◌, ◌⊎◌, List, [], ◌++◌, map, Some, None, Result, Ok, Err, inl, inr, refl, sym, ap}
+use Rattle.std.proofs.Common.{◌∙◌, subst}
 use Rattle.std.specs.Prelude.{IsOkUnless}
 use Rattle.automata_base.specs.declared.nfa.thompson.NfaError.{NfaError}
 use Rattle.automata_base.specs.declared.nfa.thompson.NfaError.TheVariants as door
@@ -7,9 +8,9 @@ use Rattle.automata_base.specs.declared.nfa.thompson.State.{State}
 use Rattle.automata_base.specs.declared.nfa.thompson.building.Added.{Added}
 use Rattle.automata_base.specs.declared.nfa.thompson.building.BuildError.{BuildError}
 use Rattle.automata_base.specs.declared.nfa.thompson.building.BuildError.TheVariants.{NFA, OutOfMemory}
-use Rattle.automata_base.specs.Drafts.{build_error}
-use Rattle.automata_base.specs.Refusals.{door_refusal}
-use Rattle.automata_base.specs.Shapes.{Shape, shape_of, shape_added, built_of}
+use Rattle.automata_base.specs.Nfas.Drafts.{build_error}
+use Rattle.automata_base.specs.Nfas.Errors.{door_refusal}
+use Rattle.automata_base.specs.Nfas.Shapes.{Shape, shape_of, shape_added, built_of}
 use Rattle.automata_base.proofs.Building.Shapes.{refused_alike}
 
 apart : {A : Type 0} (x : A) (e : NfaError) → ◌≡◌ {A = Result A NfaError} (Ok x) (Err e) → ⊥

@@ -1,13 +1,18 @@
 -- The tests of `NFA::from_states` depend only on what shapes say, so two lists of states of the same shapes fail alike.
-use Rattle.std.proofs.Common.{ℕ, ◌≡◌, ◌+◌, ◌^◌, ◌&&◌, Bool, true, leb, ltb, List, [], ◌∷◌, length, map, suc, Option, refl, sym, ap, ◌∙◌}
+use Rattle.std.proofs.Common.{ℕ, ◌≡◌, ◌+◌, ◌^◌, ◌&&◌, Bool, true, leb, ltb, List, [], ◌∷◌, length, map, suc, Option}
+use Rattle.std.proofs.Common.{refl, sym, ap, ◌∙◌}
 use Rattle.std.specs.Prelude.{sum_by}
 use Rattle.std.proofs.lemmas.List.Sums.{sum_by-cons}
 use Rattle.automata_base.specs.declared.nfa.thompson.NfaError.{NfaError}
 use Rattle.automata_base.specs.declared.nfa.thompson.State.{State}
 use Rattle.automata_base.specs.declared.nfa.thompson.State.TheVariants as is
 use Rattle.automata_base.specs.Lists.{all_below}
-use Rattle.automata_base.specs.Refusals.{transitions_below, state_below, states_below, match_below, matches_below, ordered_from, state_ordered, states_ordered, alternates_of, starts_below, door_refusal}
-use Rattle.automata_base.specs.Shapes.{Shape, EmptyShape, RangeShape, SparseShape, DenseShape, LookShape, UnionShape, UnionReverseShape, BinaryUnionShape, CaptureShape, FailShape, MatchShape, shape_of}
+use Rattle.automata_base.specs.Nfas.Errors.{transitions_below, state_below, states_below, match_below, matches_below}
+use Rattle.automata_base.specs.Nfas.Errors.{ordered_from, state_ordered, states_ordered, alternates_of, starts_below}
+use Rattle.automata_base.specs.Nfas.Errors.{door_refusal}
+use Rattle.automata_base.specs.Nfas.Shapes.{Shape, EmptyShape, RangeShape, SparseShape, DenseShape, LookShape}
+use Rattle.automata_base.specs.Nfas.Shapes.{UnionShape, UnionReverseShape, BinaryUnionShape, CaptureShape, FailShape}
+use Rattle.automata_base.specs.Nfas.Shapes.{MatchShape, shape_of}
 use Rattle.automata_base.proofs.Reaching.Refused.{chain, refusal_is}
 
 abbrev shape_below : ℕ → Shape → Bool

@@ -1,4 +1,5 @@
-use Rattle.std.proofs.Common.{◌≡◌, ℕ, zero, suc, List, [], ◌∷◌, ◌++◌, cond, ◌+◌, ◌*◌, ◌-◌, ◌/◌, ◌%◌, ◌^◌, ◌<◌, ◌≤◌, refl, ap, sym, ◌∙◌, arith, append_assoc, length, length-append, drop, nat_lt}
+use Rattle.std.proofs.Common.{◌≡◌, ℕ, zero, suc, List, [], ◌∷◌, ◌++◌, cond, ◌+◌, ◌*◌, ◌-◌, ◌/◌, ◌%◌, ◌^◌, ◌<◌, ◌≤◌}
+use Rattle.std.proofs.Common.{refl, ap, sym, ◌∙◌, arith, append_assoc, length, length-append, drop, nat_lt}
 use Rattle.std.specs.List.{AllByRecursion, flat_map}
 use Rattle.std.proofs.Common.{get_or, add-one, subst, take}
 use Rattle.std.proofs.lemmas.List.{get_or_read}
@@ -8,8 +9,9 @@ use Rattle.std.proofs.Math.Seq.{drop-cons}
 use Rattle.std.proofs.lemmas.Bool.{cond-true, cond-false, lt-ltb, le-ltb, ltb-true, cond_both}
 use Rattle.std.proofs.lemmas.Bool.Decides.{nat_tests}
 use Rattle.std.proofs.lemmas.Nat.{from_le_bytes-to_le_bytes_4}
-use Rattle.automata_base.specs.Powerset.{IsId}
-use Rattle.automata_base.specs.Code.{FitsGroups, IsFront, AreIds, groups, varint, numbers, with_low, difference, id_at, ids_code, ids_of, four_bytes, numbers_at, bit}
+use Rattle.automata_base.specs.Powersets.Powerset.{IsId}
+use Rattle.automata_base.specs.Powersets.Code.{FitsGroups, IsFront, AreIds, groups, varint, numbers, with_low}
+use Rattle.automata_base.specs.Powersets.Code.{difference, id_at, ids_code, ids_of, four_bytes, numbers_at, bit}
 
 pub groups-more : (k n : ℕ) → FitsGroups k n → groups k n ≡ groups (suc k) n
 unfolding groups

@@ -1,13 +1,17 @@
-use Rattle.std.proofs.Common.{◌≡◌, ℕ, List, [], ◌∷◌, ◌++◌, Bool, true, false, cond, ◌+◌, ◌*◌, ◌^◌, ◌<◌, ◌≤◌, refl, ap, sym, ◌∙◌, arith, length, length-append, drop, subst, inl, inr, nat_eq}
+use Rattle.std.proofs.Common.{◌≡◌, ℕ, List, [], ◌∷◌, ◌++◌, Bool, true, false, cond, ◌+◌, ◌*◌, ◌^◌, ◌<◌, ◌≤◌, refl, ap}
+use Rattle.std.proofs.Common.{sym, ◌∙◌, arith, length, length-append, drop, subst, inl, inr, nat_eq}
 use Rattle.std.specs.List.{AllByRecursion, IsDistinct, flat_map, list_any}
 use Rattle.std.specs.Int.{w32, from_le_bytes}
 use Rattle.std.proofs.lemmas.Bool.{cond-true, cond_both, or_cases, eqb-true, ltb-false}
 use Rattle.std.proofs.lemmas.Nat.{from_le_bytes-to_le_bytes_4}
 use Rattle.std.proofs.lemmas.Map.Steps.{length-le_from_distinct_below}
 use Rattle.std.proofs.lemmas.List.{drop_at}
-use Rattle.automata_base.specs.Powerset.{Powerset, IsPowerset, IsId, cost}
-use Rattle.automata_base.specs.Code.{flag_byte, has_any, is_listed, four_bytes, patterns_code, ids_code, code, is_set, number_at, numbers_at, numbers, ids_of, patterns_of, ids_bytes, decoded, IsCode}
-use Rattle.automata_base.proofs.Coding.Groups.{ids_of-ids_code, numbers_at-four_bytes, length-four_bytes, length-ids_code}
+use Rattle.automata_base.specs.Powersets.Powerset.{Powerset, IsPowerset, IsId, cost}
+use Rattle.automata_base.specs.Powersets.Code.{flag_byte, has_any, is_listed, four_bytes, patterns_code, ids_code, code}
+use Rattle.automata_base.specs.Powersets.Code.{is_set, number_at, numbers_at, numbers, ids_of, patterns_of, ids_bytes}
+use Rattle.automata_base.specs.Powersets.Code.{decoded, IsCode}
+use Rattle.automata_base.proofs.Coding.Groups.{ids_of-ids_code, numbers_at-four_bytes, length-four_bytes}
+use Rattle.automata_base.proofs.Coding.Groups.{length-ids_code}
 
 -- the four bits of the first byte
 pub flag_bits : (a b c d : Bool) (rest : List ℕ) → (is_set 1 (flag_byte a b c d ∷ rest) ≡ a) × (is_set 2 (flag_byte a b c d ∷ rest) ≡ b) × (is_set 4 (flag_byte a b c d ∷ rest) ≡ c) × (is_set 8 (flag_byte a b c d ∷ rest) ≡ d)

@@ -1,11 +1,13 @@
-use Rattle.std.proofs.Common.{◌≡◌, ℕ, zero, suc, List, ◌++◌, true, ◌+◌, ◌*◌, ◌-◌, ◌^◌, ◌<◌, ◌≤◌, refl, ap, sym, ◌∙◌, arith, length, length-append, drop, take, get_or}
+use Rattle.std.proofs.Common.{◌≡◌, ℕ, zero, suc, List, ◌++◌, true, ◌+◌, ◌*◌, ◌-◌, ◌^◌, ◌<◌, ◌≤◌, refl, ap, sym, ◌∙◌}
+use Rattle.std.proofs.Common.{arith, length, length-append, drop, take, get_or}
 use Rattle.std.specs.List.{flat_map}
 use Rattle.std.specs.Int.{w32, from_le_bytes}
 use Rattle.std.proofs.lemmas.Bool.{cond-true}
 use Rattle.std.proofs.lemmas.List.{drop-drop, length-drop}
 use Rattle.std.proofs.Math.Seq.{take-length}
 use Rattle.std.proofs.lemmas.Nat.{from_le_bytes-to_le_bytes_4}
-use Rattle.automata_base.specs.Code.{has_any, is_listed, four_bytes, patterns_code, ids_code, is_set, number_at, numbers_at, patterns_of, ids_bytes, decoded, IsCode, AreIds}
+use Rattle.automata_base.specs.Powersets.Code.{has_any, is_listed, four_bytes, patterns_code, ids_code, is_set}
+use Rattle.automata_base.specs.Powersets.Code.{number_at, numbers_at, patterns_of, ids_bytes, decoded, IsCode, AreIds}
 use Rattle.automata_base.proofs.Coding.Groups.{length-four_bytes}
 use Rattle.automata_base.proofs.Coding.Inverse.{flag_bits, count_fits, listed_has, ids_bytes-code}
 

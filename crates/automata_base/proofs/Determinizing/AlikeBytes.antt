@@ -1,10 +1,10 @@
 -- Bytes that an automaton does not tell apart.
 use Rattle.std.specs.Prelude.{ℕ, ◌≡◌, Bool, true, false, eqb}
-use Rattle.automata_base.specs.Computed.{any_node}
-use Rattle.automata_base.specs.Looks.{Look, StartLF, EndLF, is_word_byte}
-use Rattle.automata_base.specs.Nfa.{takes}
-use Rattle.automata_base.specs.Nodes.{Automaton, nfa_of}
-use Rattle.automata_base.specs.Passes.{is_word_look, is_crlf_look}
+use Rattle.automata_base.specs.Retraced.ComputedPass.{any_node}
+use Rattle.automata_base.specs.Haystacks.Looks.{Look, StartLF, EndLF, is_word_byte}
+use Rattle.automata_base.specs.Nfas.Nfa.{takes}
+use Rattle.automata_base.specs.Nfas.Nodes.{Automaton, nfa_of}
+use Rattle.automata_base.specs.Powersets.Passes.{is_word_look, is_crlf_look}
 
 -- The looks that ask for the line terminator.
 abbrev pub is_line_look : Look → Bool

@@ -1,21 +1,25 @@
 -- The automaton tells no byte from another of its class.
-use Rattle.std.proofs.Common.{ℕ, zero, suc, ◌≡◌, ◌+◌, ◌-◌, ◌<◌, ◌≤◌, ◌⊎◌, ◌||◌, Bool, true, false, not, cond, eqb, List, [], ◌∷◌, get_or, Option, Some, None, refl, sym, ap, ◌∙◌, inl, inr, true≢false, arith}
+use Rattle.std.proofs.Common.{ℕ, zero, suc, ◌≡◌, ◌+◌, ◌-◌, ◌<◌, ◌≤◌, ◌⊎◌, ◌||◌, Bool, true, false, not, cond, eqb, List}
+use Rattle.std.proofs.Common.{[], ◌∷◌, get_or, Option, Some, None, refl, sym, ap, ◌∙◌, inl, inr, true≢false, arith}
 use Rattle.std.proofs.lemmas.Bool.{or_parts, eqb-true, cases_lt}
 use Rattle.std.proofs.lemmas.Grind.{common_steps}
 use Rattle.automata_base.specs.declared.nfa.thompson.State.{State}
 use Rattle.automata_base.specs.declared.nfa.thompson.State.TheVariants as is
 use Rattle.automata_base.specs.declared.nfa.thompson.Transition.{Transition}
-use Rattle.automata_base.specs.Classes.{is_quit, bounds, transitions_bound, targets_bound, quits_bound, look_bounds, state_bounds, states_bound, is_boundary, boundary_count, class_of}
-use Rattle.automata_base.specs.Looks.{differ}
-use Rattle.automata_base.specs.Computed.{any_node, looks_at}
+use Rattle.automata_base.specs.ByteClasses.Classes.{is_quit, bounds, transitions_bound, targets_bound, quits_bound}
+use Rattle.automata_base.specs.ByteClasses.Classes.{look_bounds, state_bounds, states_bound, is_boundary}
+use Rattle.automata_base.specs.ByteClasses.Classes.{boundary_count, class_of}
+use Rattle.automata_base.specs.Haystacks.Looks.{differ}
+use Rattle.automata_base.specs.Retraced.ComputedPass.{any_node, looks_at}
 use Rattle.automata_base.specs.Lists.{nth}
-use Rattle.automata_base.specs.Cuts.{MatchKind}
-use Rattle.automata_base.specs.Looks.{Look, Start, End, StartLF, EndLF, StartCRLF, EndCRLF, within, is_word_byte}
-use Rattle.automata_base.specs.Nfa.{takes, takes_at, takes_in, node_or_fail}
-use Rattle.automata_base.specs.Nodes.{Automaton, nfa_of, node_of, nodes_of, ranges_of, dense_from}
-use Rattle.automata_base.specs.Passes.{is_word_look, is_crlf_look}
-use Rattle.automata_base.specs.Powerset.{Powerset}
-use Rattle.automata_base.specs.Steps.{successor, NeedsOwnLooks}
+use Rattle.automata_base.specs.Powersets.Cuts.{MatchKind}
+use Rattle.automata_base.specs.Haystacks.Looks.{Look, Start, End, StartLF, EndLF, StartCRLF, EndCRLF, within}
+use Rattle.automata_base.specs.Haystacks.Looks.{is_word_byte}
+use Rattle.automata_base.specs.Nfas.Nfa.{takes, takes_at, takes_in, node_or_fail}
+use Rattle.automata_base.specs.Nfas.Nodes.{Automaton, nfa_of, node_of, nodes_of, ranges_of, dense_from}
+use Rattle.automata_base.specs.Powersets.Passes.{is_word_look, is_crlf_look}
+use Rattle.automata_base.specs.Powersets.Powerset.{Powerset}
+use Rattle.automata_base.specs.Retraced.Steps.{successor, NeedsOwnLooks}
 use Rattle.automata_base.proofs.Determinizing.Alike.{alike_step}
 use Rattle.automata_base.proofs.Values.Boundaries.{count_none, count_grows}
 use Rattle.automata_base.proofs.Determinizing.AlikeBytes.{is_line_look, IsAlike}

@@ -1,13 +1,19 @@
 -- Units in which an NFA's looks see the same make the same of a list of states.
-use Rattle.std.proofs.Common.{ℕ, zero, suc, ◌≡◌, Bool, true, false, not, ◌&&◌, ◌||◌, cond, eqb, List, [], ◌∷◌, ◌++◌, length, Option, refl, ap, ap₂, ◌∙◌}
-use Rattle.automata_base.specs.Computed.{is_in, visits_with, first_visits, closure_of, any_node, any_state, always, known_looks, is_full, arrive, any_look, decide}
+use Rattle.std.proofs.Common.{ℕ, zero, suc, ◌≡◌, Bool, true, false, not, ◌&&◌, ◌||◌, cond, eqb, List, [], ◌∷◌, ◌++◌}
+use Rattle.std.proofs.Common.{length, Option, refl, ap, ap₂, ◌∙◌}
+use Rattle.automata_base.specs.Retraced.ComputedPass.{is_in, visits_with, first_visits, closure_of, any_node, any_state}
+use Rattle.automata_base.specs.Retraced.ComputedPass.{always, known_looks, is_full, arrive, any_look, decide}
 use Rattle.automata_base.specs.Lists.{pick}
-use Rattle.automata_base.specs.Looks.{Look, Start, End, StartLF, EndLF, StartCRLF, EndCRLF, WordAscii, WordAsciiNegate, WordUnicode, WordUnicodeNegate, WordStartAscii, WordEndAscii, WordStartUnicode, WordEndUnicode, WordStartHalfAscii, WordEndHalfAscii, WordStartHalfUnicode, WordEndHalfUnicode, is_absent, is_byte, is_word, differ, first_half, second_half, look_index}
-use Rattle.automata_base.specs.Nfa.{Nfa, Node, Split, Assert, Read, Accept, Truth, node, keep}
-use Rattle.automata_base.specs.Passes.{Occurs, is_word_look, is_crlf_look, decided, true_looks}
-use Rattle.automata_base.specs.Powerset.{Powerset}
-use Rattle.automata_base.specs.Truths.{truth_of, set_of, all_looks}
-use Rattle.automata_base.specs.Visits.{children, children_at}
+use Rattle.automata_base.specs.Haystacks.Looks.{Look, Start, End, StartLF, EndLF, StartCRLF, EndCRLF, WordAscii}
+use Rattle.automata_base.specs.Haystacks.Looks.{WordAsciiNegate, WordUnicode, WordUnicodeNegate, WordStartAscii}
+use Rattle.automata_base.specs.Haystacks.Looks.{WordEndAscii, WordStartUnicode, WordEndUnicode, WordStartHalfAscii}
+use Rattle.automata_base.specs.Haystacks.Looks.{WordEndHalfAscii, WordStartHalfUnicode, WordEndHalfUnicode, is_absent}
+use Rattle.automata_base.specs.Haystacks.Looks.{is_byte, is_word, differ, first_half, second_half, look_index}
+use Rattle.automata_base.specs.Nfas.Nfa.{Nfa, Node, Split, Assert, Read, Accept, Truth, node, keep}
+use Rattle.automata_base.specs.Powersets.Passes.{Occurs, is_word_look, is_crlf_look, decided, true_looks}
+use Rattle.automata_base.specs.Powersets.Powerset.{Powerset}
+use Rattle.automata_base.specs.Haystacks.LookSets.{truth_of, set_of, all_looks}
+use Rattle.automata_base.specs.Powersets.Closure.{children, children_at}
 use Rattle.automata_base.proofs.Paths.Machines.{any_node_true, any_node_from, code_one}
 use Rattle.automata_base.proofs.Paths.Unique.{powerset_path}
 use Rattle.automata_base.proofs.Determinizing.AlikeBytes.{is_line_look}

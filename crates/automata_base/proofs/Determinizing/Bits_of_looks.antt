@@ -1,16 +1,17 @@
 -- Bits of look sets.
-use Rattle.std.proofs.Common.{min, ℕ, zero, suc, ltb, ◌+◌, ◌&&◌, not, true≢false, ◌≡◌, ◌<◌, ◌⊎◌, ◌||◌, ◌*◌, ◌%◌, ◌^◌, ◌≤◌, Bool, true, false, eqb, refl, sym, ap, ◌∙◌, inl, inr, subst, arith, w32}
+use Rattle.std.proofs.Common.{min, ℕ, zero, suc, ltb, ◌+◌, ◌&&◌, not, true≢false, ◌≡◌, ◌<◌, ◌⊎◌, ◌||◌, ◌*◌, ◌%◌, ◌^◌}
+use Rattle.std.proofs.Common.{◌≤◌, Bool, true, false, eqb, refl, sym, ap, ◌∙◌, inl, inr, subst, arith, w32}
 use Rattle.std.specs.Int.{bit_at}
 use Rattle.std.specs.Int.RustNames.{bit_or, bit_and}
 use Rattle.std.proofs.lemmas.Nat.Bits.{bit_at_set_same, bit_at_set_other, bit_at_and, bit_at_ones, bit_at-lt}
 use Rattle.std.proofs.lemmas.Bool.Decides.{eqb_tells}
 use Rattle.std.proofs.lemmas.Bool.{lt-ltb, le-ltb}
 use Rattle.std.proofs.lemmas.Grind.{common_steps}
-use Rattle.automata_base.specs.Truths.{truth_of, nth_look}
-use Rattle.automata_base.specs.Looks.{Look}
-use Rattle.automata_base.specs.Looks as l
-use Rattle.automata_base.specs.Nfa.{Truth}
-use Rattle.automata_base.specs.Looks.{look_index}
+use Rattle.automata_base.specs.Haystacks.LookSets.{truth_of, nth_look}
+use Rattle.automata_base.specs.Haystacks.Looks.{Look}
+use Rattle.automata_base.specs.Haystacks.Looks as l
+use Rattle.automata_base.specs.Nfas.Nfa.{Truth}
+use Rattle.automata_base.specs.Haystacks.Looks.{look_index}
 use Rattle.automata_base.proofs.Paths.Machines.{code_one}
 use Rattle.std.proofs.Math.Nat.{pow-le-pow_right}
 

@@ -1,9 +1,10 @@
 -- Dense states.
-use Rattle.std.proofs.Common.{ℕ, zero, suc, ◌≡◌, ◌<◌, ◌+◌, true, false, cond, List, [], ◌∷◌, length, get_or, Option, Some, None, refl, sym, ap, ◌∙◌, arith}
+use Rattle.std.proofs.Common.{ℕ, zero, suc, ◌≡◌, ◌<◌, ◌+◌, true, false, cond, List, [], ◌∷◌, length, get_or, Option}
+use Rattle.std.proofs.Common.{Some, None, refl, sym, ap, ◌∙◌, arith}
 use Rattle.std.proofs.lemmas.Grind.{common_steps}
-use Rattle.automata_base.specs.Nfa.{takes_in}
-use Rattle.automata_base.specs.Looks.{within}
-use Rattle.automata_base.specs.Nodes.{dense_from}
+use Rattle.automata_base.specs.Nfas.Nfa.{takes_in}
+use Rattle.automata_base.specs.Haystacks.Looks.{within}
+use Rattle.automata_base.specs.Nfas.Nodes.{dense_from}
 
 abbrev pub some_unless : ℕ → Option ℕ
 some_unless zero = None

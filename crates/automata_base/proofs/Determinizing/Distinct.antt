@@ -1,9 +1,10 @@
 -- Lists without repeats.
-use Rattle.std.proofs.Common.{◌≡◌, ◌≢◌, ◌<◌, ◌≤◌, ◌+◌, ◌⊎◌, ℕ, zero, suc, List, [], ◌∷◌, ◌++◌, length, get_or, refl, sym, ap, ◌∙◌, subst, inl, inr, arith, Bool, true, false, cond, eqb}
+use Rattle.std.proofs.Common.{◌≡◌, ◌≢◌, ◌<◌, ◌≤◌, ◌+◌, ◌⊎◌, ℕ, zero, suc, List, [], ◌∷◌, ◌++◌, length, get_or, refl}
+use Rattle.std.proofs.Common.{sym, ap, ◌∙◌, subst, inl, inr, arith, Bool, true, false, cond, eqb}
 use Rattle.std.specs.Prelude.{Contains, AllPairs, ◌==◌}
 use Rattle.std.proofs.lemmas.Bool.{cases_eq, eq-eqb, ne_eqb, cases_Bool, both_ways, false_from_ne_true, cond_both}
 use Rattle.automata_base.specs.Lists.{In}
-use Rattle.automata_base.specs.Once.{Distinct}
+use Rattle.automata_base.specs.Retraced.Once.{Distinct}
 
 abbrev pub Within : List ℕ → List ℕ → Type 0
 Within xs ys = (z : ℕ) → In z xs → In z ys

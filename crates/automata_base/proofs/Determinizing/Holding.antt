@@ -1,11 +1,14 @@
 -- What a sparse set holds, over its two lists.
-use Rattle.std.proofs.Common.{◌≡◌, ◌<◌, ◌≤◌, ◌+◌, ◌⊎◌, ℕ, List, [], ◌∷◌, ◌++◌, length, get_or, set, take, sym, ap, ◌∙◌, subst, inl, inr, arith, length-append}
+use Rattle.std.proofs.Common.{◌≡◌, ◌<◌, ◌≤◌, ◌+◌, ◌⊎◌, ℕ, List, [], ◌∷◌, ◌++◌, length, get_or, set, take, sym, ap, ◌∙◌}
+use Rattle.std.proofs.Common.{subst, inl, inr, arith, length-append}
 use Rattle.std.specs.Prelude.{Contains, AllPairs, ◌≢◌}
 use Rattle.std.proofs.lemmas.Bool.{cases_eq}
-use Rattle.std.proofs.lemmas.List.{get_or-take, length-take-le, get_or_default, length-set, get_or-set_same, get_or-set_other}
+use Rattle.std.proofs.lemmas.List.{get_or-take, length-take-le, get_or_default, length-set, get_or-set_same}
+use Rattle.std.proofs.lemmas.List.{get_or-set_other}
 use Rattle.automata_base.specs.Lists.{In}
-use Rattle.automata_base.specs.Once.{Distinct}
-use Rattle.automata_base.proofs.Determinizing.Distinct.{Contains-In, pairs_distinct, distinct_append, In-either, distinct_below}
+use Rattle.automata_base.specs.Retraced.Once.{Distinct}
+use Rattle.automata_base.proofs.Determinizing.Distinct.{Contains-In, pairs_distinct, distinct_append, In-either}
+use Rattle.automata_base.proofs.Determinizing.Distinct.{distinct_below}
 
 module _ (dense sparse : List ℕ) (len : ℕ) (within : len ≤ length dense)
     (below : (k : ℕ) → k < len → get_or dense k 0 < length dense)

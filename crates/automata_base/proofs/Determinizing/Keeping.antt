@@ -1,21 +1,24 @@
 -- Steps of the loops that read lists of states.
-use Rattle.std.proofs.Common.{ℕ, zero, suc, ◌≡◌, ◌<◌, ◌≤◌, ◌+◌, ◌||◌, Bool, true, false, cond, eqb, List, [], ◌∷◌, ◌++◌, length, get_or, take, drop, Option, Some, None, refl, sym, ap, ◌∙◌, subst, arith, append_assoc, append-nil, length-append}
+use Rattle.std.proofs.Common.{ℕ, zero, suc, ◌≡◌, ◌<◌, ◌≤◌, ◌+◌, ◌||◌, Bool, true, false, cond, eqb, List, [], ◌∷◌, ◌++◌}
+use Rattle.std.proofs.Common.{length, get_or, take, drop, Option, Some, None, refl, sym, ap, ◌∙◌, subst, arith}
+use Rattle.std.proofs.Common.{append_assoc, append-nil, length-append}
 use Rattle.std.proofs.lemmas.List.{at_drop_more, take_more, drop_all, take_all}
 use Rattle.std.proofs.lemmas.Nat.Bits.{bit_at-zero}
 use Rattle.automata_base.specs.Lists.{In, pick, cons_some}
-use Rattle.automata_base.specs.Looks.{Look}
-use Rattle.automata_base.specs.Nfa.{Nfa, Node, Split, Assert, Read, Accept, node, keep, stays_at, accepts, accepts_at, takes, takes_at}
-use Rattle.automata_base.specs.Computed.{looks_at, any_state, is_in}
-use Rattle.automata_base.specs.Looks.{look_index}
-use Rattle.automata_base.specs.Cuts.{cut, cut_behind, targets}
-use Rattle.automata_base.specs.Truths.{truth_of}
+use Rattle.automata_base.specs.Haystacks.Looks.{Look}
+use Rattle.automata_base.specs.Nfas.Nfa.{Nfa, Node, Split, Assert, Read, Accept, node, keep, stays_at, accepts}
+use Rattle.automata_base.specs.Nfas.Nfa.{accepts_at, takes, takes_at}
+use Rattle.automata_base.specs.Retraced.ComputedPass.{looks_at, any_state, is_in}
+use Rattle.automata_base.specs.Haystacks.Looks.{look_index}
+use Rattle.automata_base.specs.Powersets.Cuts.{cut, cut_behind, targets}
+use Rattle.automata_base.specs.Haystacks.LookSets.{truth_of}
 use Rattle.automata_base.proofs.Determinizing.Distinct.{In-get_or, In-either, distinct_append, distinct_below}
-use Rattle.automata_base.specs.Once.{once_from, Distinct}
-use Rattle.automata_base.specs.Computed.{once_past}
-use Rattle.automata_base.specs.Cuts.{IsOnce}
+use Rattle.automata_base.specs.Retraced.Once.{once_from, Distinct}
+use Rattle.automata_base.specs.Retraced.ComputedPass.{once_past}
+use Rattle.automata_base.specs.Powersets.Cuts.{IsOnce}
 use Rattle.automata_base.proofs.Paths.Machines.{once_right}
-use Rattle.automata_base.specs.Made.{AreMatched}
-use Rattle.automata_base.specs.Nodes.{Automaton, nfa_of}
+use Rattle.automata_base.specs.Powersets.Results.{AreMatched}
+use Rattle.automata_base.specs.Nfas.Nodes.{Automaton, nfa_of}
 use Rattle.automata_base.proofs.Paths.Fuels.{is_in_false}
 use Rattle.std.specs.Prelude.{All}
 use Rattle.std.proofs.Common.{inl, inr, ◌⊎◌}

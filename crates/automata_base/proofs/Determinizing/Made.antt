@@ -1,19 +1,20 @@
 -- What a start and a step make, of their parts.
-use Rattle.std.proofs.Common.{ℕ, ◌≡◌, ◌<◌, ◌≤◌, List, [], ◌∷◌, length, Option, Some, None, true, false, ◌↔◌, refl, sym, ap, ◌∙◌, subst, arith}
+use Rattle.std.proofs.Common.{ℕ, ◌≡◌, ◌<◌, ◌≤◌, List, [], ◌∷◌, length, Option, Some, None, true, false, ◌↔◌, refl, sym}
+use Rattle.std.proofs.Common.{ap, ◌∙◌, subst, arith}
 use Rattle.automata_base.specs.declared.util.search.Anchored.{Anchored}
-use Rattle.automata_base.specs.Accounting.{max_cost}
-use Rattle.automata_base.specs.Computed.{known_looks}
-use Rattle.automata_base.specs.Cuts.{MatchKind, cut_for, targets}
-use Rattle.automata_base.specs.Door.{IsDoor}
-use Rattle.automata_base.specs.Looks.{Look}
-use Rattle.automata_base.specs.Made.{AreMatched, IsClosureMade, IsStartMade, IsStepMade}
-use Rattle.automata_base.specs.Nodes.{Automaton, nfa_of}
-use Rattle.automata_base.specs.Passes.{IsDecided, IsKnownLook, IsMake, IsSuccessor}
-use Rattle.automata_base.specs.Paths.{IsClosure}
-use Rattle.automata_base.specs.Powerset.{Powerset, cost, dead}
-use Rattle.automata_base.specs.Starts.{IsOf, IsStartAt, IsStartOf, mode_start}
-use Rattle.automata_base.specs.Truths.{truth_of}
-use Rattle.automata_base.specs.Within.{TellsOwn}
+use Rattle.automata_base.specs.Powersets.Accounting.{max_cost}
+use Rattle.automata_base.specs.Retraced.ComputedPass.{known_looks}
+use Rattle.automata_base.specs.Powersets.Cuts.{MatchKind, cut_for, targets}
+use Rattle.automata_base.specs.Nfas.Accepted.{IsDoor}
+use Rattle.automata_base.specs.Haystacks.Looks.{Look}
+use Rattle.automata_base.specs.Powersets.Results.{AreMatched, IsClosureMade, IsStartMade, IsStepMade}
+use Rattle.automata_base.specs.Nfas.Nodes.{Automaton, nfa_of}
+use Rattle.automata_base.specs.Powersets.Passes.{IsDecided, IsKnownLook, IsMake, IsSuccessor}
+use Rattle.automata_base.specs.Paths.Paths.{IsClosure}
+use Rattle.automata_base.specs.Powersets.Powerset.{Powerset, cost, dead}
+use Rattle.automata_base.specs.Paths.Starts.{IsOf, IsStartAt, IsStartOf, mode_start}
+use Rattle.automata_base.specs.Haystacks.LookSets.{truth_of}
+use Rattle.automata_base.specs.Answers.Within.{TellsOwn}
 use Rattle.automata_base.proofs.Determinizing.Stepping.{is_start, is_successor, start_of_needs, successor_needs}
 use Rattle.automata_base.proofs.Determinizing.Within.{start_own, step_own}
 use Rattle.automata_base.proofs.Paths.Machines.{known_right}

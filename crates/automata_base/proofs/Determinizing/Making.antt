@@ -1,18 +1,19 @@
 -- A powerset state made of a closure.
 use Rattle.std.proofs.Common.{ℕ, ◌≡◌, ◌&&◌, Bool, true, false, eqb, List, refl, sym, ap, ◌∙◌, true≢false, subst, Option}
 use Rattle.std.proofs.lemmas.Bool.{eq-eqb}
-use Rattle.automata_base.specs.Looks as l
+use Rattle.automata_base.specs.Haystacks.Looks as l
 use Rattle.automata_base.specs.Lists.{pick}
-use Rattle.automata_base.specs.Nfa.{Nfa, keep}
-use Rattle.automata_base.specs.Computed.{any_node, any_state, known_looks, is_full, make}
-use Rattle.automata_base.specs.Looks.{look_index}
-use Rattle.automata_base.specs.Passes.{is_word_look, is_crlf_look, IsMake}
-use Rattle.automata_base.proofs.Paths.Machines.{any_node_true, any_node_from, any_state_true, any_state_from, code_one, make_right}
+use Rattle.automata_base.specs.Nfas.Nfa.{Nfa, keep}
+use Rattle.automata_base.specs.Retraced.ComputedPass.{any_node, any_state, known_looks, is_full, make}
+use Rattle.automata_base.specs.Haystacks.Looks.{look_index}
+use Rattle.automata_base.specs.Powersets.Passes.{is_word_look, is_crlf_look, IsMake}
+use Rattle.automata_base.proofs.Paths.Machines.{any_node_true, any_node_from, any_state_true, any_state_from, code_one}
+use Rattle.automata_base.proofs.Paths.Machines.{make_right}
 use Rattle.automata_base.proofs.Paths.Unique.{both_true, powerset_path}
-use Rattle.automata_base.specs.Truths.{truth_of}
-use Rattle.automata_base.specs.Looks.{Look}
+use Rattle.automata_base.specs.Haystacks.LookSets.{truth_of}
+use Rattle.automata_base.specs.Haystacks.Looks.{Look}
 use Rattle.automata_base.proofs.Determinizing.Keeping.{truth_none}
-use Rattle.automata_base.specs.Truths.{IsLookSet, set_of}
+use Rattle.automata_base.specs.Haystacks.LookSets.{IsLookSet, set_of}
 use Rattle.automata_base.proofs.Paths.LookSets.{set_of-truth_of}
 
 pub word_mask : (look : Look) → truth_of 262080 look ≡ is_word_look look

@@ -3,7 +3,7 @@ use Rattle.std.proofs.Common.{◌≡◌, ℕ, List, [], ◌∷◌, false, nat_eq
 use Rattle.std.specs.List.{AllByRecursion, IsDistinct}
 use Rattle.std.proofs.lemmas.Bool.Decides.{eqb_tells}
 use Rattle.automata_base.specs.Lists.{In}
-use Rattle.automata_base.specs.Once.{Distinct}
+use Rattle.automata_base.specs.Retraced.Once.{Distinct}
 
 apart : (x y : ℕ) → (x ≡ y → ⊥) → nat_eq x y ≡ false
 apart x y f = go (eqb_tells x y)

@@ -2,11 +2,11 @@
 use Rattle.std.proofs.Common.{◌≡◌, ◌↔◌, None, length}
 use Rattle.std.specs.Prelude.{IsTrue}
 use Rattle.automata_base.specs.declared.nfa.thompson.Data.{Data}
-use Rattle.automata_base.specs.Nodes.{stack_room}
-use Rattle.automata_base.specs.Door.{IsLooks}
-use Rattle.automata_base.specs.Automata.{automaton_of, IsConsistent}
-use Rattle.automata_base.specs.Reach.{AreLooksAcyclic, ReachesMatch, SkipsFrom}
-use Rattle.automata_base.specs.Refusals.{door_refusal}
+use Rattle.automata_base.specs.Nfas.Nodes.{stack_room}
+use Rattle.automata_base.specs.Nfas.Accepted.{IsLooks}
+use Rattle.automata_base.specs.Nfas.Automata.{automaton_of, IsConsistent}
+use Rattle.automata_base.specs.Nfas.Reach.{AreLooksAcyclic, ReachesMatch, SkipsFrom}
+use Rattle.automata_base.specs.Nfas.Errors.{door_refusal}
 use Rattle.automata_base.proofs.Determinizing.Tests_of_lists.{door_range, door_starts, patterns_fit}
 use Rattle.automata_base.proofs.Reaching.Led.{acyclic_is, empty_is, lazily_is}
 use Rattle.automata_base.proofs.Reaching.Refused.{passing, room_small}

@@ -2,8 +2,8 @@
 use Rattle.std.proofs.Common.{◌≡◌, ◌<◌, ◌+◌, ℕ, [], ◌∷◌, ◌++◌, length, get_or, set, take, sym, ap, ◌∙◌, subst}
 use Rattle.std.specs.Prelude.{Contains}
 use Rattle.std.proofs.lemmas.List.{take_more_set, length-set}
-use Rattle.automata_base.specs.Members.{Members}
-use Rattle.automata_base.specs.Sparse.{members_of, IsSparse}
+use Rattle.automata_base.specs.Powersets.Members.{Members}
+use Rattle.automata_base.specs.Retraced.SparseSet.{members_of, IsSparse}
 use Rattle.automata_base.specs.declared.util.determinize.sparse_set.SparseSet.TheInside.{Inside}
 use Rattle.automata_base.proofs.Determinizing.Holding.{has_room, below_set, back_set}
 

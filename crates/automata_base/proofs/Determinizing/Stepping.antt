@@ -1,19 +1,20 @@
 -- What the construction answers is the start or the successor.
-use Rattle.std.proofs.Common.{ℕ, ◌≡◌, ◌<◌, List, [], ◌∷◌, length, Option, Some, None, inl, inr, sym, subst, ap, ◌∙◌, refl, true, true≢false}
+use Rattle.std.proofs.Common.{ℕ, ◌≡◌, ◌<◌, List, [], ◌∷◌, length, Option, Some, None, inl, inr, sym, subst, ap, ◌∙◌}
+use Rattle.std.proofs.Common.{refl, true, true≢false}
 use Rattle.automata_base.specs.declared.util.search.Anchored.{Anchored}
-use Rattle.automata_base.specs.Computed.{IsInRange, start_behind, successor_of}
-use Rattle.automata_base.specs.Cuts.{MatchKind}
+use Rattle.automata_base.specs.Retraced.ComputedPass.{IsInRange, start_behind, successor_of}
+use Rattle.automata_base.specs.Powersets.Cuts.{MatchKind}
 use Rattle.automata_base.specs.Lists.{In}
-use Rattle.automata_base.specs.Nfa.{Nfa}
-use Rattle.automata_base.specs.Nodes.{Automaton, nfa_of}
-use Rattle.automata_base.specs.Looks.{Look}
-use Rattle.automata_base.specs.Passes.{IsSuccessor, IsMake, Occurs}
-use Rattle.automata_base.specs.Truths.{truth_of}
+use Rattle.automata_base.specs.Nfas.Nfa.{Nfa}
+use Rattle.automata_base.specs.Nfas.Nodes.{Automaton, nfa_of}
+use Rattle.automata_base.specs.Haystacks.Looks.{Look}
+use Rattle.automata_base.specs.Powersets.Passes.{IsSuccessor, IsMake, Occurs}
+use Rattle.automata_base.specs.Haystacks.LookSets.{truth_of}
 use Rattle.automata_base.proofs.Paths.LookSets.{truth_of_none}
-use Rattle.automata_base.specs.Powerset.{Powerset}
-use Rattle.automata_base.specs.Starts.{IsOf, IsStartAt, IsStartOf, mode_start}
-use Rattle.automata_base.specs.Steps.{start_or_dead, start_state_of, successor, NeedsOwnLooks}
-use Rattle.automata_base.specs.StepLaws.{PowersetStartsAreRight, SuccessorsAreRight}
+use Rattle.automata_base.specs.Powersets.Powerset.{Powerset}
+use Rattle.automata_base.specs.Paths.Starts.{IsOf, IsStartAt, IsStartOf, mode_start}
+use Rattle.automata_base.specs.Retraced.Steps.{start_or_dead, start_state_of, successor, NeedsOwnLooks}
+use Rattle.automata_base.specs.Laws.Steps.{PowersetStartsAreRight, SuccessorsAreRight}
 use Rattle.automata_base.proofs.Determinizing.Walking.{nodes_length}
 use Rattle.automata_base.proofs.Paths.Machines.{arrive_right, succ_right}
 use Rattle.automata_base.proofs.Paths.Unique.{arrival_one, succ_one}

@@ -1,16 +1,17 @@
 -- What a pass tells is what the ordered paths select.
 use Rattle.std.proofs.Common.{ℕ, zero, suc, ◌≡◌, ◌<◌, Bool, true, false, length, Some, None, refl, sym, ap, ap₂, subst}
-use Rattle.automata_base.specs.Computed.{IsInRange, pass_of, told_of, last_of, first_of, search_of, pair_at, earlier_or}
-use Rattle.automata_base.specs.Cuts.{MatchKind, All}
-use Rattle.automata_base.specs.Engines.{Anchored}
-use Rattle.automata_base.specs.Nodes.{Automaton, nfa_of, nodes_of}
-use Rattle.automata_base.specs.Paths.{Tape, next, IsLookAcyclic}
-use Rattle.automata_base.specs.Passes.{IsTape}
-use Rattle.automata_base.specs.Powerset.{Powerset}
-use Rattle.automata_base.specs.Selections.{Selects, IsNearest, IsFarthest}
-use Rattle.automata_base.specs.Starts.{mode_start}
-use Rattle.automata_base.specs.Steps.{start_or_dead, start_state_of, successor}
-use Rattle.automata_base.specs.Telling.{state_after, told_at, last_told, first_told, told_by}
+use Rattle.automata_base.specs.Retraced.ComputedPass.{IsInRange, pass_of, told_of, last_of, first_of, search_of}
+use Rattle.automata_base.specs.Retraced.ComputedPass.{pair_at, earlier_or}
+use Rattle.automata_base.specs.Powersets.Cuts.{MatchKind, All}
+use Rattle.automata_base.specs.Nfas.Engines.{Anchored}
+use Rattle.automata_base.specs.Nfas.Nodes.{Automaton, nfa_of, nodes_of}
+use Rattle.automata_base.specs.Paths.Paths.{Tape, next, IsLookAcyclic}
+use Rattle.automata_base.specs.Powersets.Passes.{IsTape}
+use Rattle.automata_base.specs.Powersets.Powerset.{Powerset}
+use Rattle.automata_base.specs.Paths.Selections.{Selects, IsNearest, IsFarthest}
+use Rattle.automata_base.specs.Paths.Starts.{mode_start}
+use Rattle.automata_base.specs.Retraced.Steps.{start_or_dead, start_state_of, successor}
+use Rattle.automata_base.specs.Retraced.Passes.{state_after, told_at, last_told, first_told, told_by}
 use Rattle.automata_base.proofs.Paths.Finals.{search_right, earliest_right, end_right}
 
 -- from a mode that has a start the states are those of the pass

@@ -1,26 +1,29 @@
 -- Loops that test each element of a list.
-use Rattle.std.proofs.Common.{ℕ, zero, suc, ◌≡◌, ◌<◌, ◌≤◌, ◌+◌, ◌||◌, ◌&&◌, Bool, true, false, ltb, List, [], ◌∷◌, length, get_or, drop, Option, Some, None, refl, sym, ap, ◌∙◌, subst, arith, true≢false}
+use Rattle.std.proofs.Common.{ℕ, zero, suc, ◌≡◌, ◌<◌, ◌≤◌, ◌+◌, ◌||◌, ◌&&◌, Bool, true, false, ltb, List, [], ◌∷◌}
+use Rattle.std.proofs.Common.{length, get_or, drop, Option, Some, None, refl, sym, ap, ◌∙◌, subst, arith, true≢false}
 use Rattle.std.proofs.lemmas.List.{at_drop_more, drop_all, take_all}
 use Rattle.std.proofs.lemmas.List.Sums.{sum_by_more}
 use Rattle.std.proofs.Common.{leb, take, ◌-◌}
 use Rattle.std.specs.Prelude.{sum_by}
 use Rattle.std.proofs.lemmas.Bool.{ltb-true}
-use Rattle.automata_base.specs.Looks.{Look}
-use Rattle.automata_base.specs.Nfa.{node_or_fail, accepts_at}
+use Rattle.automata_base.specs.Haystacks.Looks.{Look}
+use Rattle.automata_base.specs.Nfas.Nfa.{node_or_fail, accepts_at}
 use Rattle.automata_base.specs.Lists.{nth, all_below}
-use Rattle.automata_base.specs.Computed.{looks_at, any_node}
+use Rattle.automata_base.specs.Retraced.ComputedPass.{looks_at, any_node}
 use Rattle.automata_base.proofs.Paths.Checks.{node_below, nodes_below, ranges_below}
 use Rattle.automata_base.specs.declared.nfa.thompson.State.{State}
-use Rattle.automata_base.specs.declared.nfa.thompson.State.TheVariants.{ByteRange, Sparse, Dense, Look as LookState, Union, BinaryUnion, Capture, Fail, Match}
+use Rattle.automata_base.specs.declared.nfa.thompson.State.TheVariants.{ByteRange, Sparse, Dense, Look as LookState}
+use Rattle.automata_base.specs.declared.nfa.thompson.State.TheVariants.{Union, BinaryUnion, Capture, Fail, Match}
 use Rattle.automata_base.specs.declared.nfa.thompson.Transition.{Transition}
-use Rattle.automata_base.specs.Nodes.{node_of, nodes_of, ranges_of, dense_from, extra_of, stack_room}
-use Rattle.automata_base.specs.Nodes.{Automaton, nfa_of}
+use Rattle.automata_base.specs.Nfas.Nodes.{node_of, nodes_of, ranges_of, dense_from, extra_of, stack_room}
+use Rattle.automata_base.specs.Nfas.Nodes.{Automaton, nfa_of}
 use Rattle.std.specs.Prelude.{All}
-use Rattle.automata_base.specs.Computed.{IsInRange}
+use Rattle.automata_base.specs.Retraced.ComputedPass.{IsInRange}
 use Rattle.automata_base.proofs.Paths.Checked.{in_range, below_in}
 use Rattle.automata_base.proofs.Determinizing.Walking.{nodes_length}
 use Rattle.automata_base.proofs.Determinizing.Distinct.{In-get_or}
-use Rattle.automata_base.specs.Refusals.{transitions_below, state_below, states_below, match_below, matches_below, ordered_from, alternates_of}
+use Rattle.automata_base.specs.Nfas.Errors.{transitions_below, state_below, states_below, match_below, matches_below}
+use Rattle.automata_base.specs.Nfas.Errors.{ordered_from, alternates_of}
 
 pub test_fails :
     {X : Type 0} (F : List X → Bool) (T : X → Bool) (xs : List X) (i : ℕ) (x : X) (w : Bool)

@@ -1,24 +1,26 @@
 -- What the passes of a search tell is the answer of the ordered paths.
-use Rattle.std.proofs.Common.{ℕ, zero, suc, ◌≡◌, ◌<◌, ◌≤◌, Bool, true, false, List, [], ◌∷◌, length, Option, Some, None, refl, sym, ap, ◌∙◌, subst, arith}
+use Rattle.std.proofs.Common.{ℕ, zero, suc, ◌≡◌, ◌<◌, ◌≤◌, Bool, true, false, List, [], ◌∷◌, length, Option, Some, None}
+use Rattle.std.proofs.Common.{refl, sym, ap, ◌∙◌, subst, arith}
 use Rattle.std.specs.Prelude.{slice_get, All}
-use Rattle.automata_base.specs.Answers.{Half, SelectsFrom, SelectsOver, later, Answers, IsInput}
-use Rattle.automata_base.specs.Computed.{IsInRange, pair_at, earlier_or}
-use Rattle.automata_base.specs.Cuts.{MatchKind, All as KindAll}
-use Rattle.automata_base.specs.Door.{IsDoor}
-use Rattle.automata_base.specs.Engines.{Anchored, No, Yes, Pattern, IsSkipping, engine_of, first_state}
-use Rattle.automata_base.specs.Input.{Input}
+use Rattle.automata_base.specs.Answers.Answers.{Half, SelectsFrom, SelectsOver, later, Answers, IsInput}
+use Rattle.automata_base.specs.Retraced.ComputedPass.{IsInRange, pair_at, earlier_or}
+use Rattle.automata_base.specs.Powersets.Cuts.{MatchKind, All as KindAll}
+use Rattle.automata_base.specs.Nfas.Accepted.{IsDoor}
+use Rattle.automata_base.specs.Nfas.Engines.{Anchored, No, Yes, Pattern, IsSkipping, engine_of, first_state}
+use Rattle.automata_base.specs.Haystacks.Input.{Input}
 use Rattle.automata_base.specs.Lists.{nth}
-use Rattle.automata_base.specs.Nodes.{Automaton, nfa_of, nodes_of}
-use Rattle.automata_base.specs.Paths.{Tape, next, IsLookAcyclic}
-use Rattle.automata_base.specs.Passes.{IsTape}
-use Rattle.automata_base.specs.Powerset.{Powerset, dead}
-use Rattle.automata_base.specs.Nfa.{Nfa}
-use Rattle.automata_base.specs.Selections.{Pair, IsFarthest, IsNearest}
-use Rattle.automata_base.specs.Starts.{mode_start}
-use Rattle.automata_base.specs.Steps.{start_or_dead, start_state_of, successor}
-use Rattle.automata_base.specs.Tapes.{Direction, Forward, Backward, tape_of}
-use Rattle.automata_base.specs.Telling.{state_after, told_at, last_told, first_told, told_by}
-use Rattle.automata_base.specs.Told.{EndsFrom, EndsOver, IsFarthestAnswer, IsTold, TellsOver, ToldEndsAreRight, ToldIsRight}
+use Rattle.automata_base.specs.Nfas.Nodes.{Automaton, nfa_of, nodes_of}
+use Rattle.automata_base.specs.Paths.Paths.{Tape, next, IsLookAcyclic}
+use Rattle.automata_base.specs.Powersets.Passes.{IsTape}
+use Rattle.automata_base.specs.Powersets.Powerset.{Powerset, dead}
+use Rattle.automata_base.specs.Nfas.Nfa.{Nfa}
+use Rattle.automata_base.specs.Paths.Selections.{Pair, IsFarthest, IsNearest}
+use Rattle.automata_base.specs.Paths.Starts.{mode_start}
+use Rattle.automata_base.specs.Retraced.Steps.{start_or_dead, start_state_of, successor}
+use Rattle.automata_base.specs.Haystacks.Tapes.{Direction, Forward, Backward, tape_of}
+use Rattle.automata_base.specs.Retraced.Passes.{state_after, told_at, last_told, first_told, told_by}
+use Rattle.automata_base.specs.Answers.OfPasses.{EndsFrom, EndsOver, IsFarthestAnswer, IsTold, TellsOver}
+use Rattle.automata_base.specs.Answers.OfPasses.{ToldEndsAreRight, ToldIsRight}
 use Rattle.automata_base.proofs.Determinizing.Alike.{dead_stays}
 use Rattle.automata_base.proofs.Determinizing.Telling.{told_farthest, told_nearest, told_selects}
 use Rattle.automata_base.proofs.Spans.Total.{tape_units, later_input}

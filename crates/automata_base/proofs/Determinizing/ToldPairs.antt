@@ -1,18 +1,20 @@
 -- For every automaton a walk of kind all tells the pairs of all accepting paths.
-use Rattle.std.proofs.Common.{ℕ, zero, suc, ◌≡◌, ◌<◌, ◌≤◌, ◌⊎◌, ◌↔◌, inl, inr, Bool, true, false, cond, List, [], ◌∷◌, ◌++◌, length, Some, refl, sym, ap, ◌∙◌, subst, arith, true≢false, eq-or-lt_of_le, le_of_suc-le-suc}
-use Rattle.automata_base.specs.Answers.{IsInput, offset_in, with_offsets, without_split}
-use Rattle.automata_base.specs.Cuts.{MatchKind, All}
-use Rattle.automata_base.specs.Door.{IsDoor}
-use Rattle.automata_base.specs.Engines.{Anchored, IsSkipping, engine_of}
-use Rattle.automata_base.specs.Input.{Input}
+use Rattle.std.proofs.Common.{ℕ, zero, suc, ◌≡◌, ◌<◌, ◌≤◌, ◌⊎◌, ◌↔◌, inl, inr, Bool, true, false, cond, List, [], ◌∷◌}
+use Rattle.std.proofs.Common.{◌++◌, length, Some, refl, sym, ap, ◌∙◌, subst, arith, true≢false, eq-or-lt_of_le}
+use Rattle.std.proofs.Common.{le_of_suc-le-suc}
+use Rattle.automata_base.specs.Answers.Answers.{IsInput, offset_in, with_offsets, without_split}
+use Rattle.automata_base.specs.Powersets.Cuts.{MatchKind, All}
+use Rattle.automata_base.specs.Nfas.Accepted.{IsDoor}
+use Rattle.automata_base.specs.Nfas.Engines.{Anchored, IsSkipping, engine_of}
+use Rattle.automata_base.specs.Haystacks.Input.{Input}
 use Rattle.automata_base.specs.Lists.{In, IsSet}
-use Rattle.automata_base.specs.Nodes.{Automaton, nfa_of}
-use Rattle.automata_base.specs.Paths.{Tape}
-use Rattle.automata_base.specs.Selections.{Accepts, Pair, at_place}
-use Rattle.automata_base.specs.Starts.{mode_start}
-use Rattle.automata_base.specs.Tapes.{Direction, is_split, tape_of}
-use Rattle.automata_base.specs.Telling.{pairs_told, told_at}
-use Rattle.automata_base.specs.WalkLaws.{AllPairsAreTold, AreTold, InPairs, IsAccepted}
+use Rattle.automata_base.specs.Nfas.Nodes.{Automaton, nfa_of}
+use Rattle.automata_base.specs.Paths.Paths.{Tape}
+use Rattle.automata_base.specs.Paths.Selections.{Accepts, Pair, at_place}
+use Rattle.automata_base.specs.Paths.Starts.{mode_start}
+use Rattle.automata_base.specs.Haystacks.Tapes.{Direction, is_split, tape_of}
+use Rattle.automata_base.specs.Retraced.Passes.{pairs_told, told_at}
+use Rattle.automata_base.specs.Laws.Walks.{AllPairsAreTold, AreTold, InPairs, IsAccepted}
 use Rattle.automata_base.proofs.Determinizing.Telling.{told_is}
 use Rattle.automata_base.proofs.Determinizing.Told.{start_below}
 use Rattle.automata_base.proofs.Paths.Finals.{set_right}

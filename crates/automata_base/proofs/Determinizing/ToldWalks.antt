@@ -1,21 +1,24 @@
 -- What the pass of an overlapping walk tells is the list of the ordered paths.
-use Rattle.std.proofs.Common.{ℕ, zero, suc, ◌≡◌, ◌<◌, ◌≤◌, ◌⊎◌, ◌↔◌, inl, inr, Bool, true, false, List, [], ◌++◌, length, Option, Some, None, refl, sym, ap, ap₂, ◌∙◌, subst, arith}
+use Rattle.std.proofs.Common.{ℕ, zero, suc, ◌≡◌, ◌<◌, ◌≤◌, ◌⊎◌, ◌↔◌, inl, inr, Bool, true, false, List, [], ◌++◌}
+use Rattle.std.proofs.Common.{length, Option, Some, None, refl, sym, ap, ap₂, ◌∙◌, subst, arith}
 use Rattle.std.specs.Prelude.{IsTrue}
-use Rattle.automata_base.specs.Answers.{AreUnsplit, IsInput, IsOverlappingFrom, OverlapsOver, Walks, with_offsets, without_split}
-use Rattle.automata_base.specs.Computed.{pairs_upto}
-use Rattle.automata_base.specs.Cuts.{MatchKind}
-use Rattle.automata_base.specs.Door.{IsDoor}
-use Rattle.automata_base.specs.Engines.{Anchored, IsSkipping, engine_of, first_state}
-use Rattle.automata_base.specs.Getters.{HasEmpty}
-use Rattle.automata_base.specs.Input.{Input}
-use Rattle.automata_base.specs.Nodes.{Automaton, nfa_of}
-use Rattle.automata_base.specs.Paths.{Tape, IsLookAcyclic}
-use Rattle.automata_base.specs.Passes.{IsTape}
-use Rattle.automata_base.specs.Selections.{Pair, IsOverlappingOn, at_place}
-use Rattle.automata_base.specs.Starts.{mode_start}
-use Rattle.automata_base.specs.Tapes.{Direction, tape_of}
-use Rattle.automata_base.specs.Telling.{pairs_told}
-use Rattle.automata_base.specs.WalkLaws.{AreTold, OverlappingIsTold, SpanTells, WalkIsRight, WalksAreOne, WalksAreTold}
+use Rattle.automata_base.specs.Answers.Answers.{AreUnsplit, IsInput, IsOverlappingFrom, OverlapsOver, Walks}
+use Rattle.automata_base.specs.Answers.Answers.{with_offsets, without_split}
+use Rattle.automata_base.specs.Retraced.ComputedPass.{pairs_upto}
+use Rattle.automata_base.specs.Powersets.Cuts.{MatchKind}
+use Rattle.automata_base.specs.Nfas.Accepted.{IsDoor}
+use Rattle.automata_base.specs.Nfas.Engines.{Anchored, IsSkipping, engine_of, first_state}
+use Rattle.automata_base.specs.Nfas.Getters.{HasEmpty}
+use Rattle.automata_base.specs.Haystacks.Input.{Input}
+use Rattle.automata_base.specs.Nfas.Nodes.{Automaton, nfa_of}
+use Rattle.automata_base.specs.Paths.Paths.{Tape, IsLookAcyclic}
+use Rattle.automata_base.specs.Powersets.Passes.{IsTape}
+use Rattle.automata_base.specs.Paths.Selections.{Pair, IsOverlappingOn, at_place}
+use Rattle.automata_base.specs.Paths.Starts.{mode_start}
+use Rattle.automata_base.specs.Haystacks.Tapes.{Direction, tape_of}
+use Rattle.automata_base.specs.Retraced.Passes.{pairs_told}
+use Rattle.automata_base.specs.Laws.Walks.{AreTold, OverlappingIsTold, SpanTells, WalkIsRight, WalksAreOne}
+use Rattle.automata_base.specs.Laws.Walks.{WalksAreTold}
 use Rattle.automata_base.proofs.Determinizing.Telling.{told_is}
 use Rattle.automata_base.proofs.Determinizing.Told.{first_is, none_at, start_below}
 use Rattle.automata_base.proofs.Paths.Finals.{walked_right}

@@ -1,19 +1,23 @@
 -- The steps of the walk over a stack with fixed room.
-use Rattle.std.proofs.Common.{◌≡◌, ◌<◌, ◌≤◌, ◌+◌, ◌⊎◌, Bool, true, false, ℕ, zero, suc, List, [], ◌∷◌, ◌++◌, length, get_or, take, refl, sym, ap, ◌∙◌, subst, inl, inr, arith, length-append, reverse, append_assoc}
+use Rattle.std.proofs.Common.{◌≡◌, ◌<◌, ◌≤◌, ◌+◌, ◌⊎◌, Bool, true, false, ℕ, zero, suc, List, [], ◌∷◌, ◌++◌, length}
+use Rattle.std.proofs.Common.{get_or, take, refl, sym, ap, ◌∙◌, subst, inl, inr, arith, length-append, reverse}
+use Rattle.std.proofs.Common.{append_assoc}
 use Rattle.std.specs.Prelude.{Contains, sum_by, slice_index_or}
 use Rattle.std.proofs.lemmas.Bool.{cond_both}
 use Rattle.std.proofs.lemmas.List.{take_all, reverse-append, length-reverse}
 use Rattle.std.proofs.lemmas.List.Sums.{sum_by_more}
 use Rattle.automata_base.specs.declared.nfa.thompson.State.{State}
-use Rattle.automata_base.specs.declared.nfa.thompson.State.TheVariants.{ByteRange, Sparse, Dense, Look, Union, BinaryUnion, Capture, Fail, Match}
-use Rattle.automata_base.specs.Nodes.{Automaton, nfa_of, nodes_of, node_of, extra_of, stack_room}
-use Rattle.automata_base.specs.Truths.{truth_of}
-use Rattle.automata_base.specs.Door.{IsDoor}
+use Rattle.automata_base.specs.declared.nfa.thompson.State.TheVariants.{ByteRange, Sparse, Dense, Look, Union}
+use Rattle.automata_base.specs.declared.nfa.thompson.State.TheVariants.{BinaryUnion, Capture, Fail, Match}
+use Rattle.automata_base.specs.Nfas.Nodes.{Automaton, nfa_of, nodes_of, node_of, extra_of, stack_room}
+use Rattle.automata_base.specs.Haystacks.LookSets.{truth_of}
+use Rattle.automata_base.specs.Nfas.Accepted.{IsDoor}
 use Rattle.automata_base.specs.Lists.{In, nth}
-use Rattle.automata_base.specs.Nfa.{Truth, node_or_fail}
-use Rattle.automata_base.specs.Visits.{children, children_at, IsUnderWay}
+use Rattle.automata_base.specs.Nfas.Nfa.{Truth, node_or_fail}
+use Rattle.automata_base.specs.Powersets.Closure.{children, children_at, IsUnderWay}
 use Rattle.automata_base.proofs.Paths.Loops.{under_way_skip, under_way_visit}
-use Rattle.automata_base.proofs.Determinizing.Distinct.{In-Contains, Contains-In, In-either, unvisited, unvisited_push, unvisited_most, among}
+use Rattle.automata_base.proofs.Determinizing.Distinct.{In-Contains, Contains-In, In-either, unvisited, unvisited_push}
+use Rattle.automata_base.proofs.Determinizing.Distinct.{unvisited_most, among}
 
 pub nodes_length : (states : List State) → length (nodes_of states) ≡ length states
 nodes_length [] = refl

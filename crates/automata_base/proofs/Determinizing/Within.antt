@@ -1,24 +1,26 @@
 -- Patterns that are told are the automaton's, and answers lie in their span.
-use Rattle.std.proofs.Common.{ℕ, zero, suc, ◌≡◌, ◌∙◌, ◌<◌, ◌≤◌, ◌⊎◌, inl, inr, Bool, true, false, List, [], ◌∷◌, length, Option, Some, None, refl, sym, ap, subst, arith}
-use Rattle.automata_base.specs.Answers.{Half, later, offset_in, with_offsets}
-use Rattle.automata_base.specs.Computed.{earlier_or, is_in, once_past, pair_at}
-use Rattle.automata_base.specs.Cuts.{MatchKind}
-use Rattle.automata_base.specs.Door.{IsDoor}
-use Rattle.automata_base.specs.Engines.{Anchored}
-use Rattle.automata_base.specs.Input.{Input}
+use Rattle.std.proofs.Common.{ℕ, zero, suc, ◌≡◌, ◌∙◌, ◌<◌, ◌≤◌, ◌⊎◌, inl, inr, Bool, true, false, List, [], ◌∷◌, length}
+use Rattle.std.proofs.Common.{Option, Some, None, refl, sym, ap, subst, arith}
+use Rattle.automata_base.specs.Answers.Answers.{Half, later, offset_in, with_offsets}
+use Rattle.automata_base.specs.Retraced.ComputedPass.{earlier_or, is_in, once_past, pair_at}
+use Rattle.automata_base.specs.Powersets.Cuts.{MatchKind}
+use Rattle.automata_base.specs.Nfas.Accepted.{IsDoor}
+use Rattle.automata_base.specs.Nfas.Engines.{Anchored}
+use Rattle.automata_base.specs.Haystacks.Input.{Input}
 use Rattle.automata_base.specs.Lists.{In, pick, cons_some}
-use Rattle.automata_base.specs.Nfa.{accepts}
-use Rattle.automata_base.specs.Nodes.{Automaton, nfa_of}
-use Rattle.automata_base.specs.Paths.{Tape, next}
-use Rattle.automata_base.specs.Powerset.{Powerset}
-use Rattle.automata_base.specs.Selections.{Pair}
-use Rattle.automata_base.specs.Starts.{mode_start}
-use Rattle.automata_base.specs.Steps.{start_or_dead, start_state_of, successor}
-use Rattle.automata_base.specs.Tapes.{Direction, Forward, Backward, tape_of}
-use Rattle.automata_base.specs.Telling.{first_told, last_told, state_after, told_at, told_upto}
-use Rattle.automata_base.specs.Told.{IsTold, told_over}
-use Rattle.automata_base.specs.WalkLaws.{InPairs, SpanTells}
-use Rattle.automata_base.specs.Within.{IsInSpan, IsPatternOf, StatesTellOwn, TellsOwn, ToldLiesWithin, WalkLiesWithin}
+use Rattle.automata_base.specs.Nfas.Nfa.{accepts}
+use Rattle.automata_base.specs.Nfas.Nodes.{Automaton, nfa_of}
+use Rattle.automata_base.specs.Paths.Paths.{Tape, next}
+use Rattle.automata_base.specs.Powersets.Powerset.{Powerset}
+use Rattle.automata_base.specs.Paths.Selections.{Pair}
+use Rattle.automata_base.specs.Paths.Starts.{mode_start}
+use Rattle.automata_base.specs.Retraced.Steps.{start_or_dead, start_state_of, successor}
+use Rattle.automata_base.specs.Haystacks.Tapes.{Direction, Forward, Backward, tape_of}
+use Rattle.automata_base.specs.Retraced.Passes.{first_told, last_told, state_after, told_at, told_upto}
+use Rattle.automata_base.specs.Answers.OfPasses.{IsTold, told_over}
+use Rattle.automata_base.specs.Laws.Walks.{InPairs, SpanTells}
+use Rattle.automata_base.specs.Answers.Within.{IsInSpan, IsPatternOf, StatesTellOwn, TellsOwn, ToldLiesWithin}
+use Rattle.automata_base.specs.Answers.Within.{WalkLiesWithin}
 use Rattle.automata_base.proofs.Determinizing.ToldPairs.{in_offsets, in_told, in_unsplit}
 use Rattle.automata_base.proofs.Spans.Bytes.{forward_length, tape_length}
 

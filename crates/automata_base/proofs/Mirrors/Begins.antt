@@ -1,17 +1,18 @@
 -- Whether the starts begin alike, by two tests.
-use Rattle.std.proofs.Common.{ℕ, zero, suc, ◌≡◌, ◌↔◌, Bool, true, false, not, List, [], ◌∷◌, Option, Some, None, inl, inr, refl, sym, ap, ◌∙◌}
+use Rattle.std.proofs.Common.{ℕ, zero, suc, ◌≡◌, ◌↔◌, Bool, true, false, not, List, [], ◌∷◌, Option, Some, None, inl}
+use Rattle.std.proofs.Common.{inr, refl, sym, ap, ◌∙◌}
 use mathlib.Core.Bool.{beq}
 use Rattle.std.specs.Prelude.{IsTrue, slice_get}
 use Rattle.automata_base.specs.declared.nfa.thompson.State.{State}
 use Rattle.automata_base.specs.declared.nfa.thompson.State.TheVariants.{ByteRange}
-use Rattle.automata_base.specs.Cuts.{MatchKind}
+use Rattle.automata_base.specs.Powersets.Cuts.{MatchKind}
 use Rattle.automata_base.specs.Lists.{nth}
-use Rattle.automata_base.specs.Nfa.{node_or_fail}
-use Rattle.automata_base.specs.Engines.{MatchesEmpty, BeginsLazily, any_byte, engine_of}
-use Rattle.automata_base.specs.Getters.{HasEmpty, SkipsLazily}
-use Rattle.automata_base.specs.Mirrors.{BeginsAlike}
-use Rattle.automata_base.specs.Nodes.{Automaton, nfa_of, node_of, nodes_of}
-use Rattle.automata_base.specs.Reach.{ReachesMatch}
+use Rattle.automata_base.specs.Nfas.Nfa.{node_or_fail}
+use Rattle.automata_base.specs.Nfas.Engines.{MatchesEmpty, BeginsLazily, any_byte, engine_of}
+use Rattle.automata_base.specs.Nfas.Getters.{HasEmpty, SkipsLazily}
+use Rattle.automata_base.specs.Nfas.Mirrors.{BeginsAlike}
+use Rattle.automata_base.specs.Nfas.Nodes.{Automaton, nfa_of, node_of, nodes_of}
+use Rattle.automata_base.specs.Nfas.Reach.{ReachesMatch}
 use Rattle.automata_base.proofs.Paths.Unique.{both_true}
 use Rattle.automata_base.proofs.Reaching.Led.{empty_is}
 

@@ -1,10 +1,11 @@
 -- The ranges of a state, one after the other, and the bytes of a dense state.
-use Rattle.std.proofs.Common.{ℕ, zero, suc, ◌≡◌, ◌<◌, ◌+◌, ◌^◌, Bool, true, false, cond, List, [], ◌∷◌, ◌++◌, length, get_or, drop, refl, sym, ap, ◌∙◌, subst, arith}
+use Rattle.std.proofs.Common.{ℕ, zero, suc, ◌≡◌, ◌<◌, ◌+◌, ◌^◌, Bool, true, false, cond, List, [], ◌∷◌, ◌++◌, length}
+use Rattle.std.proofs.Common.{get_or, drop, refl, sym, ap, ◌∙◌, subst, arith}
 use Rattle.std.proofs.lemmas.List.{drop_more}
 use Rattle.automata_base.specs.declared.nfa.thompson.State.TheVariants as is
 use Rattle.automata_base.specs.declared.nfa.thompson.Transition.{Transition}
-use Rattle.automata_base.specs.Runs.{starts_with, run_of, runs_from}
-use Rattle.automata_base.specs.Turns.{Turns, turn_by, turn_ranges, size}
+use Rattle.automata_base.specs.Retraced.DenseRuns.{starts_with, run_of, runs_from}
+use Rattle.automata_base.specs.Retraced.ReversedEdges.{Turns, turn_by, turn_ranges, size}
 use Rattle.automata_base.proofs.Mirrors.Sizes.{size_ranges}
 
 -- Too many at one range are too many at the end.

@@ -1,24 +1,27 @@
 -- Copies of turned states, and their numbers.
-use Rattle.std.proofs.Common.{ℕ, zero, suc, ◌≡◌, ◌<◌, ◌≤◌, ◌+◌, ◌⊎◌, ◌↔◌, ◌&&◌, ltb, Bool, true, false, cond, eqb, List, [], ◌∷◌, ◌++◌, length, get_or, take, drop, map, Option, Some, None, inl, inr, refl, sym, ap, ◌∙◌, subst, arith, append_assoc, append-nil}
+use Rattle.std.proofs.Common.{ℕ, zero, suc, ◌≡◌, ◌<◌, ◌≤◌, ◌+◌, ◌⊎◌, ◌↔◌, ◌&&◌, ltb, Bool, true, false, cond, eqb, List}
+use Rattle.std.proofs.Common.{[], ◌∷◌, ◌++◌, length, get_or, take, drop, map, Option, Some, None, inl, inr, refl, sym}
+use Rattle.std.proofs.Common.{ap, ◌∙◌, subst, arith, append_assoc, append-nil}
 use Rattle.std.proofs.lemmas.List.{get_or-take, get_or_default, drop_more, drop_all}
 use Rattle.std.proofs.lemmas.Bool.Decides.{eqb_tells}
 use Rattle.automata_base.specs.declared.nfa.thompson.State.{State}
 use Rattle.automata_base.specs.declared.nfa.thompson.State.TheVariants as is
 use Rattle.automata_base.specs.declared.util.determinize.sparse_set.SparseSet.TheInside.{Inside}
 use Rattle.automata_base.specs.Lists.{In, nth, all_below}
-use Rattle.automata_base.specs.Nfa.{Node, Split, accepts_at}
-use Rattle.automata_base.specs.Nodes.{node_of, nodes_of}
-use Rattle.automata_base.specs.Reach.{Route, IsReached, targets_of}
+use Rattle.automata_base.specs.Nfas.Nfa.{Node, Split, accepts_at}
+use Rattle.automata_base.specs.Nfas.Nodes.{node_of, nodes_of}
+use Rattle.automata_base.specs.Nfas.Reach.{Route, IsReached, targets_of}
 use Rattle.automata_base.specs.declared.nfa.thompson.reach.Edges.{Edges}
 use Rattle.automata_base.specs.declared.nfa.thompson.reach.Edges.TheVariants.{Every}
 use Rattle.automata_base.proofs.Determinizing.Walking.{nodes_length}
-use Rattle.automata_base.specs.Once.{Distinct}
-use Rattle.automata_base.specs.Sparse.{IsSparse}
+use Rattle.automata_base.specs.Retraced.Once.{Distinct}
+use Rattle.automata_base.specs.Retraced.SparseSet.{IsSparse}
 use Rattle.automata_base.proofs.Mirrors.Sums.{distinct_places}
 use Rattle.automata_base.proofs.Paths.Checked.{both}
 use Rattle.automata_base.proofs.Paths.Orders.{some_inj, none_some}
 use Rattle.std.proofs.lemmas.Bool.{ltb-true, lt-ltb}
-use Rattle.automata_base.specs.Turns.{place_in, copied, copies, copy_of, is_of, matches_in, IsCopied, HasCopies, HaveCopies}
+use Rattle.automata_base.specs.Retraced.ReversedEdges.{place_in, copied, copies, copy_of, is_of, matches_in, IsCopied}
+use Rattle.automata_base.specs.Retraced.ReversedEdges.{HasCopies, HaveCopies}
 
 -- A member stands at its place.
 pub at_place : (items : List ℕ) (q : ℕ) → In q items → (place_in items q < length items) × (get_or items (place_in items q) 0 ≡ q)

@@ -1,5 +1,7 @@
 -- An NFA may be made of what is copied.
-use Rattle.std.proofs.Common.{ℕ, suc, ◌≡◌, ◌<◌, ◌≤◌, ◌+◌, ◌*◌, ◌^◌, ◌&&◌, ◌↔◌, ◌⊎◌, true, false, leb, List, [], ◌∷◌, ◌++◌, length, length-append, get_or, map, None, inl, inr, refl, sym, ap, ap₂, ◌∙◌, subst, arith}
+use Rattle.std.proofs.Common.{ℕ, suc, ◌≡◌, ◌<◌, ◌≤◌, ◌+◌, ◌*◌, ◌^◌, ◌&&◌, ◌↔◌, ◌⊎◌, true, false, leb, List, [], ◌∷◌}
+use Rattle.std.proofs.Common.{◌++◌, length, length-append, get_or, map, None, inl, inr, refl, sym, ap, ap₂, ◌∙◌, subst}
+use Rattle.std.proofs.Common.{arith}
 use Rattle.std.specs.Prelude.{sum_by}
 use Rattle.std.proofs.Math.Nat.{suc-mul, mul-suc, mul-le-mul_left, mul-le-mul_right}
 use Rattle.std.proofs.lemmas.Bool.{lt-ltb, le-leb, leb-true, leb-false}
@@ -10,15 +12,18 @@ use Rattle.automata_base.specs.declared.nfa.thompson.State.{State}
 use Rattle.automata_base.specs.declared.nfa.thompson.State.TheVariants as is
 use Rattle.automata_base.specs.declared.nfa.thompson.Transition.{Transition}
 use Rattle.automata_base.specs.declared.nfa.thompson.reach.Edges.TheVariants.{Every}
-use Rattle.automata_base.specs.Copies.{IsAdded, IsPartAdded, IsOneRange, IsPlain, ArePlain, width, AreParts, IsFit}
+use Rattle.automata_base.specs.Retraced.Copies.{IsAdded, IsPartAdded, IsOneRange, IsPlain, ArePlain, width, AreParts}
+use Rattle.automata_base.specs.Retraced.Copies.{IsFit}
 use Rattle.automata_base.specs.Lists.{In, all_below}
-use Rattle.automata_base.specs.Nfa.{Node, Range, Split, Assert, Read, Accept}
-use Rattle.automata_base.specs.Nodes.{node_of, nodes_of, ranges_of}
-use Rattle.automata_base.specs.Once.{Distinct}
-use Rattle.automata_base.specs.Reach.{IsReached, targets_at, nexts}
-use Rattle.automata_base.specs.Refusals.{alternates_of, states_below, ordered_from, state_ordered, states_ordered, match_below, matches_below, is_small, is_narrow, starts_below, door_refusal, unless}
-use Rattle.automata_base.specs.ReversedSizes.{asking_edges, free_edges}
-use Rattle.automata_base.specs.Turns.{copied, copies, copy_of, HasCopies}
+use Rattle.automata_base.specs.Nfas.Nfa.{Node, Range, Split, Assert, Read, Accept}
+use Rattle.automata_base.specs.Nfas.Nodes.{node_of, nodes_of, ranges_of}
+use Rattle.automata_base.specs.Retraced.Once.{Distinct}
+use Rattle.automata_base.specs.Nfas.Reach.{IsReached, targets_at, nexts}
+use Rattle.automata_base.specs.Nfas.Errors.{alternates_of, states_below, ordered_from, state_ordered, states_ordered}
+use Rattle.automata_base.specs.Nfas.Errors.{match_below, matches_below, is_small, is_narrow, starts_below, door_refusal}
+use Rattle.automata_base.specs.Nfas.Errors.{unless}
+use Rattle.automata_base.specs.Nfas.ReversedSizes.{asking_edges, free_edges}
+use Rattle.automata_base.specs.Retraced.ReversedEdges.{copied, copies, copy_of, HasCopies}
 use Rattle.automata_base.proofs.Reaching.InRange.{state_is_below, ids_below, node_is}
 use Rattle.automata_base.proofs.Determinizing.Walking.{nodes_length}
 use Rattle.automata_base.proofs.Mirrors.Copies.{at_place, part_made, reached_closed, reached_roots}

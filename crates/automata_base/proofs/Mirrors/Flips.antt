@@ -1,11 +1,12 @@
 -- A turned look holds if the look does, seen from the other side.
 use Rattle.std.proofs.Common.{ℕ, ◌≡◌, Bool, true, false, not, ◌&&◌, Option, refl, ap}
-use Rattle.automata_base.specs.Looks.{Look, holds, differ, is_word}
-use Rattle.automata_base.specs.Looks.{Start, End, StartLF, EndLF, StartCRLF, EndCRLF}
-use Rattle.automata_base.specs.Looks.{WordAscii, WordAsciiNegate, WordUnicode, WordUnicodeNegate}
-use Rattle.automata_base.specs.Looks.{WordStartAscii, WordEndAscii, WordStartUnicode, WordEndUnicode}
-use Rattle.automata_base.specs.Looks.{WordStartHalfAscii, WordEndHalfAscii, WordStartHalfUnicode, WordEndHalfUnicode}
-use Rattle.automata_base.specs.Mirrors.{flip}
+use Rattle.automata_base.specs.Haystacks.Looks.{Look, holds, differ, is_word}
+use Rattle.automata_base.specs.Haystacks.Looks.{Start, End, StartLF, EndLF, StartCRLF, EndCRLF}
+use Rattle.automata_base.specs.Haystacks.Looks.{WordAscii, WordAsciiNegate, WordUnicode, WordUnicodeNegate}
+use Rattle.automata_base.specs.Haystacks.Looks.{WordStartAscii, WordEndAscii, WordStartUnicode, WordEndUnicode}
+use Rattle.automata_base.specs.Haystacks.Looks.{WordStartHalfAscii, WordEndHalfAscii, WordStartHalfUnicode}
+use Rattle.automata_base.specs.Haystacks.Looks.{WordEndHalfUnicode}
+use Rattle.automata_base.specs.Nfas.Mirrors.{flip}
 
 swap_and : (a b : Bool) → (a && b) ≡ (b && a)
 swap_and true true = refl

@@ -1,17 +1,19 @@
 -- What is turned, edge by edge, is what stands for the edges.
-use Rattle.std.proofs.Common.{ℕ, zero, suc, ◌≡◌, ◌<◌, ◌+◌, List, [], ◌∷◌, ◌++◌, ◌⊎◌, length, Option, Some, None, inl, inr, refl, sym, ap, ap₂, ◌∙◌, subst, arith, ⊎_elim}
+use Rattle.std.proofs.Common.{ℕ, zero, suc, ◌≡◌, ◌<◌, ◌+◌, List, [], ◌∷◌, ◌++◌, ◌⊎◌, length, Option, Some, None, inl}
+use Rattle.std.proofs.Common.{inr, refl, sym, ap, ap₂, ◌∙◌, subst, arith, ⊎_elim}
 use Rattle.automata_base.specs.declared.nfa.thompson.State.{State}
 use Rattle.automata_base.specs.declared.nfa.thompson.State.TheVariants as is
 use Rattle.automata_base.specs.declared.nfa.thompson.Transition.{Transition}
 use Rattle.automata_base.specs.Lists.{In, nth}
-use Rattle.automata_base.specs.Mirrors.{flip, Label, Free, Asks, Reads, HasArcAt}
-use Rattle.automata_base.specs.Looks.{Look}
-use Rattle.automata_base.specs.Nfa.{Node, Range, Split, Assert, Read, Accept}
-use Rattle.automata_base.specs.Nodes.{ranges_of}
-use Rattle.automata_base.specs.Refusals.{state_below, transitions_below}
+use Rattle.automata_base.specs.Nfas.Mirrors.{flip, Label, Free, Asks, Reads, HasArcAt}
+use Rattle.automata_base.specs.Haystacks.Looks.{Look}
+use Rattle.automata_base.specs.Nfas.Nfa.{Node, Range, Split, Assert, Read, Accept}
+use Rattle.automata_base.specs.Nfas.Nodes.{ranges_of}
+use Rattle.automata_base.specs.Nfas.Errors.{state_below, transitions_below}
 use Rattle.automata_base.specs.Lists.{all_below}
-use Rattle.automata_base.specs.Runs.{runs_from, ranged}
-use Rattle.automata_base.specs.Turns.{Turns, no_lists, push_at, turn_free, turn_by, turn_all, turn_ranges, turn_state, turn_states}
+use Rattle.automata_base.specs.Retraced.DenseRuns.{runs_from, ranged}
+use Rattle.automata_base.specs.Retraced.ReversedEdges.{Turns, no_lists, push_at, turn_free, turn_by, turn_all}
+use Rattle.automata_base.specs.Retraced.ReversedEdges.{turn_ranges, turn_state, turn_states}
 use Rattle.automata_base.proofs.Mirrors.Lists.{push_length}
 use Rattle.automata_base.proofs.Mirrors.Runs.{runs_below}
 use Rattle.automata_base.proofs.Paths.Checked.{both}

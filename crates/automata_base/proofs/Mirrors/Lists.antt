@@ -1,5 +1,6 @@
 -- Lists of lists, and what is added after one of them.
-use Rattle.std.proofs.Common.{ℕ, zero, suc, ◌≡◌, ◌<◌, ◌+◌, Bool, true, false, cond, leb, Option, Some, None, Result, Ok, Err, List, [], ◌∷◌, ◌++◌, length, get_or, drop, Vec, refl, sym, ap, ◌∙◌, subst, arith}
+use Rattle.std.proofs.Common.{ℕ, zero, suc, ◌≡◌, ◌<◌, ◌+◌, Bool, true, false, cond, leb, Option, Some, None, Result, Ok}
+use Rattle.std.proofs.Common.{Err, List, [], ◌∷◌, ◌++◌, length, get_or, drop, Vec, refl, sym, ap, ◌∙◌, subst, arith}
 use Rattle.std.proofs.Math.ListN.{set}
 use Rattle.std.specs.Result.{IsErrAnd}
 use Rattle.std.proofs.lemmas.Bool.{leb-false}
@@ -7,7 +8,8 @@ use Rattle.std.proofs.lemmas.List.{drop_more, get_or_default}
 use Rattle.std.specs.declared.alloc.Global.{Global}
 use Rattle.automata_base.specs.declared.nfa.thompson.State.{State}
 use Rattle.automata_base.specs.declared.nfa.thompson.State.TheVariants.{Fail}
-use Rattle.automata_base.specs.Turns.{Turns, lists_of, push_at, no_lists, turn_state, turn_states, IsHead, AreHeads, AreMade}
+use Rattle.automata_base.specs.Retraced.ReversedEdges.{Turns, lists_of, push_at, no_lists, turn_state, turn_states}
+use Rattle.automata_base.specs.Retraced.ReversedEdges.{IsHead, AreHeads, AreMade}
 use Rattle.automata_base.proofs.Paths.Orders.{some_inj, none_some}
 
 pub lists_length : (vs : List (Vec ℕ Global)) → length (lists_of vs) ≡ length vs

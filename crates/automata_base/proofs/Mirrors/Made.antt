@@ -1,11 +1,11 @@
 -- What `NFA::reversed` makes is the reversed NFA.
 use Rattle.std.proofs.Common.{ℕ, ◌≡◌, List, length, refl, sym, subst}
 use Rattle.automata_base.specs.declared.nfa.thompson.State.{State}
-use Rattle.automata_base.specs.Automata.{automaton}
-use Rattle.automata_base.specs.Door.{IsDoor}
-use Rattle.automata_base.specs.Mirrors.{IsReversed, reversed_flags}
-use Rattle.automata_base.specs.Nodes.{Automaton}
-use Rattle.automata_base.specs.Turns.{AreReversed}
+use Rattle.automata_base.specs.Nfas.Automata.{automaton}
+use Rattle.automata_base.specs.Nfas.Accepted.{IsDoor}
+use Rattle.automata_base.specs.Nfas.Mirrors.{IsReversed, reversed_flags}
+use Rattle.automata_base.specs.Nfas.Nodes.{Automaton}
+use Rattle.automata_base.specs.Retraced.ReversedEdges.{AreReversed}
 use Rattle.automata_base.proofs.Reaching.InRange.{door_below}
 use Rattle.automata_base.proofs.Mirrors.Parts.{made_reversed}
 

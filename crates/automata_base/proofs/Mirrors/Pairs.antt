@@ -1,32 +1,36 @@
 -- An NFA and its reversed one are a true pair.
-use Rattle.std.proofs.Common.{ℕ, zero, suc, ◌≡◌, ◌<◌, ◌≤◌, ◌+◌, ◌-◌, ◌&&◌, leb, not, true, false, cond, List, [], ◌∷◌, ◌⊎◌, length, Option, Some, None, inl, inr, refl, sym, ap, ◌∙◌, subst, arith}
+use Rattle.std.proofs.Common.{ℕ, zero, suc, ◌≡◌, ◌<◌, ◌≤◌, ◌+◌, ◌-◌, ◌&&◌, leb, not, true, false, cond, List, [], ◌∷◌}
+use Rattle.std.proofs.Common.{◌⊎◌, length, Option, Some, None, inl, inr, refl, sym, ap, ◌∙◌, subst, arith}
 use Rattle.std.proofs.lemmas.Bool.{leb-true}
 use Rattle.std.proofs.lemmas.Grind.{common_steps}
 use Rattle.automata_base.specs.declared.nfa.thompson.State.{State}
 use Rattle.automata_base.specs.declared.nfa.thompson.State.TheVariants as is
 use Rattle.automata_base.specs.declared.nfa.thompson.Transition.{Transition}
-use Rattle.automata_base.specs.Cuts.{MatchKind, All}
-use Rattle.automata_base.specs.Door.{IsDoor}
-use Rattle.automata_base.specs.Engines.{MatchesEmpty, engine_of}
+use Rattle.automata_base.specs.Powersets.Cuts.{MatchKind, All}
+use Rattle.automata_base.specs.Nfas.Accepted.{IsDoor}
+use Rattle.automata_base.specs.Nfas.Engines.{MatchesEmpty, engine_of}
 use Rattle.automata_base.specs.Lists.{In, nth}
-use Rattle.automata_base.specs.Looks.{Look, within, holds}
-use Rattle.automata_base.specs.Mirrors.{flip, HasRange, IsReversed, PatternsAreReversed, ReversedIsTrue}
-use Rattle.automata_base.specs.Nfa.{Nfa, Node, Truth, Split, Assert, Read, Accept, node_or_fail, takes_in, accepts}
-use Rattle.automata_base.specs.Nodes.{Automaton, nfa_of, ranges_of}
-use Rattle.automata_base.specs.Paths.{truth, prev, next}
-use Rattle.automata_base.specs.Refusals.{ordered_from, state_ordered, states_ordered}
-use Rattle.automata_base.specs.Runs.{runs_from, ranged, ranged_nodes, ranged_nfa}
-use Rattle.automata_base.specs.Selections.{Accepts}
-use Rattle.automata_base.specs.Tapes.{Forward, Backward, forward_tape, reverse_tape}
-use Rattle.automata_base.specs.TruePairs.{Joins}
+use Rattle.automata_base.specs.Haystacks.Looks.{Look, within, holds}
+use Rattle.automata_base.specs.Nfas.Mirrors.{flip, HasRange, IsReversed, PatternsAreReversed, ReversedIsTrue}
+use Rattle.automata_base.specs.Nfas.Nfa.{Nfa, Node, Truth, Split, Assert, Read, Accept, node_or_fail, takes_in, accepts}
+use Rattle.automata_base.specs.Nfas.Nodes.{Automaton, nfa_of, ranges_of}
+use Rattle.automata_base.specs.Paths.Paths.{truth, prev, next}
+use Rattle.automata_base.specs.Nfas.Errors.{ordered_from, state_ordered, states_ordered}
+use Rattle.automata_base.specs.Retraced.DenseRuns.{runs_from, ranged, ranged_nodes, ranged_nfa}
+use Rattle.automata_base.specs.Paths.Selections.{Accepts}
+use Rattle.automata_base.specs.Haystacks.Tapes.{Forward, Backward, forward_tape, reverse_tape}
+use Rattle.automata_base.specs.Answers.TruePairs.{Joins}
 use Rattle.automata_base.proofs.Mirrors.Flips.{flip_holds}
 use Rattle.automata_base.proofs.Mirrors.Ranged.{way_ranged, ranged_way, accepts_ranged}
 use Rattle.automata_base.proofs.Mirrors.Runs.{runs_ordered}
-use Rattle.automata_base.proofs.Mirrors.Turned.{IsTurn, IsApart, back_entry, back_root, forth_part, forth_entry, forth_root}
-use Rattle.automata_base.proofs.Mirrors.Ways.{Bytes, IsWay, HasWay, HasPath, path_way, way_path, run_way, way_run, always, no_bytes}
+use Rattle.automata_base.proofs.Mirrors.Turned.{IsTurn, IsApart, back_entry, back_root, forth_part, forth_entry}
+use Rattle.automata_base.proofs.Mirrors.Turned.{forth_root}
+use Rattle.automata_base.proofs.Mirrors.Ways.{Bytes, IsWay, HasWay, HasPath, path_way, way_path, run_way, way_run}
+use Rattle.automata_base.proofs.Mirrors.Ways.{always, no_bytes}
 use Rattle.automata_base.proofs.Paths.Checked.{both}
 use Rattle.automata_base.proofs.Paths.Sets.{nth_in}
-use Rattle.automata_base.proofs.Spans.Bytes.{forward_next, forward_prev, forward_byte, reverse_next, reverse_prev, reverse_byte}
+use Rattle.automata_base.proofs.Spans.Bytes.{forward_next, forward_prev, forward_byte, reverse_next, reverse_prev}
+use Rattle.automata_base.proofs.Spans.Bytes.{reverse_byte}
 
 -- Ordered ranges are apart.
 abbrev pub IsApartAt : Node → Type 0

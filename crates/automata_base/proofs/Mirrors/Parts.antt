@@ -1,23 +1,31 @@
 -- What is made of an NFA is the reversed NFA.
-use Rattle.std.proofs.Common.{ℕ, zero, suc, ◌≡◌, ◌<◌, ◌+◌, ◌↔◌, ◌⊎◌, Bool, true, false, not, cond, eqb, List, [], ◌∷◌, ◌++◌, length, get_or, map, Vec, Option, Some, None, inl, inr, refl, sym, ap, ◌∙◌, subst, arith}
+use Rattle.std.proofs.Common.{ℕ, zero, suc, ◌≡◌, ◌<◌, ◌+◌, ◌↔◌, ◌⊎◌, Bool, true, false, not, cond, eqb, List, [], ◌∷◌}
+use Rattle.std.proofs.Common.{◌++◌, length, get_or, map, Vec, Option, Some, None, inl, inr, refl, sym, ap, ◌∙◌, subst}
+use Rattle.std.proofs.Common.{arith}
 use Rattle.std.proofs.lemmas.Bool.Decides.{eqb_tells}
 use Rattle.std.specs.declared.alloc.Global.{Global}
 use Rattle.automata_base.specs.declared.nfa.thompson.State.{State}
 use Rattle.automata_base.specs.declared.nfa.thompson.State.TheVariants as is
 use Rattle.automata_base.specs.declared.nfa.thompson.reach.Edges.TheVariants.{Every}
-use Rattle.automata_base.specs.Door.{IsDoor}
+use Rattle.automata_base.specs.Nfas.Accepted.{IsDoor}
 use Rattle.automata_base.specs.Lists.{In, nth}
-use Rattle.automata_base.specs.Mirrors.{flip, Label, Free, Asks, Reads, HasRange, HasArcAt, HasArc, IsAsking, IsEdgeTo, IsReversedArc, IsKept, IsReversedAt, IsPart, IsMirror, IsReversed}
-use Rattle.automata_base.specs.Nfa.{Nfa, Node, Range, Split, Assert, Read, Accept, node, node_or_fail, accepts, accepts_at}
-use Rattle.automata_base.specs.Nodes.{Automaton, nfa_of, node_of, nodes_of}
-use Rattle.automata_base.specs.Reach.{IsReached, targets_at, nexts}
-use Rattle.automata_base.specs.Refusals.{state_below, states_below}
-use Rattle.automata_base.specs.Runs.{ranged, ranged_nodes, ranged_nfa}
-use Rattle.automata_base.specs.Turns.{Turns, no_lists, place_in, copied, copy_of, is_of, matches_in, turn_by, turn_states, IsHead, AreHeads, AreTurned, IsCopied, HasCopies, HaveCopies}
+use Rattle.automata_base.specs.Nfas.Mirrors.{flip, Label, Free, Asks, Reads, HasRange, HasArcAt, HasArc, IsAsking}
+use Rattle.automata_base.specs.Nfas.Mirrors.{IsEdgeTo, IsReversedArc, IsKept, IsReversedAt, IsPart, IsMirror}
+use Rattle.automata_base.specs.Nfas.Mirrors.{IsReversed}
+use Rattle.automata_base.specs.Nfas.Nfa.{Nfa, Node, Range, Split, Assert, Read, Accept, node, node_or_fail, accepts}
+use Rattle.automata_base.specs.Nfas.Nfa.{accepts_at}
+use Rattle.automata_base.specs.Nfas.Nodes.{Automaton, nfa_of, node_of, nodes_of}
+use Rattle.automata_base.specs.Nfas.Reach.{IsReached, targets_at, nexts}
+use Rattle.automata_base.specs.Nfas.Errors.{state_below, states_below}
+use Rattle.automata_base.specs.Retraced.DenseRuns.{ranged, ranged_nodes, ranged_nfa}
+use Rattle.automata_base.specs.Retraced.ReversedEdges.{Turns, no_lists, place_in, copied, copy_of, is_of, matches_in}
+use Rattle.automata_base.specs.Retraced.ReversedEdges.{turn_by, turn_states, IsHead, AreHeads, AreTurned, IsCopied}
+use Rattle.automata_base.specs.Retraced.ReversedEdges.{HasCopies, HaveCopies}
 use Rattle.automata_base.proofs.Reaching.InRange.{node_is}
 use Rattle.automata_base.proofs.Mirrors.Copies.{has_more, nth_last, reached_closed, reached_roots}
 use Rattle.automata_base.proofs.Paths.Checked.{both}
-use Rattle.automata_base.proofs.Mirrors.Graphs.{InAt, Stand, IsGraph, IsHelper, Of, graph_none, graph_states, graph_tell}
+use Rattle.automata_base.proofs.Mirrors.Graphs.{InAt, Stand, IsGraph, IsHelper, Of, graph_none, graph_states}
+use Rattle.automata_base.proofs.Mirrors.Graphs.{graph_tell}
 use Rattle.automata_base.proofs.Mirrors.Runs.{runs_next}
 use Rattle.automata_base.proofs.Mirrors.Turned.{arc_inside, accept_inside}
 use Rattle.automata_base.proofs.Paths.Orders.{some_inj, none_some}

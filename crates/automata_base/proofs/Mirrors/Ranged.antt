@@ -2,9 +2,9 @@
 use Rattle.std.proofs.Common.{ℕ, suc, ◌≡◌, List, [], ◌∷◌, get_or, inl, inr, refl, sym, ap, ◌∙◌}
 use Rattle.automata_base.specs.declared.nfa.thompson.State.{State}
 use Rattle.automata_base.specs.declared.nfa.thompson.State.TheVariants as is
-use Rattle.automata_base.specs.Nfa.{Truth, hop, hop_at, takes, takes_at, accepts, accepts_at}
-use Rattle.automata_base.specs.Nodes.{Automaton, nfa_of, node_of}
-use Rattle.automata_base.specs.Runs.{ranged, ranged_nfa}
+use Rattle.automata_base.specs.Nfas.Nfa.{Truth, hop, hop_at, takes, takes_at, accepts, accepts_at}
+use Rattle.automata_base.specs.Nfas.Nodes.{Automaton, nfa_of, node_of}
+use Rattle.automata_base.specs.Retraced.DenseRuns.{ranged, ranged_nfa}
 use Rattle.automata_base.proofs.Reaching.InRange.{node_is}
 use Rattle.automata_base.proofs.Mirrors.Parts.{ranged_is, accept_same}
 use Rattle.automata_base.proofs.Mirrors.Runs.{dense_takes}

@@ -1,15 +1,17 @@
 -- The numbers that states lead to are in range.
-use Rattle.std.proofs.Common.{ℕ, zero, suc, ◌≡◌, ◌<◌, ◌≤◌, ◌+◌, ◌⊎◌, ◌&&◌, true, false, List, [], ◌∷◌, ◌++◌, length, length-append, get_or, Option, Some, None, inl, inr, refl, sym, ap, ◌∙◌, subst, arith}
+use Rattle.std.proofs.Common.{ℕ, zero, suc, ◌≡◌, ◌<◌, ◌≤◌, ◌+◌, ◌⊎◌, ◌&&◌, true, false, List, [], ◌∷◌, ◌++◌, length}
+use Rattle.std.proofs.Common.{length-append, get_or, Option, Some, None, inl, inr, refl, sym, ap, ◌∙◌, subst, arith}
 use Rattle.std.proofs.lemmas.Bool.{lt-ltb}
 use Rattle.automata_base.specs.declared.nfa.thompson.State.{State}
 use Rattle.automata_base.specs.declared.nfa.thompson.State.TheVariants as is
 use Rattle.automata_base.specs.declared.nfa.thompson.Transition.{Transition}
 use Rattle.automata_base.specs.Lists.{In, nth, all_below}
-use Rattle.automata_base.specs.Mirrors.{flip, Label, Free, Asks, Reads}
-use Rattle.automata_base.specs.Nodes.{Automaton}
-use Rattle.automata_base.specs.Refusals.{state_below, states_below}
-use Rattle.automata_base.specs.Runs.{runs_from}
-use Rattle.automata_base.specs.Turns.{Turns, no_lists, turn_by, turn_all, turn_ranges, turn_state, turn_states, IsHead, AreHeads, AreTurned}
+use Rattle.automata_base.specs.Nfas.Mirrors.{flip, Label, Free, Asks, Reads}
+use Rattle.automata_base.specs.Nfas.Nodes.{Automaton}
+use Rattle.automata_base.specs.Nfas.Errors.{state_below, states_below}
+use Rattle.automata_base.specs.Retraced.DenseRuns.{runs_from}
+use Rattle.automata_base.specs.Retraced.ReversedEdges.{Turns, no_lists, turn_by, turn_all, turn_ranges, turn_state}
+use Rattle.automata_base.specs.Retraced.ReversedEdges.{turn_states, IsHead, AreHeads, AreTurned}
 use Rattle.automata_base.proofs.Mirrors.Graphs.{InAt, Stand, IsHelper, IsGraph, Of}
 use Rattle.automata_base.proofs.Mirrors.Parts.{heads_length, turned_graph}
 use Rattle.automata_base.proofs.Paths.Checked.{both, below_in}

@@ -1,15 +1,16 @@
 -- A dense state with its edges as ranges does what it does byte by byte.
-use Rattle.std.proofs.Common.{ℕ, zero, suc, ◌≡◌, ◌<◌, ◌≤◌, ◌+◌, ◌&&◌, ltb, leb, Bool, true, false, cond, List, [], ◌∷◌, ◌++◌, Option, Some, None, inl, inr, refl, sym, ap, ◌∙◌, arith}
+use Rattle.std.proofs.Common.{ℕ, zero, suc, ◌≡◌, ◌<◌, ◌≤◌, ◌+◌, ◌&&◌, ltb, leb, Bool, true, false, cond, List, [], ◌∷◌}
+use Rattle.std.proofs.Common.{◌++◌, Option, Some, None, inl, inr, refl, sym, ap, ◌∙◌, arith}
 use Rattle.std.proofs.lemmas.Bool.{le-leb, ltb-true, eqb-true}
 use Rattle.std.proofs.lemmas.Grind.{common_steps}
 use Rattle.automata_base.specs.declared.nfa.thompson.Transition.{Transition}
 use Rattle.automata_base.specs.Lists.{In, all_below}
-use Rattle.automata_base.specs.Looks.{within}
-use Rattle.automata_base.specs.Nfa.{takes_in}
-use Rattle.automata_base.specs.Nodes.{ranges_of, dense_from}
-use Rattle.automata_base.specs.Reach.{nexts}
-use Rattle.automata_base.specs.Refusals.{ordered_from, transitions_below}
-use Rattle.automata_base.specs.Runs.{starts_with, run_of, runs_from}
+use Rattle.automata_base.specs.Haystacks.Looks.{within}
+use Rattle.automata_base.specs.Nfas.Nfa.{takes_in}
+use Rattle.automata_base.specs.Nfas.Nodes.{ranges_of, dense_from}
+use Rattle.automata_base.specs.Nfas.Reach.{nexts}
+use Rattle.automata_base.specs.Nfas.Errors.{ordered_from, transitions_below}
+use Rattle.automata_base.specs.Retraced.DenseRuns.{starts_with, run_of, runs_from}
 use Rattle.automata_base.proofs.Paths.Checked.{both}
 
 -- A list that begins with `x`.

@@ -1,17 +1,20 @@
 -- How many states and alternates what is turned has.
-use Rattle.std.proofs.Common.{ℕ, zero, suc, ◌≡◌, ◌<◌, ◌≤◌, ◌+◌, ◌^◌, ◌&&◌, true, leb, List, [], ◌∷◌, ◌++◌, drop, length, length-append, get_or, Option, Some, None, inl, inr, refl, sym, ap, ◌∙◌, subst, arith}
+use Rattle.std.proofs.Common.{ℕ, zero, suc, ◌≡◌, ◌<◌, ◌≤◌, ◌+◌, ◌^◌, ◌&&◌, true, leb, List, [], ◌∷◌, ◌++◌, drop, length}
+use Rattle.std.proofs.Common.{length-append, get_or, Option, Some, None, inl, inr, refl, sym, ap, ◌∙◌, subst, arith}
 use Rattle.std.specs.Prelude.{sum_by}
 use Rattle.std.proofs.lemmas.List.Sums.{sum_by-cons, sum_by-append}
 use Rattle.automata_base.specs.declared.nfa.thompson.State.{State}
 use Rattle.automata_base.specs.declared.nfa.thompson.State.TheVariants as is
 use Rattle.automata_base.specs.declared.nfa.thompson.Transition.{Transition}
 use Rattle.automata_base.specs.Lists.{nth, all_below}
-use Rattle.automata_base.specs.Mirrors.{flip}
-use Rattle.automata_base.specs.Once.{Distinct}
-use Rattle.automata_base.specs.Refusals.{alternates_of, ordered_from, state_ordered, states_ordered}
-use Rattle.automata_base.specs.ReversedSizes.{asking_edges, free_edges}
-use Rattle.automata_base.specs.Runs.{runs_from}
-use Rattle.automata_base.specs.Turns.{Turns, no_lists, push_at, turn_free, turn_by, turn_all, turn_ranges, turn_state, turn_states, size, IsHead, AreHeads, AreTurned}
+use Rattle.automata_base.specs.Nfas.Mirrors.{flip}
+use Rattle.automata_base.specs.Retraced.Once.{Distinct}
+use Rattle.automata_base.specs.Nfas.Errors.{alternates_of, ordered_from, state_ordered, states_ordered}
+use Rattle.automata_base.specs.Nfas.ReversedSizes.{asking_edges, free_edges}
+use Rattle.automata_base.specs.Retraced.DenseRuns.{runs_from}
+use Rattle.automata_base.specs.Retraced.ReversedEdges.{Turns, no_lists, push_at, turn_free, turn_by, turn_all}
+use Rattle.automata_base.specs.Retraced.ReversedEdges.{turn_ranges, turn_state, turn_states, size, IsHead, AreHeads}
+use Rattle.automata_base.specs.Retraced.ReversedEdges.{AreTurned}
 use Rattle.automata_base.proofs.Mirrors.Lists.{push_length, states_next}
 use Rattle.automata_base.proofs.Mirrors.Parts.{heads_length}
 use Rattle.automata_base.proofs.Mirrors.Runs.{runs_ordered}

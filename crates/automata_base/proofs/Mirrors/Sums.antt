@@ -1,10 +1,11 @@
 -- Sums over numbers without repeats.
-use Rattle.std.proofs.Common.{ℕ, zero, suc, ◌≡◌, ◌<◌, ◌≤◌, ◌+◌, ◌⊎◌, List, [], ◌∷◌, ◌++◌, length, get_or, take, inl, inr, refl, sym, ap, subst, arith, append_assoc, append-nil}
+use Rattle.std.proofs.Common.{ℕ, zero, suc, ◌≡◌, ◌<◌, ◌≤◌, ◌+◌, ◌⊎◌, List, [], ◌∷◌, ◌++◌, length, get_or, take, inl}
+use Rattle.std.proofs.Common.{inr, refl, sym, ap, subst, arith, append_assoc, append-nil}
 use Rattle.std.specs.Prelude.{sum_by}
 use Rattle.std.proofs.lemmas.List.{take_all}
 use Rattle.std.proofs.lemmas.List.Sums.{sum_by_more, sum_by-cons}
 use Rattle.automata_base.specs.Lists.{In}
-use Rattle.automata_base.specs.Once.{Distinct}
+use Rattle.automata_base.specs.Retraced.Once.{Distinct}
 use Rattle.automata_base.proofs.Determinizing.Distinct.{In-either, unvisited, unvisited_push, among}
 
 sum_rest :

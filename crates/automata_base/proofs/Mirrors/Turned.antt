@@ -1,9 +1,12 @@
 -- A reversed NFA goes back along the edges of the other.
-use Rattle.std.proofs.Common.{ℕ, zero, suc, ◌≡◌, ◌<◌, ◌≤◌, ◌+◌, Bool, true, false, cond, List, [], ◌∷◌, ◌⊎◌, length, Some, None, inl, inr, refl, sym, ap, ◌∙◌, subst, arith}
+use Rattle.std.proofs.Common.{ℕ, zero, suc, ◌≡◌, ◌<◌, ◌≤◌, ◌+◌, Bool, true, false, cond, List, [], ◌∷◌, ◌⊎◌, length}
+use Rattle.std.proofs.Common.{Some, None, inl, inr, refl, sym, ap, ◌∙◌, subst, arith}
 use Rattle.automata_base.specs.Lists.{In, nth}
-use Rattle.automata_base.specs.Looks.{Look, within}
-use Rattle.automata_base.specs.Nfa.{Nfa, Node, Range, Split, Assert, Read, Accept, Truth, node, node_or_fail, hop, hop_at, takes, takes_at, takes_in, accepts, accepts_at}
-use Rattle.automata_base.specs.Mirrors.{flip, Label, Free, Asks, Reads, HasRange, HasArcAt, HasArc, IsAsking, IsEdgeTo, IsReversedArc, IsKept, IsReversedAt, IsPart, IsMirror}
+use Rattle.automata_base.specs.Haystacks.Looks.{Look, within}
+use Rattle.automata_base.specs.Nfas.Nfa.{Nfa, Node, Range, Split, Assert, Read, Accept, Truth, node, node_or_fail, hop}
+use Rattle.automata_base.specs.Nfas.Nfa.{hop_at, takes, takes_at, takes_in, accepts, accepts_at}
+use Rattle.automata_base.specs.Nfas.Mirrors.{flip, Label, Free, Asks, Reads, HasRange, HasArcAt, HasArc, IsAsking}
+use Rattle.automata_base.specs.Nfas.Mirrors.{IsEdgeTo, IsReversedArc, IsKept, IsReversedAt, IsPart, IsMirror}
 use Rattle.automata_base.proofs.Paths.Orders.{none_some, some_inj}
 use Rattle.automata_base.proofs.Paths.Sets.{nth_in, in_nth}
 use Rattle.automata_base.proofs.Mirrors.Ways.{Bytes, IsWay, HasWay, join, hop_way, move_way, way_grows}

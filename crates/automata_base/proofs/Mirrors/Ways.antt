@@ -1,8 +1,9 @@
 -- Ways through an NFA: paths that may pass a state twice at one place, over any truths and bytes.
-use Rattle.std.proofs.Common.{ℕ, suc, ◌≡◌, ◌≤◌, List, [], ◌∷◌, ◌++◌, ◌⊎◌, Option, Some, None, inl, inr, refl, sym, ◌∙◌, subst, arith, ⊎_elim}
+use Rattle.std.proofs.Common.{ℕ, suc, ◌≡◌, ◌≤◌, List, [], ◌∷◌, ◌++◌, ◌⊎◌, Option, Some, None, inl, inr, refl, sym, ◌∙◌}
+use Rattle.std.proofs.Common.{subst, arith, ⊎_elim}
 use Rattle.automata_base.specs.Lists.{In, nth}
-use Rattle.automata_base.specs.Nfa.{Nfa, Truth, hop, takes}
-use Rattle.automata_base.specs.Paths.{Tape, IsPathFrom, truth, all_true, Run}
+use Rattle.automata_base.specs.Nfas.Nfa.{Nfa, Truth, hop, takes}
+use Rattle.automata_base.specs.Paths.Paths.{Tape, IsPathFrom, truth, all_true, Run}
 use Rattle.automata_base.proofs.Paths.Orders.{none_some}
 use Rattle.automata_base.proofs.Paths.Walks.{in_either}
 

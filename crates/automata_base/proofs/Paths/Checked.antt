@@ -1,14 +1,17 @@
 -- What the tests of an NFA show.
-use Rattle.std.proofs.Common.{ℕ, zero, suc, ◌≡◌, ◌<◌, ◌+◌, Bool, true, false, cond, not, ◌&&◌, ltb, List, [], ◌∷◌, length, Option, Some, None, inl, inr, refl, sym, ap, ◌∙◌, subst, arith, true≢false}
+use Rattle.std.proofs.Common.{ℕ, zero, suc, ◌≡◌, ◌<◌, ◌+◌, Bool, true, false, cond, not, ◌&&◌, ltb, List, [], ◌∷◌}
+use Rattle.std.proofs.Common.{length, Option, Some, None, inl, inr, refl, sym, ap, ◌∙◌, subst, arith, true≢false}
 use Rattle.std.proofs.lemmas.Bool.{ltb-true}
 use Rattle.automata_base.specs.Lists.{In, nth, all_below}
-use Rattle.automata_base.specs.Nfa.{Nfa, Node, Split, Assert, Read, Accept, Range, Truth, node, node_or_fail, hop_at, takes_at, takes_in}
-use Rattle.automata_base.specs.Looks.{within}
-use Rattle.automata_base.specs.Paths.{Tape, next, next_in, all_true, Run, IsLookAcyclic}
-use Rattle.automata_base.specs.Passes.{IsUnit, IsTape}
-use Rattle.automata_base.specs.Visits.{children_at}
-use Rattle.automata_base.specs.Computed.{is_in, closure_of, IsInRange}
-use Rattle.automata_base.proofs.Paths.Checks.{ranges_below, node_below, nodes_below, is_in_range, no_way_back, no_ways_back, is_look_cycle_free, unit_fits, tape_fits}
+use Rattle.automata_base.specs.Nfas.Nfa.{Nfa, Node, Split, Assert, Read, Accept, Range, Truth, node, node_or_fail}
+use Rattle.automata_base.specs.Nfas.Nfa.{hop_at, takes_at, takes_in}
+use Rattle.automata_base.specs.Haystacks.Looks.{within}
+use Rattle.automata_base.specs.Paths.Paths.{Tape, next, next_in, all_true, Run, IsLookAcyclic}
+use Rattle.automata_base.specs.Powersets.Passes.{IsUnit, IsTape}
+use Rattle.automata_base.specs.Powersets.Closure.{children_at}
+use Rattle.automata_base.specs.Retraced.ComputedPass.{is_in, closure_of, IsInRange}
+use Rattle.automata_base.proofs.Paths.Checks.{ranges_below, node_below, nodes_below, is_in_range, no_way_back}
+use Rattle.automata_base.proofs.Paths.Checks.{no_ways_back, is_look_cycle_free, unit_fits, tape_fits}
 use Rattle.automata_base.proofs.Paths.Orders.{some_inj, none_some}
 use Rattle.automata_base.proofs.Paths.Sets.{HasWalk, walk_cons}
 use Rattle.automata_base.proofs.Paths.Fuels.{is_in_false, closure_right, AllBelow}

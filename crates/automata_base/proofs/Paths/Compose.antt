@@ -1,8 +1,10 @@
 -- Least keys of a list of states, followed by least paths from what the states lead to, are least keys.
-use Rattle.std.proofs.Common.{ℕ, zero, suc, ◌≡◌, ◌<◌, List, [], ◌∷◌, ◌++◌, ◌⊎◌, Option, Some, None, inl, inr, refl, sym, ap, ◌∙◌, subst, arith}
-use Rattle.automata_base.specs.Order.{Before, Upto, Begins}
+use Rattle.std.proofs.Common.{ℕ, zero, suc, ◌≡◌, ◌<◌, List, [], ◌∷◌, ◌++◌, ◌⊎◌, Option, Some, None, inl, inr, refl, sym}
+use Rattle.std.proofs.Common.{ap, ◌∙◌, subst, arith}
+use Rattle.automata_base.specs.Paths.Order.{Before, Upto, Begins}
 use Rattle.automata_base.specs.Lists.{In, nth, Sorted, IsListOf, cons_some, pick, From}
-use Rattle.automata_base.proofs.Paths.Orders.{cons_head, cons_tail, none_some, before_then, before_after, upto_after, before_append}
+use Rattle.automata_base.proofs.Paths.Orders.{cons_head, cons_tail, none_some, before_then, before_after, upto_after}
+use Rattle.automata_base.proofs.Paths.Orders.{before_append}
 
 -- The index of a state among those that are picked.
 pub put_nth : (o : Option ℕ) (ys : List ℕ) (r : ℕ) → (k : ℕ) × (nth ys k ≡ Some r) → (k : ℕ) × (nth (cons_some o ys) k ≡ Some r)

@@ -1,8 +1,9 @@
 -- What leftmost-first cuts.
-use Rattle.std.proofs.Common.{ℕ, ◌≡◌, List, [], ◌∷◌, ◌⊎◌, Option, Some, None, inl, inr, refl, sym, ap, ◌∙◌, subst, ⊎_elim}
-use Rattle.automata_base.specs.Order.{Before, Upto}
+use Rattle.std.proofs.Common.{ℕ, ◌≡◌, List, [], ◌∷◌, ◌⊎◌, Option, Some, None, inl, inr, refl, sym, ap, ◌∙◌, subst}
+use Rattle.std.proofs.Common.{⊎_elim}
+use Rattle.automata_base.specs.Paths.Order.{Before, Upto}
 use Rattle.automata_base.specs.Lists.{In, Sorted, IsListOf}
-use Rattle.automata_base.specs.Nfa.{Nfa, accepts}
+use Rattle.automata_base.specs.Nfas.Nfa.{Nfa, accepts}
 use Rattle.automata_base.proofs.Paths.Orders.{some_inj, none_some, before_upto, before_irrefl}
 
 abbrev pub stop_at : Option ℕ → ℕ → List ℕ → List ℕ

@@ -1,17 +1,20 @@
 -- A decided list has the byte and match states of the closure under the looks that hold, in its order.
-use Rattle.std.proofs.Common.{ℕ, zero, suc, ◌≡◌, Bool, true, false, cond, List, [], ◌∷◌, ◌↔◌, Option, Some, None, inl, inr, refl, sym, ap, ◌∙◌, subst}
+use Rattle.std.proofs.Common.{ℕ, zero, suc, ◌≡◌, Bool, true, false, cond, List, [], ◌∷◌, ◌↔◌, Option, Some, None, inl}
+use Rattle.std.proofs.Common.{inr, refl, sym, ap, ◌∙◌, subst}
 use Rattle.automata_base.specs.Lists.{In, IsListOf, pick, From}
-use Rattle.automata_base.specs.Looks.{Look, holds}
-use Rattle.automata_base.specs.Nfa.{Nfa, Node, Split, Assert, Read, Accept, Truth, node, hop, hop_at, keep, ends, stays_at, ends_at}
-use Rattle.automata_base.specs.Paths.{IsPathAt, IsLookAcyclic, IsClosure}
-use Rattle.automata_base.specs.Passes.{IsUnit, Occurs, IsKnownLook, IsNeeded, IsMake, true_looks, IsNews, IsDecided}
-use Rattle.automata_base.specs.Powerset.{Powerset}
+use Rattle.automata_base.specs.Haystacks.Looks.{Look, holds}
+use Rattle.automata_base.specs.Nfas.Nfa.{Nfa, Node, Split, Assert, Read, Accept, Truth, node, hop, hop_at, keep, ends}
+use Rattle.automata_base.specs.Nfas.Nfa.{stays_at, ends_at}
+use Rattle.automata_base.specs.Paths.Paths.{IsPathAt, IsLookAcyclic, IsClosure}
+use Rattle.automata_base.specs.Powersets.Passes.{IsUnit, Occurs, IsKnownLook, IsNeeded, IsMake, true_looks, IsNews}
+use Rattle.automata_base.specs.Powersets.Passes.{IsDecided}
+use Rattle.automata_base.specs.Powersets.Powerset.{Powerset}
 use Rattle.automata_base.proofs.Paths.Orders.{none_some}
 use Rattle.automata_base.proofs.Paths.Walks.{walk_more}
 use Rattle.automata_base.proofs.Paths.Sift.{Sifted, sift, same, picked_in}
 use Rattle.automata_base.proofs.Paths.Late.{late, Ending, keep_sieve, ends_sieve, kept_at, ends_stay, keep_true}
 use Rattle.automata_base.proofs.Paths.Truths.{truths}
-use Rattle.automata_base.specs.Truths.{truth_of}
+use Rattle.automata_base.specs.Haystacks.LookSets.{truth_of}
 use Rattle.automata_base.proofs.Paths.Included.{Includes}
 
 -- The looks that `A` has true at a state are true in `B`.

@@ -1,12 +1,15 @@
 -- The computed search answers what the paths define.
-use Rattle.std.proofs.Common.{ℕ, zero, suc, ◌≡◌, ◌<◌, ◌≤◌, Bool, true, false, List, [], ◌∷◌, ◌⊎◌, length, Option, Some, None, refl, sym, subst, arith, ⊎_elim, eq-or-lt_of_le, le_of_suc-le-suc}
+use Rattle.std.proofs.Common.{ℕ, zero, suc, ◌≡◌, ◌<◌, ◌≤◌, Bool, true, false, List, [], ◌∷◌, ◌⊎◌, length, Option, Some}
+use Rattle.std.proofs.Common.{None, refl, sym, subst, arith, ⊎_elim, eq-or-lt_of_le, le_of_suc-le-suc}
 use Rattle.automata_base.specs.Lists.{IsSet}
-use Rattle.automata_base.specs.Nfa.{Nfa}
-use Rattle.automata_base.specs.Paths.{Tape, IsLookAcyclic}
-use Rattle.automata_base.specs.Cuts.{MatchKind, All}
-use Rattle.automata_base.specs.Selections.{Accepts, Pair, IsNearest, IsFarthest, Pairs, Tells, Selects, IsOverlappingOn}
-use Rattle.automata_base.specs.Computed.{told_of, pair_at, last_of, earlier_or, first_of, search_of, pairs_upto, IsInRange}
-use Rattle.automata_base.specs.Passes.{IsTape}
+use Rattle.automata_base.specs.Nfas.Nfa.{Nfa}
+use Rattle.automata_base.specs.Paths.Paths.{Tape, IsLookAcyclic}
+use Rattle.automata_base.specs.Powersets.Cuts.{MatchKind, All}
+use Rattle.automata_base.specs.Paths.Selections.{Accepts, Pair, IsNearest, IsFarthest, Pairs, Tells, Selects}
+use Rattle.automata_base.specs.Paths.Selections.{IsOverlappingOn}
+use Rattle.automata_base.specs.Retraced.ComputedPass.{told_of, pair_at, last_of, earlier_or, first_of, search_of}
+use Rattle.automata_base.specs.Retraced.ComputedPass.{pairs_upto, IsInRange}
+use Rattle.automata_base.specs.Powersets.Passes.{IsTape}
 use Rattle.automata_base.proofs.Paths.Searches.{sel_right, walk_right}
 use Rattle.automata_base.proofs.Paths.Sets.{nearest_right, farthest_right, pairs_right}
 use Rattle.automata_base.proofs.Paths.Machines.{told_right}

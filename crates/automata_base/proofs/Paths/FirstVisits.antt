@@ -1,10 +1,11 @@
 -- The order of first visits is the order of least paths.
-use Rattle.std.proofs.Common.{ℕ, zero, suc, ◌≡◌, ◌<◌, ◌+◌, Bool, true, false, cond, List, [], ◌∷◌, ◌++◌, ◌⊎◌, length, Some, None, inl, inr, refl, sym, ap, ap₂, ◌∙◌, subst, arith, ⊎_elim}
-use Rattle.automata_base.specs.Order.{Before, Upto}
+use Rattle.std.proofs.Common.{ℕ, zero, suc, ◌≡◌, ◌<◌, ◌+◌, Bool, true, false, cond, List, [], ◌∷◌, ◌++◌, ◌⊎◌, length}
+use Rattle.std.proofs.Common.{Some, None, inl, inr, refl, sym, ap, ap₂, ◌∙◌, subst, arith, ⊎_elim}
+use Rattle.automata_base.specs.Paths.Order.{Before, Upto}
 use Rattle.automata_base.specs.Lists.{In, nth, Sorted, IsListOf, From}
-use Rattle.automata_base.specs.Nfa.{Nfa, Node, Split, Assert, Read, Accept, Truth, node, hop, hop_at}
-use Rattle.automata_base.specs.Paths.{IsPathAt, IsClosure}
-use Rattle.automata_base.specs.Visits.{children, children_at, Visits, done, skip, visit}
+use Rattle.automata_base.specs.Nfas.Nfa.{Nfa, Node, Split, Assert, Read, Accept, Truth, node, hop, hop_at}
+use Rattle.automata_base.specs.Paths.Paths.{IsPathAt, IsClosure}
+use Rattle.automata_base.specs.Powersets.Closure.{children, children_at, Visits, done, skip, visit}
 use Rattle.automata_base.proofs.Paths.Orders.{some_inj, none_some, cons_head, cons_tail}
 use Rattle.automata_base.proofs.Paths.Walks.{in_left, in_either}
 use Rattle.automata_base.proofs.Paths.Compose.{Carries, transfer}

@@ -1,9 +1,9 @@
 -- A path as the run of its edges: the place where following them ends, if each exists.
 use Rattle.std.specs.Prelude.{ℕ, suc, true, false, eqb, List, [], ◌∷◌, Option, Some, None}
 use Rattle.automata_base.specs.Lists.{nth}
-use Rattle.automata_base.specs.Nfa.{Nfa, hop, takes}
-use Rattle.automata_base.specs.Paths.{Tape, truth}
-use Rattle.automata_base.specs.Computed.{is_in}
+use Rattle.automata_base.specs.Nfas.Nfa.{Nfa, hop, takes}
+use Rattle.automata_base.specs.Paths.Paths.{Tape, truth}
+use Rattle.automata_base.specs.Retraced.ComputedPass.{is_in}
 
 -- A place and a state.
 pub record Stand : Type 0 where

@@ -1,10 +1,11 @@
 -- Following edges and paths are the same.
-use Rattle.std.proofs.Common.{ℕ, suc, ◌≡◌, Bool, true, false, eqb, List, [], ◌∷◌, Option, Some, None, inl, inr, refl, sym, ap, ap₂, ◌∙◌, true≢false}
+use Rattle.std.proofs.Common.{ℕ, suc, ◌≡◌, Bool, true, false, eqb, List, [], ◌∷◌, Option, Some, None, inl, inr, refl}
+use Rattle.std.proofs.Common.{sym, ap, ap₂, ◌∙◌, true≢false}
 use Rattle.std.proofs.lemmas.Bool.{eqb-true, eq-eqb}
 use Rattle.automata_base.specs.Lists.{nth}
-use Rattle.automata_base.specs.Nfa.{Nfa, hop}
-use Rattle.automata_base.specs.Paths.{Tape, truth, IsPathFrom, Moves}
-use Rattle.automata_base.specs.Computed.{is_in}
+use Rattle.automata_base.specs.Nfas.Nfa.{Nfa, hop}
+use Rattle.automata_base.specs.Paths.Paths.{Tape, truth, IsPathFrom, Moves}
+use Rattle.automata_base.specs.Retraced.ComputedPass.{is_in}
 use Rattle.automata_base.proofs.Paths.Follow.{Stand, taken, follow}
 use Rattle.automata_base.proofs.Paths.Orders.{none_some}
 use Rattle.automata_base.proofs.Paths.Places.{hop_takes}

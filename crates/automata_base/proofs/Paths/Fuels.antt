@@ -1,12 +1,14 @@
 -- The computed first visits are first visits.
-use Rattle.std.proofs.Common.{ℕ, zero, suc, ◌≡◌, ◌<◌, ◌≤◌, ◌+◌, Bool, true, false, ◌||◌, eqb, List, [], ◌∷◌, ◌++◌, ◌⊎◌, length, inl, inr, refl, sym, ap, ◌∙◌, arith, ⊎_elim, true≢false, eq-or-lt_of_le, le_of_suc-le-suc}
+use Rattle.std.proofs.Common.{ℕ, zero, suc, ◌≡◌, ◌<◌, ◌≤◌, ◌+◌, Bool, true, false, ◌||◌, eqb, List, [], ◌∷◌, ◌++◌, ◌⊎◌}
+use Rattle.std.proofs.Common.{length, inl, inr, refl, sym, ap, ◌∙◌, arith, ⊎_elim, true≢false, eq-or-lt_of_le}
+use Rattle.std.proofs.Common.{le_of_suc-le-suc}
 use Rattle.std.proofs.lemmas.Bool.{eqb-true, eqb-false}
 use Rattle.std.proofs.lemmas.Bool.Decides.{eqb_tells}
 use Rattle.automata_base.specs.Lists.{In}
-use Rattle.automata_base.specs.Nfa.{Nfa, Truth}
-use Rattle.automata_base.specs.Paths.{IsClosure}
-use Rattle.automata_base.specs.Visits.{children, Visits, done, skip, visit}
-use Rattle.automata_base.specs.Computed.{is_in, visits_with, first_visits, closure_of, IsInRange}
+use Rattle.automata_base.specs.Nfas.Nfa.{Nfa, Truth}
+use Rattle.automata_base.specs.Paths.Paths.{IsClosure}
+use Rattle.automata_base.specs.Powersets.Closure.{children, Visits, done, skip, visit}
+use Rattle.automata_base.specs.Retraced.ComputedPass.{is_in, visits_with, first_visits, closure_of, IsInRange}
 use Rattle.automata_base.proofs.Paths.Walks.{in_either}
 use Rattle.automata_base.proofs.Paths.FirstVisits.{visits_closure}
 

@@ -1,20 +1,22 @@
 -- What a powerset state of the pass means before its looks are decided.
-use Rattle.std.proofs.Common.{ℕ, zero, suc, ◌≡◌, ◌<◌, ◌≤◌, List, [], ◌∷◌, ◌⊎◌, length, Option, Some, None, inl, inr, refl, sym, ap, ◌∙◌, subst, arith, ⊎_elim, eq-or-lt_of_le, le_of_suc-le-suc}
-use Rattle.automata_base.specs.Order.{Before, Upto}
+use Rattle.std.proofs.Common.{ℕ, zero, suc, ◌≡◌, ◌<◌, ◌≤◌, List, [], ◌∷◌, ◌⊎◌, length, Option, Some, None, inl, inr}
+use Rattle.std.proofs.Common.{refl, sym, ap, ◌∙◌, subst, arith, ⊎_elim, eq-or-lt_of_le, le_of_suc-le-suc}
+use Rattle.automata_base.specs.Paths.Order.{Before, Upto}
 use Rattle.automata_base.specs.Lists.{nth, IsListOf, cons_some, pick, From}
-use Rattle.automata_base.specs.Nfa.{Nfa, accepts, ends, takes}
-use Rattle.automata_base.specs.Paths.{IsPathAt, Tape, IsPath, truth, prev, next, next_in, IsLookAcyclic}
-use Rattle.automata_base.specs.Cuts.{MatchKind, All, LeftmostFirst, cut, cut_for, IsOnce, targets}
-use Rattle.automata_base.specs.Passes.{IsTape, IsClosureOf, IsDecided, IsSuccessor, IsStart, IsPass}
-use Rattle.automata_base.specs.Powerset.{Powerset}
-use Rattle.automata_base.specs.Selections.{Accepts, IsFirstAt, ArePatternsAt, Tells}
+use Rattle.automata_base.specs.Nfas.Nfa.{Nfa, accepts, ends, takes}
+use Rattle.automata_base.specs.Paths.Paths.{IsPathAt, Tape, IsPath, truth, prev, next, next_in, IsLookAcyclic}
+use Rattle.automata_base.specs.Powersets.Cuts.{MatchKind, All, LeftmostFirst, cut, cut_for, IsOnce, targets}
+use Rattle.automata_base.specs.Powersets.Passes.{IsTape, IsClosureOf, IsDecided, IsSuccessor, IsStart, IsPass}
+use Rattle.automata_base.specs.Powersets.Powerset.{Powerset}
+use Rattle.automata_base.specs.Paths.Selections.{Accepts, IsFirstAt, ArePatternsAt, Tells}
 use Rattle.automata_base.proofs.Paths.Orders.{before_total, before_upto, before_trans}
 use Rattle.automata_base.proofs.Paths.Places.{path_end, accepts_ends}
 use Rattle.automata_base.proofs.Paths.Sift.{same}
 use Rattle.automata_base.proofs.Paths.Late.{Ending}
 use Rattle.automata_base.proofs.Paths.Steps.{EndsWithin, Within, IsPast, step, first}
 use Rattle.automata_base.proofs.Paths.Cuts.{front, leader, no_leader, no_leader_in, led, Led}
-use Rattle.automata_base.proofs.Paths.Readings.{targets_all, targets_cut, patterns_all, patterns_cut, told, once_is_none, once_is_one, patterns_of}
+use Rattle.automata_base.proofs.Paths.Readings.{targets_all, targets_cut, patterns_all, patterns_cut, told}
+use Rattle.automata_base.proofs.Paths.Readings.{once_is_none, once_is_one, patterns_of}
 use Rattle.automata_base.proofs.Paths.Decisions.{decides}
 
 -- Inside the span the next unit is a byte.

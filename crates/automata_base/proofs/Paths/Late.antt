@@ -1,9 +1,11 @@
 -- Deciding looks afterwards leaves the order.
-use Rattle.std.proofs.Common.{ℕ, ◌≡◌, Bool, true, false, cond, List, [], ◌∷◌, ◌++◌, ◌⊎◌, Some, None, inl, inr, refl, sym, ap, ◌∙◌, subst, true≢false}
-use Rattle.automata_base.specs.Order.{Begins}
+use Rattle.std.proofs.Common.{ℕ, ◌≡◌, Bool, true, false, cond, List, [], ◌∷◌, ◌++◌, ◌⊎◌, Some, None, inl, inr, refl}
+use Rattle.std.proofs.Common.{sym, ap, ◌∙◌, subst, true≢false}
+use Rattle.automata_base.specs.Paths.Order.{Begins}
 use Rattle.automata_base.specs.Lists.{nth, IsListOf, pick, From}
-use Rattle.automata_base.specs.Nfa.{Nfa, Node, Split, Assert, Read, Accept, Truth, node, hop, hop_at, keep, ends, stays_at, ends_at}
-use Rattle.automata_base.specs.Paths.{IsPathAt, all_true, HasEpsilonPath, LeadsOn, IsLookAcyclic, IsClosure}
+use Rattle.automata_base.specs.Nfas.Nfa.{Nfa, Node, Split, Assert, Read, Accept, Truth, node, hop, hop_at, keep, ends}
+use Rattle.automata_base.specs.Nfas.Nfa.{stays_at, ends_at}
+use Rattle.automata_base.specs.Paths.Paths.{IsPathAt, all_true, HasEpsilonPath, LeadsOn, IsLookAcyclic, IsClosure}
 use Rattle.automata_base.proofs.Paths.Orders.{cons_head, cons_tail, nil_cons, some_inj, none_some}
 use Rattle.automata_base.proofs.Paths.Walks.{walk_more, walk_forget, walk_join, run_join, fork, fork_at}
 use Rattle.automata_base.proofs.Paths.Compose.{Composes, Divides, compose}

@@ -1,11 +1,15 @@
 -- Sets of looks: a number below 2 ^ 18 and what each look is determine each other.
-use Rattle.std.proofs.Common.{ℕ, zero, suc, ◌≡◌, ◌<◌, ◌+◌, ◌*◌, ◌/◌, ◌%◌, ◌^◌, Bool, true, false, eqb, List, [], ◌∷◌, length, Option, Some, None, refl, sym, ap, ◌∙◌, arith, cond}
+use Rattle.std.proofs.Common.{ℕ, zero, suc, ◌≡◌, ◌<◌, ◌+◌, ◌*◌, ◌/◌, ◌%◌, ◌^◌, Bool, true, false, eqb, List, [], ◌∷◌}
+use Rattle.std.proofs.Common.{length, Option, Some, None, refl, sym, ap, ◌∙◌, arith, cond}
 use Rattle.std.specs.Int.{bit_at}
 use Rattle.std.proofs.lemmas.Nat.Bits.{bit_at-suc, bit_at-zero, bit_at-lt, bit_at_lowest}
 use Rattle.automata_base.specs.Lists.{nth}
-use Rattle.automata_base.specs.Looks.{Look, Start, End, StartLF, EndLF, StartCRLF, EndCRLF, WordAscii, WordAsciiNegate, WordUnicode, WordUnicodeNegate, WordStartAscii, WordEndAscii, WordStartUnicode, WordEndUnicode, WordStartHalfAscii, WordEndHalfAscii, WordStartHalfUnicode, WordEndHalfUnicode, look_index}
-use Rattle.automata_base.specs.Nfa.{Truth}
-use Rattle.automata_base.specs.Truths.{truth_of, IsLookSet, bits_from, set_of, all_looks}
+use Rattle.automata_base.specs.Haystacks.Looks.{Look, Start, End, StartLF, EndLF, StartCRLF, EndCRLF, WordAscii}
+use Rattle.automata_base.specs.Haystacks.Looks.{WordAsciiNegate, WordUnicode, WordUnicodeNegate, WordStartAscii}
+use Rattle.automata_base.specs.Haystacks.Looks.{WordEndAscii, WordStartUnicode, WordEndUnicode, WordStartHalfAscii}
+use Rattle.automata_base.specs.Haystacks.Looks.{WordEndHalfAscii, WordStartHalfUnicode, WordEndHalfUnicode, look_index}
+use Rattle.automata_base.specs.Nfas.Nfa.{Truth}
+use Rattle.automata_base.specs.Haystacks.LookSets.{truth_of, IsLookSet, bits_from, set_of, all_looks}
 
 half_of : (b : Bool) (m : ℕ) → (cond b 1 0 + 2 * m) / 2 ≡ m
 half_of true m = omega arith

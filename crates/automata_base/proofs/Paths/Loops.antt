@@ -1,9 +1,9 @@
 -- The steps of a loop that visits states from a stack.
 use Rattle.std.proofs.Common.{ℕ, ◌≡◌, List, [], ◌∷◌, ◌++◌, ◌↔◌, inl, inr, sym, subst, ⊎_elim, append_assoc, append-nil}
 use Rattle.automata_base.specs.Lists.{In}
-use Rattle.automata_base.specs.Nfa.{Nfa, Truth}
-use Rattle.automata_base.specs.Paths.{IsClosure}
-use Rattle.automata_base.specs.Visits.{children, Visits, done, skip, visit, IsUnderWay}
+use Rattle.automata_base.specs.Nfas.Nfa.{Nfa, Truth}
+use Rattle.automata_base.specs.Paths.Paths.{IsClosure}
+use Rattle.automata_base.specs.Powersets.Closure.{children, Visits, done, skip, visit, IsUnderWay}
 use Rattle.automata_base.proofs.Paths.Walks.{in_left, in_either}
 use Rattle.automata_base.proofs.Paths.FirstVisits.{visits_closure, in_right}
 

@@ -1,24 +1,35 @@
 -- The computed pass is the pass.
-use Rattle.std.proofs.Common.{ℕ, zero, suc, ◌≡◌, ◌<◌, Bool, true, false, not, ◌&&◌, ◌||◌, eqb, List, [], ◌∷◌, ◌⊎◌, ◌↔◌, length, Option, Some, None, inl, inr, refl, sym, ap, ◌∙◌, subst, arith, ⊎_elim, true≢false}
+use Rattle.std.proofs.Common.{ℕ, zero, suc, ◌≡◌, ◌<◌, Bool, true, false, not, ◌&&◌, ◌||◌, eqb, List, [], ◌∷◌, ◌⊎◌, ◌↔◌}
+use Rattle.std.proofs.Common.{length, Option, Some, None, inl, inr, refl, sym, ap, ◌∙◌, subst, arith, ⊎_elim}
+use Rattle.std.proofs.Common.{true≢false}
 use Rattle.std.proofs.lemmas.Bool.{eqb-true, eq-eqb}
-use Rattle.automata_base.specs.Looks.{Look, Start, End, StartLF, EndLF, StartCRLF, EndCRLF, WordAscii, WordAsciiNegate, WordUnicode, WordUnicodeNegate, WordStartAscii, WordEndAscii, WordStartUnicode, WordEndUnicode, WordStartHalfAscii, WordEndHalfAscii, WordStartHalfUnicode, WordEndHalfUnicode, holds, is_absent, is_byte, is_word, differ, first_half, second_half}
+use Rattle.automata_base.specs.Haystacks.Looks.{Look, Start, End, StartLF, EndLF, StartCRLF, EndCRLF, WordAscii}
+use Rattle.automata_base.specs.Haystacks.Looks.{WordAsciiNegate, WordUnicode, WordUnicodeNegate, WordStartAscii}
+use Rattle.automata_base.specs.Haystacks.Looks.{WordEndAscii, WordStartUnicode, WordEndUnicode, WordStartHalfAscii}
+use Rattle.automata_base.specs.Haystacks.Looks.{WordEndHalfAscii, WordStartHalfUnicode, WordEndHalfUnicode, holds}
+use Rattle.automata_base.specs.Haystacks.Looks.{is_absent, is_byte, is_word, differ, first_half, second_half}
 use Rattle.automata_base.specs.Lists.{In, nth, From, pick}
-use Rattle.automata_base.specs.Nfa.{Nfa, Node, Split, Assert, Read, Accept, Truth, node, node_or_fail, takes, accepts, keep}
-use Rattle.automata_base.specs.Paths.{IsPathAt, Tape, next, IsClosure}
-use Rattle.automata_base.specs.Cuts.{MatchKind, cut_for, targets, IsOnce}
-use Rattle.automata_base.specs.Passes.{IsUnit, Occurs, IsKnownLook, IsNeeded, IsMake, is_word_look, is_crlf_look, true_looks, IsNews, IsDecided, IsClosureOf, IsSuccessor, IsPass}
-use Rattle.automata_base.specs.Powerset.{Powerset}
-use Rattle.automata_base.specs.Selections.{Tells}
-use Rattle.automata_base.specs.Visits.{children, Visits, done, skip, visit}
-use Rattle.automata_base.specs.Computed.{is_in, closure_of, once_past, looks_at, any_node, any_state, always, known_looks, is_full, make, arrive, has_news, any_look, decide, successor_of, pass_of, told_of, IsInRange}
-use Rattle.automata_base.specs.Looks.{look_index}
+use Rattle.automata_base.specs.Nfas.Nfa.{Nfa, Node, Split, Assert, Read, Accept, Truth, node, node_or_fail, takes}
+use Rattle.automata_base.specs.Nfas.Nfa.{accepts, keep}
+use Rattle.automata_base.specs.Paths.Paths.{IsPathAt, Tape, next, IsClosure}
+use Rattle.automata_base.specs.Powersets.Cuts.{MatchKind, cut_for, targets, IsOnce}
+use Rattle.automata_base.specs.Powersets.Passes.{IsUnit, Occurs, IsKnownLook, IsNeeded, IsMake, is_word_look}
+use Rattle.automata_base.specs.Powersets.Passes.{is_crlf_look, true_looks, IsNews, IsDecided, IsClosureOf, IsSuccessor}
+use Rattle.automata_base.specs.Powersets.Passes.{IsPass}
+use Rattle.automata_base.specs.Powersets.Powerset.{Powerset}
+use Rattle.automata_base.specs.Paths.Selections.{Tells}
+use Rattle.automata_base.specs.Powersets.Closure.{children, Visits, done, skip, visit}
+use Rattle.automata_base.specs.Retraced.ComputedPass.{is_in, closure_of, once_past, looks_at, any_node, any_state}
+use Rattle.automata_base.specs.Retraced.ComputedPass.{always, known_looks, is_full, make, arrive, has_news, any_look}
+use Rattle.automata_base.specs.Retraced.ComputedPass.{decide, successor_of, pass_of, told_of, IsInRange}
+use Rattle.automata_base.specs.Haystacks.Looks.{look_index}
 use Rattle.automata_base.proofs.Paths.Orders.{some_inj, none_some, nil_cons}
 use Rattle.automata_base.proofs.Paths.Sift.{same, in_picked}
 use Rattle.automata_base.proofs.Paths.Late.{keep_sieve}
 use Rattle.automata_base.proofs.Paths.Readings.{sorted_has}
 use Rattle.automata_base.proofs.Paths.FirstVisits.{visits_closure, hop_children}
 use Rattle.automata_base.proofs.Paths.Fuels.{is_in_true, is_in_false, AllBelow, closure_right}
-use Rattle.automata_base.specs.Truths.{truth_of, all_looks}
+use Rattle.automata_base.specs.Haystacks.LookSets.{truth_of, all_looks}
 use Rattle.automata_base.proofs.Paths.LookSets.{truth_of-set_of, set_of-small, nth_index}
 
 -- Each once.

@@ -1,6 +1,7 @@
 use Rattle.std.proofs.lemmas.Bool.{cases_lt}
-use Rattle.std.proofs.Common.{Option, Some, None, ◌≤◌, ℕ, ◌≡◌, ◌<◌, List, [], ◌∷◌, ◌++◌, ◌⊎◌, inl, inr, refl, sym, ap₂, ◌∙◌, subst, ⊎_elim, eq-or-lt_of_le, lt_trans, lt_irrefl}
-use Rattle.automata_base.specs.Order.{Before, Upto, Begins}
+use Rattle.std.proofs.Common.{Option, Some, None, ◌≤◌, ℕ, ◌≡◌, ◌<◌, List, [], ◌∷◌, ◌++◌, ◌⊎◌, inl, inr, refl, sym, ap₂}
+use Rattle.std.proofs.Common.{◌∙◌, subst, ⊎_elim, eq-or-lt_of_le, lt_trans, lt_irrefl}
+use Rattle.automata_base.specs.Paths.Order.{Before, Upto, Begins}
 
 -- Less by a difference, so whatever follows.
 abbrev pub Under : List ℕ → List ℕ → Type 0

@@ -1,8 +1,10 @@
 -- Paths from place to place.
-use Rattle.std.proofs.Common.{ℕ, suc, ◌≡◌, ◌<◌, ◌≤◌, cond, List, [], ◌∷◌, ◌++◌, ◌⊎◌, Option, Some, None, inl, inr, refl, sym, ap, ◌∙◌, subst, arith, ⊎_elim, eq-or-lt_of_le, append-nil}
+use Rattle.std.proofs.Common.{ℕ, suc, ◌≡◌, ◌<◌, ◌≤◌, cond, List, [], ◌∷◌, ◌++◌, ◌⊎◌, Option, Some, None, inl, inr, refl}
+use Rattle.std.proofs.Common.{sym, ap, ◌∙◌, subst, arith, ⊎_elim, eq-or-lt_of_le, append-nil}
 use Rattle.automata_base.specs.Lists.{In}
-use Rattle.automata_base.specs.Nfa.{Nfa, Node, Split, Assert, Read, Accept, Truth, node, hop, hop_at, takes, takes_at, accepts, accepts_at, ends, ends_at}
-use Rattle.automata_base.specs.Paths.{IsPathAt, Tape, IsPathFrom, IsPath, Moves, truth}
+use Rattle.automata_base.specs.Nfas.Nfa.{Nfa, Node, Split, Assert, Read, Accept, Truth, node, hop, hop_at, takes}
+use Rattle.automata_base.specs.Nfas.Nfa.{takes_at, accepts, accepts_at, ends, ends_at}
+use Rattle.automata_base.specs.Paths.Paths.{IsPathAt, Tape, IsPathFrom, IsPath, Moves, truth}
 use Rattle.automata_base.proofs.Paths.Orders.{some_inj, none_some}
 
 -- A byte state has no edge that stays at its place, nor has a match.

@@ -1,10 +1,12 @@
 -- What is read off a decided list: its byte states' targets and its match states' patterns.
-use Rattle.std.proofs.Common.{ℕ, zero, suc, ◌≡◌, cond, List, [], ◌∷◌, ◌++◌, ◌⊎◌, Option, Some, None, inl, inr, refl, sym, ap, ap₂, ◌∙◌, subst, ⊎_elim, append-nil}
-use Rattle.automata_base.specs.Order.{Upto, Begins}
+use Rattle.std.proofs.Common.{ℕ, zero, suc, ◌≡◌, cond, List, [], ◌∷◌, ◌++◌, ◌⊎◌, Option, Some, None, inl, inr, refl}
+use Rattle.std.proofs.Common.{sym, ap, ap₂, ◌∙◌, subst, ⊎_elim, append-nil}
+use Rattle.automata_base.specs.Paths.Order.{Upto, Begins}
 use Rattle.automata_base.specs.Lists.{In, Sorted, IsListOf, cons_some, pick, From}
-use Rattle.automata_base.specs.Nfa.{Nfa, Node, Split, Assert, Read, Accept, node, takes, takes_at, accepts, accepts_at, ends, ends_at}
-use Rattle.automata_base.specs.Paths.{Tape, IsPath}
-use Rattle.automata_base.specs.Cuts.{cut, cut_behind, IsOnce}
+use Rattle.automata_base.specs.Nfas.Nfa.{Nfa, Node, Split, Assert, Read, Accept, node, takes, takes_at, accepts}
+use Rattle.automata_base.specs.Nfas.Nfa.{accepts_at, ends, ends_at}
+use Rattle.automata_base.specs.Paths.Paths.{Tape, IsPath}
+use Rattle.automata_base.specs.Powersets.Cuts.{cut, cut_behind, IsOnce}
 use Rattle.automata_base.proofs.Paths.Orders.{some_inj, none_some, before_irrefl, before_trans}
 use Rattle.automata_base.proofs.Paths.Places.{accepts_ends, match_last}
 use Rattle.automata_base.proofs.Paths.Compose.{Composes, Divides, compose}

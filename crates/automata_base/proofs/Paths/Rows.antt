@@ -1,11 +1,11 @@
 -- Worked rows: what the paths through some NFAs define.
 use Rattle.std.proofs.Common.{ℕ, suc, ◌≡◌, Bool, true, false, ltb, List, [], ◌∷◌, length, Option, None, refl, subst}
 use Rattle.std.proofs.lemmas.Bool.{ltb-true}
-use Rattle.automata_base.specs.Nfa.{Nfa}
-use Rattle.automata_base.specs.Paths.{Tape}
-use Rattle.automata_base.specs.Cuts.{MatchKind, All, LeftmostFirst}
-use Rattle.automata_base.specs.Selections.{Pair, Selects, IsOverlappingOn}
-use Rattle.automata_base.specs.Computed.{search_of, pairs_upto}
+use Rattle.automata_base.specs.Nfas.Nfa.{Nfa}
+use Rattle.automata_base.specs.Paths.Paths.{Tape}
+use Rattle.automata_base.specs.Powersets.Cuts.{MatchKind, All, LeftmostFirst}
+use Rattle.automata_base.specs.Paths.Selections.{Pair, Selects, IsOverlappingOn}
+use Rattle.automata_base.specs.Retraced.ComputedPass.{search_of, pairs_upto}
 use Rattle.automata_base.proofs.Paths.Checks.{is_in_range, is_look_cycle_free, tape_fits}
 use Rattle.automata_base.proofs.Paths.Samples.{ab, aa, abc, bound, crlf, date, whole, answer}
 use Rattle.automata_base.proofs.Paths.Checked.{in_range, look_cycle_free, is_tape}

@@ -1,11 +1,11 @@
 -- Some NFAs and what the pass answers on them.
 use Rattle.std.specs.Prelude.{ℕ, ◌≡◌, true, false, List, [], ◌∷◌, Option, Some, None, refl}
-use Rattle.automata_base.specs.Looks.{WordUnicode, EndCRLF, EndLF, StartCRLF}
-use Rattle.automata_base.specs.Nfa.{Nfa, Node, Split, Assert, Read, Accept}
-use Rattle.automata_base.specs.Paths.{Tape}
-use Rattle.automata_base.specs.Cuts.{All, LeftmostFirst}
-use Rattle.automata_base.specs.Selections.{Pair}
-use Rattle.automata_base.specs.Computed.{search_of, told_of}
+use Rattle.automata_base.specs.Haystacks.Looks.{WordUnicode, EndCRLF, EndLF, StartCRLF}
+use Rattle.automata_base.specs.Nfas.Nfa.{Nfa, Node, Split, Assert, Read, Accept}
+use Rattle.automata_base.specs.Paths.Paths.{Tape}
+use Rattle.automata_base.specs.Powersets.Cuts.{All, LeftmostFirst}
+use Rattle.automata_base.specs.Paths.Selections.{Pair}
+use Rattle.automata_base.specs.Retraced.ComputedPass.{search_of, told_of}
 
 abbrev pub read : ℕ → ℕ → ℕ → Node
 read lo hi next = Read (record { lo = lo; hi = hi; next = next } ∷ [])

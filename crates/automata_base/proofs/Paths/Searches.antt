@@ -1,14 +1,16 @@
 -- Searches and walks of the pass answer what the paths define.
-use Rattle.std.proofs.Common.{ℕ, zero, suc, ◌≡◌, ◌<◌, ◌≤◌, Bool, true, false, List, [], ◌∷◌, ◌⊎◌, length, Option, Some, None, inl, inr, sym, subst, arith, ⊎_elim, eq-or-lt_of_le, le_of_suc-le-suc}
+use Rattle.std.proofs.Common.{ℕ, zero, suc, ◌≡◌, ◌<◌, ◌≤◌, Bool, true, false, List, [], ◌∷◌, ◌⊎◌, length, Option, Some}
+use Rattle.std.proofs.Common.{None, inl, inr, sym, subst, arith, ⊎_elim, eq-or-lt_of_le, le_of_suc-le-suc}
 use Rattle.std.proofs.lemmas.Bool.{cases_lt}
-use Rattle.automata_base.specs.Order.{Before, Upto}
+use Rattle.automata_base.specs.Paths.Order.{Before, Upto}
 use Rattle.automata_base.specs.Lists.{In, nth}
-use Rattle.automata_base.specs.Nfa.{Nfa}
-use Rattle.automata_base.specs.Paths.{Tape, IsPathFrom, IsLookAcyclic}
-use Rattle.automata_base.specs.Cuts.{MatchKind, All, LeftmostFirst}
-use Rattle.automata_base.specs.Selections.{Accepts, IsFirstAt, ArePatternsAt, Tells, Pair, Pairs, IsOverlappingOn, Selects}
+use Rattle.automata_base.specs.Nfas.Nfa.{Nfa}
+use Rattle.automata_base.specs.Paths.Paths.{Tape, IsPathFrom, IsLookAcyclic}
+use Rattle.automata_base.specs.Powersets.Cuts.{MatchKind, All, LeftmostFirst}
+use Rattle.automata_base.specs.Paths.Selections.{Accepts, IsFirstAt, ArePatternsAt, Tells, Pair, Pairs, IsOverlappingOn}
+use Rattle.automata_base.specs.Paths.Selections.{Selects}
 use Rattle.automata_base.proofs.Paths.Orders.{cons_head, nil_cons, none_some, upto_before}
-use Rattle.automata_base.specs.Passes.{IsTape}
+use Rattle.automata_base.specs.Powersets.Passes.{IsTape}
 use Rattle.automata_base.proofs.Paths.Invariants.{pass_tells}
 use Rattle.automata_base.proofs.Paths.Selecting.{PassTells, PassSelects}
 

@@ -1,9 +1,9 @@
 -- What a pass reports of its span: to a walk, and to a search.
 use Rattle.std.specs.Prelude.{ℕ, suc, ◌<◌, ◌≤◌, Bool, true, false, List, [], ◌∷◌, length, Option, Some, None}
-use Rattle.automata_base.specs.Cuts.{MatchKind}
-use Rattle.automata_base.specs.Nfa.{Nfa}
-use Rattle.automata_base.specs.Paths.{Tape}
-use Rattle.automata_base.specs.Selections.{Pair, Pairs, Tells}
+use Rattle.automata_base.specs.Powersets.Cuts.{MatchKind}
+use Rattle.automata_base.specs.Nfas.Nfa.{Nfa}
+use Rattle.automata_base.specs.Paths.Paths.{Tape}
+use Rattle.automata_base.specs.Paths.Selections.{Pair, Pairs, Tells}
 
 -- The whole list of a walk, by its pass.
 abbrev pub PassTells : MatchKind → Nfa → Tape → ℕ → List Pair → Type 0

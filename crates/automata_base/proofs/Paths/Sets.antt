@@ -1,13 +1,16 @@
 -- What holds whatever the cycles: which states are reached.
-use Rattle.std.proofs.Common.{ℕ, zero, suc, ◌≡◌, ◌<◌, ◌≤◌, true, false, List, [], ◌∷◌, ◌++◌, ◌⊎◌, ◌↔◌, length, Option, Some, None, inl, inr, refl, sym, ap, ◌∙◌, subst, arith, ⊎_elim, eq-or-lt_of_le, le_of_suc-le-suc}
+use Rattle.std.proofs.Common.{ℕ, zero, suc, ◌≡◌, ◌<◌, ◌≤◌, true, false, List, [], ◌∷◌, ◌++◌, ◌⊎◌, ◌↔◌, length, Option}
+use Rattle.std.proofs.Common.{Some, None, inl, inr, refl, sym, ap, ◌∙◌, subst, arith, ⊎_elim, eq-or-lt_of_le}
+use Rattle.std.proofs.Common.{le_of_suc-le-suc}
 use Rattle.automata_base.specs.Lists.{In, IsSet, nth, IsListOf, cons_some, pick, From}
-use Rattle.automata_base.specs.Looks.{Look}
-use Rattle.automata_base.specs.Nfa.{Nfa, Truth, node, hop, takes, accepts, keep, ends, stays_at, ends_at}
-use Rattle.automata_base.specs.Paths.{IsPathAt, Tape, IsPath, truth, prev, next, IsClosure}
-use Rattle.automata_base.specs.Cuts.{MatchKind, All, LeftmostFirst, cut, cut_for, IsOnce, targets}
-use Rattle.automata_base.specs.Passes.{IsUnit, IsTape, IsKnownLook, IsMake, IsClosureOf, IsDecided, IsSuccessor, IsPass}
-use Rattle.automata_base.specs.Powerset.{Powerset}
-use Rattle.automata_base.specs.Selections.{Accepts, IsNearest, IsFarthest, Tells, Pair}
+use Rattle.automata_base.specs.Haystacks.Looks.{Look}
+use Rattle.automata_base.specs.Nfas.Nfa.{Nfa, Truth, node, hop, takes, accepts, keep, ends, stays_at, ends_at}
+use Rattle.automata_base.specs.Paths.Paths.{IsPathAt, Tape, IsPath, truth, prev, next, IsClosure}
+use Rattle.automata_base.specs.Powersets.Cuts.{MatchKind, All, LeftmostFirst, cut, cut_for, IsOnce, targets}
+use Rattle.automata_base.specs.Powersets.Passes.{IsUnit, IsTape, IsKnownLook, IsMake, IsClosureOf, IsDecided}
+use Rattle.automata_base.specs.Powersets.Passes.{IsSuccessor, IsPass}
+use Rattle.automata_base.specs.Powersets.Powerset.{Powerset}
+use Rattle.automata_base.specs.Paths.Selections.{Accepts, IsNearest, IsFarthest, Tells, Pair}
 use Rattle.automata_base.proofs.Paths.Orders.{some_inj, none_some, nil_cons, cons_head}
 use Rattle.automata_base.proofs.Paths.Walks.{walk_more, walk_forget, in_either}
 use Rattle.automata_base.proofs.Paths.Places.{path_extend, last_place, walk_path, path_walk, accepts_ends}
@@ -16,7 +19,8 @@ use Rattle.automata_base.proofs.Paths.Sift.{picked_in, in_picked}
 use Rattle.automata_base.proofs.Paths.Late.{Ending, keep_sieve, ends_sieve, kept_at, keep_true, FirstStay, first_stay}
 use Rattle.automata_base.proofs.Paths.Steps.{takes_ends}
 use Rattle.automata_base.proofs.Paths.Cuts.{leader, no_leader, no_leader_in, leader_in, leader_accepts}
-use Rattle.automata_base.proofs.Paths.Readings.{sorted_has, targets_all, targets_cut, patterns_all, patterns_cut, told, once_is_none, once_is_one}
+use Rattle.automata_base.proofs.Paths.Readings.{sorted_has, targets_all, targets_cut, patterns_all, patterns_cut, told}
+use Rattle.automata_base.proofs.Paths.Readings.{once_is_none, once_is_one}
 use Rattle.automata_base.proofs.Paths.Decisions.{decides_known, news_closure, truth_between}
 use Rattle.automata_base.proofs.Paths.Invariants.{next_byte}
 use Rattle.automata_base.proofs.Paths.Searches.{accepting_inside}

@@ -1,6 +1,6 @@
 -- Parts of a list of states in the order of least keys.
 use Rattle.std.proofs.Common.{ℕ, ◌≡◌, List, [], ◌∷◌, Option, Some, None, inl, inr, refl, sym, ap, ◌∙◌, subst}
-use Rattle.automata_base.specs.Order.{Before}
+use Rattle.automata_base.specs.Paths.Order.{Before}
 use Rattle.automata_base.specs.Lists.{In, Sorted, IsListOf, cons_some, pick}
 
 put_in : (o : Option ℕ) (ys : List ℕ) (r : ℕ) → In r ys → In r (cons_some o ys)

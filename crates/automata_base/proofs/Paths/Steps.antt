@@ -1,10 +1,13 @@
 -- From the least paths to one place to the least paths to the next.
-use Rattle.std.proofs.Common.{ℕ, suc, ◌≡◌, ◌<◌, ◌≤◌, cond, List, [], ◌∷◌, ◌++◌, ◌⊎◌, Option, Some, None, inl, inr, refl, sym, ap, ◌∙◌, subst, arith}
-use Rattle.automata_base.specs.Order.{Before, Begins}
+use Rattle.std.proofs.Common.{ℕ, suc, ◌≡◌, ◌<◌, ◌≤◌, cond, List, [], ◌∷◌, ◌++◌, ◌⊎◌, Option, Some, None, inl, inr, refl}
+use Rattle.std.proofs.Common.{sym, ap, ◌∙◌, subst, arith}
+use Rattle.automata_base.specs.Paths.Order.{Before, Begins}
 use Rattle.automata_base.specs.Lists.{nth, IsListOf, pick, From}
-use Rattle.automata_base.specs.Nfa.{Nfa, Node, Split, Assert, Read, Accept, node, takes, takes_at, accepts, ends, ends_at}
-use Rattle.automata_base.specs.Paths.{IsPathAt, Tape, IsPathFrom, IsPath, Moves, truth}
-use Rattle.automata_base.proofs.Paths.Orders.{Under, nil_cons, some_inj, none_some, before_cases, under_append_left, before_trans, before_begin}
+use Rattle.automata_base.specs.Nfas.Nfa.{Nfa, Node, Split, Assert, Read, Accept, node, takes, takes_at, accepts, ends}
+use Rattle.automata_base.specs.Nfas.Nfa.{ends_at}
+use Rattle.automata_base.specs.Paths.Paths.{IsPathAt, Tape, IsPathFrom, IsPath, Moves, truth}
+use Rattle.automata_base.proofs.Paths.Orders.{Under, nil_cons, some_inj, none_some, before_cases, under_append_left}
+use Rattle.automata_base.proofs.Paths.Orders.{before_trans, before_begin}
 use Rattle.automata_base.proofs.Paths.Places.{path_extend, last_place, walk_path, path_walk, reader_apart}
 use Rattle.automata_base.proofs.Paths.Compose.{Composes, Divides, compose}
 use Rattle.automata_base.proofs.Paths.Sift.{same}

@@ -1,9 +1,9 @@
 -- If a cycle of epsilon edges passes a look, the pass may report patterns in another order than that of least paths.
 use Rattle.std.proofs.Common.{ℕ, ◌≡◌, false, List, [], ◌∷◌, Some, None, refl, inl, inr, ap, ◌∙◌, zero, suc, arith}
-use Rattle.automata_base.specs.Order.{Before}
-use Rattle.automata_base.specs.Nfa.{accepts}
-use Rattle.automata_base.specs.Paths.{Tape}
-use Rattle.automata_base.specs.Selections.{Accepts, IsAllAt}
+use Rattle.automata_base.specs.Paths.Order.{Before}
+use Rattle.automata_base.specs.Nfas.Nfa.{accepts}
+use Rattle.automata_base.specs.Paths.Paths.{Tape}
+use Rattle.automata_base.specs.Paths.Selections.{Accepts, IsAllAt}
 use Rattle.automata_base.proofs.Paths.Checks.{is_look_cycle_free}
 use Rattle.automata_base.proofs.Paths.Samples.{look_cycle}
 use Rattle.automata_base.proofs.Paths.Follow.{follow}

@@ -1,19 +1,22 @@
 -- One list, one state.
-use Rattle.std.proofs.Common.{ℕ, zero, suc, ◌≡◌, Bool, true, false, List, [], ◌∷◌, ◌++◌, length, Option, inl, inr, refl, sym, ap, ap₂, ◌∙◌, subst, true≢false}
-use Rattle.automata_base.specs.Order.{Upto}
+use Rattle.std.proofs.Common.{ℕ, zero, suc, ◌≡◌, Bool, true, false, List, [], ◌∷◌, ◌++◌, length, Option, inl, inr, refl}
+use Rattle.std.proofs.Common.{sym, ap, ap₂, ◌∙◌, subst, true≢false}
+use Rattle.automata_base.specs.Paths.Order.{Upto}
 use Rattle.automata_base.specs.Lists.{pick, From}
-use Rattle.automata_base.specs.Looks.{Look}
-use Rattle.automata_base.specs.Nfa.{Nfa, accepts}
-use Rattle.automata_base.specs.Paths.{IsPathAt, Tape, next}
-use Rattle.automata_base.specs.Cuts.{MatchKind, All, LeftmostFirst, cut_for, IsOnce, targets}
-use Rattle.automata_base.specs.Passes.{IsMake, IsNeeded, IsClosureOf, IsDecided, true_looks, IsSuccessor, IsPass}
-use Rattle.automata_base.specs.Powerset.{Powerset}
-use Rattle.automata_base.specs.Selections.{Accepts, Pair, ArePatternsAt, IsFirstAt, Pairs, at_place, IsOverlappingOn}
+use Rattle.automata_base.specs.Haystacks.Looks.{Look}
+use Rattle.automata_base.specs.Nfas.Nfa.{Nfa, accepts}
+use Rattle.automata_base.specs.Paths.Paths.{IsPathAt, Tape, next}
+use Rattle.automata_base.specs.Powersets.Cuts.{MatchKind, All, LeftmostFirst, cut_for, IsOnce, targets}
+use Rattle.automata_base.specs.Powersets.Passes.{IsMake, IsNeeded, IsClosureOf, IsDecided, true_looks, IsSuccessor}
+use Rattle.automata_base.specs.Powersets.Passes.{IsPass}
+use Rattle.automata_base.specs.Powersets.Powerset.{Powerset}
+use Rattle.automata_base.specs.Paths.Selections.{Accepts, Pair, ArePatternsAt, IsFirstAt, Pairs, at_place}
+use Rattle.automata_base.specs.Paths.Selections.{IsOverlappingOn}
 use Rattle.automata_base.proofs.Paths.Orders.{some_inj, before_irrefl, before_trans}
 use Rattle.automata_base.proofs.Paths.Places.{path_end}
 use Rattle.automata_base.proofs.Paths.Readings.{list_one}
 use Rattle.automata_base.proofs.Paths.Decisions.{closure_agrees}
-use Rattle.automata_base.specs.Truths.{truth_of}
+use Rattle.automata_base.specs.Haystacks.LookSets.{truth_of}
 use Rattle.automata_base.proofs.Paths.LookSets.{same_looks}
 
 upto_both : (p q : List ℕ) → Upto p q → Upto q p → p ≡ q

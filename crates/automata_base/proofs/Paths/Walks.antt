@@ -1,8 +1,9 @@
 -- Paths at one place.
-use Rattle.std.proofs.Common.{ℕ, zero, suc, ◌≡◌, Bool, true, false, cond, List, [], ◌∷◌, ◌++◌, ◌⊎◌, Option, Some, None, inl, inr, refl, sym, subst, ⊎_elim}
+use Rattle.std.proofs.Common.{ℕ, zero, suc, ◌≡◌, Bool, true, false, cond, List, [], ◌∷◌, ◌++◌, ◌⊎◌, Option, Some, None}
+use Rattle.std.proofs.Common.{inl, inr, refl, sym, subst, ⊎_elim}
 use Rattle.automata_base.specs.Lists.{In, nth}
-use Rattle.automata_base.specs.Nfa.{Nfa, Node, Split, Assert, Read, Accept, Truth, node, hop, hop_at}
-use Rattle.automata_base.specs.Paths.{IsPathAt, all_true, Run, HasEpsilonPath, LeadsOn}
+use Rattle.automata_base.specs.Nfas.Nfa.{Nfa, Node, Split, Assert, Read, Accept, Truth, node, hop, hop_at}
+use Rattle.automata_base.specs.Paths.Paths.{IsPathAt, all_true, Run, HasEpsilonPath, LeadsOn}
 use Rattle.automata_base.proofs.Paths.Orders.{none_some}
 use Rattle.automata_base.proofs.Paths.Included.{Includes}
 

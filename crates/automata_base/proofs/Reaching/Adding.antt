@@ -1,17 +1,20 @@
 -- What a set has once the states of a list were added.
-use Rattle.std.proofs.Common.{ℕ, zero, suc, ◌≡◌, ◌<◌, ◌≤◌, ◌+◌, ◌⊎◌, Bool, true, false, cond, List, [], ◌∷◌, ◌++◌, length, get_or, take, drop, inl, inr, refl, sym, ap, ◌∙◌, subst, arith, append_assoc, append-nil}
+use Rattle.std.proofs.Common.{ℕ, zero, suc, ◌≡◌, ◌<◌, ◌≤◌, ◌+◌, ◌⊎◌, Bool, true, false, cond, List, [], ◌∷◌, ◌++◌}
+use Rattle.std.proofs.Common.{length, get_or, take, drop, inl, inr, refl, sym, ap, ◌∙◌, subst, arith, append_assoc}
+use Rattle.std.proofs.Common.{append-nil}
 use Rattle.std.specs.Prelude.{Contains, IsTrue, IsFalse, ltb}
 use Rattle.std.proofs.lemmas.Bool.{ltb-true}
 use Rattle.std.proofs.lemmas.List.{drop_all, take-append-le}
 use Rattle.automata_base.specs.declared.nfa.thompson.State.{State}
 use Rattle.automata_base.specs.declared.nfa.thompson.Transition.{Transition}
 use Rattle.automata_base.specs.Lists.{all_below, In}
-use Rattle.automata_base.specs.Computed.{is_in}
-use Rattle.automata_base.specs.Nodes.{dense_from}
-use Rattle.automata_base.specs.Once.{once_from}
-use Rattle.automata_base.specs.Reach.{nexts}
-use Rattle.automata_base.specs.Refusals.{transitions_below, state_below, states_below}
-use Rattle.automata_base.proofs.Determinizing.Distinct.{Contains-In, In-Contains, In-get_or, In-left, In-right, In-either}
+use Rattle.automata_base.specs.Retraced.ComputedPass.{is_in}
+use Rattle.automata_base.specs.Nfas.Nodes.{dense_from}
+use Rattle.automata_base.specs.Retraced.Once.{once_from}
+use Rattle.automata_base.specs.Nfas.Reach.{nexts}
+use Rattle.automata_base.specs.Nfas.Errors.{transitions_below, state_below, states_below}
+use Rattle.automata_base.proofs.Determinizing.Distinct.{Contains-In, In-Contains, In-get_or, In-left, In-right}
+use Rattle.automata_base.proofs.Determinizing.Distinct.{In-either}
 use Rattle.automata_base.proofs.Determinizing.Keeping.{next_drop}
 use Rattle.automata_base.proofs.Paths.Checked.{both, below_in}
 use Rattle.automata_base.proofs.Paths.Fuels.{is_in_cases}

@@ -1,21 +1,24 @@
 -- What walks from the targets of looks say about the looks.
-use Rattle.std.proofs.Common.{ℕ, zero, suc, ◌≡◌, ◌<◌, ◌≤◌, ◌+◌, ◌⊎◌, ◌↔◌, Bool, true, false, List, [], ◌∷◌, ◌++◌, length, get_or, take, Some, None, inl, inr, refl, sym, ap, ◌∙◌, subst, true≢false, arith, append-nil}
+use Rattle.std.proofs.Common.{ℕ, zero, suc, ◌≡◌, ◌<◌, ◌≤◌, ◌+◌, ◌⊎◌, ◌↔◌, Bool, true, false, List, [], ◌∷◌, ◌++◌}
+use Rattle.std.proofs.Common.{length, get_or, take, Some, None, inl, inr, refl, sym, ap, ◌∙◌, subst, true≢false, arith}
+use Rattle.std.proofs.Common.{append-nil}
 use Rattle.std.specs.Prelude.{Contains, IsTrue, IsFalse, option_to_list}
 use Rattle.std.proofs.lemmas.Bool.{ltb-true}
 use Rattle.std.proofs.lemmas.List.{take_more, take_all}
 use Rattle.automata_base.specs.declared.nfa.thompson.State.{State}
 use Rattle.automata_base.specs.declared.nfa.thompson.reach.Edges.TheVariants.{Epsilon}
 use Rattle.automata_base.proofs.Paths.Checks.{node_below}
-use Rattle.automata_base.specs.Finishing.{LeadsBy, IsWholeOrder}
+use Rattle.automata_base.specs.Retraced.DepthFirst.{LeadsBy, IsWholeOrder}
 use Rattle.automata_base.specs.Lists.{In, nth}
-use Rattle.automata_base.specs.Looks.{Look}
-use Rattle.automata_base.specs.Nfa.{Node, Split, Assert, Read, Accept}
-use Rattle.automata_base.specs.Nodes.{node_of}
-use Rattle.automata_base.specs.Once.{once_from}
-use Rattle.automata_base.specs.Paths.{all_true}
-use Rattle.automata_base.specs.Reach.{node_in, look_target, targets_of, Route, IsReached, LeadsBack, AreLooksAcyclic}
-use Rattle.automata_base.specs.Refusals.{states_below}
-use Rattle.automata_base.specs.Visits.{children_at}
+use Rattle.automata_base.specs.Haystacks.Looks.{Look}
+use Rattle.automata_base.specs.Nfas.Nfa.{Node, Split, Assert, Read, Accept}
+use Rattle.automata_base.specs.Nfas.Nodes.{node_of}
+use Rattle.automata_base.specs.Retraced.Once.{once_from}
+use Rattle.automata_base.specs.Paths.Paths.{all_true}
+use Rattle.automata_base.specs.Nfas.Reach.{node_in, look_target, targets_of, Route, IsReached, LeadsBack}
+use Rattle.automata_base.specs.Nfas.Reach.{AreLooksAcyclic}
+use Rattle.automata_base.specs.Nfas.Errors.{states_below}
+use Rattle.automata_base.specs.Powersets.Closure.{children_at}
 use Rattle.automata_base.proofs.Determinizing.Distinct.{In-either, In-left, In-right}
 use Rattle.automata_base.proofs.Determinizing.Tests_of_lists.{node_fits}
 use Rattle.automata_base.proofs.Determinizing.Walking.{node_at}

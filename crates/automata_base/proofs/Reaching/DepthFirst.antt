@@ -1,16 +1,17 @@
 -- The steps of a depth-first search.
-use Rattle.std.proofs.Common.{ℕ, zero, suc, ◌≡◌, ◌<◌, ◌+◌, ◌⊎◌, Bool, true, false, List, [], ◌∷◌, ◌++◌, length, get_or, take, Some, None, inl, inr, refl, sym, ap, ◌∙◌, subst, arith}
+use Rattle.std.proofs.Common.{ℕ, zero, suc, ◌≡◌, ◌<◌, ◌+◌, ◌⊎◌, Bool, true, false, List, [], ◌∷◌, ◌++◌, length, get_or}
+use Rattle.std.proofs.Common.{take, Some, None, inl, inr, refl, sym, ap, ◌∙◌, subst, arith}
 use Rattle.std.specs.Prelude.{Contains, IsTrue, IsFalse, reverse}
 use Rattle.std.proofs.lemmas.List.{reverse-append}
 use Rattle.automata_base.specs.declared.nfa.thompson.State.{State}
 use Rattle.automata_base.specs.declared.nfa.thompson.finishing.Frame.{Frame}
 use Rattle.automata_base.specs.declared.nfa.thompson.reach.Edges.TheVariants.{Epsilon}
-use Rattle.automata_base.specs.Finishing.{LeadsBy, states_in, AreFollowed, IsUnderSearch, IsWholeOrder}
+use Rattle.automata_base.specs.Retraced.DepthFirst.{LeadsBy, states_in, AreFollowed, IsUnderSearch, IsWholeOrder}
 use Rattle.automata_base.specs.Lists.{In, nth}
-use Rattle.automata_base.specs.Nodes.{node_of}
-use Rattle.automata_base.specs.Paths.{all_true}
-use Rattle.automata_base.specs.Reach.{targets_of, Route}
-use Rattle.automata_base.specs.Visits.{children_at}
+use Rattle.automata_base.specs.Nfas.Nodes.{node_of}
+use Rattle.automata_base.specs.Paths.Paths.{all_true}
+use Rattle.automata_base.specs.Nfas.Reach.{targets_of, Route}
+use Rattle.automata_base.specs.Powersets.Closure.{children_at}
 use Rattle.automata_base.proofs.Determinizing.Distinct.{Contains-In, In-Contains, In-left, In-right, In-either}
 use Rattle.automata_base.proofs.Determinizing.Walking.{node_at}
 use Rattle.automata_base.proofs.Paths.Orders.{some_inj, none_some}

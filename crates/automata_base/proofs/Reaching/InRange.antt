@@ -1,17 +1,18 @@
 -- States that `NFA::from_states` accepts lead to states.
-use Rattle.std.proofs.Common.{ℕ, zero, suc, ◌≡◌, ◌<◌, ◌&&◌, ltb, true, List, [], ◌∷◌, length, get_or, inl, inr, refl, sym, ap, ◌∙◌, subst, arith, ⊎_elim, All}
+use Rattle.std.proofs.Common.{ℕ, zero, suc, ◌≡◌, ◌<◌, ◌&&◌, ltb, true, List, [], ◌∷◌, length, get_or, inl, inr, refl}
+use Rattle.std.proofs.Common.{sym, ap, ◌∙◌, subst, arith, ⊎_elim, All}
 use Rattle.std.proofs.lemmas.Bool.{lt-ltb}
 use Rattle.automata_base.specs.declared.nfa.thompson.State.{State}
 use Rattle.automata_base.specs.declared.nfa.thompson.State.TheVariants as is
 use Rattle.automata_base.specs.declared.nfa.thompson.Transition.{Transition}
 use Rattle.automata_base.specs.declared.nfa.thompson.reach.Edges.TheVariants.{Every}
-use Rattle.automata_base.specs.Door.{IsDoor}
+use Rattle.automata_base.specs.Nfas.Accepted.{IsDoor}
 use Rattle.automata_base.specs.Lists.{In, all_below}
-use Rattle.automata_base.specs.Nodes.{Automaton, node_of, nodes_of, ranges_of, dense_from}
-use Rattle.automata_base.specs.Paths.{all_true}
-use Rattle.automata_base.specs.Reach.{node_in, targets_at, byte_targets, nexts}
-use Rattle.automata_base.specs.Refusals.{state_below, states_below, transitions_below}
-use Rattle.automata_base.specs.Visits.{children_at}
+use Rattle.automata_base.specs.Nfas.Nodes.{Automaton, node_of, nodes_of, ranges_of, dense_from}
+use Rattle.automata_base.specs.Paths.Paths.{all_true}
+use Rattle.automata_base.specs.Nfas.Reach.{node_in, targets_at, byte_targets, nexts}
+use Rattle.automata_base.specs.Nfas.Errors.{state_below, states_below, transitions_below}
+use Rattle.automata_base.specs.Powersets.Closure.{children_at}
 use Rattle.automata_base.proofs.Determinizing.Distinct.{In-left, In-either}
 use Rattle.automata_base.proofs.Determinizing.Walking.{nodes_length}
 use Rattle.automata_base.proofs.Reaching.Led.{node_takes}

@@ -1,21 +1,24 @@
 -- Targets lead to the states to which edges lead.
-use Rattle.std.proofs.Common.{ℕ, zero, suc, ◌≡◌, ◌≤◌, ◌+◌, ◌⊎◌, ◌↔◌, ◌&&◌, Bool, true, false, cond, leb, List, [], ◌∷◌, Some, None, inl, inr, refl, sym, ap, ◌∙◌, subst, arith}
+use Rattle.std.proofs.Common.{ℕ, zero, suc, ◌≡◌, ◌≤◌, ◌+◌, ◌⊎◌, ◌↔◌, ◌&&◌, Bool, true, false, cond, leb, List, [], ◌∷◌}
+use Rattle.std.proofs.Common.{Some, None, inl, inr, refl, sym, ap, ◌∙◌, subst, arith}
 use Rattle.std.proofs.lemmas.Grind.{common_steps}
 use Rattle.std.proofs.lemmas.Bool.{leb-true, le-leb}
 use Rattle.automata_base.specs.declared.nfa.thompson.State.{State}
 use Rattle.automata_base.specs.declared.nfa.thompson.State.TheVariants as is
 use Rattle.automata_base.specs.declared.nfa.thompson.Transition.{Transition}
 use Rattle.automata_base.specs.declared.nfa.thompson.reach.Edges.TheVariants.{Epsilon, Every}
-use Rattle.automata_base.specs.Engines.{HasEdge, Road, Reaches}
-use Rattle.automata_base.specs.Getters.{HasEmpty, SkipsLazily}
+use Rattle.automata_base.specs.Nfas.Engines.{HasEdge, Road, Reaches}
+use Rattle.automata_base.specs.Nfas.Getters.{HasEmpty, SkipsLazily}
 use Rattle.automata_base.specs.Lists.{In, nth}
-use Rattle.automata_base.specs.Looks.{Look, within}
-use Rattle.automata_base.specs.Nfa.{Node, Range, Split, Assert, Read, Accept, node, hop, hop_at, takes_in, takes_at}
-use Rattle.automata_base.specs.Nodes.{Automaton, nfa_of, node_of, ranges_of, dense_from}
-use Rattle.automata_base.specs.Paths.{all_true, Run, HasEpsilonPath, LeadsOn, IsLookAcyclic}
-use Rattle.automata_base.specs.Reach.{node_in, nexts, byte_targets, targets_of, look_target, Route, IsReached, LeadsBack, AreLooksAcyclic, ReachesMatch, SkipsFrom}
-use Rattle.automata_base.specs.Refusals.{ordered_from, state_ordered, states_ordered}
-use Rattle.automata_base.specs.Visits.{children}
+use Rattle.automata_base.specs.Haystacks.Looks.{Look, within}
+use Rattle.automata_base.specs.Nfas.Nfa.{Node, Range, Split, Assert, Read, Accept, node, hop, hop_at, takes_in}
+use Rattle.automata_base.specs.Nfas.Nfa.{takes_at}
+use Rattle.automata_base.specs.Nfas.Nodes.{Automaton, nfa_of, node_of, ranges_of, dense_from}
+use Rattle.automata_base.specs.Paths.Paths.{all_true, Run, HasEpsilonPath, LeadsOn, IsLookAcyclic}
+use Rattle.automata_base.specs.Nfas.Reach.{node_in, nexts, byte_targets, targets_of, look_target, Route, IsReached}
+use Rattle.automata_base.specs.Nfas.Reach.{LeadsBack, AreLooksAcyclic, ReachesMatch, SkipsFrom}
+use Rattle.automata_base.specs.Nfas.Errors.{ordered_from, state_ordered, states_ordered}
+use Rattle.automata_base.specs.Powersets.Closure.{children}
 use Rattle.automata_base.proofs.Determinizing.Distinct.{In-left, In-right, In-either}
 use Rattle.automata_base.proofs.Paths.Checked.{both}
 use Rattle.automata_base.proofs.Paths.FirstVisits.{hop_children}

@@ -1,16 +1,18 @@
 -- A union that first tries the anchored start and then any byte.
-use Rattle.std.proofs.Common.{ℕ, ◌≡◌, ◌<◌, ◌↔◌, ◌&&◌, Bool, true, false, not, cond, eqb, List, [], ◌∷◌, length, get_or, Option, Some, None, inl, inr, refl, sym, ap, ap₂, ◌∙◌, subst, true≢false}
+use Rattle.std.proofs.Common.{ℕ, ◌≡◌, ◌<◌, ◌↔◌, ◌&&◌, Bool, true, false, not, cond, eqb, List, [], ◌∷◌, length, get_or}
+use Rattle.std.proofs.Common.{Option, Some, None, inl, inr, refl, sym, ap, ap₂, ◌∙◌, subst, true≢false}
 use Rattle.std.specs.Prelude.{IsTrue, slice_get}
 use Rattle.std.proofs.lemmas.Bool.{eqb-true, eq-eqb}
 use Rattle.std.proofs.lemmas.Option.{slice_get-get_or}
 use Rattle.automata_base.specs.declared.nfa.thompson.State.{State}
-use Rattle.automata_base.specs.declared.nfa.thompson.State.TheVariants.{ByteRange, Sparse, Dense, Look, Union, BinaryUnion, Capture, Fail, Match}
+use Rattle.automata_base.specs.declared.nfa.thompson.State.TheVariants.{ByteRange, Sparse, Dense, Look, Union}
+use Rattle.automata_base.specs.declared.nfa.thompson.State.TheVariants.{BinaryUnion, Capture, Fail, Match}
 use Rattle.automata_base.specs.declared.nfa.thompson.reach.Edges.TheVariants.{Every}
 use Rattle.automata_base.proofs.Paths.Checks.{node_below}
-use Rattle.automata_base.specs.Nfa.{Node, Split, Assert, Read, Accept}
-use Rattle.automata_base.specs.Nodes.{node_of}
-use Rattle.automata_base.specs.Reach.{node_in, second_of, second_at, is_any_byte_of, IsReached, SkipsFrom}
-use Rattle.automata_base.specs.Refusals.{states_below}
+use Rattle.automata_base.specs.Nfas.Nfa.{Node, Split, Assert, Read, Accept}
+use Rattle.automata_base.specs.Nfas.Nodes.{node_of}
+use Rattle.automata_base.specs.Nfas.Reach.{node_in, second_of, second_at, is_any_byte_of, IsReached, SkipsFrom}
+use Rattle.automata_base.specs.Nfas.Errors.{states_below}
 use Rattle.automata_base.proofs.Determinizing.Tests_of_lists.{node_fits}
 use Rattle.automata_base.proofs.Determinizing.Walking.{node_at}
 use Rattle.automata_base.proofs.Paths.Checked.{both, below_in}

@@ -1,12 +1,13 @@
 -- What a walk's members mean.
-use Rattle.std.proofs.Common.{ℕ, ◌≡◌, ◌<◌, ◌≤◌, ◌+◌, ◌⊎◌, ◌↔◌, Bool, true, false, List, [], ◌∷◌, ◌++◌, length, get_or, take, inl, inr, refl, sym, ap, ◌∙◌, subst, true≢false}
+use Rattle.std.proofs.Common.{ℕ, ◌≡◌, ◌<◌, ◌≤◌, ◌+◌, ◌⊎◌, ◌↔◌, Bool, true, false, List, [], ◌∷◌, ◌++◌, length, get_or}
+use Rattle.std.proofs.Common.{take, inl, inr, refl, sym, ap, ◌∙◌, subst, true≢false}
 use Rattle.std.specs.Prelude.{Contains, IsTrue, IsFalse}
 use Rattle.std.proofs.lemmas.List.{take_more, take_all}
 use Rattle.automata_base.specs.declared.nfa.thompson.State.{State}
 use Rattle.automata_base.specs.declared.nfa.thompson.reach.Edges.TheVariants.{Epsilon}
 use Rattle.automata_base.specs.Lists.{In}
-use Rattle.automata_base.specs.Nodes.{node_of}
-use Rattle.automata_base.specs.Reach.{node_in, IsMatchAt, IsReached, ReachesMatch}
+use Rattle.automata_base.specs.Nfas.Nodes.{node_of}
+use Rattle.automata_base.specs.Nfas.Reach.{node_in, IsMatchAt, IsReached, ReachesMatch}
 use Rattle.automata_base.proofs.Determinizing.Distinct.{In-Contains, Contains-In, In-either, In-get_or}
 use Rattle.automata_base.proofs.Determinizing.Walking.{node_at}
 

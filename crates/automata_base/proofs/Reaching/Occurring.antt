@@ -1,12 +1,12 @@
 -- Which looks occur.
 use Rattle.std.proofs.Common.{ℕ, ◌≡◌, ◌↔◌, Bool, true, eqb, refl, sym, ap, ◌∙◌}
 use Rattle.std.proofs.lemmas.Bool.{eq-eqb}
-use Rattle.automata_base.specs.Door.{IsLooks}
-use Rattle.automata_base.specs.Looks.{Look, look_index}
-use Rattle.automata_base.specs.Nfa.{Assert}
-use Rattle.automata_base.specs.Nodes.{Automaton, nfa_of}
-use Rattle.automata_base.specs.Passes.{Occurs}
-use Rattle.automata_base.specs.Truths.{truth_of}
+use Rattle.automata_base.specs.Nfas.Accepted.{IsLooks}
+use Rattle.automata_base.specs.Haystacks.Looks.{Look, look_index}
+use Rattle.automata_base.specs.Nfas.Nfa.{Assert}
+use Rattle.automata_base.specs.Nfas.Nodes.{Automaton, nfa_of}
+use Rattle.automata_base.specs.Powersets.Passes.{Occurs}
+use Rattle.automata_base.specs.Haystacks.LookSets.{truth_of}
 use Rattle.automata_base.proofs.Paths.Machines.{code_one, any_node_true, any_node_from}
 
 pub occurs_is : (a : Automaton) (looks : ℕ) → IsLooks a looks → (look : Look) → (truth_of looks look ≡ true) ↔ Occurs (nfa_of a) look

@@ -1,13 +1,16 @@
 -- What the tests of `NFA::from_states` mean.
-use Rattle.std.proofs.Common.{ℕ, ◌≡◌, ◌<◌, ◌≤◌, ◌+◌, ◌-◌, ◌^◌, ◌&&◌, Bool, true, false, leb, ltb, List, [], ◌∷◌, length, Option, Some, None, Result, Ok, Err, refl, sym, ap, ◌∙◌, arith}
+use Rattle.std.proofs.Common.{ℕ, ◌≡◌, ◌<◌, ◌≤◌, ◌+◌, ◌-◌, ◌^◌, ◌&&◌, Bool, true, false, leb, ltb, List, [], ◌∷◌, length}
+use Rattle.std.proofs.Common.{Option, Some, None, Result, Ok, Err, refl, sym, ap, ◌∙◌, arith}
 use Rattle.std.specs.Prelude.{sum_by}
 use Rattle.std.proofs.lemmas.Bool.{leb-true, ltb-true}
 use Rattle.std.proofs.lemmas.List.Sums.{sum_by-cons}
 use Rattle.automata_base.specs.declared.nfa.thompson.NfaError.{NfaError}
-use Rattle.automata_base.specs.declared.nfa.thompson.NfaError.TheVariants.{TooLarge, StartRange, StateRange, Ranges, PatternRange}
+use Rattle.automata_base.specs.declared.nfa.thompson.NfaError.TheVariants.{TooLarge, StartRange, StateRange, Ranges}
+use Rattle.automata_base.specs.declared.nfa.thompson.NfaError.TheVariants.{PatternRange}
 use Rattle.automata_base.specs.declared.nfa.thompson.State.{State}
-use Rattle.automata_base.specs.Nodes.{extra_of, stack_room}
-use Rattle.automata_base.specs.Refusals.{alternates_of, is_small, is_narrow, starts_below, states_below, states_ordered, matches_below, unless, door_refusal}
+use Rattle.automata_base.specs.Nfas.Nodes.{extra_of, stack_room}
+use Rattle.automata_base.specs.Nfas.Errors.{alternates_of, is_small, is_narrow, starts_below, states_below}
+use Rattle.automata_base.specs.Nfas.Errors.{states_ordered, matches_below, unless, door_refusal}
 use Rattle.automata_base.proofs.Determinizing.Tests_of_lists.{extra_is}
 use Rattle.automata_base.proofs.Paths.Checked.{both}
 use Rattle.automata_base.specs.Lists.{all_below}

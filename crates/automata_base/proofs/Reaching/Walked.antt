@@ -1,9 +1,10 @@
 -- A walk that adds the targets of its members, one after the other.
-use Rattle.std.proofs.Common.{ℕ, ◌≡◌, ◌<◌, ◌≤◌, ◌+◌, ◌⊎◌, ◌↔◌, List, [], ◌∷◌, ◌++◌, length, get_or, take, inl, inr, refl, sym, ap, ◌∙◌, subst, arith}
+use Rattle.std.proofs.Common.{ℕ, ◌≡◌, ◌<◌, ◌≤◌, ◌+◌, ◌⊎◌, ◌↔◌, List, [], ◌∷◌, ◌++◌, length, get_or, take, inl, inr}
+use Rattle.std.proofs.Common.{refl, sym, ap, ◌∙◌, subst, arith}
 use Rattle.std.proofs.lemmas.List.{take_more, take_all}
 use Rattle.automata_base.specs.Lists.{In}
-use Rattle.automata_base.specs.Once.{once_from}
-use Rattle.automata_base.specs.Reach.{Route, IsReachedBy}
+use Rattle.automata_base.specs.Retraced.Once.{once_from}
+use Rattle.automata_base.specs.Nfas.Reach.{Route, IsReachedBy}
 use Rattle.automata_base.proofs.Determinizing.Distinct.{In-either, In-get_or}
 use Rattle.automata_base.proofs.Reaching.Adding.{once_keeps, once_has, once_only, once_take}
 

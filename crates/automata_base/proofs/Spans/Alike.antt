@@ -1,13 +1,15 @@
 -- A path of one tape is one of another that has the same bytes as far as the path goes.
-use Rattle.std.proofs.Common.{ℕ, suc, ◌≡◌, ◌<◌, ◌≤◌, ◌+◌, ◌-◌, true, List, [], ◌∷◌, length, inl, inr, sym, ap, ◌∙◌, subst, arith}
-use Rattle.automata_base.specs.Looks.{holds}
+use Rattle.std.proofs.Common.{ℕ, suc, ◌≡◌, ◌<◌, ◌≤◌, ◌+◌, ◌-◌, true, List, [], ◌∷◌, length, inl, inr, sym, ap, ◌∙◌}
+use Rattle.std.proofs.Common.{subst, arith}
+use Rattle.automata_base.specs.Haystacks.Looks.{holds}
 use Rattle.automata_base.specs.Lists.{nth}
-use Rattle.automata_base.specs.Nfa.{Nfa}
-use Rattle.automata_base.specs.Paths.{Tape, prev, next, truth, IsPathFrom}
+use Rattle.automata_base.specs.Nfas.Nfa.{Nfa}
+use Rattle.automata_base.specs.Paths.Paths.{Tape, prev, next, truth, IsPathFrom}
 use Rattle.automata_base.proofs.Paths.Walks.{hop_more}
 use Rattle.automata_base.proofs.Paths.Places.{path_grows}
-use Rattle.automata_base.specs.Tapes.{forward_tape, reverse_tape, byte_before}
-use Rattle.automata_base.proofs.Spans.Bytes.{forward_next, forward_prev, forward_byte, reverse_next, reverse_prev, reverse_byte}
+use Rattle.automata_base.specs.Haystacks.Tapes.{forward_tape, reverse_tape, byte_before}
+use Rattle.automata_base.proofs.Spans.Bytes.{forward_next, forward_prev, forward_byte, reverse_next, reverse_prev}
+use Rattle.automata_base.proofs.Spans.Bytes.{reverse_byte}
 use Rattle.automata_base.proofs.Paths.Included.{Includes}
 
 -- Place `i` of `t` and place `i'` of `t'` are one if `a + i ≡ b + i'`; up to place `m` of `t` the two show the same.

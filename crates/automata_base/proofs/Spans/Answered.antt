@@ -1,10 +1,11 @@
 -- A rule that reports one thing over each span has one answer.
-use Rattle.std.proofs.Common.{ℕ, ◌≡◌, ◌∙◌, ◌<◌, ◌≤◌, ◌+◌, ◌⊎◌, inl, inr, true, false, Option, Some, None, refl, sym, ap, ap₂, subst, arith, ⊎_elim, eq-or-lt_of_le}
+use Rattle.std.proofs.Common.{ℕ, ◌≡◌, ◌∙◌, ◌<◌, ◌≤◌, ◌+◌, ◌⊎◌, inl, inr, true, false, Option, Some, None, refl, sym, ap}
+use Rattle.std.proofs.Common.{ap₂, subst, arith, ⊎_elim, eq-or-lt_of_le}
 use Rattle.std.proofs.lemmas.Bool.{cases_lt, false≢true}
-use Rattle.automata_base.specs.Answers.{Half, later, offset_in, IsSplit, Tries, Answers}
-use Rattle.automata_base.specs.Input.{Input}
-use Rattle.automata_base.specs.Selections.{Pair}
-use Rattle.automata_base.specs.Tapes.{Direction, Forward, Backward, is_split}
+use Rattle.automata_base.specs.Answers.Answers.{Half, later, offset_in, IsSplit, Tries, Answers}
+use Rattle.automata_base.specs.Haystacks.Input.{Input}
+use Rattle.automata_base.specs.Paths.Selections.{Pair}
+use Rattle.automata_base.specs.Haystacks.Tapes.{Direction, Forward, Backward, is_split}
 use Rattle.automata_base.specs.declared.util.search.Anchored.TheVariants.{No}
 use Rattle.automata_base.proofs.Spans.Starts.{no_pair}
 

@@ -1,15 +1,16 @@
 -- Over a true pair the reverse paths from the chosen path's end go back to its start, and none goes farther.
-use Rattle.std.proofs.Common.{ℕ, zero, suc, ◌≡◌, ◌<◌, ◌≤◌, ◌+◌, ◌-◌, List, [], ◌∷◌, length, Some, refl, sym, ◌∙◌, subst, arith, ⊎_elim}
+use Rattle.std.proofs.Common.{ℕ, zero, suc, ◌≡◌, ◌<◌, ◌≤◌, ◌+◌, ◌-◌, List, [], ◌∷◌, length, Some, refl, sym, ◌∙◌, subst}
+use Rattle.std.proofs.Common.{arith, ⊎_elim}
 use Rattle.std.proofs.lemmas.Bool.{cases_lt}
-use Rattle.automata_base.specs.Nfa.{accepts}
+use Rattle.automata_base.specs.Nfas.Nfa.{accepts}
 use Rattle.automata_base.specs.Lists.{nth}
-use Rattle.automata_base.specs.Paths.{IsPathFrom}
-use Rattle.automata_base.specs.Selections.{Accepts}
+use Rattle.automata_base.specs.Paths.Paths.{IsPathFrom}
+use Rattle.automata_base.specs.Paths.Selections.{Accepts}
 use Rattle.automata_base.proofs.Paths.Searches.{accepting_inside}
 use Rattle.automata_base.proofs.Paths.Orders.{none_some}
-use Rattle.automata_base.specs.Tapes.{IsHaystack, Forward, Backward, forward_tape, reverse_tape, between}
-use Rattle.automata_base.specs.Engines.{Engine}
-use Rattle.automata_base.specs.TruePairs.{Joins, IsTruePair}
+use Rattle.automata_base.specs.Haystacks.Tapes.{IsHaystack, Forward, Backward, forward_tape, reverse_tape, between}
+use Rattle.automata_base.specs.Nfas.Engines.{Engine}
+use Rattle.automata_base.specs.Answers.TruePairs.{Joins, IsTruePair}
 use Rattle.automata_base.proofs.Spans.Bytes.{tape_length, forward_length, nth_between}
 use Rattle.automata_base.proofs.Spans.Alike.{path_alike, forward_alike, reverse_alike}
 use Rattle.automata_base.proofs.Spans.Loops.{HasBytes}

@@ -1,9 +1,10 @@
 -- The bytes of a tape are those of its haystack.
-use Rattle.std.proofs.Common.{ℕ, zero, suc, ◌≡◌, ◌<◌, ◌≤◌, ◌+◌, ◌-◌, List, [], ◌∷◌, ◌++◌, take, drop, reverse, length, Option, Some, refl, sym, ap, ◌∙◌, arith, ⊎_elim, eq-or-lt_of_le}
+use Rattle.std.proofs.Common.{ℕ, zero, suc, ◌≡◌, ◌<◌, ◌≤◌, ◌+◌, ◌-◌, List, [], ◌∷◌, ◌++◌, take, drop, reverse, length}
+use Rattle.std.proofs.Common.{Option, Some, refl, sym, ap, ◌∙◌, arith, ⊎_elim, eq-or-lt_of_le}
 use mathlib.Core.List.{reverse-cons}
 use Rattle.automata_base.specs.Lists.{nth}
-use Rattle.automata_base.specs.Paths.{prev, next, next_in}
-use Rattle.automata_base.specs.Tapes.{byte_before, between, forward_tape, reverse_tape}
+use Rattle.automata_base.specs.Paths.Paths.{prev, next, next_in}
+use Rattle.automata_base.specs.Haystacks.Tapes.{byte_before, between, forward_tape, reverse_tape}
 
 pub nth_drop : (s : ℕ) (h : List ℕ) (i : ℕ) → nth (drop s h) i ≡ nth h (s + i)
 nth_drop zero h i = ap (λ v. nth h v) (omega arith)

@@ -1,17 +1,19 @@
 -- The chosen path's start is the least of all that lead to its end.
-use Rattle.std.proofs.Common.{ℕ, ◌≡◌, ◌<◌, ◌≤◌, Bool, true, false, List, [], ◌∷◌, length, Option, Some, None, inl, inr, refl, ◌∙◌, subst, arith, ⊎_elim}
+use Rattle.std.proofs.Common.{ℕ, ◌≡◌, ◌<◌, ◌≤◌, Bool, true, false, List, [], ◌∷◌, length, Option, Some, None, inl, inr}
+use Rattle.std.proofs.Common.{refl, ◌∙◌, subst, arith, ⊎_elim}
 use Rattle.std.proofs.lemmas.Bool.{cases_lt}
-use Rattle.automata_base.specs.Order.{Upto, Begins}
-use Rattle.automata_base.specs.Nfa.{Nfa, accepts}
-use Rattle.automata_base.specs.Paths.{Tape, IsPathFrom, IsPath}
-use Rattle.automata_base.specs.Cuts.{MatchKind, All, LeftmostFirst}
-use Rattle.automata_base.specs.Selections.{Accepts, IsChosen, Pair, Selects, IsFarthest}
+use Rattle.automata_base.specs.Paths.Order.{Upto, Begins}
+use Rattle.automata_base.specs.Nfas.Nfa.{Nfa, accepts}
+use Rattle.automata_base.specs.Paths.Paths.{Tape, IsPathFrom, IsPath}
+use Rattle.automata_base.specs.Powersets.Cuts.{MatchKind, All, LeftmostFirst}
+use Rattle.automata_base.specs.Paths.Selections.{Accepts, IsChosen, Pair, Selects, IsFarthest}
 use Rattle.automata_base.proofs.Paths.Orders.{before_upto, before_irrefl, nil_cons}
 use Rattle.automata_base.proofs.Paths.Searches.{accepting_inside}
 use Rattle.automata_base.proofs.Paths.Places.{path_grows}
-use Rattle.automata_base.specs.Engines.{Engine, No, BeginsAnchored, LoopsLazily}
-use Rattle.automata_base.specs.Spans.{IsPathStart, Chooses}
-use Rattle.automata_base.proofs.Spans.Loops.{skips, lazily, Lazily, skipping, not_sooner, skips_join, sooner_less, HasBytes}
+use Rattle.automata_base.specs.Nfas.Engines.{Engine, No, BeginsAnchored, LoopsLazily}
+use Rattle.automata_base.specs.Answers.Spans.{IsPathStart, Chooses}
+use Rattle.automata_base.proofs.Spans.Loops.{skips, lazily, Lazily, skipping, not_sooner, skips_join, sooner_less}
+use Rattle.automata_base.proofs.Spans.Loops.{HasBytes}
 
 pub chosen_upto :
     (kind : MatchKind) (earliest : Bool) (i : ℕ) (path other : List ℕ) → IsChosen kind earliest i path i other → Upto path other

@@ -1,17 +1,20 @@
 -- Answers by computation, for examples.
-use Rattle.std.proofs.Common.{ℕ, zero, suc, ◌≡◌, ◌<◌, ◌≤◌, ◌+◌, Bool, true, false, ◌&&◌, ◌||◌, eqb, ltb, List, [], ◌∷◌, ◌⊎◌, length, Option, Some, None, inl, inr, refl, sym, ap, ◌∙◌, subst, arith, ⊎_elim, true≢false, eq-or-lt_of_le, ltb-true, ltb-false, eqb-true}
+use Rattle.std.proofs.Common.{ℕ, zero, suc, ◌≡◌, ◌<◌, ◌≤◌, ◌+◌, Bool, true, false, ◌&&◌, ◌||◌, eqb, ltb, List, [], ◌∷◌}
+use Rattle.std.proofs.Common.{◌⊎◌, length, Option, Some, None, inl, inr, refl, sym, ap, ◌∙◌, subst, arith, ⊎_elim}
+use Rattle.std.proofs.Common.{true≢false, eq-or-lt_of_le, ltb-true, ltb-false, eqb-true}
 use Rattle.std.proofs.lemmas.Bool.{eqb-false}
-use Rattle.automata_base.specs.Selections.{Pair}
-use Rattle.automata_base.specs.Paths.{Tape}
-use Rattle.automata_base.specs.Computed.{search_of, pairs_upto}
-use Rattle.automata_base.specs.Passes.{IsTape}
+use Rattle.automata_base.specs.Paths.Selections.{Pair}
+use Rattle.automata_base.specs.Paths.Paths.{Tape}
+use Rattle.automata_base.specs.Retraced.ComputedPass.{search_of, pairs_upto}
+use Rattle.automata_base.specs.Powersets.Passes.{IsTape}
 use Rattle.automata_base.proofs.Paths.Finals.{search_right, walked_right}
-use Rattle.automata_base.specs.Tapes.{IsHaystack, Direction, Forward, Backward, tape_of, is_split}
-use Rattle.automata_base.specs.Engines.{Engine, Anchored, No, Yes, Pattern, first_state, IsSkipping}
-use Rattle.automata_base.specs.Answers.{Half, SelectsFrom, SelectsOver, later, offset_in, IsAnswer, IsInput, IsSound, with_offsets, without_split, IsOverlappingFrom, IsOverlapping}
-use Rattle.automata_base.specs.Input.{Input}
-use Rattle.automata_base.specs.Spans.{back, Outcome, Found, NotAPair, from, IsShort, IsTrySearch}
-use Rattle.automata_base.specs.Matches.{Match}
+use Rattle.automata_base.specs.Haystacks.Tapes.{IsHaystack, Direction, Forward, Backward, tape_of, is_split}
+use Rattle.automata_base.specs.Nfas.Engines.{Engine, Anchored, No, Yes, Pattern, first_state, IsSkipping}
+use Rattle.automata_base.specs.Answers.Answers.{Half, SelectsFrom, SelectsOver, later, offset_in, IsAnswer, IsInput}
+use Rattle.automata_base.specs.Answers.Answers.{IsSound, with_offsets, without_split, IsOverlappingFrom, IsOverlapping}
+use Rattle.automata_base.specs.Haystacks.Input.{Input}
+use Rattle.automata_base.specs.Answers.Spans.{back, Outcome, Found, NotAPair, from, IsShort, IsTrySearch}
+use Rattle.automata_base.specs.Haystacks.Matches.{Match}
 use Rattle.automata_base.proofs.Spans.Backs.{end_inside}
 use Rattle.automata_base.proofs.Spans.Empties.{is_skipping, skipping_tests}
 use Rattle.automata_base.proofs.Spans.Total.{tape_units, later_input}

@@ -1,16 +1,17 @@
 -- Whether an NFA has the empty match, by computation.
-use Rattle.std.proofs.Common.{ℕ, ◌≡◌, ◌<◌, Bool, true, false, ◌&&◌, ◌||◌, List, [], ◌∷◌, ◌⊎◌, length, Option, Some, None, inl, inr, refl, sym, ap, ◌∙◌, subst, arith, ⊎_elim, true≢false}
+use Rattle.std.proofs.Common.{ℕ, ◌≡◌, ◌<◌, Bool, true, false, ◌&&◌, ◌||◌, List, [], ◌∷◌, ◌⊎◌, length, Option, Some}
+use Rattle.std.proofs.Common.{None, inl, inr, refl, sym, ap, ◌∙◌, subst, arith, ⊎_elim, true≢false}
 use Rattle.std.proofs.lemmas.Bool.{cases_order}
 use Rattle.automata_base.specs.Lists.{In, nth, From}
-use Rattle.automata_base.specs.Nfa.{Nfa, hop, accepts}
-use Rattle.automata_base.specs.Paths.{IsPathAt, all_true, Run, IsClosure}
-use Rattle.automata_base.specs.Computed.{closure_of}
+use Rattle.automata_base.specs.Nfas.Nfa.{Nfa, hop, accepts}
+use Rattle.automata_base.specs.Paths.Paths.{IsPathAt, all_true, Run, IsClosure}
+use Rattle.automata_base.specs.Retraced.ComputedPass.{closure_of}
 use Rattle.automata_base.proofs.Paths.Walks.{walk_run}
 use Rattle.automata_base.proofs.Paths.Sets.{HasWalk, walk_then, in_nth, nth_in}
 use Rattle.automata_base.proofs.Paths.Readings.{sorted_has}
 use Rattle.automata_base.proofs.Paths.Fuels.{AllBelow, closure_right}
-use Rattle.automata_base.specs.Engines.{Engine, Pattern, HasEmptyMatch, IsSkipping}
-use Rattle.automata_base.specs.Answers.{IsSound}
+use Rattle.automata_base.specs.Nfas.Engines.{Engine, Pattern, HasEmptyMatch, IsSkipping}
+use Rattle.automata_base.specs.Answers.Answers.{IsSound}
 
 abbrev pub is_match_state : Option ℕ → Bool
 is_match_state None = false

@@ -1,13 +1,14 @@
 -- The lazy loop of an unanchored start: its paths are a number of skipped bytes and a path from the anchored start.
-use Rattle.std.proofs.Common.{le-leb, ◌&&◌, ℕ, zero, suc, ◌≡◌, ◌<◌, ◌≤◌, ◌+◌, Bool, true, false, cond, List, [], ◌∷◌, ◌++◌, ◌⊎◌, length, Some, None, inl, inr, refl, sym, ap, ap₂, ◌∙◌, subst, arith, ⊎_elim}
-use Rattle.automata_base.specs.Order.{Before, Begins}
-use Rattle.automata_base.specs.Looks.{within}
+use Rattle.std.proofs.Common.{le-leb, ◌&&◌, ℕ, zero, suc, ◌≡◌, ◌<◌, ◌≤◌, ◌+◌, Bool, true, false, cond, List, [], ◌∷◌}
+use Rattle.std.proofs.Common.{◌++◌, ◌⊎◌, length, Some, None, inl, inr, refl, sym, ap, ap₂, ◌∙◌, subst, arith, ⊎_elim}
+use Rattle.automata_base.specs.Paths.Order.{Before, Begins}
+use Rattle.automata_base.specs.Haystacks.Looks.{within}
 use Rattle.automata_base.specs.Lists.{In, nth}
-use Rattle.automata_base.specs.Nfa.{Nfa, Split, Truth, node, hop, hop_at, takes, takes_at, accepts, accepts_at}
-use Rattle.automata_base.specs.Paths.{Tape, truth, IsPathFrom, all_true}
+use Rattle.automata_base.specs.Nfas.Nfa.{Nfa, Split, Truth, node, hop, hop_at, takes, takes_at, accepts, accepts_at}
+use Rattle.automata_base.specs.Paths.Paths.{Tape, truth, IsPathFrom, all_true}
 use Rattle.automata_base.proofs.Paths.Orders.{some_inj, none_some, cons_head, cons_tail, nil_cons}
 use Rattle.automata_base.proofs.Paths.Walks.{hop_more, in_left, in_either}
-use Rattle.automata_base.specs.Engines.{HasEdge, Reaches, any_byte}
+use Rattle.automata_base.specs.Nfas.Engines.{HasEdge, Reaches, any_byte}
 
 -- The edges of the loop, for `k` bytes.
 abbrev pub skips : ℕ → List ℕ → List ℕ

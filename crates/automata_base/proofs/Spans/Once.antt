@@ -1,18 +1,20 @@
 -- Searches have one answer, and spans have one start.
-use Rattle.std.proofs.Common.{ℕ, suc, ◌≡◌, ◌<◌, ◌+◌, Bool, true, false, List, [], ◌∷◌, ◌++◌, ◌⊎◌, Option, Some, None, is_some, inl, inr, refl, sym, ap, ap₂, ◌∙◌, subst, arith, ⊎_elim}
-use Rattle.automata_base.specs.Order.{Upto, Begins}
-use Rattle.automata_base.specs.Nfa.{Nfa, accepts}
-use Rattle.automata_base.specs.Paths.{Tape, IsPath}
-use Rattle.automata_base.specs.Cuts.{MatchKind, All, LeftmostFirst}
-use Rattle.automata_base.specs.Selections.{Accepts, Pair, IsChosen, Selects}
+use Rattle.std.proofs.Common.{ℕ, suc, ◌≡◌, ◌<◌, ◌+◌, Bool, true, false, List, [], ◌∷◌, ◌++◌, ◌⊎◌, Option, Some, None}
+use Rattle.std.proofs.Common.{is_some, inl, inr, refl, sym, ap, ap₂, ◌∙◌, subst, arith, ⊎_elim}
+use Rattle.automata_base.specs.Paths.Order.{Upto, Begins}
+use Rattle.automata_base.specs.Nfas.Nfa.{Nfa, accepts}
+use Rattle.automata_base.specs.Paths.Paths.{Tape, IsPath}
+use Rattle.automata_base.specs.Powersets.Cuts.{MatchKind, All, LeftmostFirst}
+use Rattle.automata_base.specs.Paths.Selections.{Accepts, Pair, IsChosen, Selects}
 use Rattle.automata_base.proofs.Paths.Orders.{some_inj, before_irrefl, before_trans, cons_head, cons_tail}
-use Rattle.automata_base.specs.Spans.{IsPathStart, Chooses, IsSpan, in_full, IsMatch, from, IsEmptyAt, IsNextItem, AreMatches, AreSpans}
-use Rattle.automata_base.specs.Matches.{Match}
+use Rattle.automata_base.specs.Answers.Spans.{IsPathStart, Chooses, IsSpan, in_full, IsMatch, from, IsEmptyAt}
+use Rattle.automata_base.specs.Answers.Spans.{IsNextItem, AreMatches, AreSpans}
+use Rattle.automata_base.specs.Haystacks.Matches.{Match}
 use Rattle.automata_base.proofs.Paths.Places.{path_end}
-use Rattle.automata_base.specs.Tapes.{Direction, Forward, tape_of, forward_tape}
-use Rattle.automata_base.specs.Engines.{Engine, Anchored, No, Yes, Pattern, first_state, IsSkipping}
-use Rattle.automata_base.specs.Answers.{Half, SelectsFrom, SelectsOver, later, IsAnswer}
-use Rattle.automata_base.specs.Input.{Input}
+use Rattle.automata_base.specs.Haystacks.Tapes.{Direction, Forward, tape_of, forward_tape}
+use Rattle.automata_base.specs.Nfas.Engines.{Engine, Anchored, No, Yes, Pattern, first_state, IsSkipping}
+use Rattle.automata_base.specs.Answers.Answers.{Half, SelectsFrom, SelectsOver, later, IsAnswer}
+use Rattle.automata_base.specs.Haystacks.Input.{Input}
 use Rattle.automata_base.proofs.Spans.Answered.{answers_once}
 use Rattle.automata_base.proofs.Spans.Starts.{no_pair}
 use Rattle.automata_base.proofs.Spans.Tried.{ComesTo, IsSplitAnswer}

@@ -1,20 +1,24 @@
 -- The start is the right one.
-use Rattle.std.proofs.Common.{ℕ, ◌≡◌, ◌≤◌, ◌+◌, ◌-◌, false, List, [], ◌⊎◌, length, Option, Some, None, inl, inr, refl, sym, ap, ◌∙◌, subst, arith}
-use Rattle.automata_base.specs.Paths.{Tape}
+use Rattle.std.proofs.Common.{ℕ, ◌≡◌, ◌≤◌, ◌+◌, ◌-◌, false, List, [], ◌⊎◌, length, Option, Some, None, inl, inr, refl}
+use Rattle.std.proofs.Common.{sym, ap, ◌∙◌, subst, arith}
+use Rattle.automata_base.specs.Paths.Paths.{Tape}
 use Rattle.automata_base.proofs.Paths.Searches.{accepting_inside}
 use Rattle.automata_base.proofs.Paths.Places.{path_grows}
-use Rattle.automata_base.specs.Tapes.{IsHaystack, Forward, Backward, forward_tape, reverse_tape, is_split}
-use Rattle.automata_base.specs.Selections.{IsFarthest, Selects}
-use Rattle.automata_base.specs.Cuts.{All}
-use Rattle.automata_base.specs.Engines.{Engine, Anchored, No, Yes, Pattern, BeginsAnchored, IsSkipping, LoopsLazily, BeginsLazily}
-use Rattle.automata_base.specs.Answers.{Half, IsAnswer, SelectsOver}
-use Rattle.automata_base.specs.Input.{Input}
-use Rattle.automata_base.specs.TruePairs.{IsTruePair, KeepsUtf8}
-use Rattle.automata_base.specs.Spans.{IsPathStart, Chooses, IsSpan, IsShort, back, FindsStartBy, Outcome, Found, NotAPair, IsTrySearch, IsFarSearch, FindsSpan}
-use Rattle.automata_base.specs.Told.{EndsOver, IsFarthestAnswer}
+use Rattle.automata_base.specs.Haystacks.Tapes.{IsHaystack, Forward, Backward, forward_tape, reverse_tape, is_split}
+use Rattle.automata_base.specs.Paths.Selections.{IsFarthest, Selects}
+use Rattle.automata_base.specs.Powersets.Cuts.{All}
+use Rattle.automata_base.specs.Nfas.Engines.{Engine, Anchored, No, Yes, Pattern, BeginsAnchored, IsSkipping}
+use Rattle.automata_base.specs.Nfas.Engines.{LoopsLazily, BeginsLazily}
+use Rattle.automata_base.specs.Answers.Answers.{Half, IsAnswer, SelectsOver}
+use Rattle.automata_base.specs.Haystacks.Input.{Input}
+use Rattle.automata_base.specs.Answers.TruePairs.{IsTruePair, KeepsUtf8}
+use Rattle.automata_base.specs.Answers.Spans.{IsPathStart, Chooses, IsSpan, IsShort, back, FindsStartBy, Outcome, Found}
+use Rattle.automata_base.specs.Answers.Spans.{NotAPair, IsTrySearch, IsFarSearch, FindsSpan}
+use Rattle.automata_base.specs.Answers.OfPasses.{EndsOver, IsFarthestAnswer}
 use Rattle.automata_base.proofs.Spans.Chosen.{StartsAt, starts_at, all_farthest, lazy_start, same_start}
 use Rattle.automata_base.proofs.Spans.Backs.{end_inside, forward_bytes}
-use Rattle.automata_base.proofs.Spans.Starts.{mode_cases, Answered, answered, unanchored, back_answer, goes_to_start, start_unsplit, anchored_back}
+use Rattle.automata_base.proofs.Spans.Starts.{mode_cases, Answered, answered, unanchored, back_answer, goes_to_start}
+use Rattle.automata_base.proofs.Spans.Starts.{start_unsplit, anchored_back}
 use Rattle.automata_base.proofs.Spans.Turning.{turn_answers, turn_outcome}
 
 no_half : {x : Half} → ◌≡◌ {A = Option Half} None (Some x) → ⊥

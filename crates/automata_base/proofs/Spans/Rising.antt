@@ -1,16 +1,18 @@
 -- Matches of an iteration lie in the span, and their ends rise.
-use Rattle.std.proofs.Common.{ℕ, suc, ◌≡◌, ◌<◌, ◌≤◌, ◌+◌, ◌-◌, Bool, List, [], ◌∷◌, ◌++◌, ◌⊎◌, length, Option, Some, None, inl, inr, refl, sym, ap, ◌∙◌, subst, arith, eq-or-lt_of_le}
-use Rattle.automata_base.specs.Paths.{Tape, IsPathFrom, IsPath}
+use Rattle.std.proofs.Common.{ℕ, suc, ◌≡◌, ◌<◌, ◌≤◌, ◌+◌, ◌-◌, Bool, List, [], ◌∷◌, ◌++◌, ◌⊎◌, length, Option, Some}
+use Rattle.std.proofs.Common.{None, inl, inr, refl, sym, ap, ◌∙◌, subst, arith, eq-or-lt_of_le}
+use Rattle.automata_base.specs.Paths.Paths.{Tape, IsPathFrom, IsPath}
 use Rattle.automata_base.proofs.Paths.Orders.{some_inj}
 use Rattle.automata_base.proofs.Paths.Places.{path_grows, resume}
 use Rattle.automata_base.proofs.Paths.Searches.{accepting_inside}
-use Rattle.automata_base.specs.Tapes.{IsHaystack, Forward, Backward, forward_tape, reverse_tape}
-use Rattle.automata_base.specs.Engines.{Engine, Anchored, No, Yes, Pattern, IsSkipping, first_state}
-use Rattle.automata_base.specs.Answers.{Half, IsAnswer, SelectsOver}
-use Rattle.automata_base.specs.Input.{Input}
-use Rattle.automata_base.specs.TruePairs.{IsTruePair, KeepsUtf8}
-use Rattle.automata_base.specs.Spans.{IsPathStart, Chooses, IsSpan, FindsStart, Outcome, Found, IsTrySearch, from, IsNextItem, AreMatches, AreSpans, TryFinds, AreFound, Rise}
-use Rattle.automata_base.specs.Matches.{Match}
+use Rattle.automata_base.specs.Haystacks.Tapes.{IsHaystack, Forward, Backward, forward_tape, reverse_tape}
+use Rattle.automata_base.specs.Nfas.Engines.{Engine, Anchored, No, Yes, Pattern, IsSkipping, first_state}
+use Rattle.automata_base.specs.Answers.Answers.{Half, IsAnswer, SelectsOver}
+use Rattle.automata_base.specs.Haystacks.Input.{Input}
+use Rattle.automata_base.specs.Answers.TruePairs.{IsTruePair, KeepsUtf8}
+use Rattle.automata_base.specs.Answers.Spans.{IsPathStart, Chooses, IsSpan, FindsStart, Outcome, Found, IsTrySearch}
+use Rattle.automata_base.specs.Answers.Spans.{from, IsNextItem, AreMatches, AreSpans, TryFinds, AreFound, Rise}
+use Rattle.automata_base.specs.Haystacks.Matches.{Match}
 use Rattle.automata_base.proofs.Spans.Backs.{end_inside}
 use Rattle.automata_base.proofs.Spans.Bytes.{tape_length}
 use Rattle.automata_base.proofs.Spans.Starts.{Answered, answered, anchored_back, only_once}

@@ -1,16 +1,16 @@
 -- Rows by computation.
 use Rattle.std.proofs.Common.{ℕ, ◌≡◌, Bool, true, false, List, [], ◌∷◌, Some, None, refl}
-use Rattle.automata_base.specs.Looks.{WordAsciiNegate}
-use Rattle.automata_base.specs.Nfa.{Node, Split, Assert, Read, Accept}
-use Rattle.automata_base.specs.Cuts.{MatchKind, All, LeftmostFirst}
+use Rattle.automata_base.specs.Haystacks.Looks.{WordAsciiNegate}
+use Rattle.automata_base.specs.Nfas.Nfa.{Node, Split, Assert, Read, Accept}
+use Rattle.automata_base.specs.Powersets.Cuts.{MatchKind, All, LeftmostFirst}
 use Rattle.automata_base.proofs.Paths.Samples.{read}
-use Rattle.automata_base.specs.Tapes.{Forward, Backward}
-use Rattle.automata_base.specs.Engines.{Engine, No, Yes}
-use Rattle.automata_base.specs.Input.{Input}
-use Rattle.automata_base.specs.Spans.{Found, NotAPair}
-use Rattle.automata_base.specs.Matches.{Match}
+use Rattle.automata_base.specs.Haystacks.Tapes.{Forward, Backward}
+use Rattle.automata_base.specs.Nfas.Engines.{Engine, No, Yes}
+use Rattle.automata_base.specs.Haystacks.Input.{Input}
+use Rattle.automata_base.specs.Answers.Spans.{Found, NotAPair}
+use Rattle.automata_base.specs.Haystacks.Matches.{Match}
 use Rattle.automata_base.proofs.Spans.Computed.{answer_of, try_of, spans_of, overlapping_of}
-use Rattle.automata_base.specs.Selections.{Pair}
+use Rattle.automata_base.specs.Paths.Selections.{Pair}
 
 abbrev pub dfa : List Node → (anchored unanchored : ℕ) → List ℕ → (utf8 reverse : Bool) → MatchKind → Engine
 dfa nodes a u starts utf8 reverse kind =

@@ -1,17 +1,18 @@
 -- Over a true pair that keeps UTF-8 the reverse search finds the start of the path that the forward search chose.
-use Rattle.std.proofs.Common.{ℕ, ◌≡◌, ◌<◌, ◌≤◌, ◌+◌, ◌-◌, Bool, false, List, [], ◌⊎◌, length, Option, Some, None, inl, inr, refl, sym, ap, ap₂, ◌∙◌, subst, arith, ⊎_elim, eq-or-lt_of_le, true≢false}
-use Rattle.automata_base.specs.Nfa.{Nfa, accepts}
-use Rattle.automata_base.specs.Paths.{Tape, IsPathFrom}
-use Rattle.automata_base.specs.Selections.{Accepts, Pair, IsFarthest}
+use Rattle.std.proofs.Common.{ℕ, ◌≡◌, ◌<◌, ◌≤◌, ◌+◌, ◌-◌, Bool, false, List, [], ◌⊎◌, length, Option, Some, None, inl}
+use Rattle.std.proofs.Common.{inr, refl, sym, ap, ap₂, ◌∙◌, subst, arith, ⊎_elim, eq-or-lt_of_le, true≢false}
+use Rattle.automata_base.specs.Nfas.Nfa.{Nfa, accepts}
+use Rattle.automata_base.specs.Paths.Paths.{Tape, IsPathFrom}
+use Rattle.automata_base.specs.Paths.Selections.{Accepts, Pair, IsFarthest}
 use Rattle.automata_base.proofs.Paths.Orders.{some_inj}
 use Rattle.automata_base.proofs.Paths.Places.{path_grows}
-use Rattle.automata_base.specs.Tapes.{IsHaystack, Forward, Backward, forward_tape, reverse_tape, is_split}
-use Rattle.automata_base.specs.Engines.{Engine, Anchored, No, Yes, Pattern, first_state, LoopsLazily, IsSkipping}
-use Rattle.automata_base.specs.Answers.{Half, SelectsFrom, later, IsAnswer, IsSplit, Tries}
-use Rattle.automata_base.specs.Input.{Input}
-use Rattle.automata_base.specs.TruePairs.{Joins, IsTruePair, KeepsUtf8}
-use Rattle.automata_base.specs.Spans.{Chooses}
-use Rattle.automata_base.specs.Told.{EndsOver, IsFarthestAnswer}
+use Rattle.automata_base.specs.Haystacks.Tapes.{IsHaystack, Forward, Backward, forward_tape, reverse_tape, is_split}
+use Rattle.automata_base.specs.Nfas.Engines.{Engine, Anchored, No, Yes, Pattern, first_state, LoopsLazily, IsSkipping}
+use Rattle.automata_base.specs.Answers.Answers.{Half, SelectsFrom, later, IsAnswer, IsSplit, Tries}
+use Rattle.automata_base.specs.Haystacks.Input.{Input}
+use Rattle.automata_base.specs.Answers.TruePairs.{Joins, IsTruePair, KeepsUtf8}
+use Rattle.automata_base.specs.Answers.Spans.{Chooses}
+use Rattle.automata_base.specs.Answers.OfPasses.{EndsOver, IsFarthestAnswer}
 use Rattle.automata_base.proofs.Spans.Chosen.{StartsAt, least_start}
 use Rattle.automata_base.proofs.Spans.Text.{unsplit}
 use Rattle.automata_base.proofs.Spans.Backs.{end_inside, forward_bytes, narrow, goes_back, comes_forth}

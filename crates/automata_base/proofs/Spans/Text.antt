@@ -1,10 +1,11 @@
 -- UTF-8 begins with no continuation byte.
-use Rattle.std.proofs.Common.{ℕ, ◌≡◌, ◌<◌, ◌≤◌, Bool, true, false, ◌&&◌, leb, List, [], ◌∷◌, IsUtf8, refl, sym, ap, ap₂, ◌∙◌, arith, leb-true}
+use Rattle.std.proofs.Common.{ℕ, ◌≡◌, ◌<◌, ◌≤◌, Bool, true, false, ◌&&◌, leb, List, [], ◌∷◌, IsUtf8, refl, sym, ap, ap₂}
+use Rattle.std.proofs.Common.{◌∙◌, arith, leb-true}
 use Rattle.std.proofs.lemmas.Bool.{lt-leb}
 use Rattle.std.proofs.lemmas.Str.{IsCharBoundary-start}
 use Rattle.automata_base.specs.Lists.{nth}
-use Rattle.automata_base.specs.Looks.{within}
-use Rattle.automata_base.specs.Tapes.{is_continuation, is_split, between}
+use Rattle.automata_base.specs.Haystacks.Looks.{within}
+use Rattle.automata_base.specs.Haystacks.Tapes.{is_continuation, is_split, between}
 use Rattle.automata_base.proofs.Spans.Bytes.{nth_between}
 
 pub first_unsplit : (bs : List ℕ) → IsUtf8 bs → is_continuation (nth bs 0) ≡ false

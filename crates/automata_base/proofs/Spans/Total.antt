@@ -1,19 +1,23 @@
 -- Searches have an answer.
-use Rattle.std.proofs.Common.{ℕ, zero, suc, ◌≡◌, ◌<◌, ◌≤◌, ◌+◌, ◌-◌, Bool, true, false, List, [], ◌∷◌, ◌⊎◌, length, reverse, Option, Some, None, inl, inr, refl, sym, ap, ◌∙◌, subst, arith, ⊎_elim, eq-or-lt_of_le}
+use Rattle.std.proofs.Common.{ℕ, zero, suc, ◌≡◌, ◌<◌, ◌≤◌, ◌+◌, ◌-◌, Bool, true, false, List, [], ◌∷◌, ◌⊎◌, length}
+use Rattle.std.proofs.Common.{reverse, Option, Some, None, inl, inr, refl, sym, ap, ◌∙◌, subst, arith, ⊎_elim}
+use Rattle.std.proofs.Common.{eq-or-lt_of_le}
 use Rattle.std.proofs.lemmas.Bool.{cases_lt, cases_order}
 use Rattle.automata_base.specs.Lists.{nth}
-use Rattle.automata_base.specs.Paths.{Tape, next_in, IsLookAcyclic}
-use Rattle.automata_base.specs.Passes.{IsUnit, IsTape}
-use Rattle.automata_base.specs.Selections.{Pair}
-use Rattle.automata_base.specs.Computed.{search_of, IsInRange}
+use Rattle.automata_base.specs.Paths.Paths.{Tape, next_in, IsLookAcyclic}
+use Rattle.automata_base.specs.Powersets.Passes.{IsUnit, IsTape}
+use Rattle.automata_base.specs.Paths.Selections.{Pair}
+use Rattle.automata_base.specs.Retraced.ComputedPass.{search_of, IsInRange}
 use Rattle.automata_base.proofs.Paths.Finals.{search_right}
-use Rattle.automata_base.specs.Tapes.{IsHaystack, Direction, Forward, Backward, tape_of, between, byte_before, is_split}
-use Rattle.automata_base.specs.Engines.{Engine, No, first_state, IsSkipping}
-use Rattle.automata_base.specs.Answers.{Half, SelectsFrom, SelectsOver, later, offset_in, IsAnswer, IsInput, IsSound}
-use Rattle.automata_base.specs.Input.{Input}
-use Rattle.automata_base.specs.TruePairs.{IsTruePair, KeepsUtf8}
-use Rattle.automata_base.specs.Spans.{IsSpan, IsShort, back, Outcome, Found, NotAPair, IsTrySearch}
-use Rattle.automata_base.specs.Matches.{Match}
+use Rattle.automata_base.specs.Haystacks.Tapes.{IsHaystack, Direction, Forward, Backward, tape_of, between, byte_before}
+use Rattle.automata_base.specs.Haystacks.Tapes.{is_split}
+use Rattle.automata_base.specs.Nfas.Engines.{Engine, No, first_state, IsSkipping}
+use Rattle.automata_base.specs.Answers.Answers.{Half, SelectsFrom, SelectsOver, later, offset_in, IsAnswer, IsInput}
+use Rattle.automata_base.specs.Answers.Answers.{IsSound}
+use Rattle.automata_base.specs.Haystacks.Input.{Input}
+use Rattle.automata_base.specs.Answers.TruePairs.{IsTruePair, KeepsUtf8}
+use Rattle.automata_base.specs.Answers.Spans.{IsSpan, IsShort, back, Outcome, Found, NotAPair, IsTrySearch}
+use Rattle.automata_base.specs.Haystacks.Matches.{Match}
 use Rattle.automata_base.proofs.Spans.Bytes.{nth_reverse, reverse_length}
 use Rattle.automata_base.proofs.Spans.Backs.{end_inside, forward_bytes, nth_less}
 use Rattle.automata_base.proofs.Spans.Starts.{mode_cases, Answered, answered}

@@ -1,9 +1,9 @@
 -- The spans that a search by paths tries.
 use Rattle.std.specs.Prelude.{ℕ}
-use Rattle.automata_base.specs.Answers.{SelectsOver, IsSplit, Tries}
-use Rattle.automata_base.specs.Engines.{Engine, IsSkipping}
-use Rattle.automata_base.specs.Input.{Input}
-use Rattle.automata_base.specs.Tapes.{Direction}
+use Rattle.automata_base.specs.Answers.Answers.{SelectsOver, IsSplit, Tries}
+use Rattle.automata_base.specs.Nfas.Engines.{Engine, IsSkipping}
+use Rattle.automata_base.specs.Haystacks.Input.{Input}
+use Rattle.automata_base.specs.Haystacks.Tapes.{Direction}
 
 -- What the paths answer over one span splits a character.
 abbrev pub IsSplitAnswer : Direction → Engine → Input → Type 0

@@ -1,11 +1,11 @@
 -- A true pair that keeps UTF-8: the empty regular expression, skipping split places.
 use Rattle.std.proofs.Common.{ℕ, zero, suc, ◌≡◌, ◌-◌, List, [], ◌∷◌, Some, inl, inr, refl, sym, subst, arith}
-use Rattle.automata_base.specs.Nfa.{Nfa, hop, takes}
-use Rattle.automata_base.specs.Paths.{Tape, IsPathFrom, truth}
+use Rattle.automata_base.specs.Nfas.Nfa.{Nfa, hop, takes}
+use Rattle.automata_base.specs.Paths.Paths.{Tape, IsPathFrom, truth}
 use Rattle.automata_base.proofs.Paths.Orders.{none_some, some_inj}
-use Rattle.automata_base.specs.Tapes.{Forward, Backward, tape_of}
-use Rattle.automata_base.specs.Engines.{Anchored, No, Yes, Pattern, first_state, Road, IsSkipping}
-use Rattle.automata_base.specs.TruePairs.{Joins, IsTruePair, KeepsUtf8}
+use Rattle.automata_base.specs.Haystacks.Tapes.{Forward, Backward, tape_of}
+use Rattle.automata_base.specs.Nfas.Engines.{Anchored, No, Yes, Pattern, first_state, Road, IsSkipping}
+use Rattle.automata_base.specs.Answers.TruePairs.{Joins, IsTruePair, KeepsUtf8}
 use Rattle.automata_base.proofs.Spans.Samples.{empty, empty_back}
 
 -- Both stand on their match at once.

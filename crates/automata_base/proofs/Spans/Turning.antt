@@ -1,11 +1,11 @@
 -- What searches are said by may be replaced by what it stands for.
 use Rattle.std.proofs.Common.{ℕ, ◌≡◌, ◌<◌, ◌≤◌, ◌+◌, ◌⊎◌, inl, inr, Option, Some, None, arith}
-use Rattle.automata_base.specs.Answers.{Half, later, IsSplit, Tries, Answers}
-use Rattle.automata_base.specs.Engines.{Engine, No}
-use Rattle.automata_base.specs.Input.{Input}
-use Rattle.automata_base.specs.Selections.{Pair}
-use Rattle.automata_base.specs.Spans.{FindsStartBy, Found, NotAPair, Outcome, TellsBy, back}
-use Rattle.automata_base.specs.Tapes.{Direction}
+use Rattle.automata_base.specs.Answers.Answers.{Half, later, IsSplit, Tries, Answers}
+use Rattle.automata_base.specs.Nfas.Engines.{Engine, No}
+use Rattle.automata_base.specs.Haystacks.Input.{Input}
+use Rattle.automata_base.specs.Paths.Selections.{Pair}
+use Rattle.automata_base.specs.Answers.Spans.{FindsStartBy, Found, NotAPair, Outcome, TellsBy, back}
+use Rattle.automata_base.specs.Haystacks.Tapes.{Direction}
 
 -- what is reported over the spans that a search tries
 module _ (T U : Input → Option Pair → Type 0) (S : Type 0) (way : Direction) (input : Input)

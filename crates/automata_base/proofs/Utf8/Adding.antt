@@ -1,15 +1,16 @@
 -- What a set has once pairs were added.
-use Rattle.std.proofs.Common.{ℕ, zero, suc, ◌≡◌, ◌<◌, ◌+◌, true, cond, List, [], ◌∷◌, ◌++◌, length, get_or, drop, ltb, refl, sym, ap, ◌∙◌, arith, append-nil}
+use Rattle.std.proofs.Common.{ℕ, zero, suc, ◌≡◌, ◌<◌, ◌+◌, true, cond, List, [], ◌∷◌, ◌++◌, length, get_or, drop, ltb}
+use Rattle.std.proofs.Common.{refl, sym, ap, ◌∙◌, arith, append-nil}
 use Rattle.std.proofs.lemmas.Bool.{ltb-true}
 use Rattle.std.proofs.lemmas.List.{at_drop_more}
 use Rattle.automata_base.specs.declared.nfa.thompson.Transition.{Transition}
 use Rattle.automata_base.specs.declared.nfa.thompson.utf8.Class.{Class}
-use Rattle.automata_base.specs.Computed.{is_in}
-use Rattle.automata_base.specs.Decoders.{pairs_in, range_pairs, ranges_pairs, classes_below}
+use Rattle.automata_base.specs.Retraced.ComputedPass.{is_in}
+use Rattle.automata_base.specs.Nfas.Decoders.{pairs_in, range_pairs, ranges_pairs, classes_below}
 use Rattle.automata_base.specs.Lists.{all_below}
-use Rattle.automata_base.specs.Nfa.{Range}
-use Rattle.automata_base.specs.Nodes.{range_of, ranges_of, dense_from}
-use Rattle.automata_base.specs.Once.{once_from}
+use Rattle.automata_base.specs.Nfas.Nfa.{Range}
+use Rattle.automata_base.specs.Nfas.Nodes.{range_of, ranges_of, dense_from}
+use Rattle.automata_base.specs.Retraced.Once.{once_from}
 use Rattle.automata_base.proofs.Paths.Checked.{both}
 
 pub once_append : (ys xs zs : List ℕ) → once_from ys (xs ++ zs) ≡ once_from (once_from ys xs) zs

@@ -1,22 +1,24 @@
 -- What the tests of UTF-8 answer.
-use Rattle.std.proofs.Common.{◌≡◌, ◌↔◌, Bool, true, false, List, ◌∷◌, reverse, Result, Ok, Err, IfOk, IsUtf8, refl, sym, ap, ◌∙◌, true≢false, ℕ}
+use Rattle.std.proofs.Common.{◌≡◌, ◌↔◌, Bool, true, false, List, ◌∷◌, reverse, Result, Ok, Err, IfOk, IsUtf8, refl, sym}
+use Rattle.std.proofs.Common.{ap, ◌∙◌, true≢false, ℕ}
 use Rattle.std.specs.Prelude.{IsTrue}
 use Rattle.std.proofs.lemmas.List.{reverse-reverse}
 use Rattle.automata_base.specs.declared.nfa.thompson.utf8.Class.{Class}
-use Rattle.automata_base.specs.Cuts.{MatchKind}
-use Rattle.automata_base.specs.Decoders.{decode, classes_below, EndsAtBoundaries}
-use Rattle.automata_base.specs.Door.{IsDoor}
-use Rattle.automata_base.specs.Engines.{engine_of}
-use Rattle.automata_base.specs.Nodes.{Automaton}
-use Rattle.automata_base.specs.Tapes.{Direction, Forward, Backward}
-use Rattle.automata_base.specs.TruePairs.{KeepsUtf8}
-use Rattle.automata_base.specs.Utf8.{in_order, ReadsUtf8, HasNoLook}
+use Rattle.automata_base.specs.Powersets.Cuts.{MatchKind}
+use Rattle.automata_base.specs.Nfas.Decoders.{decode, classes_below, EndsAtBoundaries}
+use Rattle.automata_base.specs.Nfas.Accepted.{IsDoor}
+use Rattle.automata_base.specs.Nfas.Engines.{engine_of}
+use Rattle.automata_base.specs.Nfas.Nodes.{Automaton}
+use Rattle.automata_base.specs.Haystacks.Tapes.{Direction, Forward, Backward}
+use Rattle.automata_base.specs.Answers.TruePairs.{KeepsUtf8}
+use Rattle.automata_base.specs.Nfas.Utf8.{in_order, ReadsUtf8, HasNoLook}
 use Rattle.automata_base.proofs.Utf8.Backwards.{decode_backward}
 use Rattle.automata_base.proofs.Utf8.Decoding.{AreBytes, below, decode_utf8}
 use Rattle.automata_base.proofs.Utf8.Edges.{chained}
 use Rattle.automata_base.proofs.Utf8.Keeping.{bytes_reverse, keeps_from, keeps_back}
 use Rattle.automata_base.proofs.Utf8.Reading.{ends_reads}
-use Rattle.automata_base.proofs.Utf8.Tables.{forward, backward, forward_decodes, forward_chained, backward_below, backward_chained, backward_mirrors}
+use Rattle.automata_base.proofs.Utf8.Tables.{forward, backward, forward_decodes, forward_chained, backward_below}
+use Rattle.automata_base.proofs.Utf8.Tables.{backward_chained, backward_mirrors}
 
 -- Between two characters again exactly after UTF-8.
 forward_right : (us : List ℕ) → AreBytes us → decode forward 0 us ≡ 0 ↔ IsUtf8 us

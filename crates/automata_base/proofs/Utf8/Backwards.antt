@@ -1,10 +1,11 @@
 -- Classes that decode from the last byte to the first.
-use Rattle.std.proofs.Common.{ℕ, zero, suc, ◌≡◌, ◌<◌, ◌↔◌, Bool, true, false, cond, ◌&&◌, ◌||◌, leb, eqb, List, [], ◌∷◌, ◌++◌, get_or, reverse, refl, sym, ap, ◌∙◌, arith}
+use Rattle.std.proofs.Common.{ℕ, zero, suc, ◌≡◌, ◌<◌, ◌↔◌, Bool, true, false, cond, ◌&&◌, ◌||◌, leb, eqb, List, [], ◌∷◌}
+use Rattle.std.proofs.Common.{◌++◌, get_or, reverse, refl, sym, ap, ◌∙◌, arith}
 use Rattle.std.proofs.lemmas.Bool.{and_parts, eqb-true, eq-eqb, ne_eqb, true≢false}
 use mathlib.Core.Bool.{beq}
 use mathlib.Core.List.{reverse-cons}
 use Rattle.automata_base.specs.declared.nfa.thompson.utf8.Class.{Class}
-use Rattle.automata_base.specs.Decoders.{step, decode, classes_below}
+use Rattle.automata_base.specs.Nfas.Decoders.{step, decode, classes_below}
 use Rattle.automata_base.proofs.Utf8.Decoding.{step_below, decode_below}
 
 -- Whether bytes that lead the backward decoder to `b` are what may follow at state `f` of the forward one.

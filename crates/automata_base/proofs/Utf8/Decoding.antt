@@ -1,12 +1,14 @@
 -- Classes that pass a test decode UTF-8.
-use Rattle.std.proofs.Common.{ℕ, zero, suc, ◌≡◌, ◌+◌, ◌<◌, ◌≤◌, ◌⊎◌, ◌↔◌, Bool, true, false, cond, ◌&&◌, ◌||◌, leb, ltb, eqb, List, [], ◌∷◌, get_or, IsUtf8, inl, inr, refl, sym, subst, arith}
+use Rattle.std.proofs.Common.{ℕ, zero, suc, ◌≡◌, ◌+◌, ◌<◌, ◌≤◌, ◌⊎◌, ◌↔◌, Bool, true, false, cond, ◌&&◌, ◌||◌, leb, ltb}
+use Rattle.std.proofs.Common.{eqb, List, [], ◌∷◌, get_or, IsUtf8, inl, inr, refl, sym, subst, arith}
 use Rattle.std.proofs.lemmas.Bool.{and_parts, or_cases, leb-true, leb-false, ltb-true, eqb-true, true≢false}
 use Rattle.std.proofs.lemmas.Str.{IsUtf8-nil}
 use Rattle.automata_base.specs.declared.nfa.thompson.utf8.Class.{Class}
-use Rattle.automata_base.specs.Decoders.{step, decode, classes_below}
+use Rattle.automata_base.specs.Nfas.Decoders.{step, decode, classes_below}
 use Rattle.automata_base.specs.Lists.{all_below}
 use Rattle.automata_base.proofs.Utf8.Adding.{entry_below}
-use Rattle.automata_base.proofs.Utf8.Chars.{IsNext, Lead, of1, of2, of3, of4, lead, cons_one, cons_two, cons_three, cons_four}
+use Rattle.automata_base.proofs.Utf8.Chars.{IsNext, Lead, of1, of2, of3, of4, lead, cons_one, cons_two, cons_three}
+use Rattle.automata_base.proofs.Utf8.Chars.{cons_four}
 
 -- The first byte is in these bounds, and the others are as they have to be.
 abbrev pub Next : (lo hi : ℕ) → (List ℕ → Type 0) → List ℕ → Type 0

@@ -1,19 +1,21 @@
 -- The pairs that a pair leads to are those that an edge leads to.
-use Rattle.std.proofs.Common.{ℕ, zero, suc, ◌≡◌, ◌+◌, ◌/◌, ◌%◌, ◌<◌, ◌≤◌, ◌⊎◌, Bool, true, false, cond, ◌&&◌, leb, eqb, List, [], ◌∷◌, ◌++◌, get_or, Some, inl, inr, refl, sym, ap, ◌∙◌, subst, arith}
+use Rattle.std.proofs.Common.{ℕ, zero, suc, ◌≡◌, ◌+◌, ◌/◌, ◌%◌, ◌<◌, ◌≤◌, ◌⊎◌, Bool, true, false, cond, ◌&&◌, leb, eqb}
+use Rattle.std.proofs.Common.{List, [], ◌∷◌, ◌++◌, get_or, Some, inl, inr, refl, sym, ap, ◌∙◌, subst, arith}
 use Rattle.std.proofs.lemmas.Bool.{and_parts, and_right, cases_lt, leb-true, le-leb, lt-leb, leb-false, eqb-true}
 use Rattle.automata_base.specs.declared.nfa.thompson.State.{State}
 use Rattle.automata_base.specs.declared.nfa.thompson.State.TheVariants as is
 use Rattle.automata_base.specs.declared.nfa.thompson.Transition.{Transition}
 use Rattle.automata_base.specs.declared.nfa.thompson.utf8.Class.{Class}
-use Rattle.automata_base.specs.Decoders.{step, pair, meets, pairs_in, range_pairs, ranges_pairs, byte_pairs, pairs_at, node_pairs, pairs_of}
+use Rattle.automata_base.specs.Nfas.Decoders.{step, pair, meets, pairs_in, range_pairs, ranges_pairs, byte_pairs}
+use Rattle.automata_base.specs.Nfas.Decoders.{pairs_at, node_pairs, pairs_of}
 use Rattle.automata_base.specs.Lists.{In}
-use Rattle.automata_base.specs.Looks.{within}
-use Rattle.automata_base.specs.Nfa.{Node, Split, Assert, Read, Accept, Range, hop, takes, takes_in, takes_at}
-use Rattle.automata_base.specs.Nodes.{Automaton, nfa_of, node_of, range_of, ranges_of, dense_from}
-use Rattle.automata_base.specs.Paths.{all_true}
-use Rattle.automata_base.specs.Reach.{node_in}
-use Rattle.automata_base.specs.Refusals.{ordered_from, state_ordered, states_ordered}
-use Rattle.automata_base.specs.Visits.{children}
+use Rattle.automata_base.specs.Haystacks.Looks.{within}
+use Rattle.automata_base.specs.Nfas.Nfa.{Node, Split, Assert, Read, Accept, Range, hop, takes, takes_in, takes_at}
+use Rattle.automata_base.specs.Nfas.Nodes.{Automaton, nfa_of, node_of, range_of, ranges_of, dense_from}
+use Rattle.automata_base.specs.Paths.Paths.{all_true}
+use Rattle.automata_base.specs.Nfas.Reach.{node_in}
+use Rattle.automata_base.specs.Nfas.Errors.{ordered_from, state_ordered, states_ordered}
+use Rattle.automata_base.specs.Powersets.Closure.{children}
 use Rattle.automata_base.proofs.Determinizing.Distinct.{In-left, In-right, In-either}
 use Rattle.automata_base.proofs.Paths.FirstVisits.{hop_children}
 use Rattle.automata_base.proofs.Paths.Orders.{some_inj, none_some}

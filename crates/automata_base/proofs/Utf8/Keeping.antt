@@ -1,18 +1,19 @@
 -- What is read, looks taken as true, and the promise of UTF-8.
-use Rattle.std.proofs.Common.{ℕ, zero, suc, ◌≡◌, ◌+◌, ◌-◌, ◌<◌, ◌≤◌, true, List, [], ◌∷◌, ◌++◌, length, take, drop, reverse, Option, Some, IsUtf8, inl, inr, refl, sym, ap, ◌∙◌, subst, arith}
+use Rattle.std.proofs.Common.{ℕ, zero, suc, ◌≡◌, ◌+◌, ◌-◌, ◌<◌, ◌≤◌, true, List, [], ◌∷◌, ◌++◌, length, take, drop}
+use Rattle.std.proofs.Common.{reverse, Option, Some, IsUtf8, inl, inr, refl, sym, ap, ◌∙◌, subst, arith}
 use Rattle.std.proofs.lemmas.List.{take_all, reverse-reverse, length-reverse}
 use Rattle.std.proofs.lemmas.Str.{IsUtf8-nil}
 use mathlib.Core.List.{reverse-cons}
-use Rattle.automata_base.specs.Cuts.{MatchKind}
-use Rattle.automata_base.specs.Engines.{Anchored, No, Yes, Pattern, first_state, engine_of}
+use Rattle.automata_base.specs.Powersets.Cuts.{MatchKind}
+use Rattle.automata_base.specs.Nfas.Engines.{Anchored, No, Yes, Pattern, first_state, engine_of}
 use Rattle.automata_base.specs.Lists.{In, nth}
-use Rattle.automata_base.specs.Looks.{Look}
-use Rattle.automata_base.specs.Nfa.{Nfa, Node, Split, Assert, Read, Accept, Truth, node, hop, hop_at}
-use Rattle.automata_base.specs.Nodes.{Automaton, nfa_of}
-use Rattle.automata_base.specs.Paths.{Tape, IsPathFrom, truth, all_true}
-use Rattle.automata_base.specs.Tapes.{IsHaystack, between, Direction, Forward, Backward, tape_of}
-use Rattle.automata_base.specs.TruePairs.{KeepsUtf8}
-use Rattle.automata_base.specs.Utf8.{Reads, ends, goes, reads, in_order, ReadsUtf8, HasNoLook}
+use Rattle.automata_base.specs.Haystacks.Looks.{Look}
+use Rattle.automata_base.specs.Nfas.Nfa.{Nfa, Node, Split, Assert, Read, Accept, Truth, node, hop, hop_at}
+use Rattle.automata_base.specs.Nfas.Nodes.{Automaton, nfa_of}
+use Rattle.automata_base.specs.Paths.Paths.{Tape, IsPathFrom, truth, all_true}
+use Rattle.automata_base.specs.Haystacks.Tapes.{IsHaystack, between, Direction, Forward, Backward, tape_of}
+use Rattle.automata_base.specs.Answers.TruePairs.{KeepsUtf8}
+use Rattle.automata_base.specs.Nfas.Utf8.{Reads, ends, goes, reads, in_order, ReadsUtf8, HasNoLook}
 use Rattle.automata_base.proofs.Paths.Orders.{some_inj, none_some}
 use Rattle.automata_base.proofs.Paths.Places.{path_grows, walk_path, path_extend}
 use Rattle.automata_base.proofs.Paths.Sets.{HasWalk, walk_cons, walk_then, nth_in, in_nth}

@@ -1,11 +1,12 @@
 -- A walk over the pairs, and the tests of what it reached.
-use Rattle.std.proofs.Common.{ℕ, ◌≡◌, ◌<◌, ◌≤◌, ◌+◌, ◌⊎◌, ◌↔◌, Bool, true, false, not, List, [], ◌∷◌, ◌++◌, length, get_or, take, inl, inr, refl, sym, ap, ◌∙◌, subst, true≢false}
+use Rattle.std.proofs.Common.{ℕ, ◌≡◌, ◌<◌, ◌≤◌, ◌+◌, ◌⊎◌, ◌↔◌, Bool, true, false, not, List, [], ◌∷◌, ◌++◌, length}
+use Rattle.std.proofs.Common.{get_or, take, inl, inr, refl, sym, ap, ◌∙◌, subst, true≢false}
 use Rattle.std.specs.Prelude.{IsTrue}
 use Rattle.std.proofs.lemmas.Bool.{false≢true}
 use Rattle.std.proofs.lemmas.List.{take_more, take_all}
 use Rattle.automata_base.specs.Lists.{In}
-use Rattle.automata_base.specs.Once.{once_from}
-use Rattle.automata_base.specs.Reach.{IsReachedBy}
+use Rattle.automata_base.specs.Retraced.Once.{once_from}
+use Rattle.automata_base.specs.Nfas.Reach.{IsReachedBy}
 use Rattle.automata_base.proofs.Determinizing.Distinct.{In-either, In-get_or}
 use Rattle.automata_base.proofs.Reaching.Adding.{once_has, once_only}
 use Rattle.automata_base.proofs.Reaching.Walked.{IsWalked}

@@ -1,13 +1,14 @@
 -- A walk over pairs follows what an NFA reads.
-use Rattle.std.proofs.Common.{ℕ, ◌≡◌, ◌+◌, ◌*◌, ◌/◌, ◌%◌, ◌<◌, ◌↔◌, true, List, [], ◌∷◌, Some, inl, inr, refl, sym, ap, ◌∙◌, subst, arith}
+use Rattle.std.proofs.Common.{ℕ, ◌≡◌, ◌+◌, ◌*◌, ◌/◌, ◌%◌, ◌<◌, ◌↔◌, true, List, [], ◌∷◌, Some, inl, inr, refl, sym, ap}
+use Rattle.std.proofs.Common.{◌∙◌, subst, arith}
 use Rattle.automata_base.specs.declared.nfa.thompson.utf8.Class.{Class}
-use Rattle.automata_base.specs.Decoders.{step, decode, pair, pairs_of, classes_below, EndsAtBoundaries}
+use Rattle.automata_base.specs.Nfas.Decoders.{step, decode, pair, pairs_of, classes_below, EndsAtBoundaries}
 use Rattle.automata_base.specs.Lists.{In}
-use Rattle.automata_base.specs.Nfa.{accepts}
-use Rattle.automata_base.specs.Nodes.{Automaton, nfa_of}
-use Rattle.automata_base.specs.Reach.{node_in, IsMatchAt, Route}
-use Rattle.automata_base.specs.Refusals.{states_ordered}
-use Rattle.automata_base.specs.Utf8.{Reads, ends, goes, reads}
+use Rattle.automata_base.specs.Nfas.Nfa.{accepts}
+use Rattle.automata_base.specs.Nfas.Nodes.{Automaton, nfa_of}
+use Rattle.automata_base.specs.Nfas.Reach.{node_in, IsMatchAt, Route}
+use Rattle.automata_base.specs.Nfas.Errors.{states_ordered}
+use Rattle.automata_base.specs.Nfas.Utf8.{Reads, ends, goes, reads}
 use Rattle.automata_base.proofs.Utf8.Decoding.{AreBytes, step_below, decode_below}
 use Rattle.automata_base.proofs.Utf8.Edges.{chained, Edge, edge_from, edge_free, edge_byte, of_pairs, in_pairs}
 

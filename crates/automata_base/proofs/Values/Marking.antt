@@ -1,13 +1,15 @@
 -- How marks before bytes add up.
-use Rattle.std.proofs.Common.{ℕ, ◌≡◌, ◌+◌, ◌-◌, ◌<◌, ◌⊎◌, ◌&&◌, ◌||◌, Bool, true, false, eqb, ltb, List, drop, refl, sym, ap, ◌∙◌, inl, inr, arith}
+use Rattle.std.proofs.Common.{ℕ, ◌≡◌, ◌+◌, ◌-◌, ◌<◌, ◌⊎◌, ◌&&◌, ◌||◌, Bool, true, false, eqb, ltb, List, drop, refl}
+use Rattle.std.proofs.Common.{sym, ap, ◌∙◌, inl, inr, arith}
 use borrow.Author.Count.{below_more}
 use Rattle.std.proofs.lemmas.Bool.{lt-ltb, le-ltb}
 use Rattle.std.proofs.lemmas.Bool.Decides.{eqb_tells}
 use Rattle.std.proofs.lemmas.Grind.{common_steps}
-use Rattle.automata_base.specs.Classes.{bounds, look_bounds, states_bound, quits_bound, is_boundary, is_quit}
-use Rattle.automata_base.specs.Looks.{differ, Look, Start, End, StartLF, EndLF, StartCRLF, EndCRLF}
-use Rattle.automata_base.specs.Marks.{is_marked, Adds}
-use Rattle.automata_base.specs.Nodes.{Automaton}
+use Rattle.automata_base.specs.ByteClasses.Classes.{bounds, look_bounds, states_bound, quits_bound, is_boundary}
+use Rattle.automata_base.specs.ByteClasses.Classes.{is_quit}
+use Rattle.automata_base.specs.Haystacks.Looks.{differ, Look, Start, End, StartLF, EndLF, StartCRLF, EndCRLF}
+use Rattle.automata_base.specs.Retraced.Boundaries.{is_marked, Adds}
+use Rattle.automata_base.specs.Nfas.Nodes.{Automaton}
 
 or-false : (b : Bool) → b || false ≡ b
 or-false true = refl

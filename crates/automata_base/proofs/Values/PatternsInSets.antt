@@ -1,9 +1,11 @@
 -- Sets of patterns as flags: how their members change, and how they are gone through.
-use Rattle.std.proofs.Common.{ℕ, zero, suc, ◌≡◌, ◌+◌, ◌<◌, ◌≤◌, ◌⊎◌, Bool, true, false, eqb, List, [], ◌∷◌, ◌++◌, drop, length, get_or, refl, sym, ap, ◌∙◌, inl, inr, subst, true≢false, arith, replicate, get_or-set_other, length-set}
+use Rattle.std.proofs.Common.{ℕ, zero, suc, ◌≡◌, ◌+◌, ◌<◌, ◌≤◌, ◌⊎◌, Bool, true, false, eqb, List, [], ◌∷◌, ◌++◌, drop}
+use Rattle.std.proofs.Common.{length, get_or, refl, sym, ap, ◌∙◌, inl, inr, subst, true≢false, arith, replicate}
+use Rattle.std.proofs.Common.{get_or-set_other, length-set}
 use Rattle.std.proofs.Math.ListN.{set}
 use Rattle.std.proofs.lemmas.Bool.Decides.{eqb_tells}
-use Rattle.automata_base.specs.Powerset.{IsId}
-use Rattle.automata_base.specs.PatternSet.{has, members_from, members, AreSmall, IsCounted}
+use Rattle.automata_base.specs.Powersets.Powerset.{IsId}
+use Rattle.automata_base.specs.Haystacks.PatternSet.{has, members_from, members, AreSmall, IsCounted}
 
 pub members_from-replicate : (n k : ℕ) → members_from k (replicate n false) ≡ []
 members_from-replicate zero k = refl

@@ -1,7 +1,9 @@
 ghost use Rattle.std.specs.Prelude.{◌≡◌, ◌+◌, ◌-◌, ◌<◌, ◌≤◌, ◌&&◌, ◌||◌, ℕ, false, eqb, length, IsFalse};
-ghost use Rattle.automata_base.specs.Classes.{bounds, transitions_bound, targets_bound, quits_bound, look_bounds};
-ghost use Rattle.automata_base.specs.Classes.{state_bounds, states_bound, is_boundary, boundary_count, class_in, is_quit};
-ghost use Rattle.automata_base.specs.Marks.{is_marked, Adds};
+ghost use Rattle.automata_base.specs.ByteClasses.Classes.{bounds, transitions_bound, targets_bound, quits_bound};
+ghost use Rattle.automata_base.specs.ByteClasses.Classes.{look_bounds};
+ghost use Rattle.automata_base.specs.ByteClasses.Classes.{state_bounds, states_bound, is_boundary, boundary_count};
+ghost use Rattle.automata_base.specs.ByteClasses.Classes.{class_in, is_quit};
+ghost use Rattle.automata_base.specs.Retraced.Boundaries.{is_marked, Adds};
 
 use crate::nfa::thompson::{NFA, State, Transition};
 use crate::util::look::Look;
@@ -18,7 +20,7 @@ pub struct ByteClasses {
 
 impl Model for ByteClasses {
     ghost use Rattle.std.specs.Prelude.{List, ℕ};
-    ghost use Rattle.automata_base.specs.Classes.{AreClasses};
+    ghost use Rattle.automata_base.specs.ByteClasses.Classes.{AreClasses};
 
     ghost Value = { List ℕ };
 
@@ -31,7 +33,8 @@ impl Model for ByteClasses {
 
 impl ByteClasses {
     ghost use Rattle.std.specs.Prelude.{◌≡◌, ◌+◌, ◌<◌, ◌≤◌, ◌^◌, ℕ, false, true, length};
-    ghost use Rattle.automata_base.specs.Classes.{AreClasses, class_of, class_in, eoi_class, alphabet_length, stride_of, is_quit};
+    ghost use Rattle.automata_base.specs.ByteClasses.Classes.{AreClasses, class_of, class_in, eoi_class, alphabet_length};
+    ghost use Rattle.automata_base.specs.ByteClasses.Classes.{stride_of, is_quit};
 
     /// The classes of the NFA's bytes, with these quit bytes. If `on` is false, each byte is a class of its own.
     pub fn of(nfa: &NFA, quits: &[bool; 256], on: bool) -> ByteClasses

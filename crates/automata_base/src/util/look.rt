@@ -1,7 +1,7 @@
 ghost use Rattle.std.specs.Prelude.{◌≡◌, ◌<◌, ◌||◌, eqb};
-ghost use Rattle.automata_base.specs.Truths.{truth_of, nth_look, IsLookSet};
-ghost use Rattle.automata_base.specs.Looks.{Look};
-ghost use Rattle.automata_base.specs.Looks.{look_index};
+ghost use Rattle.automata_base.specs.Haystacks.LookSets.{truth_of, nth_look, IsLookSet};
+ghost use Rattle.automata_base.specs.Haystacks.Looks.{Look};
+ghost use Rattle.automata_base.specs.Haystacks.Looks.{look_index};
 
 use std::marker::Model;
 
@@ -36,7 +36,7 @@ pub struct LookSet {
 
 impl Model for LookSet {
     ghost use Rattle.std.specs.Prelude.{ℕ};
-    ghost use Rattle.automata_base.specs.Truths.{IsLookSet};
+    ghost use Rattle.automata_base.specs.Haystacks.LookSets.{IsLookSet};
 
     ghost Value = { ℕ };
 

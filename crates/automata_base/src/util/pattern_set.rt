@@ -12,7 +12,7 @@ pub struct PatternSetInsertError {
 }
 
 impl Model for PatternSetInsertError {
-    ghost use Rattle.automata_base.specs.PatternSet.{Misfit};
+    ghost use Rattle.automata_base.specs.Haystacks.PatternSet.{Misfit};
 
     ghost Value = { Misfit };
 
@@ -30,7 +30,7 @@ pub struct PatternSet {
 
 impl Model for PatternSet {
     ghost use Rattle.std.specs.Prelude.{List, Bool};
-    ghost use Rattle.automata_base.specs.PatternSet.{IsCounted};
+    ghost use Rattle.automata_base.specs.Haystacks.PatternSet.{IsCounted};
 
     ghost Value = { List Bool };
 
@@ -42,7 +42,7 @@ impl Model for PatternSet {
 impl PatternSet {
     ghost use Rattle.std.specs.Prelude.{◌≡◌, ◌<◌, ◌≤◌, ◌↔◌, [], false, true, not, length, IfOk, IfErr, OnErr, IsErr};
     ghost use Rattle.std.specs.Prelude.{IsTrue, replicate, slice_set};
-    ghost use Rattle.automata_base.specs.PatternSet.{has, members, AreSmall};
+    ghost use Rattle.automata_base.specs.Haystacks.PatternSet.{has, members, AreSmall};
 
     /// The empty set.
     pub fn new(alloc: Global, capacity: usize) -> Result<PatternSet, AllocError>
@@ -143,7 +143,7 @@ pub struct PatternSetIter<'a> {
 
 impl<'a> Model for PatternSetIter<'a> {
     ghost use Rattle.std.specs.Prelude.{List, ℕ, drop};
-    ghost use Rattle.automata_base.specs.PatternSet.{members_from, AreSmall};
+    ghost use Rattle.automata_base.specs.Haystacks.PatternSet.{members_from, AreSmall};
 
     ghost Value = { List ℕ };
 

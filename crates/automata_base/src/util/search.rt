@@ -65,7 +65,7 @@ pub struct HalfMatch {
 }
 
 impl Model for HalfMatch {
-    ghost use Rattle.automata_base.specs.Matches as matches;
+    ghost use Rattle.automata_base.specs.Haystacks.Matches as matches;
 
     ghost Value = { matches.HalfMatch };
 
@@ -108,7 +108,7 @@ pub struct Match {
 
 impl Model for Match {
     ghost use Rattle.std.specs.Prelude.{◌≤◌};
-    ghost use Rattle.automata_base.specs.Matches as matches;
+    ghost use Rattle.automata_base.specs.Haystacks.Matches as matches;
 
     ghost Value = { matches.Match };
 
@@ -180,7 +180,7 @@ pub enum Anchored {
 
 impl fmt::Display for Anchored {
     ghost use Rattle.std.specs.Prelude.{Some};
-    ghost use Rattle.automata_base.specs.Input.{mode_text};
+    ghost use Rattle.automata_base.specs.Haystacks.Input.{mode_text};
 
     ghost output = { λ mode. Some (mode_text mode) };
 
@@ -276,8 +276,8 @@ pub struct Input<'h> {
 }
 
 impl<'h> Model for Input<'h> {
-    ghost use Rattle.automata_base.specs.Input as spec;
-    ghost use Rattle.automata_base.specs.Tapes.{IsHaystack};
+    ghost use Rattle.automata_base.specs.Haystacks.Input as spec;
+    ghost use Rattle.automata_base.specs.Haystacks.Tapes.{IsHaystack};
 
     ghost Value = { spec.Input };
 
@@ -294,8 +294,8 @@ impl<'h> Model for Input<'h> {
 
 impl<'h> Input<'h> {
     ghost use Rattle.std.specs.Prelude.{◌≡◌, ◌<◌, ◌≤◌, ◌^◌, ◌↔◌, IsTrue, length, false};
-    ghost use Rattle.automata_base.specs.Input.{Allows, IsAllowed};
-    ghost use Rattle.automata_base.specs.Tapes.{IsHaystack, is_split};
+    ghost use Rattle.automata_base.specs.Haystacks.Input.{Allows, IsAllowed};
+    ghost use Rattle.automata_base.specs.Haystacks.Tapes.{IsHaystack, is_split};
 
     /// The whole haystack, neither anchored nor earliest.
     pub fn new(haystack: &'h [u8]) -> Input<'h>

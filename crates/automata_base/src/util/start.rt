@@ -12,7 +12,7 @@ pub struct Config {
 }
 
 impl Model for Config {
-    ghost use Rattle.automata_base.specs.StartConfig.{StartConfig};
+    ghost use Rattle.automata_base.specs.Haystacks.StartConfig.{StartConfig};
 
     ghost Value = { StartConfig };
 
@@ -24,7 +24,7 @@ impl Model for Config {
 impl Config {
     ghost use Rattle.std.specs.Prelude.{◌≡◌, None};
     ghost use Rattle.automata_base.specs.Lists.{nth};
-    ghost use Rattle.automata_base.specs.Tapes.{byte_before};
+    ghost use Rattle.automata_base.specs.Haystacks.Tapes.{byte_before};
 
     /// No look-behind byte, and not anchored.
     pub fn new() -> Config

@@ -1,7 +1,7 @@
 ghost use Rattle.std.specs.Prelude.{◌≡◌, IfOk, IfErr, None};
 ghost use Rattle.automata_config.specs.Options.{unset, overwritten};
 ghost use Rattle.automata_config.specs.Settling.{settling_refusal};
-ghost use Rattle.automata_hybrid.specs.Builds.{Builds, always_matching, never_matching, one_state};
+ghost use Rattle.automata_hybrid.specs.Machines.Builds.{Builds, always_matching, never_matching, one_state};
 
 use crate::dfa::DFA;
 use automata_base::nfa::thompson::{Flags, NFA, State};

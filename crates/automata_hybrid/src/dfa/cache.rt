@@ -1,24 +1,25 @@
 ghost use Rattle.std.specs.Prelude.{ℕ, ◌≡◌, ◌*◌, ◌%◌, ◌^◌, ◌<◌, ◌≤◌, IfOk, IfErr, OnOk, OnErr, slice_index};
 ghost use Rattle.std.specs.Prelude.{length, is_some, IsSome, IsTrue, ◌↔◌, IsBitSet, false};
-ghost use Rattle.automata_base.specs.Powerset.{Powerset, cost, dead};
-ghost use Rattle.automata_base.specs.Steps.{successor, start_state_of};
-ghost use Rattle.automata_hybrid.specs.Owned.{IsOwn};
-ghost use Rattle.automata_hybrid.specs.Machine.{IsClassOf, IsStateOf, greatest, next_of, slot_count, start_of};
-ghost use Rattle.automata_hybrid.specs.Machine.{table_stride, template_of};
-ghost use Rattle.automata_hybrid.specs.Ids.{dead_id, unknown_id, fixed_from, offset_limit};
-ghost use Rattle.automata_hybrid.specs.Table.{id_of, Names, IsValid, Leads, MayLead, IsCell, HasCells, HasItsMatchTag};
-ghost use Rattle.automata_hybrid.specs.Table.{HasRowIds, IsNewState};
-ghost use Rattle.automata_hybrid.specs.Stores.{IsCacheError, cell_of, with_next, with_start};
-ghost use Rattle.automata_hybrid.specs.Stores.{with_searched};
-ghost use Rattle.automata_hybrid.specs.Usage.{usage, GivesUp};
-ghost use Rattle.automata_hybrid.specs.Effects.{AddsNext, AddsStart, IsAddedStart};
-ghost use Rattle.automata_hybrid.specs.Caches.{IsRow, IsCacheOf, fresh_cache, counted, with_store};
-ghost use Rattle.automata_hybrid.specs.Growing.{IsGrown, KeepsProgress};
-ghost use Rattle.automata_hybrid.specs.Owing.{IsStoreOf};
-ghost use Rattle.automata_hybrid.specs.Starting.{IsStartSlot};
-ghost use Rattle.automata_hybrid.specs.Walking.{IsRowState};
-ghost use Rattle.automata_hybrid.specs.Walks.{IsHandle};
-ghost use Rattle.automata_hybrid.specs.Progressing.{started, updated, finished, total_len};
+ghost use Rattle.automata_base.specs.Powersets.Powerset.{Powerset, cost, dead};
+ghost use Rattle.automata_base.specs.Retraced.Steps.{successor, start_state_of};
+ghost use Rattle.automata_hybrid.specs.Machines.OwnStates.{IsOwn};
+ghost use Rattle.automata_hybrid.specs.Machines.Machine.{IsClassOf, IsStateOf, greatest, next_of, slot_count, start_of};
+ghost use Rattle.automata_hybrid.specs.Machines.Machine.{table_stride, template_of};
+ghost use Rattle.automata_hybrid.specs.Cache.Ids.{dead_id, unknown_id, fixed_from, offset_limit};
+ghost use Rattle.automata_hybrid.specs.Cache.Table.{id_of, Names, IsValid, Leads, MayLead, IsCell, HasCells};
+ghost use Rattle.automata_hybrid.specs.Cache.Table.{HasItsMatchTag};
+ghost use Rattle.automata_hybrid.specs.Cache.Table.{HasRowIds, IsNewState};
+ghost use Rattle.automata_hybrid.specs.Cache.Stores.{IsCacheError, cell_of, with_next, with_start};
+ghost use Rattle.automata_hybrid.specs.Cache.Stores.{with_searched};
+ghost use Rattle.automata_hybrid.specs.Cache.Usage.{usage, GivesUp};
+ghost use Rattle.automata_hybrid.specs.Cache.Changes.{AddsNext, AddsStart, IsAddedStart};
+ghost use Rattle.automata_hybrid.specs.Cache.Caches.{IsRow, IsCacheOf, fresh_cache, counted, with_store};
+ghost use Rattle.automata_hybrid.specs.Cache.Growth.{IsGrown, KeepsProgress};
+ghost use Rattle.automata_hybrid.specs.Searches.Contracts.{IsStoreOf};
+ghost use Rattle.automata_hybrid.specs.Steps.Starts.{IsStartSlot};
+ghost use Rattle.automata_hybrid.specs.Walks.Answers.{IsRowState};
+ghost use Rattle.automata_hybrid.specs.Walks.State.{IsHandle};
+ghost use Rattle.automata_hybrid.specs.Cache.Progress.{started, updated, finished, total_len};
 ghost use Rattle.automata_config.specs.Options.{match_kind_of};
 
 use crate::dfa::store::Store;
@@ -56,7 +57,7 @@ pub struct Cache {
 
 impl Model for Cache {
     ghost use Rattle.std.specs.Prelude.{◌≡◌};
-    ghost use Rattle.automata_hybrid.specs.Caches.{CacheView};
+    ghost use Rattle.automata_hybrid.specs.Cache.Caches.{CacheView};
 
     ghost Value = { CacheView };
 
@@ -77,7 +78,7 @@ impl fmt::Debug for Cache {
 }
 
 impl Cache {
-    ghost use Rattle.automata_hybrid.specs.Founds.{IsLookedUp};
+    ghost use Rattle.automata_hybrid.specs.Cache.LookUps.{IsLookedUp};
 
     /// A cache of a DFA, with no state yet. It can be used with this DFA alone, until it is reset.
     pub fn new(dfa: &DFA) -> Result<Cache, AllocError>

@@ -1,10 +1,10 @@
 ghost use Rattle.std.specs.Prelude.{◌≡◌, ◌+◌, ◌*◌, ◌^◌, ◌<◌, None, IfOk, OnOk};
 ghost use Rattle.std.specs.Prelude.{OnErr, length, sum_by};
-ghost use Rattle.automata_base.specs.Powerset.{Powerset};
-ghost use Rattle.automata_hybrid.specs.Machine.{greatest, start_of, table_stride};
-ghost use Rattle.automata_hybrid.specs.Table.{id_of, Names, IsValid, row_cost, MayLead};
-ghost use Rattle.automata_hybrid.specs.Clears.{AllStarts, IsPut, KeepsSlot, KeepsAllStarts};
-ghost use Rattle.automata_hybrid.specs.Ids.{offset_limit};
+ghost use Rattle.automata_base.specs.Powersets.Powerset.{Powerset};
+ghost use Rattle.automata_hybrid.specs.Machines.Machine.{greatest, start_of, table_stride};
+ghost use Rattle.automata_hybrid.specs.Cache.Table.{id_of, Names, IsValid, row_cost, MayLead};
+ghost use Rattle.automata_hybrid.specs.Cache.Clears.{AllStarts, IsPut, KeepsSlot, KeepsAllStarts};
+ghost use Rattle.automata_hybrid.specs.Cache.Ids.{offset_limit};
 
 use crate::dfa::DFA;
 use crate::dfa::table::Table;

@@ -1,19 +1,19 @@
 ghost use Rattle.std.specs.Prelude.{ℕ, ◌≡◌, ◌<◌, ◌≤◌, ◌^◌, IfOk, OnOk, OnErr, Some, None, true, false, slice_index};
 ghost use Rattle.std.specs.Prelude.{length};
-ghost use Rattle.automata_base.specs.Powerset.{Powerset};
-ghost use Rattle.automata_base.specs.Classes.{AreClasses, class_in, eoi_class, is_quit};
-ghost use Rattle.automata_base.specs.Steps.{successor};
-ghost use Rattle.automata_hybrid.specs.Owned.{IsOwn};
-ghost use Rattle.automata_base.specs.Accounting.{start_slots};
-ghost use Rattle.automata_hybrid.specs.Ids.{quit_id, unknown_id};
-ghost use Rattle.automata_hybrid.specs.Machine.{IsMachine, next_of, template_of, table_stride, slot_count};
+ghost use Rattle.automata_base.specs.Powersets.Powerset.{Powerset};
+ghost use Rattle.automata_base.specs.ByteClasses.Classes.{AreClasses, class_in, eoi_class, is_quit};
+ghost use Rattle.automata_base.specs.Retraced.Steps.{successor};
+ghost use Rattle.automata_hybrid.specs.Machines.OwnStates.{IsOwn};
+ghost use Rattle.automata_base.specs.Powersets.Accounting.{start_slots};
+ghost use Rattle.automata_hybrid.specs.Cache.Ids.{quit_id, unknown_id};
+ghost use Rattle.automata_hybrid.specs.Machines.Machine.{IsMachine, next_of, template_of, table_stride, slot_count};
 ghost use Rattle.automata_config.specs.Settling.{IsSettled};
 ghost use Rattle.automata_config.specs.Options.{unset, match_kind_of, specialize_start_states_of};
-ghost use Rattle.automata_hybrid.specs.Caches.{fresh_cache};
-ghost use Rattle.automata_hybrid.specs.Builds.{built};
-ghost use Rattle.automata_hybrid.specs.Stores.{fresh_store, settings_of};
+ghost use Rattle.automata_hybrid.specs.Cache.Caches.{fresh_cache};
+ghost use Rattle.automata_hybrid.specs.Machines.Builds.{built};
+ghost use Rattle.automata_hybrid.specs.Cache.Stores.{fresh_store, settings_of};
 ghost use Rattle.automata_config.specs.Options.{starts_for_each_pattern_of};
-ghost use Rattle.automata_hybrid.specs.Stepping.{quits_on, unit_class};
+ghost use Rattle.automata_hybrid.specs.Steps.Steps.{quits_on, unit_class};
 
 pub mod builder;
 pub mod cache;
@@ -50,11 +50,11 @@ pub struct DFA {
 }
 
 impl Model for DFA {
-    ghost use Rattle.automata_hybrid.specs.Machine.{Machine, IsMachine};
+    ghost use Rattle.automata_hybrid.specs.Machines.Machine.{Machine, IsMachine};
 
     ghost Value = { Machine };
 
-    ghost use Rattle.automata_hybrid.specs.DFAs.{machine_of};
+    ghost use Rattle.automata_hybrid.specs.Machines.Fields.{machine_of};
 
     ghost view = { machine_of };
 

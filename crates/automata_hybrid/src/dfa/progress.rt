@@ -1,5 +1,6 @@
 ghost use Rattle.std.specs.Prelude.{◌≡◌, ◌-◌, Some, None};
-ghost use Rattle.automata_hybrid.specs.Progressing.{distance, started, updated, finished, total_len, progress_cleared};
+ghost use Rattle.automata_hybrid.specs.Cache.Progress.{distance, started, updated, finished, total_len};
+ghost use Rattle.automata_hybrid.specs.Cache.Progress.{progress_cleared};
 
 /// A running search: where it began, and where it is.
 #[derive(Clone, Copy)]

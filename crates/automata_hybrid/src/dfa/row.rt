@@ -1,8 +1,8 @@
 ghost use Rattle.std.specs.Prelude.{◌≡◌, ◌+◌, ◌*◌, ◌^◌, ◌<◌, ◌↔◌, IsTrue};
-ghost use Rattle.automata_base.specs.Powerset.{cost};
-ghost use Rattle.automata_base.specs.Powerset.{dead};
-ghost use Rattle.automata_hybrid.specs.Table.{has_patterns};
-ghost use Rattle.automata_hybrid.specs.Ids.{offset_limit};
+ghost use Rattle.automata_base.specs.Powersets.Powerset.{cost};
+ghost use Rattle.automata_base.specs.Powersets.Powerset.{dead};
+ghost use Rattle.automata_hybrid.specs.Cache.Table.{has_patterns};
+ghost use Rattle.automata_hybrid.specs.Cache.Ids.{offset_limit};
 
 use crate::id::LazyStateID;
 use automata_base::util::determinize::State;
@@ -17,7 +17,7 @@ pub struct Row {
 
 impl Row {
     ghost use Rattle.std.specs.Prelude.{◌≡◌, ◌^◌, ◌<◌};
-    ghost use Rattle.automata_hybrid.specs.Table.{row_id};
+    ghost use Rattle.automata_hybrid.specs.Cache.Table.{row_id};
 
     /// The ID of the row at an offset.
     pub fn id(&self, offset: u32) -> LazyStateID

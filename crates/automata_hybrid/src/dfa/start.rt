@@ -1,16 +1,17 @@
 ghost use Rattle.std.specs.Prelude.{◌≡◌, ◌+◌, ◌-◌, ◌*◌, ◌<◌, ◌≤◌, IfOk, IfErr, IfSome, IfNone, ◌↔◌, Err, false};
-ghost use Rattle.automata_base.specs.Alike.{behind_of};
-ghost use Rattle.automata_base.specs.Powerset.{dead};
-ghost use Rattle.automata_base.specs.Classes.{is_quit};
-ghost use Rattle.automata_base.specs.Steps.{start_state_of};
-ghost use Rattle.automata_hybrid.specs.Machine.{slot_count};
-ghost use Rattle.automata_base.specs.Tapes.{byte_before};
+ghost use Rattle.automata_base.specs.ByteClasses.LookBehind.{behind_of};
+ghost use Rattle.automata_base.specs.Powersets.Powerset.{dead};
+ghost use Rattle.automata_base.specs.ByteClasses.Classes.{is_quit};
+ghost use Rattle.automata_base.specs.Retraced.Steps.{start_state_of};
+ghost use Rattle.automata_hybrid.specs.Machines.Machine.{slot_count};
+ghost use Rattle.automata_base.specs.Haystacks.Tapes.{byte_before};
 ghost use Rattle.automata_base.specs.Lists.{nth};
-ghost use Rattle.automata_hybrid.specs.Starting.{quit_behind, start_refusal, search_refusal, KnowsStart, IsStartSlot};
-ghost use Rattle.automata_hybrid.specs.Starting.{IsStartAnswer, IsStartRefused, IsStartRefusedAt, IsStartEffect};
-ghost use Rattle.automata_hybrid.specs.Slots.{supports, slot_of};
-ghost use Rattle.automata_hybrid.specs.Standing.{StartsAt};
-ghost use Rattle.automata_hybrid.specs.Caches.{IsCacheOf};
+ghost use Rattle.automata_hybrid.specs.Steps.Starts.{quit_behind, start_refusal, search_refusal, KnowsStart};
+ghost use Rattle.automata_hybrid.specs.Steps.Starts.{IsStartSlot};
+ghost use Rattle.automata_hybrid.specs.Steps.Starts.{IsStartAnswer, IsStartRefused, IsStartRefusedAt, IsStartEffect};
+ghost use Rattle.automata_hybrid.specs.Machines.StartSlots.{supports, slot_of};
+ghost use Rattle.automata_hybrid.specs.Steps.BySteps.{StartsAt};
+ghost use Rattle.automata_hybrid.specs.Cache.Caches.{IsCacheOf};
 
 use crate::dfa::DFA;
 use crate::dfa::cache::{Cache, Found};

@@ -1,15 +1,15 @@
 ghost use Rattle.std.specs.Prelude.{◌≡◌, ◌%◌, ◌<◌, None, Some, IfOk, IfErr, IsBitSet, length};
 ghost use Rattle.std.specs.Prelude.{slice_index, true, false};
-ghost use Rattle.automata_base.specs.Powerset.{Powerset};
-ghost use Rattle.automata_base.specs.Steps.{successor};
-ghost use Rattle.automata_hybrid.specs.Machine.{table_stride};
-ghost use Rattle.automata_hybrid.specs.Table.{Names, IsValid, Leads, HasItsMatchTag};
-ghost use Rattle.automata_hybrid.specs.Stores.{cell_of};
-ghost use Rattle.automata_hybrid.specs.Caches.{IsCacheOf, HasRow};
-ghost use Rattle.automata_hybrid.specs.Ids.{quit_id, unknown_id, offset_limit};
-ghost use Rattle.automata_base.specs.Classes.{class_in, is_quit};
-ghost use Rattle.automata_hybrid.specs.Standing.{HoldsRow, StepsOn};
-ghost use Rattle.automata_hybrid.specs.Stepping.{IsStepAnswer, IsStepRefused, IsStepEffect, KnowsStep, quits_on};
+ghost use Rattle.automata_base.specs.Powersets.Powerset.{Powerset};
+ghost use Rattle.automata_base.specs.Retraced.Steps.{successor};
+ghost use Rattle.automata_hybrid.specs.Machines.Machine.{table_stride};
+ghost use Rattle.automata_hybrid.specs.Cache.Table.{Names, IsValid, Leads, HasItsMatchTag};
+ghost use Rattle.automata_hybrid.specs.Cache.Stores.{cell_of};
+ghost use Rattle.automata_hybrid.specs.Cache.Caches.{IsCacheOf, HasRow};
+ghost use Rattle.automata_hybrid.specs.Cache.Ids.{quit_id, unknown_id, offset_limit};
+ghost use Rattle.automata_base.specs.ByteClasses.Classes.{class_in, is_quit};
+ghost use Rattle.automata_hybrid.specs.Steps.BySteps.{HoldsRow, StepsOn};
+ghost use Rattle.automata_hybrid.specs.Steps.Steps.{IsStepAnswer, IsStepRefused, IsStepEffect, KnowsStep, quits_on};
 ghost use Rattle.automata_config.specs.Options.{match_kind_of};
 
 use crate::dfa::DFA;

@@ -1,19 +1,21 @@
 ghost use Rattle.std.specs.Prelude.{ℕ, ◌≡◌, ◌+◌, ◌-◌, ◌*◌, ◌%◌, ◌^◌, ◌<◌, ◌≤◌, ◌↔◌, None, IfOk, OnOk, OnErr};
 ghost use Rattle.std.specs.Prelude.{length, slice_index, IsTrue, IfErr, is_some, true, IsBitSet};
-ghost use Rattle.automata_base.specs.Powerset.{Powerset, cost, dead};
-ghost use Rattle.automata_base.specs.Accounting.{minimum_capacity};
-ghost use Rattle.automata_hybrid.specs.Ids.{dead_id, unknown_id, fixed_from, offset_limit};
-ghost use Rattle.automata_hybrid.specs.Machine.{IsStateOf, IsTemplate, greatest, next_of, slot_count, start_of};
-ghost use Rattle.automata_hybrid.specs.Machine.{table_stride, template_of};
-ghost use Rattle.automata_hybrid.specs.Table.{id_of, Names, IsValid, Leads, MayLead, IsCell, HasCells, HasRowIds};
-ghost use Rattle.automata_hybrid.specs.Table.{AreRows, IsNewState};
-ghost use Rattle.automata_hybrid.specs.Clears.{AllStarts, row_of};
-ghost use Rattle.automata_hybrid.specs.Stores.{with_table, IsCacheError, cell_of, with_next, fresh_store, settings_of};
-ghost use Rattle.automata_hybrid.specs.Stores.{with_start};
-ghost use Rattle.automata_hybrid.specs.Usage.{usage, Fits, GivesUp, IsCleared, refuses_to_clear};
-ghost use Rattle.automata_hybrid.specs.Effects.{grown, put_found, AddsNext, AddsStart};
-ghost use Rattle.automata_hybrid.specs.Caches.{IsRow};
-ghost use Rattle.automata_hybrid.specs.Progressing.{started, updated, finished, total_len};
+ghost use Rattle.automata_base.specs.Powersets.Powerset.{Powerset, cost, dead};
+ghost use Rattle.automata_base.specs.Powersets.Accounting.{minimum_capacity};
+ghost use Rattle.automata_hybrid.specs.Cache.Ids.{dead_id, unknown_id, fixed_from, offset_limit};
+ghost use Rattle.automata_hybrid.specs.Machines.Machine.{IsStateOf, IsTemplate, greatest, next_of, slot_count};
+ghost use Rattle.automata_hybrid.specs.Machines.Machine.{start_of};
+ghost use Rattle.automata_hybrid.specs.Machines.Machine.{table_stride, template_of};
+ghost use Rattle.automata_hybrid.specs.Cache.Table.{id_of, Names, IsValid, Leads, MayLead, IsCell, HasCells, HasRowIds};
+ghost use Rattle.automata_hybrid.specs.Cache.Table.{AreRows, IsNewState};
+ghost use Rattle.automata_hybrid.specs.Cache.Clears.{AllStarts, row_of};
+ghost use Rattle.automata_hybrid.specs.Cache.Stores.{with_table, IsCacheError, cell_of, with_next, fresh_store};
+ghost use Rattle.automata_hybrid.specs.Cache.Stores.{settings_of};
+ghost use Rattle.automata_hybrid.specs.Cache.Stores.{with_start};
+ghost use Rattle.automata_hybrid.specs.Cache.Usage.{usage, Fits, GivesUp, IsCleared, refuses_to_clear};
+ghost use Rattle.automata_hybrid.specs.Cache.Changes.{grown, put_found, AddsNext, AddsStart};
+ghost use Rattle.automata_hybrid.specs.Cache.Caches.{IsRow};
+ghost use Rattle.automata_hybrid.specs.Cache.Progress.{started, updated, finished, total_len};
 
 use crate::dfa::clears::{keep_row, keep_starts};
 use crate::dfa::progress::Searched;
@@ -41,8 +43,8 @@ pub struct Store {
 }
 
 impl Model for Store {
-    ghost use Rattle.automata_hybrid.specs.Stores.{Stored};
-    ghost use Rattle.automata_hybrid.specs.Usage.{IsCache};
+    ghost use Rattle.automata_hybrid.specs.Cache.Stores.{Stored};
+    ghost use Rattle.automata_hybrid.specs.Cache.Usage.{IsCache};
 
     ghost Value = { Stored };
 

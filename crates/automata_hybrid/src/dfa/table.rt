@@ -1,15 +1,16 @@
 ghost use Rattle.std.specs.Prelude.{ℕ, List, ◌≡◌, ◌+◌, ◌-◌, ◌*◌, ◌/◌, ◌%◌, ◌^◌, ◌<◌, ◌≤◌, None, Some, IfOk, IsTrue};
 ghost use Rattle.std.specs.Prelude.{◌↔◌, OnOk, OnErr, length, slice_index, slice_set, slice_get, sum_by, false, cond};
 ghost use Rattle.std.specs.Prelude.{IsBitSet};
-ghost use Rattle.automata_base.specs.Powerset.{Powerset, cost};
-ghost use Rattle.automata_base.specs.Classes.{eoi_class};
-ghost use Rattle.automata_base.specs.Powerset.{dead};
-ghost use Rattle.automata_hybrid.specs.Ids.{unknown_id, fixed_from, offset_limit};
-ghost use Rattle.automata_hybrid.specs.Machine.{IsStateOf, IsTemplate, greatest, marked, next_of, table_stride, template_of};
-ghost use Rattle.automata_hybrid.specs.Table.{id_of, with_row, fresh, Names, Leads, row_cost, IsValid, HasState};
-ghost use Rattle.automata_hybrid.specs.Table.{AreRows, IsNewState};
-ghost use Rattle.automata_hybrid.specs.Table.{IsCell, cell_at, with_cell, HasCells, HasRowIds};
-ghost use Rattle.automata_hybrid.specs.Clears.{AllStarts};
+ghost use Rattle.automata_base.specs.Powersets.Powerset.{Powerset, cost};
+ghost use Rattle.automata_base.specs.ByteClasses.Classes.{eoi_class};
+ghost use Rattle.automata_base.specs.Powersets.Powerset.{dead};
+ghost use Rattle.automata_hybrid.specs.Cache.Ids.{unknown_id, fixed_from, offset_limit};
+ghost use Rattle.automata_hybrid.specs.Machines.Machine.{IsStateOf, IsTemplate, greatest, marked, next_of};
+ghost use Rattle.automata_hybrid.specs.Machines.Machine.{table_stride, template_of};
+ghost use Rattle.automata_hybrid.specs.Cache.Table.{id_of, with_row, fresh, Names, Leads, row_cost, IsValid, HasState};
+ghost use Rattle.automata_hybrid.specs.Cache.Table.{AreRows, IsNewState};
+ghost use Rattle.automata_hybrid.specs.Cache.Table.{IsCell, cell_at, with_cell, HasCells, HasRowIds};
+ghost use Rattle.automata_hybrid.specs.Cache.Clears.{AllStarts};
 
 use crate::dfa::row::Row;
 use crate::dfa::{DFA, row};
@@ -34,7 +35,7 @@ pub struct Table {
 }
 
 impl Model for Table {
-    ghost use Rattle.automata_hybrid.specs.Table.{Rows, IsHeld};
+    ghost use Rattle.automata_hybrid.specs.Cache.Table.{Rows, IsHeld};
 
     ghost Value = { Rows };
 

@@ -1,20 +1,20 @@
 //! The bytes of a walk and the end, in either direction, and going on over them to the next state whose patterns match.
 ghost use Rattle.std.specs.Prelude.{ℕ, ◌≡◌, ◌-◌, ◌<◌, ◌≤◌, ◌⊎◌, IfOk, IfErr, OnOk, Some, []};
 ghost use Rattle.std.specs.Prelude.{true, false, suc, length};
-ghost use Rattle.automata_base.specs.Answers.{offset_in};
-ghost use Rattle.automata_base.specs.Classes.{is_quit};
-ghost use Rattle.automata_base.specs.Paths.{next};
-ghost use Rattle.automata_base.specs.Powerset.{Powerset};
-ghost use Rattle.automata_base.specs.Tapes.{is_split};
-ghost use Rattle.automata_hybrid.specs.Caches.{IsCacheOf};
-ghost use Rattle.automata_hybrid.specs.Passing.{IsFollowed};
-ghost use Rattle.automata_hybrid.specs.Resuming.{IsAdvanceEffect, IsUnitEffect, StandsBehind};
-ghost use Rattle.automata_hybrid.specs.Searches.{HasReadNoQuit, IsUnitRefusal, Skips, behind_offset};
-ghost use Rattle.automata_hybrid.specs.Searches.{state_in, tape_in, unit_offset};
-ghost use Rattle.automata_hybrid.specs.Starting.{IsStartAnswer, IsStartEffect, IsStartRefusedAt};
-ghost use Rattle.automata_hybrid.specs.Table.{IsValid, Leads, Names};
-ghost use Rattle.automata_hybrid.specs.Walking.{IsAdvanceRefusal, IsArrival, WalkReads};
-ghost use Rattle.automata_hybrid.specs.Walks.{way_of};
+ghost use Rattle.automata_base.specs.Answers.Answers.{offset_in};
+ghost use Rattle.automata_base.specs.ByteClasses.Classes.{is_quit};
+ghost use Rattle.automata_base.specs.Paths.Paths.{next};
+ghost use Rattle.automata_base.specs.Powersets.Powerset.{Powerset};
+ghost use Rattle.automata_base.specs.Haystacks.Tapes.{is_split};
+ghost use Rattle.automata_hybrid.specs.Cache.Caches.{IsCacheOf};
+ghost use Rattle.automata_hybrid.specs.Searches.PassState.{IsFollowed};
+ghost use Rattle.automata_hybrid.specs.Walks.Parts.{IsAdvanceEffect, IsUnitEffect, StandsBehind};
+ghost use Rattle.automata_hybrid.specs.Searches.Passes.{HasReadNoQuit, IsUnitRefusal, Skips, behind_offset};
+ghost use Rattle.automata_hybrid.specs.Searches.Passes.{state_in, tape_in, unit_offset};
+ghost use Rattle.automata_hybrid.specs.Steps.Starts.{IsStartAnswer, IsStartEffect, IsStartRefusedAt};
+ghost use Rattle.automata_hybrid.specs.Cache.Table.{IsValid, Leads, Names};
+ghost use Rattle.automata_hybrid.specs.Walks.Answers.{IsAdvanceRefusal, IsArrival, WalkReads};
+ghost use Rattle.automata_hybrid.specs.Walks.State.{way_of};
 
 use crate::dfa::DFA;
 use crate::dfa::cache::Cache;

@@ -1,14 +1,14 @@
 //! All in which the directions of a search differ. A place is counted from where the search begins; an offset is one of
 //! the haystack.
 ghost use Rattle.std.specs.Prelude.{ℕ, ◌≡◌, ◌+◌, ◌-◌, ◌<◌, ◌≤◌, Some, true, false, length};
-ghost use Rattle.automata_base.specs.Answers.{later, offset_in};
-ghost use Rattle.automata_base.specs.Paths.{next};
-ghost use Rattle.automata_hybrid.specs.Caches.{with_store};
-ghost use Rattle.automata_hybrid.specs.Searched.{KeepsNone, before_last};
-ghost use Rattle.automata_hybrid.specs.Searches.{given_up_offset, tape_in, unit_offset};
-ghost use Rattle.automata_hybrid.specs.Stores.{with_searched};
-ghost use Rattle.automata_hybrid.specs.SelfLoops.{byte_in};
-ghost use Rattle.automata_hybrid.specs.Walks.{way_of};
+ghost use Rattle.automata_base.specs.Answers.Answers.{later, offset_in};
+ghost use Rattle.automata_base.specs.Paths.Paths.{next};
+ghost use Rattle.automata_hybrid.specs.Cache.Caches.{with_store};
+ghost use Rattle.automata_hybrid.specs.Searches.Progress.{KeepsNone, before_last};
+ghost use Rattle.automata_hybrid.specs.Searches.Passes.{given_up_offset, tape_in, unit_offset};
+ghost use Rattle.automata_hybrid.specs.Cache.Stores.{with_searched};
+ghost use Rattle.automata_hybrid.specs.Searches.SelfLoops.{byte_in};
+ghost use Rattle.automata_hybrid.specs.Walks.State.{way_of};
 
 use crate::dfa::cache::Cache;
 use automata_base::util::search::Input;

@@ -1,15 +1,15 @@
 //! Following cached transitions, as many at once as can be: into states that report nothing or into match states, and
 //! along self-loops.
 ghost use Rattle.std.specs.Prelude.{ℕ, ◌≡◌, ◌+◌, ◌-◌, ◌<◌, ◌≤◌, IsBitSet};
-ghost use Rattle.automata_base.specs.Paths.{next};
-ghost use Rattle.automata_hybrid.specs.Caches.{IsCacheOf};
-ghost use Rattle.automata_hybrid.specs.Ids.{fixed_from, offset_limit, HasOnly};
-ghost use Rattle.automata_hybrid.specs.Passing.{IsFollowed, IsLed, IsMet, IsRun, IsTagAt};
-ghost use Rattle.automata_hybrid.specs.Searches.{state_in, tape_in};
-ghost use Rattle.automata_hybrid.specs.SelfLoops.{IsSelfLoop};
-ghost use Rattle.automata_hybrid.specs.Stepping.{known_step};
-ghost use Rattle.automata_hybrid.specs.Table.{IsValid, Names};
-ghost use Rattle.automata_hybrid.specs.Walks.{way_of};
+ghost use Rattle.automata_base.specs.Paths.Paths.{next};
+ghost use Rattle.automata_hybrid.specs.Cache.Caches.{IsCacheOf};
+ghost use Rattle.automata_hybrid.specs.Cache.Ids.{fixed_from, offset_limit, HasOnly};
+ghost use Rattle.automata_hybrid.specs.Searches.PassState.{IsFollowed, IsLed, IsMet, IsRun, IsTagAt};
+ghost use Rattle.automata_hybrid.specs.Searches.Passes.{state_in, tape_in};
+ghost use Rattle.automata_hybrid.specs.Searches.SelfLoops.{IsSelfLoop};
+ghost use Rattle.automata_hybrid.specs.Steps.Steps.{known_step};
+ghost use Rattle.automata_hybrid.specs.Cache.Table.{IsValid, Names};
+ghost use Rattle.automata_hybrid.specs.Walks.State.{way_of};
 
 use crate::dfa::DFA;
 use crate::dfa::cache::Cache;

@@ -1,13 +1,14 @@
 //! Searches for one end of a match: one span after another, as long as offsets inside a character are skipped.
 ghost use Rattle.std.specs.Prelude.{◌≡◌, ◌<◌, IfOk, IfErr, IfSome};
 ghost use Rattle.std.specs.Prelude.{None, Err, Ok};
-ghost use Rattle.automata_base.specs.Tapes.{Forward, Backward};
-ghost use Rattle.automata_hybrid.specs.Caches.{IsCacheOf};
-ghost use Rattle.automata_hybrid.specs.Costs.{IsCostUpto};
-ghost use Rattle.automata_hybrid.specs.Owing.{IsBased, IsHalf, IsSearchEffect, IsUnsupported, based_half, halves};
-ghost use Rattle.automata_hybrid.specs.Owing.{unsupported_error};
-ghost use Rattle.automata_hybrid.specs.Searches.{IsFound, IsRefused};
-ghost use Rattle.automata_hybrid.specs.Walks.{way_of};
+ghost use Rattle.automata_base.specs.Haystacks.Tapes.{Forward, Backward};
+ghost use Rattle.automata_hybrid.specs.Cache.Caches.{IsCacheOf};
+ghost use Rattle.automata_hybrid.specs.Searches.Costs.{IsCostUpto};
+ghost use Rattle.automata_hybrid.specs.Searches.Contracts.{IsBased, IsHalf, IsSearchEffect, IsUnsupported, based_half};
+ghost use Rattle.automata_hybrid.specs.Searches.Contracts.{halves};
+ghost use Rattle.automata_hybrid.specs.Searches.Contracts.{unsupported_error};
+ghost use Rattle.automata_hybrid.specs.Searches.Passes.{IsFound, IsRefused};
+ghost use Rattle.automata_hybrid.specs.Walks.State.{way_of};
 
 use crate::dfa::DFA;
 use crate::dfa::cache::Cache;

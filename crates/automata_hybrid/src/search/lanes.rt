@@ -1,8 +1,8 @@
 //! Which of 32 bytes are in a range, or in one of two, all compared at once.
 ghost use Rattle.std.specs.Prelude.{◌+◌, ◌<◌, ◌≡◌, ◌≤◌, ◌^◌, ℕ, IsTrue, length, slice_index};
 ghost use Rattle.std.specs.Int.{bit_at};
-ghost use Rattle.automata_hybrid.specs.SelfLoops.{Has, HasEither, above, byte_in, lane_of};
-ghost use Rattle.automata_hybrid.specs.Walks.{way_of};
+ghost use Rattle.automata_hybrid.specs.Searches.SelfLoops.{Has, HasEither, above, byte_in, lane_of};
+ghost use Rattle.automata_hybrid.specs.Walks.State.{way_of};
 
 use crate::search::direction::Way;
 use crate::search::loop_range::LoopRange;

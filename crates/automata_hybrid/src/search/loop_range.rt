@@ -1,10 +1,10 @@
 //! Ranges of bytes on which a row is known to lead back to itself: found around a byte, and tested class by class.
 ghost use Rattle.std.specs.Prelude.{◌≡◌, ◌+◌, ◌<◌, ◌≤◌, ℕ, IsTrue};
-ghost use Rattle.automata_hybrid.specs.Caches.{IsCacheOf};
-ghost use Rattle.automata_hybrid.specs.Ids.{fixed_from};
-ghost use Rattle.automata_hybrid.specs.Machine.{table_stride};
-ghost use Rattle.automata_hybrid.specs.SelfLoops.{IsLoopRange, LoopsOn};
-ghost use Rattle.automata_hybrid.specs.Table.{IsValid};
+ghost use Rattle.automata_hybrid.specs.Cache.Caches.{IsCacheOf};
+ghost use Rattle.automata_hybrid.specs.Cache.Ids.{fixed_from};
+ghost use Rattle.automata_hybrid.specs.Machines.Machine.{table_stride};
+ghost use Rattle.automata_hybrid.specs.Searches.SelfLoops.{IsLoopRange, LoopsOn};
+ghost use Rattle.automata_hybrid.specs.Cache.Table.{IsValid};
 
 use crate::dfa::DFA;
 use crate::dfa::cache::Cache;

@@ -1,17 +1,17 @@
 ghost use Rattle.std.specs.Prelude.{◌≡◌, IsBitSet, slice_index, ◌<◌, IfOk, IfErr, OnErr};
 ghost use Rattle.std.specs.Prelude.{Some, None, true, false};
-ghost use Rattle.automata_base.specs.Input.{Allows};
-ghost use Rattle.automata_base.specs.Powerset.{Powerset};
-ghost use Rattle.automata_hybrid.specs.Caches.{IsCacheOf};
-ghost use Rattle.automata_base.specs.Tapes.{is_split};
-ghost use Rattle.automata_hybrid.specs.Passing.{half_at, step_refusal};
-ghost use Rattle.automata_hybrid.specs.Reading.{IsReadAnswer, IsReadEffect, IsReadRefusal};
-ghost use Rattle.automata_hybrid.specs.Reading.{IsReadStep, IsStepRefusedAt, IsStepTaken};
-ghost use Rattle.automata_hybrid.specs.Searches.{Skips};
+ghost use Rattle.automata_base.specs.Haystacks.Input.{Allows};
+ghost use Rattle.automata_base.specs.Powersets.Powerset.{Powerset};
+ghost use Rattle.automata_hybrid.specs.Cache.Caches.{IsCacheOf};
+ghost use Rattle.automata_base.specs.Haystacks.Tapes.{is_split};
+ghost use Rattle.automata_hybrid.specs.Searches.PassState.{half_at, step_refusal};
+ghost use Rattle.automata_hybrid.specs.Searches.Units.{IsReadAnswer, IsReadEffect, IsReadRefusal};
+ghost use Rattle.automata_hybrid.specs.Searches.Units.{IsReadStep, IsStepRefusedAt, IsStepTaken};
+ghost use Rattle.automata_hybrid.specs.Searches.Passes.{Skips};
 ghost use Rattle.automata_base.specs.declared.util.search.MatchErrorKind.TheVariants.{Quit as QuitAt};
-ghost use Rattle.automata_hybrid.specs.Ids.{unknown_id};
-ghost use Rattle.automata_hybrid.specs.Stepping.{IsStepAnswer, IsStepEffect, known_step};
-ghost use Rattle.automata_hybrid.specs.Table.{IsValid, Leads, Names};
+ghost use Rattle.automata_hybrid.specs.Cache.Ids.{unknown_id};
+ghost use Rattle.automata_hybrid.specs.Steps.Steps.{IsStepAnswer, IsStepEffect, known_step};
+ghost use Rattle.automata_hybrid.specs.Cache.Table.{IsValid, Leads, Names};
 
 mod advance;
 mod direction;

@@ -1,20 +1,20 @@
 //! Overlapping searches: each call reports the next match, with any cache of the DFA.
 ghost use Rattle.std.specs.Prelude.{ℕ, ◌≡◌, ◌+◌, ◌-◌, ◌<◌, ◌≤◌, ◌^◌, IfOk, IfErr, IfNone, IfSome, OnOk, OnErr};
 ghost use Rattle.std.specs.Prelude.{length, slice_index};
-ghost use Rattle.automata_base.specs.Powerset.{Powerset};
-ghost use Rattle.automata_base.specs.Tapes.{Forward, Backward};
-ghost use Rattle.automata_hybrid.specs.Stores.{IsCacheError};
-ghost use Rattle.automata_hybrid.specs.Usage.{GivesUp};
-ghost use Rattle.automata_hybrid.specs.Caches.{IsCacheOf};
-ghost use Rattle.automata_hybrid.specs.OwingWalks.{IsCallEffect, IsWalkCall};
-ghost use Rattle.automata_hybrid.specs.Resuming.{HoldsOn, IsCallAnswer, IsCallRefused, IsHeldWalk, IsPutBackEffect};
-ghost use Rattle.automata_hybrid.specs.Resuming.{IsKeptWalk, IsResumeAnswer, IsResumeEffect, ReadsOn};
-ghost use Rattle.automata_hybrid.specs.Searches.{tape_in};
-ghost use Rattle.automata_hybrid.specs.Starting.{MayStart};
-ghost use Rattle.automata_hybrid.specs.Table.{Names};
-ghost use Rattle.automata_hybrid.specs.Walking.{Arrives, HasTold, HasToldBy};
-ghost use Rattle.automata_hybrid.specs.Walking.{IsResumeRefusal, IsRowState, IsWalkOf, IsWalkRefusal, TellsNext};
-ghost use Rattle.automata_hybrid.specs.Walks.{At, Ended, IsHeldAt, States, keeping_of, way_of, without_match};
+ghost use Rattle.automata_base.specs.Powersets.Powerset.{Powerset};
+ghost use Rattle.automata_base.specs.Haystacks.Tapes.{Forward, Backward};
+ghost use Rattle.automata_hybrid.specs.Cache.Stores.{IsCacheError};
+ghost use Rattle.automata_hybrid.specs.Cache.Usage.{GivesUp};
+ghost use Rattle.automata_hybrid.specs.Cache.Caches.{IsCacheOf};
+ghost use Rattle.automata_hybrid.specs.Walks.Contracts.{IsCallEffect, IsWalkCall};
+ghost use Rattle.automata_hybrid.specs.Walks.Parts.{HoldsOn, IsCallAnswer, IsCallRefused, IsHeldWalk, IsPutBackEffect};
+ghost use Rattle.automata_hybrid.specs.Walks.Parts.{IsKeptWalk, IsResumeAnswer, IsResumeEffect, ReadsOn};
+ghost use Rattle.automata_hybrid.specs.Searches.Passes.{tape_in};
+ghost use Rattle.automata_hybrid.specs.Steps.Starts.{MayStart};
+ghost use Rattle.automata_hybrid.specs.Cache.Table.{Names};
+ghost use Rattle.automata_hybrid.specs.Walks.Answers.{Arrives, HasTold, HasToldBy};
+ghost use Rattle.automata_hybrid.specs.Walks.Answers.{IsResumeRefusal, IsRowState, IsWalkOf, IsWalkRefusal, TellsNext};
+ghost use Rattle.automata_hybrid.specs.Walks.State.{At, Ended, IsHeldAt, States, keeping_of, way_of, without_match};
 
 use crate::dfa::DFA;
 use crate::dfa::cache::Cache;

@@ -1,19 +1,19 @@
 //! One run over the span of an input, in either direction.
 ghost use Rattle.std.specs.Prelude.{ℕ, ◌≡◌, ◌-◌, ◌<◌, ◌≤◌, IfOk, IfErr, OnErr, OnOk, Option};
 ghost use Rattle.std.specs.Prelude.{None, Err};
-ghost use Rattle.automata_base.specs.Matches as matches;
-ghost use Rattle.automata_base.specs.Paths.{next};
-ghost use Rattle.automata_base.specs.Powerset.{Powerset, dead};
-ghost use Rattle.automata_hybrid.specs.Caches.{IsCacheOf};
-ghost use Rattle.automata_hybrid.specs.Knowing.{KnowsUnit};
-ghost use Rattle.automata_hybrid.specs.Owing.{IsUnsupported, unsupported_error};
-ghost use Rattle.automata_hybrid.specs.Passed.{IsPassAnswer, IsPassEffect, IsRestEffect, IsUnderway};
-ghost use Rattle.automata_hybrid.specs.Passing.{HasLearned, IsAt, IsMet};
-ghost use Rattle.automata_hybrid.specs.Reading.{IsEndProgress};
-ghost use Rattle.automata_hybrid.specs.Searched.{EndsAtLast, IsStoppedAt, IsUnitRead, KeepsNone};
-ghost use Rattle.automata_hybrid.specs.Searches.{IsPassRefusal, IsUnitRefusal};
-ghost use Rattle.automata_hybrid.specs.Table.{Names};
-ghost use Rattle.automata_hybrid.specs.Walks.{way_of};
+ghost use Rattle.automata_base.specs.Haystacks.Matches as matches;
+ghost use Rattle.automata_base.specs.Paths.Paths.{next};
+ghost use Rattle.automata_base.specs.Powersets.Powerset.{Powerset, dead};
+ghost use Rattle.automata_hybrid.specs.Cache.Caches.{IsCacheOf};
+ghost use Rattle.automata_hybrid.specs.Searches.Cached.{KnowsUnit};
+ghost use Rattle.automata_hybrid.specs.Searches.Contracts.{IsUnsupported, unsupported_error};
+ghost use Rattle.automata_hybrid.specs.Searches.PassContracts.{IsPassAnswer, IsPassEffect, IsRestEffect, IsUnderway};
+ghost use Rattle.automata_hybrid.specs.Searches.PassState.{HasLearned, IsAt, IsMet};
+ghost use Rattle.automata_hybrid.specs.Searches.Units.{IsEndProgress};
+ghost use Rattle.automata_hybrid.specs.Searches.Progress.{EndsAtLast, IsStoppedAt, IsUnitRead, KeepsNone};
+ghost use Rattle.automata_hybrid.specs.Searches.Passes.{IsPassRefusal, IsUnitRefusal};
+ghost use Rattle.automata_hybrid.specs.Cache.Table.{Names};
+ghost use Rattle.automata_hybrid.specs.Walks.State.{way_of};
 
 use crate::dfa::DFA;
 use crate::dfa::cache::Cache;

@@ -1,9 +1,10 @@
 ghost use Rattle.std.specs.Prelude.{ℕ, ◌≡◌, ◌+◌, ◌<◌, ◌≤◌, ◌^◌, IfOk, IfSome, IfNone, OnErr, true, false};
 ghost use Rattle.std.specs.Prelude.{length, slice_index, suc, None};
-ghost use Rattle.automata_base.specs.Powerset.{Powerset};
-ghost use Rattle.automata_hybrid.specs.Table.{IsValid, Names};
-ghost use Rattle.automata_hybrid.specs.Walks.{At, Ended, Fresh, States, ended_walk, fresh_walk, keeping_of};
-ghost use Rattle.automata_hybrid.specs.Walks.{Holds, HoldsNone, IsHandle, IsHeldItself, with_match, without_match};
+ghost use Rattle.automata_base.specs.Powersets.Powerset.{Powerset};
+ghost use Rattle.automata_hybrid.specs.Cache.Table.{IsValid, Names};
+ghost use Rattle.automata_hybrid.specs.Walks.State.{At, Ended, Fresh, States, ended_walk, fresh_walk, keeping_of};
+ghost use Rattle.automata_hybrid.specs.Walks.State.{Holds, HoldsNone, IsHandle, IsHeldItself, with_match};
+ghost use Rattle.automata_hybrid.specs.Walks.State.{without_match};
 
 use crate::dfa::cache::Cache;
 use crate::id::LazyStateID;
@@ -101,7 +102,7 @@ pub(crate) struct Cursor {
 }
 
 impl Model for Cursor {
-    ghost use Rattle.automata_hybrid.specs.Walks.{Walk, walk_of};
+    ghost use Rattle.automata_hybrid.specs.Walks.State.{Walk, walk_of};
 
     ghost Value = { Walk };
 
@@ -238,7 +239,7 @@ pub struct OverlappingState {
 }
 
 impl Model for OverlappingState {
-    ghost use Rattle.automata_hybrid.specs.Walks.{Walk, IsHeldItself};
+    ghost use Rattle.automata_hybrid.specs.Walks.State.{Walk, IsHeldItself};
 
     ghost Value = { Walk };
 

@@ -1,8 +1,8 @@
 //! The set of the patterns that match, found by one overlapping search forward.
 ghost use Rattle.std.specs.Prelude.{IfErr};
-ghost use Rattle.automata_hybrid.specs.Caches.{IsCacheOf};
-ghost use Rattle.automata_hybrid.specs.OwingWalks.{IsSetTold, IsWhich, IsWhichEffect};
-ghost use Rattle.automata_hybrid.specs.Which.{IsWhichRefusal};
+ghost use Rattle.automata_hybrid.specs.Cache.Caches.{IsCacheOf};
+ghost use Rattle.automata_hybrid.specs.Walks.Contracts.{IsSetTold, IsWhich, IsWhichEffect};
+ghost use Rattle.automata_hybrid.specs.Walks.Sets.{IsWhichRefusal};
 
 use crate::dfa::DFA;
 use crate::dfa::cache::Cache;

@@ -1,13 +1,13 @@
 //! The matches of an input, one after another, as a list.
 ghost use Rattle.std.specs.Prelude.{◌≡◌, ◌⊎◌, [], IfSome, None, Some};
-ghost use Rattle.automata_base.specs.Tapes.{Forward};
-ghost use Rattle.automata_hybrid.specs.Caches.{IsCacheOf};
-ghost use Rattle.automata_hybrid.specs.Owing.{IsMemory, IsUnsupported, unsupported_error};
-ghost use Rattle.regex_automata.specs.Iterating.{AreCollected};
-ghost use Rattle.regex_automata.specs.Outcomes.{FindsMatch};
-ghost use Rattle.regex_automata.specs.Owing.{AreMatchesUpto, IsRefusedBehind};
-ghost use Rattle.regex_automata.specs.RegexCaches.{AreCachesOf};
-ghost use Rattle.regex_automata.specs.ReplayCaches.{AreSearched};
+ghost use Rattle.automata_base.specs.Haystacks.Tapes.{Forward};
+ghost use Rattle.automata_hybrid.specs.Cache.Caches.{IsCacheOf};
+ghost use Rattle.automata_hybrid.specs.Searches.Contracts.{IsMemory, IsUnsupported, unsupported_error};
+ghost use Rattle.regex_automata.specs.Spans.Iteration.{AreCollected};
+ghost use Rattle.regex_automata.specs.Spans.Outcomes.{FindsMatch};
+ghost use Rattle.regex_automata.specs.Spans.Contracts.{AreMatchesUpto, IsRefusedBehind};
+ghost use Rattle.regex_automata.specs.Regexes.Caches.{AreCachesOf};
+ghost use Rattle.regex_automata.specs.Replay.Caches.{AreSearched};
 
 use crate::hybrid::regex::{Cache, Regex};
 use automata_base::laws::{start_is_right, told_is_right};

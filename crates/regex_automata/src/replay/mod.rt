@@ -1,9 +1,9 @@
 //! A list of requests, answered in turn over one cache.
 ghost use Rattle.std.specs.Prelude.{[], IfOk};
-ghost use Rattle.regex_automata.specs.Histories.{start};
-ghost use Rattle.regex_automata.specs.Replies.{AreReplies, TellWalks};
-ghost use Rattle.regex_automata.specs.ReplayCaches.{AreAnswered, AreAnsweredAfter};
-ghost use Rattle.regex_automata.specs.Players.{HasPlayed};
+ghost use Rattle.regex_automata.specs.Replay.Histories.{start};
+ghost use Rattle.regex_automata.specs.Replay.Replies.{AreReplies, TellWalks};
+ghost use Rattle.regex_automata.specs.Replay.Caches.{AreAnswered, AreAnsweredAfter};
+ghost use Rattle.regex_automata.specs.Replay.Players.{HasPlayed};
 
 mod iteration;
 mod patterns;

@@ -1,9 +1,9 @@
 //! The patterns of all overlapping matches, as a list.
 ghost use Rattle.std.specs.Prelude.{◌≡◌, IfOk};
-ghost use Rattle.automata_base.specs.PatternSet.{members};
-ghost use Rattle.automata_hybrid.specs.Caches.{IsCacheOf};
-ghost use Rattle.regex_automata.specs.Owing.{ArePatternsUpto};
-ghost use Rattle.regex_automata.specs.ReplayCaches.{ArePatternsSearched};
+ghost use Rattle.automata_base.specs.Haystacks.PatternSet.{members};
+ghost use Rattle.automata_hybrid.specs.Cache.Caches.{IsCacheOf};
+ghost use Rattle.regex_automata.specs.Spans.Contracts.{ArePatternsUpto};
+ghost use Rattle.regex_automata.specs.Replay.Caches.{ArePatternsSearched};
 
 use crate::hybrid::dfa;
 use crate::hybrid::dfa::DFA;

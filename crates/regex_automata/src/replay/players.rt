@@ -1,9 +1,9 @@
 //! What a replay keeps between requests.
 ghost use Rattle.std.specs.Prelude.{◌≡◌, IfOk, Some};
 ghost use Rattle.automata_base.specs.Lists.{nth};
-ghost use Rattle.regex_automata.specs.Histories.{History, start};
-ghost use Rattle.regex_automata.specs.Players.{HasPlayed, IsReplyTo, MakesCaches, StandsAfter};
-ghost use Rattle.regex_automata.specs.RegexCaches.{AreFresh};
+ghost use Rattle.regex_automata.specs.Replay.Histories.{History, start};
+ghost use Rattle.regex_automata.specs.Replay.Players.{HasPlayed, IsReplyTo, MakesCaches, StandsAfter};
+ghost use Rattle.regex_automata.specs.Regexes.Caches.{AreFresh};
 ghost use Rattle.regex_automata.specs.declared.replay.requests.Request.TheVariants as request;
 
 use crate::hybrid::dfa::OverlappingState;

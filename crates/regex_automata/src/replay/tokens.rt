@@ -1,7 +1,7 @@
 //! The tokens of an input, one after another, as a list.
-ghost use Rattle.automata_hybrid.specs.Caches.{IsCacheOf};
-ghost use Rattle.regex_automata.specs.RegexCaches.{AreCachesOf};
-ghost use Rattle.regex_automata.specs.ReplayCaches.{AreTokensSearched};
+ghost use Rattle.automata_hybrid.specs.Cache.Caches.{IsCacheOf};
+ghost use Rattle.regex_automata.specs.Regexes.Caches.{AreCachesOf};
+ghost use Rattle.regex_automata.specs.Replay.Caches.{AreTokensSearched};
 ghost use Rattle.regex_automata.specs.Tokens.{AreGiven, AreTokensUpto};
 
 use crate::hybrid::regex::{Cache, Regex};

@@ -1,12 +1,12 @@
 //! The overlapping searches that a script began.
 ghost use Rattle.std.specs.Prelude.{ℕ, ◌≡◌, ◌<◌, length};
-ghost use Rattle.automata_base.specs.Tapes.{Forward, Backward};
-ghost use Rattle.automata_hybrid.specs.Caches.{IsCacheOf};
-ghost use Rattle.regex_automata.specs.RegexCaches.{AreCachesOf};
-ghost use Rattle.regex_automata.specs.Replies.{dfa_of, direction_of};
-ghost use Rattle.regex_automata.specs.Players.{GoesAt, HasAnswered, HasAnsweredBy, IsCall, IsKept};
-ghost use Rattle.regex_automata.specs.Players.{MakesCall, MakesStepAt};
-ghost use Rattle.regex_automata.specs.ReplayCaches.{other_of, own_of};
+ghost use Rattle.automata_base.specs.Haystacks.Tapes.{Forward, Backward};
+ghost use Rattle.automata_hybrid.specs.Cache.Caches.{IsCacheOf};
+ghost use Rattle.regex_automata.specs.Regexes.Caches.{AreCachesOf};
+ghost use Rattle.regex_automata.specs.Replay.Replies.{dfa_of, direction_of};
+ghost use Rattle.regex_automata.specs.Replay.Players.{GoesAt, HasAnswered, HasAnsweredBy, IsCall, IsKept};
+ghost use Rattle.regex_automata.specs.Replay.Players.{MakesCall, MakesStepAt};
+ghost use Rattle.regex_automata.specs.Replay.Caches.{other_of, own_of};
 ghost use Rattle.regex_automata.specs.declared.replay.walks.KeptWalk.{KeptWalk};
 
 use crate::hybrid::dfa;

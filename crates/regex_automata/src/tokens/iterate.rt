@@ -1,7 +1,7 @@
 ghost use Rattle.std.specs.Prelude.{◌≡◌, ◌<◌, Some, false};
 ghost use Rattle.std.specs.Iterator.{at_most};
-ghost use Rattle.automata_base.specs.Input.{Allows};
-ghost use Rattle.regex_automata.specs.RegexCaches.{AreCachesOf};
+ghost use Rattle.automata_base.specs.Haystacks.Input.{Allows};
+ghost use Rattle.regex_automata.specs.Regexes.Caches.{AreCachesOf};
 ghost use Rattle.regex_automata.specs.Tokens.{GivesToken, IsGivenAt, IsTokenEffect, asked, item_of, most_tokens};
 
 use crate::hybrid::dfa;

@@ -1,5 +1,5 @@
 ghost use Rattle.std.specs.Prelude.{◌≤◌, ◌-◌, ◌↔◌, IsTrue};
-ghost use Rattle.automata_base.specs.Powerset.{IsId};
+ghost use Rattle.automata_base.specs.Powersets.Powerset.{IsId};
 
 use automata_base::util::primitives::PatternID;
 use automata_base::util::search::Span;

@@ -1,6 +1,6 @@
 use Rattle.automata_base.proofs.Determinizing.Telling.{told_selects, told_nearest, told_farthest}
 use Rattle.std.proofs.Common.{◌∙◌, sym}
-use Rattle.automata_base.specs.Told.{TellsOver}
+use Rattle.automata_base.specs.Answers.OfPasses.{TellsOver}
 use Rattle.automata_base.proofs.Spans.Answered.{answers_once}
 use Rattle.automata_base.proofs.laws.passes_tell_paths.Goals as goal
 

@@ -20,7 +20,7 @@ pub struct Builder {
 
 impl Model for Builder {
     ghost use Rattle.std.specs.Prelude.{◌≡◌, ℕ, Some, length};
-    ghost use Rattle.automata_base.specs.Drafts.{Draft, draft_of};
+    ghost use Rattle.automata_base.specs.Nfas.Drafts.{Draft, draft_of};
 
     ghost Value = { Draft };
 
@@ -33,13 +33,13 @@ impl Builder {
     ghost use Rattle.std.specs.Prelude.{◌≡◌, ◌⊎◌, ◌+◌, ◌*◌, ◌<◌, ◌≤◌, ◌∷◌, [], List, ℕ, None, Some, length, set};
     ghost use Rattle.std.specs.Prelude.{IfOk, OnOk, OnErr, IsOk, IsOkUnless, slice_get};
     ghost use Rattle.automata_base.specs.declared.nfa.thompson.State.{State};
-    ghost use Rattle.automata_base.specs.Drafts.{blank, default_flags, with_states, with_flags, started, finished};
-    ghost use Rattle.automata_base.specs.Drafts.{prefix_of};
-    ghost use Rattle.automata_base.specs.Drafts.{IsAdding, IsAddingOf, AreBuilt, outline, built};
-    ghost use Rattle.automata_base.specs.Refusals.{door_refusal};
-    ghost use Rattle.automata_base.specs.Shapes.{Shape, shape_added, patched, EmptyShape, RangeShape, SparseShape};
-    ghost use Rattle.automata_base.specs.Shapes.{LookShape, UnionShape, UnionReverseShape, CaptureShape, FailShape};
-    ghost use Rattle.automata_base.specs.Shapes.{MatchShape};
+    ghost use Rattle.automata_base.specs.Nfas.Drafts.{blank, default_flags, with_states, with_flags, started, finished};
+    ghost use Rattle.automata_base.specs.Nfas.Drafts.{prefix_of};
+    ghost use Rattle.automata_base.specs.Nfas.Drafts.{IsAdding, IsAddingOf, AreBuilt, outline, built};
+    ghost use Rattle.automata_base.specs.Nfas.Errors.{door_refusal};
+    ghost use Rattle.automata_base.specs.Nfas.Shapes.{Shape, shape_added, patched, EmptyShape, RangeShape, SparseShape};
+    ghost use Rattle.automata_base.specs.Nfas.Shapes.{LookShape, UnionShape, UnionReverseShape, CaptureShape, FailShape};
+    ghost use Rattle.automata_base.specs.Nfas.Shapes.{MatchShape};
 
     /// A builder without states, whose NFA is neither in UTF-8 mode nor reversed, and whose lines end in `\n`.
     pub fn new(alloc: Global) -> Builder

@@ -1,9 +1,9 @@
 //! The states that a builder keeps, and what it builds of them.
 ghost use Rattle.std.specs.Prelude.{◌≡◌, ◌++◌, ◌∷◌, [], None, Some, map, reverse};
 ghost use Rattle.std.specs.Prelude.{IfOk, OnOk, OnErr, IsOkUnless};
-ghost use Rattle.automata_base.specs.Drafts.{build_error};
+ghost use Rattle.automata_base.specs.Nfas.Drafts.{build_error};
 ghost use Rattle.automata_base.specs.declared.nfa.thompson.building.BuildError.TheVariants.{OutOfMemory as BuildOutOfMemory};
-ghost use Rattle.automata_base.specs.Shapes.{Shape, shape_of, shape_added, built_of, patched, union_of};
+ghost use Rattle.automata_base.specs.Nfas.Shapes.{Shape, shape_of, shape_added, built_of, patched, union_of};
 
 use crate::nfa::thompson::{NfaError, State, Transition};
 use crate::util::look::Look;

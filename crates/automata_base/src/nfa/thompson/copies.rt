@@ -2,13 +2,13 @@
 ghost use Rattle.std.specs.Prelude.{ℕ, ◌≡◌, ◌<◌, ◌≤◌, ◌+◌, ◌*◌, ◌^◌, ◌++◌, [], ◌∷◌, true, map, length};
 ghost use Rattle.std.specs.Prelude.{IfOk, OnOk, Err, None, Some};
 ghost use Rattle.automata_base.specs.declared.nfa.thompson.reach.Edges.TheVariants.{Every};
-ghost use Rattle.automata_base.specs.Copies.{AreParts, IsPartAdded};
+ghost use Rattle.automata_base.specs.Retraced.Copies.{AreParts, IsPartAdded};
 ghost use Rattle.automata_base.specs.Lists.{In, all_below};
-ghost use Rattle.automata_base.specs.Nodes.{node_of, nodes_of};
-ghost use Rattle.automata_base.specs.Once.{Distinct};
-ghost use Rattle.automata_base.specs.Reach.{targets_at, targets_of};
-ghost use Rattle.automata_base.specs.Refusals.{states_below, states_ordered};
-ghost use Rattle.automata_base.specs.Turns.{copied, copies, copy_of, is_of, matches_in, HaveCopies};
+ghost use Rattle.automata_base.specs.Nfas.Nodes.{node_of, nodes_of};
+ghost use Rattle.automata_base.specs.Retraced.Once.{Distinct};
+ghost use Rattle.automata_base.specs.Nfas.Reach.{targets_at, targets_of};
+ghost use Rattle.automata_base.specs.Nfas.Errors.{states_below, states_ordered};
+ghost use Rattle.automata_base.specs.Retraced.ReversedEdges.{copied, copies, copy_of, is_of, matches_in, HaveCopies};
 
 use crate::nfa::thompson::State;
 use crate::nfa::thompson::reach::{Edges, walk};

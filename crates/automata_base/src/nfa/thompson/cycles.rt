@@ -1,10 +1,10 @@
 //! Whether epsilon edges lead from a look back to itself.
 ghost use Rattle.std.specs.Prelude.{◌≡◌, ◌<◌, ◌≤◌, ◌^◌, ◌↔◌, ◌++◌, ℕ, [], Some, true, length};
 ghost use Rattle.std.specs.Prelude.{option_to_list, IfOk, IsTrue};
-ghost use Rattle.automata_base.specs.Finishing.{IsWholeOrder};
+ghost use Rattle.automata_base.specs.Retraced.DepthFirst.{IsWholeOrder};
 ghost use Rattle.automata_base.specs.Lists.{In};
-ghost use Rattle.automata_base.specs.Reach.{AreLooksAcyclic, IsReached, look_target, node_in, targets_of};
-ghost use Rattle.automata_base.specs.Refusals.{states_below};
+ghost use Rattle.automata_base.specs.Nfas.Reach.{AreLooksAcyclic, IsReached, look_target, node_in, targets_of};
+ghost use Rattle.automata_base.specs.Nfas.Errors.{states_below};
 
 use crate::nfa::thompson::State;
 use crate::nfa::thompson::finishing::finishing_order;

@@ -1,14 +1,14 @@
 ghost use Rattle.std.specs.Prelude.{◌≡◌, ◌<◌, ◌-◌, ◌+◌, ltb, leb, ◌&&◌, ℕ, Some};
 ghost use Rattle.automata_base.specs.Lists.{all_below};
-ghost use Rattle.automata_base.specs.Computed.{any_node};
-ghost use Rattle.automata_base.specs.Looks.{look_index};
-ghost use Rattle.automata_base.specs.Nodes.{nodes_of, stack_room};
-ghost use Rattle.automata_base.specs.Refusals.{transitions_below, state_below, states_below, match_below};
-ghost use Rattle.automata_base.specs.Refusals.{matches_below};
-ghost use Rattle.automata_base.specs.Refusals.{ordered_from, state_ordered, states_ordered, alternates_of};
-ghost use Rattle.automata_base.specs.Refusals.{is_small, is_narrow, starts_below, door_refusal};
-ghost use Rattle.automata_base.specs.Truths.{truth_of};
-ghost use Rattle.automata_base.specs.Looks.{Look};
+ghost use Rattle.automata_base.specs.Retraced.ComputedPass.{any_node};
+ghost use Rattle.automata_base.specs.Haystacks.Looks.{look_index};
+ghost use Rattle.automata_base.specs.Nfas.Nodes.{nodes_of, stack_room};
+ghost use Rattle.automata_base.specs.Nfas.Errors.{transitions_below, state_below, states_below, match_below};
+ghost use Rattle.automata_base.specs.Nfas.Errors.{matches_below};
+ghost use Rattle.automata_base.specs.Nfas.Errors.{ordered_from, state_ordered, states_ordered, alternates_of};
+ghost use Rattle.automata_base.specs.Nfas.Errors.{is_small, is_narrow, starts_below, door_refusal};
+ghost use Rattle.automata_base.specs.Haystacks.LookSets.{truth_of};
+ghost use Rattle.automata_base.specs.Haystacks.Looks.{Look};
 ghost use Rattle.std.specs.Prelude.{eqb, false, true, None, Option};
 
 use crate::nfa::thompson::reading::add_look;

@@ -1,13 +1,13 @@
 //! The order in which a depth-first search over epsilon edges finishes states.
 ghost use Rattle.std.specs.Prelude.{◌≡◌, ◌+◌, ◌-◌, ◌*◌, ◌<◌, ◌≤◌, ◌^◌, ℕ, [], ◌∷◌, ◌++◌, true, length, reverse, take};
 ghost use Rattle.std.specs.Prelude.{Some, None, IfOk, OnOk};
-ghost use Rattle.automata_base.specs.Finishing.{IsUnderSearch, IsWholeOrder};
+ghost use Rattle.automata_base.specs.Retraced.DepthFirst.{IsUnderSearch, IsWholeOrder};
 ghost use Rattle.automata_base.specs.Lists.{In, nth};
-ghost use Rattle.automata_base.specs.Nodes.{node_of};
-ghost use Rattle.automata_base.specs.Paths.{all_true};
-ghost use Rattle.automata_base.specs.Reach.{targets_of};
-ghost use Rattle.automata_base.specs.Refusals.{state_below, states_below};
-ghost use Rattle.automata_base.specs.Visits.{children_at};
+ghost use Rattle.automata_base.specs.Nfas.Nodes.{node_of};
+ghost use Rattle.automata_base.specs.Paths.Paths.{all_true};
+ghost use Rattle.automata_base.specs.Nfas.Reach.{targets_of};
+ghost use Rattle.automata_base.specs.Nfas.Errors.{state_below, states_below};
+ghost use Rattle.automata_base.specs.Powersets.Closure.{children_at};
 
 use crate::nfa::thompson::State;
 use crate::nfa::thompson::reach::Edges;

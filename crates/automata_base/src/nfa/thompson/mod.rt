@@ -196,9 +196,9 @@ pub struct NFA {
 
 impl Model for NFA {
     ghost use Rattle.std.specs.Prelude.{◌≡◌};
-    ghost use Rattle.automata_base.specs.Nodes.{Automaton, stack_room};
-    ghost use Rattle.automata_base.specs.Door.{IsDoor, IsLooks};
-    ghost use Rattle.automata_base.specs.Automata.{automaton_of, IsConsistent};
+    ghost use Rattle.automata_base.specs.Nfas.Nodes.{Automaton, stack_room};
+    ghost use Rattle.automata_base.specs.Nfas.Accepted.{IsDoor, IsLooks};
+    ghost use Rattle.automata_base.specs.Nfas.Automata.{automaton_of, IsConsistent};
 
     ghost Value = { Automaton };
 
@@ -225,25 +225,25 @@ impl NFA {
     ghost use Rattle.std.specs.Prelude.{◌≡◌, ◌<◌, ◌≤◌, ◌^◌, ◌↔◌, ◌∷◌, ℕ, true, None, Some, Err, IfOk, IsOkUnless};
     ghost use Rattle.std.specs.Prelude.{IsTrue, length};
     ghost use Rattle.std.specs.Prelude.{slice_get, slice_index_or};
-    ghost use Rattle.automata_base.specs.Cuts.{MatchKind};
-    ghost use Rattle.automata_base.specs.Decoders.{EndsAtBoundaries, classes_below};
-    ghost use Rattle.automata_base.specs.Door.{IsDoor, IsLooks};
-    ghost use Rattle.automata_base.specs.Engines.{engine_of};
-    ghost use Rattle.automata_base.specs.Getters.{HasEmpty, IsAlwaysStartAnchored, SkipsLazily};
-    ghost use Rattle.automata_base.specs.Looks.{Look};
-    ghost use Rattle.automata_base.specs.Mirrors.{IsReversed, IsReversedByPattern, BeginsAlike, reversed_flags};
-    ghost use Rattle.automata_base.specs.Automata.{automaton};
-    ghost use Rattle.automata_base.specs.Copies.{IsFit};
-    ghost use Rattle.automata_base.specs.Nodes.{nfa_of, stack_room};
-    ghost use Rattle.automata_base.specs.Passes.{Occurs};
-    ghost use Rattle.automata_base.specs.Paths.{IsLookAcyclic};
-    ghost use Rattle.automata_base.specs.Refusals.{door_refusal};
-    ghost use Rattle.automata_base.specs.ReversedSizes.{most_states, most_alternates, MayBeTooLarge};
-    ghost use Rattle.automata_base.specs.Starts.{mode_start};
-    ghost use Rattle.automata_base.specs.Tapes.{Forward, Backward};
-    ghost use Rattle.automata_base.specs.TruePairs.{IsTruePair, KeepsUtf8};
-    ghost use Rattle.automata_base.specs.Truths.{truth_of};
-    ghost use Rattle.automata_base.specs.Utf8.{HasNoLook, ReadsUtf8};
+    ghost use Rattle.automata_base.specs.Powersets.Cuts.{MatchKind};
+    ghost use Rattle.automata_base.specs.Nfas.Decoders.{EndsAtBoundaries, classes_below};
+    ghost use Rattle.automata_base.specs.Nfas.Accepted.{IsDoor, IsLooks};
+    ghost use Rattle.automata_base.specs.Nfas.Engines.{engine_of};
+    ghost use Rattle.automata_base.specs.Nfas.Getters.{HasEmpty, IsAlwaysStartAnchored, SkipsLazily};
+    ghost use Rattle.automata_base.specs.Haystacks.Looks.{Look};
+    ghost use Rattle.automata_base.specs.Nfas.Mirrors.{IsReversed, IsReversedByPattern, BeginsAlike, reversed_flags};
+    ghost use Rattle.automata_base.specs.Nfas.Automata.{automaton};
+    ghost use Rattle.automata_base.specs.Retraced.Copies.{IsFit};
+    ghost use Rattle.automata_base.specs.Nfas.Nodes.{nfa_of, stack_room};
+    ghost use Rattle.automata_base.specs.Powersets.Passes.{Occurs};
+    ghost use Rattle.automata_base.specs.Paths.Paths.{IsLookAcyclic};
+    ghost use Rattle.automata_base.specs.Nfas.Errors.{door_refusal};
+    ghost use Rattle.automata_base.specs.Nfas.ReversedSizes.{most_states, most_alternates, MayBeTooLarge};
+    ghost use Rattle.automata_base.specs.Paths.Starts.{mode_start};
+    ghost use Rattle.automata_base.specs.Haystacks.Tapes.{Forward, Backward};
+    ghost use Rattle.automata_base.specs.Answers.TruePairs.{IsTruePair, KeepsUtf8};
+    ghost use Rattle.automata_base.specs.Haystacks.LookSets.{truth_of};
+    ghost use Rattle.automata_base.specs.Nfas.Utf8.{HasNoLook, ReadsUtf8};
 
     /// An NFA of these states. Searches start at the anchored or the unanchored start, and those for pattern k at
     /// `start_pattern[k]`, so there are as many patterns as such starts. The tests are made in this order, each of the

@@ -1,14 +1,15 @@
 ghost use Rattle.std.specs.Prelude.{◌≡◌, ◌<◌, ◌≤◌, ◌^◌, ◌↔◌, ℕ, [], ◌∷◌, true, length, get_or, IfOk, IsTrue, Some};
 ghost use Rattle.std.specs.Prelude.{None, take};
 ghost use Rattle.automata_base.specs.Lists.{all_below, In};
-ghost use Rattle.automata_base.specs.Nodes.{node_of, ranges_of, dense_from};
-ghost use Rattle.automata_base.specs.Once.{once_from};
-ghost use Rattle.automata_base.specs.Paths.{all_true};
-ghost use Rattle.automata_base.specs.Reach.{node_in, nexts, byte_targets, targets_at, targets_of, IsReached, IsMatchAt};
-ghost use Rattle.automata_base.specs.Reach.{ReachesMatch};
-ghost use Rattle.automata_base.specs.Reach.{second_of, second_at, is_any_byte_of, SkipsFrom};
-ghost use Rattle.automata_base.specs.Refusals.{transitions_below, state_below, states_below};
-ghost use Rattle.automata_base.specs.Visits.{children_at};
+ghost use Rattle.automata_base.specs.Nfas.Nodes.{node_of, ranges_of, dense_from};
+ghost use Rattle.automata_base.specs.Retraced.Once.{once_from};
+ghost use Rattle.automata_base.specs.Paths.Paths.{all_true};
+ghost use Rattle.automata_base.specs.Nfas.Reach.{node_in, nexts, byte_targets, targets_at, targets_of, IsReached};
+ghost use Rattle.automata_base.specs.Nfas.Reach.{IsMatchAt};
+ghost use Rattle.automata_base.specs.Nfas.Reach.{ReachesMatch};
+ghost use Rattle.automata_base.specs.Nfas.Reach.{second_of, second_at, is_any_byte_of, SkipsFrom};
+ghost use Rattle.automata_base.specs.Nfas.Errors.{transitions_below, state_below, states_below};
+ghost use Rattle.automata_base.specs.Powersets.Closure.{children_at};
 
 use crate::nfa::thompson::reading::pattern_of;
 use crate::nfa::thompson::{State, Transition};

@@ -1,13 +1,13 @@
 //! The states of a reversed NFA.
 ghost use Rattle.std.specs.Prelude.{◌≡◌, ◌<◌, ◌≤◌, ◌+◌, ◌*◌, ◌^◌, ◌++◌, [], ◌∷◌, true, IfOk, Err, length, sum_by};
-ghost use Rattle.automata_base.specs.Copies.{IsFit};
+ghost use Rattle.automata_base.specs.Retraced.Copies.{IsFit};
 ghost use Rattle.automata_base.specs.Lists.{all_below};
-ghost use Rattle.automata_base.specs.Nfa.{Node};
-ghost use Rattle.automata_base.specs.Nodes.{nodes_of};
-ghost use Rattle.automata_base.specs.Once.{Distinct};
-ghost use Rattle.automata_base.specs.Refusals.{states_below, states_ordered};
-ghost use Rattle.automata_base.specs.ReversedSizes.{asking_edges};
-ghost use Rattle.automata_base.specs.Turns.{AreTurned, AreReversed};
+ghost use Rattle.automata_base.specs.Nfas.Nfa.{Node};
+ghost use Rattle.automata_base.specs.Nfas.Nodes.{nodes_of};
+ghost use Rattle.automata_base.specs.Retraced.Once.{Distinct};
+ghost use Rattle.automata_base.specs.Nfas.Errors.{states_below, states_ordered};
+ghost use Rattle.automata_base.specs.Nfas.ReversedSizes.{asking_edges};
+ghost use Rattle.automata_base.specs.Retraced.ReversedEdges.{AreTurned, AreReversed};
 
 use crate::nfa::thompson::copies::{Parts, copy_list, parts_of, push_state};
 use crate::nfa::thompson::reach::{Edges, reach};

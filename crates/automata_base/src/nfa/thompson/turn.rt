@@ -2,11 +2,13 @@
 ghost use Rattle.std.specs.Prelude.{ℕ, Some, ◌≡◌, ◌<◌, ◌≤◌, ◌+◌, ◌^◌, [], ◌∷◌, ◌++◌, true, IfOk, OnOk, Err, length};
 ghost use Rattle.std.specs.Prelude.{drop, None, slice_index_or};
 ghost use Rattle.automata_base.specs.Lists.{all_below, nth};
-ghost use Rattle.automata_base.specs.Mirrors.{flip};
-ghost use Rattle.automata_base.specs.Refusals.{transitions_below, state_below, states_below};
-ghost use Rattle.automata_base.specs.Runs.{starts_with, run_of, runs_from};
-ghost use Rattle.automata_base.specs.Turns.{lists_of, turns_of, push_at, no_lists, turn_free, turn_by, turn_all};
-ghost use Rattle.automata_base.specs.Turns.{turn_ranges, turn_state, turn_states, size, IsHead, AreMade};
+ghost use Rattle.automata_base.specs.Nfas.Mirrors.{flip};
+ghost use Rattle.automata_base.specs.Nfas.Errors.{transitions_below, state_below, states_below};
+ghost use Rattle.automata_base.specs.Retraced.DenseRuns.{starts_with, run_of, runs_from};
+ghost use Rattle.automata_base.specs.Retraced.ReversedEdges.{lists_of, turns_of, push_at, no_lists, turn_free, turn_by};
+ghost use Rattle.automata_base.specs.Retraced.ReversedEdges.{turn_all};
+ghost use Rattle.automata_base.specs.Retraced.ReversedEdges.{turn_ranges, turn_state, turn_states, size, IsHead};
+ghost use Rattle.automata_base.specs.Retraced.ReversedEdges.{AreMade};
 
 use crate::nfa::thompson::{State, Transition};
 use crate::util::look::Look;

@@ -1,11 +1,11 @@
 ghost use Rattle.std.specs.Prelude.{◌≡◌, ◌+◌, ◌<◌, ◌≤◌, ◌∷◌, ◌++◌, List, ℕ, length, reverse, All, vec_len};
 ghost use Rattle.std.specs.Prelude.{vec_capacity, option_to_list, IsTrue, []};
-ghost use Rattle.automata_base.specs.Nfa.{Truth};
-ghost use Rattle.automata_base.specs.Paths.{IsClosure};
-ghost use Rattle.automata_base.specs.Visits.{children_at, IsUnderWay};
-ghost use Rattle.automata_base.specs.Nodes.{node_of, nfa_of};
-ghost use Rattle.automata_base.specs.Rooms.{IsClosureRoom};
-ghost use Rattle.automata_base.specs.Truths.{truth_of};
+ghost use Rattle.automata_base.specs.Nfas.Nfa.{Truth};
+ghost use Rattle.automata_base.specs.Paths.Paths.{IsClosure};
+ghost use Rattle.automata_base.specs.Powersets.Closure.{children_at, IsUnderWay};
+ghost use Rattle.automata_base.specs.Nfas.Nodes.{node_of, nfa_of};
+ghost use Rattle.automata_base.specs.Retraced.Rooms.{IsClosureRoom};
+ghost use Rattle.automata_base.specs.Haystacks.LookSets.{truth_of};
 
 use crate::nfa::thompson::{NFA, State};
 use crate::util::determinize::sparse_set::SparseSet;

@@ -1,11 +1,11 @@
 ghost use Rattle.std.specs.Prelude.{◌≡◌, ◌<◌, ◌&&◌, ◌||◌, not, true, false, eqb, IsTrue, IsFalse, IfSome, OnSome};
 ghost use Rattle.std.specs.Prelude.{None};
-ghost use Rattle.automata_base.specs.Looks.{is_word_byte, is_word, is_byte, first_half, second_half};
-ghost use Rattle.automata_base.specs.Passes.{decided, true_looks, IsNews};
-ghost use Rattle.automata_base.specs.Computed.{always, known_looks};
-ghost use Rattle.automata_base.specs.Looks.{look_index};
-ghost use Rattle.automata_base.specs.Truths.{truth_of};
-ghost use Rattle.automata_base.specs.Nodes.{nfa_of};
+ghost use Rattle.automata_base.specs.Haystacks.Looks.{is_word_byte, is_word, is_byte, first_half, second_half};
+ghost use Rattle.automata_base.specs.Powersets.Passes.{decided, true_looks, IsNews};
+ghost use Rattle.automata_base.specs.Retraced.ComputedPass.{always, known_looks};
+ghost use Rattle.automata_base.specs.Haystacks.Looks.{look_index};
+ghost use Rattle.automata_base.specs.Haystacks.LookSets.{truth_of};
+ghost use Rattle.automata_base.specs.Nfas.Nodes.{nfa_of};
 
 use crate::nfa::thompson::NFA;
 use crate::util::determinize::state::State;

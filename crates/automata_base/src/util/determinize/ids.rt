@@ -17,7 +17,7 @@ pub struct Ids<'a> {
 
 impl<'a> Model for Ids<'a> {
     ghost use Rattle.std.specs.Prelude.{List, ℕ};
-    ghost use Rattle.automata_base.specs.Code.{ids_of, numbers, AreIds};
+    ghost use Rattle.automata_base.specs.Powersets.Code.{ids_of, numbers, AreIds};
 
     ghost Value = { List ℕ };
 
@@ -46,7 +46,7 @@ impl<'a> Iterator for Ids<'a> {
 }
 
 impl<'a> Ids<'a> {
-    ghost use Rattle.automata_base.specs.Code.{ids_of, numbers, AreIds};
+    ghost use Rattle.automata_base.specs.Powersets.Code.{ids_of, numbers, AreIds};
 
     /// The NFA states of these bytes.
     pub fn new(bytes: &'a [u8]) -> Ids<'a>

@@ -1,6 +1,6 @@
 // Keys of a map from states: a state is looked up by its bytes before it is shared.
 ghost use Rattle.std.specs.Prelude.{◌≡◌, ◌⊎◌, [], IfOk};
-ghost use Rattle.automata_base.specs.Code.{code, decoded, IsCode};
+ghost use Rattle.automata_base.specs.Powersets.Code.{code, decoded, IsCode};
 
 use crate::util::determinize::state::State;
 use std::alloc::{AllocError, Global};
@@ -16,7 +16,7 @@ enum Bytes {
 }
 
 impl Bytes {
-    ghost use Rattle.automata_base.specs.Key.{bytes_of};
+    ghost use Rattle.automata_base.specs.Powersets.Key.{bytes_of};
 
     fn as_slice(&self) -> &[u8]
         ensures { result.now ≡ bytes_of self.now }
@@ -35,9 +35,9 @@ pub struct Key {
 }
 
 impl Model for Key {
-    ghost use Rattle.automata_base.specs.Code.{decoded, IsCode};
-    ghost use Rattle.automata_base.specs.Powerset.{Powerset};
-    ghost use Rattle.automata_base.specs.Key.{bytes_of};
+    ghost use Rattle.automata_base.specs.Powersets.Code.{decoded, IsCode};
+    ghost use Rattle.automata_base.specs.Powersets.Powerset.{Powerset};
+    ghost use Rattle.automata_base.specs.Powersets.Key.{bytes_of};
 
     ghost Value = { Powerset };
 
@@ -48,7 +48,7 @@ impl Model for Key {
 
 impl PartialEq for Key {
     ghost use Rattle.std.specs.Cmp.{partial_equiv_from_equiv, decided};
-    ghost use Rattle.automata_base.specs.Equal.{powerset_eq, powerset_eq-Decides};
+    ghost use Rattle.automata_base.specs.Powersets.Equal.{powerset_eq, powerset_eq-Decides};
 
     ghost eq = { powerset_eq };
 
@@ -61,14 +61,14 @@ impl PartialEq for Key {
 
 impl Eq for Key {
     ghost use Rattle.std.specs.Cmp.{decided};
-    ghost use Rattle.automata_base.specs.Equal.{powerset_eq, powerset_eq-Decides};
+    ghost use Rattle.automata_base.specs.Powersets.Equal.{powerset_eq, powerset_eq-Decides};
 
     ghost laws = { decided powerset_eq powerset_eq-Decides };
 }
 
 impl Hash for Key {
     ghost use Rattle.std.specs.Hash.{same_Alike};
-    ghost use Rattle.automata_base.specs.Equal.{powerset_hash, powerset_eq-Decides};
+    ghost use Rattle.automata_base.specs.Powersets.Equal.{powerset_hash, powerset_eq-Decides};
 
     ghost hash_input = { powerset_hash };
 

@@ -2,9 +2,9 @@
 ghost use Rattle.std.specs.Prelude.{◌≡◌, ◌≤◌, ◌↔◌, IfOk, length};
 ghost use Rattle.std.specs.Prelude.{nat_eq};
 ghost use Rattle.std.specs.List.{IsDistinct};
-ghost use Rattle.automata_base.specs.Code.{code, decoded};
-ghost use Rattle.automata_base.specs.Parts.{powerset_of};
-ghost use Rattle.automata_base.specs.Powerset.{Powerset, IsPowerset, cost};
+ghost use Rattle.automata_base.specs.Powersets.Code.{code, decoded};
+ghost use Rattle.automata_base.specs.Powersets.Parts.{powerset_of};
+ghost use Rattle.automata_base.specs.Powersets.Powerset.{Powerset, IsPowerset, cost};
 
 use crate::util::determinize::state::{Parts, State};
 use std::alloc::{AllocError, Global};

@@ -1,15 +1,15 @@
 ghost use Rattle.std.specs.Prelude.{◌≡◌, ◌+◌, ◌<◌, ◌≤◌, [], ◌∷◌, ◌++◌, ℕ, length, take, eqb, Some};
 ghost use Rattle.std.specs.Prelude.{None, false};
 ghost use Rattle.automata_base.specs.Lists.{In, pick};
-ghost use Rattle.automata_base.specs.Nfa.{keep};
-ghost use Rattle.automata_base.specs.Computed.{any_state};
-ghost use Rattle.automata_base.specs.Looks.{look_index};
-ghost use Rattle.automata_base.specs.Cuts.{cut};
-ghost use Rattle.automata_base.specs.Made.{AreMatched};
-ghost use Rattle.automata_base.specs.Nodes.{nfa_of};
-ghost use Rattle.automata_base.specs.Truths.{truth_of};
-ghost use Rattle.automata_base.specs.Looks.{Look};
-ghost use Rattle.automata_base.specs.Computed.{is_in};
+ghost use Rattle.automata_base.specs.Nfas.Nfa.{keep};
+ghost use Rattle.automata_base.specs.Retraced.ComputedPass.{any_state};
+ghost use Rattle.automata_base.specs.Haystacks.Looks.{look_index};
+ghost use Rattle.automata_base.specs.Powersets.Cuts.{cut};
+ghost use Rattle.automata_base.specs.Powersets.Results.{AreMatched};
+ghost use Rattle.automata_base.specs.Nfas.Nodes.{nfa_of};
+ghost use Rattle.automata_base.specs.Haystacks.LookSets.{truth_of};
+ghost use Rattle.automata_base.specs.Haystacks.Looks.{Look};
+ghost use Rattle.automata_base.specs.Retraced.ComputedPass.{is_in};
 ghost use Rattle.std.specs.Prelude.{vec_capacity, vec_len, cond};
 
 use crate::nfa::thompson::NFA;

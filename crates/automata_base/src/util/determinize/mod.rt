@@ -1,7 +1,7 @@
 //! The powerset construction: what a set of NFA states leads to, one unit at a time.
 ghost use Rattle.std.specs.Prelude.{◌≡◌, ◌+◌, IfOk};
-ghost use Rattle.automata_base.specs.Made.{IsStartMade, IsStepMade};
-ghost use Rattle.automata_base.specs.Starts.{IsOf};
+ghost use Rattle.automata_base.specs.Powersets.Results.{IsStartMade, IsStepMade};
+ghost use Rattle.automata_base.specs.Paths.Starts.{IsOf};
 
 pub(crate) mod closure;
 pub(crate) mod construct;

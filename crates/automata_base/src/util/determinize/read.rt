@@ -1,7 +1,8 @@
 // Reading of coded bytes.
 ghost use Rattle.std.specs.Prelude.{◌≡◌, ◌+◌, ◌<◌, ◌≤◌, ◌^◌, ℕ, List, length};
 ghost use Rattle.std.specs.Prelude.{slice_index, OnOk, nat_lt};
-ghost use Rattle.automata_base.specs.Code.{IsFront, IsCode, number_at, id_at, is_set, patterns_of, ids_bytes, numbers, bit};
+ghost use Rattle.automata_base.specs.Powersets.Code.{IsFront, IsCode, number_at, id_at, is_set, patterns_of, ids_bytes};
+ghost use Rattle.automata_base.specs.Powersets.Code.{numbers, bit};
 
 use crate::util::primitives::PatternID;
 use std::alloc::AllocError;

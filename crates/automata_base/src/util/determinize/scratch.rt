@@ -1,9 +1,9 @@
 //! The buffers that determinization works in, allocated once for an NFA.
 ghost use Rattle.std.specs.Prelude.{◌≡◌, ◌+◌, IfOk};
-ghost use Rattle.automata_base.specs.Made.{IsStartMade, IsStepMade};
-ghost use Rattle.automata_base.specs.Once.{Distinct};
-ghost use Rattle.automata_base.specs.Parts.{powerset_of};
-ghost use Rattle.automata_base.specs.Starts.{IsOf};
+ghost use Rattle.automata_base.specs.Powersets.Results.{IsStartMade, IsStepMade};
+ghost use Rattle.automata_base.specs.Retraced.Once.{Distinct};
+ghost use Rattle.automata_base.specs.Powersets.Parts.{powerset_of};
+ghost use Rattle.automata_base.specs.Paths.Starts.{IsOf};
 
 use crate::nfa::thompson::NFA;
 use crate::util::determinize::construct::{next_into, start_into};
@@ -35,7 +35,7 @@ pub struct Scratch {
 }
 
 impl Model for Scratch {
-    ghost use Rattle.automata_base.specs.Scratches.{ScratchView, view_of, IsScratch};
+    ghost use Rattle.automata_base.specs.Powersets.Scratch.{ScratchView, view_of, IsScratch};
 
     ghost Value = { ScratchView };
 

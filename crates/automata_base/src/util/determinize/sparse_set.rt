@@ -1,8 +1,8 @@
 ghost use Rattle.std.specs.Prelude.{◌≡◌, ◌<◌, ◌≤◌, [], ◌∷◌, ◌++◌, IfOk, IsTrue, IsFalse, Contains};
 ghost use Rattle.std.specs.Prelude.{ℕ, length};
 ghost use Rattle.automata_base.specs.Lists.{In};
-ghost use Rattle.automata_base.specs.Once.{Distinct};
-ghost use Rattle.automata_base.specs.Turns.{place_in};
+ghost use Rattle.automata_base.specs.Retraced.Once.{Distinct};
+ghost use Rattle.automata_base.specs.Retraced.ReversedEdges.{place_in};
 
 use crate::util::primitives::StateID;
 use std::alloc::{AllocError, Global};
@@ -17,11 +17,11 @@ pub struct SparseSet {
 }
 
 impl Model for SparseSet {
-    ghost use Rattle.automata_base.specs.Members.{Members};
+    ghost use Rattle.automata_base.specs.Powersets.Members.{Members};
 
     ghost Value = { Members };
 
-    ghost use Rattle.automata_base.specs.Sparse.{members_of, IsSparse};
+    ghost use Rattle.automata_base.specs.Retraced.SparseSet.{members_of, IsSparse};
 
     ghost view = { members_of };
 

@@ -2,10 +2,10 @@
 ghost use Rattle.std.specs.Prelude.{◌≡◌, ◌≤◌, ◌<◌, IfOk, OnOk, IsTrue, ◌↔◌, length, slice_index};
 ghost use Rattle.std.specs.Prelude.{nat_eq};
 ghost use Rattle.std.specs.List.{IsDistinct};
-ghost use Rattle.automata_base.specs.Code.{code, decoded, IsCode};
-ghost use Rattle.automata_base.specs.Powerset.{Powerset, IsPowerset, cost};
-ghost use Rattle.automata_base.specs.Parts.{powerset_of};
-ghost use Rattle.automata_base.specs.Starts.{IsOf};
+ghost use Rattle.automata_base.specs.Powersets.Code.{code, decoded, IsCode};
+ghost use Rattle.automata_base.specs.Powersets.Powerset.{Powerset, IsPowerset, cost};
+ghost use Rattle.automata_base.specs.Powersets.Parts.{powerset_of};
+ghost use Rattle.automata_base.specs.Paths.Starts.{IsOf};
 
 use crate::nfa::thompson::NFA;
 use crate::util::determinize::ids::{Ids, are_below, read_ids};
@@ -70,8 +70,8 @@ pub struct State {
 
 impl Model for State {
     ghost use Rattle.std.specs.Rc.{rc_slice_items};
-    ghost use Rattle.automata_base.specs.Code.{decoded, IsCode};
-    ghost use Rattle.automata_base.specs.Powerset.{Powerset};
+    ghost use Rattle.automata_base.specs.Powersets.Code.{decoded, IsCode};
+    ghost use Rattle.automata_base.specs.Powersets.Powerset.{Powerset};
 
     ghost Value = { Powerset };
 
@@ -82,7 +82,7 @@ impl Model for State {
 
 impl PartialEq for State {
     ghost use Rattle.std.specs.Cmp.{partial_equiv_from_equiv, decided};
-    ghost use Rattle.automata_base.specs.Equal.{powerset_eq, powerset_eq-Decides};
+    ghost use Rattle.automata_base.specs.Powersets.Equal.{powerset_eq, powerset_eq-Decides};
 
     ghost eq = { powerset_eq };
 
@@ -95,14 +95,14 @@ impl PartialEq for State {
 
 impl Eq for State {
     ghost use Rattle.std.specs.Cmp.{decided};
-    ghost use Rattle.automata_base.specs.Equal.{powerset_eq, powerset_eq-Decides};
+    ghost use Rattle.automata_base.specs.Powersets.Equal.{powerset_eq, powerset_eq-Decides};
 
     ghost laws = { decided powerset_eq powerset_eq-Decides };
 }
 
 impl Hash for State {
     ghost use Rattle.std.specs.Hash.{same_Alike};
-    ghost use Rattle.automata_base.specs.Equal.{powerset_hash, powerset_eq-Decides};
+    ghost use Rattle.automata_base.specs.Powersets.Equal.{powerset_hash, powerset_eq-Decides};
 
     ghost hash_input = { powerset_hash };
 
@@ -123,7 +123,7 @@ impl Clone for State {
 }
 
 impl State {
-    ghost use Rattle.automata_base.specs.Parts.{powerset_of};
+    ghost use Rattle.automata_base.specs.Powersets.Parts.{powerset_of};
 
     /// The state of these parts, in which no pattern stands twice: `Parts::is_without_repeats` is the test. The only
     /// error is out of memory.

@@ -1,9 +1,10 @@
 // The bytes of a state, appended to a vector.
 ghost use Rattle.std.specs.Prelude.{◌≡◌, ◌++◌, ◌<◌, ◌^◌, length, All, OnOk};
 ghost use Rattle.std.specs.List.{flat_map};
-ghost use Rattle.automata_base.specs.Code.{four_bytes, varint, ids_code, code, difference, is_listed, patterns_code};
-ghost use Rattle.automata_base.specs.Code.{flag_byte, has_any};
-ghost use Rattle.automata_base.specs.Powerset.{IsId};
+ghost use Rattle.automata_base.specs.Powersets.Code.{four_bytes, varint, ids_code, code, difference, is_listed};
+ghost use Rattle.automata_base.specs.Powersets.Code.{patterns_code};
+ghost use Rattle.automata_base.specs.Powersets.Code.{flag_byte, has_any};
+ghost use Rattle.automata_base.specs.Powersets.Powerset.{IsId};
 
 use crate::util::primitives::{PatternID, StateID};
 use std::alloc::AllocError;

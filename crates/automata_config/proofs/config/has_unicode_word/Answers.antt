@@ -1,5 +1,5 @@
 use Rattle.std.proofs.Common.{◌∙◌}
-use Rattle.automata_base.specs.Truths.{truth_of}
+use Rattle.automata_base.specs.Haystacks.LookSets.{truth_of}
 use Rattle.automata_config.specs.Settling.{has_unicode_word, occurs, unicode_word_looks}
 use Rattle.automata_config.proofs.Refusing.{list_any-same}
 use Rattle.automata_config.proofs.config.has_unicode_word.Goals as goal

@@ -1,5 +1,5 @@
 use Rattle.std.proofs.Common.{◌≡◌, ◌<◌, ◌||◌, ◌&&◌, ℕ, leb, ltb, length}
-use Rattle.automata_base.specs.Classes.{is_quit}
+use Rattle.automata_base.specs.ByteClasses.Classes.{is_quit}
 use Rattle.automata_config.proofs.config.with_non_ascii.Given as goal
 
 abbrev pub invariant-loop-byte : goal.invariant-loop-byte

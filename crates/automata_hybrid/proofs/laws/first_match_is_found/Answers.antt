@@ -1,5 +1,5 @@
 use Rattle.std.proofs.Common.{subst}
-use Rattle.automata_base.specs.Told.{ToldEndsAreRight}
+use Rattle.automata_base.specs.Answers.OfPasses.{ToldEndsAreRight}
 use Rattle.automata_hybrid.proofs.Standing.{first_match_is_found}
 use Rattle.automata_hybrid.proofs.laws.first_match_is_found.Goals as goal
 

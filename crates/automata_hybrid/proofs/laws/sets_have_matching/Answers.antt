@@ -1,6 +1,6 @@
 use Rattle.std.proofs.Common.{subst}
-use Rattle.automata_base.specs.WalkLaws.{AllPairsAreTold, WalksAreTold}
-use Rattle.automata_base.specs.Within.{WalkLiesWithin}
+use Rattle.automata_base.specs.Laws.Walks.{AllPairsAreTold, WalksAreTold}
+use Rattle.automata_base.specs.Answers.Within.{WalkLiesWithin}
 use Rattle.automata_hybrid.proofs.Accepting.{sets_have_matching}
 use Rattle.automata_hybrid.proofs.laws.sets_have_matching.Goals as goal
 

@@ -1,5 +1,5 @@
 use Rattle.std.proofs.Common.{subst}
-use Rattle.automata_base.specs.WalkLaws.{WalksAreTold}
+use Rattle.automata_base.specs.Laws.Walks.{WalksAreTold}
 use Rattle.automata_hybrid.proofs.Agreeing.{walks_agree}
 use Rattle.automata_hybrid.proofs.laws.walks_agree.Goals as goal
 

@@ -1,8 +1,8 @@
 use Rattle.std.proofs.Common.{List, subst, ◌∙◌}
 use Rattle.regex_automata.specs.declared.hybrid.regex.Regex.{Regex}
-use Rattle.regex_automata.specs.Histories.{after}
-use Rattle.regex_automata.specs.ReplayCaches.{AreMade}
-use Rattle.regex_automata.specs.Replies.{IsReply}
+use Rattle.regex_automata.specs.Replay.Histories.{after}
+use Rattle.regex_automata.specs.Replay.Caches.{AreMade}
+use Rattle.regex_automata.specs.Replay.Replies.{IsReply}
 use Rattle.regex_automata.proofs.Folding.{completes_turn, completes_end, continues_turn, continues_end}
 use Rattle.regex_automata.proofs.replay.answer_all.Goals as goal
 

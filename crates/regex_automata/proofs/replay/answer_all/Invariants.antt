@@ -1,6 +1,6 @@
 use Rattle.std.proofs.Common.{◌≡◌, drop}
-use Rattle.regex_automata.specs.Histories.{History}
-use Rattle.regex_automata.specs.Players.{HasPlayed}
+use Rattle.regex_automata.specs.Replay.Histories.{History}
+use Rattle.regex_automata.specs.Replay.Players.{HasPlayed}
 use Rattle.regex_automata.proofs.Folding.{Completes, Continues}
 use Rattle.regex_automata.proofs.replay.answer_all.Given as goal
 

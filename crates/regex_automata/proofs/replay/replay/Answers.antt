@@ -1,7 +1,7 @@
 use Rattle.std.proofs.Common.{◌≡◌, List, [], IfOk, arith, subst, sym}
 use Rattle.std.proofs.lemmas.Grind.{common_steps}
 use Rattle.regex_automata.specs.declared.hybrid.regex.Regex.{Regex}
-use Rattle.regex_automata.specs.Replies.{AreReplies}
+use Rattle.regex_automata.specs.Replay.Replies.{AreReplies}
 use Rattle.regex_automata.proofs.WalkTelling.{all_tell}
 use Rattle.regex_automata.proofs.replay.replay.Goals as goal
 

@@ -1,13 +1,13 @@
 ghost use Rattle.std.specs.Prelude.{◌≡◌, IfOk, IfErr, length, Some, false};
-ghost use Rattle.automata_base.specs.Engines.{engine_of};
-ghost use Rattle.automata_base.specs.Mirrors.{IsReversed};
-ghost use Rattle.automata_base.specs.Nodes.{Automaton, nfa_of};
-ghost use Rattle.automata_base.specs.Paths.{IsLookAcyclic};
-ghost use Rattle.automata_base.specs.Tapes.{Forward};
-ghost use Rattle.automata_base.specs.TruePairs.{IsTruePair, KeepsUtf8};
+ghost use Rattle.automata_base.specs.Nfas.Engines.{engine_of};
+ghost use Rattle.automata_base.specs.Nfas.Mirrors.{IsReversed};
+ghost use Rattle.automata_base.specs.Nfas.Nodes.{Automaton, nfa_of};
+ghost use Rattle.automata_base.specs.Paths.Paths.{IsLookAcyclic};
+ghost use Rattle.automata_base.specs.Haystacks.Tapes.{Forward};
+ghost use Rattle.automata_base.specs.Answers.TruePairs.{IsTruePair, KeepsUtf8};
 ghost use Rattle.automata_config.specs.Options.{Options, unset, overwritten};
-ghost use Rattle.regex_automata.specs.RegexBuilds.{BuildsPair, PassesAll, pair_refusal, reverse_refusal, IsRefusal};
-ghost use Rattle.regex_automata.specs.SoundPairs.{IsSoundPair};
+ghost use Rattle.regex_automata.specs.Regexes.Builds.{BuildsPair, PassesAll, pair_refusal, reverse_refusal, IsRefusal};
+ghost use Rattle.regex_automata.specs.Regexes.SoundPairs.{IsSoundPair};
 ghost use Rattle.regex_automata.specs.declared.hybrid.regex.build.RegexBuildError.TheVariants.{Build as RegexBuild};
 ghost use Rattle.regex_automata.specs.declared.hybrid.regex.build.RegexBuildError.TheVariants.{OutOfMemory as RegexOutOfMemory};
 

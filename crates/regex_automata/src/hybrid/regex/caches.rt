@@ -1,9 +1,9 @@
 ghost use Rattle.std.specs.Prelude.{◌≡◌, ◌+◌, ◌^◌, ◌-◌, IfOk, OnOk, OnErr, min};
 ghost use Rattle.std.specs.Borrow.{sem};
-ghost use Rattle.automata_hybrid.specs.Usage.{usage};
-ghost use Rattle.automata_hybrid.specs.Owing.{IsStoreOf};
-ghost use Rattle.regex_automata.specs.RegexCaches.{AreFresh};
-ghost use Rattle.regex_automata.specs.Lending.{LendsBothParts, LendsForward, LendsReverse, StaysSame};
+ghost use Rattle.automata_hybrid.specs.Cache.Usage.{usage};
+ghost use Rattle.automata_hybrid.specs.Searches.Contracts.{IsStoreOf};
+ghost use Rattle.regex_automata.specs.Regexes.Caches.{AreFresh};
+ghost use Rattle.regex_automata.specs.Regexes.LentCaches.{LendsBothParts, LendsForward, LendsReverse, StaysSame};
 
 use crate::hybrid::dfa;
 use crate::hybrid::regex::Regex;

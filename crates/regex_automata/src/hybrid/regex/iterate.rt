@@ -1,14 +1,14 @@
 ghost use Rattle.std.specs.Prelude.{◌≡◌, ◌≤◌, ◌+◌, IfOk, IfErr, IfSome, OnErr, None, Err, false, true};
 ghost use Rattle.std.specs.Iterator.{at_most};
-ghost use Rattle.automata_base.specs.Input.{Allows};
-ghost use Rattle.automata_base.specs.Spans.{IsEmptyAt, from};
-ghost use Rattle.automata_base.specs.Tapes.{Forward};
-ghost use Rattle.automata_hybrid.specs.Owing.{IsUnsupported, unsupported_error};
-ghost use Rattle.regex_automata.specs.Iterating.{GivesItem, GoesPast, IsNextMatch, IsNextRefusal};
-ghost use Rattle.regex_automata.specs.Iterating.{input_at, most_items};
-ghost use Rattle.regex_automata.specs.Owing.{TellsUnsupported};
-ghost use Rattle.regex_automata.specs.RegexEffects.{IsItemEffect, IsNextEffect};
-ghost use Rattle.regex_automata.specs.RegexCaches.{AreCachesOf};
+ghost use Rattle.automata_base.specs.Haystacks.Input.{Allows};
+ghost use Rattle.automata_base.specs.Answers.Spans.{IsEmptyAt, from};
+ghost use Rattle.automata_base.specs.Haystacks.Tapes.{Forward};
+ghost use Rattle.automata_hybrid.specs.Searches.Contracts.{IsUnsupported, unsupported_error};
+ghost use Rattle.regex_automata.specs.Spans.Iteration.{GivesItem, GoesPast, IsNextMatch, IsNextRefusal};
+ghost use Rattle.regex_automata.specs.Spans.Iteration.{input_at, most_items};
+ghost use Rattle.regex_automata.specs.Spans.Contracts.{TellsUnsupported};
+ghost use Rattle.regex_automata.specs.Spans.Effects.{IsItemEffect, IsNextEffect};
+ghost use Rattle.regex_automata.specs.Regexes.Caches.{AreCachesOf};
 
 use crate::hybrid::regex::{Cache, Regex};
 use crate::laws::matches_agree;

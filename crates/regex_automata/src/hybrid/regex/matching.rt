@@ -1,9 +1,9 @@
 ghost use Rattle.std.specs.Prelude.{◌≡◌, ◌-◌, ◌<◌, IfErr, false, true};
-ghost use Rattle.automata_hybrid.specs.Searches.{Skips};
-ghost use Rattle.regex_automata.specs.Matching.{IsAsked, IsMatchRefused};
-ghost use Rattle.regex_automata.specs.Owing.{IsTruthOf};
-ghost use Rattle.regex_automata.specs.RegexEffects.{IsTruthEffect};
-ghost use Rattle.regex_automata.specs.RegexCaches.{AreCachesOf};
+ghost use Rattle.automata_hybrid.specs.Searches.Passes.{Skips};
+ghost use Rattle.regex_automata.specs.Spans.IsMatch.{IsAsked, IsMatchRefused};
+ghost use Rattle.regex_automata.specs.Spans.Contracts.{IsTruthOf};
+ghost use Rattle.regex_automata.specs.Spans.Effects.{IsTruthEffect};
+ghost use Rattle.regex_automata.specs.Regexes.Caches.{AreCachesOf};
 
 use crate::hybrid::regex::{Cache, Regex};
 use automata_base::laws::told_is_right;

@@ -2,7 +2,7 @@
 //! starts.
 ghost use Rattle.std.specs.Prelude.{◌≡◌, IfOk, OnOk, OnErr, length};
 ghost use Rattle.automata_config.specs.Options.{unset};
-ghost use Rattle.regex_automata.specs.RegexCaches.{AreFresh};
+ghost use Rattle.regex_automata.specs.Regexes.Caches.{AreFresh};
 
 mod build;
 mod caches;

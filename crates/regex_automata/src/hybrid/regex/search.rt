@@ -1,15 +1,15 @@
 ghost use Rattle.std.specs.Prelude.{◌≡◌, ◌-◌, ◌≤◌, IfOk, IfErr, IfSome, None, false, true};
-ghost use Rattle.automata_base.specs.Spans.{IsShort, back};
-ghost use Rattle.automata_hybrid.specs.Caches.{IsCacheOf};
-ghost use Rattle.automata_hybrid.specs.Owing.{IsMemory};
-ghost use Rattle.automata_hybrid.specs.Searches.{NoQuitInReach, with_base};
-ghost use Rattle.automata_hybrid.specs.Within.{LiesPast};
-ghost use Rattle.regex_automata.specs.SoundPairs.{forward_engine};
-ghost use Rattle.regex_automata.specs.Outcomes.{IsStartFound};
-ghost use Rattle.regex_automata.specs.Owing.{IsSpanOf, IsSpanTold};
-ghost use Rattle.regex_automata.specs.RegexEffects.{IsBackEffect, IsSpanEffect};
-ghost use Rattle.regex_automata.specs.RegexCaches.{AreCachesOf};
-ghost use Rattle.regex_automata.specs.RegexRefusals.{HasReason, IsBackRefused, IsRegexRefusal};
+ghost use Rattle.automata_base.specs.Answers.Spans.{IsShort, back};
+ghost use Rattle.automata_hybrid.specs.Cache.Caches.{IsCacheOf};
+ghost use Rattle.automata_hybrid.specs.Searches.Contracts.{IsMemory};
+ghost use Rattle.automata_hybrid.specs.Searches.Passes.{NoQuitInReach, with_base};
+ghost use Rattle.automata_hybrid.specs.Searches.Within.{LiesPast};
+ghost use Rattle.regex_automata.specs.Regexes.SoundPairs.{forward_engine};
+ghost use Rattle.regex_automata.specs.Spans.Outcomes.{IsStartFound};
+ghost use Rattle.regex_automata.specs.Spans.Contracts.{IsSpanOf, IsSpanTold};
+ghost use Rattle.regex_automata.specs.Spans.Effects.{IsBackEffect, IsSpanEffect};
+ghost use Rattle.regex_automata.specs.Regexes.Caches.{AreCachesOf};
+ghost use Rattle.regex_automata.specs.Spans.Errors.{HasReason, IsBackRefused, IsRegexRefusal};
 ghost use Rattle.automata_config.specs.Options.{minimum_cache_clear_count_of};
 
 use crate::hybrid::dfa;

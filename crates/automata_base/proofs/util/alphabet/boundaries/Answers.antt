@@ -1,7 +1,7 @@
 use Rattle.std.proofs.Common.{true, false, sym, ap, ◌∙◌, arith, replicate}
 use Rattle.std.proofs.lemmas.List.{get_or-replicate}
-use Rattle.automata_base.specs.Classes.{states_bound}
-use Rattle.automata_base.specs.Marks.{Adds}
+use Rattle.automata_base.specs.ByteClasses.Classes.{states_bound}
+use Rattle.automata_base.specs.Retraced.Boundaries.{Adds}
 use Rattle.automata_base.proofs.Values.Marking.{adds_like, bounded_off, bounded_on}
 use Rattle.automata_base.proofs.util.alphabet.boundaries.Goals as goal
 

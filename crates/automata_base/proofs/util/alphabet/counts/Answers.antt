@@ -1,7 +1,8 @@
 use Rattle.std.proofs.Common.{◌≡◌, ◌+◌, ap, sym, ◌∙◌, arith, refl, length-set, replicate}
-use Rattle.automata_base.specs.Marks.{is_marked}
-use Rattle.automata_base.specs.Classes.{boundary_count}
-use Rattle.automata_base.proofs.Values.Boundaries.{count_none, first_counted, count_next, next_counted, from_bool-cond, from_bool-small}
+use Rattle.automata_base.specs.Retraced.Boundaries.{is_marked}
+use Rattle.automata_base.specs.ByteClasses.Classes.{boundary_count}
+use Rattle.automata_base.proofs.Values.Boundaries.{count_none, first_counted, count_next, next_counted, from_bool-cond}
+use Rattle.automata_base.proofs.Values.Boundaries.{from_bool-small}
 use Rattle.automata_base.proofs.util.alphabet.counts.Goals as goal
 
 pub loop-byte-init : goal.loop-byte-init

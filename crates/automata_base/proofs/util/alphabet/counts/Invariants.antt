@@ -1,6 +1,6 @@
 use Rattle.std.proofs.Common.{◌≡◌, ◌-◌, ◌<◌, ℕ, length, get_or}
-use Rattle.automata_base.specs.Classes.{boundary_count}
-use Rattle.automata_base.specs.Marks.{is_marked}
+use Rattle.automata_base.specs.ByteClasses.Classes.{boundary_count}
+use Rattle.automata_base.specs.Retraced.Boundaries.{is_marked}
 use Rattle.automata_base.proofs.util.alphabet.counts.Given as goal
 
 abbrev pub invariant-loop-byte : goal.invariant-loop-byte

@@ -1,5 +1,5 @@
 use Rattle.std.proofs.Common.{ℕ, ◌≡◌, ◌<◌, false}
-use Rattle.automata_base.specs.Classes.{is_quit}
+use Rattle.automata_base.specs.ByteClasses.Classes.{is_quit}
 use Rattle.automata_base.proofs.util.alphabet.has_quit.Given as goal
 
 abbrev pub invariant-loop-byte : goal.invariant-loop-byte

@@ -1,4 +1,4 @@
-use Rattle.automata_base.specs.Classes.{quits_bound}
+use Rattle.automata_base.specs.ByteClasses.Classes.{quits_bound}
 use Rattle.automata_base.proofs.Values.Marking.{runs_next, adds_no_quits}
 use Rattle.automata_base.proofs.util.alphabet.mark_quits.Goals as goal
 

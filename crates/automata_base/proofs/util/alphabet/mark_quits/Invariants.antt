@@ -1,5 +1,5 @@
-use Rattle.automata_base.specs.Classes.{quits_bound}
-use Rattle.automata_base.specs.Marks.{Adds}
+use Rattle.automata_base.specs.ByteClasses.Classes.{quits_bound}
+use Rattle.automata_base.specs.Retraced.Boundaries.{Adds}
 use Rattle.automata_base.proofs.Values.Marking.{upto}
 use Rattle.automata_base.proofs.util.alphabet.mark_quits.Given as goal
 

@@ -1,4 +1,4 @@
-use Rattle.automata_base.specs.Classes.{targets_bound}
+use Rattle.automata_base.specs.ByteClasses.Classes.{targets_bound}
 use Rattle.automata_base.proofs.Values.Marking.{runs_next}
 use Rattle.automata_base.proofs.util.alphabet.mark_targets.Goals as goal
 

@@ -1,4 +1,4 @@
-use Rattle.automata_base.specs.Classes.{transitions_bound}
+use Rattle.automata_base.specs.ByteClasses.Classes.{transitions_bound}
 use Rattle.automata_base.proofs.Values.Marking.{Left}
 use Rattle.automata_base.proofs.util.alphabet.mark_transitions.Given as goal
 

@@ -1,5 +1,5 @@
 use Rattle.std.proofs.Common.{sym, subst}
-use Rattle.automata_base.specs.Made.{IsStepMade}
+use Rattle.automata_base.specs.Powersets.Results.{IsStepMade}
 use Rattle.automata_base.proofs.util.determinize.next.Goals as goal
 
 pub returns-clause-made : goal.returns-clause-made

@@ -1,5 +1,5 @@
 use Rattle.std.proofs.Common.{sym, subst}
-use Rattle.automata_base.specs.Made.{IsStartMade}
+use Rattle.automata_base.specs.Powersets.Results.{IsStartMade}
 use Rattle.automata_base.proofs.util.determinize.start.Goals as goal
 
 pub returns-clause-made : goal.returns-clause-made

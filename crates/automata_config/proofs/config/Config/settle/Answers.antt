@@ -1,5 +1,5 @@
 use Rattle.std.proofs.Common.{◌≡◌, ◌&&◌, false, not, nat_lt, sym, ap, ◌∙◌, arith, Some, max}
-use Rattle.automata_base.specs.Classes.{class_of}
+use Rattle.automata_base.specs.ByteClasses.Classes.{class_of}
 use Rattle.automata_config.specs.Options.{cache_capacity_of, skip_cache_capacity_check_of}
 use Rattle.automata_config.specs.Settling.{is_unsupported, is_too_small}
 use Rattle.automata_config.specs.declared.error.BuildError.TheVariants.{Unsupported, InsufficientStateIDCapacity}

@@ -1,17 +1,17 @@
 use Rattle.std.proofs.Common.{ℕ, suc, ◌≡◌, ◌∙◌, ◌<◌, ◌≤◌, ◌+◌, ◌-◌, inl, inr, length, refl, sym, subst, arith, ⊎_elim}
 use Rattle.std.specs.Prelude.{Result}
-use Rattle.automata_base.specs.Powerset.{dead}
-use Rattle.automata_base.specs.Tapes.{Direction}
+use Rattle.automata_base.specs.Powersets.Powerset.{dead}
+use Rattle.automata_base.specs.Haystacks.Tapes.{Direction}
 use Rattle.automata_config.specs.declared.error.SearchError.{SearchError}
 use Rattle.automata_hybrid.specs.declared.search.advance.Arrival.{Arrival}
-use Rattle.automata_hybrid.specs.Growing.{ClearedNothing}
-use Rattle.automata_hybrid.specs.KnowingWalks.{HasLearnedUnits}
-use Rattle.automata_hybrid.specs.Passing.{IsFollowed}
-use Rattle.automata_hybrid.specs.Resuming.{IsAdvanceEffect}
-use Rattle.automata_hybrid.specs.Searches.{HasReadNoQuit, state_in, tape_in}
-use Rattle.automata_hybrid.specs.Table.{Names}
-use Rattle.automata_hybrid.specs.Walking.{IsSilent, WalkReads}
-use Rattle.automata_hybrid.specs.Walks.{way_of}
+use Rattle.automata_hybrid.specs.Cache.Growth.{ClearedNothing}
+use Rattle.automata_hybrid.specs.Walks.Cached.{HasLearnedUnits}
+use Rattle.automata_hybrid.specs.Searches.PassState.{IsFollowed}
+use Rattle.automata_hybrid.specs.Walks.Parts.{IsAdvanceEffect}
+use Rattle.automata_hybrid.specs.Searches.Passes.{HasReadNoQuit, state_in, tape_in}
+use Rattle.automata_hybrid.specs.Cache.Table.{Names}
+use Rattle.automata_hybrid.specs.Walks.Answers.{IsSilent, WalkReads}
+use Rattle.automata_hybrid.specs.Walks.State.{way_of}
 use Rattle.automata_hybrid.proofs.Following.{followed_clean, followed_silent}
 use Rattle.automata_hybrid.proofs.Growing.{grown_same, grown_trans, nothing_first, nothing_second}
 use Rattle.automata_hybrid.proofs.KnowingWalks.{unit_knows, units_more, units_none}

@@ -1,11 +1,11 @@
 use Rattle.std.proofs.Common.{ℕ, suc, ◌≡◌, ◌<◌, ◌≤◌, ◌+◌, ◌-◌}
-use Rattle.automata_hybrid.specs.Caches.{IsCacheOf}
-use Rattle.automata_hybrid.specs.Growing.{ClearedNothing, IsGrown}
-use Rattle.automata_hybrid.specs.KnowingWalks.{HasLearnedUnits, KnowsUnits}
-use Rattle.automata_hybrid.specs.Searches.{HasReadNoQuit, state_in}
-use Rattle.automata_hybrid.specs.Table.{Names}
-use Rattle.automata_hybrid.specs.Walking.{HasToldBy, IsSilent, WalkReads}
-use Rattle.automata_hybrid.specs.Walks.{way_of}
+use Rattle.automata_hybrid.specs.Cache.Caches.{IsCacheOf}
+use Rattle.automata_hybrid.specs.Cache.Growth.{ClearedNothing, IsGrown}
+use Rattle.automata_hybrid.specs.Walks.Cached.{HasLearnedUnits, KnowsUnits}
+use Rattle.automata_hybrid.specs.Searches.Passes.{HasReadNoQuit, state_in}
+use Rattle.automata_hybrid.specs.Cache.Table.{Names}
+use Rattle.automata_hybrid.specs.Walks.Answers.{HasToldBy, IsSilent, WalkReads}
+use Rattle.automata_hybrid.specs.Walks.State.{way_of}
 use Rattle.automata_hybrid.proofs.UnitsRead.{AreReadTo}
 use Rattle.automata_hybrid.proofs.dfa.DFA.advance.Given as goal
 

@@ -1,8 +1,8 @@
 use Rattle.std.proofs.Common.{ℕ, sym, subst}
 use Rattle.std.specs.Prelude.{IfErr}
-use Rattle.automata_hybrid.specs.OwingWalks.{IsCallEffect, IsWalkCall}
-use Rattle.automata_hybrid.specs.Walking.{HasTold, IsWalkOf, IsWalkRefusal}
-use Rattle.automata_hybrid.specs.Walks.{States, Walk, way_of}
+use Rattle.automata_hybrid.specs.Walks.Contracts.{IsCallEffect, IsWalkCall}
+use Rattle.automata_hybrid.specs.Walks.Answers.{HasTold, IsWalkOf, IsWalkRefusal}
+use Rattle.automata_hybrid.specs.Walks.State.{States, Walk, way_of}
 use Rattle.automata_hybrid.proofs.dfa.DFA.call.Goals as goal
 
 pub call_held-requires-clause-walk : goal.call_held-requires-clause-walk

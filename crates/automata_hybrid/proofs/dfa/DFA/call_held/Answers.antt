@@ -1,13 +1,13 @@
 use Rattle.std.proofs.Common.{suc, ◌∙◌, ap, subst, sym}
 use Rattle.std.specs.Prelude.{Err, Ok, Result}
-use Rattle.automata_base.specs.Tapes.{Direction}
-use Rattle.automata_base.specs.WalkLaws.{OverlappingIsTold, WalksAreTold}
-use Rattle.automata_base.specs.Within.{WalkLiesWithin}
+use Rattle.automata_base.specs.Haystacks.Tapes.{Direction}
+use Rattle.automata_base.specs.Laws.Walks.{OverlappingIsTold, WalksAreTold}
+use Rattle.automata_base.specs.Answers.Within.{WalkLiesWithin}
 use Rattle.automata_config.specs.Options.{match_kind_of}
 use Rattle.automata_config.specs.declared.error.SearchError.{SearchError}
-use Rattle.automata_hybrid.specs.Walks.{IsHeldItself, States, Walk, way_of}
-use Rattle.automata_hybrid.specs.OwingWalks.{IsCallEffect}
-use Rattle.automata_hybrid.specs.Resuming.{IsCallRefused}
+use Rattle.automata_hybrid.specs.Walks.State.{IsHeldItself, States, Walk, way_of}
+use Rattle.automata_hybrid.specs.Walks.Contracts.{IsCallEffect}
+use Rattle.automata_hybrid.specs.Walks.Parts.{IsCallRefused}
 use Rattle.automata_hybrid.specs.declared.search.walk.Held.{Held}
 use Rattle.automata_hybrid.proofs.Owing.{is_store}
 use Rattle.automata_hybrid.proofs.Resuming.{held_itself, itself_held, supported_call}

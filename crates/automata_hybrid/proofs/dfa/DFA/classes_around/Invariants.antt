@@ -1,5 +1,5 @@
 use Rattle.std.proofs.Common.{◌<◌}
-use Rattle.automata_hybrid.specs.Machine.{table_stride}
+use Rattle.automata_hybrid.specs.Machines.Machine.{table_stride}
 use Rattle.automata_hybrid.proofs.dfa.DFA.classes_around.Given as goal
 
 abbrev pub invariant-down : goal.invariant-down

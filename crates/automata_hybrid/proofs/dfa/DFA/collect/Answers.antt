@@ -1,26 +1,30 @@
-use Rattle.std.proofs.Common.{suc, inl, inr, length-set, ◌≡◌, ◌∙◌, ◌≤◌, ◌+◌, ◌-◌, List, Bool, true, length, set, Some, rules, refl, sym, ap, subst, arith}
+use Rattle.std.proofs.Common.{suc, inl, inr, length-set, ◌≡◌, ◌∙◌, ◌≤◌, ◌+◌, ◌-◌, List, Bool, true, length, set, Some}
+use Rattle.std.proofs.Common.{rules, refl, sym, ap, subst, arith}
 use Rattle.std.specs.Prelude.{Err, IsTrue, Result}
-use Rattle.automata_base.specs.Answers.{ArePatterns}
-use Rattle.automata_base.specs.Input.{Input}
-use Rattle.automata_base.specs.PatternSet.{members}
-use Rattle.automata_base.specs.Selections.{Pair}
-use Rattle.automata_base.specs.Tapes.{Forward}
-use Rattle.automata_base.specs.WalkLaws.{WalkIsRight, WalksAreTold}
+use Rattle.automata_base.specs.Answers.Answers.{ArePatterns}
+use Rattle.automata_base.specs.Haystacks.Input.{Input}
+use Rattle.automata_base.specs.Haystacks.PatternSet.{members}
+use Rattle.automata_base.specs.Paths.Selections.{Pair}
+use Rattle.automata_base.specs.Haystacks.Tapes.{Forward}
+use Rattle.automata_base.specs.Laws.Walks.{WalkIsRight, WalksAreTold}
 use Rattle.automata_config.specs.declared.error.SearchError.{SearchError}
-use Rattle.automata_hybrid.specs.Caches.{CacheView}
-use Rattle.automata_hybrid.specs.Growing.{ClearedNothing, IsGrown}
-use Rattle.automata_hybrid.specs.Machine.{Machine}
-use Rattle.automata_hybrid.specs.OwingWalks.{IsCallEffect, IsSetTold, IsWhichEffect}
-use Rattle.automata_hybrid.specs.Resuming.{IsCallRefused}
-use Rattle.automata_hybrid.specs.SearchedWalks.{HaveCalled}
-use Rattle.automata_hybrid.specs.Walking.{AreWalked}
-use Rattle.automata_hybrid.specs.Walks.{Ended, Ids, Walk}
+use Rattle.automata_hybrid.specs.Cache.Caches.{CacheView}
+use Rattle.automata_hybrid.specs.Cache.Growth.{ClearedNothing, IsGrown}
+use Rattle.automata_hybrid.specs.Machines.Machine.{Machine}
+use Rattle.automata_hybrid.specs.Walks.Contracts.{IsCallEffect, IsSetTold, IsWhichEffect}
+use Rattle.automata_hybrid.specs.Walks.Parts.{IsCallRefused}
+use Rattle.automata_hybrid.specs.Walks.Progress.{HaveCalled}
+use Rattle.automata_hybrid.specs.Walks.Answers.{AreWalked}
+use Rattle.automata_hybrid.specs.Walks.State.{Ended, Ids, Walk}
 use Rattle.automata_hybrid.proofs.Growing.{clears_none, grown_same, grown_trans, nothing_first, nothing_second}
 use Rattle.automata_hybrid.proofs.LearningSets.{half_none, learned_call, open_stops, set_knows}
 use Rattle.automata_hybrid.proofs.Reading.{at_err}
 use Rattle.automata_hybrid.proofs.Resuming.{supported_call}
 use Rattle.automata_hybrid.proofs.Searching.{false_true, if_err}
-use Rattle.automata_hybrid.proofs.WalkSets.{IsLacking, Joins, StandsWell, begun_state, calls_more, closes, joins_all, joins_begin, joins_first, joins_full, joined_more, joins_more, lacking, on_found, open_after, patterns_of, stands_well, steps_less, told_undone, which_still, which_walk}
+use Rattle.automata_hybrid.proofs.WalkSets.{IsLacking, Joins, StandsWell, begun_state, calls_more, closes, joins_all}
+use Rattle.automata_hybrid.proofs.WalkSets.{joins_begin, joins_first, joins_full, joined_more, joins_more, lacking}
+use Rattle.automata_hybrid.proofs.WalkSets.{on_found, open_after, patterns_of, stands_well, steps_less, told_undone}
+use Rattle.automata_hybrid.proofs.WalkSets.{which_still, which_walk}
 use Rattle.automata_hybrid.proofs.dfa.DFA.collect.Goals as goal
 use Rattle.automata_config.specs.Options.{match_kind_of}
 

@@ -1,15 +1,15 @@
 use Rattle.std.proofs.Common.{◌≡◌, ◌<◌, ◌≤◌, ◌+◌, ◌-◌}
-use Rattle.automata_hybrid.specs.Caches.{IsCacheOf}
-use Rattle.automata_hybrid.specs.Growing.{ClearedNothing, IsGrown}
-use Rattle.automata_hybrid.specs.Knowing.{KnowsItsStart}
-use Rattle.automata_hybrid.specs.KnowingWalks.{KnowsWhich}
-use Rattle.automata_base.specs.Tapes.{Forward}
-use Rattle.automata_hybrid.specs.Owing.{IsUnsupported}
-use Rattle.automata_hybrid.specs.SearchedWalks.{HaveCalled}
-use Rattle.automata_hybrid.specs.Searches.{tape_in}
-use Rattle.automata_hybrid.specs.Starting.{MayStart}
-use Rattle.automata_hybrid.specs.Walking.{HasItsState, start_count}
-use Rattle.automata_hybrid.specs.Walks.{Ended, Fresh, Ids, IsHeldAt, keeping_of}
+use Rattle.automata_hybrid.specs.Cache.Caches.{IsCacheOf}
+use Rattle.automata_hybrid.specs.Cache.Growth.{ClearedNothing, IsGrown}
+use Rattle.automata_hybrid.specs.Searches.Cached.{KnowsItsStart}
+use Rattle.automata_hybrid.specs.Walks.Cached.{KnowsWhich}
+use Rattle.automata_base.specs.Haystacks.Tapes.{Forward}
+use Rattle.automata_hybrid.specs.Searches.Contracts.{IsUnsupported}
+use Rattle.automata_hybrid.specs.Walks.Progress.{HaveCalled}
+use Rattle.automata_hybrid.specs.Searches.Passes.{tape_in}
+use Rattle.automata_hybrid.specs.Steps.Starts.{MayStart}
+use Rattle.automata_hybrid.specs.Walks.Answers.{HasItsState, start_count}
+use Rattle.automata_hybrid.specs.Walks.State.{Ended, Fresh, Ids, IsHeldAt, keeping_of}
 use Rattle.automata_hybrid.proofs.LearningSets.{HasLearnedWalk}
 use Rattle.automata_hybrid.proofs.WalkSets.{Joins, steps_left}
 use Rattle.automata_hybrid.proofs.dfa.DFA.collect.Given as goal

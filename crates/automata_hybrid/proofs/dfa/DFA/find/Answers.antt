@@ -1,24 +1,30 @@
-use Rattle.std.proofs.Common.{ℕ, suc, ◌≡◌, ◌∙◌, ◌+◌, ◌-◌, ◌<◌, ◌≤◌, true, length, Some, None, inr, refl, sym, ap, subst, arith}
-use Rattle.automata_base.specs.Paths.{next}
-use Rattle.automata_base.specs.Tapes.{Direction}
-use Rattle.automata_hybrid.specs.Growing.{ClearedNothing}
-use Rattle.automata_hybrid.specs.Knowing.{KnowsPass}
-use Rattle.automata_hybrid.specs.Passing.{HasLearned, IsAt}
-use Rattle.automata_hybrid.specs.Stepping.{known_step}
-use Rattle.automata_hybrid.specs.Searches.{Reads, given_up_offset, tape_in}
+use Rattle.std.proofs.Common.{ℕ, suc, ◌≡◌, ◌∙◌, ◌+◌, ◌-◌, ◌<◌, ◌≤◌, true, length, Some, None, inr, refl, sym, ap, subst}
+use Rattle.std.proofs.Common.{arith}
+use Rattle.automata_base.specs.Paths.Paths.{next}
+use Rattle.automata_base.specs.Haystacks.Tapes.{Direction}
+use Rattle.automata_hybrid.specs.Cache.Growth.{ClearedNothing}
+use Rattle.automata_hybrid.specs.Searches.Cached.{KnowsPass}
+use Rattle.automata_hybrid.specs.Searches.PassState.{HasLearned, IsAt}
+use Rattle.automata_hybrid.specs.Steps.Steps.{known_step}
+use Rattle.automata_hybrid.specs.Searches.Passes.{Reads, given_up_offset, tape_in}
 use Rattle.automata_hybrid.proofs.Growing.{grown_same, grown_trans, nothing_first, nothing_second}
 use Rattle.automata_hybrid.proofs.Knowing.{knows_here, knows_still, learned_none, learned_step}
 use Rattle.std.proofs.lemmas.Result.{IfErr-weaker, IfOk-weaker}
-use Rattle.automata_hybrid.proofs.Passed.{dead_answer, dead_stops, first_answer, first_stops, rest_read, rest_refused, rest_then}
+use Rattle.automata_hybrid.proofs.Passed.{dead_answer, dead_stops, first_answer, first_stops, rest_read, rest_refused}
+use Rattle.automata_hybrid.proofs.Passed.{rest_then}
 use Rattle.automata_hybrid.proofs.Reading.{at_err}
-use Rattle.automata_hybrid.specs.Passed.{IsRestEffect}
-use Rattle.automata_hybrid.proofs.UnitsRead.{AreReadTo, ended_here, pass_last, pass_left_then, pass_stopped, read_none, read_then, refused_here, taken_here}
-use Rattle.automata_hybrid.proofs.Searching.{at_reads, stops_dead, stops_ends, stops_last, more_leads, more_at, place_refuses, step_refuses, unit_refuses, if_both, if_err, false_true, some_is, none_is}
+use Rattle.automata_hybrid.specs.Searches.PassContracts.{IsRestEffect}
+use Rattle.automata_hybrid.proofs.UnitsRead.{AreReadTo, ended_here, pass_last, pass_left_then, pass_stopped, read_none}
+use Rattle.automata_hybrid.proofs.UnitsRead.{read_then, refused_here, taken_here}
+use Rattle.automata_hybrid.proofs.Searching.{at_reads, stops_dead, stops_ends, stops_last, more_leads, more_at}
+use Rattle.automata_hybrid.proofs.Searching.{place_refuses, step_refuses, unit_refuses, if_both, if_err, false_true}
+use Rattle.automata_hybrid.proofs.Searching.{some_is, none_is}
 use Rattle.automata_hybrid.proofs.Directions.{not_behind, quit_free, span_unit, units_in}
 use Rattle.automata_hybrid.proofs.Stepping.{dead_tagged}
-use Rattle.automata_hybrid.specs.Walks.{way_of}
+use Rattle.automata_hybrid.specs.Walks.State.{way_of}
 use Rattle.automata_hybrid.proofs.dfa.DFA.find.Goals as goal
-use Rattle.automata_hybrid.proofs.dfa.DFA.find.Goals.{else-get_earliest-via-then-get_earliest+else-is_some, else-get_earliest-via-else-get_earliest}
+use Rattle.automata_hybrid.proofs.dfa.DFA.find.Goals.{else-get_earliest-via-then-get_earliest+else-is_some}
+use Rattle.automata_hybrid.proofs.dfa.DFA.find.Goals.{else-get_earliest-via-else-get_earliest}
 
 pub loop-at-init : goal.loop-at-init
 loop-at-init c =

@@ -1,9 +1,9 @@
 use Rattle.std.proofs.Common.{◌≡◌, ◌≤◌, ◌+◌, ◌-◌}
-use Rattle.automata_hybrid.specs.Caches.{IsCacheOf}
-use Rattle.automata_hybrid.specs.Growing.{IsGrown, ClearedNothing}
-use Rattle.automata_hybrid.specs.Knowing.{KnowsItsStart, KnowsPass}
-use Rattle.automata_hybrid.specs.Passing.{HasLearned, IsAt}
-use Rattle.automata_hybrid.specs.Walks.{way_of}
+use Rattle.automata_hybrid.specs.Cache.Caches.{IsCacheOf}
+use Rattle.automata_hybrid.specs.Cache.Growth.{IsGrown, ClearedNothing}
+use Rattle.automata_hybrid.specs.Searches.Cached.{KnowsItsStart, KnowsPass}
+use Rattle.automata_hybrid.specs.Searches.PassState.{HasLearned, IsAt}
+use Rattle.automata_hybrid.specs.Walks.State.{way_of}
 use Rattle.automata_hybrid.proofs.UnitsRead.{AreReadTo}
 use Rattle.automata_hybrid.proofs.dfa.DFA.find.Given as goal
 

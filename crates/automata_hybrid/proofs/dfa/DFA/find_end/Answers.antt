@@ -1,19 +1,19 @@
 use Rattle.std.proofs.Common.{ℕ, ◌≡◌, ◌∙◌, ◌-◌, length, refl, sym, ap, subst, arith}
-use Rattle.automata_base.specs.Answers.{offset_in}
-use Rattle.automata_base.specs.Paths.{next}
-use Rattle.automata_base.specs.Powerset.{Powerset}
-use Rattle.automata_base.specs.Steps.{successor}
-use Rattle.automata_base.specs.Tapes.{Direction}
-use Rattle.automata_hybrid.specs.Caches.{CacheView}
-use Rattle.automata_hybrid.specs.Passed.{IsRestEffect}
-use Rattle.automata_hybrid.specs.Passing.{IsAt}
-use Rattle.automata_hybrid.specs.Reading.{IsEndProgress}
-use Rattle.automata_hybrid.specs.Searched.{before_last}
-use Rattle.automata_hybrid.specs.Stores.{with_searched}
-use Rattle.automata_hybrid.specs.Searches.{given_up_offset, state_in, tape_in, unit_offset}
+use Rattle.automata_base.specs.Answers.Answers.{offset_in}
+use Rattle.automata_base.specs.Paths.Paths.{next}
+use Rattle.automata_base.specs.Powersets.Powerset.{Powerset}
+use Rattle.automata_base.specs.Retraced.Steps.{successor}
+use Rattle.automata_base.specs.Haystacks.Tapes.{Direction}
+use Rattle.automata_hybrid.specs.Cache.Caches.{CacheView}
+use Rattle.automata_hybrid.specs.Searches.PassContracts.{IsRestEffect}
+use Rattle.automata_hybrid.specs.Searches.PassState.{IsAt}
+use Rattle.automata_hybrid.specs.Searches.Units.{IsEndProgress}
+use Rattle.automata_hybrid.specs.Searches.Progress.{before_last}
+use Rattle.automata_hybrid.specs.Cache.Stores.{with_searched}
+use Rattle.automata_hybrid.specs.Searches.Passes.{given_up_offset, state_in, tape_in, unit_offset}
 use Rattle.automata_config.specs.Options.{match_kind_of}
-use Rattle.automata_hybrid.specs.Table.{IsValid, Rows, Leads, Names}
-use Rattle.automata_hybrid.specs.Walks.{way_of}
+use Rattle.automata_hybrid.specs.Cache.Table.{IsValid, Rows, Leads, Names}
+use Rattle.automata_hybrid.specs.Walks.State.{way_of}
 use Rattle.automata_hybrid.proofs.Directions.{units_in}
 use Rattle.automata_hybrid.proofs.Passed.{last_answer, rest_read, rest_refused, stands_alive}
 use Rattle.automata_hybrid.proofs.Reading.{at_err}

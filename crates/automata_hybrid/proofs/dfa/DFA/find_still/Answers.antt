@@ -1,11 +1,11 @@
 use Rattle.std.proofs.Common.{◌≡◌, ◌-◌, length, Option, None, refl, sym, arith}
 use Rattle.std.specs.Prelude.{OnErr, Result}
-use Rattle.automata_base.specs.Matches.{HalfMatch}
-use Rattle.automata_base.specs.Tapes.{Direction}
+use Rattle.automata_base.specs.Haystacks.Matches.{HalfMatch}
+use Rattle.automata_base.specs.Haystacks.Tapes.{Direction}
 use Rattle.automata_config.specs.declared.error.SearchError.{SearchError}
-use Rattle.automata_hybrid.specs.Passed.{IsRestEffect}
-use Rattle.automata_hybrid.specs.Searches.{tape_in}
-use Rattle.automata_hybrid.specs.Walks.{way_of}
+use Rattle.automata_hybrid.specs.Searches.PassContracts.{IsRestEffect}
+use Rattle.automata_hybrid.specs.Searches.Passes.{tape_in}
+use Rattle.automata_hybrid.specs.Walks.State.{way_of}
 use Rattle.automata_hybrid.proofs.Directions.{none_empty, units_in}
 use Rattle.automata_hybrid.proofs.Passed.{last_answer, rest_read, rest_refused}
 use Rattle.automata_hybrid.proofs.Reading.{at_err}

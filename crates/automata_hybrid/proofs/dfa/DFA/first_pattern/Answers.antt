@@ -1,6 +1,6 @@
 use Rattle.std.proofs.Common.{◌≡◌, ◌∙◌, ◌<◌, length, sym, subst}
-use Rattle.automata_hybrid.specs.Machine.{Machine}
-use Rattle.automata_hybrid.specs.Owned.{IsOwn}
+use Rattle.automata_hybrid.specs.Machines.Machine.{Machine}
+use Rattle.automata_hybrid.specs.Machines.OwnStates.{IsOwn}
 use Rattle.automata_hybrid.proofs.Stepping.{only_pattern}
 use Rattle.automata_hybrid.proofs.dfa.DFA.first_pattern.Goals as goal
 

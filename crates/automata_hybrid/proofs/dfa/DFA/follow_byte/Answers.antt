@@ -1,8 +1,8 @@
 use Rattle.std.proofs.Common.{◌≡◌, ◌∙◌, ap, sym, arith}
-use Rattle.automata_base.specs.Paths.{next}
-use Rattle.automata_hybrid.specs.Searches.{tape_in}
-use Rattle.automata_hybrid.specs.Stepping.{known_step}
-use Rattle.automata_hybrid.specs.Walks.{way_of}
+use Rattle.automata_base.specs.Paths.Paths.{next}
+use Rattle.automata_hybrid.specs.Searches.Passes.{tape_in}
+use Rattle.automata_hybrid.specs.Steps.Steps.{known_step}
+use Rattle.automata_hybrid.specs.Walks.State.{way_of}
 use Rattle.automata_hybrid.proofs.dfa.DFA.follow_byte.Goals as goal
 use Rattle.automata_hybrid.proofs.dfa.DFA.follow_byte.Goals.{After-next_state_in_row}
 

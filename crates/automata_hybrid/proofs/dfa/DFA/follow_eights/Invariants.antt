@@ -1,6 +1,6 @@
 use Rattle.std.proofs.Common.{◌≤◌, ◌-◌}
-use Rattle.automata_hybrid.specs.SelfLoops.{IsLoopRun}
-use Rattle.automata_hybrid.specs.Walks.{way_of}
+use Rattle.automata_hybrid.specs.Searches.SelfLoops.{IsLoopRun}
+use Rattle.automata_hybrid.specs.Walks.State.{way_of}
 use Rattle.automata_hybrid.proofs.dfa.DFA.follow_eights.Given as goal
 
 abbrev pub invariant-eights : goal.invariant-eights

@@ -1,6 +1,6 @@
 use Rattle.std.proofs.Common.{◌^◌, refl, arith}
-use Rattle.automata_hybrid.specs.Ids.{HasOnly}
-use Rattle.automata_hybrid.specs.Walks.{way_of}
+use Rattle.automata_hybrid.specs.Cache.Ids.{HasOnly}
+use Rattle.automata_hybrid.specs.Walks.State.{way_of}
 use Rattle.automata_hybrid.proofs.Leading.{led_none, led_on}
 use Rattle.automata_hybrid.proofs.Places.{match_tagged}
 use Rattle.automata_hybrid.proofs.dfa.DFA.follow_matches.Goals as goal

@@ -1,9 +1,10 @@
 use Rattle.std.proofs.Common.{◌≡◌, ◌+◌, ◌*◌, ◌<◌, ◌≤◌, ◌∙◌, ap, sym, subst, List, ℕ}
-use Rattle.automata_base.specs.Accounting.{start_slots, minimum_capacity, fixed_cost}
-use Rattle.automata_base.specs.Classes.{eoi_class}
-use Rattle.automata_hybrid.specs.DFAs.{machine_of}
-use Rattle.automata_hybrid.specs.Ids.{offset_limit}
-use Rattle.automata_hybrid.specs.Machine.{Machine, IsTemplate, marked, template_of, greatest, table_stride, slot_count}
+use Rattle.automata_base.specs.Powersets.Accounting.{start_slots, minimum_capacity, fixed_cost}
+use Rattle.automata_base.specs.ByteClasses.Classes.{eoi_class}
+use Rattle.automata_hybrid.specs.Machines.Fields.{machine_of}
+use Rattle.automata_hybrid.specs.Cache.Ids.{offset_limit}
+use Rattle.automata_hybrid.specs.Machines.Machine.{Machine, IsTemplate, marked, template_of, greatest, table_stride}
+use Rattle.automata_hybrid.specs.Machines.Machine.{slot_count}
 use Rattle.automata_hybrid.specs.declared.dfa.settings.Settings.{Settings}
 use Rattle.automata_hybrid.proofs.dfa.DFA.fresh_store.Goals as goal
 

@@ -1,15 +1,16 @@
 use Rattle.std.proofs.Common.{◌≡◌, ◌∙◌, ◌-◌, ◌<◌, ◌≤◌, inl, inr, length, refl, sym, ap, subst, arith, get_or}
 use Rattle.std.specs.Prelude.{IfErr, OnOk}
-use Rattle.automata_base.specs.Answers.{offset_in}
-use Rattle.automata_base.specs.Input.{Input}
-use Rattle.automata_base.specs.Matches.{HalfMatch}
-use Rattle.automata_base.specs.Tapes.{Direction}
-use Rattle.automata_hybrid.specs.Machine.{Machine}
-use Rattle.automata_hybrid.specs.OwingWalks.{IsCallEffect}
-use Rattle.automata_hybrid.specs.Resuming.{IsCallAnswer, IsCallRefused}
-use Rattle.automata_hybrid.specs.Searches.{tape_in}
-use Rattle.automata_hybrid.specs.Walking.{TellsNext}
-use Rattle.automata_hybrid.specs.Walks.{At, Ended, Walk, ended_walk, keeping_of, way_of, with_match, without_match}
+use Rattle.automata_base.specs.Answers.Answers.{offset_in}
+use Rattle.automata_base.specs.Haystacks.Input.{Input}
+use Rattle.automata_base.specs.Haystacks.Matches.{HalfMatch}
+use Rattle.automata_base.specs.Haystacks.Tapes.{Direction}
+use Rattle.automata_hybrid.specs.Machines.Machine.{Machine}
+use Rattle.automata_hybrid.specs.Walks.Contracts.{IsCallEffect}
+use Rattle.automata_hybrid.specs.Walks.Parts.{IsCallAnswer, IsCallRefused}
+use Rattle.automata_hybrid.specs.Searches.Passes.{tape_in}
+use Rattle.automata_hybrid.specs.Walks.Answers.{TellsNext}
+use Rattle.automata_hybrid.specs.Walks.State.{At, Ended, Walk, ended_walk, keeping_of, way_of, with_match}
+use Rattle.automata_hybrid.specs.Walks.State.{without_match}
 use Rattle.automata_hybrid.proofs.KnowingWalks.{units_none}
 use Rattle.std.proofs.lemmas.Result.{IfErr-weaker, on_ok_weaker}
 use Rattle.automata_hybrid.proofs.Resuming.{answer_matched, effect_matched, effect_none, refused_matched}

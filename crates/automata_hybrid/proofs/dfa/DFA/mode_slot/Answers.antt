@@ -1,10 +1,10 @@
 use Rattle.std.proofs.Common.{◌≡◌, ◌∙◌, ℕ, suc, ◌+◌, ◌*◌, ◌≤◌, length, ap, sym, subst, arith}
-use Rattle.automata_base.specs.Alike.{behind_of}
-use Rattle.automata_base.specs.Powerset.{dead}
-use Rattle.automata_base.specs.Steps.{start_state_of}
+use Rattle.automata_base.specs.ByteClasses.LookBehind.{behind_of}
+use Rattle.automata_base.specs.Powersets.Powerset.{dead}
+use Rattle.automata_base.specs.Retraced.Steps.{start_state_of}
 use Rattle.automata_base.specs.declared.util.search.Anchored.{Anchored}
-use Rattle.automata_hybrid.specs.Machine.{slot_count}
-use Rattle.automata_hybrid.specs.Slots.{slot_of}
+use Rattle.automata_hybrid.specs.Machines.Machine.{slot_count}
+use Rattle.automata_hybrid.specs.Machines.StartSlots.{slot_of}
 use Rattle.automata_hybrid.proofs.SlotStarts.{past_patterns, few_slots}
 use Rattle.automata_hybrid.proofs.dfa.DFA.mode_slot.Goals as goal
 use Rattle.automata_config.specs.Options.{starts_for_each_pattern_of}

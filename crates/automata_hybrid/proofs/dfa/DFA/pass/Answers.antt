@@ -1,22 +1,23 @@
 use Rattle.std.proofs.Common.{◌≡◌, ◌∙◌, ap, None, refl, sym, subst, inl, inr, arith}
 use Rattle.std.specs.Prelude.{Err}
 use Rattle.std.proofs.lemmas.Result.{IfErr-weaker, IfOk-weaker}
-use Rattle.automata_base.specs.Powerset.{dead}
-use Rattle.automata_base.specs.Tapes.{Direction}
-use Rattle.automata_hybrid.specs.Stores.{Stored, with_searched}
-use Rattle.automata_hybrid.specs.Caches.{CacheView}
-use Rattle.automata_hybrid.specs.Machine.{Machine, slot_count}
-use Rattle.automata_hybrid.specs.Passed.{IsPassEffect}
-use Rattle.automata_hybrid.specs.Progressing.{started}
-use Rattle.automata_hybrid.specs.Searched.{EndsAtLast, IsStoppedAt, with_search_begun, with_search_ended}
-use Rattle.automata_hybrid.specs.Searches.{Reads, state_in}
-use Rattle.automata_hybrid.specs.Table.{Rows, Names}
-use Rattle.automata_hybrid.specs.Walks.{way_of}
+use Rattle.automata_base.specs.Powersets.Powerset.{dead}
+use Rattle.automata_base.specs.Haystacks.Tapes.{Direction}
+use Rattle.automata_hybrid.specs.Cache.Stores.{Stored, with_searched}
+use Rattle.automata_hybrid.specs.Cache.Caches.{CacheView}
+use Rattle.automata_hybrid.specs.Machines.Machine.{Machine, slot_count}
+use Rattle.automata_hybrid.specs.Searches.PassContracts.{IsPassEffect}
+use Rattle.automata_hybrid.specs.Cache.Progress.{started}
+use Rattle.automata_hybrid.specs.Searches.Progress.{EndsAtLast, IsStoppedAt, with_search_begun, with_search_ended}
+use Rattle.automata_hybrid.specs.Searches.Passes.{Reads, state_in}
+use Rattle.automata_hybrid.specs.Cache.Table.{Rows, Names}
+use Rattle.automata_hybrid.specs.Walks.State.{way_of}
 use Rattle.automata_hybrid.proofs.Directions.{begins_alive, begins_dead}
 use Rattle.automata_hybrid.proofs.Passed.{pass_rest, pass_unstarted, rest_dead}
 use Rattle.automata_hybrid.proofs.Reading.{at_err}
 use Rattle.automata_hybrid.proofs.UnitsRead.{ended_here, pass_dies, start_had}
-use Rattle.automata_hybrid.proofs.Searching.{at_reads, clean_start, false_true, if_both, place_refuses, starts_at, starts_dead, stops_start}
+use Rattle.automata_hybrid.proofs.Searching.{at_reads, clean_start, false_true, if_both, place_refuses, starts_at}
+use Rattle.automata_hybrid.proofs.Searching.{starts_dead, stops_start}
 use Rattle.automata_hybrid.proofs.dfa.DFA.pass.Goals as goal
 
 pub returns-then-is_dead-clause-answer : goal.returns-then-is_dead-clause-answer

@@ -1,9 +1,9 @@
 use Rattle.std.proofs.Common.{◌≡◌, ◌∙◌, None, Some, false, refl, subst, sym}
-use Rattle.automata_base.specs.Powerset.{Powerset}
+use Rattle.automata_base.specs.Powersets.Powerset.{Powerset}
 use Rattle.automata_base.proofs.Paths.Orders.{none_some}
-use Rattle.automata_hybrid.specs.Effects.{IsAddedStart}
-use Rattle.automata_hybrid.specs.Resuming.{IsPutBackEffect}
-use Rattle.automata_hybrid.specs.Table.{IsNewState, id_of}
+use Rattle.automata_hybrid.specs.Cache.Changes.{IsAddedStart}
+use Rattle.automata_hybrid.specs.Walks.Parts.{IsPutBackEffect}
+use Rattle.automata_hybrid.specs.Cache.Table.{IsNewState, id_of}
 use Rattle.automata_hybrid.proofs.Adding.{new_state}
 use Rattle.automata_hybrid.proofs.Growing.{grown_less, grown_same}
 use Rattle.automata_hybrid.proofs.Reading.{at_err}

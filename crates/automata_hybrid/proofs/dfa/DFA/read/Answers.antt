@@ -1,5 +1,5 @@
 use Rattle.std.proofs.Common.{None, refl, sym, subst}
-use Rattle.automata_hybrid.specs.Reading.{IsReadEffect, IsReadStep}
+use Rattle.automata_hybrid.specs.Searches.Units.{IsReadEffect, IsReadStep}
 use Rattle.automata_hybrid.proofs.Reading.{end_step, read_after}
 use Rattle.automata_hybrid.proofs.dfa.DFA.read.Goals as goal
 

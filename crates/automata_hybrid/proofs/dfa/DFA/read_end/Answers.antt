@@ -1,5 +1,5 @@
 use Rattle.std.proofs.Common.{refl, ap}
-use Rattle.automata_hybrid.specs.Caches.{CacheView}
+use Rattle.automata_hybrid.specs.Cache.Caches.{CacheView}
 use Rattle.automata_hybrid.proofs.Reading.{read_answered, read_refused, step_taken, told_refusal}
 use Rattle.automata_hybrid.proofs.dfa.DFA.read_end.Goals as goal
 

@@ -1,9 +1,10 @@
 use Rattle.std.proofs.Common.{◌≡◌, true, Some, refl, sym, subst, arith}
-use Rattle.automata_base.specs.Classes.{is_quit}
-use Rattle.automata_hybrid.specs.Reading.{IsReadEffect, IsReadStep}
-use Rattle.automata_hybrid.specs.Searches.{IsStepRefusal}
-use Rattle.automata_hybrid.specs.Table.{Rows, Names}
-use Rattle.automata_hybrid.proofs.Reading.{at_err, left_step, quit_step, read_answered, read_quits, read_refused, step_taken, took_step}
+use Rattle.automata_base.specs.ByteClasses.Classes.{is_quit}
+use Rattle.automata_hybrid.specs.Searches.Units.{IsReadEffect, IsReadStep}
+use Rattle.automata_hybrid.specs.Searches.Passes.{IsStepRefusal}
+use Rattle.automata_hybrid.specs.Cache.Table.{Rows, Names}
+use Rattle.automata_hybrid.proofs.Reading.{at_err, left_step, quit_step, read_answered, read_quits, read_refused}
+use Rattle.automata_hybrid.proofs.Reading.{step_taken, took_step}
 use Rattle.automata_hybrid.proofs.Searching.{false_true}
 use Rattle.automata_hybrid.proofs.Stepping.{quits, unquit}
 use Rattle.automata_hybrid.proofs.dfa.DFA.read_met.Goals as goal

@@ -1,9 +1,9 @@
 use Rattle.std.proofs.Common.{ℕ, ◌≡◌, Some, refl, sym, ap, subst, arith}
 use Rattle.std.specs.Prelude.{Err, IfOk, Ok, OnErr, Result}
 use Rattle.automata_config.specs.declared.error.SearchError.{SearchError}
-use Rattle.automata_hybrid.specs.Caches.{CacheView}
-use Rattle.automata_hybrid.specs.Reading.{IsReadAnswer, IsReadEffect, IsStepTaken}
-use Rattle.automata_hybrid.specs.Searches.{IsStepRefusal}
+use Rattle.automata_hybrid.specs.Cache.Caches.{CacheView}
+use Rattle.automata_hybrid.specs.Searches.Units.{IsReadAnswer, IsReadEffect, IsStepTaken}
+use Rattle.automata_hybrid.specs.Searches.Passes.{IsStepRefusal}
 use Rattle.automata_hybrid.proofs.Reading.{at_err, read_answered, read_quits, read_refused, step_taken}
 use Rattle.automata_hybrid.proofs.Searching.{false_true}
 use Rattle.automata_hybrid.proofs.Stepping.{quits, unquit}

@@ -1,10 +1,10 @@
 use Rattle.std.proofs.Common.{◌∙◌, refl, sym, ap, subst}
 use Rattle.std.proofs.lemmas.Result.{IfErr-weaker, IfOk-weaker}
-use Rattle.automata_base.specs.Steps.{successor}
-use Rattle.automata_base.specs.Tapes.{Direction}
-use Rattle.automata_hybrid.specs.Searches.{state_in}
-use Rattle.automata_hybrid.specs.Table.{Leads}
-use Rattle.automata_hybrid.specs.Walks.{way_of}
+use Rattle.automata_base.specs.Retraced.Steps.{successor}
+use Rattle.automata_base.specs.Haystacks.Tapes.{Direction}
+use Rattle.automata_hybrid.specs.Searches.Passes.{state_in}
+use Rattle.automata_hybrid.specs.Cache.Table.{Leads}
+use Rattle.automata_hybrid.specs.Walks.State.{way_of}
 use Rattle.automata_hybrid.proofs.Resuming.{unit_effect}
 use Rattle.automata_hybrid.proofs.Searching.{state_more}
 use Rattle.automata_hybrid.proofs.UnitsRead.{refused_here, taken_here}

@@ -1,6 +1,6 @@
 use Rattle.std.proofs.Common.{ℕ, ◌≡◌, ◌∙◌, Option, Some, ap}
-use Rattle.automata_hybrid.specs.Machine.{Machine, slot_count}
-use Rattle.automata_hybrid.specs.Walks.{way_of}
+use Rattle.automata_hybrid.specs.Machines.Machine.{Machine, slot_count}
+use Rattle.automata_hybrid.specs.Walks.State.{way_of}
 use Rattle.automata_hybrid.proofs.Resuming.{back_effect, row_effect, start_answer, start_effect, start_refusal}
 use Rattle.automata_hybrid.specs.declared.search.walk.Handle.{Handle}
 use Rattle.automata_hybrid.specs.declared.search.walk.Held.TheVariants as held

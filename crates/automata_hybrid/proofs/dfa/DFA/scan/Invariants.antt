@@ -1,6 +1,6 @@
 use Rattle.std.proofs.Common.{◌-◌}
-use Rattle.automata_hybrid.specs.SelfLoops.{IsKnownLoop, IsLoopRun}
-use Rattle.automata_hybrid.specs.Walks.{way_of}
+use Rattle.automata_hybrid.specs.Searches.SelfLoops.{IsKnownLoop, IsLoopRun}
+use Rattle.automata_hybrid.specs.Walks.State.{way_of}
 use Rattle.automata_hybrid.proofs.dfa.DFA.scan.Given as goal
 
 abbrev pub invariant-lanes : goal.invariant-lanes

@@ -1,26 +1,30 @@
-use Rattle.std.proofs.Common.{ℕ, suc, ◌≡◌, ◌∙◌, ◌+◌, ◌-◌, ◌<◌, ◌≤◌, Some, true, false, inl, refl, sym, ap, ap₂, subst, arith}
+use Rattle.std.proofs.Common.{ℕ, suc, ◌≡◌, ◌∙◌, ◌+◌, ◌-◌, ◌<◌, ◌≤◌, Some, true, false, inl, refl, sym, ap, ap₂, subst}
+use Rattle.std.proofs.Common.{arith}
 use Rattle.std.proofs.lemmas.Grind.{common_steps}
-use Rattle.automata_base.specs.Answers.{later, Tries}
-use Rattle.automata_base.specs.Input.{Input}
+use Rattle.automata_base.specs.Answers.Answers.{later, Tries}
+use Rattle.automata_base.specs.Haystacks.Input.{Input}
 use Rattle.automata_base.specs.declared.util.search.Anchored.TheVariants.{No}
-use Rattle.automata_base.specs.Tapes.{Direction, Forward, is_split}
-use Rattle.automata_hybrid.specs.Searches.{Finds, IsFound, Skips, with_base}
-use Rattle.automata_hybrid.specs.Slots.{supports}
-use Rattle.automata_hybrid.specs.Growing.{ClearedNothing}
-use Rattle.automata_hybrid.specs.Costs.{IsCostOfPasses}
-use Rattle.automata_hybrid.specs.Searched.{HaveEnded}
+use Rattle.automata_base.specs.Haystacks.Tapes.{Direction, Forward, is_split}
+use Rattle.automata_hybrid.specs.Searches.Passes.{Finds, IsFound, Skips, with_base}
+use Rattle.automata_hybrid.specs.Machines.StartSlots.{supports}
+use Rattle.automata_hybrid.specs.Cache.Growth.{ClearedNothing}
+use Rattle.automata_hybrid.specs.Searches.Costs.{IsCostOfPasses}
+use Rattle.automata_hybrid.specs.Searches.Progress.{HaveEnded}
 use Rattle.automata_hybrid.proofs.Growing.{grown_same, grown_trans}
 use Rattle.automata_hybrid.proofs.Costing.{AreCounted}
 use Rattle.automata_hybrid.proofs.Knowing.{LearnedSpans}
-use Rattle.automata_hybrid.proofs.Directions.{later_anchored, later_none, later_on, later_start, skipped, skipped_last, skipped_more, skipped_within}
+use Rattle.automata_hybrid.proofs.Directions.{later_anchored, later_none, later_on, later_start, skipped, skipped_last}
+use Rattle.automata_hybrid.proofs.Directions.{skipped_more, skipped_within}
 use Rattle.automata_hybrid.proofs.Reading.{at_err}
-use Rattle.automata_hybrid.specs.Owing.{IsSearchEffect, IsUnsupported, unsupported_error}
+use Rattle.automata_hybrid.specs.Searches.Contracts.{IsSearchEffect, IsUnsupported, unsupported_error}
 use Rattle.std.specs.Prelude.{Err}
 use Rattle.automata_hybrid.proofs.Owing.{err_to}
-use Rattle.automata_hybrid.specs.Walks.{way_of}
+use Rattle.automata_hybrid.specs.Walks.State.{way_of}
 use Rattle.automata_hybrid.proofs.Searching.{if_err, false_true}
-use Rattle.automata_hybrid.proofs.Skipping.{anchored_stops, none_stops, some_stops, finds_none, finds_no_more, finds_some, finds_split, tries_on, refuses}
-use Rattle.automata_hybrid.proofs.Spans.{effect_after, effect_before, effect_refused, spans_cost, spans_counted, spans_ended, spans_known, spans_learned}
+use Rattle.automata_hybrid.proofs.Skipping.{anchored_stops, none_stops, some_stops, finds_none, finds_no_more}
+use Rattle.automata_hybrid.proofs.Skipping.{finds_some, finds_split, tries_on, refuses}
+use Rattle.automata_hybrid.proofs.Spans.{effect_after, effect_before, effect_refused, spans_cost, spans_counted}
+use Rattle.automata_hybrid.proofs.Spans.{spans_ended, spans_known, spans_learned}
 use Rattle.automata_hybrid.proofs.dfa.DFA.search.Goals as goal
 
 pub returns-in_err-half-clause-refusal : goal.returns-in_err-half-clause-refusal

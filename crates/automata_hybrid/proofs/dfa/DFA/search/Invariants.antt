@@ -1,12 +1,12 @@
 use Rattle.std.proofs.Common.{false, ◌≡◌, ◌≤◌, ◌+◌, ◌-◌}
-use Rattle.automata_base.specs.Answers.{Tries, later}
-use Rattle.automata_hybrid.specs.Caches.{IsCacheOf}
-use Rattle.automata_hybrid.specs.Growing.{IsGrown, ClearedNothing}
-use Rattle.automata_hybrid.specs.Knowing.{Knows}
-use Rattle.automata_hybrid.specs.Searched.{HaveEnded}
-use Rattle.automata_hybrid.specs.Searches.{Finds, Skips}
-use Rattle.automata_hybrid.specs.Slots.{supports}
-use Rattle.automata_hybrid.specs.Walks.{way_of}
+use Rattle.automata_base.specs.Answers.Answers.{Tries, later}
+use Rattle.automata_hybrid.specs.Cache.Caches.{IsCacheOf}
+use Rattle.automata_hybrid.specs.Cache.Growth.{IsGrown, ClearedNothing}
+use Rattle.automata_hybrid.specs.Searches.Cached.{Knows}
+use Rattle.automata_hybrid.specs.Searches.Progress.{HaveEnded}
+use Rattle.automata_hybrid.specs.Searches.Passes.{Finds, Skips}
+use Rattle.automata_hybrid.specs.Machines.StartSlots.{supports}
+use Rattle.automata_hybrid.specs.Walks.State.{way_of}
 use Rattle.automata_hybrid.proofs.Costing.{AreCounted}
 use Rattle.automata_hybrid.proofs.Directions.{skipped}
 use Rattle.automata_hybrid.proofs.Knowing.{LearnedSpans}

@@ -1,11 +1,11 @@
 use Rattle.std.proofs.Common.{◌≡◌, ◌∙◌, ◌+◌, ◌<◌, ◌^◌, ℕ, suc, sym, ap, subst, arith}
-use Rattle.automata_base.specs.Classes.{class_in}
-use Rattle.automata_base.specs.Tapes.{Direction}
-use Rattle.automata_hybrid.specs.Stepping.{known_step}
-use Rattle.automata_hybrid.specs.Stores.{IsKnownTransition}
-use Rattle.automata_hybrid.specs.Machine.{Machine, table_stride}
-use Rattle.automata_hybrid.specs.Passing.{IsFollowed, IsLed}
-use Rattle.automata_hybrid.specs.Walks.{way_of}
+use Rattle.automata_base.specs.ByteClasses.Classes.{class_in}
+use Rattle.automata_base.specs.Haystacks.Tapes.{Direction}
+use Rattle.automata_hybrid.specs.Steps.Steps.{known_step}
+use Rattle.automata_hybrid.specs.Cache.Stores.{IsKnownTransition}
+use Rattle.automata_hybrid.specs.Machines.Machine.{Machine, table_stride}
+use Rattle.automata_hybrid.specs.Searches.PassState.{IsFollowed, IsLed}
+use Rattle.automata_hybrid.specs.Walks.State.{way_of}
 use Rattle.automata_hybrid.proofs.Following.{followed_more, followed_none}
 use Rattle.automata_hybrid.proofs.Leading.{led_more, led_none}
 use Rattle.automata_hybrid.proofs.dfa.DFA.see_byte.Goals as goal

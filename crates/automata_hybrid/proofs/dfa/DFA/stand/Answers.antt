@@ -1,11 +1,11 @@
 use Rattle.std.proofs.Common.{◌≡◌, ◌∙◌, sym, ap, subst, get_or}
-use Rattle.automata_base.specs.Matches.{HalfMatch}
-use Rattle.automata_base.specs.Powerset.{Powerset}
-use Rattle.automata_base.specs.Tapes.{Direction}
-use Rattle.automata_hybrid.specs.Machine.{Machine}
-use Rattle.automata_hybrid.specs.Searches.{state_in}
-use Rattle.automata_hybrid.specs.Walking.{IsRowState, TellsNext}
-use Rattle.automata_hybrid.specs.Walks.{Walk, way_of, with_match}
+use Rattle.automata_base.specs.Haystacks.Matches.{HalfMatch}
+use Rattle.automata_base.specs.Powersets.Powerset.{Powerset}
+use Rattle.automata_base.specs.Haystacks.Tapes.{Direction}
+use Rattle.automata_hybrid.specs.Machines.Machine.{Machine}
+use Rattle.automata_hybrid.specs.Searches.Passes.{state_in}
+use Rattle.automata_hybrid.specs.Walks.Answers.{IsRowState, TellsNext}
+use Rattle.automata_hybrid.specs.Walks.State.{Walk, way_of, with_match}
 use Rattle.automata_hybrid.proofs.WalkCalls.{next_arrives}
 use Rattle.automata_hybrid.proofs.dfa.DFA.stand.Goals as goal
 

@@ -1,6 +1,6 @@
 use Rattle.std.proofs.Common.{ℕ, ◌≡◌, ◌-◌, ◌∙◌, ap, subst}
-use Rattle.automata_base.specs.StartConfig.{StartConfig}
-use Rattle.automata_hybrid.specs.Starting.{IsStartAnswer, IsStartEffect, IsStartRefused, search_refusal}
+use Rattle.automata_base.specs.Haystacks.StartConfig.{StartConfig}
+use Rattle.automata_hybrid.specs.Steps.Starts.{IsStartAnswer, IsStartEffect, IsStartRefused, search_refusal}
 use Rattle.automata_hybrid.proofs.Standing.{stands_first}
 use Rattle.automata_hybrid.proofs.dfa.DFA.start_state_forward.Goals as goal
 

@@ -1,11 +1,11 @@
 use Rattle.std.proofs.Common.{◌≡◌, ◌<◌, ◌^◌, ◌∙◌, Some, ap, sym, subst, arith}
 use Rattle.std.proofs.lemmas.Grind.{common_steps}
-use Rattle.automata_base.specs.Powerset.{Powerset}
-use Rattle.automata_hybrid.specs.Machine.{Machine}
-use Rattle.automata_hybrid.specs.Owned.{IsOwn}
-use Rattle.automata_hybrid.specs.Stepping.{IsStepAnswer}
-use Rattle.automata_hybrid.specs.Stores.{cell_of}
-use Rattle.automata_hybrid.specs.Table.{Names}
+use Rattle.automata_base.specs.Powersets.Powerset.{Powerset}
+use Rattle.automata_hybrid.specs.Machines.Machine.{Machine}
+use Rattle.automata_hybrid.specs.Machines.OwnStates.{IsOwn}
+use Rattle.automata_hybrid.specs.Steps.Steps.{IsStepAnswer}
+use Rattle.automata_hybrid.specs.Cache.Stores.{cell_of}
+use Rattle.automata_hybrid.specs.Cache.Table.{Names}
 use Rattle.automata_hybrid.proofs.StepCalls.{known_answer, same_effect}
 use Rattle.automata_hybrid.proofs.dfa.DFA.step_met.Goals as goal
 

@@ -1,8 +1,8 @@
 use Rattle.std.proofs.Common.{Some, rules, subst}
 use Rattle.std.specs.Prelude.{Ok}
-use Rattle.automata_base.specs.Matches.{HalfMatch}
-use Rattle.automata_base.specs.Tapes.{Forward}
-use Rattle.automata_hybrid.specs.Owing.{IsHalf}
+use Rattle.automata_base.specs.Haystacks.Matches.{HalfMatch}
+use Rattle.automata_base.specs.Haystacks.Tapes.{Forward}
+use Rattle.automata_hybrid.specs.Searches.Contracts.{IsHalf}
 use Rattle.automata_hybrid.proofs.Owing.{effect_err, effect_ok, half_err, half_none, half_some}
 use Rattle.automata_hybrid.proofs.dfa.DFA.try_search_fwd.Goals as goal
 

@@ -1,9 +1,9 @@
 use Rattle.std.proofs.Common.{refl, subst}
 use Rattle.std.proofs.lemmas.Result.{IfErr-weaker, IfOk-weaker}
-use Rattle.automata_base.specs.Nodes.{Automaton}
-use Rattle.automata_base.specs.Tapes.{Forward}
-use Rattle.automata_base.specs.Told.{ToldEndsAreRight, ToldIsRight}
-use Rattle.automata_base.specs.Within.{ToldLiesWithin}
+use Rattle.automata_base.specs.Nfas.Nodes.{Automaton}
+use Rattle.automata_base.specs.Haystacks.Tapes.{Forward}
+use Rattle.automata_base.specs.Answers.OfPasses.{ToldEndsAreRight, ToldIsRight}
+use Rattle.automata_base.specs.Answers.Within.{ToldLiesWithin}
 use Rattle.automata_hybrid.proofs.Answering.{refused_memory}
 use Rattle.automata_hybrid.proofs.Owing.{is_store, may_refuse}
 use Rattle.automata_hybrid.proofs.Skipping.{found_told}

@@ -1,13 +1,13 @@
 use Rattle.std.proofs.Common.{sym, ap, subst}
 use Rattle.std.specs.Prelude.{IfErr}
 use Rattle.std.proofs.lemmas.Result.{IfErr-weaker, IfOk-weaker}
-use Rattle.automata_base.specs.Nodes.{Automaton}
-use Rattle.automata_base.specs.Tapes.{Backward}
-use Rattle.automata_base.specs.Told.{ToldEndsAreRight, ToldIsRight}
-use Rattle.automata_base.specs.Within.{ToldLiesWithin}
+use Rattle.automata_base.specs.Nfas.Nodes.{Automaton}
+use Rattle.automata_base.specs.Haystacks.Tapes.{Backward}
+use Rattle.automata_base.specs.Answers.OfPasses.{ToldEndsAreRight, ToldIsRight}
+use Rattle.automata_base.specs.Answers.Within.{ToldLiesWithin}
 use Rattle.automata_config.specs.Options.{match_kind_of}
-use Rattle.automata_hybrid.specs.Owing.{IsHalf, IsSearchEffect, halves}
-use Rattle.automata_hybrid.specs.Searches.{IsFound, IsRefused}
+use Rattle.automata_hybrid.specs.Searches.Contracts.{IsHalf, IsSearchEffect, halves}
+use Rattle.automata_hybrid.specs.Searches.Passes.{IsFound, IsRefused}
 use Rattle.automata_hybrid.proofs.Answering.{refused_memory}
 use Rattle.automata_hybrid.proofs.Owing.{halves_effect, halves_err, halves_ok, is_store, may_refuse}
 use Rattle.automata_hybrid.proofs.Skipping.{found_told}

@@ -1,9 +1,9 @@
 use Rattle.std.proofs.lemmas.Result.{IfErr-weaker}
-use Rattle.automata_base.specs.Tapes.{Forward}
+use Rattle.automata_base.specs.Haystacks.Tapes.{Forward}
 use Rattle.automata_hybrid.proofs.Owing.{is_store}
 use Rattle.automata_hybrid.proofs.OwingWalks.{may_refuse_which}
 use Rattle.automata_hybrid.proofs.WalkAnswers.{walk_memory}
-use Rattle.automata_hybrid.specs.Walks.{Ids}
+use Rattle.automata_hybrid.specs.Walks.State.{Ids}
 use Rattle.automata_hybrid.proofs.dfa.DFA.try_which_overlapping_matches.Goals as goal
 
 pub returns-clause-which : goal.returns-clause-which

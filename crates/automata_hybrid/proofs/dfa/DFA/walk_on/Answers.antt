@@ -1,23 +1,23 @@
 use Rattle.std.proofs.Common.{ℕ, ◌≡◌, ◌∙◌, ◌+◌, ◌-◌, ◌≤◌, inl, inr, length, Option, refl, sym, ap, subst, arith}
 use Rattle.std.specs.Prelude.{Err, Ok, Result}
-use Rattle.automata_base.specs.Input.{Input}
-use Rattle.automata_base.specs.Powerset.{dead}
-use Rattle.automata_base.specs.Tapes.{Direction}
+use Rattle.automata_base.specs.Haystacks.Input.{Input}
+use Rattle.automata_base.specs.Powersets.Powerset.{dead}
+use Rattle.automata_base.specs.Haystacks.Tapes.{Direction}
 use Rattle.automata_config.specs.declared.error.SearchError.{SearchError}
 use Rattle.automata_config.specs.declared.error.SearchError.TheVariants as search
-use Rattle.automata_hybrid.specs.Caches.{CacheView, with_store}
-use Rattle.automata_hybrid.specs.Growing.{IsGrown}
-use Rattle.automata_hybrid.specs.Machine.{Machine}
-use Rattle.automata_hybrid.specs.OwingWalks.{IsCallEffect}
-use Rattle.automata_hybrid.specs.Progressing.{started}
-use Rattle.automata_hybrid.specs.Resuming.{IsAdvanceEffect, IsCallAnswer, IsCallRefused}
-use Rattle.automata_hybrid.specs.Searched.{with_search_begun}
-use Rattle.automata_hybrid.specs.SearchedWalks.{IsCallStopped}
-use Rattle.automata_hybrid.specs.Searches.{HasReadNoQuit, given_up_offset, state_in, tape_in}
-use Rattle.automata_hybrid.specs.Stores.{Stored, with_searched}
-use Rattle.automata_hybrid.specs.Table.{Rows, Leads, Names}
-use Rattle.automata_hybrid.specs.Walking.{Arrives, Finishes, HasItsState, HasToldBy, IsAdvanceRefusal, IsArrival}
-use Rattle.automata_hybrid.specs.Walks.{Holds, Ids, IsHeldAt, Stage, Walk, ended_walk, keeping_of, way_of}
+use Rattle.automata_hybrid.specs.Cache.Caches.{CacheView, with_store}
+use Rattle.automata_hybrid.specs.Cache.Growth.{IsGrown}
+use Rattle.automata_hybrid.specs.Machines.Machine.{Machine}
+use Rattle.automata_hybrid.specs.Walks.Contracts.{IsCallEffect}
+use Rattle.automata_hybrid.specs.Cache.Progress.{started}
+use Rattle.automata_hybrid.specs.Walks.Parts.{IsAdvanceEffect, IsCallAnswer, IsCallRefused}
+use Rattle.automata_hybrid.specs.Searches.Progress.{with_search_begun}
+use Rattle.automata_hybrid.specs.Walks.Progress.{IsCallStopped}
+use Rattle.automata_hybrid.specs.Searches.Passes.{HasReadNoQuit, given_up_offset, state_in, tape_in}
+use Rattle.automata_hybrid.specs.Cache.Stores.{Stored, with_searched}
+use Rattle.automata_hybrid.specs.Cache.Table.{Rows, Leads, Names}
+use Rattle.automata_hybrid.specs.Walks.Answers.{Arrives, Finishes, HasItsState, HasToldBy, IsAdvanceRefusal, IsArrival}
+use Rattle.automata_hybrid.specs.Walks.State.{Holds, Ids, IsHeldAt, Stage, Walk, ended_walk, keeping_of, way_of}
 use Rattle.automata_hybrid.specs.declared.search.advance.Arrival.{Arrival}
 use Rattle.automata_hybrid.proofs.Growing.{grown_after, grown_moved, grown_trans}
 use Rattle.automata_hybrid.proofs.KnowingWalks.{has_state, state_after, still_same, unit_knows, units_none}

@@ -1,11 +1,11 @@
 use Rattle.std.proofs.Common.{ℕ, ◌≡◌, ◌+◌, ◌-◌, arith, sym, subst}
 use Rattle.std.specs.Prelude.{IfErr, IfOk}
-use Rattle.automata_base.specs.Answers.{offset_in}
+use Rattle.automata_base.specs.Answers.Answers.{offset_in}
 use Rattle.automata_base.specs.Lists.{nth}
-use Rattle.automata_base.specs.Tapes.{byte_before}
-use Rattle.automata_hybrid.specs.Searches.{behind_offset, tape_in}
-use Rattle.automata_hybrid.specs.Starting.{IsStartAnswer, IsStartEffect, IsStartRefusedAt}
-use Rattle.automata_hybrid.specs.Walks.{way_of}
+use Rattle.automata_base.specs.Haystacks.Tapes.{byte_before}
+use Rattle.automata_hybrid.specs.Searches.Passes.{behind_offset, tape_in}
+use Rattle.automata_hybrid.specs.Steps.Starts.{IsStartAnswer, IsStartEffect, IsStartRefusedAt}
+use Rattle.automata_hybrid.specs.Walks.State.{way_of}
 use Rattle.automata_hybrid.specs.declared.search.direction.Way.{Way}
 use Rattle.automata_hybrid.proofs.dfa.DFA.walk_start.Goals as goal
 

@@ -1,13 +1,14 @@
-use Rattle.std.proofs.Common.{◌≡◌, ◌∙◌, sym, ap, ℕ, [], ◌+◌, ◌*◌, ◌^◌, ◌<◌, ◌≤◌, length, take, get_or, arith, subst, refl, Some, slice_get, below_more, ⊎_elim, lit<}
+use Rattle.std.proofs.Common.{◌≡◌, ◌∙◌, sym, ap, ℕ, [], ◌+◌, ◌*◌, ◌^◌, ◌<◌, ◌≤◌, length, take, get_or, arith, subst}
+use Rattle.std.proofs.Common.{refl, Some, slice_get, below_more, ⊎_elim, lit<}
 use Rattle.std.proofs.lemmas.Grind.{get_or_default_zero}
 use Rattle.std.proofs.lemmas.Option.{slice_get_read}
 use Rattle.std.proofs.lemmas.List.{get_or_past, take_all}
 use Rattle.std.proofs.lemmas.Bool.{cases_lt}
 use Rattle.std.proofs.Math.Nat.{mul-le-mul_right}
 use Rattle.std.specs.Prelude.{sum_by}
-use Rattle.automata_hybrid.specs.Machine.{Machine, start_of, greatest, table_stride}
-use Rattle.automata_hybrid.specs.Table.{Rows, fresh, MayLead, row_cost}
-use Rattle.automata_hybrid.specs.Clears.{keep_slot, keep_slots, kept, Kept}
+use Rattle.automata_hybrid.specs.Machines.Machine.{Machine, start_of, greatest, table_stride}
+use Rattle.automata_hybrid.specs.Cache.Table.{Rows, fresh, MayLead, row_cost}
+use Rattle.automata_hybrid.specs.Cache.Clears.{keep_slot, keep_slots, kept, Kept}
 use Rattle.automata_hybrid.proofs.Keeping.{kept_step, AllStarts-none}
 use Rattle.automata_hybrid.proofs.dfa.clears.keep_starts.Goals as goal
 

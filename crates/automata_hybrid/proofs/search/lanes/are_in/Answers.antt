@@ -1,6 +1,6 @@
 use Rattle.std.proofs.lemmas.Bool.{eqb-true}
-use Rattle.automata_hybrid.specs.SelfLoops.{Has}
-use Rattle.automata_hybrid.specs.Walks.{way_of}
+use Rattle.automata_hybrid.specs.Searches.SelfLoops.{Has}
+use Rattle.automata_hybrid.specs.Walks.State.{way_of}
 use Rattle.automata_hybrid.proofs.Lanes.{all_near}
 use Rattle.automata_hybrid.proofs.search.lanes.are_in.Goals as goal
 

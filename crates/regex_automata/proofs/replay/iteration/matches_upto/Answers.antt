@@ -1,10 +1,10 @@
 use Rattle.std.proofs.Common.{◌∙◌, ap, subst}
-use Rattle.automata_base.specs.Nodes.{Automaton}
-use Rattle.automata_base.specs.Spans.{Found, IsSpan, TryFinds, from}
-use Rattle.automata_base.specs.Told.{ToldEndsAreRight, ToldIsRight}
-use Rattle.automata_hybrid.specs.Machine.{Machine}
-use Rattle.regex_automata.specs.Outcomes.{FindsMatch}
-use Rattle.regex_automata.specs.SoundPairs.{IsSoundPair, forward_engine, reverse_engine}
+use Rattle.automata_base.specs.Nfas.Nodes.{Automaton}
+use Rattle.automata_base.specs.Answers.Spans.{Found, IsSpan, TryFinds, from}
+use Rattle.automata_base.specs.Answers.OfPasses.{ToldEndsAreRight, ToldIsRight}
+use Rattle.automata_hybrid.specs.Machines.Machine.{Machine}
+use Rattle.regex_automata.specs.Spans.Outcomes.{FindsMatch}
+use Rattle.regex_automata.specs.Regexes.SoundPairs.{IsSoundPair, forward_engine, reverse_engine}
 use Rattle.regex_automata.proofs.Collecting.{collected_begins, collected_right}
 use Rattle.regex_automata.proofs.MatchLists.{may_refuse_next, memory_behind}
 use Rattle.regex_automata.proofs.Owed.{are_stores}

@@ -1,11 +1,13 @@
 use Rattle.std.proofs.Common.{◌≡◌, ◌∙◌, [], ◌∷◌, ◌++◌, None, Some, Ok, Err, ap, inl, inr, refl, rules, sym, subst, List}
-use Rattle.automata_base.specs.Input.{Input}
-use Rattle.automata_base.specs.Matches.{Match}
+use Rattle.automata_base.specs.Haystacks.Input.{Input}
+use Rattle.automata_base.specs.Haystacks.Matches.{Match}
 use Rattle.automata_config.specs.declared.error.SearchError.TheVariants as search
-use Rattle.regex_automata.specs.Iterating.{AreFirst, IsNextRefusal, input_at}
-use Rattle.regex_automata.specs.Outcomes.{FindsMatch}
-use Rattle.regex_automata.proofs.Collecting.{collected, comes_first, comes_turn, input_turn, item_match, item_none, turn}
-use Rattle.regex_automata.proofs.MatchLists.{item_refused, match_error, none_error, refused_behind, same_error, untold_turn}
+use Rattle.regex_automata.specs.Spans.Iteration.{AreFirst, IsNextRefusal, input_at}
+use Rattle.regex_automata.specs.Spans.Outcomes.{FindsMatch}
+use Rattle.regex_automata.proofs.Collecting.{collected, comes_first, comes_turn, input_turn, item_match, item_none}
+use Rattle.regex_automata.proofs.Collecting.{turn}
+use Rattle.regex_automata.proofs.MatchLists.{item_refused, match_error, none_error, refused_behind, same_error}
+use Rattle.regex_automata.proofs.MatchLists.{untold_turn}
 use Rattle.regex_automata.specs.declared.hybrid.regex.Regex.{Regex}
 use Rattle.regex_automata.proofs.Searched.{effect_turn, searches_end, searches_turn}
 use Rattle.regex_automata.proofs.replay.iteration.take_matches.Goals as goal

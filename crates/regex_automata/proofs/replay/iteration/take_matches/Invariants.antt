@@ -1,9 +1,9 @@
 use Rattle.std.proofs.Common.{◌≡◌, [], None, false}
-use Rattle.automata_base.specs.Spans.{from}
-use Rattle.automata_hybrid.specs.Owing.{IsUnsupported}
-use Rattle.regex_automata.specs.Iterating.{input_at}
-use Rattle.automata_base.specs.Tapes.{Forward}
-use Rattle.regex_automata.specs.Outcomes.{FindsMatch}
+use Rattle.automata_base.specs.Answers.Spans.{from}
+use Rattle.automata_hybrid.specs.Searches.Contracts.{IsUnsupported}
+use Rattle.regex_automata.specs.Spans.Iteration.{input_at}
+use Rattle.automata_base.specs.Haystacks.Tapes.{Forward}
+use Rattle.regex_automata.specs.Spans.Outcomes.{FindsMatch}
 use Rattle.regex_automata.proofs.Collecting.{ComesTo}
 use Rattle.regex_automata.proofs.Searched.{Searches}
 use Rattle.regex_automata.proofs.replay.iteration.take_matches.Given as goal

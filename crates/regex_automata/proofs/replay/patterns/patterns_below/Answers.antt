@@ -1,18 +1,19 @@
 use Rattle.std.proofs.Common.{◌≡◌, ◌∙◌, Bool, List, Option, [], ap, inl, inr, refl, subst, sym, IfErr, IfSome}
 use Rattle.std.specs.Result.{result_err}
-use Rattle.automata_base.specs.Answers.{ArePatterns, ArePatternsFound}
-use Rattle.automata_base.specs.Engines.{engine_of}
-use Rattle.automata_base.specs.Answers.{IsOverlapping}
-use Rattle.automata_base.specs.PatternSet.{members}
-use Rattle.automata_base.specs.Tapes.{Forward}
+use Rattle.automata_base.specs.Answers.Answers.{ArePatterns, ArePatternsFound}
+use Rattle.automata_base.specs.Nfas.Engines.{engine_of}
+use Rattle.automata_base.specs.Answers.Answers.{IsOverlapping}
+use Rattle.automata_base.specs.Haystacks.PatternSet.{members}
+use Rattle.automata_base.specs.Haystacks.Tapes.{Forward}
 use Rattle.automata_config.specs.declared.error.SearchError.{SearchError}
-use Rattle.automata_hybrid.specs.Owing.{IsMemory}
-use Rattle.automata_hybrid.specs.OwingWalks.{IsWhichEffect}
-use Rattle.automata_hybrid.specs.SearchedWalks.{EndsSet}
-use Rattle.automata_hybrid.specs.Walking.{AreWalked}
-use Rattle.automata_hybrid.specs.Which.{IsWhichRefusal}
-use Rattle.regex_automata.specs.Owing.{HasToldSet, MayRefusePatterns}
-use Rattle.regex_automata.proofs.SetLists.{members_rise, memory_where, no_patterns, none_where, patterns_told, refused_where, told_set, told_where}
+use Rattle.automata_hybrid.specs.Searches.Contracts.{IsMemory}
+use Rattle.automata_hybrid.specs.Walks.Contracts.{IsWhichEffect}
+use Rattle.automata_hybrid.specs.Walks.Progress.{EndsSet}
+use Rattle.automata_hybrid.specs.Walks.Answers.{AreWalked}
+use Rattle.automata_hybrid.specs.Walks.Sets.{IsWhichRefusal}
+use Rattle.regex_automata.specs.Spans.Contracts.{HasToldSet, MayRefusePatterns}
+use Rattle.regex_automata.proofs.SetLists.{members_rise, memory_where, no_patterns, none_where, patterns_told}
+use Rattle.regex_automata.proofs.SetLists.{refused_where, told_set, told_where}
 use Rattle.regex_automata.proofs.replay.patterns.patterns_below.Goals as goal
 use Rattle.automata_config.specs.Options.{match_kind_of}
 

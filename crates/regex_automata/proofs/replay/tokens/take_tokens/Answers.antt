@@ -1,5 +1,6 @@
-use Rattle.std.proofs.Common.{ℕ, ◌≡◌, ◌∙◌, [], ◌∷◌, ◌++◌, None, Some, Err, Ok, ap, inl, inr, refl, rules, sym, subst, List}
-use Rattle.automata_base.specs.Matches.{Match}
+use Rattle.std.proofs.Common.{ℕ, ◌≡◌, ◌∙◌, [], ◌∷◌, ◌++◌, None, Some, Err, Ok, ap, inl, inr, refl, rules, sym, subst}
+use Rattle.std.proofs.Common.{List}
+use Rattle.automata_base.specs.Haystacks.Matches.{Match}
 use Rattle.automata_config.specs.declared.error.SearchError.TheVariants as search
 use Rattle.regex_automata.specs.Tokens.{AreGiven, IsRefusedAt, match_of}
 use Rattle.regex_automata.specs.declared.tokens.error.TokenError.TheVariants.{Search}

@@ -1,7 +1,7 @@
-use Rattle.automata_base.specs.Answers.{IsAnswer}
-use Rattle.automata_base.specs.Engines.{engine_of}
-use Rattle.automata_base.specs.Tapes.{Forward}
-use Rattle.automata_hybrid.specs.Searches.{IsFound, WithoutBase}
+use Rattle.automata_base.specs.Answers.Answers.{IsAnswer}
+use Rattle.automata_base.specs.Nfas.Engines.{engine_of}
+use Rattle.automata_base.specs.Haystacks.Tapes.{Forward}
+use Rattle.automata_hybrid.specs.Searches.Passes.{IsFound, WithoutBase}
 use Rattle.regex_automata.proofs.Tiling.{begins, found_by, free_of, tiles}
 use Rattle.std.proofs.Common.{Option, subst, arith}
 use Rattle.regex_automata.specs.Tokens.{AreGiven}

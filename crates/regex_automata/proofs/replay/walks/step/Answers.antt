@@ -1,10 +1,10 @@
 use Rattle.std.proofs.Common.{◌≡◌, ℕ, true, false, subst, sym}
-use Rattle.automata_base.specs.Tapes.{Forward, Backward}
-use Rattle.automata_hybrid.specs.Caches.{CacheView}
-use Rattle.automata_hybrid.specs.Machine.{Machine}
-use Rattle.regex_automata.specs.Replies.{dfa_of, direction_of}
-use Rattle.regex_automata.specs.Players.{HasAnswered, IsCall, MakesCall}
-use Rattle.regex_automata.specs.ReplayCaches.{own_of}
+use Rattle.automata_base.specs.Haystacks.Tapes.{Forward, Backward}
+use Rattle.automata_hybrid.specs.Cache.Caches.{CacheView}
+use Rattle.automata_hybrid.specs.Machines.Machine.{Machine}
+use Rattle.regex_automata.specs.Replay.Replies.{dfa_of, direction_of}
+use Rattle.regex_automata.specs.Replay.Players.{HasAnswered, IsCall, MakesCall}
+use Rattle.regex_automata.specs.Replay.Caches.{own_of}
 use Rattle.regex_automata.specs.declared.hybrid.regex.caches.Cache.{Cache}
 use Rattle.regex_automata.proofs.replay.walks.step.Goals as goal
 

@@ -1,5 +1,5 @@
 use Rattle.std.proofs.Common.{◌≡◌, ◌∙◌, get_or, refl, subst, sym}
-use Rattle.regex_automata.specs.Players.{Goes, MakesStep}
+use Rattle.regex_automata.specs.Replay.Players.{Goes, MakesStep}
 use Rattle.regex_automata.specs.declared.replay.walks.KeptWalk.{KeptWalk}
 use Rattle.regex_automata.proofs.KeptWalks.{any_default}
 use Rattle.regex_automata.proofs.replay.walks.step_at.Goals as goal

@@ -1,5 +1,5 @@
 use Rattle.std.proofs.Common.{Err, Ok, inl, refl}
-use Rattle.automata_base.specs.Tapes.{Forward}
+use Rattle.automata_base.specs.Haystacks.Tapes.{Forward}
 use Rattle.regex_automata.proofs.Results.{ok_err, same_err}
 use Rattle.regex_automata.proofs.WalkCalls.{answered, stayed, step_answers, step_refused}
 use Rattle.regex_automata.proofs.replay.walks.step_fwd.Goals as goal

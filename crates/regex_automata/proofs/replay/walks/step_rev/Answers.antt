@@ -1,5 +1,5 @@
 use Rattle.std.proofs.Common.{Err, Ok, inl, refl}
-use Rattle.automata_base.specs.Tapes.{Backward}
+use Rattle.automata_base.specs.Haystacks.Tapes.{Backward}
 use Rattle.regex_automata.proofs.Results.{ok_err, same_err}
 use Rattle.regex_automata.proofs.WalkCalls.{answered, stayed, step_answers, step_refused}
 use Rattle.regex_automata.proofs.replay.walks.step_rev.Goals as goal

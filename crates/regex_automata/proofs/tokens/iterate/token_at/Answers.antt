@@ -1,12 +1,12 @@
 use Rattle.std.proofs.Common.{ℕ, ◌≡◌, ◌∙◌, refl, sym, ap, subst}
 use Rattle.std.specs.Prelude.{IfErr, Ok}
-use Rattle.automata_base.specs.Input.{Input}
-use Rattle.automata_base.specs.Matches.{Match}
-use Rattle.automata_base.specs.Tapes.{Forward}
-use Rattle.automata_hybrid.specs.Caches.{CacheView}
-use Rattle.automata_hybrid.specs.Machine.{Machine}
-use Rattle.automata_hybrid.specs.Owing.{IsHalf, IsSearchEffect}
-use Rattle.automata_hybrid.specs.Searches.{IsRefused}
+use Rattle.automata_base.specs.Haystacks.Input.{Input}
+use Rattle.automata_base.specs.Haystacks.Matches.{Match}
+use Rattle.automata_base.specs.Haystacks.Tapes.{Forward}
+use Rattle.automata_hybrid.specs.Cache.Caches.{CacheView}
+use Rattle.automata_hybrid.specs.Machines.Machine.{Machine}
+use Rattle.automata_hybrid.specs.Searches.Contracts.{IsHalf, IsSearchEffect}
+use Rattle.automata_hybrid.specs.Searches.Passes.{IsRefused}
 use Rattle.regex_automata.specs.Tokens.{HasLearnedAt, IsGivenAt, LeavesAt, asked, match_of}
 use Rattle.automata_hybrid.proofs.Searching.{if_err}
 use Rattle.regex_automata.proofs.Finding.{cost_anchored}

@@ -1,8 +1,8 @@
 use Rattle.std.proofs.Common.{◌↔◌, subst, sym}
 use Rattle.std.specs.Prelude.{IsTrue}
 use Rattle.automata_base.specs.declared.nfa.thompson.Data.{Data}
-use Rattle.automata_base.specs.Nodes.{nfa_of}
-use Rattle.automata_base.specs.Paths.{IsLookAcyclic}
+use Rattle.automata_base.specs.Nfas.Nodes.{nfa_of}
+use Rattle.automata_base.specs.Paths.Paths.{IsLookAcyclic}
 use Rattle.automata_base.proofs.nfa.thompson.NFA.is_look_acyclic.Goals as goal
 
 pub returns : goal.returns

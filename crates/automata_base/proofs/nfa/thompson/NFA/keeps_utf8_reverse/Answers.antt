@@ -1,11 +1,11 @@
 use Rattle.std.proofs.Common.{◌↔◌, ◌∷◌, sym, ◌∙◌}
 use Rattle.std.specs.Prelude.{IsTrue}
-use Rattle.automata_base.specs.Cuts.{MatchKind}
-use Rattle.automata_base.specs.Decoders.{EndsAtBoundaries}
-use Rattle.automata_base.specs.Engines.{engine_of}
-use Rattle.automata_base.specs.Tapes.{Backward}
-use Rattle.automata_base.specs.TruePairs.{KeepsUtf8}
-use Rattle.automata_base.specs.Utf8.{HasNoLook}
+use Rattle.automata_base.specs.Powersets.Cuts.{MatchKind}
+use Rattle.automata_base.specs.Nfas.Decoders.{EndsAtBoundaries}
+use Rattle.automata_base.specs.Nfas.Engines.{engine_of}
+use Rattle.automata_base.specs.Haystacks.Tapes.{Backward}
+use Rattle.automata_base.specs.Answers.TruePairs.{KeepsUtf8}
+use Rattle.automata_base.specs.Nfas.Utf8.{HasNoLook}
 use Rattle.automata_base.proofs.Utf8.Answering.{IsAnswer, if_ok, answer_keeps, answer_exact, walked_backward}
 use Rattle.automata_base.proofs.Utf8.Tables.{backward}
 use Rattle.automata_base.proofs.nfa.thompson.NFA.keeps_utf8_reverse.Goals as goal

@@ -1,12 +1,12 @@
 use Rattle.std.proofs.Common.{◌≡◌, ◌<◌, ◌≤◌, ◌↔◌, true, eqb, length, sym, ap, ◌∙◌, subst}
 use Rattle.std.specs.Prelude.{IsTrue}
-use Rattle.automata_base.specs.Automata.{IsConsistent}
+use Rattle.automata_base.specs.Nfas.Automata.{IsConsistent}
 use Rattle.automata_base.specs.Lists.{all_below}
-use Rattle.automata_base.specs.Computed.{any_node}
-use Rattle.automata_base.specs.Looks.{look_index}
-use Rattle.automata_base.specs.Nodes.{nodes_of}
-use Rattle.automata_base.specs.Reach.{AreLooksAcyclic, ReachesMatch, SkipsFrom}
-use Rattle.automata_base.specs.Refusals.{states_below}
+use Rattle.automata_base.specs.Retraced.ComputedPass.{any_node}
+use Rattle.automata_base.specs.Haystacks.Looks.{look_index}
+use Rattle.automata_base.specs.Nfas.Nodes.{nodes_of}
+use Rattle.automata_base.specs.Nfas.Reach.{AreLooksAcyclic, ReachesMatch, SkipsFrom}
+use Rattle.automata_base.specs.Nfas.Errors.{states_below}
 use Rattle.automata_base.specs.declared.nfa.thompson.Data.{Data}
 use Rattle.automata_base.proofs.Determinizing.Sound.{sound}
 use Rattle.automata_base.proofs.Reaching.Refused.{passing}

@@ -1,7 +1,7 @@
 use Rattle.std.proofs.Common.{List, ◌≡◌, ◌≤◌, ◌^◌, true, false, length, refl, subst, arith}
 use Rattle.automata_base.specs.declared.nfa.thompson.State.{State}
-use Rattle.automata_base.specs.Nodes.{Automaton}
-use Rattle.automata_base.specs.Refusals.{is_narrow}
+use Rattle.automata_base.specs.Nfas.Nodes.{Automaton}
+use Rattle.automata_base.specs.Nfas.Errors.{is_narrow}
 use Rattle.automata_base.proofs.Mirrors.Fits.{fit_passes, fit_large}
 use Rattle.automata_base.proofs.Mirrors.Lists.{nothing}
 use Rattle.automata_base.proofs.nfa.thompson.NFA.mirrored.Goals as goal

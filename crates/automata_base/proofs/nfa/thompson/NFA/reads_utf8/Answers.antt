@@ -1,8 +1,8 @@
 use Rattle.std.proofs.Common.{◌≡◌, ◌<◌, ◌≤◌, ◌↔◌, ◌∷◌, true, length, IfOk, sym, subst}
 use Rattle.std.specs.Prelude.{IsTrue}
-use Rattle.automata_base.specs.Decoders.{EndsAtBoundaries}
+use Rattle.automata_base.specs.Nfas.Decoders.{EndsAtBoundaries}
 use Rattle.automata_base.specs.Lists.{all_below}
-use Rattle.automata_base.specs.Refusals.{states_below}
+use Rattle.automata_base.specs.Nfas.Errors.{states_below}
 use Rattle.automata_base.proofs.Reaching.InRange.{below_each, door_below}
 use Rattle.automata_base.proofs.nfa.thompson.NFA.reads_utf8.Goals as goal
 

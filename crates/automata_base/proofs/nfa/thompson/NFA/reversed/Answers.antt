@@ -1,8 +1,8 @@
 use Rattle.std.proofs.Common.{List, [], ◌∷◌, ◌≡◌, ◌↔◌, true, length, sym, subst}
 use Rattle.std.specs.Prelude.{IsTrue}
 use Rattle.automata_base.specs.declared.nfa.thompson.State.{State}
-use Rattle.automata_base.specs.Reach.{ReachesMatch}
-use Rattle.automata_base.specs.Refusals.{states_below, states_ordered}
+use Rattle.automata_base.specs.Nfas.Reach.{ReachesMatch}
+use Rattle.automata_base.specs.Nfas.Errors.{states_below, states_ordered}
 use Rattle.automata_base.proofs.Reaching.InRange.{door_below}
 use Rattle.automata_base.proofs.Mirrors.Begins.{alike_begins, apart, begins_alike, skips_begins, together}
 use Rattle.automata_base.proofs.Mirrors.Pairs.{patterns_turned, reversed_true}

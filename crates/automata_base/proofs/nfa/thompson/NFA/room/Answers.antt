@@ -1,5 +1,5 @@
 use Rattle.std.proofs.Common.{◌∙◌, ap}
-use Rattle.automata_base.specs.Nodes.{Automaton, stack_room}
+use Rattle.automata_base.specs.Nfas.Nodes.{Automaton, stack_room}
 use Rattle.automata_base.specs.declared.nfa.thompson.Data.{Data}
 use Rattle.automata_base.proofs.nfa.thompson.NFA.room.Goals as goal
 

@@ -1,7 +1,7 @@
 use Rattle.std.proofs.Common.{◌↔◌, subst, sym}
 use Rattle.std.specs.Prelude.{IsTrue}
 use Rattle.automata_base.specs.declared.nfa.thompson.Data.{Data}
-use Rattle.automata_base.specs.Getters.{SkipsLazily}
+use Rattle.automata_base.specs.Nfas.Getters.{SkipsLazily}
 use Rattle.automata_base.proofs.nfa.thompson.NFA.skips_lazily.Goals as goal
 
 pub returns : goal.returns

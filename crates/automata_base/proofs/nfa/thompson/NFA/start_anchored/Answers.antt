@@ -1,6 +1,6 @@
 use Rattle.std.proofs.Common.{◌∙◌, ap}
 use Rattle.automata_base.specs.declared.nfa.thompson.Data.{Data}
-use Rattle.automata_base.specs.Nodes.{Automaton}
+use Rattle.automata_base.specs.Nfas.Nodes.{Automaton}
 use Rattle.automata_base.proofs.nfa.thompson.NFA.start_anchored.Goals as goal
 
 pub returns : goal.returns

@@ -1,5 +1,5 @@
 use Rattle.std.proofs.Common.{◌≡◌, ◌++◌, map, take}
-use Rattle.automata_base.specs.Shapes.{shape_of, shape_added, built_of}
+use Rattle.automata_base.specs.Nfas.Shapes.{shape_of, shape_added, built_of}
 use Rattle.automata_base.proofs.nfa.thompson.building.push_states.Given as goal
 
 abbrev pub invariant-loop-one : goal.invariant-loop-one

@@ -1,9 +1,9 @@
 use Rattle.std.proofs.Common.{◌≡◌, ◌<◌, ◌++◌, length, get_or, ap, sym, subst, ◌∙◌, arith}
 use Rattle.automata_base.specs.declared.nfa.thompson.reach.Edges.TheVariants.{Every}
 use Rattle.automata_base.specs.Lists.{In}
-use Rattle.automata_base.specs.Nodes.{node_of, nodes_of}
-use Rattle.automata_base.specs.Reach.{node_in, targets_at}
-use Rattle.automata_base.specs.Turns.{copy_of, copies}
+use Rattle.automata_base.specs.Nfas.Nodes.{node_of, nodes_of}
+use Rattle.automata_base.specs.Nfas.Reach.{node_in, targets_at}
+use Rattle.automata_base.specs.Retraced.ReversedEdges.{copy_of, copies}
 use Rattle.automata_base.proofs.Determinizing.Walking.{node_at}
 use Rattle.automata_base.proofs.Mirrors.Copies.{in_slice, copies_next, copies_done}
 use Rattle.automata_base.proofs.nfa.thompson.copies.copy_all.Goals as goal

@@ -1,6 +1,6 @@
 use Rattle.std.proofs.Common.{◌≡◌, ◌++◌, drop}
-use Rattle.automata_base.specs.Nodes.{nodes_of}
-use Rattle.automata_base.specs.Turns.{copy_of, copies}
+use Rattle.automata_base.specs.Nfas.Nodes.{nodes_of}
+use Rattle.automata_base.specs.Retraced.ReversedEdges.{copy_of, copies}
 use Rattle.automata_base.proofs.nfa.thompson.copies.copy_all.Given as goal
 
 abbrev pub invariant-loop-id : goal.invariant-loop-id

@@ -1,5 +1,5 @@
 use Rattle.std.proofs.Common.{◌≡◌, ◌++◌, map, drop}
-use Rattle.automata_base.specs.Turns.{copy_of}
+use Rattle.automata_base.specs.Retraced.ReversedEdges.{copy_of}
 use Rattle.automata_base.proofs.nfa.thompson.copies.copy_ids.Given as goal
 
 abbrev pub invariant-loop-id : goal.invariant-loop-id

@@ -2,8 +2,8 @@ use Rattle.std.proofs.Common.{ℕ, List, [], sym, subst, inl, refl}
 use Rattle.automata_base.specs.declared.nfa.thompson.State.{State}
 use Rattle.automata_base.specs.declared.nfa.thompson.reach.Edges.TheVariants.{Every}
 use Rattle.automata_base.specs.Lists.{In}
-use Rattle.automata_base.specs.Nodes.{node_of}
-use Rattle.automata_base.specs.Reach.{targets_at}
+use Rattle.automata_base.specs.Nfas.Nodes.{node_of}
+use Rattle.automata_base.specs.Nfas.Reach.{targets_at}
 use Rattle.automata_base.proofs.Paths.Walks.{in_left}
 use Rattle.automata_base.proofs.nfa.thompson.copies.copy_state.Goals as goal
 

@@ -1,5 +1,5 @@
 use Rattle.std.proofs.Common.{ℕ, cond, [], ◌∷◌, ◌++◌, ◌≡◌, length, Vec, ap, sym, ◌∙◌, append-nil, arith}
-use Rattle.automata_base.specs.Turns.{is_of, matches_in}
+use Rattle.automata_base.specs.Retraced.ReversedEdges.{is_of, matches_in}
 use Rattle.automata_base.proofs.Mirrors.Copies.{matches_next}
 use Rattle.automata_base.proofs.Reaching.Adding.{id_below}
 use Rattle.std.specs.declared.alloc.Global.{Global}

@@ -1,5 +1,5 @@
 use Rattle.std.proofs.Common.{◌≡◌, ◌++◌, drop}
-use Rattle.automata_base.specs.Turns.{matches_in}
+use Rattle.automata_base.specs.Retraced.ReversedEdges.{matches_in}
 use Rattle.automata_base.proofs.nfa.thompson.copies.matches_of.Given as goal
 
 abbrev pub invariant-loop-id : goal.invariant-loop-id

@@ -1,8 +1,8 @@
 use Rattle.std.proofs.Common.{List, ℕ, ◌≤◌, [], ◌∷◌, ◌+◌, length, length-append, sym, ap, ◌∙◌, subst}
-use Rattle.automata_base.specs.Copies.{IsPartAdded}
+use Rattle.automata_base.specs.Retraced.Copies.{IsPartAdded}
 use Rattle.automata_base.specs.Lists.{all_below}
-use Rattle.automata_base.specs.Nodes.{nodes_of}
-use Rattle.automata_base.specs.Turns.{HasCopies}
+use Rattle.automata_base.specs.Nfas.Nodes.{nodes_of}
+use Rattle.automata_base.specs.Retraced.ReversedEdges.{HasCopies}
 use Rattle.automata_base.proofs.Determinizing.Walking.{nodes_length}
 use Rattle.automata_base.proofs.Mirrors.Copies.{have_more, matches_below, matches_few}
 use Rattle.automata_base.proofs.Mirrors.Fits.{added_copies, added_more, added_nodes, part_fits, part_large}

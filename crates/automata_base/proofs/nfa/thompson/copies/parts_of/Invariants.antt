@@ -1,7 +1,7 @@
 use Rattle.std.proofs.Common.{◌≡◌, length}
-use Rattle.automata_base.specs.Copies.{AreParts}
-use Rattle.automata_base.specs.Nodes.{nodes_of}
-use Rattle.automata_base.specs.Turns.{HaveCopies}
+use Rattle.automata_base.specs.Retraced.Copies.{AreParts}
+use Rattle.automata_base.specs.Nfas.Nodes.{nodes_of}
+use Rattle.automata_base.specs.Retraced.ReversedEdges.{HaveCopies}
 use Rattle.automata_base.proofs.nfa.thompson.copies.parts_of.Given as goal
 
 abbrev pub invariant-loop-p : goal.invariant-loop-p

@@ -1,6 +1,6 @@
 use Rattle.std.proofs.Common.{sym, ◌∙◌, refl}
-use Rattle.automata_base.specs.Refusals.{states_below}
-use Rattle.automata_base.specs.Refusals.{state_below}
+use Rattle.automata_base.specs.Nfas.Errors.{states_below}
+use Rattle.automata_base.specs.Nfas.Errors.{state_below}
 use Rattle.automata_base.proofs.Determinizing.Tests_of_lists.{test_fails, test_next}
 use Rattle.automata_base.proofs.nfa.thompson.door.are_below.Goals as goal
 

@@ -1,6 +1,6 @@
 use Rattle.std.proofs.Common.{sym, ◌∙◌, refl}
-use Rattle.automata_base.specs.Refusals.{matches_below}
-use Rattle.automata_base.specs.Refusals.{match_below}
+use Rattle.automata_base.specs.Nfas.Errors.{matches_below}
+use Rattle.automata_base.specs.Nfas.Errors.{match_below}
 use Rattle.automata_base.proofs.Determinizing.Tests_of_lists.{test_fails, test_next}
 use Rattle.automata_base.proofs.nfa.thompson.door.are_matches_below.Goals as goal
 

@@ -1,5 +1,5 @@
 use Rattle.std.proofs.Common.{◌≡◌, drop}
-use Rattle.automata_base.specs.Refusals.{matches_below}
+use Rattle.automata_base.specs.Nfas.Errors.{matches_below}
 use Rattle.automata_base.proofs.nfa.thompson.door.are_matches_below.Given as goal
 
 abbrev pub invariant-loop-i : goal.invariant-loop-i

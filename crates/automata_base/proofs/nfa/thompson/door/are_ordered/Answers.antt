@@ -1,5 +1,5 @@
 use Rattle.std.proofs.Common.{sym, ◌∙◌, refl}
-use Rattle.automata_base.specs.Refusals.{states_ordered, state_ordered}
+use Rattle.automata_base.specs.Nfas.Errors.{states_ordered, state_ordered}
 use Rattle.automata_base.proofs.Determinizing.Tests_of_lists.{test_fails, test_next}
 use Rattle.automata_base.proofs.nfa.thompson.door.are_ordered.Goals as goal
 

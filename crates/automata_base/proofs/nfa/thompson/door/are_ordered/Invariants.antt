@@ -1,5 +1,5 @@
 use Rattle.std.proofs.Common.{◌≡◌, drop}
-use Rattle.automata_base.specs.Refusals.{states_ordered}
+use Rattle.automata_base.specs.Nfas.Errors.{states_ordered}
 use Rattle.automata_base.proofs.nfa.thompson.door.are_ordered.Given as goal
 
 abbrev pub invariant-loop-i : goal.invariant-loop-i

@@ -1,5 +1,5 @@
 use Rattle.std.proofs.Common.{◌≡◌, ◌+◌, sym, subst, ◌∙◌, drop}
-use Rattle.automata_base.specs.Refusals.{ordered_from}
+use Rattle.automata_base.specs.Nfas.Errors.{ordered_from}
 use Rattle.automata_base.proofs.Determinizing.Tests_of_lists.{ordered_fails, ordered_next}
 use Rattle.automata_base.proofs.nfa.thompson.door.is_ordered.Goals as goal
 

@@ -1,5 +1,5 @@
 use Rattle.std.proofs.Common.{◌≡◌, drop}
-use Rattle.automata_base.specs.Refusals.{ordered_from}
+use Rattle.automata_base.specs.Nfas.Errors.{ordered_from}
 use Rattle.automata_base.proofs.nfa.thompson.door.is_ordered.Given as goal
 
 abbrev pub invariant-loop-i : goal.invariant-loop-i

@@ -1,8 +1,8 @@
 use Rattle.std.proofs.Common.{◌||◌, ◌∙◌, ap, eqb}
-use Rattle.automata_base.specs.Computed.{any_node}
-use Rattle.automata_base.specs.Looks.{look_index}
-use Rattle.automata_base.specs.Nodes.{nodes_of}
-use Rattle.automata_base.specs.Truths.{truth_of}
+use Rattle.automata_base.specs.Retraced.ComputedPass.{any_node}
+use Rattle.automata_base.specs.Haystacks.Looks.{look_index}
+use Rattle.automata_base.specs.Nfas.Nodes.{nodes_of}
+use Rattle.automata_base.specs.Haystacks.LookSets.{truth_of}
 use Rattle.automata_base.proofs.Determinizing.Keeping.{truth_none}
 use Rattle.automata_base.proofs.Determinizing.Tests_of_lists.{any_next, any_done}
 use Rattle.automata_base.proofs.nfa.thompson.door.looks_of.Goals as goal

@@ -1,9 +1,9 @@
 use Rattle.std.proofs.Common.{◌≡◌, ◌||◌, eqb, drop}
-use Rattle.automata_base.specs.Computed.{any_node}
-use Rattle.automata_base.specs.Looks.{look_index}
-use Rattle.automata_base.specs.Nodes.{nodes_of}
-use Rattle.automata_base.specs.Truths.{truth_of}
-use Rattle.automata_base.specs.Looks.{Look}
+use Rattle.automata_base.specs.Retraced.ComputedPass.{any_node}
+use Rattle.automata_base.specs.Haystacks.Looks.{look_index}
+use Rattle.automata_base.specs.Nfas.Nodes.{nodes_of}
+use Rattle.automata_base.specs.Haystacks.LookSets.{truth_of}
+use Rattle.automata_base.specs.Haystacks.Looks.{Look}
 use Rattle.automata_base.proofs.nfa.thompson.door.looks_of.Given as goal
 
 abbrev pub invariant-loop-i : goal.invariant-loop-i

@@ -2,8 +2,8 @@ use Rattle.std.proofs.Common.{◌≡◌, ◌≤◌, ◌<◌, ◌+◌, ◌-◌, s
 use Rattle.std.specs.Prelude.{sum_by}
 use Rattle.std.proofs.lemmas.Bool.{le-leb, lt-leb}
 use Rattle.std.proofs.lemmas.List.Sums.{sum_by-take-le}
-use Rattle.automata_base.specs.Nodes.{extra_of}
-use Rattle.automata_base.specs.Refusals.{alternates_of}
+use Rattle.automata_base.specs.Nfas.Nodes.{extra_of}
+use Rattle.automata_base.specs.Nfas.Errors.{alternates_of}
 use Rattle.automata_base.proofs.Determinizing.Tests_of_lists.{extra_is, sum_next, sum_all, room_all, some_same}
 use Rattle.automata_base.proofs.nfa.thompson.door.room_of.Goals as goal
 

@@ -1,7 +1,7 @@
 use Rattle.std.proofs.Common.{◌≡◌, ◌≤◌, ◌+◌, take}
 use Rattle.std.specs.Prelude.{sum_by}
-use Rattle.automata_base.specs.Nodes.{extra_of}
-use Rattle.automata_base.specs.Refusals.{alternates_of}
+use Rattle.automata_base.specs.Nfas.Nodes.{extra_of}
+use Rattle.automata_base.specs.Nfas.Errors.{alternates_of}
 use Rattle.automata_base.proofs.nfa.thompson.door.room_of.Given as goal
 
 abbrev pub invariant-loop-i : goal.invariant-loop-i

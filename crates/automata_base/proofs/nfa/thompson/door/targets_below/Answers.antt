@@ -1,5 +1,5 @@
 use Rattle.std.proofs.Common.{sym, ◌∙◌, refl, ltb}
-use Rattle.automata_base.specs.Refusals.{transitions_below}
+use Rattle.automata_base.specs.Nfas.Errors.{transitions_below}
 use Rattle.automata_base.specs.declared.nfa.thompson.Transition.{Transition}
 use Rattle.automata_base.proofs.Determinizing.Tests_of_lists.{test_fails, test_next}
 use Rattle.automata_base.proofs.nfa.thompson.door.targets_below.Goals as goal

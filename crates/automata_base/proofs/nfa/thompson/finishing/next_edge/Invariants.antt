@@ -1,8 +1,8 @@
 use Rattle.std.proofs.Common.{ℕ, ◌-◌, length, take}
 use Rattle.automata_base.specs.Lists.{In}
-use Rattle.automata_base.specs.Nodes.{node_of}
-use Rattle.automata_base.specs.Paths.{all_true}
-use Rattle.automata_base.specs.Visits.{children_at}
+use Rattle.automata_base.specs.Nfas.Nodes.{node_of}
+use Rattle.automata_base.specs.Paths.Paths.{all_true}
+use Rattle.automata_base.specs.Powersets.Closure.{children_at}
 use Rattle.automata_base.proofs.nfa.thompson.finishing.next_edge.Given as goal
 
 abbrev pub invariant-loop-target : goal.invariant-loop-target

@@ -2,8 +2,8 @@ use Rattle.std.proofs.Common.{◌≡◌, [], ◌∷◌, length, reverse, refl, s
 use Rattle.std.proofs.lemmas.List.{nil_from_length}
 use Rattle.automata_base.specs.declared.nfa.thompson.finishing.Frame.{Frame}
 use Rattle.automata_base.specs.declared.nfa.thompson.reach.Edges.TheVariants.{Epsilon}
-use Rattle.automata_base.specs.Finishing.{IsUnderSearch}
-use Rattle.automata_base.specs.Reach.{targets_of}
+use Rattle.automata_base.specs.Retraced.DepthFirst.{IsUnderSearch}
+use Rattle.automata_base.specs.Nfas.Reach.{targets_of}
 use Rattle.automata_base.proofs.Determinizing.Distinct.{Contains-In, In-Contains}
 use Rattle.automata_base.proofs.Reaching.DepthFirst.{search_starts, stack_top}
 use Rattle.automata_base.proofs.nfa.thompson.finishing.search_from.Goals as goal

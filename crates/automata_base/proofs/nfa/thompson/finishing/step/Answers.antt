@@ -1,10 +1,10 @@
 use Rattle.std.proofs.Common.{ℕ, ◌≡◌, ◌+◌, ◌<◌, ◌∷◌, length, reverse, take, refl, sym, ap, ◌∙◌, subst, arith}
 use Rattle.automata_base.specs.declared.nfa.thompson.finishing.Frame.{Frame}
 use Rattle.automata_base.specs.declared.nfa.thompson.reach.Edges.TheVariants.{Epsilon}
-use Rattle.automata_base.specs.Finishing.{IsUnderSearch}
+use Rattle.automata_base.specs.Retraced.DepthFirst.{IsUnderSearch}
 use Rattle.automata_base.specs.Lists.{In, nth}
-use Rattle.automata_base.specs.Reach.{targets_of}
-use Rattle.automata_base.specs.Refusals.{states_below}
+use Rattle.automata_base.specs.Nfas.Reach.{targets_of}
+use Rattle.automata_base.specs.Nfas.Errors.{states_below}
 use Rattle.automata_base.proofs.Reaching.Adding.{state_at_below}
 use Rattle.automata_base.proofs.Reaching.DepthFirst.{search_done, search_enters, stack_two, read_at, edges_at}
 use Rattle.automata_base.proofs.nfa.thompson.finishing.step.Goals as goal

@@ -1,5 +1,5 @@
 use Rattle.std.proofs.Common.{◌≡◌, drop}
-use Rattle.automata_base.specs.Once.{once_from}
+use Rattle.automata_base.specs.Retraced.Once.{once_from}
 use Rattle.automata_base.proofs.nfa.thompson.reach.add_ids.Given as goal
 
 abbrev pub invariant-loop-id : goal.invariant-loop-id

@@ -1,5 +1,5 @@
 use Rattle.std.proofs.Common.{ap, ◌∙◌}
-use Rattle.automata_base.specs.Refusals.{transitions_below}
+use Rattle.automata_base.specs.Nfas.Errors.{transitions_below}
 use Rattle.automata_base.proofs.Reaching.Adding.{next_below}
 use Rattle.automata_base.proofs.nfa.thompson.reach.add_nexts.Goals as goal
 

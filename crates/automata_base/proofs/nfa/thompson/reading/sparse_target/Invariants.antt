@@ -1,6 +1,6 @@
 use Rattle.std.proofs.Common.{◌≡◌, drop}
-use Rattle.automata_base.specs.Nfa.{takes_in}
-use Rattle.automata_base.specs.Nodes.{ranges_of}
+use Rattle.automata_base.specs.Nfas.Nfa.{takes_in}
+use Rattle.automata_base.specs.Nfas.Nodes.{ranges_of}
 use Rattle.automata_base.proofs.nfa.thompson.reading.sparse_target.Given as goal
 
 abbrev pub invariant-loop-t : goal.invariant-loop-t

@@ -3,12 +3,12 @@ use Rattle.std.specs.Prelude.{sum_by}
 use Rattle.automata_base.specs.declared.nfa.thompson.State.{State}
 use Rattle.automata_base.specs.declared.nfa.thompson.reach.Edges.TheVariants.{Every}
 use Rattle.automata_base.specs.Lists.{In, all_below}
-use Rattle.automata_base.specs.Nfa.{Split}
-use Rattle.automata_base.specs.Nodes.{nodes_of}
-use Rattle.automata_base.specs.Once.{Distinct}
-use Rattle.automata_base.specs.Reach.{IsReached}
-use Rattle.automata_base.specs.Refusals.{alternates_of, states_below, states_ordered}
-use Rattle.automata_base.specs.Turns.{HaveCopies}
+use Rattle.automata_base.specs.Nfas.Nfa.{Split}
+use Rattle.automata_base.specs.Nfas.Nodes.{nodes_of}
+use Rattle.automata_base.specs.Retraced.Once.{Distinct}
+use Rattle.automata_base.specs.Nfas.Reach.{IsReached}
+use Rattle.automata_base.specs.Nfas.Errors.{alternates_of, states_below, states_ordered}
+use Rattle.automata_base.specs.Retraced.ReversedEdges.{HaveCopies}
 use Rattle.automata_base.proofs.Reaching.InRange.{ids_below}
 use Rattle.automata_base.proofs.Determinizing.Walking.{nodes_length}
 use Rattle.automata_base.proofs.Mirrors.Fits.{made_fits, parts_large, root_large, turned_large}

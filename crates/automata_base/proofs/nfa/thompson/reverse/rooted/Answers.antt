@@ -1,5 +1,5 @@
 use Rattle.std.proofs.Common.{◌≡◌, ◌+◌, length, length-append, ap, ◌∙◌, arith}
-use Rattle.automata_base.specs.Nodes.{nodes_of}
+use Rattle.automata_base.specs.Nfas.Nodes.{nodes_of}
 use Rattle.automata_base.proofs.Determinizing.Walking.{nodes_length}
 use Rattle.automata_base.proofs.nfa.thompson.reverse.rooted.Goals as goal
 

@@ -1,8 +1,8 @@
 use Rattle.std.proofs.Common.{◌≤◌, ◌+◌, length, ap, sym, ◌∙◌, subst, arith}
 use Rattle.std.specs.Prelude.{sum_by}
 use Rattle.automata_base.specs.declared.nfa.thompson.State.TheVariants.{Match}
-use Rattle.automata_base.specs.ReversedSizes.{asking_edges}
-use Rattle.automata_base.specs.Turns.{AreTurned, Turns, turn_by, turn_states, turns_of, size}
+use Rattle.automata_base.specs.Nfas.ReversedSizes.{asking_edges}
+use Rattle.automata_base.specs.Retraced.ReversedEdges.{AreTurned, Turns, turn_by, turn_states, turns_of, size}
 use Rattle.automata_base.proofs.Mirrors.Lists.{err_is}
 use Rattle.automata_base.proofs.Mirrors.Sizes.{size_by, states_large, turned_length}
 use Rattle.automata_base.proofs.nfa.thompson.reverse.turned_states.Goals as goal

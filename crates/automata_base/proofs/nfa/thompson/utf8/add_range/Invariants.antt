@@ -1,7 +1,7 @@
 use Rattle.std.proofs.Common.{◌≡◌, drop}
-use Rattle.automata_base.specs.Decoders.{range_pairs}
-use Rattle.automata_base.specs.Nodes.{range_of}
-use Rattle.automata_base.specs.Once.{once_from}
+use Rattle.automata_base.specs.Nfas.Decoders.{range_pairs}
+use Rattle.automata_base.specs.Nfas.Nodes.{range_of}
+use Rattle.automata_base.specs.Retraced.Once.{once_from}
 use Rattle.automata_base.proofs.nfa.thompson.utf8.add_range.Given as goal
 
 abbrev pub invariant-loop-class : goal.invariant-loop-class

@@ -1,8 +1,8 @@
 use Rattle.std.proofs.Common.{◌/◌, ap, ◌∙◌}
-use Rattle.automata_base.specs.Decoders.{ranges_pairs}
-use Rattle.automata_base.specs.Nodes.{ranges_of}
-use Rattle.automata_base.specs.Once.{once_from}
-use Rattle.automata_base.specs.Refusals.{transitions_below}
+use Rattle.automata_base.specs.Nfas.Decoders.{ranges_pairs}
+use Rattle.automata_base.specs.Nfas.Nodes.{ranges_of}
+use Rattle.automata_base.specs.Retraced.Once.{once_from}
+use Rattle.automata_base.specs.Nfas.Errors.{transitions_below}
 use Rattle.automata_base.proofs.Reaching.Adding.{next_below}
 use Rattle.automata_base.proofs.Utf8.Adding.{range_next}
 use Rattle.automata_base.proofs.nfa.thompson.utf8.add_ranges.Goals as goal

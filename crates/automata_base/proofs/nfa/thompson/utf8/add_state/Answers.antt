@@ -1,9 +1,9 @@
 use Rattle.std.proofs.Common.{ap, ◌∙◌, sym}
-use Rattle.automata_base.specs.Decoders.{pairs_at, byte_pairs}
-use Rattle.automata_base.specs.Nodes.{node_of}
-use Rattle.automata_base.specs.Once.{once_from}
-use Rattle.automata_base.specs.Paths.{all_true}
-use Rattle.automata_base.specs.Visits.{children_at}
+use Rattle.automata_base.specs.Nfas.Decoders.{pairs_at, byte_pairs}
+use Rattle.automata_base.specs.Nfas.Nodes.{node_of}
+use Rattle.automata_base.specs.Retraced.Once.{once_from}
+use Rattle.automata_base.specs.Paths.Paths.{all_true}
+use Rattle.automata_base.specs.Powersets.Closure.{children_at}
 use Rattle.automata_base.proofs.Utf8.Adding.{once_append}
 use Rattle.automata_base.proofs.nfa.thompson.utf8.add_state.Goals as goal
 

@@ -1,5 +1,5 @@
 use Rattle.std.proofs.Common.{ap, ◌∙◌, sym}
-use Rattle.automata_base.specs.Once.{once_from}
+use Rattle.automata_base.specs.Retraced.Once.{once_from}
 use Rattle.automata_base.proofs.Utf8.Adding.{no_target, one_target}
 use Rattle.automata_base.proofs.nfa.thompson.utf8.add_target.Goals as goal
 

@@ -1,8 +1,8 @@
 use Rattle.std.proofs.Common.{◌/◌, ◌<◌, get_or, length, arith, ap, ◌∙◌}
-use Rattle.automata_base.specs.Decoders.{ranges_pairs}
+use Rattle.automata_base.specs.Nfas.Decoders.{ranges_pairs}
 use Rattle.automata_base.specs.Lists.{all_below}
-use Rattle.automata_base.specs.Nodes.{dense_from}
-use Rattle.automata_base.specs.Once.{once_from}
+use Rattle.automata_base.specs.Nfas.Nodes.{dense_from}
+use Rattle.automata_base.specs.Retraced.Once.{once_from}
 use Rattle.automata_base.proofs.Reaching.Adding.{id_below}
 use Rattle.automata_base.proofs.Utf8.Adding.{target_next}
 use Rattle.automata_base.proofs.nfa.thompson.utf8.add_targets.Goals as goal

@@ -1,7 +1,7 @@
 use Rattle.std.proofs.Common.{◌≡◌, ◌<◌, ◌*◌, ◌/◌, [], ◌∷◌, length, ap, ◌∙◌, subst, arith}
-use Rattle.automata_base.specs.Decoders.{pair, pairs_at, pairs_of, IsBoundary}
+use Rattle.automata_base.specs.Nfas.Decoders.{pair, pairs_at, pairs_of, IsBoundary}
 use Rattle.automata_base.specs.Lists.{In}
-use Rattle.automata_base.specs.Once.{once_from}
+use Rattle.automata_base.specs.Retraced.Once.{once_from}
 use Rattle.automata_base.proofs.Utf8.Product.{test_reached}
 use Rattle.automata_base.proofs.nfa.thompson.utf8.ends_at_boundaries.Goals as goal
 

@@ -1,9 +1,9 @@
 use Rattle.std.proofs.Common.{◌≡◌, ◌<◌, ◌≤◌, ◌+◌, ◌-◌, ◌*◌, ◌/◌, ◌%◌, length, refl, get_or, sym, ap, ◌∙◌, arith}
-use Rattle.automata_base.specs.Decoders.{pairs_of, node_pairs}
-use Rattle.automata_base.specs.Nodes.{node_of}
-use Rattle.automata_base.specs.Once.{once_from}
-use Rattle.automata_base.specs.Reach.{node_in}
-use Rattle.automata_base.specs.Refusals.{states_below}
+use Rattle.automata_base.specs.Nfas.Decoders.{pairs_of, node_pairs}
+use Rattle.automata_base.specs.Nfas.Nodes.{node_of}
+use Rattle.automata_base.specs.Retraced.Once.{once_from}
+use Rattle.automata_base.specs.Nfas.Reach.{node_in}
+use Rattle.automata_base.specs.Nfas.Errors.{states_below}
 use Rattle.automata_base.proofs.Determinizing.Walking.{node_at}
 use Rattle.automata_base.proofs.Reaching.Adding.{state_at_below}
 use Rattle.automata_base.proofs.Reaching.Walked.{walk_steps, walk_ends}

@@ -1,5 +1,5 @@
 use Rattle.std.proofs.Common.{arith}
-use Rattle.automata_base.specs.Classes.{alphabet_length}
+use Rattle.automata_base.specs.ByteClasses.Classes.{alphabet_length}
 use Rattle.automata_base.proofs.Values.Boundaries.{stride_for-few}
 use Rattle.automata_base.proofs.util.alphabet.ByteClasses.stride.Goals as goal
 

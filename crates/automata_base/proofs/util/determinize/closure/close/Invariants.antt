@@ -1,8 +1,8 @@
 use Rattle.std.proofs.Common.{drop}
-use Rattle.automata_base.specs.Nodes.{nfa_of}
-use Rattle.automata_base.specs.Rooms.{IsClosureRoom}
-use Rattle.automata_base.specs.Truths.{truth_of}
-use Rattle.automata_base.specs.Visits.{IsUnderWay}
+use Rattle.automata_base.specs.Nfas.Nodes.{nfa_of}
+use Rattle.automata_base.specs.Retraced.Rooms.{IsClosureRoom}
+use Rattle.automata_base.specs.Haystacks.LookSets.{truth_of}
+use Rattle.automata_base.specs.Powersets.Closure.{IsUnderWay}
 use Rattle.automata_base.proofs.util.determinize.closure.close.Given as goal
 
 abbrev pub invariant-loop-root : goal.invariant-loop-root

@@ -1,13 +1,15 @@
-use Rattle.std.proofs.Common.{arith, ◌≡◌, ◌+◌, ◌<◌, ◌≤◌, [], ◌∷◌, ◌++◌, List, ℕ, length, reverse, Vec, vec_len, vec_capacity, get_or, refl, sym, ap, ◌∙◌, subst, inl, rules}
+use Rattle.std.proofs.Common.{arith, ◌≡◌, ◌+◌, ◌<◌, ◌≤◌, [], ◌∷◌, ◌++◌, List, ℕ, length, reverse, Vec, vec_len}
+use Rattle.std.proofs.Common.{vec_capacity, get_or, refl, sym, ap, ◌∙◌, subst, inl, rules}
 use Rattle.std.specs.Prelude.{Contains}
 use Rattle.std.proofs.lemmas.List.{nil_from_length}
 use Rattle.std.specs.declared.alloc.Global.{Global}
 use Rattle.automata_base.specs.declared.nfa.thompson.State.{State}
-use Rattle.automata_base.specs.Door.{IsDoor}
-use Rattle.automata_base.specs.Nodes.{Automaton, stack_room, node_of}
-use Rattle.automata_base.specs.Truths.{truth_of}
-use Rattle.automata_base.specs.Visits.{children_at}
-use Rattle.automata_base.proofs.Determinizing.Walking.{Walking, work, walk_begins, walk_ends, pushed_top, new_step, old_step, step_room}
+use Rattle.automata_base.specs.Nfas.Accepted.{IsDoor}
+use Rattle.automata_base.specs.Nfas.Nodes.{Automaton, stack_room, node_of}
+use Rattle.automata_base.specs.Haystacks.LookSets.{truth_of}
+use Rattle.automata_base.specs.Powersets.Closure.{children_at}
+use Rattle.automata_base.proofs.Determinizing.Walking.{Walking, work, walk_begins, walk_ends, pushed_top, new_step}
+use Rattle.automata_base.proofs.Determinizing.Walking.{old_step, step_room}
 use Rattle.automata_base.proofs.util.determinize.closure.close_from.Goals as goal
 use Rattle.automata_base.proofs.util.determinize.closure.close_from.Goals.{then-insert+in_default, else-insert}
 

@@ -1,5 +1,5 @@
 use Rattle.std.proofs.Common.{refl}
-use Rattle.automata_base.specs.Truths.{truth_of}
+use Rattle.automata_base.specs.Haystacks.LookSets.{truth_of}
 use Rattle.automata_base.proofs.Determinizing.Walking.{leaf_step, walk_ends}
 use Rattle.automata_base.proofs.util.determinize.closure.close_one.Goals as goal
 

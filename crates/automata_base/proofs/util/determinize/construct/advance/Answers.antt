@@ -1,8 +1,8 @@
 use Rattle.std.proofs.Common.{sym, subst}
-use Rattle.automata_base.specs.Cuts.{cut_for, targets}
-use Rattle.automata_base.specs.Made.{IsClosureMade}
-use Rattle.automata_base.specs.Nodes.{nfa_of}
-use Rattle.automata_base.specs.Parts.{powerset_of}
+use Rattle.automata_base.specs.Powersets.Cuts.{cut_for, targets}
+use Rattle.automata_base.specs.Powersets.Results.{IsClosureMade}
+use Rattle.automata_base.specs.Nfas.Nodes.{nfa_of}
+use Rattle.automata_base.specs.Powersets.Parts.{powerset_of}
 use Rattle.automata_base.proofs.Determinizing.Made.{closure_made}
 use Rattle.automata_base.proofs.util.determinize.construct.advance.Goals as goal
 

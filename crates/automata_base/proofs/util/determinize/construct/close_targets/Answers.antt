@@ -1,11 +1,11 @@
 use Rattle.std.proofs.Common.{◌≡◌, ◌<◌, length, Some, sym, ap, ◌∙◌, subst, ◌+◌, drop}
 use Rattle.std.proofs.lemmas.List.{drop_all}
-use Rattle.automata_base.specs.Nodes.{nfa_of}
-use Rattle.automata_base.specs.Truths.{truth_of}
+use Rattle.automata_base.specs.Nfas.Nodes.{nfa_of}
+use Rattle.automata_base.specs.Haystacks.LookSets.{truth_of}
 use Rattle.automata_base.specs.Lists.{cons_some}
-use Rattle.automata_base.specs.Nfa.{takes, takes_at}
-use Rattle.automata_base.specs.Cuts.{targets}
-use Rattle.automata_base.specs.Visits.{IsUnderWay}
+use Rattle.automata_base.specs.Nfas.Nfa.{takes, takes_at}
+use Rattle.automata_base.specs.Powersets.Cuts.{targets}
+use Rattle.automata_base.specs.Powersets.Closure.{IsUnderWay}
 use Rattle.automata_base.proofs.Paths.Loops.{under_way_done, under_way_start}
 use Rattle.automata_base.proofs.Determinizing.Walking.{node_at, nodes_length}
 use Rattle.automata_base.proofs.Determinizing.Keeping.{below_at, pick_next}

@@ -1,8 +1,8 @@
 use Rattle.std.proofs.Common.{sym, subst}
-use Rattle.automata_base.specs.Nodes.{nfa_of}
-use Rattle.automata_base.specs.Truths.{truth_of}
-use Rattle.automata_base.specs.Paths.{IsClosure}
-use Rattle.automata_base.specs.Cuts.{targets}
+use Rattle.automata_base.specs.Nfas.Nodes.{nfa_of}
+use Rattle.automata_base.specs.Haystacks.LookSets.{truth_of}
+use Rattle.automata_base.specs.Paths.Paths.{IsClosure}
+use Rattle.automata_base.specs.Powersets.Cuts.{targets}
 use Rattle.automata_base.proofs.util.determinize.construct.close_unit.Goals as goal
 
 pub returns-in-Some-clause-closure : goal.returns-in-Some-clause-closure

@@ -1,11 +1,11 @@
 use Rattle.std.proofs.Common.{◌≡◌, ◌&&◌, ◌<◌, subst, true, ap, ◌∙◌}
 use Rattle.automata_base.specs.Lists.{pick, In}
-use Rattle.automata_base.specs.Looks.{is_byte, first_half}
-use Rattle.automata_base.specs.Nfa.{keep}
-use Rattle.automata_base.specs.Computed.{any_state, any_node, is_full}
-use Rattle.automata_base.specs.Passes.{is_word_look, is_crlf_look}
-use Rattle.automata_base.specs.Nodes.{nfa_of}
-use Rattle.automata_base.specs.Truths.{truth_of}
+use Rattle.automata_base.specs.Haystacks.Looks.{is_byte, first_half}
+use Rattle.automata_base.specs.Nfas.Nfa.{keep}
+use Rattle.automata_base.specs.Retraced.ComputedPass.{any_state, any_node, is_full}
+use Rattle.automata_base.specs.Powersets.Passes.{is_word_look, is_crlf_look}
+use Rattle.automata_base.specs.Nfas.Nodes.{nfa_of}
+use Rattle.automata_base.specs.Haystacks.LookSets.{truth_of}
 use Rattle.automata_base.specs.declared.nfa.thompson.Flags.{Flags}
 use Rattle.automata_base.proofs.Determinizing.Keeping.{kept_in}
 use Rattle.automata_base.proofs.Determinizing.Making.{made, some_state}

@@ -1,12 +1,12 @@
 use Rattle.std.proofs.Common.{◌<◌, length, sym, subst, inl, inr, refl}
 use Rattle.std.specs.Prelude.{All}
-use Rattle.automata_base.specs.Nodes.{nfa_of}
-use Rattle.automata_base.specs.Parts.{powerset_of}
+use Rattle.automata_base.specs.Nfas.Nodes.{nfa_of}
+use Rattle.automata_base.specs.Powersets.Parts.{powerset_of}
 use Rattle.automata_base.specs.Lists.{In}
-use Rattle.automata_base.specs.Made.{AreMatched, IsClosureMade}
-use Rattle.automata_base.specs.Paths.{IsClosure}
-use Rattle.automata_base.specs.Cuts.{cut_for, targets}
-use Rattle.automata_base.specs.Passes.{true_looks}
+use Rattle.automata_base.specs.Powersets.Results.{AreMatched, IsClosureMade}
+use Rattle.automata_base.specs.Paths.Paths.{IsClosure}
+use Rattle.automata_base.specs.Powersets.Cuts.{cut_for, targets}
+use Rattle.automata_base.specs.Powersets.Passes.{true_looks}
 use Rattle.automata_base.proofs.Determinizing.Keeping.{all_in}
 use Rattle.automata_base.proofs.Determinizing.Made.{step_made}
 use Rattle.automata_base.proofs.util.determinize.construct.next_into.Goals as goal

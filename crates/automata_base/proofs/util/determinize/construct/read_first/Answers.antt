@@ -1,14 +1,17 @@
-use Rattle.std.proofs.Common.{◌≡◌, ◌<◌, ◌≤◌, ◌++◌, [], ◌∷◌, length, Some, None, sym, ap, ◌∙◌, subst, refl, ◌+◌, drop, vec_len, vec_capacity, arith}
-use Rattle.automata_base.specs.Nodes.{nfa_of}
-use Rattle.automata_base.specs.Truths.{truth_of}
+use Rattle.std.proofs.Common.{◌≡◌, ◌<◌, ◌≤◌, ◌++◌, [], ◌∷◌, length, Some, None, sym, ap, ◌∙◌, subst, refl, ◌+◌, drop}
+use Rattle.std.proofs.Common.{vec_len, vec_capacity, arith}
+use Rattle.automata_base.specs.Nfas.Nodes.{nfa_of}
+use Rattle.automata_base.specs.Haystacks.LookSets.{truth_of}
 use Rattle.automata_base.specs.Lists.{cons_some}
-use Rattle.automata_base.specs.Made.{AreMatched}
-use Rattle.automata_base.specs.Nfa.{takes, takes_at, accepts, accepts_at}
-use Rattle.automata_base.specs.Cuts.{cut, targets}
-use Rattle.automata_base.specs.Visits.{IsUnderWay}
+use Rattle.automata_base.specs.Powersets.Results.{AreMatched}
+use Rattle.automata_base.specs.Nfas.Nfa.{takes, takes_at, accepts, accepts_at}
+use Rattle.automata_base.specs.Powersets.Cuts.{cut, targets}
+use Rattle.automata_base.specs.Powersets.Closure.{IsUnderWay}
 use Rattle.automata_base.proofs.Paths.Loops.{under_way_done, under_way_start}
 use Rattle.automata_base.proofs.Determinizing.Walking.{node_at, nodes_length}
-use Rattle.automata_base.proofs.Determinizing.Keeping.{below_at, cut_picks_next, cut_picks_here, cut_picks_done, cut_targets_next, cut_targets_here, cut_targets_done, matched_one, matched_none}
+use Rattle.automata_base.proofs.Determinizing.Keeping.{below_at, cut_picks_next, cut_picks_here, cut_picks_done}
+use Rattle.automata_base.proofs.Determinizing.Keeping.{cut_targets_next, cut_targets_here, cut_targets_done}
+use Rattle.automata_base.proofs.Determinizing.Keeping.{matched_one, matched_none}
 use Rattle.automata_base.proofs.util.determinize.construct.read_first.Goals as goal
 
 pub state-state-requires : goal.state-state-requires

@@ -1,11 +1,11 @@
 use Rattle.std.proofs.Common.{◌≡◌, ◌≤◌, [], drop, Some, vec_capacity}
-use Rattle.automata_base.specs.Cuts.{cut, targets}
+use Rattle.automata_base.specs.Powersets.Cuts.{cut, targets}
 use Rattle.automata_base.specs.Lists.{pick}
-use Rattle.automata_base.specs.Nfa.{accepts}
-use Rattle.automata_base.specs.Nodes.{nfa_of}
-use Rattle.automata_base.specs.Rooms.{IsClosureRoom}
-use Rattle.automata_base.specs.Truths.{truth_of}
-use Rattle.automata_base.specs.Visits.{IsUnderWay}
+use Rattle.automata_base.specs.Nfas.Nfa.{accepts}
+use Rattle.automata_base.specs.Nfas.Nodes.{nfa_of}
+use Rattle.automata_base.specs.Retraced.Rooms.{IsClosureRoom}
+use Rattle.automata_base.specs.Haystacks.LookSets.{truth_of}
+use Rattle.automata_base.specs.Powersets.Closure.{IsUnderWay}
 use Rattle.automata_base.proofs.util.determinize.construct.read_first.Given as goal
 
 abbrev pub invariant-loop-i : goal.invariant-loop-i

@@ -1,5 +1,5 @@
 use Rattle.std.proofs.Common.{sym, ◌∙◌}
-use Rattle.automata_base.specs.Parts.{powerset_of}
+use Rattle.automata_base.specs.Powersets.Parts.{powerset_of}
 use Rattle.automata_base.proofs.Determinizing.Made.{start_dead, start_made}
 use Rattle.automata_base.proofs.util.determinize.construct.start_into.Goals as goal
 

@@ -1,4 +1,4 @@
-use Rattle.automata_base.specs.Truths.{truth_of}
+use Rattle.automata_base.specs.Haystacks.LookSets.{truth_of}
 use Rattle.automata_base.proofs.Determinizing.Bits_of_looks.{Unnews}
 use Rattle.automata_base.proofs.util.determinize.deciding.has_news.Given as goal
 

@@ -1,10 +1,12 @@
-use Rattle.std.proofs.Common.{sym, ◌∙◌, ◌≡◌, ◌<◌, ◌≤◌, ◌++◌, [], ◌∷◌, ap, subst, length, Some, None, vec_len, vec_capacity, arith}
-use Rattle.automata_base.specs.Cuts.{cut}
-use Rattle.automata_base.specs.Made.{AreMatched}
-use Rattle.automata_base.specs.Nodes.{nfa_of}
-use Rattle.automata_base.specs.Nfa.{accepts_at, accepts}
+use Rattle.std.proofs.Common.{sym, ◌∙◌, ◌≡◌, ◌<◌, ◌≤◌, ◌++◌, [], ◌∷◌, ap, subst, length, Some, None, vec_len}
+use Rattle.std.proofs.Common.{vec_capacity, arith}
+use Rattle.automata_base.specs.Powersets.Cuts.{cut}
+use Rattle.automata_base.specs.Powersets.Results.{AreMatched}
+use Rattle.automata_base.specs.Nfas.Nodes.{nfa_of}
+use Rattle.automata_base.specs.Nfas.Nfa.{accepts_at, accepts}
 use Rattle.automata_base.proofs.Determinizing.Walking.{node_at}
-use Rattle.automata_base.proofs.Determinizing.Keeping.{below_at, cut_next, cut_here, cut_done, cut_picks_next, cut_picks_here, cut_picks_done, matched_one, matched_none}
+use Rattle.automata_base.proofs.Determinizing.Keeping.{below_at, cut_next, cut_here, cut_done, cut_picks_next}
+use Rattle.automata_base.proofs.Determinizing.Keeping.{cut_picks_here, cut_picks_done, matched_one, matched_none}
 use Rattle.automata_base.proofs.util.determinize.lists.cut_first.Goals as goal
 
 pub state-requires : goal.state-requires

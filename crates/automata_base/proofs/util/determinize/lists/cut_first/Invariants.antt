@@ -1,8 +1,8 @@
 use Rattle.std.proofs.Common.{◌≡◌, ◌≤◌, ◌++◌, [], drop, take, vec_capacity}
-use Rattle.automata_base.specs.Cuts.{cut}
+use Rattle.automata_base.specs.Powersets.Cuts.{cut}
 use Rattle.automata_base.specs.Lists.{pick}
-use Rattle.automata_base.specs.Nfa.{accepts}
-use Rattle.automata_base.specs.Nodes.{nfa_of}
+use Rattle.automata_base.specs.Nfas.Nfa.{accepts}
+use Rattle.automata_base.specs.Nfas.Nodes.{nfa_of}
 use Rattle.automata_base.proofs.util.determinize.lists.cut_first.Given as goal
 
 abbrev pub invariant-loop-i : goal.invariant-loop-i

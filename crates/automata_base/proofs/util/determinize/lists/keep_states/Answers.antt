@@ -1,12 +1,13 @@
 use Rattle.std.proofs.Common.{◌≡◌, ◌++◌, ◌≤◌, ◌||◌, eqb, sym, ◌∙◌, ap, length, arith, vec_len, vec_capacity}
 use Rattle.automata_base.specs.Lists.{pick}
-use Rattle.automata_base.specs.Nodes.{nfa_of, node_of}
-use Rattle.automata_base.specs.Truths.{truth_of}
-use Rattle.automata_base.specs.Nfa.{stays_at, node, keep}
-use Rattle.automata_base.specs.Computed.{looks_at, any_state}
-use Rattle.automata_base.specs.Looks.{look_index}
+use Rattle.automata_base.specs.Nfas.Nodes.{nfa_of, node_of}
+use Rattle.automata_base.specs.Haystacks.LookSets.{truth_of}
+use Rattle.automata_base.specs.Nfas.Nfa.{stays_at, node, keep}
+use Rattle.automata_base.specs.Retraced.ComputedPass.{looks_at, any_state}
+use Rattle.automata_base.specs.Haystacks.Looks.{look_index}
 use Rattle.automata_base.proofs.Determinizing.Walking.{node_at}
-use Rattle.automata_base.proofs.Determinizing.Keeping.{below_at, keep_next, room_next, looks_next, truth_none, looks_done, kept_done}
+use Rattle.automata_base.proofs.Determinizing.Keeping.{below_at, keep_next, room_next, looks_next, truth_none}
+use Rattle.automata_base.proofs.Determinizing.Keeping.{looks_done, kept_done}
 use Rattle.automata_base.proofs.util.determinize.lists.keep_states.Goals as goal
 
 pub state-state-requires : goal.state-state-requires

@@ -1,11 +1,11 @@
 use Rattle.std.proofs.Common.{◌≡◌, ◌≤◌, ◌++◌, ◌||◌, eqb, drop, length, vec_capacity}
 use Rattle.automata_base.specs.Lists.{pick}
-use Rattle.automata_base.specs.Nfa.{keep}
-use Rattle.automata_base.specs.Computed.{any_state}
-use Rattle.automata_base.specs.Looks.{look_index}
-use Rattle.automata_base.specs.Nodes.{nfa_of}
-use Rattle.automata_base.specs.Truths.{truth_of}
-use Rattle.automata_base.specs.Looks.{Look}
+use Rattle.automata_base.specs.Nfas.Nfa.{keep}
+use Rattle.automata_base.specs.Retraced.ComputedPass.{any_state}
+use Rattle.automata_base.specs.Haystacks.Looks.{look_index}
+use Rattle.automata_base.specs.Nfas.Nodes.{nfa_of}
+use Rattle.automata_base.specs.Haystacks.LookSets.{truth_of}
+use Rattle.automata_base.specs.Haystacks.Looks.{Look}
 use Rattle.automata_base.proofs.util.determinize.lists.keep_states.Given as goal
 
 abbrev pub invariant-loop-i : goal.invariant-loop-i

@@ -1,6 +1,6 @@
 use Rattle.std.proofs.Common.{◌≡◌, ◌<◌, ◌≤◌, length, sym, ap, ◌∙◌, arith, vec_len, vec_capacity}
-use Rattle.automata_base.specs.Nodes.{nfa_of}
-use Rattle.automata_base.specs.Nfa.{accepts, accepts_at}
+use Rattle.automata_base.specs.Nfas.Nodes.{nfa_of}
+use Rattle.automata_base.specs.Nfas.Nfa.{accepts, accepts_at}
 use Rattle.automata_base.proofs.Determinizing.Walking.{node_at}
 use Rattle.automata_base.proofs.Determinizing.Distinct.{distinct_below}
 use Rattle.automata_base.proofs.Determinizing.Keeping.{below_at, pattern_next, pattern_room, once_done}

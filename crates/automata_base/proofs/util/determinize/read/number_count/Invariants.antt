@@ -1,5 +1,5 @@
 use Rattle.std.proofs.Common.{◌≡◌, ◌+◌, ◌≤◌, length, drop}
-use Rattle.automata_base.specs.Code.{numbers}
+use Rattle.automata_base.specs.Powersets.Code.{numbers}
 use Rattle.automata_base.proofs.util.determinize.read.number_count.Given as goal
 
 abbrev pub invariant-loop-byte : goal.invariant-loop-byte

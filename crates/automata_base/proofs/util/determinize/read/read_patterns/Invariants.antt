@@ -1,5 +1,5 @@
 use Rattle.std.proofs.Common.{◌≡◌, take}
-use Rattle.automata_base.specs.Code.{patterns_of}
+use Rattle.automata_base.specs.Powersets.Code.{patterns_of}
 use Rattle.automata_base.proofs.util.determinize.read.read_patterns.Given as goal
 
 abbrev pub invariant-loop-i : goal.invariant-loop-i

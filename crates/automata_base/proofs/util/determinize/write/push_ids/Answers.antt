@@ -1,8 +1,8 @@
 use Rattle.std.proofs.lemmas.List.{get_or_read}
 use borrow.Author.Count.{below_more}
 use Rattle.std.proofs.Common.{ℕ, ap, ◌∙◌, subst, get_or, arith}
-use Rattle.automata_base.specs.Code.{difference}
-use Rattle.automata_base.specs.Powerset.{IsId}
+use Rattle.automata_base.specs.Powersets.Code.{difference}
+use Rattle.automata_base.specs.Powersets.Powerset.{IsId}
 use Rattle.automata_base.proofs.Coding.Groups.{ids-step, ids-end}
 use Rattle.automata_base.proofs.util.determinize.write.push_ids.Goals as goal
 

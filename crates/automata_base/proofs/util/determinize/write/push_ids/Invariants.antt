@@ -1,6 +1,6 @@
 use Rattle.std.proofs.Common.{ℕ, ◌≡◌, ◌<◌, ◌++◌, drop, get_or}
-use Rattle.automata_base.specs.Code.{ids_code}
-use Rattle.automata_base.specs.Powerset.{IsId}
+use Rattle.automata_base.specs.Powersets.Code.{ids_code}
+use Rattle.automata_base.specs.Powersets.Powerset.{IsId}
 use Rattle.automata_base.proofs.util.determinize.write.push_ids.Given as goal
 
 abbrev pub invariant-loop-id : goal.invariant-loop-id

@@ -1,5 +1,5 @@
 use Rattle.std.proofs.Common.{◌≡◌, ◌++◌, ◌<◌, ◌^◌}
-use Rattle.automata_base.specs.Code.{varint}
+use Rattle.automata_base.specs.Powersets.Code.{varint}
 use Rattle.automata_base.proofs.util.determinize.write.push_number.Given as goal
 
 abbrev pub invariant-loop-rest : goal.invariant-loop-rest

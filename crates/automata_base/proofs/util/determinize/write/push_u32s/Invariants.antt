@@ -1,6 +1,6 @@
 use Rattle.std.proofs.Common.{◌≡◌, ◌++◌, take}
 use Rattle.std.specs.List.{flat_map}
-use Rattle.automata_base.specs.Code.{four_bytes}
+use Rattle.automata_base.specs.Powersets.Code.{four_bytes}
 use Rattle.automata_base.proofs.util.determinize.write.push_u32s.Given as goal
 
 abbrev pub invariant-loop-n : goal.invariant-loop-n

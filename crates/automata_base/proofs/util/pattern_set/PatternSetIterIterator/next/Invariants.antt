@@ -1,5 +1,5 @@
 use Rattle.std.proofs.Common.{length, ◌-◌, ◌≡◌, drop}
-use Rattle.automata_base.specs.PatternSet.{members_from, AreSmall}
+use Rattle.automata_base.specs.Haystacks.PatternSet.{members_from, AreSmall}
 use Rattle.automata_base.proofs.util.pattern_set.PatternSetIterIterator.next.Given as goal
 
 abbrev pub invariant-loop-self : goal.invariant-loop-self

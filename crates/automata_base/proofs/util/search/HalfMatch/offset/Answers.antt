@@ -1,5 +1,5 @@
 use Rattle.std.proofs.Common.{ap}
-use Rattle.automata_base.specs.Matches.{HalfMatch}
+use Rattle.automata_base.specs.Haystacks.Matches.{HalfMatch}
 use Rattle.automata_base.proofs.util.search.HalfMatch.offset.Goals as goal
 
 pub returns : goal.returns

@@ -1,5 +1,5 @@
 use Rattle.std.proofs.Common.{ap}
-use Rattle.automata_base.specs.StartConfig.{StartConfig}
+use Rattle.automata_base.specs.Haystacks.StartConfig.{StartConfig}
 use Rattle.automata_base.proofs.util.start.Config.look_behind.Goals as goal
 
 pub returns : goal.returns

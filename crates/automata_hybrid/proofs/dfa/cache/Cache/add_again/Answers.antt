@@ -1,6 +1,6 @@
 use Rattle.std.proofs.Common.{false, ap}
 use Rattle.automata_hybrid.specs.declared.dfa.row.Row.{Row}
-use Rattle.automata_hybrid.specs.Caches.{counted}
+use Rattle.automata_hybrid.specs.Cache.Caches.{counted}
 use Rattle.automata_hybrid.proofs.Growing.{grown_again, grown_counted}
 use Rattle.automata_hybrid.proofs.Searched.{added_progress}
 use Rattle.automata_hybrid.proofs.StartTags.{again_adds, again_keeps, tagged_none}

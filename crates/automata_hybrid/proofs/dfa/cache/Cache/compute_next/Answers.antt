@@ -1,13 +1,14 @@
 use Rattle.std.proofs.Common.{◌≡◌, ◌∙◌, ap, sym, subst}
-use Rattle.automata_base.specs.Powerset.{Powerset}
-use Rattle.automata_base.specs.Steps.{successor}
+use Rattle.automata_base.specs.Powersets.Powerset.{Powerset}
+use Rattle.automata_base.specs.Retraced.Steps.{successor}
 use Rattle.automata_config.specs.Options.{match_kind_of}
-use Rattle.automata_hybrid.specs.Caches.{CacheView}
-use Rattle.automata_hybrid.specs.Founds.{IsLookedUp}
-use Rattle.automata_hybrid.specs.Table.{IsNewState, Leads}
+use Rattle.automata_hybrid.specs.Cache.Caches.{CacheView}
+use Rattle.automata_hybrid.specs.Cache.LookUps.{IsLookedUp}
+use Rattle.automata_hybrid.specs.Cache.Table.{IsNewState, Leads}
 use Rattle.automata_hybrid.specs.declared.dfa.cache.Found.TheVariants.{Known, New}
 use Rattle.automata_hybrid.proofs.Adding.{cheap, looked_up, new_state}
-use Rattle.automata_hybrid.proofs.StepCalls.{ComputesStep, computed_answer, computed_effect, computes_known, computes_new, refused_effect}
+use Rattle.automata_hybrid.proofs.StepCalls.{ComputesStep, computed_answer, computed_effect, computes_known}
+use Rattle.automata_hybrid.proofs.StepCalls.{computes_new, refused_effect}
 use Rattle.automata_hybrid.proofs.dfa.cache.Cache.compute_next.Goals.{After-see_ids-in-Known, After-see_ids-in-New}
 use Rattle.automata_hybrid.proofs.dfa.cache.Cache.compute_next.Goals as goal
 

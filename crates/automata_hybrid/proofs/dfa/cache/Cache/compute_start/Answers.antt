@@ -1,13 +1,14 @@
 use Rattle.std.proofs.Common.{◌≡◌, ◌∙◌, ap, inr, sym, subst}
-use Rattle.automata_base.specs.Powerset.{Powerset}
-use Rattle.automata_base.specs.Steps.{start_state_of}
-use Rattle.automata_hybrid.specs.Caches.{CacheView}
-use Rattle.automata_hybrid.specs.Founds.{IsLookedUp}
-use Rattle.automata_hybrid.specs.Machine.{Machine, slot_count}
-use Rattle.automata_hybrid.specs.Table.{IsNewState, Leads}
+use Rattle.automata_base.specs.Powersets.Powerset.{Powerset}
+use Rattle.automata_base.specs.Retraced.Steps.{start_state_of}
+use Rattle.automata_hybrid.specs.Cache.Caches.{CacheView}
+use Rattle.automata_hybrid.specs.Cache.LookUps.{IsLookedUp}
+use Rattle.automata_hybrid.specs.Machines.Machine.{Machine, slot_count}
+use Rattle.automata_hybrid.specs.Cache.Table.{IsNewState, Leads}
 use Rattle.automata_hybrid.specs.declared.dfa.cache.Found.TheVariants.{Known, New}
 use Rattle.automata_hybrid.proofs.Adding.{cheap, looked_up, new_state}
-use Rattle.automata_hybrid.proofs.Starting.{ComputesStart, computed_answer, computed_effect, computes_known, computes_new, refused_effect, slot_leads}
+use Rattle.automata_hybrid.proofs.Starting.{ComputesStart, computed_answer, computed_effect, computes_known}
+use Rattle.automata_hybrid.proofs.Starting.{computes_new, refused_effect, slot_leads}
 use Rattle.automata_hybrid.proofs.dfa.cache.Cache.compute_start.Goals.{After-see_ids-in-Known, After-see_ids-in-New}
 use Rattle.automata_hybrid.proofs.dfa.cache.Cache.compute_start.Goals as goal
 

@@ -1,13 +1,13 @@
 use Rattle.std.proofs.Common.{◌≡◌, ◌∙◌, ap, subst, suc, sym}
 use Rattle.std.proofs.Math.Logic.{∥∥₁_map}
-use Rattle.automata_base.specs.Nodes.{Automaton}
-use Rattle.automata_base.specs.Starts.{IsOf}
-use Rattle.automata_base.specs.Within.{TellsOwn}
-use Rattle.automata_base.specs.Steps.{NeedsOwnLooks, successor}
-use Rattle.automata_hybrid.specs.Owned.{IsOwn}
-use Rattle.automata_hybrid.specs.Machine.{IsStateOf, Machine, next_of}
-use Rattle.automata_hybrid.specs.Table.{Names}
-use Rattle.automata_hybrid.specs.Caches.{CacheView}
+use Rattle.automata_base.specs.Nfas.Nodes.{Automaton}
+use Rattle.automata_base.specs.Paths.Starts.{IsOf}
+use Rattle.automata_base.specs.Answers.Within.{TellsOwn}
+use Rattle.automata_base.specs.Retraced.Steps.{NeedsOwnLooks, successor}
+use Rattle.automata_hybrid.specs.Machines.OwnStates.{IsOwn}
+use Rattle.automata_hybrid.specs.Machines.Machine.{IsStateOf, Machine, next_of}
+use Rattle.automata_hybrid.specs.Cache.Table.{Names}
+use Rattle.automata_hybrid.specs.Cache.Caches.{CacheView}
 use Rattle.automata_hybrid.proofs.dfa.cache.Cache.determinise.Goals as goal
 use Rattle.automata_config.specs.Options.{match_kind_of}
 

@@ -1,10 +1,10 @@
 use Rattle.std.proofs.Common.{◌≡◌, ◌∙◌, ap, subst}
-use Rattle.automata_base.specs.Nodes.{Automaton}
-use Rattle.automata_base.specs.Starts.{IsOf}
-use Rattle.automata_base.specs.Within.{TellsOwn}
-use Rattle.automata_base.specs.Steps.{NeedsOwnLooks, start_state_of}
-use Rattle.automata_hybrid.specs.Machine.{start_of}
-use Rattle.automata_hybrid.specs.Owned.{IsOwn}
+use Rattle.automata_base.specs.Nfas.Nodes.{Automaton}
+use Rattle.automata_base.specs.Paths.Starts.{IsOf}
+use Rattle.automata_base.specs.Answers.Within.{TellsOwn}
+use Rattle.automata_base.specs.Retraced.Steps.{NeedsOwnLooks, start_state_of}
+use Rattle.automata_hybrid.specs.Machines.Machine.{start_of}
+use Rattle.automata_hybrid.specs.Machines.OwnStates.{IsOwn}
 use Rattle.automata_hybrid.proofs.Starting.{slot_state}
 use Rattle.automata_hybrid.proofs.dfa.cache.Cache.determinise_start.Goals as goal
 

@@ -1,5 +1,5 @@
 use Rattle.std.proofs.Common.{◌↔◌, IsTrue, subst}
-use Rattle.automata_hybrid.specs.Caches.{CacheView, IsRow}
+use Rattle.automata_hybrid.specs.Cache.Caches.{CacheView, IsRow}
 use Rattle.automata_hybrid.proofs.dfa.cache.Cache.is_valid.Goals as goal
 
 pub returns : goal.returns

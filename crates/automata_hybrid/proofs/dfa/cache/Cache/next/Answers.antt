@@ -1,11 +1,12 @@
 use Rattle.std.proofs.Common.{◌^◌, ◌<◌, ◌≤◌, arith, subst}
 use Rattle.std.proofs.lemmas.Grind.{common_steps}
-use Rattle.automata_base.specs.Powerset.{Powerset}
-use Rattle.automata_hybrid.specs.Machine.{Machine}
-use Rattle.automata_hybrid.specs.Owned.{IsOwn}
-use Rattle.automata_hybrid.specs.Table.{IsValid, Names}
+use Rattle.automata_base.specs.Powersets.Powerset.{Powerset}
+use Rattle.automata_hybrid.specs.Machines.Machine.{Machine}
+use Rattle.automata_hybrid.specs.Machines.OwnStates.{IsOwn}
+use Rattle.automata_hybrid.specs.Cache.Table.{IsValid, Names}
 use Rattle.automata_hybrid.proofs.Standing.{stands_step}
-use Rattle.automata_hybrid.proofs.StepCalls.{cell_known, fixed_answer, known_answer, same_effect, unknown_clean, unknown_free}
+use Rattle.automata_hybrid.proofs.StepCalls.{cell_known, fixed_answer, known_answer, same_effect, unknown_clean}
+use Rattle.automata_hybrid.proofs.StepCalls.{unknown_free}
 use Rattle.automata_hybrid.proofs.Stepping.{HasRow-valid}
 use Rattle.automata_hybrid.proofs.dfa.cache.Cache.next.Goals as goal
 

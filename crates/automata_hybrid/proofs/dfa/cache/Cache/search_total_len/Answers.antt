@@ -1,6 +1,6 @@
 use Rattle.std.proofs.Common.{◌∙◌, ap}
-use Rattle.automata_hybrid.specs.Caches.{CacheView}
-use Rattle.automata_hybrid.specs.Progressing.{total_len}
+use Rattle.automata_hybrid.specs.Cache.Caches.{CacheView}
+use Rattle.automata_hybrid.specs.Cache.Progress.{total_len}
 use Rattle.automata_hybrid.proofs.dfa.cache.Cache.search_total_len.Goals as goal
 
 pub returns : goal.returns

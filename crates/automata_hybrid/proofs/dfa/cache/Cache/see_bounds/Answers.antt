@@ -1,6 +1,6 @@
 use Rattle.std.proofs.Common.{refl, subst}
-use Rattle.automata_hybrid.specs.Caches.{CacheView}
-use Rattle.automata_hybrid.specs.Owing.{IsStoreOf}
+use Rattle.automata_hybrid.specs.Cache.Caches.{CacheView}
+use Rattle.automata_hybrid.specs.Searches.Contracts.{IsStoreOf}
 use Rattle.automata_hybrid.proofs.dfa.cache.Cache.see_bounds.Goals as goal
 
 pub returns : goal.returns

@@ -1,6 +1,6 @@
 use Rattle.std.proofs.Common.{subst}
-use Rattle.automata_hybrid.specs.Caches.{CacheView}
-use Rattle.automata_hybrid.specs.Table.{HasCells}
+use Rattle.automata_hybrid.specs.Cache.Caches.{CacheView}
+use Rattle.automata_hybrid.specs.Cache.Table.{HasCells}
 use Rattle.automata_hybrid.proofs.dfa.cache.Cache.see_cells.Goals as goal
 
 pub returns-clause-cells : goal.returns-clause-cells

@@ -1,6 +1,6 @@
 use Rattle.std.proofs.Common.{subst}
-use Rattle.automata_hybrid.specs.Caches.{CacheView}
-use Rattle.automata_hybrid.specs.Table.{HasRowIds}
+use Rattle.automata_hybrid.specs.Cache.Caches.{CacheView}
+use Rattle.automata_hybrid.specs.Cache.Table.{HasRowIds}
 use Rattle.automata_hybrid.proofs.dfa.cache.Cache.see_ids.Goals as goal
 
 pub returns-clause-ids : goal.returns-clause-ids

@@ -1,8 +1,8 @@
 use Rattle.std.proofs.Common.{◌≡◌, ◌∙◌, ◌≤◌, subst, sym}
-use Rattle.automata_base.specs.Powerset.{Powerset, cost}
-use Rattle.automata_hybrid.specs.Caches.{CacheView}
-use Rattle.automata_hybrid.specs.Machine.{IsStateOf, greatest}
-use Rattle.automata_hybrid.specs.Table.{Names}
+use Rattle.automata_base.specs.Powersets.Powerset.{Powerset, cost}
+use Rattle.automata_hybrid.specs.Cache.Caches.{CacheView}
+use Rattle.automata_hybrid.specs.Machines.Machine.{IsStateOf, greatest}
+use Rattle.automata_hybrid.specs.Cache.Table.{Names}
 use Rattle.automata_hybrid.proofs.dfa.cache.Cache.snapshot.Goals as goal
 
 pub returns-clause-row : goal.returns-clause-row

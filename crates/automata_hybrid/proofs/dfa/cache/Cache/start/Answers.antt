@@ -1,8 +1,8 @@
 use Rattle.std.proofs.Common.{◌∙◌, ◌^◌, ◌<◌, ◌≤◌, ap, arith, subst, sym}
 use Rattle.std.proofs.lemmas.Grind.{common_steps}
-use Rattle.automata_hybrid.specs.Machine.{Machine, slot_count}
-use Rattle.automata_hybrid.specs.Starting.{IsStartRefused, KnowsStart}
-use Rattle.automata_hybrid.specs.Stores.{IsKnownStart}
+use Rattle.automata_hybrid.specs.Machines.Machine.{Machine, slot_count}
+use Rattle.automata_hybrid.specs.Steps.Starts.{IsStartRefused, KnowsStart}
+use Rattle.automata_hybrid.specs.Cache.Stores.{IsKnownStart}
 use Rattle.automata_hybrid.proofs.Starting.{knows_slot, known_answer, known_effect}
 use Rattle.automata_hybrid.proofs.dfa.cache.Cache.start.Goals as goal
 

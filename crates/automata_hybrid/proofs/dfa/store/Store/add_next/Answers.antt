@@ -1,9 +1,9 @@
 use Rattle.std.proofs.Common.{◌≡◌, ◌∙◌, sym, subst, None, rules}
-use Rattle.automata_base.specs.Powerset.{Powerset, cost}
-use Rattle.automata_hybrid.specs.Table.{Names, id_of}
+use Rattle.automata_base.specs.Powersets.Powerset.{Powerset, cost}
+use Rattle.automata_hybrid.specs.Cache.Table.{Names, id_of}
 use Rattle.automata_hybrid.proofs.Searching.{false_true}
-use Rattle.automata_hybrid.specs.Stores.{Stored}
-use Rattle.automata_hybrid.specs.Usage.{Fits}
+use Rattle.automata_hybrid.specs.Cache.Stores.{Stored}
+use Rattle.automata_hybrid.specs.Cache.Usage.{Fits}
 use Rattle.automata_hybrid.proofs.Adding.{new_there, next_clears, next_fits}
 use Rattle.automata_hybrid.proofs.dfa.store.Store.add_next.Goals as goal
 

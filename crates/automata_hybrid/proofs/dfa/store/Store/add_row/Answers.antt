@@ -1,7 +1,7 @@
 use Rattle.std.proofs.Common.{subst, sym}
-use Rattle.automata_base.specs.Powerset.{cost}
-use Rattle.automata_hybrid.specs.Stores.{Stored}
-use Rattle.automata_hybrid.specs.Usage.{Fits}
+use Rattle.automata_base.specs.Powersets.Powerset.{cost}
+use Rattle.automata_hybrid.specs.Cache.Stores.{Stored}
+use Rattle.automata_hybrid.specs.Cache.Usage.{Fits}
 use Rattle.automata_hybrid.proofs.Bounding.{IsCache-grown}
 use Rattle.automata_hybrid.proofs.dfa.store.Store.add_row.Goals as goal
 

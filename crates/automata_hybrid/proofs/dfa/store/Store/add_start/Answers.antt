@@ -1,6 +1,6 @@
 use Rattle.std.proofs.Common.{sym, subst, rules}
-use Rattle.automata_base.specs.Powerset.{cost}
-use Rattle.automata_hybrid.specs.Usage.{Fits}
+use Rattle.automata_base.specs.Powersets.Powerset.{cost}
+use Rattle.automata_hybrid.specs.Cache.Usage.{Fits}
 use Rattle.automata_hybrid.specs.declared.dfa.row.Row.{Row}
 use Rattle.automata_hybrid.proofs.Adding.{new_there, start_clears, start_fits}
 use Rattle.automata_hybrid.proofs.Searching.{false_true}

@@ -1,7 +1,7 @@
 use Rattle.std.proofs.Common.{◌≡◌, ◌≤◌, ◌∙◌, ap, sym, subst, length, List, ℕ, rules}
-use Rattle.automata_hybrid.specs.Clears.{KeepsAllStarts}
-use Rattle.automata_hybrid.specs.Stores.{Stored}
-use Rattle.automata_hybrid.specs.Usage.{cleared}
+use Rattle.automata_hybrid.specs.Cache.Clears.{KeepsAllStarts}
+use Rattle.automata_hybrid.specs.Cache.Stores.{Stored}
+use Rattle.automata_hybrid.specs.Cache.Usage.{cleared}
 use Rattle.automata_hybrid.proofs.Bounding.{IsCache-cleared}
 use Rattle.automata_hybrid.proofs.dfa.store.Store.cleared.Goals as goal
 

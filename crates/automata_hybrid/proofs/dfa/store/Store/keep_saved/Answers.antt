@@ -1,8 +1,8 @@
 use Rattle.std.proofs.Common.{◌≡◌, ◌∙◌, ◌+◌, ◌≤◌, length, arith, ap, subst, sym}
 use Rattle.std.proofs.lemmas.Grind.{common_steps}
-use Rattle.automata_hybrid.specs.Stores.{Stored}
-use Rattle.automata_hybrid.specs.Table.{Rows}
-use Rattle.automata_hybrid.specs.Clears.{AllStarts}
+use Rattle.automata_hybrid.specs.Cache.Stores.{Stored}
+use Rattle.automata_hybrid.specs.Cache.Table.{Rows}
+use Rattle.automata_hybrid.specs.Cache.Clears.{AllStarts}
 use Rattle.automata_hybrid.proofs.Bounding.{IsCache-few}
 use Rattle.automata_hybrid.proofs.Keeping.{AllStarts-put, IsPut-length, IsPut-of}
 use Rattle.automata_hybrid.proofs.dfa.store.Store.keep_saved.Goals as goal

@@ -1,9 +1,9 @@
 use Rattle.std.proofs.Common.{◌≡◌, ◌+◌, ◌*◌, replicate, ◌^◌, ◌<◌, ◌≤◌, subst, arith}
 use Rattle.std.proofs.lemmas.Grind.{common_steps}
-use Rattle.automata_base.specs.Accounting.{minimum_capacity, fixed_cost}
-use Rattle.automata_hybrid.specs.Machine.{Machine, greatest, table_stride, slot_count}
-use Rattle.automata_hybrid.specs.Stores.{fresh_store}
-use Rattle.automata_hybrid.specs.Usage.{IsCache}
+use Rattle.automata_base.specs.Powersets.Accounting.{minimum_capacity, fixed_cost}
+use Rattle.automata_hybrid.specs.Machines.Machine.{Machine, greatest, table_stride, slot_count}
+use Rattle.automata_hybrid.specs.Cache.Stores.{fresh_store}
+use Rattle.automata_hybrid.specs.Cache.Usage.{IsCache}
 use Rattle.automata_hybrid.specs.declared.dfa.settings.Settings.{Settings}
 use Rattle.automata_hybrid.proofs.Bounding.{IsCache-fresh}
 use Rattle.automata_hybrid.proofs.dfa.store.Store.new.Goals as goal

@@ -1,9 +1,9 @@
 use Rattle.std.proofs.Common.{◌≡◌, ◌≤◌, length, subst}
-use Rattle.automata_hybrid.specs.Clears.{AllStarts}
-use Rattle.automata_hybrid.specs.Machine.{slot_count}
-use Rattle.automata_hybrid.specs.Stores.{Stored}
-use Rattle.automata_hybrid.specs.Table.{AreRows}
-use Rattle.automata_hybrid.specs.Usage.{usage}
+use Rattle.automata_hybrid.specs.Cache.Clears.{AllStarts}
+use Rattle.automata_hybrid.specs.Machines.Machine.{slot_count}
+use Rattle.automata_hybrid.specs.Cache.Stores.{Stored}
+use Rattle.automata_hybrid.specs.Cache.Table.{AreRows}
+use Rattle.automata_hybrid.specs.Cache.Usage.{usage}
 use Rattle.automata_hybrid.proofs.dfa.store.Store.see_bounds.Goals as goal
 
 pub returns-clause-rows : goal.returns-clause-rows

@@ -1,7 +1,7 @@
 use Rattle.std.proofs.Common.{subst, sym}
-use Rattle.automata_hybrid.specs.Machine.{IsStateOf}
-use Rattle.automata_hybrid.specs.Stores.{Stored}
-use Rattle.automata_hybrid.specs.Table.{HasCells, Names}
+use Rattle.automata_hybrid.specs.Machines.Machine.{IsStateOf}
+use Rattle.automata_hybrid.specs.Cache.Stores.{Stored}
+use Rattle.automata_hybrid.specs.Cache.Table.{HasCells, Names}
 use Rattle.automata_hybrid.proofs.dfa.store.Store.see_cells.Goals as goal
 
 pub returns-clause-cells : goal.returns-clause-cells

@@ -1,7 +1,7 @@
 use Rattle.std.proofs.Common.{◌≤◌, subst, arith}
-use Rattle.automata_hybrid.specs.Machine.{greatest}
-use Rattle.automata_hybrid.specs.Stores.{Stored}
-use Rattle.automata_hybrid.specs.Usage.{IsCache}
+use Rattle.automata_hybrid.specs.Machines.Machine.{greatest}
+use Rattle.automata_hybrid.specs.Cache.Stores.{Stored}
+use Rattle.automata_hybrid.specs.Cache.Usage.{IsCache}
 use Rattle.automata_hybrid.proofs.Bounding.{small_cost}
 use Rattle.automata_hybrid.proofs.dfa.store.Store.see_costs.Goals as goal
 

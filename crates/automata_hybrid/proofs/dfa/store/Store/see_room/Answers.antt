@@ -1,6 +1,6 @@
 use Rattle.std.proofs.Common.{subst}
-use Rattle.automata_hybrid.specs.Stores.{Stored}
-use Rattle.automata_hybrid.specs.Usage.{IsCache}
+use Rattle.automata_hybrid.specs.Cache.Stores.{Stored}
+use Rattle.automata_hybrid.specs.Cache.Usage.{IsCache}
 use Rattle.automata_hybrid.proofs.Bounding.{Fits-few}
 use Rattle.automata_hybrid.proofs.dfa.store.Store.see_room.Goals as goal
 

@@ -1,8 +1,8 @@
 use Rattle.std.proofs.Common.{◌≡◌, ◌^◌, ◌<◌, length, set, get_or, subst, sym, inr}
 use Rattle.std.proofs.lemmas.List.{get_or-set_same}
-use Rattle.automata_hybrid.specs.Machine.{start_of}
-use Rattle.automata_hybrid.specs.Table.{Leads}
-use Rattle.automata_hybrid.specs.Stores.{Stored}
+use Rattle.automata_hybrid.specs.Machines.Machine.{start_of}
+use Rattle.automata_hybrid.specs.Cache.Table.{Leads}
+use Rattle.automata_hybrid.specs.Cache.Stores.{Stored}
 use Rattle.automata_hybrid.proofs.Bounding.{IsCache-start, Leads-known}
 use Rattle.automata_hybrid.proofs.dfa.store.Store.set_start.Goals as goal
 

@@ -1,6 +1,6 @@
 use Rattle.std.proofs.Common.{subst}
-use Rattle.automata_hybrid.specs.Machine.{IsStateOf}
-use Rattle.automata_hybrid.specs.Stores.{Stored}
+use Rattle.automata_hybrid.specs.Machines.Machine.{IsStateOf}
+use Rattle.automata_hybrid.specs.Cache.Stores.{Stored}
 use Rattle.automata_hybrid.proofs.dfa.store.Store.state.Goals as goal
 
 pub returns-clause-of : goal.returns-clause-of

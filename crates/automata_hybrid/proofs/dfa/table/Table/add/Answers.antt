@@ -3,12 +3,12 @@ use Rattle.std.specs.HashMap.{get}
 use Rattle.std.proofs.lemmas.Grind.{common_steps}
 use Rattle.automata_hybrid.proofs.Rows.{IsTable-with_row, IsTable-map, Names-new, Names-more}
 use Rattle.automata_hybrid.proofs.Keeping.{AllStarts-more}
-use Rattle.automata_hybrid.specs.Machine.{IsStateOf, greatest, template_of}
-use Rattle.automata_hybrid.specs.Clears.{AllStarts}
-use Rattle.automata_hybrid.specs.Table.{Rows, Names, id_of, row_id}
+use Rattle.automata_hybrid.specs.Machines.Machine.{IsStateOf, greatest, template_of}
+use Rattle.automata_hybrid.specs.Cache.Clears.{AllStarts}
+use Rattle.automata_hybrid.specs.Cache.Table.{Rows, Names, id_of, row_id}
 use Rattle.automata_hybrid.specs.declared.dfa.row.Row.{Row}
-use Rattle.automata_base.specs.Powerset.{Powerset, cost}
-use Rattle.automata_base.specs.Equal.{powerset_eq}
+use Rattle.automata_base.specs.Powersets.Powerset.{Powerset, cost}
+use Rattle.automata_base.specs.Powersets.Equal.{powerset_eq}
 use Rattle.automata_hybrid.proofs.dfa.table.Table.add.Goals as goal
 
 pub invariant_of-self-in_err-reserve-3 : goal.invariant_of-self-in_err-reserve-3

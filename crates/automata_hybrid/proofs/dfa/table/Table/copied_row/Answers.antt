@@ -1,8 +1,8 @@
 use Rattle.std.proofs.Common.{◌≡◌, ◌∙◌, sym, ap, ◌+◌, ◌*◌, ◌≤◌, length, None, Some, slice_get, get_or, subst, refl}
 use Rattle.std.proofs.lemmas.Option.{slice_get_read}
-use Rattle.automata_base.specs.Powerset.{Powerset, cost}
-use Rattle.automata_hybrid.specs.Machine.{IsStateOf, greatest, table_stride}
-use Rattle.automata_hybrid.specs.Table.{Rows, IsTable, id_of, row_id}
+use Rattle.automata_base.specs.Powersets.Powerset.{Powerset, cost}
+use Rattle.automata_hybrid.specs.Machines.Machine.{IsStateOf, greatest, table_stride}
+use Rattle.automata_hybrid.specs.Cache.Table.{Rows, IsTable, id_of, row_id}
 use Rattle.automata_hybrid.specs.declared.dfa.row.Row.{Row}
 use Rattle.automata_hybrid.proofs.dfa.table.Table.copied_row.Goals as goal
 

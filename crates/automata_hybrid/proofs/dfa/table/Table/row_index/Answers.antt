@@ -1,8 +1,8 @@
 use Rattle.std.proofs.Common.{◌≡◌, ◌∙◌, ap, ◌+◌, ◌/◌, ◌%◌, ◌^◌, arith, subst, refl}
 use Rattle.automata_hybrid.proofs.Places.{Names-Placed, Placed-place, Placed-HasState}
-use Rattle.automata_hybrid.specs.Table.{Rows, IsTable}
+use Rattle.automata_hybrid.specs.Cache.Table.{Rows, IsTable}
 use Rattle.automata_hybrid.proofs.dfa.table.Table.row_index.Goals as goal
-use Rattle.automata_hybrid.specs.Machine.{table_stride}
+use Rattle.automata_hybrid.specs.Machines.Machine.{table_stride}
 
 pub overflow_sub-result : goal.overflow_sub-result
 overflow_sub-result c =

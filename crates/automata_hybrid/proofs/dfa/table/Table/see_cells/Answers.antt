@@ -1,6 +1,6 @@
 use Rattle.std.proofs.Common.{subst}
 use Rattle.automata_hybrid.proofs.Places.{Names-Placed, Names-own, Placed-cell}
-use Rattle.automata_hybrid.specs.Table.{Rows, IsTable}
+use Rattle.automata_hybrid.specs.Cache.Table.{Rows, IsTable}
 use Rattle.automata_hybrid.proofs.dfa.table.Table.see_cells.Goals as goal
 
 pub returns-clause-cells : goal.returns-clause-cells

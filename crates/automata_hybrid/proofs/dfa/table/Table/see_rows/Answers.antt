@@ -1,6 +1,6 @@
 use Rattle.std.proofs.Common.{subst}
 use Rattle.automata_hybrid.proofs.Places.{Names-Placed, Names-tagged, Names-alive, IsTable-costs, IsTable-ids}
-use Rattle.automata_hybrid.specs.Table.{Rows, IsTable}
+use Rattle.automata_hybrid.specs.Cache.Table.{Rows, IsTable}
 use Rattle.automata_hybrid.proofs.dfa.table.Table.see_rows.Goals as goal
 
 pub returns-clause-costs : goal.returns-clause-costs

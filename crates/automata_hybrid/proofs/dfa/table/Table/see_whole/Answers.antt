@@ -1,5 +1,5 @@
 use Rattle.std.proofs.Common.{subst}
-use Rattle.automata_hybrid.specs.Table.{Rows, IsTable}
+use Rattle.automata_hybrid.specs.Cache.Table.{Rows, IsTable}
 use Rattle.automata_hybrid.proofs.dfa.table.Table.see_whole.Goals as goal
 
 pub returns : goal.returns

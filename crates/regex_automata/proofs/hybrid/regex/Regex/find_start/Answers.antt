@@ -1,11 +1,11 @@
 use Rattle.std.proofs.Common.{rules, ◌≡◌, ◌∙◌, Some, None, inl, inr, refl, sym, ap, subst, arith}
-use Rattle.automata_base.specs.Input.{Input}
-use Rattle.automata_base.specs.Tapes.{Backward}
-use Rattle.automata_hybrid.specs.Knowing.{Knows}
-use Rattle.automata_hybrid.specs.Slots.{supports}
-use Rattle.automata_hybrid.specs.Searched.{EndsProgress, LeavesProgress}
-use Rattle.automata_hybrid.specs.Searches.{IsFound, IsRefused, NoQuitInReach, with_base}
-use Rattle.automata_hybrid.specs.Within.{LiesIn}
+use Rattle.automata_base.specs.Haystacks.Input.{Input}
+use Rattle.automata_base.specs.Haystacks.Tapes.{Backward}
+use Rattle.automata_hybrid.specs.Searches.Cached.{Knows}
+use Rattle.automata_hybrid.specs.Machines.StartSlots.{supports}
+use Rattle.automata_hybrid.specs.Searches.Progress.{EndsProgress, LeavesProgress}
+use Rattle.automata_hybrid.specs.Searches.Passes.{IsFound, IsRefused, NoQuitInReach, with_base}
+use Rattle.automata_hybrid.specs.Searches.Within.{LiesIn}
 use Rattle.automata_hybrid.proofs.Growing.{grown_same}
 use Rattle.automata_hybrid.proofs.Searching.{if_err}
 use Rattle.regex_automata.proofs.Finding.{back_none, back_reach, back_some, cost_back}

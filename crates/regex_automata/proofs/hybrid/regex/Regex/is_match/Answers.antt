@@ -1,21 +1,22 @@
 use Rattle.std.proofs.Common.{◌≡◌, ◌∙◌, ◌≤◌, ◌<◌, Bool, true, false, Option, None, refl, ap, subst}
 use Rattle.std.specs.Prelude.{Result, Ok, Err, is_some}
-use Rattle.automata_base.specs.Input.{Input}
-use Rattle.automata_base.specs.Matches.{HalfMatch}
-use Rattle.automata_base.specs.Nodes.{Automaton}
-use Rattle.automata_base.specs.Tapes.{Forward, byte_before}
+use Rattle.automata_base.specs.Haystacks.Input.{Input}
+use Rattle.automata_base.specs.Haystacks.Matches.{HalfMatch}
+use Rattle.automata_base.specs.Nfas.Nodes.{Automaton}
+use Rattle.automata_base.specs.Haystacks.Tapes.{Forward, byte_before}
 use Rattle.automata_base.specs.declared.util.search.MatchErrorKind.TheVariants.{UnsupportedAnchored as UnsupportedMode}
-use Rattle.automata_base.specs.Told.{ToldIsRight}
+use Rattle.automata_base.specs.Answers.OfPasses.{ToldIsRight}
 use Rattle.automata_config.specs.declared.error.SearchError.{SearchError}
 use Rattle.automata_config.specs.declared.error.SearchError.TheVariants as search
-use Rattle.automata_hybrid.specs.Knowing.{Knows}
-use Rattle.automata_hybrid.specs.Searches.{NoQuitInReach}
-use Rattle.automata_hybrid.specs.Slots.{supports}
-use Rattle.automata_hybrid.specs.Starting.{quit_behind}
+use Rattle.automata_hybrid.specs.Searches.Cached.{Knows}
+use Rattle.automata_hybrid.specs.Searches.Passes.{NoQuitInReach}
+use Rattle.automata_hybrid.specs.Machines.StartSlots.{supports}
+use Rattle.automata_hybrid.specs.Steps.Starts.{quit_behind}
 use Rattle.automata_hybrid.proofs.Growing.{grown_same}
 use Rattle.automata_hybrid.proofs.Searching.{if_err}
 use Rattle.regex_automata.proofs.Finding.{cache_of}
-use Rattle.regex_automata.proofs.Matching.{asked_from, asked_to, match_right, same_asked, truth_found, truth_nearest, truth_told}
+use Rattle.regex_automata.proofs.Matching.{asked_from, asked_to, match_right, same_asked, truth_found, truth_nearest}
+use Rattle.regex_automata.proofs.Matching.{truth_told}
 use Rattle.regex_automata.proofs.Owed.{may_refuse_truth, truth_owed}
 use Rattle.regex_automata.proofs.Results.{err_ok, if_ok, is_err, ok_err, on_ok, same_err, same_ok}
 use Rattle.regex_automata.proofs.hybrid.regex.Regex.is_match.Goals as goal

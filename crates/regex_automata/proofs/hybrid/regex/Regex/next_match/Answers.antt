@@ -1,15 +1,17 @@
 use Rattle.std.proofs.Common.{rules, suc, ◌≡◌, ◌∙◌, ◌+◌, None, inl, refl, ap, subst, arith}
 use Rattle.std.specs.Prelude.{Err, IfOk, IfErr, IfSome}
-use Rattle.automata_base.specs.Input.{Input}
-use Rattle.automata_base.specs.Spans.{from}
+use Rattle.automata_base.specs.Haystacks.Input.{Input}
+use Rattle.automata_base.specs.Answers.Spans.{from}
 use Rattle.automata_config.specs.declared.error.SearchError.{SearchError}
 use Rattle.automata_hybrid.proofs.Searching.{if_err}
-use Rattle.regex_automata.specs.Outcomes.{FindsMatch, MatchLiesIn}
-use Rattle.regex_automata.specs.RegexRefusals.{IsRegexRefusal}
-use Rattle.regex_automata.specs.RegexProgress.{EndsSpan}
+use Rattle.regex_automata.specs.Spans.Outcomes.{FindsMatch, MatchLiesIn}
+use Rattle.regex_automata.specs.Spans.Errors.{IsRegexRefusal}
+use Rattle.regex_automata.specs.Spans.Progress.{EndsSpan}
 use Rattle.regex_automata.proofs.Leaving.{ends_later, leaves_later}
-use Rattle.regex_automata.proofs.Nexts.{ahead_of, costs_twice, goes_first, goes_later, grown_twice, next_later, on_err, refused_later, some_of}
-use Rattle.regex_automata.proofs.Remembering.{alone, both_stays, cleared_first, cleared_second, next_known, next_learned, stands_none, stands_some}
+use Rattle.regex_automata.proofs.Nexts.{ahead_of, costs_twice, goes_first, goes_later, grown_twice, next_later, on_err}
+use Rattle.regex_automata.proofs.Nexts.{refused_later, some_of}
+use Rattle.regex_automata.proofs.Remembering.{alone, both_stays, cleared_first, cleared_second, next_known}
+use Rattle.regex_automata.proofs.Remembering.{next_learned, stands_none, stands_some}
 use Rattle.regex_automata.proofs.Results.{if_ok, is_err, ok_err, on_ok, same_err}
 use Rattle.regex_automata.proofs.hybrid.regex.Regex.next_match.Goals as goal
 

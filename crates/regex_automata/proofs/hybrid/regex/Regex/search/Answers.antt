@@ -1,12 +1,13 @@
 use Rattle.std.proofs.Common.{rules, ◌∙◌, ◌≤◌, inl, inr, refl, sym, ap, subst}
 use Rattle.std.specs.Prelude.{Err}
 use Rattle.automata_config.specs.declared.error.SearchError.{SearchError}
-use Rattle.automata_hybrid.specs.Searches.{with_base}
-use Rattle.automata_hybrid.specs.Within.{LiesPast}
+use Rattle.automata_hybrid.specs.Searches.Passes.{with_base}
+use Rattle.automata_hybrid.specs.Searches.Within.{LiesPast}
 use Rattle.automata_hybrid.proofs.Growing.{grown_same}
 use Rattle.automata_hybrid.proofs.Searching.{if_err}
-use Rattle.regex_automata.specs.Outcomes.{IsStartFound}
-use Rattle.regex_automata.proofs.Finding.{cache_of, front_none, front_some, knows_both, knows_front, match_of, match_within, start_within}
+use Rattle.regex_automata.specs.Spans.Outcomes.{IsStartFound}
+use Rattle.regex_automata.proofs.Finding.{cache_of, front_none, front_some, knows_both, knows_front, match_of}
+use Rattle.regex_automata.proofs.Finding.{match_within, start_within}
 use Rattle.regex_automata.proofs.Nexts.{some_of}
 use Rattle.regex_automata.proofs.Results.{err_ok, if_ok, is_err, ok_err, on_ok, same_err, same_ok, some_none}
 use Rattle.regex_automata.proofs.hybrid.regex.Regex.search.Goals as goal

@@ -1,8 +1,8 @@
 use Rattle.std.proofs.Common.{subst}
 use Rattle.std.proofs.lemmas.Result.{IfOk-weaker}
-use Rattle.automata_base.specs.Nodes.{Automaton}
-use Rattle.automata_base.specs.Spans.{Found}
-use Rattle.automata_base.specs.Told.{ToldEndsAreRight, ToldIsRight}
+use Rattle.automata_base.specs.Nfas.Nodes.{Automaton}
+use Rattle.automata_base.specs.Answers.Spans.{Found}
+use Rattle.automata_base.specs.Answers.OfPasses.{ToldEndsAreRight, ToldIsRight}
 use Rattle.regex_automata.proofs.Owed.{are_stores, span_owed}
 use Rattle.regex_automata.proofs.Right.{match_right, outcome_right, refusals}
 use Rattle.regex_automata.proofs.hybrid.regex.Regex.try_search.Goals as goal

@@ -1,12 +1,12 @@
 use Rattle.std.proofs.Common.{◌≡◌, refl, sym, ap, subst}
 use Rattle.std.specs.Prelude.{Err}
-use Rattle.automata_base.specs.Mirrors.{BeginsAlike}
-use Rattle.automata_base.specs.Nodes.{Automaton}
-use Rattle.automata_base.specs.ReversedSizes.{MayBeTooLarge}
+use Rattle.automata_base.specs.Nfas.Mirrors.{BeginsAlike}
+use Rattle.automata_base.specs.Nfas.Nodes.{Automaton}
+use Rattle.automata_base.specs.Nfas.ReversedSizes.{MayBeTooLarge}
 use Rattle.automata_base.specs.declared.nfa.thompson.ReverseError.{ReverseError}
 use Rattle.automata_base.specs.declared.nfa.thompson.ReverseError.TheVariants.{OutOfMemory, Starts, TooLarge}
 use Rattle.automata_config.specs.Options.{Options}
-use Rattle.regex_automata.specs.RegexBuilds.{IsRefusal, PassesAll, reverse_refusal}
+use Rattle.regex_automata.specs.Regexes.Builds.{IsRefusal, PassesAll, reverse_refusal}
 use Rattle.regex_automata.proofs.hybrid.regex.build.tested_reverse.Goals as goal
 
 pub returns-in-Ok-clause-pair : goal.returns-in-Ok-clause-pair

@@ -1,9 +1,9 @@
 use Rattle.std.proofs.Common.{refl, sym, subst}
-use Rattle.automata_hybrid.specs.Caches.{CacheView}
-use Rattle.automata_hybrid.specs.Machine.{Machine}
-use Rattle.regex_automata.specs.Owing.{ArePatternsUpto}
-use Rattle.regex_automata.specs.ReplayCaches.{AreMade, ArePatternsSearched}
-use Rattle.regex_automata.specs.Replies.{IsReply}
+use Rattle.automata_hybrid.specs.Cache.Caches.{CacheView}
+use Rattle.automata_hybrid.specs.Machines.Machine.{Machine}
+use Rattle.regex_automata.specs.Spans.Contracts.{ArePatternsUpto}
+use Rattle.regex_automata.specs.Replay.Caches.{AreMade, ArePatternsSearched}
+use Rattle.regex_automata.specs.Replay.Replies.{IsReply}
 use Rattle.regex_automata.specs.declared.hybrid.regex.caches.Cache.{Cache}
 use Rattle.regex_automata.specs.declared.replay.requests.Request.{Request}
 use Rattle.regex_automata.specs.declared.replay.requests.Request.TheVariants as request

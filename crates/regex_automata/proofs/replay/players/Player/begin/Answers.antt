@@ -2,8 +2,8 @@ use Rattle.std.proofs.Common.{refl, sym, subst, ◌∙◌, List, ◌++◌, ◌�
 use Rattle.regex_automata.proofs.Replying.{is_own}
 use Rattle.regex_automata.proofs.WalkCalls.{fresh_answered}
 use Rattle.regex_automata.proofs.KeptWalks.{walks_push, length-walks}
-use Rattle.regex_automata.specs.Replies.{dfa_of, direction_of}
-use Rattle.regex_automata.specs.Players.{AreWalks}
+use Rattle.regex_automata.specs.Replay.Replies.{dfa_of, direction_of}
+use Rattle.regex_automata.specs.Replay.Players.{AreWalks}
 use Rattle.regex_automata.specs.declared.replay.walks.KeptWalk.{KeptWalk}
 use Rattle.regex_automata.proofs.replay.players.Player.begin.Goals as goal
 

@@ -1,4 +1,4 @@
-use Rattle.automata_base.specs.Turns.{lists_of, AreHeads}
+use Rattle.automata_base.specs.Retraced.ReversedEdges.{lists_of, AreHeads}
 use Rattle.automata_base.proofs.nfa.thompson.turn.EdgesByTarget.into_states.Given as goal
 
 abbrev pub invariant-loop-alternates : goal.invariant-loop-alternates

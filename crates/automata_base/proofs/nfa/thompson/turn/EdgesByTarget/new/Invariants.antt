@@ -1,5 +1,5 @@
 use Rattle.std.proofs.Common.{◌≡◌, length}
-use Rattle.automata_base.specs.Turns.{lists_of, no_lists}
+use Rattle.automata_base.specs.Retraced.ReversedEdges.{lists_of, no_lists}
 use Rattle.automata_base.proofs.nfa.thompson.turn.EdgesByTarget.new.Given as goal
 
 abbrev pub invariant-loop-i : goal.invariant-loop-i

@@ -1,5 +1,5 @@
 use Rattle.std.proofs.Common.{◌≡◌, length, drop}
-use Rattle.automata_base.specs.Turns.{turns_of, turn_all}
+use Rattle.automata_base.specs.Retraced.ReversedEdges.{turns_of, turn_all}
 use Rattle.automata_base.proofs.nfa.thompson.turn.EdgesByTarget.turn_all.Given as goal
 
 abbrev pub invariant-loop-to : goal.invariant-loop-to

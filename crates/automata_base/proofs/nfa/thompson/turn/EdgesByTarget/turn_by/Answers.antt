@@ -1,5 +1,5 @@
 use Rattle.std.proofs.Common.{arith}
-use Rattle.automata_base.specs.Turns.{turns_of}
+use Rattle.automata_base.specs.Retraced.ReversedEdges.{turns_of}
 use Rattle.automata_base.proofs.Mirrors.Lists.{nothing}
 use Rattle.automata_base.proofs.Mirrors.Sizes.{size_by}
 use Rattle.automata_base.proofs.nfa.thompson.turn.EdgesByTarget.turn_by.Goals as goal

@@ -1,5 +1,5 @@
 use Rattle.std.proofs.Common.{◌<◌, length, get_or, ap, subst, arith}
-use Rattle.automata_base.specs.Turns.{turns_of}
+use Rattle.automata_base.specs.Retraced.ReversedEdges.{turns_of}
 use Rattle.automata_base.proofs.Mirrors.Byte.{at_default, run_next, run_stays, run_large}
 use Rattle.automata_base.proofs.Mirrors.Lists.{err_is}
 use Rattle.automata_base.proofs.Reaching.Adding.{id_below}

@@ -1,6 +1,6 @@
 use Rattle.std.proofs.Common.{ap, ◌∙◌}
-use Rattle.automata_base.specs.Refusals.{transitions_below}
-use Rattle.automata_base.specs.Turns.{turns_of, turn_ranges}
+use Rattle.automata_base.specs.Nfas.Errors.{transitions_below}
+use Rattle.automata_base.specs.Retraced.ReversedEdges.{turns_of, turn_ranges}
 use Rattle.automata_base.proofs.Mirrors.Byte.{ranges_large}
 use Rattle.automata_base.proofs.Mirrors.Lists.{err_is}
 use Rattle.automata_base.proofs.Reaching.Adding.{next_below}

@@ -1,6 +1,6 @@
 use Rattle.std.proofs.Common.{◌≡◌, ◌≤◌, length, drop}
-use Rattle.automata_base.specs.Runs.{runs_from}
-use Rattle.automata_base.specs.Turns.{turns_of, turn_ranges}
+use Rattle.automata_base.specs.Retraced.DenseRuns.{runs_from}
+use Rattle.automata_base.specs.Retraced.ReversedEdges.{turns_of, turn_ranges}
 use Rattle.automata_base.proofs.nfa.thompson.turn.EdgesByTarget.turn_targets.Given as goal
 
 abbrev pub invariant-loop-byte : goal.invariant-loop-byte

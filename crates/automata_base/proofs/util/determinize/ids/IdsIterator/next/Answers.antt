@@ -1,6 +1,6 @@
 use Rattle.std.proofs.Common.{rules, arith, ◌≡◌, ℕ, ◌<◌, length, List, ◌∷◌, ap, sym, ◌∙◌, subst}
-use Rattle.automata_base.specs.Code.{AreIds, ids_of, numbers, id_at}
-use Rattle.automata_base.specs.Powerset.{IsId}
+use Rattle.automata_base.specs.Powersets.Code.{AreIds, ids_of, numbers, id_at}
+use Rattle.automata_base.specs.Powersets.Powerset.{IsId}
 use Rattle.automata_base.proofs.Coding.Groups.{reads, nothing_left, fewer}
 use Rattle.automata_base.proofs.util.determinize.ids.IdsIterator.next.Goals as goal
 

@@ -1,7 +1,7 @@
 use Rattle.std.proofs.Common.{subst, ℕ, ◌<◌}
 use Rattle.automata_base.specs.Lists.{In}
-use Rattle.automata_base.specs.Members.{Members}
-use Rattle.automata_base.specs.Once.{Distinct}
+use Rattle.automata_base.specs.Powersets.Members.{Members}
+use Rattle.automata_base.specs.Retraced.Once.{Distinct}
 use Rattle.automata_base.proofs.Determinizing.Holding.{members_below}
 use Rattle.automata_base.proofs.Mirrors.Copies.{members_distinct}
 use Rattle.automata_base.proofs.util.determinize.sparse_set.SparseSet.as_slice.Goals as goal

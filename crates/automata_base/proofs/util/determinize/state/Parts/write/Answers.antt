@@ -1,9 +1,9 @@
 use Rattle.std.proofs.Common.{arith, ap, ◌∙◌, rules, nat_eq, subst, sym}
 use Rattle.std.specs.List.{All, IsDistinct}
 use Rattle.std.proofs.lemmas.List.Elements.{recursion_from_All}
-use Rattle.automata_base.specs.Code.{decoded}
-use Rattle.automata_base.specs.Powerset.{IsPowerset, IsId}
-use Rattle.automata_base.specs.Parts.{powerset_of}
+use Rattle.automata_base.specs.Powersets.Code.{decoded}
+use Rattle.automata_base.specs.Powersets.Powerset.{IsPowerset, IsId}
+use Rattle.automata_base.specs.Powersets.Parts.{powerset_of}
 use Rattle.automata_base.proofs.Coding.Inverse.{count_fits, IsCode-code, decoded-code}
 use Rattle.automata_base.proofs.util.determinize.state.Parts.write.Goals as goal
 

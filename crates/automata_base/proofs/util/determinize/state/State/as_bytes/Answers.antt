@@ -1,5 +1,5 @@
 use Rattle.std.proofs.Common.{arith, ap, sym, ◌∙◌, length}
-use Rattle.automata_base.specs.Code.{code}
+use Rattle.automata_base.specs.Powersets.Code.{code}
 use Rattle.automata_base.proofs.Coding.Inverse.{length-code}
 use Rattle.automata_base.proofs.util.determinize.state.State.as_bytes.Goals as goal
 

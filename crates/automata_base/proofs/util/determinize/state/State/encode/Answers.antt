@@ -1,5 +1,5 @@
 use Rattle.std.proofs.Common.{ap, ◌∙◌, subst, sym}
-use Rattle.automata_base.specs.Code.{IsCode, decoded}
+use Rattle.automata_base.specs.Powersets.Code.{IsCode, decoded}
 use Rattle.automata_base.proofs.util.determinize.state.State.encode.Goals as goal
 
 pub invariant_of-result : goal.invariant_of-result

@@ -1,6 +1,6 @@
 use Rattle.std.proofs.Common.{◌∙◌, ap, List, ℕ, slice_index}
-use Rattle.automata_base.specs.Powerset.{Powerset}
-use Rattle.automata_base.specs.Code.{patterns_of}
+use Rattle.automata_base.specs.Powersets.Powerset.{Powerset}
+use Rattle.automata_base.specs.Powersets.Code.{patterns_of}
 use Rattle.automata_base.proofs.util.determinize.state.State.match_pattern.Goals as goal
 
 pub returns : goal.returns

@@ -1,7 +1,7 @@
 use Rattle.std.proofs.Common.{sym, ◌∙◌, ap, List, ℕ, length}
 use Rattle.std.specs.Rc.{rc_slice_items}
-use Rattle.automata_base.specs.Powerset.{Powerset}
-use Rattle.automata_base.specs.Code.{ids_bytes, numbers}
+use Rattle.automata_base.specs.Powersets.Powerset.{Powerset}
+use Rattle.automata_base.specs.Powersets.Code.{ids_bytes, numbers}
 use Rattle.automata_base.proofs.Coding.Groups.{length-ids_of}
 use Rattle.automata_base.proofs.util.determinize.state.State.nfa_len.Goals as goal
 

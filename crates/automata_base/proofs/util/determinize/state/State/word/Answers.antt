@@ -1,6 +1,6 @@
 use Rattle.std.proofs.Common.{◌∙◌, ap}
-use Rattle.automata_base.specs.Powerset.{Powerset}
-use Rattle.automata_base.specs.Code.{is_set}
+use Rattle.automata_base.specs.Powersets.Powerset.{Powerset}
+use Rattle.automata_base.specs.Powersets.Code.{is_set}
 use Rattle.automata_base.proofs.util.determinize.state.State.word.Goals as goal
 
 pub returns : goal.returns

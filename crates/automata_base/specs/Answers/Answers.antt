@@ -1,0 +1,137 @@
+-- The answers of searches and walks over a span of a haystack, split places skipped.
+use Rattle.std.specs.Prelude.{ℕ, ◌≡◌, ◌<◌, ◌≤◌, ◌+◌, ◌-◌, Bool, true, false, cond, List, [], ◌∷◌, ◌⊎◌, ◌↔◌, length}
+use Rattle.std.specs.Prelude.{Option, Some, None}
+use Rattle.automata_base.specs.Lists.{In}
+use Rattle.automata_base.specs.Paths.Paths.{Tape, IsLookAcyclic}
+use Rattle.automata_base.specs.Retraced.ComputedPass.{IsInRange}
+use Rattle.automata_base.specs.Paths.Selections.{Pair, Selects, IsOverlappingOn}
+use Rattle.automata_base.specs.Haystacks.Tapes.{IsHaystack, Direction, Forward, Backward, tape_of, offset, is_split}
+use Rattle.automata_base.specs.Nfas.Engines.{Engine, Anchored, No, first_state, IsSkipping}
+use Rattle.automata_base.specs.Haystacks.Input.{Input}
+
+-- What the paths from a first state select on a tape; nothing if there is no first state.
+abbrev pub SelectsFrom : Engine → Bool → Tape → Option ℕ → Option Pair → Type 0
+SelectsFrom d earliest t None answer = answer ≡ None
+SelectsFrom d earliest t (Some q) answer = Selects d.kind earliest d.nfa t q answer
+
+-- What the paths over the span of an input answer, which is not done; the place is counted from where the search
+-- begins.
+abbrev pub SelectsOver : Direction → Engine → Input → Option Pair → Type 0
+SelectsOver way d input answer =
+    SelectsFrom d input.earliest (tape_of way input.haystack input.start input.end) (first_state d input.anchored)
+    answer
+
+-- The input whose walk begins `k` places later: forward its start is raised, backward its end is lowered.
+abbrev pub later : Direction → ℕ → Input → Input
+later Forward k input = record input { start = input.start + k }
+later Backward k input = record input { end = input.end - k }
+
+-- The offset of a place of the walk over an input.
+abbrev pub offset_in : Direction → Input → ℕ → ℕ
+offset_in way input i = offset way input.start input.end i
+
+-- What is reported over one span splits a character. `Tells` says what is reported over the span of an input, which is
+-- not done.
+abbrev pub IsSplit : (Tells : Input → Option Pair → Type 0) → Direction → Input → Type 0
+IsSplit Tells way input =
+    (pair : Pair) × Tells input (Some pair) × (is_split input.haystack (offset_in way input pair.place) ≡ true)
+
+-- The search comes to try the span that begins `k` places later: over all the spans before it a split place was
+-- reported, and only an unanchored search that skips goes on after one.
+abbrev pub Tries : (Tells : Input → Option Pair → Type 0) → (skipping : Type 0) → Direction → Input → ℕ → Type 0
+Tries Tells skipping way input k =
+    ((k ≡ 0) ⊎ (skipping × (input.anchored ≡ No)))
+    × ((j : ℕ) → j < k → (input.start + j ≤ input.end) × IsSplit Tells way (later way j input))
+
+-- A pattern, the offset where its path ends, and the start of the span that gave it.
+pub record Half : Type 0 where
+  pub pattern : ℕ
+  pub offset : ℕ
+  pub base : ℕ
+
+-- What is reported over the first span for which that is nothing or not split. If split places are skipped, an anchored
+-- search has an answer over its first span alone.
+abbrev pub Answers :
+    (Tells : Input → Option Pair → Type 0) → (skipping : Type 0) → Direction → Input → Option Half → Type 0
+Answers Tells skipping way input None =
+    (k : ℕ) × Tries Tells skipping way input k
+    × ((input.end < input.start + k)
+    ⊎ (Tells (later way k input) None
+    ⊎ (skipping × (input.anchored ≡ No → ⊥) × IsSplit Tells way (later way k input))))
+Answers Tells skipping way input (Some half) =
+    (k : ℕ) × (pair : Pair) × Tries Tells skipping way input k × (input.start + k ≤ input.end)
+    × Tells (later way k input) (Some pair)
+    × (skipping → is_split input.haystack (offset_in way (later way k input) pair.place) ≡ false)
+    × (half.pattern ≡ pair.pattern) × (half.offset ≡ offset_in way (later way k input) pair.place)
+    × (half.base ≡ (later way k input).start)
+
+-- What a search answers, by paths.
+abbrev pub IsAnswer : Direction → Engine → Input → Option Half → Type 0
+IsAnswer way d input answer = Answers (SelectsOver way d) (IsSkipping d) way input answer
+
+-- The pairs of a walk with their offsets; and without the split ones.
+abbrev pub with_offsets : Direction → Input → List Pair → List Pair
+with_offsets way input [] = []
+with_offsets way input (pair ∷ pairs) =
+    record pair { place = offset_in way input pair.place } ∷ with_offsets way input pairs
+
+abbrev pub without_split : List ℕ → List Pair → List Pair
+without_split h [] = []
+without_split h (pair ∷ pairs) = cond (is_split h pair.place) (without_split h pairs) (pair ∷ without_split h pairs)
+
+-- The pairs of the walk from a first state on a tape; none if there is no first state.
+abbrev pub IsOverlappingFrom : Engine → Tape → Option ℕ → List Pair → Type 0
+IsOverlappingFrom d t None pairs = pairs ≡ []
+IsOverlappingFrom d t (Some q) pairs = IsOverlappingOn d.kind d.nfa t q pairs
+
+-- These pairs by their offsets, without the split ones if they are skipped.
+abbrev pub AreUnsplit : (skipping : Type 0) → Direction → Input → (pairs found : List Pair) → Type 0
+AreUnsplit skipping way input pairs found =
+    (skipping × (found ≡ without_split input.haystack (with_offsets way input pairs)))
+    ⊎ ((skipping → ⊥) × (found ≡ with_offsets way input pairs))
+
+-- The whole list of a walk: what is reported over the span, and nothing over one that is done.
+abbrev pub Walks : (Tells : Input → List Pair → Type 0) → (skipping : Type 0) → Direction → Input → List Pair → Type 0
+Walks Tells skipping way input found =
+    ((input.end < input.start) × (found ≡ []))
+    ⊎ ((input.start ≤ input.end)
+    × ((pairs : List Pair) × Tells input pairs × AreUnsplit skipping way input pairs found))
+
+-- What the paths over the span of an input report to a walk, which is not done.
+abbrev pub OverlapsOver : Direction → Engine → Input → List Pair → Type 0
+OverlapsOver way d input pairs =
+    IsOverlappingFrom d (tape_of way input.haystack input.start input.end) (first_state d input.anchored) pairs
+
+-- The whole list of a walk, by paths.
+abbrev pub IsOverlapping : Direction → Engine → Input → List Pair → Type 0
+IsOverlapping way d input found = Walks (OverlapsOver way d) (IsSkipping d) way input found
+
+-- The first pair alone, if the walk is an earliest one.
+abbrev pub first_alone : Bool → List Pair → List Pair
+first_alone earliest [] = []
+first_alone earliest (pair ∷ pairs) = pair ∷ cond earliest [] pairs
+
+abbrev pub HasPattern : ℕ → List Pair → Type 0
+HasPattern p [] = ⊥
+HasPattern p (pair ∷ pairs) = (p ≡ pair.pattern) ⊎ HasPattern p pairs
+
+-- The patterns of a set after a forward walk: the given ones, and those that the walk reports below the capacity; an
+-- earliest one reports its first pair alone. `Tells` says which list the walk reports.
+abbrev pub ArePatterns : (Tells : List Pair → Type 0) → Input → ℕ → (given found : List ℕ) → Type 0
+ArePatterns Tells input capacity given found =
+    (pairs : List Pair) × Tells pairs
+    × ((p : ℕ) → In p found ↔ (In p given ⊎ ((p < capacity) × HasPattern p (first_alone input.earliest pairs))))
+
+-- The same by paths.
+abbrev pub ArePatternsFound : Engine → Input → ℕ → (given found : List ℕ) → Type 0
+ArePatternsFound d input capacity given found = ArePatterns (IsOverlapping Forward d input) input capacity given found
+
+-- The condition on an input: its haystack consists of bytes, and its span ends in it.
+abbrev pub IsInput : Input → Type 0
+IsInput input = IsHaystack input.haystack × (input.end ≤ length input.haystack)
+
+-- An NFA whose edges and starts lead to its states, and without a look cycle.
+abbrev pub IsSound : Engine → Type 0
+IsSound d =
+    IsInRange d.nfa × IsLookAcyclic d.nfa
+    × ((mode : Anchored) (q : ℕ) → first_state d mode ≡ Some q → q < length d.nfa.nodes)

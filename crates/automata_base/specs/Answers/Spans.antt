@@ -1,0 +1,132 @@
+-- Spans of matches, by paths; and how the search over two DFAs finds them.
+use Rattle.std.specs.Prelude.{ℕ, suc, ◌≡◌, ◌<◌, ◌≤◌, ◌+◌, Bool, false, List, [], ◌∷◌, ◌++◌, ◌⊎◌, Option, Some, None}
+use Rattle.std.specs.Prelude.{is_some}
+use Rattle.automata_base.specs.Paths.Order.{Begins}
+use Rattle.automata_base.specs.Paths.Paths.{Tape, IsPath}
+use Rattle.automata_base.specs.Paths.Selections.{Accepts, IsChosen}
+use Rattle.automata_base.specs.Haystacks.Tapes.{Forward, Backward, forward_tape}
+use Rattle.automata_base.specs.Nfas.Engines.{Engine, Anchored, No, Yes, Pattern, first_state, BeginsAnchored}
+use Rattle.automata_base.specs.Answers.Answers.{Half, IsAnswer}
+use Rattle.automata_base.specs.Haystacks.Input.{Input}
+use Rattle.automata_base.specs.Haystacks.Matches.{Match}
+use Rattle.automata_base.specs.Answers.OfPasses.{IsFarthestAnswer}
+
+-- Where the match of a path begins: the place where it first stands on the anchored start; in an anchored mode its
+-- first place.
+abbrev pub IsPathStart : Engine → Anchored → Tape → List ℕ → ℕ → Type 0
+IsPathStart d No t path place =
+    (head rest : List ℕ) × (path ≡ head ++ rest) × IsPath d.nfa t d.unanchored place d.anchored head
+    × ((shorter : List ℕ) (sooner : ℕ) → Begins shorter head → IsPath d.nfa t d.unanchored sooner d.anchored shorter
+    → ⊥)
+IsPathStart d Yes t path place = place ≡ 0
+IsPathStart d (Pattern k) t path place = place ≡ 0
+
+-- The search from `q` chose this path, which accepts the pattern at that place.
+abbrev pub Chooses : Engine → (earliest : Bool) → Tape → (q place pattern : ℕ) → List ℕ → Type 0
+Chooses d earliest t q i pattern path =
+    Accepts d.nfa t q i pattern path
+    × ((j p : ℕ) (other : List ℕ) → Accepts d.nfa t q j p other → IsChosen d.kind earliest i path j other)
+
+-- The input, not earliest.
+abbrev pub in_full : Input → Input
+in_full input = record input { earliest = false }
+
+-- Whether there is a match: whether the search that is not earliest has an answer.
+abbrev pub IsMatch : Engine → Input → Bool → Type 0
+IsMatch d input answer = (o : Option Half) × IsAnswer Forward d (in_full input) o × (answer ≡ is_some o)
+
+-- The match of an input: the pattern and end that the forward search answers, from the start of the path that it chose.
+abbrev pub IsSpan : Engine → Input → Option Match → Type 0
+IsSpan d input None = IsAnswer Forward d input None
+IsSpan d input (Some m) =
+    (half : Half) × (q i place : ℕ) × (path : List ℕ)
+    × IsAnswer Forward d input (Some half) × (first_state d input.anchored ≡ Some q) × (half.offset ≡ half.base + i)
+    × Chooses d input.earliest (forward_tape input.haystack half.base input.end) q i half.pattern path
+    × IsPathStart d input.anchored (forward_tape input.haystack half.base input.end) path place
+    × (m.pattern ≡ half.pattern) × (m.start ≡ half.base + place) × (m.end ≡ half.offset)
+
+-- The start is where the forward search began, and no reverse search is made: the match is empty there, or the
+-- search is anchored by its mode or by its NFA.
+abbrev pub IsShort : Engine → Input → Half → Type 0
+IsShort f input half = (half.base ≡ half.offset) ⊎ ((input.anchored ≡ No → ⊥) ⊎ BeginsAnchored f)
+
+-- The input of the reverse search: the span that the forward search left, anchored and not earliest.
+abbrev pub back : Input → Half → Input
+back input half =
+    record { haystack = input.haystack; start = half.base; end = half.offset; anchored = Yes; earliest = false }
+
+-- The start of the match that a forward answer ends: where its span began, or what the search back finds; none if that
+-- finds nothing. `Backs` says what the search back finds.
+abbrev pub FindsStartBy : (Backs : Input → Option Half → Type 0) → Engine → Input → Half → Option ℕ → Type 0
+FindsStartBy Backs f input half None = (IsShort f input half → ⊥) × Backs (back input half) None
+FindsStartBy Backs f input half (Some start) =
+    (IsShort f input half × (start ≡ half.base))
+    ⊎ ((IsShort f input half → ⊥) × ((found : Half) × Backs (back input half) (Some found) × (start ≡ found.offset)))
+
+-- A match or none; or the two are no pair, since the search back finds no start.
+pub data Outcome : Type 0 where
+  Found : Option Match → Outcome
+  NotAPair : Outcome
+
+-- What a search over a forward and a reverse DFA returns, by what the search forward and the one back find.
+abbrev pub TellsBy : (Fronts Backs : Input → Option Half → Type 0) → Engine → Input → Outcome → Type 0
+TellsBy Fronts Backs f input (Found None) = Fronts input None
+TellsBy Fronts Backs f input (Found (Some m)) =
+    (half : Half) × Fronts input (Some half) × FindsStartBy Backs f input half (Some m.start)
+    × (m.pattern ≡ half.pattern) × (m.end ≡ half.offset)
+TellsBy Fronts Backs f input NotAPair = (half : Half) × Fronts input (Some half) × FindsStartBy Backs f input half None
+
+-- If both answer by the ordered paths.
+abbrev pub FindsStart : Engine → Engine → Input → Half → Option ℕ → Type 0
+FindsStart f r input half start = FindsStartBy (IsAnswer Backward r) f input half start
+
+abbrev pub IsTrySearch : Engine → Engine → Input → Outcome → Type 0
+IsTrySearch f r input outcome = TellsBy (IsAnswer Forward f) (IsAnswer Backward r) f input outcome
+
+-- If the one back finds the farthest place alone, whatever the order of its paths.
+abbrev pub IsFarSearch : Engine → Engine → Input → Outcome → Type 0
+IsFarSearch f r input outcome = TellsBy (IsAnswer Forward f) (IsFarthestAnswer Backward r) f input outcome
+
+abbrev pub from : ℕ → Input → Input
+from start input = record input { start = start }
+
+-- An empty match at the last end.
+abbrev pub IsEmptyAt : Option ℕ → Match → Type 0
+IsEmptyAt last m = (m.start ≡ m.end) × (last ≡ Some m.end)
+
+-- The next match of an iteration that stands at `start`, after a match that ended at `last`: an empty one at `last` is
+-- replaced by that of the search one place later. `Finds` says what a search finds.
+abbrev pub IsNextItem : (Finds : Input → Option Match → Type 0) → Input → ℕ → Option ℕ → Option Match → Type 0
+IsNextItem Finds input start last None =
+    Finds (from start input) None
+    ⊎ ((m : Match) × Finds (from start input) (Some m) × IsEmptyAt last m × Finds (from (suc start) input) None)
+IsNextItem Finds input start last (Some found) =
+    (Finds (from start input) (Some found) × (IsEmptyAt last found → ⊥))
+    ⊎ ((m : Match) × Finds (from start input) (Some m) × IsEmptyAt last m
+    × Finds (from (suc start) input) (Some found))
+
+-- The matches of an iteration from there on.
+abbrev pub AreMatches : (Finds : Input → Option Match → Type 0) → Input → ℕ → Option ℕ → List Match → Type 0
+AreMatches Finds input start last [] = IsNextItem Finds input start last None
+AreMatches Finds input start last (m ∷ ms) =
+    IsNextItem Finds input start last (Some m) × AreMatches Finds input m.end (Some m.end) ms
+
+-- The matches of an input, one after another: by the spans of its paths, and by the search over two DFAs.
+abbrev pub AreSpans : Engine → Input → List Match → Type 0
+AreSpans d input ms = AreMatches (IsSpan d) input input.start None ms
+
+abbrev pub TryFinds : Engine → Engine → Input → Option Match → Type 0
+TryFinds f r input answer = IsTrySearch f r input (Found answer)
+
+abbrev pub AreFound : Engine → Engine → Input → List Match → Type 0
+AreFound f r input ms = AreMatches (TryFinds f r) input input.start None ms
+
+-- What a search over a true pair promises.
+abbrev pub FindsSpan : Engine → Input → Outcome → Type 0
+FindsSpan f input outcome = (answer : Option Match) × (outcome ≡ Found answer) × IsSpan f input answer
+
+-- Each match starts at or after the last end and ends after it, in the span.
+abbrev pub Rise : (end : ℕ) → Option ℕ → List Match → Type 0
+Rise end last [] = Unit {0}
+Rise end None (m ∷ ms) = (m.start ≤ m.end) × (m.end ≤ end) × Rise end (Some m.end) ms
+Rise end (Some e) (m ∷ ms) = (e ≤ m.start) × (m.start ≤ m.end) × (e < m.end) × (m.end ≤ end) × Rise end (Some m.end) ms

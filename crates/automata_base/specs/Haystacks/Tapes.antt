@@ -1,0 +1,58 @@
+-- A haystack, its places, and the tapes of its spans. A place is an offset between bytes, from 0 to the length.
+use Rattle.std.specs.Prelude.{ℕ, zero, suc, ◌≡◌, ◌<◌, ◌≤◌, ◌+◌, ◌-◌, Bool, false, List, ◌⊎◌, take, drop, reverse}
+use Rattle.std.specs.Prelude.{Option, Some, None}
+use Rattle.automata_base.specs.Lists.{nth}
+use Rattle.automata_base.specs.Haystacks.Looks.{within}
+use Rattle.automata_base.specs.Paths.Paths.{Tape, prev, next}
+
+-- Each number is a byte.
+abbrev pub IsHaystack : List ℕ → Type 0
+IsHaystack h = (o u : ℕ) → nth h o ≡ Some u → u < 256
+
+-- The byte on the left of a place; the one on its right is `nth h o`. Either is missing only outside the haystack.
+abbrev pub byte_before : List ℕ → ℕ → Option ℕ
+byte_before h zero = None
+byte_before h (suc o) = nth h o
+
+-- The bytes of the span `s..e`.
+abbrev pub between : List ℕ → ℕ → ℕ → List ℕ
+between h s e = take (e - s) (drop s h)
+
+-- The span walked from `s` to `e`: the walk's place `i` is the offset `s + i`.
+abbrev pub forward_tape : List ℕ → ℕ → ℕ → Tape
+forward_tape h s e = record { before = byte_before h s; bytes = between h s e; after = nth h e }
+
+-- The span walked from `e` to `s`: the walk's place `i` is the offset `e - i`.
+abbrev pub reverse_tape : List ℕ → ℕ → ℕ → Tape
+reverse_tape h s e = record { before = nth h e; bytes = reverse (between h s e); after = byte_before h s }
+
+-- A search reads its span to the right or to the left.
+pub data Direction : Type 0 where
+  Forward : Direction
+  Backward : Direction
+
+abbrev pub tape_of : Direction → List ℕ → ℕ → ℕ → Tape
+tape_of Forward h s e = forward_tape h s e
+tape_of Backward h s e = reverse_tape h s e
+
+-- The offset of a place of the walk.
+abbrev pub offset : Direction → (s e place : ℕ) → ℕ
+offset Forward s e i = s + i
+offset Backward s e i = e - i
+
+-- A byte that continues a character of UTF-8.
+abbrev pub is_continuation : Option ℕ → Bool
+is_continuation None = false
+is_continuation (Some u) = within 128 191 u
+
+-- A place splits a character: it is inside the haystack and its byte is 0x80 to 0xBF.
+abbrev pub is_split : List ℕ → ℕ → Bool
+is_split h o = is_continuation (nth h o)
+
+-- The units that a pass reads up to place `m`: the byte before its first place, and the unit at each place.
+abbrev pub ReadsUpto : Tape → ℕ → Option ℕ → Type 0
+ReadsUpto t m v = (v ≡ prev t 0) ⊎ ((j : ℕ) × (j ≤ m) × (v ≡ next t j))
+
+-- No unit that a pass reads up to place `m` is a quit byte.
+abbrev pub MeetsNone : (quits : ℕ → Bool) → Tape → ℕ → Type 0
+MeetsNone quits t m = (v : ℕ) → ReadsUpto t m (Some v) → quits v ≡ false

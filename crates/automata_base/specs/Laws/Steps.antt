@@ -1,0 +1,71 @@
+-- Laws about every DFA: what it does alike, and what its passes report.
+use Rattle.std.specs.Prelude.{ℕ, ◌≡◌, ◌<◌, ◌↔◌, Bool, true, false, List, length, Option, Some}
+use Rattle.automata_base.specs.ByteClasses.LookBehind.{behind_of}
+use Rattle.automata_base.specs.ByteClasses.Classes.{class_of, is_quit}
+use Rattle.automata_base.specs.Retraced.ComputedPass.{IsInRange}
+use Rattle.automata_base.specs.Powersets.Cuts.{MatchKind, All}
+use Rattle.automata_base.specs.Nfas.Engines.{Anchored}
+use Rattle.automata_base.specs.Nfas.Nodes.{Automaton, nfa_of, nodes_of}
+use Rattle.automata_base.specs.Paths.Paths.{Tape, IsLookAcyclic}
+use Rattle.automata_base.specs.Powersets.Passes.{IsSuccessor, IsTape}
+use Rattle.automata_base.specs.Powersets.Powerset.{Powerset, dead}
+use Rattle.automata_base.specs.Paths.Selections.{Selects, IsNearest, IsFarthest}
+use Rattle.automata_base.specs.Paths.Starts.{IsOf, IsStartOf, mode_start}
+use Rattle.automata_base.specs.Retraced.Steps.{start_state_of, successor, NeedsOwnLooks}
+use Rattle.automata_base.specs.Retraced.Passes.{told_by}
+
+-- bytes of one class lead a powerset state to one successor
+abbrev pub ClassesStepAlike : Type 0
+ClassesStepAlike =
+    (a : Automaton) (quits : List Bool) (on : Bool) (kind : MatchKind) (q : Powerset) (u v : ℕ)
+    → class_of a quits on u ≡ class_of a quits on v → NeedsOwnLooks a q
+    → successor a kind q (Some u) ≡ successor a kind q (Some v)
+
+-- bytes of one class are both quit bytes, or neither is
+abbrev pub ClassesQuitAlike : Type 0
+ClassesQuitAlike =
+    (a : Automaton) (quits : List Bool) (on : Bool) (u v : ℕ)
+    → class_of a quits on u ≡ class_of a quits on v → is_quit quits u ≡ is_quit quits v
+
+-- after look-behind bytes of one kind an anchored mode has one start state
+abbrev pub StartsAreAlike : Type 0
+StartsAreAlike =
+    (a : Automaton) (mode : Anchored) (x y : Option ℕ)
+    → behind_of a.flags.line_terminator x ≡ behind_of a.flags.line_terminator y
+    → start_state_of a mode x ≡ start_state_of a mode y
+
+-- the dead state leads to itself
+abbrev pub DeadStaysDead : Type 0
+DeadStaysDead = (a : Automaton) (kind : MatchKind) (unit : Option ℕ) → successor a kind dead unit ≡ dead
+
+-- a pass over an NFA without look cycles reports what the ordered paths select
+abbrev pub PassesSelect : Type 0
+PassesSelect =
+    (kind : MatchKind) (earliest : Bool) (a : Automaton) (mode : Anchored) (t : Tape) (start : ℕ)
+    → mode_start a mode ≡ Some start → IsInRange (nfa_of a) → start < length (nodes_of a.states)
+    → IsLookAcyclic (nfa_of a) → IsTape t → Selects kind earliest (nfa_of a) t start (told_by kind earliest a mode t)
+
+-- an earliest pass over any NFA reports the nearest end
+abbrev pub PassesFindNearest : Type 0
+PassesFindNearest =
+    (kind : MatchKind) (a : Automaton) (mode : Anchored) (t : Tape) (start : ℕ)
+    → mode_start a mode ≡ Some start → IsInRange (nfa_of a) → start < length (nodes_of a.states) → IsTape t
+    → IsNearest (nfa_of a) t start (told_by kind true a mode t)
+
+-- under `MatchKind::All` a pass over any NFA reports the farthest end
+abbrev pub PassesFindFarthest : Type 0
+PassesFindFarthest =
+    (a : Automaton) (mode : Anchored) (t : Tape) (start : ℕ)
+    → mode_start a mode ≡ Some start → IsInRange (nfa_of a) → start < length (nodes_of a.states) → IsTape t
+    → IsFarthest (nfa_of a) t start (told_by All false a mode t)
+
+-- what `successor` gives of an own state is the successor, the only one
+abbrev pub SuccessorsAreRight : Automaton → Type 0
+SuccessorsAreRight a =
+    (kind : MatchKind) (q r : Powerset) (unit : Option ℕ)
+    → IsOf a q → IsSuccessor (nfa_of a) kind q unit r ↔ (r ≡ successor a kind q unit)
+
+-- what `start_state_of` gives is the start, the only one
+abbrev pub PowersetStartsAreRight : Automaton → Type 0
+PowersetStartsAreRight a =
+    (mode : Anchored) (prev : Option ℕ) (r : Powerset) → IsStartOf a mode prev r ↔ (r ≡ start_state_of a mode prev)

@@ -1,0 +1,66 @@
+-- What an overlapping walk reports by its pass, for every NFA, and that this is what the ordered paths report.
+use Rattle.std.specs.Prelude.{ℕ, ◌≡◌, ◌≤◌, ◌⊎◌, ◌↔◌, suc, false, List, [], ◌∷◌, length, Some}
+use Rattle.automata_base.specs.Answers.Answers.{IsInput, IsOverlapping, Walks, offset_in}
+use Rattle.automata_base.specs.Powersets.Cuts.{MatchKind, All}
+use Rattle.automata_base.specs.Nfas.Engines.{IsSkipping, engine_of}
+use Rattle.automata_base.specs.Haystacks.Input.{Input}
+use Rattle.automata_base.specs.Nfas.Nodes.{Automaton, nfa_of}
+use Rattle.automata_base.specs.Paths.Paths.{IsLookAcyclic}
+use Rattle.automata_base.specs.Paths.Selections.{Accepts, Pair}
+use Rattle.automata_base.specs.Paths.Starts.{mode_start}
+use Rattle.automata_base.specs.Haystacks.Tapes.{Direction, is_split, tape_of}
+use Rattle.automata_base.specs.Retraced.Passes.{pairs_told}
+
+-- what the pass over the span of an input reports, which is not done; places are counted from where the search begins
+abbrev pub SpanTells : Direction → Automaton → MatchKind → Input → List Pair → Type 0
+SpanTells way a kind input pairs =
+    pairs ≡ pairs_told a kind input.anchored (tape_of way input.haystack input.start input.end)
+    (suc (length (tape_of way input.haystack input.start input.end).bytes))
+
+-- the whole list of a walk: what its pass reports, by offsets, without the split places if they are skipped
+abbrev pub AreTold : Direction → Automaton → MatchKind → Input → List Pair → Type 0
+AreTold way a kind input found = Walks (SpanTells way a kind) (IsSkipping (engine_of a kind)) way input found
+
+-- each walk has such a list, and one alone
+abbrev pub WalksAreTold : Automaton → Type 0
+WalksAreTold a =
+    (way : Direction) (kind : MatchKind) (input : Input) → (found : List Pair) × AreTold way a kind input found
+
+abbrev pub WalksAreOne : Type 0
+WalksAreOne =
+    (way : Direction) (a : Automaton) (kind : MatchKind) (input : Input) (first second : List Pair)
+    → AreTold way a kind input first → AreTold way a kind input second → first ≡ second
+
+-- without a look cycle it is the list of the ordered paths
+abbrev pub WalkIsRight : Automaton → Type 0
+WalkIsRight a =
+    (way : Direction) (kind : MatchKind) (input : Input) (found : List Pair)
+    → IsLookAcyclic (nfa_of a) → IsInput input → AreTold way a kind input found
+    → IsOverlapping way (engine_of a kind) input found
+
+-- and each list of the ordered paths is this one
+abbrev pub OverlappingIsTold : Automaton → Type 0
+OverlappingIsTold a =
+    (way : Direction) (kind : MatchKind) (input : Input) (found : List Pair)
+    → IsLookAcyclic (nfa_of a) → IsInput input → IsOverlapping way (engine_of a kind) input found
+    → AreTold way a kind input found
+
+abbrev pub InPairs : Pair → List Pair → Type 0
+InPairs pair [] = ⊥
+InPairs pair (x ∷ xs) = (pair ≡ x) ⊎ InPairs pair xs
+
+-- some path of this pattern from the start ends at the place of this offset, which is not skipped
+abbrev pub IsAccepted : Direction → Automaton → Input → (start : ℕ) → Pair → Type 0
+IsAccepted way a input start pair =
+    (place : ℕ) × (path : List ℕ)
+    × (place ≤ length (tape_of way input.haystack input.start input.end).bytes)
+    × Accepts (nfa_of a) (tape_of way input.haystack input.start input.end) start place pair.pattern path
+    × (pair.place ≡ offset_in way input place)
+    × (IsSkipping (engine_of a All) → is_split input.haystack pair.place ≡ false)
+
+-- for every NFA a walk under `MatchKind::All` reports the pairs of all accepting paths
+abbrev pub AllPairsAreTold : Automaton → Type 0
+AllPairsAreTold a =
+    (way : Direction) (input : Input) (found : List Pair) (start : ℕ)
+    → IsInput input → input.start ≤ input.end → mode_start a input.anchored ≡ Some start → AreTold way a All input found
+    → (pair : Pair) → InPairs pair found ↔ IsAccepted way a input start pair

@@ -1,0 +1,14 @@
+pub mod Nfa
+pub mod Nodes
+pub mod Automata
+pub mod Engines
+pub mod Getters
+pub mod Shapes
+pub mod Errors
+pub mod Accepted
+pub mod Drafts
+pub mod Reach
+pub mod Utf8
+pub mod Decoders
+pub mod Mirrors
+pub mod ReversedSizes

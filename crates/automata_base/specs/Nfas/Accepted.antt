@@ -1,0 +1,26 @@
+-- What `NFA::from_states` accepts.
+use Rattle.std.specs.Prelude.{ℕ, ◌+◌, ◌^◌, ◌≡◌, ◌<◌, ◌≤◌, Some, true, eqb, length, All}
+use Rattle.automata_base.specs.Nfas.Nodes.{Automaton, nfa_of, stack_room}
+use Rattle.automata_base.specs.Haystacks.LookSets.{truth_of}
+use Rattle.automata_base.specs.Haystacks.Looks.{Look}
+use Rattle.automata_base.specs.Nfas.Nfa.{accepts}
+use Rattle.automata_base.specs.Retraced.ComputedPass.{IsInRange, any_node}
+use Rattle.automata_base.specs.Haystacks.Looks.{look_index}
+use Rattle.automata_base.specs.Nfas.Errors.{states_ordered}
+
+-- At most 2 ^ 27 states and patterns, each number in range, ranges in order.
+pub record IsDoor (a : Automaton) : Type 0 where
+  pub small : length a.states ≤ 2 ^ 27
+  pub few : length a.start_pattern ≤ 2 ^ 27
+  pub range : IsInRange (nfa_of a)
+  pub anchored : a.start_anchored < length a.states
+  pub unanchored : a.start_unanchored < length a.states
+  pub starts : All (λ s. s < length a.states) a.start_pattern
+  pub ordered : states_ordered a.states ≡ true
+  pub room : stack_room a.states ≤ 2 ^ 31 + 1
+  pub patterns : (q p : ℕ) → accepts (nfa_of a) q ≡ Some p → p < length a.start_pattern
+
+-- The set of the looks that are states of the NFA.
+abbrev pub IsLooks : Automaton → ℕ → Type 0
+IsLooks a looks =
+    (look : Look) → truth_of looks look ≡ any_node (λ other. eqb (look_index other) (look_index look)) (nfa_of a).nodes

@@ -1,0 +1,37 @@
+-- The data of an NFA as what contracts see.
+use Rattle.std.specs.Prelude.{ℕ, ◌≡◌, ◌↔◌, IsTrue, List}
+use Rattle.automata_base.specs.declared.nfa.thompson.Data.{Data}
+use Rattle.automata_base.specs.declared.nfa.thompson.Flags.{Flags}
+use Rattle.automata_base.specs.declared.nfa.thompson.State.{State}
+use Rattle.automata_base.specs.Nfas.Nodes.{Automaton, nfa_of, stack_room}
+use Rattle.automata_base.specs.Paths.Paths.{IsLookAcyclic}
+use Rattle.automata_base.specs.Nfas.Accepted.{IsDoor, IsLooks}
+use Rattle.automata_base.specs.Nfas.Getters.{HasEmpty, SkipsLazily}
+
+-- What contracts see of an NFA, by its parts, and by its data.
+abbrev pub automaton : List State → (anchored unanchored : ℕ) → (starts : List ℕ) → Flags → Automaton
+automaton states anchored unanchored starts flags = record {
+  states = states;
+  start_anchored = anchored;
+  start_unanchored = unanchored;
+  start_pattern = starts;
+  flags = flags;
+}
+
+abbrev pub automaton_of : Data → Automaton
+automaton_of d = record {
+  states = d.states.items;
+  start_anchored = d.start_anchored;
+  start_unanchored = d.start_unanchored;
+  start_pattern = d.start_pattern.items;
+  flags = d.flags;
+}
+
+-- The data of an NFA that `NFA::from_states` accepts: what it says of itself was computed when it was made.
+pub record IsConsistent (d : Data) : Type 0 where
+  pub door : IsDoor (automaton_of d)
+  pub looks : IsLooks (automaton_of d) d.looks
+  pub room : d.room ≡ stack_room d.states.items
+  pub empty : IsTrue d.has_empty ↔ HasEmpty (automaton_of d)
+  pub skips : IsTrue d.skips_lazily ↔ SkipsLazily (automaton_of d)
+  pub acyclic : IsTrue d.is_look_acyclic ↔ IsLookAcyclic (nfa_of (automaton_of d))

@@ -1,0 +1,125 @@
+-- What contracts see of a builder of NFAs.
+use Rattle.std.specs.Prelude.{ℕ, ◌≡◌, ◌+◌, ◌≤◌, ◌<◌, List, [], ◌∷◌, ◌++◌, length, map, Option, Some, None, false}
+use Rattle.std.specs.Prelude.{Result, Err, IfOk, OnOk, OnErr, IsOkUnless}
+use Rattle.automata_base.specs.declared.nfa.thompson.Flags.{Flags}
+use Rattle.automata_base.specs.declared.nfa.thompson.State.{State}
+use Rattle.automata_base.specs.declared.nfa.thompson.builder.Builder.TheInside.{Inside}
+use Rattle.automata_base.specs.declared.nfa.thompson.building.BuildError.{BuildError}
+use Rattle.automata_base.specs.declared.nfa.thompson.building.BuildError.TheVariants.{TooLarge, OutOfMemory}
+use Rattle.automata_base.specs.declared.nfa.thompson.building.BuildError.TheVariants.{NoPattern, NFA}
+use Rattle.automata_base.specs.declared.nfa.thompson.NfaError.{NfaError}
+use Rattle.automata_base.specs.declared.nfa.thompson.NfaError.TheVariants as door
+use Rattle.automata_base.specs.Nfas.Accepted.{IsDoor}
+use Rattle.automata_base.specs.Nfas.Getters.{SkipsLazily}
+use Rattle.automata_base.specs.Nfas.Nodes.{Automaton}
+use Rattle.automata_base.specs.Nfas.Shapes.{Shape, UnionShape, RangeShape, shape_of, shape_added, built_of}
+
+-- Its states as they were added and patched, the pattern that was started and not finished, the starts of the
+-- finished patterns, and the flags.
+pub record Draft : Type 0 where
+  pub states : List Shape
+  pub pattern : Option ℕ
+  pub starts : List ℕ
+  pub flags : Flags
+
+abbrev pub draft_of : Inside → Draft
+draft_of b = record {
+  states = map shape_added b.states.items;
+  pattern = b.pattern;
+  starts = b.starts.items;
+  flags = b.flags;
+}
+
+-- A draft without states and patterns.
+abbrev pub blank : Flags → Draft
+blank flags = record { states = []; pattern = None; starts = []; flags = flags }
+
+abbrev pub default_flags : Flags
+default_flags = record { utf8 = false; reverse = false; line_terminator = 10 }
+
+-- The same with other states, with a pattern started, and with it finished.
+abbrev pub with_states : Draft → List Shape → Draft
+with_states draft states =
+    record { states = states; pattern = draft.pattern; starts = draft.starts; flags = draft.flags }
+
+abbrev pub started : Draft → Draft
+started draft =
+    record { states = draft.states; pattern = Some (length draft.starts); starts = draft.starts; flags = draft.flags }
+
+abbrev pub finished : Draft → ℕ → Draft
+finished draft start =
+    record { states = draft.states; pattern = None; starts = draft.starts ++ start ∷ []; flags = draft.flags }
+
+-- The same with these flags.
+abbrev pub with_flags : Draft → Flags → Draft
+with_flags draft flags =
+    record { states = draft.states; pattern = draft.pattern; starts = draft.starts; flags = flags }
+
+-- The lazy loop over any bytes before a start, whose union comes next.
+abbrev pub prefix_of : Draft → (start : ℕ) → List Shape
+prefix_of draft start =
+    UnionShape (start ∷ (length draft.states + 1) ∷ []) ∷ RangeShape 0 255 (length draft.states) ∷ []
+
+-- A call that adds states returns the ID of the first of them, or an error, and then it changes nothing. It fails if
+-- IDs run out, and otherwise only if the allocation fails.
+pub record IsAdding (old new : Draft) (result : Result ℕ BuildError) (shapes : List Shape) : Type 0 where
+  pub id : IfOk result (λ id. id ≡ length old.states)
+  pub added : OnOk result (new ≡ with_states old (old.states ++ shapes))
+  pub same : OnErr result (new ≡ old)
+  pub large : 2147483647 < length old.states + length shapes → result ≡ Err TooLarge
+  pub memory : length old.states + length shapes ≤ 2147483647 → IsOkUnless result OutOfMemory
+
+-- The same of a call that needs a started pattern: without one it fails, and changes nothing.
+pub record IsAddingOf
+    (old new : Draft) (result : Result ℕ BuildError) (shape : ℕ → Shape)
+    : Type 0 where
+  pub none : old.pattern ≡ None → (result ≡ Err NoPattern) × (new ≡ old)
+  pub one : (p : ℕ) → old.pattern ≡ Some p → IsAdding old new result (shape p ∷ [])
+
+-- An NFA by the shapes of its states.
+pub record Outline : Type 0 where
+  pub states : List Shape
+  pub start_anchored : ℕ
+  pub start_unanchored : ℕ
+  pub start_pattern : List ℕ
+  pub flags : Flags
+
+abbrev pub outline : Automaton → Outline
+outline a = record {
+  states = map shape_of a.states;
+  start_anchored = a.start_anchored;
+  start_unanchored = a.start_unanchored;
+  start_pattern = a.start_pattern;
+  flags = a.flags;
+}
+
+-- The NFA that is built, with these starts.
+abbrev pub built : Draft → (anchored unanchored : ℕ) → Outline
+built draft anchored unanchored = record {
+  states = map built_of draft.states;
+  start_anchored = anchored;
+  start_unanchored = unanchored;
+  start_pattern = draft.starts;
+  flags = draft.flags;
+}
+
+-- The states are those that are built.
+abbrev pub AreBuilt : Draft → List State → Type 0
+AreBuilt draft states = map shape_of states ≡ map built_of draft.states
+
+-- What a builder returns for an error of `NFA::from_states`: the one of memory is its own.
+abbrev pub build_error : NfaError → BuildError
+build_error door.StateRange = NFA door.StateRange
+build_error door.StartRange = NFA door.StartRange
+build_error door.PatternRange = NFA door.PatternRange
+build_error door.Ranges = NFA door.Ranges
+build_error door.TooLarge = NFA door.TooLarge
+build_error door.OutOfMemory = OutOfMemory
+
+-- If the states before it lead to no others, an NFA that starts at a lazy loop skips lazily.
+abbrev pub PrefixesSkipLazily : Type 0
+PrefixesSkipLazily =
+    (draft : Draft) (start : ℕ) (before after : Automaton) → IsDoor before → AreBuilt draft before.states
+    → start < length draft.states
+    → outline after ≡ built (with_states draft (draft.states ++ prefix_of draft start)) start (length draft.states)
+    → SkipsLazily after

@@ -1,0 +1,78 @@
+-- What is searched with: an NFA, its starts, its UTF-8 flag and a match kind.
+use Rattle.std.specs.Prelude.{ℕ, ◌≡◌, Bool, true, List, [], ◌∷◌, ◌⊎◌, Option, Some}
+use Rattle.automata_base.specs.Lists.{In, nth}
+use Rattle.automata_base.specs.Nfas.Nfa.{Nfa, Node, Split, Read, node, hop, takes, accepts}
+use Rattle.automata_base.specs.Paths.Paths.{all_true, HasEpsilonPath}
+use Rattle.automata_base.specs.Powersets.Cuts.{MatchKind}
+use Rattle.automata_base.specs.Nfas.Nodes.{Automaton, nfa_of}
+pub use Rattle.automata_base.specs.declared.util.search.Anchored.{Anchored}
+pub use Rattle.automata_base.specs.declared.util.search.Anchored.TheVariants.{No, Yes, Pattern}
+
+-- The starts are those of an anchored search, of an unanchored one, and of each pattern.
+pub record Engine : Type 0 where
+  pub nfa : Nfa
+  pub anchored : ℕ
+  pub unanchored : ℕ
+  pub starts : List ℕ
+  pub utf8 : Bool
+  pub kind : MatchKind
+
+-- The state where the paths of an anchored mode start; none past the last pattern.
+abbrev pub first_state : Engine → Anchored → Option ℕ
+first_state d No = Some d.unanchored
+first_state d Yes = Some d.anchored
+first_state d (Pattern k) = nth d.starts k
+
+-- A match is reached by epsilon edges from some pattern's start, looks taken as true.
+abbrev pub MatchesEmpty : Nfa → (starts : List ℕ) → Type 0
+MatchesEmpty n starts = (start q p : ℕ) × In start starts × HasEpsilonPath n start q × (accepts n q ≡ Some p)
+
+abbrev pub HasEmptyMatch : Engine → Type 0
+HasEmptyMatch d = MatchesEmpty d.nfa d.starts
+
+-- Split places are skipped if the NFA has the empty match and is in UTF-8 mode.
+abbrev pub IsSkipping : Engine → Type 0
+IsSkipping d = (d.utf8 ≡ true) × HasEmptyMatch d
+
+-- `q` has an edge to `r`, one of a byte or one that reads nothing, looks taken as true.
+abbrev pub HasEdge : Nfa → ℕ → ℕ → Type 0
+HasEdge n q r = ((e : ℕ) × (hop n all_true q e ≡ Some r)) ⊎ ((u : ℕ) × (takes n q u ≡ Some r))
+
+-- Such edges lead from `q` over these states to `z`.
+abbrev pub Road : Nfa → ℕ → List ℕ → ℕ → Type 0
+Road n q [] z = q ≡ z
+Road n q (r ∷ rs) z = HasEdge n q r × Road n r rs z
+
+-- Some states lie on the way.
+abbrev pub Reaches : Nfa → ℕ → ℕ → Type 0
+Reaches n q z = (rs : List ℕ) × Road n q rs z
+
+-- Every search of it begins anchored: it has one start for anchored and unanchored searches.
+abbrev pub BeginsAnchored : Engine → Type 0
+BeginsAnchored d = d.unanchored ≡ d.anchored
+
+-- Any byte leads to `next`.
+abbrev pub any_byte : ℕ → Node
+any_byte next = Read (record { lo = 0; hi = 255; next = next } ∷ [])
+
+-- The unanchored start is a union that first tries the anchored start and then, after any byte, itself, and no edge
+-- leads back to it from the anchored start.
+abbrev pub LoopsLazily : Engine → ℕ → Type 0
+LoopsLazily d skip =
+    (node d.nfa d.unanchored ≡ Split (d.anchored ∷ skip ∷ [])) × (node d.nfa skip ≡ any_byte d.unanchored)
+    × (Reaches d.nfa d.anchored d.unanchored → ⊥)
+
+-- Unanchored searches begin anchored, or after any bytes, the fewest first.
+abbrev pub BeginsLazily : Engine → Type 0
+BeginsLazily d = BeginsAnchored d ⊎ ((skip : ℕ) × LoopsLazily d skip)
+
+-- An NFA, searched under a match kind.
+abbrev pub engine_of : Automaton → MatchKind → Engine
+engine_of a kind = record {
+  nfa = nfa_of a;
+  anchored = a.start_anchored;
+  unanchored = a.start_unanchored;
+  starts = a.start_pattern;
+  utf8 = a.flags.utf8;
+  kind = kind;
+}

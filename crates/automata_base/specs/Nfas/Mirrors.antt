@@ -1,0 +1,161 @@
+-- A reversed NFA: which edges it has, so that it accepts backward what the other one accepts.
+use Rattle.std.specs.Prelude.{ℕ, ◌≡◌, ◌<◌, ◌≤◌, ◌-◌, ◌↔◌, ◌⊎◌, not, List, [], ◌∷◌, length, Some}
+use Rattle.automata_base.specs.declared.nfa.thompson.Flags.{Flags}
+use Rattle.automata_base.specs.Lists.{In, nth}
+use Rattle.automata_base.specs.Haystacks.Looks.{Look, Start, End, StartLF, EndLF, StartCRLF, EndCRLF}
+use Rattle.automata_base.specs.Haystacks.Looks.{WordAscii, WordAsciiNegate, WordUnicode, WordUnicodeNegate}
+use Rattle.automata_base.specs.Haystacks.Looks.{WordStartAscii, WordEndAscii, WordStartUnicode, WordEndUnicode}
+use Rattle.automata_base.specs.Haystacks.Looks.{WordStartHalfAscii, WordEndHalfAscii, WordStartHalfUnicode}
+use Rattle.automata_base.specs.Haystacks.Looks.{WordEndHalfUnicode}
+use Rattle.automata_base.specs.Nfas.Nfa.{Nfa, Node, Range, Split, Assert, Read, Accept, node, accepts}
+use Rattle.automata_base.specs.Powersets.Cuts.{MatchKind, All}
+use Rattle.automata_base.specs.Nfas.Engines.{MatchesEmpty, BeginsLazily, engine_of}
+use Rattle.automata_base.specs.Nfas.Nodes.{Automaton, nfa_of}
+use Rattle.automata_base.specs.Retraced.DenseRuns.{ranged_nfa}
+use Rattle.automata_base.specs.Nfas.Accepted.{IsDoor}
+use Rattle.automata_base.specs.Paths.Selections.{Accepts}
+use Rattle.automata_base.specs.Haystacks.Tapes.{forward_tape, reverse_tape}
+use Rattle.automata_base.specs.Answers.TruePairs.{IsTruePair}
+
+-- The look that holds if the bytes on the two sides are exchanged and the reverse flag is flipped.
+abbrev pub flip : Look → Look
+flip Start = End
+flip End = Start
+flip StartLF = EndLF
+flip EndLF = StartLF
+flip StartCRLF = EndCRLF
+flip EndCRLF = StartCRLF
+flip WordAscii = WordAscii
+flip WordAsciiNegate = WordAsciiNegate
+flip WordUnicode = WordUnicode
+flip WordUnicodeNegate = WordUnicodeNegate
+flip WordStartAscii = WordEndAscii
+flip WordEndAscii = WordStartAscii
+flip WordStartUnicode = WordEndUnicode
+flip WordEndUnicode = WordStartUnicode
+flip WordStartHalfAscii = WordEndHalfAscii
+flip WordEndHalfAscii = WordStartHalfAscii
+flip WordStartHalfUnicode = WordEndHalfUnicode
+flip WordEndHalfUnicode = WordStartHalfUnicode
+
+-- What an edge asks: nothing, that a look holds, or a byte from the first to the second.
+pub data Label : Type 0 where
+  Free : Label
+  Asks : Look → Label
+  Reads : ℕ → ℕ → Label
+
+-- One of the ranges is this one.
+abbrev pub HasRange : List Range → (lo hi next : ℕ) → Type 0
+HasRange [] lo hi next = ⊥
+HasRange (r ∷ rs) lo hi next = ((r.lo ≡ lo) × (r.hi ≡ hi) × (r.next ≡ next)) ⊎ HasRange rs lo hi next
+
+-- The node has an edge with that label to `next`.
+abbrev pub HasArcAt : Node → Label → ℕ → Type 0
+HasArcAt (Split alternates) Free next = In next alternates
+HasArcAt (Split alternates) (Asks look) next = ⊥
+HasArcAt (Split alternates) (Reads lo hi) next = ⊥
+HasArcAt (Assert asked to) Free next = ⊥
+HasArcAt (Assert asked to) (Asks look) next = (asked ≡ look) × (to ≡ next)
+HasArcAt (Assert asked to) (Reads lo hi) next = ⊥
+HasArcAt (Read ranges) Free next = ⊥
+HasArcAt (Read ranges) (Asks look) next = ⊥
+HasArcAt (Read ranges) (Reads lo hi) next = HasRange ranges lo hi next
+HasArcAt (Accept p) Free next = ⊥
+HasArcAt (Accept p) (Asks look) next = ⊥
+HasArcAt (Accept p) (Reads lo hi) next = ⊥
+
+abbrev pub HasArc : Nfa → ℕ → Label → ℕ → Type 0
+HasArc n q l next = HasArcAt (node n q) l next
+
+-- The state stands for an edge with that label that is turned and leads to `next`: a free edge is its target.
+abbrev pub IsReversedArc : Nfa → ℕ → Label → ℕ → Type 0
+IsReversedArc m x Free next = x ≡ next
+IsReversedArc m x (Asks look) next = node m x ≡ Assert (flip look) next
+IsReversedArc m x (Reads lo hi) next = node m x ≡ Read (record { lo = lo; hi = hi; next = next } ∷ [])
+
+-- A state of `n` that is kept.
+abbrev pub IsKept : Nfa → List ℕ → ℕ → Type 0
+IsKept n kept q = In q kept × (q < length n.nodes)
+
+abbrev pub IsAsking : Label → Type 0
+IsAsking Free = ⊥
+IsAsking (Asks look) = Unit {0}
+IsAsking (Reads lo hi) = Unit {0}
+
+-- The state stands for an edge to `t` that reads a byte or asks a look, or for the match where paths begin.
+abbrev pub IsEdgeTo :
+    (n m : Nfa) → (first p : ℕ) → (place : ℕ → ℕ) → (kept : List ℕ) → (t x : ℕ) → Type 0
+IsEdgeTo n m first p place kept t x =
+    ((s : ℕ) × (l : Label) × IsKept n kept s × HasArc n s l t × IsAsking l × IsReversedArc m x l (place s))
+    ⊎ ((t ≡ first) × (node m x ≡ Accept p))
+
+-- Among the states for the pattern `p`, where `place q` stands for `q`: the state that stands for `t` is the union of
+-- the reversed edges to `t`, and of a match where paths begin at `t`; or it is the only one of these itself.
+pub record IsReversedAt
+    (n m : Nfa) (first : ℕ) (reached : List ℕ) (p : ℕ) (place : ℕ → ℕ) (kept : List ℕ) (t : ℕ) (xs : List ℕ) :
+    Type 0 where
+  pub stands :
+      (node m (place t) ≡ Split xs) ⊎ ((xs ≡ place t ∷ []) × IsEdgeTo n m first p place kept t (place t))
+  pub sound :
+      (x : ℕ) → In x xs
+      → ((s : ℕ) × (l : Label) × IsKept n kept s × HasArc n s l t × IsReversedArc m x l (place s))
+      ⊎ ((t ≡ first) × (node m x ≡ Accept p))
+  pub arcs :
+      (s : ℕ) (l : Label) → In s reached → HasArc n s l t
+      → In s kept × ((x : ℕ) × In x xs × IsReversedArc m x l (place s))
+  pub told : t ≡ first → (x : ℕ) × In x xs × (node m x ≡ Accept p)
+
+-- The part for the pattern `p` has a state for each kept state of `n`: its matches that are reached, and what leads to
+-- them. Its backward paths begin at `entry`, which goes on to the matches.
+pub record IsPart
+    (n m : Nfa) (first : ℕ) (reached : List ℕ) (p entry : ℕ) (place : ℕ → ℕ) (kept : List ℕ) : Type 0 where
+  pub enters :
+      (xs : List ℕ) × (node m entry ≡ Split xs)
+      × ((x : ℕ) → In x xs → (q : ℕ) × IsKept n kept q × (accepts n q ≡ Some p) × (x ≡ place q))
+      × ((q : ℕ) → In q reached → accepts n q ≡ Some p → In q kept × In (place q) xs)
+  pub turned : (t : ℕ) → IsKept n kept t → (xs : List ℕ) × IsReversedAt n m first reached p place kept t xs
+
+-- `m` is `n` reversed: it has a part for each pattern, whose paths begin at its entry, and at the root those of all.
+pub record IsMirror (n m : Nfa) (first : ℕ) (entries : List ℕ) (root : ℕ) (reached : List ℕ) : Type 0 where
+  pub terminator : m.terminator ≡ n.terminator
+  pub reverse : m.reverse ≡ not n.reverse
+  pub begins : In first reached
+  pub goes : (s t : ℕ) (l : Label) → In s reached → HasArc n s l t → In t reached
+  pub roots : node m root ≡ Split entries
+  pub parts :
+      (p entry : ℕ) → nth entries p ≡ Some entry
+      → (place : ℕ → ℕ) × (kept : List ℕ) × IsPart n m first reached p entry place kept
+
+-- The flags of the reversed NFA.
+abbrev pub reversed_flags : Flags → Flags
+reversed_flags f = record { utf8 = f.utf8; reverse = not f.reverse; line_terminator = f.line_terminator }
+
+-- The NFA `b` is `a` reversed.
+abbrev pub IsReversed : Automaton → Automaton → Type 0
+IsReversed a b =
+    (length b.start_pattern ≡ length a.start_pattern) × (b.flags.utf8 ≡ a.flags.utf8)
+    × ((reached : List ℕ)
+    × IsMirror (ranged_nfa a) (nfa_of b) a.start_anchored b.start_pattern b.start_anchored reached)
+
+-- The empty match is reached from some pattern's start exactly if it is reached from the anchored start.
+abbrev pub BeginsAlike : Automaton → Type 0
+BeginsAlike a = MatchesEmpty (nfa_of a) a.start_pattern ↔ MatchesEmpty (nfa_of a) (a.start_anchored ∷ [])
+
+-- From the start of a pattern, the reversed one accepts by that pattern what the other accepts from its anchored start.
+abbrev pub IsReversedByPattern : Automaton → Automaton → Type 0
+IsReversedByPattern a b =
+    (k entry : ℕ) → nth b.start_pattern k ≡ Some entry
+    → (h : List ℕ) (i j pattern : ℕ) → i ≤ j → j ≤ length h
+    → ((path : List ℕ) × Accepts (nfa_of b) (reverse_tape h i j) entry (j - i) pattern path)
+    ↔ ((pattern ≡ k)
+    × ((path : List ℕ) × Accepts (nfa_of a) (forward_tape h i j) a.start_anchored (j - i) pattern path))
+
+-- This holds of every reversed NFA.
+abbrev pub PatternsAreReversed : Type 0
+PatternsAreReversed = (a b : Automaton) → IsDoor a → IsReversed a b → IsReversedByPattern a b
+
+-- An NFA and its reversed one are a true pair.
+abbrev pub ReversedIsTrue : Type 0
+ReversedIsTrue =
+    (a b : Automaton) (kind : MatchKind) → IsDoor a → IsReversed a b → BeginsAlike a → BeginsLazily (engine_of a kind)
+    → IsTruePair (engine_of a kind) (engine_of b All)

@@ -1,0 +1,90 @@
+-- An NFA as paths see it: its states, the line terminator and the reverse flag.
+use Rattle.std.specs.Prelude.{ℕ, zero, suc, Bool, true, false, cond, List, [], ◌∷◌, Option, Some, None}
+use Rattle.automata_base.specs.Haystacks.Looks.{Look, within}
+use Rattle.automata_base.specs.Lists.{nth}
+
+-- Bytes from `lo` to `hi` lead to `next`.
+pub record Range : Type 0 where
+  pub lo : ℕ
+  pub hi : ℕ
+  pub next : ℕ
+
+-- A union has its alternates in order, a capture its one target, fail none; a byte state has its ranges.
+pub data Node : Type 0 where
+  Split : List ℕ → Node
+  Assert : Look → ℕ → Node
+  Read : List Range → Node
+  Accept : ℕ → Node
+
+pub record Nfa : Type 0 where
+  pub nodes : List Node
+  pub terminator : ℕ
+  pub reverse : Bool
+
+abbrev pub node_or_fail : Option Node → Node
+node_or_fail None = Split []
+node_or_fail (Some x) = x
+
+-- The state of a number. Past the last one it is a fail state.
+abbrev pub node : Nfa → ℕ → Node
+node n q = node_or_fail (nth n.nodes q)
+
+-- Which looks hold at a place.
+abbrev pub Truth : Type 0
+Truth = Look → Bool
+
+abbrev pub hop_at : Node → Truth → ℕ → Option ℕ
+hop_at (Split alternates) A e = nth alternates e
+hop_at (Assert look next) A zero = cond (A look) (Some next) None
+hop_at (Assert look next) A (suc e) = None
+hop_at (Read ranges) A e = None
+hop_at (Accept p) A e = None
+
+-- Where the edge `e` of `q` leads that stays at its place, if `q` has it.
+abbrev pub hop : Nfa → Truth → ℕ → ℕ → Option ℕ
+hop n A q e = hop_at (node n q) A e
+
+-- Where the first range leads that contains the byte.
+abbrev pub takes_in : List Range → ℕ → Option ℕ
+takes_in [] u = None
+takes_in (r ∷ rs) u = cond (within r.lo r.hi u) (Some r.next) (takes_in rs u)
+
+abbrev pub takes_at : Node → ℕ → Option ℕ
+takes_at (Split alternates) u = None
+takes_at (Assert look next) u = None
+takes_at (Read ranges) u = takes_in ranges u
+takes_at (Accept p) u = None
+
+-- Where `q` leads on the byte `u`.
+abbrev pub takes : Nfa → ℕ → ℕ → Option ℕ
+takes n q u = takes_at (node n q) u
+
+abbrev pub accepts_at : Node → Option ℕ
+accepts_at (Split alternates) = None
+accepts_at (Assert look next) = None
+accepts_at (Read ranges) = None
+accepts_at (Accept p) = Some p
+
+-- The pattern of a match state.
+abbrev pub accepts : Nfa → ℕ → Option ℕ
+accepts n q = accepts_at (node n q)
+
+-- Whether a state is kept in a powerset state: byte, look and match states are.
+abbrev pub stays_at : Node → Bool
+stays_at (Split alternates) = false
+stays_at (Assert look next) = true
+stays_at (Read ranges) = true
+stays_at (Accept p) = true
+
+abbrev pub keep : Nfa → ℕ → Option ℕ
+keep n q = cond (stays_at (node n q)) (Some q) None
+
+-- Whether a state reads a byte or is a match.
+abbrev pub ends_at : Node → Bool
+ends_at (Split alternates) = false
+ends_at (Assert look next) = false
+ends_at (Read ranges) = true
+ends_at (Accept p) = true
+
+abbrev pub ends : Nfa → ℕ → Option ℕ
+ends n q = cond (ends_at (node n q)) (Some q) None

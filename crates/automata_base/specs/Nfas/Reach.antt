@@ -1,0 +1,101 @@
+-- Walks over the states of an NFA.
+use Rattle.std.specs.Prelude.{ℕ, ◌≡◌, ◌⊎◌, ◌&&◌, Bool, false, cond, eqb, List, [], ◌∷◌, ◌++◌, map, Option, Some, None}
+use Rattle.std.specs.Prelude.{slice_get}
+use Rattle.automata_base.specs.declared.nfa.thompson.State.{State}
+use Rattle.automata_base.specs.declared.nfa.thompson.State.TheVariants as is
+use Rattle.automata_base.specs.declared.nfa.thompson.reach.Edges.{Edges}
+use Rattle.automata_base.specs.declared.nfa.thompson.reach.Edges.TheVariants.{Epsilon, Every}
+use Rattle.automata_base.specs.Lists.{In, nth}
+use Rattle.automata_base.specs.Nfas.Nfa.{Node, Range, Split, Assert, Read, Accept, node_or_fail, accepts_at}
+use Rattle.automata_base.specs.Nfas.Nodes.{nodes_of}
+use Rattle.automata_base.specs.Paths.Paths.{all_true}
+use Rattle.automata_base.specs.Powersets.Closure.{children_at}
+
+abbrev pub node_in : List State → ℕ → Node
+node_in states q = node_or_fail (nth (nodes_of states) q)
+
+abbrev pub nexts : List Range → List ℕ
+nexts ranges = map (λ range. range.next) ranges
+
+abbrev pub byte_targets : Node → List ℕ
+byte_targets (Split alternates) = []
+byte_targets (Assert look next) = []
+byte_targets (Read ranges) = nexts ranges
+byte_targets (Accept p) = []
+
+-- Where the edges of a state lead, looks taken as true.
+abbrev pub targets_at : Edges → Node → List ℕ
+targets_at Epsilon x = children_at x all_true
+targets_at Every x = children_at x all_true ++ byte_targets x
+
+abbrev pub targets_of : Edges → List State → ℕ → List ℕ
+targets_of edges states q = targets_at edges (node_in states q)
+
+-- The targets lead from `q` over these states to `z`.
+abbrev pub Route : (ℕ → List ℕ) → ℕ → List ℕ → ℕ → Type 0
+Route targets q [] z = q ≡ z
+Route targets q (r ∷ rs) z = In r (targets q) × Route targets r rs z
+
+abbrev pub IsReachedBy : (ℕ → List ℕ) → List ℕ → ℕ → Type 0
+IsReachedBy targets roots z = (root : ℕ) × (way : List ℕ) × In root roots × Route targets root way z
+
+-- Some root leads to `z`.
+abbrev pub IsReached : Edges → List State → List ℕ → ℕ → Type 0
+IsReached edges states roots z = IsReachedBy (targets_of edges states) roots z
+
+abbrev pub IsMatchAt : Node → Type 0
+IsMatchAt x = (p : ℕ) × (accepts_at x ≡ Some p)
+
+-- A match is reached.
+abbrev pub ReachesMatch : List State → List ℕ → Type 0
+ReachesMatch states roots =
+    (q : ℕ) × IsReached Epsilon states roots q × IsMatchAt (node_in states q)
+
+-- Where a look leads.
+abbrev pub look_target : Node → Option ℕ
+look_target (Split alternates) = None
+look_target (Assert look next) = Some next
+look_target (Read ranges) = None
+look_target (Accept p) = None
+
+-- The state is a look, and epsilon edges lead from it back to it.
+abbrev pub LeadsBack : List State → ℕ → Type 0
+LeadsBack states q =
+    (next : ℕ) × (look_target (node_in states q) ≡ Some next) × IsReached Epsilon states (next ∷ []) q
+
+-- No state is.
+abbrev pub AreLooksAcyclic : List State → Type 0
+AreLooksAcyclic states = (q : ℕ) → LeadsBack states q → ⊥
+
+-- The second of two alternates, if the first is `first`.
+abbrev pub second_of : List ℕ → ℕ → Option ℕ
+second_of [] first = None
+second_of (a ∷ []) first = None
+second_of (a ∷ b ∷ []) first = cond (eqb a first) (Some b) None
+second_of (a ∷ b ∷ c ∷ rest) first = None
+
+abbrev pub second_at : Node → ℕ → Option ℕ
+second_at (Split alternates) first = second_of alternates first
+second_at (Assert look next) first = None
+second_at (Read ranges) first = None
+second_at (Accept p) first = None
+
+-- Whether any byte leads to `target`, by one range.
+abbrev pub is_any_byte_of : State → ℕ → Bool
+is_any_byte_of (is.ByteRange lo hi next) target = eqb lo 0 && eqb hi 255 && eqb next target
+is_any_byte_of (is.Sparse ts) target = false
+is_any_byte_of (is.Dense targets) target = false
+is_any_byte_of (is.Look look next) target = false
+is_any_byte_of (is.Union alternates) target = false
+is_any_byte_of (is.BinaryUnion alt1 alt2) target = false
+is_any_byte_of (is.Capture next pattern index slot) target = false
+is_any_byte_of is.Fail target = false
+is_any_byte_of (is.Match pattern) target = false
+
+-- The starts are one state, or the unanchored one is a lazy loop over any bytes before the anchored one.
+abbrev pub SkipsFrom : List State → (anchored unanchored : ℕ) → Type 0
+SkipsFrom states anchored unanchored =
+    (unanchored ≡ anchored)
+    ⊎ ((skip : ℕ) × (node_in states unanchored ≡ Split (anchored ∷ skip ∷ []))
+    × (slice_get states skip ≡ Some (is.ByteRange 0 255 unanchored))
+    × (IsReached Every states (anchored ∷ []) unanchored → ⊥))

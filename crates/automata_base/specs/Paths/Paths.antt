@@ -1,0 +1,77 @@
+-- Paths through an NFA along a tape.
+use Rattle.std.specs.Prelude.{ℕ, zero, suc, ◌≡◌, true, List, [], ◌∷◌, ◌⊎◌, Option, Some}
+use Rattle.automata_base.specs.Haystacks.Looks.{Look, holds}
+use Rattle.automata_base.specs.Lists.{In, nth, IsListOf, From}
+use Rattle.automata_base.specs.Nfas.Nfa.{Nfa, Assert, Truth, node, hop, takes}
+
+-- A span with its direction: its bytes in the order of the walk, and the bytes of the haystack around it.
+pub record Tape : Type 0 where
+  pub before : Option ℕ
+  pub bytes : List ℕ
+  pub after : Option ℕ
+
+abbrev pub prev_in : Option ℕ → List ℕ → ℕ → Option ℕ
+prev_in before bytes zero = before
+prev_in before bytes (suc i) = nth bytes i
+
+abbrev pub next_in : List ℕ → Option ℕ → ℕ → Option ℕ
+next_in [] after i = after
+next_in (u ∷ us) after zero = Some u
+next_in (u ∷ us) after (suc i) = next_in us after i
+
+-- The byte before a place of the walk, and the one after it.
+abbrev pub prev : Tape → ℕ → Option ℕ
+prev t i = prev_in t.before t.bytes i
+
+abbrev pub next : Tape → ℕ → Option ℕ
+next t i = next_in t.bytes t.after i
+
+-- Which looks hold at place `i`.
+abbrev pub truth : Nfa → Tape → ℕ → Truth
+truth n t i look = holds n.terminator n.reverse look (prev t i) (next t i)
+
+-- At place `i` the state `q` has an edge to `r` at the next place of the span.
+abbrev pub Moves : Nfa → Tape → ℕ → ℕ → ℕ → Type 0
+Moves n t i q r = (u : ℕ) × (nth t.bytes i ≡ Some u) × (takes n q u ≡ Some r)
+
+-- A path at one place, by the numbers of its edges, from `q` to `z`, past no state of `seen` and none twice.
+abbrev pub IsPathAt : Nfa → Truth → List ℕ → ℕ → List ℕ → ℕ → Type 0
+IsPathAt n A seen q [] z = q ≡ z
+IsPathAt n A seen q (e ∷ path) z =
+    (r : ℕ) × (hop n A q e ≡ Some r) × (In r (q ∷ seen) → ⊥) × IsPathAt n A (q ∷ seen) r path z
+
+-- A path from `q` at place `i` to `z` at place `j`, where the states of `seen` were met at place `i` before:
+-- a sequence of edges with no state twice at one place.
+abbrev pub IsPathFrom : Nfa → Tape → ℕ → List ℕ → ℕ → List ℕ → ℕ → ℕ → Type 0
+IsPathFrom n t i seen q [] j z = (i ≡ j) × (q ≡ z)
+IsPathFrom n t i seen q (e ∷ path) j z =
+    ((r : ℕ) × (hop n (truth n t i) q e ≡ Some r) × (In r (q ∷ seen) → ⊥) × IsPathFrom n t i (q ∷ seen) r path j z)
+    ⊎ ((r : ℕ) × (e ≡ 0) × Moves n t i q r × IsPathFrom n t (suc i) [] r path j z)
+
+-- A path from the start to `q` at place `i`.
+abbrev pub IsPath : Nfa → Tape → ℕ → ℕ → ℕ → List ℕ → Type 0
+IsPath n t start i q path = IsPathFrom n t 0 [] start path i q
+
+-- All looks taken as true.
+abbrev pub all_true : Truth
+all_true look = true
+
+-- `q` leads to `z` by edges that stay at their place, looks taken as true: by these; by some; by one and some.
+abbrev pub Run : Nfa → ℕ → List ℕ → ℕ → Type 0
+Run n q [] z = q ≡ z
+Run n q (e ∷ path) z = (r : ℕ) × (hop n all_true q e ≡ Some r) × Run n r path z
+
+abbrev pub HasEpsilonPath : Nfa → ℕ → ℕ → Type 0
+HasEpsilonPath n q z = (path : List ℕ) × Run n q path z
+
+-- By at least one such edge.
+abbrev pub LeadsOn : Nfa → ℕ → ℕ → Type 0
+LeadsOn n q z = (e r : ℕ) × (hop n all_true q e ≡ Some r) × HasEpsilonPath n r z
+
+-- No cycle of such edges passes a look.
+abbrev pub IsLookAcyclic : Nfa → Type 0
+IsLookAcyclic n = (q : ℕ) (look : Look) (next : ℕ) → node n q ≡ Assert look next → LeadsOn n q q → ⊥
+
+-- The states reached from the roots at one place, each once, ordered by the least (index of the root, path).
+abbrev pub IsClosure : Nfa → Truth → List ℕ → List ℕ → Type 0
+IsClosure n A roots xs = IsListOf (From (λ root path q. IsPathAt n A [] root path q) roots) xs

@@ -1,0 +1,88 @@
+-- The answers of a search and a walk, by paths; and what a pass reports.
+use Rattle.std.specs.Prelude.{ℕ, zero, suc, ◌≡◌, ◌<◌, Bool, true, false, List, [], ◌∷◌, ◌++◌, ◌⊎◌, length, Option}
+use Rattle.std.specs.Prelude.{Some, None}
+use Rattle.automata_base.specs.Paths.Order.{Before, Upto}
+use Rattle.automata_base.specs.Lists.{IsListOf}
+use Rattle.automata_base.specs.Nfas.Nfa.{Nfa, accepts}
+use Rattle.automata_base.specs.Paths.Paths.{Tape, IsPath}
+use Rattle.automata_base.specs.Powersets.Cuts.{MatchKind, All, LeftmostFirst}
+use Rattle.automata_base.specs.Powersets.Passes.{IsPass}
+use Rattle.automata_base.specs.Powersets.Powerset.{Powerset}
+
+-- A path that stands on a match of the pattern at place `i`.
+abbrev pub Accepts : Nfa → Tape → ℕ → ℕ → ℕ → List ℕ → Type 0
+Accepts n t start i pattern path = (q : ℕ) × IsPath n t start i q path × (accepts n q ≡ Some pattern)
+
+-- The patterns that a walk under `MatchKind::All` reports at place `i`: those of the accepting paths that end there,
+-- each once, in the order of their least paths.
+abbrev pub IsAllAt : Nfa → Tape → ℕ → ℕ → List ℕ → Type 0
+IsAllAt n t start i patterns = IsListOf (λ pattern path. Accepts n t start i pattern path) patterns
+
+-- Under leftmost-first: that of the least accepting path that ends there, if it is less than every accepting path
+-- that ends at an earlier place.
+abbrev pub IsFirstAt : Nfa → Tape → ℕ → ℕ → List ℕ → Type 0
+IsFirstAt n t start i patterns =
+    ((patterns ≡ [])
+    × ((pattern : ℕ) (path : List ℕ) → Accepts n t start i pattern path
+    → (j other : ℕ) × (less : List ℕ) × (j < i) × Accepts n t start j other less × Before less path))
+    ⊎ ((pattern : ℕ) × (path : List ℕ) × (patterns ≡ pattern ∷ []) × Accepts n t start i pattern path
+    × ((other : ℕ) (more : List ℕ) → Accepts n t start i other more → Upto path more)
+    × ((j other : ℕ) (more : List ℕ) → j < i → Accepts n t start j other more → Before path more))
+
+abbrev pub ArePatternsAt : MatchKind → Nfa → Tape → ℕ → ℕ → List ℕ → Type 0
+ArePatternsAt All n t start i patterns = IsAllAt n t start i patterns
+ArePatternsAt LeftmostFirst n t start i patterns = IsFirstAt n t start i patterns
+
+-- A pattern and a place.
+pub record Pair : Type 0 where
+  pub pattern : ℕ
+  pub place : ℕ
+
+-- These patterns, each at the place.
+abbrev pub at_place : ℕ → List ℕ → List Pair
+at_place i [] = []
+at_place i (p ∷ ps) = record { pattern = p; place = i } ∷ at_place i ps
+
+-- The pairs at the first `k` places, by a rule for one place.
+abbrev pub Pairs : (ℕ → List ℕ → Type 0) → ℕ → List Pair → Type 0
+Pairs At zero pairs = pairs ≡ []
+Pairs At (suc i) pairs =
+    (earlier : List Pair) × (patterns : List ℕ) × Pairs At i earlier × At i patterns
+    × (pairs ≡ earlier ++ at_place i patterns)
+
+-- The whole list of a walk, by paths.
+abbrev pub IsOverlappingOn : MatchKind → Nfa → Tape → ℕ → List Pair → Type 0
+IsOverlappingOn kind n t start pairs = Pairs (ArePatternsAt kind n t start) (suc (length t.bytes)) pairs
+
+-- What the pass reports at place `i`: the patterns of the state that the unit there leads to.
+abbrev pub Tells : MatchKind → Nfa → Tape → ℕ → ℕ → List ℕ → Type 0
+Tells kind n t start i patterns = (Q : Powerset) × IsPass n kind start t (suc i) Q × (Q.patterns ≡ patterns)
+
+-- Whether the place `i` of a path with that edge list is preferred to `j` of another.
+abbrev pub IsChosen : MatchKind → (earliest : Bool) → ℕ → List ℕ → ℕ → List ℕ → Type 0
+IsChosen kind true i path j other = (i < j) ⊎ ((i ≡ j) × Upto path other)
+IsChosen LeftmostFirst false i path j other = Upto path other
+IsChosen All false i path j other = (j < i) ⊎ ((i ≡ j) × Upto path other)
+
+-- What a search over the span answers, by paths.
+abbrev pub Selects : MatchKind → Bool → Nfa → Tape → ℕ → Option Pair → Type 0
+Selects kind earliest n t start None =
+    (i pattern : ℕ) (path : List ℕ) → Accepts n t start i pattern path → ⊥
+Selects kind earliest n t start (Some pair) =
+    (path : List ℕ) × Accepts n t start pair.place pair.pattern path
+    × ((j pattern : ℕ) (other : List ℕ) → Accepts n t start j pattern other
+    → IsChosen kind earliest pair.place path j other)
+
+-- For every NFA and match kind, an earliest search finds the nearest end.
+abbrev pub IsNearest : Nfa → Tape → ℕ → Option Pair → Type 0
+IsNearest n t start None = (i pattern : ℕ) (path : List ℕ) → Accepts n t start i pattern path → ⊥
+IsNearest n t start (Some pair) =
+    ((path : List ℕ) × Accepts n t start pair.place pair.pattern path)
+    × ((j pattern : ℕ) (path : List ℕ) → j < pair.place → Accepts n t start j pattern path → ⊥)
+
+-- For every NFA, a search under `MatchKind::All` finds the farthest end.
+abbrev pub IsFarthest : Nfa → Tape → ℕ → Option Pair → Type 0
+IsFarthest n t start None = (i pattern : ℕ) (path : List ℕ) → Accepts n t start i pattern path → ⊥
+IsFarthest n t start (Some pair) =
+    ((path : List ℕ) × Accepts n t start pair.place pair.pattern path)
+    × ((j pattern : ℕ) (path : List ℕ) → pair.place < j → Accepts n t start j pattern path → ⊥)

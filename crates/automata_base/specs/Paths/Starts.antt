@@ -1,0 +1,28 @@
+-- Where the paths of an anchored mode start, and the powerset state that stands for them.
+use Rattle.std.specs.Prelude.{ℕ, ◌≡◌, ◌<◌, length, slice_get, Option, Some, None}
+use Rattle.automata_base.specs.declared.util.search.Anchored.{Anchored}
+use Rattle.automata_base.specs.declared.util.search.Anchored.TheVariants.{No, Yes, Pattern}
+use Rattle.automata_base.specs.Nfas.Nodes.{Automaton, nfa_of}
+use Rattle.automata_base.specs.Lists.{In}
+use Rattle.automata_base.specs.Nfas.Nfa.{Nfa}
+use Rattle.automata_base.specs.Powersets.Passes.{IsStart}
+use Rattle.automata_base.specs.Powersets.Powerset.{Powerset, dead}
+
+-- The state where the paths of an anchored mode start; none past the last pattern.
+abbrev pub mode_start : Automaton → Anchored → Option ℕ
+mode_start a No = Some a.start_unanchored
+mode_start a Yes = Some a.start_anchored
+mode_start a (Pattern p) = slice_get a.start_pattern p
+
+-- The start state of a first state; without one the dead state.
+abbrev pub IsStartAt : Nfa → Option ℕ → Option ℕ → Powerset → Type 0
+IsStartAt n None prev Q = Q ≡ dead
+IsStartAt n (Some start) prev Q = IsStart n start prev Q
+
+-- The start state; past the last pattern the dead state.
+abbrev pub IsStartOf : Automaton → Anchored → Option ℕ → Powerset → Type 0
+IsStartOf a mode prev Q = IsStartAt (nfa_of a) (mode_start a mode) prev Q
+
+-- Every NFA state of the powerset state is one of the NFA's.
+abbrev pub IsOf : Automaton → Powerset → Type 0
+IsOf a q = (s : ℕ) → In s q.nfa → s < length a.states

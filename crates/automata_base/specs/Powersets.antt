@@ -1,0 +1,12 @@
+pub mod Powerset
+pub mod Parts
+pub mod Passes
+pub mod Results
+pub mod Closure
+pub mod Cuts
+pub mod Accounting
+pub mod Equal
+pub mod Key
+pub mod Code
+pub mod Scratch
+pub mod Members

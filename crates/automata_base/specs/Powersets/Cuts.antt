@@ -1,0 +1,30 @@
+-- Lists of NFA states, cut and read.
+use Rattle.std.specs.Prelude.{ℕ, ◌≡◌, List, [], ◌∷◌, Option, Some, None}
+use Rattle.automata_base.specs.Lists.{IsListOf, From, pick}
+use Rattle.automata_base.specs.Nfas.Nfa.{Nfa, takes, accepts}
+pub use Rattle.automata_base.specs.declared.util.search.MatchKind.{MatchKind}
+pub use Rattle.automata_base.specs.declared.util.search.MatchKind.TheVariants.{All, LeftmostFirst}
+
+abbrev pub cut_behind : Option ℕ → ℕ → List ℕ → List ℕ
+cut_behind None q rest = q ∷ rest
+cut_behind (Some p) q rest = q ∷ []
+
+-- The part of a list up to the first match state.
+abbrev pub cut : Nfa → List ℕ → List ℕ
+cut n [] = []
+cut n (q ∷ xs) = cut_behind (accepts n q) q (cut n xs)
+
+-- What counts of a list of states: all of it under `MatchKind::All`, and the part up to the first match state under
+-- `MatchKind::LeftmostFirst`.
+abbrev pub cut_for : MatchKind → Nfa → List ℕ → List ℕ
+cut_for All n xs = xs
+cut_for LeftmostFirst n xs = cut n xs
+
+-- The elements of a list, each once, in the order of their first occurrences.
+abbrev pub IsOnce : List ℕ → List ℕ → Type 0
+IsOnce xs ys = IsListOf (From (λ root path q. (root ≡ q) × (path ≡ [])) xs) ys
+
+-- The targets of the byte states of a list that take the unit, which is a byte or the end.
+abbrev pub targets : Nfa → Option ℕ → List ℕ → List ℕ
+targets n None xs = []
+targets n (Some u) xs = pick (λ b. takes n b u) xs

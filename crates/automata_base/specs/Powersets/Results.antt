@@ -1,0 +1,56 @@
+-- What the powerset construction answers.
+use Rattle.std.specs.Prelude.{ℕ, ◌≡◌, ◌≤◌, length, List, Option}
+use Rattle.automata_base.specs.Powersets.Accounting.{max_cost}
+use Rattle.automata_base.specs.Powersets.Cuts.{IsOnce, MatchKind}
+use Rattle.automata_base.specs.Nfas.Engines.{Anchored}
+use Rattle.automata_base.specs.Lists.{pick}
+use Rattle.automata_base.specs.Nfas.Nfa.{accepts}
+use Rattle.automata_base.specs.Nfas.Nodes.{Automaton, nfa_of}
+use Rattle.automata_base.specs.Retraced.Once.{Distinct}
+use Rattle.automata_base.specs.Powersets.Passes.{IsClosureOf, IsSuccessor}
+use Rattle.automata_base.specs.Powersets.Powerset.{Powerset, cost}
+use Rattle.automata_base.specs.Paths.Starts.{IsOf, IsStartOf}
+use Rattle.automata_base.specs.Retraced.Steps.{NeedsOwnLooks, start_state_of, successor}
+use Rattle.automata_base.specs.Answers.Within.{TellsOwn}
+
+-- the powerset state where the searches of a mode start behind a byte, or behind none
+pub record IsStartMade (a : Automaton) (mode : Anchored) (prev : Option ℕ) (made : Powerset) : Type 0 where
+  -- it is the start by the definition, which is the one that the function of contracts gives
+  pub start : IsStartOf a mode prev made
+  pub same : made ≡ start_state_of a mode prev
+  -- its patterns, the looks that it needs and its NFA states are the automaton's
+  pub own : TellsOwn a made
+  pub looks : NeedsOwnLooks a made
+  pub is_of : IsOf a made
+  -- it costs no more than any state of the automaton may
+  pub bounded : cost made ≤ max_cost a
+
+-- the powerset state that another leads to on a unit
+pub record IsStepMade (a : Automaton) (kind : MatchKind) (from : Powerset) (unit : Option ℕ)
+    (made : Powerset) : Type 0 where
+  -- it is the successor by the definition, which is the one that the function of contracts gives
+  pub step : IsSuccessor (nfa_of a) kind from unit made
+  pub same : made ≡ successor a kind from unit
+  -- its patterns, the looks that it needs and its NFA states are the automaton's
+  pub own : TellsOwn a made
+  pub looks : NeedsOwnLooks a made
+  pub is_of : IsOf a made
+  -- it costs no more than any state of the automaton may
+  pub bounded : cost made ≤ max_cost a
+
+-- the patterns that the states of a list match
+pub record AreMatched (a : Automaton) (list patterns : List ℕ) : Type 0 where
+  -- they stand in the order of the list, and none of them twice
+  pub once : IsOnce (pick (accepts (nfa_of a)) list) patterns
+  pub distinct : Distinct patterns
+  -- they are no more than the automaton has
+  pub few : length patterns ≤ length a.start_pattern
+
+-- the powerset state that has these patterns, and the NFA states of the closure of the roots behind a unit
+pub record IsClosureMade (a : Automaton) (matched roots : List ℕ) (unit : Option ℕ) (made : Powerset) : Type 0 where
+  -- it is that by the definition
+  pub closure : IsClosureOf (nfa_of a) matched roots unit made
+  pub patterns : made.patterns ≡ matched
+  -- its NFA states are the automaton's, and no more of them
+  pub is_of : IsOf a made
+  pub few : length made.nfa ≤ length a.states

@@ -1,0 +1,20 @@
+-- What contracts see of the room of determinisation.
+use Rattle.std.specs.Prelude.{ℕ}
+use Rattle.automata_base.specs.Nfas.Accepted.{IsDoor}
+use Rattle.automata_base.specs.Nfas.Nodes.{Automaton}
+use Rattle.automata_base.specs.Retraced.Rooms.{IsStepRoom}
+use Rattle.automata_base.specs.declared.util.determinize.scratch.Scratch.TheInside.{Inside}
+
+-- What contracts see: the NFA that it was made for, and how often it was used.
+pub record ScratchView : Type 0 where
+  pub of : Automaton
+  pub count : ℕ
+
+abbrev pub view_of : Inside → ScratchView
+view_of s = record { of = s.of.value; count = s.count.number }
+
+pub record IsScratch (s : Inside) : Type 0 where
+  -- its NFA passed the door
+  pub door : IsDoor s.of.value
+  -- it is room for the steps of that NFA
+  pub room : IsStepRoom s.of.value s.stack s.one s.two s.parts

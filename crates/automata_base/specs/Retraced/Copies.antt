@@ -1,0 +1,71 @@
+-- How the copies for each pattern are added, and that an NFA may be made of them.
+use Rattle.std.specs.Prelude.{ℕ, ◌≡◌, ◌<◌, ◌≤◌, ◌+◌, ◌*◌, ◌^◌, ◌↔◌, List, [], ◌∷◌, ◌++◌, length, map, sum_by}
+use Rattle.automata_base.specs.declared.nfa.thompson.State.{State}
+use Rattle.automata_base.specs.declared.nfa.thompson.reach.Edges.TheVariants.{Every}
+use Rattle.automata_base.specs.Lists.{In}
+use Rattle.automata_base.specs.Nfas.Nfa.{Node, Range, Split, Assert, Read, Accept}
+use Rattle.automata_base.specs.Nfas.Nodes.{nodes_of}
+use Rattle.automata_base.specs.Retraced.Once.{Distinct}
+use Rattle.automata_base.specs.Nfas.Reach.{IsReached}
+use Rattle.automata_base.specs.Nfas.Errors.{alternates_of}
+use Rattle.automata_base.specs.Nfas.ReversedSizes.{asking_edges, free_edges}
+use Rattle.automata_base.specs.Retraced.ReversedEdges.{copies, copy_of}
+
+-- The copies of the states that are reached from the roots, and after them the entry, which goes on to the copies of
+-- the roots.
+pub record IsAdded
+    (old new : List Node) (turned : List State) (roots : List ℕ) (p entry : ℕ) (items : List ℕ) : Type 0 where
+  pub reached : (q : ℕ) → In q items ↔ IsReached Every turned roots q
+  pub distinct : Distinct items
+  pub below : (q : ℕ) → In q items → q < length turned
+  pub few : length items ≤ length turned
+  pub nodes :
+      new
+      ≡ (old ++ copies (copy_of (length old) items) p turned items)
+      ++ Split (map (copy_of (length old) items) roots) ∷ []
+  pub enters : entry ≡ length old + length items
+
+abbrev pub IsPartAdded : (old new : List Node) → (turned : List State) → (roots : List ℕ) → (p entry : ℕ) → Type 0
+IsPartAdded old new turned roots p entry = (items : List ℕ) × IsAdded old new turned roots p entry items
+
+-- One range, in order, that leads to a state below `n`.
+abbrev pub IsOneRange : (n : ℕ) → List Range → Type 0
+IsOneRange n [] = ⊥
+IsOneRange n (r ∷ []) = (r.lo ≤ r.hi) × (r.next < n)
+IsOneRange n (r ∷ s ∷ rest) = ⊥
+
+-- The node leads to states below `n`, has at most one range, and matches a pattern below `P`.
+abbrev pub IsPlain : (n P : ℕ) → Node → Type 0
+IsPlain n P (Split alternates) = (x : ℕ) → In x alternates → x < n
+IsPlain n P (Assert look next) = next < n
+IsPlain n P (Read ranges) = IsOneRange n ranges
+IsPlain n P (Accept p) = p < P
+
+abbrev pub ArePlain : (n P : ℕ) → List Node → Type 0
+ArePlain n P [] = Unit {0}
+ArePlain n P (x ∷ xs) = IsPlain n P x × ArePlain n P xs
+
+abbrev pub width : Node → ℕ
+width (Split alternates) = length alternates
+width (Assert look next) = 0
+width (Read ranges) = 0
+width (Accept p) = 0
+
+-- The parts of the first `p` of `P` patterns, each with at most `most` roots.
+pub record AreParts
+    (turned : List State) (most P p : ℕ) (nodes : List Node) (entries : List ℕ) : Type 0 where
+  pub plain : ArePlain (length nodes) P nodes
+  pub few : length nodes ≤ p * (length turned + 1)
+  pub narrow : sum_by width nodes ≤ p * (sum_by alternates_of turned + most)
+  pub entered : (e : ℕ) → In e entries → e < length nodes
+
+-- An NFA may be made of these states, except that there may be too many alternates; and how many there are at most.
+pub record IsFit (states : List State) (patterns : ℕ) (made : List State) (entries : List ℕ) (root : ℕ) : Type 0 where
+  pub plain : ArePlain (length made) (length entries) (nodes_of made)
+  pub small : length made ≤ 2 ^ 27
+  pub entered : (e : ℕ) → In e entries → e < length made
+  pub starts : root < length made
+  pub few : length made ≤ (patterns + 1) * (length states + sum_by asking_edges states + 2)
+  pub narrow :
+      sum_by alternates_of made
+      ≤ (patterns + 1) * (length states + sum_by asking_edges states + sum_by free_edges states + 2)

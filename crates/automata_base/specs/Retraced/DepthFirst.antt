@@ -1,0 +1,48 @@
+-- A depth-first search, and the order in which it finishes states.
+use Rattle.std.specs.Prelude.{ℕ, ◌≡◌, ◌<◌, ◌⊎◌, List, [], ◌∷◌, take, Some}
+use Rattle.automata_base.specs.declared.nfa.thompson.finishing.Frame.{Frame}
+use Rattle.automata_base.specs.Lists.{In, nth}
+use Rattle.automata_base.specs.Nfas.Reach.{Route}
+
+-- `p` leads to `z` by at least one edge.
+abbrev pub LeadsBy : (ℕ → List ℕ) → ℕ → ℕ → Type 0
+LeadsBy targets p z = (r : ℕ) × (way : List ℕ) × In r (targets p) × Route targets r way z
+
+-- A state that stands before another one and leads to it is on a cycle.
+abbrev pub IsFinishingOrder : (ℕ → List ℕ) → List ℕ → Type 0
+IsFinishingOrder targets xs =
+    (i q p : ℕ) → nth xs i ≡ Some q → In p (take i xs) → (p ≡ q → ⊥) × (LeadsBy targets p q → LeadsBy targets p p)
+
+-- The states on the stack, the top first.
+abbrev pub states_in : List Frame → List ℕ
+states_in [] = []
+states_in (frame ∷ below) = frame.state ∷ states_in below
+
+-- Each state leads to those before it in the list.
+abbrev pub IsChain : (ℕ → List ℕ) → List ℕ → Type 0
+IsChain targets [] = Unit {0}
+IsChain targets (p ∷ below) = ((q : ℕ) → In q below → LeadsBy targets q p) × IsChain targets below
+
+-- The states exist, and the edges that were followed lead to states that were visited.
+abbrev pub AreFollowed : ℕ → (ℕ → List ℕ) → List ℕ → List Frame → Type 0
+AreFollowed n targets visited [] = Unit {0}
+AreFollowed n targets visited (frame ∷ below) =
+    (frame.state < n) × ((r : ℕ) → In r (take frame.edge (targets frame.state)) → In r visited)
+    × AreFollowed n targets visited below
+
+-- A depth-first search over `n` states is under way: these are visited, these finished, and these on its stack.
+pub record IsUnderSearch
+    (n : ℕ) (targets : ℕ → List ℕ) (visited finished : List ℕ) (frames : List Frame)
+    : Type 0 where
+  pub visits : (q : ℕ) → In q visited → In q finished ⊎ In q (states_in frames)
+  pub follows : AreFollowed n targets visited frames
+  pub chain : IsChain targets (states_in frames)
+  pub closed : (p r : ℕ) → In p finished → In r (targets p) → In r finished ⊎ In r (states_in frames)
+  pub cyclic : (p q : ℕ) → In p finished → (In q finished → ⊥) → LeadsBy targets p q → LeadsBy targets p p
+  pub order : IsFinishingOrder targets finished
+
+-- Each state is in the order, and they stand in a finishing order.
+pub record IsWholeOrder (n : ℕ) (targets : ℕ → List ℕ) (xs : List ℕ) : Type 0 where
+  pub order : IsFinishingOrder targets xs
+  pub whole : (q : ℕ) → q < n → In q xs
+  pub below : (q : ℕ) → In q xs → q < n

@@ -1,0 +1,25 @@
+-- The room that determinisation works in, so that a state is made without taking memory.
+use Rattle.std.specs.Prelude.{ℕ, ◌≡◌, ◌≤◌, length, [], Vec, vec_capacity}
+use Rattle.std.specs.declared.alloc.Global.{Global}
+use Rattle.automata_base.specs.Powersets.Members.{Members}
+use Rattle.automata_base.specs.Nfas.Nodes.{Automaton, stack_room}
+use Rattle.automata_base.specs.declared.util.determinize.state.Parts.{Parts}
+
+-- room for the closures of an automaton
+pub record IsClosureRoom (a : Automaton) (stack : Vec ℕ Global) (set : Members) : Type 0 where
+  -- the set is for just its states
+  pub whole : set.capacity ≡ length a.states
+  -- the stack is empty, and takes as many states as may wait on it
+  pub empty : stack.items ≡ []
+  pub places : stack_room a.states ≤ vec_capacity stack
+
+-- room for a powerset state of an automaton: the lists take each of its NFA states and each of its patterns
+pub record IsPartsRoom (a : Automaton) (parts : Parts) : Type 0 where
+  pub list : length a.states ≤ vec_capacity parts.nfa
+  pub patterns : length a.start_pattern ≤ vec_capacity parts.patterns
+
+-- room for a step: for the closure that decides looks, for the closure behind the unit, and for the state that is made
+pub record IsStepRoom (a : Automaton) (stack : Vec ℕ Global) (one two : Members) (parts : Parts) : Type 0 where
+  pub deciding : IsClosureRoom a stack one
+  pub following : IsClosureRoom a stack two
+  pub making : IsPartsRoom a parts

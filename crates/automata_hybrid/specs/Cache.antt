@@ -1,0 +1,10 @@
+pub mod Ids
+pub mod Table
+pub mod Stores
+pub mod Caches
+pub mod Usage
+pub mod Clears
+pub mod Changes
+pub mod Growth
+pub mod Progress
+pub mod LookUps

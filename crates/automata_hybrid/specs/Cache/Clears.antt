@@ -1,0 +1,103 @@
+-- What a clear keeps: the start states, each with its slots.
+use Rattle.std.specs.Prelude.{◌≡◌, ℕ, ◌+◌, ◌-◌, ◌/◌, ◌%◌, ◌<◌, ◌≤◌, List, [], ◌∷◌, ◌++◌, length, cond, Option}
+use Rattle.std.specs.Prelude.{None, Some, slice_get, slice_index, nat_le}
+use Rattle.automata_base.specs.Powersets.Powerset.{Powerset}
+use Rattle.automata_hybrid.specs.declared.dfa.row.Row.{Row}
+use Rattle.automata_hybrid.specs.Machines.Machine.{start_of, table_stride}
+use Rattle.automata_hybrid.specs.Cache.Table.{Rows, id_of, with_row, fresh, MayLead, Names}
+use Rattle.automata_hybrid.specs.Cache.Stores.{KeepsStarts}
+use Rattle.automata_hybrid.specs.Cache.Ids.{unknown_id, fixed_from, offset_limit}
+
+-- what each slot has: unknown, dead for the dead state, or the ID of its start state
+abbrev pub AllStarts : Rows → List ℕ → Type 0
+AllStarts t starts = (slot id : ℕ) → slice_get starts slot ≡ Some id → MayLead t id (start_of t.of slot)
+
+-- the row that an ID names
+abbrev pub row_of : Rows → ℕ → Option Row
+row_of t id = slice_get t.rows ((id % offset_limit) / table_stride t.of - 3)
+
+abbrev pub put_if : Option ℕ → Rows → Row → Rows
+put_if None t r = with_row t r
+put_if (Some id) t r = t
+
+-- with this row, unless its state has one
+abbrev pub put : Rows → Row → Rows
+put t r = put_if (id_of t r.state) t r
+
+abbrev pub or_unknown : Option ℕ → ℕ
+or_unknown None = unknown_id
+or_unknown (Some id) = id
+
+-- rows and slots while start states are kept
+pub record Kept : Type 0 where
+  pub table : Rows
+  pub starts : List ℕ
+
+abbrev pub keep_found : Option Row → Kept → Kept
+keep_found None k = k
+keep_found (Some r) k = record {
+  table = put k.table r;
+  starts = k.starts ++ or_unknown (id_of (put k.table r) r.state) ∷ [];
+}
+
+-- a slot that names a row: the row stays, and the slot has its new ID; another slot stays as it is
+abbrev pub keep_slot : Rows → Kept → ℕ → Kept
+keep_slot old k id =
+    cond (nat_le fixed_from id) (record { table = k.table; starts = k.starts ++ id ∷ [] })
+    (keep_found (row_of old id) k)
+
+-- the same of each slot in turn
+unfoldable pub keep_slots : Rows → Kept → List ℕ → Kept
+keep_slots old k [] = k
+keep_slots old k (id ∷ ids) = keep_slots old (keep_slot old k id) ids
+
+-- the rows and the slots after a clear: the fixed rows, and the start states in the order of the slots, each once
+abbrev pub kept : Rows → List ℕ → Kept
+kept old starts = keep_slots old (record { table = fresh old.of; starts = [] }) starts
+
+-- the row of an ID was put into a table, where it has a new ID
+pub record IsPut (old before after : Rows) (id new : ℕ) : Type 0 where
+  -- There is a row.
+  pub row : Row
+  -- The ID names it in the old table.
+  pub at : row_of old id ≡ Some row
+  -- It was put into the other one, unless its state was there.
+  pub put_there : after ≡ put before row
+  -- The new ID names its state there.
+  pub named : Names after new row.state
+
+-- what keeping one more slot of an old table makes of the rows and the slots that are kept
+pub record KeepsSlot (old : Rows) (id : ℕ) (before after : Kept) : Type 0 where
+  -- It is kept as a clear keeps it.
+  pub value : after ≡ keep_slot old before id
+  -- Each slot has its start.
+  pub named : AllStarts after.table after.starts
+  -- There is at most one row more.
+  pub few : length after.table.rows ≤ length before.table.rows + 1
+  -- There is one slot more.
+  pub slots : length after.starts ≡ length before.starts + 1
+  -- The slots before it are as they were.
+  pub front : (slot : ℕ) → slot < length before.starts → slice_index after.starts slot ≡ slice_index before.starts slot
+  -- If its start state was cached, it is cached.
+  pub known : id < unknown_id → slice_index after.starts (length before.starts) < unknown_id
+  -- No state is there that neither table had.
+  pub absent : (q : Powerset) → id_of old q ≡ None → id_of before.table q ≡ None → id_of after.table q ≡ None
+  -- The rows are of the same machine.
+  pub of : after.table.of ≡ before.table.of
+
+-- what keeping the slots of an old table gives
+pub record KeepsAllStarts (old : Rows) (starts : List ℕ) (k : Kept) : Type 0 where
+  -- These rows and slots are kept.
+  pub value : k ≡ kept old starts
+  -- Each slot has its start.
+  pub named : AllStarts k.table k.starts
+  -- There are no more rows than slots.
+  pub few : length k.table.rows ≤ length starts
+  -- There are as many slots as before.
+  pub slots : length k.starts ≡ length starts
+  -- Each start state that was cached is cached.
+  pub known : KeepsStarts starts k.starts
+  -- No state is there that was not there before.
+  pub absent : (q : Powerset) → id_of old q ≡ None → id_of k.table q ≡ None
+  -- The rows are of the same machine.
+  pub of : k.table.of ≡ old.of

@@ -1,0 +1,73 @@
+-- What steps and searches do to a cache. A reset does more.
+use Rattle.std.specs.Prelude.{◌≡◌, ℕ, ◌+◌, ◌-◌, ◌*◌, ◌^◌, ◌<◌, ◌≤◌, ◌⊎◌, IsBitSet, length, slice_index, true}
+use Rattle.automata_base.specs.Powersets.Powerset.{Powerset}
+use Rattle.automata_hybrid.specs.Cache.Stores.{Stored, IsKnownStart, IsKnownTransition, KeepsStarts, cell_of}
+use Rattle.automata_hybrid.specs.Cache.Stores.{with_searched}
+use Rattle.automata_hybrid.specs.Cache.Usage.{row_usage, usage}
+use Rattle.automata_hybrid.specs.Cache.Caches.{CacheView}
+use Rattle.automata_hybrid.specs.Cache.Changes.{AreChanges}
+use Rattle.automata_hybrid.specs.Cache.Ids.{offset_limit}
+use Rattle.automata_config.specs.Options.{specialize_start_states_of}
+use Rattle.automata_hybrid.specs.Machines.Machine.{greatest, slot_count, start_of, table_stride}
+use Rattle.automata_hybrid.specs.Cache.Progress.{progress_cleared}
+use Rattle.automata_hybrid.specs.Cache.Table.{IsValid, Names, Rows}
+
+-- nothing is lost: each row, each cached start state and each cached transition is as it was
+pub record Keeps (old new : Stored) : Type 0 where
+  pub rows : (id : ℕ) (q : Powerset) → Names old.table id q → Names new.table id q
+  pub starts : (slot : ℕ) → IsKnownStart old slot → slice_index new.starts slot ≡ slice_index old.starts slot
+  pub cells :
+      (id class : ℕ) → IsValid old.table id → class < table_stride old.table.of → IsKnownTransition old id class
+      → cell_of new id class ≡ cell_of old id class
+
+-- nothing was cleared between: the count of clears is the same, and below the greatest number, where it would stay
+abbrev pub ClearedNothing : Stored → Stored → Type 0
+ClearedNothing old new = (new.clears ≡ old.clears) × (old.clears < 2 ^ 64 - 1)
+
+-- a step or a start moves no progress: it is as it was, and so is the count of clears; or, where something was
+-- cleared, it is as a clear makes it
+abbrev pub KeepsProgress : Stored → Stored → Type 0
+KeepsProgress old new =
+    ((new.clears ≡ old.clears) × (new.searched ≡ old.searched))
+    ⊎ ((ClearedNothing old new → ⊥) × (new.searched ≡ progress_cleared old.searched))
+
+-- there is room for so many more states, whatever they cost
+pub record HasRoom (c : Stored) (states : ℕ) : Type 0 where
+  pub capacity : usage c + states * (row_usage c.table.of + greatest c.table.of) ≤ c.table.of.capacity
+  pub offsets : (k : ℕ) → k < states → length c.table.cells + k * table_stride c.table.of < offset_limit
+
+-- a state's ID has the start tag
+abbrev pub HasStartTag : Rows → Powerset → Type 0
+HasStartTag t q = (id : ℕ) × Names t id q × IsBitSet id 28
+
+-- a state may get the start tag: start states are specialized, and it is that of a slot which is cached
+abbrev pub MayHaveStartTag : Stored → Powerset → Type 0
+MayHaveStartTag c q =
+    (specialize_start_states_of c.table.of.config ≡ true)
+    × ((slot : ℕ) × (slot < slot_count c.table.of) × IsKnownStart c slot × (q ≡ start_of c.table.of slot))
+
+-- nothing has changed but the progress of searches
+abbrev pub IsStill : CacheView → CacheView → Type 0
+IsStill old new = (new.count ≡ old.count) × (new.store ≡ with_searched old.store new.store.searched)
+
+-- a cache after steps and searches, by what it was before
+pub record IsGrown (old new : CacheView) : Type 0 where
+  pub of : new.store.table.of ≡ old.store.table.of
+  pub counted : old.count ≤ new.count
+  pub clears : old.store.clears ≤ new.store.clears
+  -- each determinization made one change: so a state that was added fitted, or the cache was cleared for it
+  pub made : AreChanges (new.count - old.count) old.store new.store
+  -- a start state that is cached stays cached, across clears too
+  pub starts : KeepsStarts old.store.starts new.store.starts
+  -- a state that did not have the start tag gets it only as a start state, and only if these are specialized
+  pub tagged :
+      (q : Powerset) → HasStartTag new.store.table q
+      → HasStartTag old.store.table q ⊎ MayHaveStartTag new.store q
+  -- if nothing was determinized, nothing has changed but the progress of searches
+  pub idle : new.count ≡ old.count → IsStill old new
+  -- with nothing cleared nothing is lost
+  pub kept : ClearedNothing old.store new.store → Keeps old.store new.store
+  -- nothing is cleared if there is room for as many states as are determinized
+  pub roomy :
+      (states : ℕ) → HasRoom old.store (states + (new.count - old.count))
+      → HasRoom new.store states × (new.store.clears ≡ old.store.clears)

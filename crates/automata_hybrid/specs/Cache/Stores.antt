@@ -1,0 +1,78 @@
+-- What contracts see of a cache, its starts and its transitions, and how one of these is written.
+use Rattle.std.specs.Prelude.{ℕ, ◌<◌, List, None, slice_index, slice_set, replicate}
+use Rattle.automata_hybrid.specs.declared.dfa.progress.Searched.{Searched}
+use Rattle.automata_hybrid.specs.declared.dfa.settings.Settings.{Settings}
+use Rattle.automata_config.specs.declared.error.StepError.{StepError}
+use Rattle.automata_config.specs.declared.error.StepError.TheVariants.{Cache, OutOfMemory}
+use Rattle.automata_hybrid.specs.Cache.Ids.{unknown_id}
+use Rattle.automata_hybrid.specs.Machines.Machine.{Machine, slot_count}
+use Rattle.automata_hybrid.specs.Cache.Table.{Rows, with_cell, cell_at, fresh}
+use Rattle.automata_config.specs.Options.{minimum_cache_clear_count_of, minimum_bytes_per_state_of}
+use Rattle.automata_base.specs.Powersets.Accounting.{fixed_cost}
+
+-- what contracts see of a cache
+pub record Stored : Type 0 where
+  pub table : Rows
+  pub starts : List ℕ
+  pub clears : ℕ
+  pub searched : Searched
+
+-- what the cache of a machine is bounded by
+abbrev pub settings_of : Machine → Settings
+settings_of m = record {
+  capacity = m.capacity;
+  fixed = fixed_cost m.nfa;
+  minimum_clear_count = minimum_cache_clear_count_of m.config;
+  minimum_bytes_per_state = minimum_bytes_per_state_of m.config;
+}
+
+-- with another table
+abbrev pub with_table : Stored → Rows → Stored
+with_table c t = record { table = t; starts = c.starts; clears = c.clears; searched = c.searched }
+
+-- a step failed for lack of room, and not of memory
+abbrev pub IsCacheError : StepError → Type 0
+IsCacheError (Cache e) = Unit {0}
+IsCacheError OutOfMemory = ⊥
+
+-- the cell of a row at a class: the ID that its transition leads to, or the unknown one
+abbrev pub cell_of : Stored → ℕ → ℕ → ℕ
+cell_of c id class = slice_index c.table.cells (cell_at id class)
+
+-- the transition is cached
+abbrev pub IsKnownTransition : Stored → ℕ → ℕ → Type 0
+IsKnownTransition c id class = cell_of c id class < unknown_id
+
+-- with a transition written
+abbrev pub with_next : Stored → ℕ → ℕ → ℕ → Stored
+with_next c id class next = with_table c (with_cell c.table id class next)
+
+-- with a start written
+abbrev pub with_start : Stored → ℕ → ℕ → Stored
+with_start c slot id = record {
+  table = c.table;
+  starts = slice_set c.starts slot id;
+  clears = c.clears;
+  searched = c.searched;
+}
+
+-- a cache that nothing was done to
+abbrev pub fresh_store : Machine → Stored
+fresh_store m = record {
+  table = fresh m;
+  starts = replicate (slot_count m) unknown_id;
+  clears = 0;
+  searched = record { bytes = 0; running = None };
+}
+
+-- the slot's start state is cached
+abbrev pub IsKnownStart : Stored → ℕ → Type 0
+IsKnownStart c slot = slice_index c.starts slot < unknown_id
+
+-- each start state that was cached is cached
+abbrev pub KeepsStarts : List ℕ → List ℕ → Type 0
+KeepsStarts old new = (slot : ℕ) → slice_index old slot < unknown_id → slice_index new slot < unknown_id
+
+-- with another progress
+abbrev pub with_searched : Stored → Searched → Stored
+with_searched c s = record { table = c.table; starts = c.starts; clears = c.clears; searched = s }

@@ -1,0 +1,177 @@
+-- What contracts see of the table: the rows of the states, and what their identifiers name.
+use Rattle.std.specs.Prelude.{◌≡◌, ℕ, ◌+◌, ◌*◌, ◌%◌, ◌<◌, ◌≤◌, ◌⊎◌, ◌↔◌, IsBitSet, List, [], ◌∷◌, ◌++◌, length, Bool}
+use Rattle.std.specs.Prelude.{true, cond, nat_lt, Option, None, Some, slice_index, slice_set, slice_get, replicate}
+use Rattle.std.specs.Prelude.{take, sum_by}
+use Rattle.std.specs.HashMap.{HashMap, get}
+use Rattle.std.specs.declared.hash.FoldHasher.{FoldHasher}
+use Rattle.std.specs.declared.hash.BuildHasherDefault.{BuildHasherDefault}
+use Rattle.automata_base.specs.Powersets.Powerset.{Powerset, cost}
+use Rattle.automata_base.specs.Powersets.Equal.{powerset_eq}
+use Rattle.automata_hybrid.specs.declared.dfa.row.Row.{Row}
+use Rattle.automata_base.specs.Powersets.Powerset.{dead}
+use Rattle.automata_hybrid.specs.Cache.Ids.{tags, dead_id, quit_id, unknown_id, offset_limit}
+use Rattle.automata_hybrid.specs.Machines.Machine.{Machine, next_of, greatest, template_of, IsStateOf, IsTemplate}
+use Rattle.automata_hybrid.specs.Machines.Machine.{table_stride}
+
+-- a state has patterns
+abbrev pub has_patterns : Powerset → Bool
+has_patterns q = nat_lt 0 (length q.patterns)
+
+-- the ID of a row at an offset
+abbrev pub row_id : ℕ → Row → ℕ
+row_id at r = at + tags r.started (has_patterns r.state)
+
+abbrev pub row_cost : Row → ℕ
+row_cost r = cost r.state
+
+-- what contracts see of a table: the rows after the three fixed ones, and all cells
+pub record Rows : Type 0 where
+  pub of : Machine
+  pub cells : List ℕ
+  pub rows : List Row
+
+-- the ID that rows give a state, the first of them standing at an offset
+abbrev pub find_id : ℕ → ℕ → Powerset → List Row → Option ℕ
+find_id s at q [] = None
+find_id s at q (r ∷ rs) = cond (powerset_eq q r.state) (Some (row_id at r)) (find_id s (at + s) q rs)
+
+-- the ID that a table has for a state
+abbrev pub id_of : Rows → Powerset → Option ℕ
+id_of t q = find_id (table_stride t.of) (3 * table_stride t.of) q t.rows
+
+-- a state that is not dead, and that no row has
+abbrev pub Lacks : Rows → Powerset → Type 0
+Lacks t q = (id_of t q ≡ None) × (q ≡ dead → ⊥)
+
+-- this ID, tags included, is that of the row of this state
+abbrev pub Names : Rows → ℕ → Powerset → Type 0
+Names t id q = id_of t q ≡ Some id
+
+-- an ID has the match tag exactly if the state that it names has patterns
+abbrev pub HasItsMatchTag : Rows → ℕ → Type 0
+HasItsMatchTag t id = (q : Powerset) → Names t id q → IsBitSet id 27 ↔ (0 < length q.patterns)
+
+-- a state that was there and is there has the start tag now exactly if it had it
+abbrev pub KeepsStartTags : Rows → Rows → Type 0
+KeepsStartTags old new =
+    (q : Powerset) (before now : ℕ) → Names old before q → Names new now q → IsBitSet before 28 ↔ IsBitSet now 28
+
+-- a state that was added has the start tag exactly if it was to have it
+abbrev pub TagsNewStates : Rows → Rows → Bool → Type 0
+TagsNewStates old new started =
+    (q : Powerset) (id : ℕ) → id_of old q ≡ None → Names new id q → IsBitSet id 28 ↔ (started ≡ true)
+
+-- some row has this state
+pub record Has (t : Rows) (q : Powerset) : Type 0 where
+  pub id : ℕ
+  pub named : Names t id q
+
+-- the dead ID for the dead state, and else a row's
+abbrev pub Leads : Rows → ℕ → Powerset → Type 0
+Leads t id q = ((id ≡ dead_id (table_stride t.of)) × (q ≡ dead)) ⊎ Names t id q
+
+-- a cell that is not cached, or that names what it should
+abbrev pub MayLead : Rows → ℕ → Powerset → Type 0
+MayLead t id q = (id ≡ unknown_id) ⊎ Leads t id q
+
+-- what stands in a cell of a state's row: quit at quit classes, and else what names the next state or nothing yet
+abbrev pub IsCell : Rows → Powerset → ℕ → ℕ → Type 0
+IsCell t q class id =
+    ((slice_index (template_of t.of) class ≡ quit_id (table_stride t.of)) × (id ≡ quit_id (table_stride t.of)))
+    ⊎ ((slice_index (template_of t.of) class ≡ unknown_id) × MayLead t id (next_of t.of q class))
+
+-- the three fixed rows
+abbrev pub fixed_rows : ℕ → List ℕ
+fixed_rows s = replicate s unknown_id ++ (replicate s (dead_id s) ++ replicate s (quit_id s))
+
+-- the fixed rows alone
+abbrev pub fresh : Machine → Rows
+fresh m = record { of = m; cells = fixed_rows (table_stride m); rows = [] }
+
+-- with one more row
+abbrev pub with_row : Rows → Row → Rows
+with_row t r = record { of = t.of; cells = t.cells ++ template_of t.of; rows = t.rows ++ r ∷ [] }
+
+-- the map from states to IDs
+abbrev pub StateMap : Type 0
+StateMap = HashMap Powerset ℕ (BuildHasherDefault FoldHasher)
+
+-- each cached cell of a row names the next state of that row's state
+abbrev pub IsStepped : Rows → Type 0
+IsStepped t =
+    (k class : ℕ) (r : Row) → slice_get t.rows k ≡ Some r → class < table_stride t.of
+    → IsCell t r.state class (slice_index t.cells ((k + 3) * table_stride t.of + class))
+
+-- each row is found by its state, so no two rows have one state
+abbrev pub IsDistinct : Rows → Type 0
+IsDistinct t =
+    (k : ℕ) (r : Row) → slice_get t.rows k ≡ Some r → Names t (row_id ((k + 3) * table_stride t.of) r) r.state
+
+-- each row is found by its state, and stands below the limit of offsets
+abbrev pub HasRowIds : Rows → Type 0
+HasRowIds t =
+    (k : ℕ) (r : Row) → slice_get t.rows k ≡ Some r
+    → Names t (row_id ((k + 3) * table_stride t.of) r) r.state × ((k + 3) * table_stride t.of < offset_limit)
+
+-- no row has the dead state; each costs no more than a state may, and is a state of the DFA
+abbrev pub IsAlive : Rows → Type 0
+IsAlive t =
+    (k : ℕ) (r : Row) → slice_get t.rows k ≡ Some r
+    → (r.state ≡ dead → ⊥) × (cost r.state ≤ greatest t.of) × IsStateOf t.of r.state
+
+-- rows and cells fit each other: the fixed rows come first, no state has two rows, and each cached cell leads where its
+-- row's state goes
+pub record AreRows (t : Rows) : Type 0 where
+  pub whole : length t.cells ≡ (length t.rows + 3) * table_stride t.of
+  pub small : length t.cells < offset_limit + table_stride t.of
+  pub fixed : take (3 * table_stride t.of) t.cells ≡ fixed_rows (table_stride t.of)
+  pub stepped : IsStepped t
+  pub distinct : IsDistinct t
+  pub alive : IsAlive t
+
+-- the table, the states and the map fit each other
+pub record IsTable (t : Rows) (map : StateMap) (costs : ℕ) : Type 0 where
+  pub template : IsTemplate (table_stride t.of) (template_of t.of)
+  pub whole : length t.cells ≡ (length t.rows + 3) * table_stride t.of
+  pub small : length t.cells < offset_limit + table_stride t.of
+  pub fixed : take (3 * table_stride t.of) t.cells ≡ fixed_rows (table_stride t.of)
+  pub stepped : IsStepped t
+  pub distinct : IsDistinct t
+  pub alive : IsAlive t
+  pub mapped : (q : Powerset) → get powerset_eq map q ≡ id_of t q
+  pub costs_of : costs ≡ sum_by row_cost t.rows
+
+-- some row has exactly this ID
+abbrev pub IsValid : Rows → ℕ → Type 0
+IsValid t id = (q : Powerset) × Names t id q
+
+-- the row at a place has this state
+abbrev pub HasState : Rows → ℕ → Powerset → Type 0
+HasState t k q = (r : Row) × (slice_get t.rows k ≡ Some r) × (r.state ≡ q)
+
+-- the place of a cell
+abbrev pub cell_at : ℕ → ℕ → ℕ
+cell_at id class = id % offset_limit + class
+
+-- a state that may be added to a table
+pub record IsNewState (t : Rows) (q : Powerset) : Type 0 where
+  -- No row has it, and it is not dead.
+  pub lacks : Lacks t q
+  -- It costs no more than a state may.
+  pub cheap : cost q ≤ greatest t.of
+  -- It is a state of the DFA.
+  pub own : IsStateOf t.of q
+
+-- each row has a cell for each class
+abbrev pub HasCells : Rows → Type 0
+HasCells t = (id class : ℕ) → IsValid t id → class < table_stride t.of → cell_at id class < length t.cells
+
+-- with a cell written
+abbrev pub with_cell : Rows → ℕ → ℕ → ℕ → Rows
+with_cell t id class next = record { of = t.of; cells = slice_set t.cells (cell_at id class) next; rows = t.rows }
+
+-- the parts that a table holds are its machine's
+pub record IsHeld (t : Rows) (s : ℕ) (row : List ℕ) (map : StateMap) (costs : ℕ) : Type 0 where
+  pub table : IsTable t map costs
+  pub stride : s ≡ table_stride t.of
+  pub template : row ≡ template_of t.of

@@ -1,0 +1,85 @@
+-- The accounted bytes of a cache, what fits, and when a clear is not allowed.
+use Rattle.std.specs.Prelude.{◌≡◌, ℕ, ◌+◌, ◌*◌, ◌^◌, ◌<◌, ◌≤◌, length, Bool, true, false, cond, Option, None, Some}
+use Rattle.std.specs.Prelude.{sum_by, nat_lt}
+use Rattle.automata_base.specs.Powersets.Powerset.{Powerset, cost}
+use Rattle.automata_base.specs.Powersets.Accounting.{cell_size, entry_size, fixed_cost, fixed_rows_cost}
+use Rattle.automata_base.specs.Powersets.Accounting.{minimum_capacity}
+use Rattle.automata_base.specs.Powersets.Accounting.{row_size}
+use Rattle.automata_hybrid.specs.declared.dfa.settings.Settings.{Settings}
+use Rattle.automata_hybrid.specs.Cache.Ids.{offset_limit}
+use Rattle.automata_hybrid.specs.Machines.Machine.{Machine, greatest, table_stride, slot_count}
+use Rattle.automata_hybrid.specs.Cache.Table.{Rows, row_cost, Lacks}
+use Rattle.automata_hybrid.specs.Cache.Clears.{AllStarts, KeepsAllStarts, kept}
+use Rattle.automata_hybrid.specs.Cache.Progress.{saturated, total_len, progress_cleared}
+use Rattle.automata_hybrid.specs.Cache.Stores.{Stored, settings_of}
+use Rattle.automata_config.specs.Options.{minimum_cache_clear_count_of, minimum_bytes_per_state_of}
+
+-- the accounted bytes: those of the cells and of the slots, of the rows with the three fixed ones, and of their places
+-- in the map, which has one of these three; the costs of all states, and the room for determinization
+abbrev pub usage_by : Rows → ℕ → ℕ → ℕ
+usage_by t slots fixed =
+    cell_size * length t.cells + cell_size * slots + row_size * (length t.rows + 3) + entry_size * (length t.rows + 1)
+    + fixed_rows_cost + sum_by row_cost t.rows + fixed
+
+-- those of a cache
+abbrev pub usage : Stored → ℕ
+usage c = usage_by c.table (length c.starts) (fixed_cost c.table.of.nfa)
+
+-- what a new row takes beside the cost of its state: its cells, and its places in the list and in the map
+abbrev pub row_usage : Machine → ℕ
+row_usage m = cell_size * table_stride m + (row_size + entry_size)
+
+-- a new state of this cost fits, and so does its row's offset
+abbrev pub Fits : Stored → ℕ → Type 0
+Fits c extra =
+    (usage c + row_usage c.table.of + extra ≤ c.table.of.capacity) × (length c.table.cells < offset_limit)
+
+-- too few bytes were searched for so many states, where a number for each is set
+abbrev pub short_of : Option ℕ → ℕ → ℕ → Bool
+short_of None states searched = true
+short_of (Some bytes) states searched = nat_lt searched (saturated (bytes * states))
+
+-- a clear is allowed up to the limit, and past it only if enough bytes were searched since the last one
+abbrev pub refuses_at : Option ℕ → Stored → Bool
+refuses_at None c = false
+refuses_at (Some limit) c =
+    cond (nat_lt c.clears limit) false (short_of (minimum_bytes_per_state_of c.table.of.config)
+    (length c.table.rows + 3) (total_len c.searched))
+
+-- the clear rule
+abbrev pub refuses_to_clear : Stored → Bool
+refuses_to_clear c = refuses_at (minimum_cache_clear_count_of c.table.of.config) c
+
+-- a clear that keeps the start states
+abbrev pub cleared : Stored → Stored
+cleared c = record {
+  table = (kept c.table c.starts).table;
+  starts = (kept c.table c.starts).starts;
+  clears = saturated (c.clears + 1);
+  searched = progress_cleared c.searched;
+}
+
+-- what a clear makes of a cache
+pub record IsCleared (old new : Stored) : Type 0 where
+  -- The clear rule allows it.
+  pub allowed : refuses_to_clear old ≡ false
+  -- The start states stay, and the progress of searches begins anew.
+  pub value : new ≡ cleared old
+  -- Each slot is kept, and no other row.
+  pub kept : KeepsAllStarts old.table old.starts (record { table = new.table; starts = new.starts })
+
+-- the slots name their states, and the accounted bytes are within the capacity; these settings are those of the machine
+pub record IsCache (c : Stored) (settings : Settings) : Type 0 where
+  pub named : AllStarts c.table c.starts
+  pub within : usage c ≤ c.table.of.capacity
+  pub enough :
+      minimum_capacity (table_stride c.table.of) (length c.starts) (greatest c.table.of) (fixed_cost c.table.of.nfa)
+      ≤ c.table.of.capacity
+  pub offsets : (length c.starts + 4) * table_stride c.table.of < offset_limit
+  pub slots : length c.starts ≡ slot_count c.table.of
+  pub same : settings ≡ settings_of c.table.of
+  pub bounded : c.table.of.capacity < 2 ^ 64
+
+-- why a call gives up at a state: it is not there, it does not fit, and the clear rule does not allow a clear
+abbrev pub GivesUp : Stored → Powerset → Type 0
+GivesUp c q = Lacks c.table q × (Fits c (cost q) → ⊥) × (refuses_to_clear c ≡ true)

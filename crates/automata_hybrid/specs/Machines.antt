@@ -1,0 +1,5 @@
+pub mod Machine
+pub mod Fields
+pub mod Builds
+pub mod OwnStates
+pub mod StartSlots

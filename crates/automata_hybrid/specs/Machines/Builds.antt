@@ -1,0 +1,37 @@
+-- What a machine is built from, and the automata of the two DFAs that need none.
+use Rattle.std.specs.Prelude.{ℕ, ◌≡◌, List, [], ◌∷◌, false}
+use Rattle.automata_base.specs.Nfas.Automata.{automaton}
+use Rattle.automata_base.specs.Nfas.Nodes.{Automaton}
+use Rattle.automata_base.specs.declared.nfa.thompson.State.{State}
+use Rattle.automata_base.specs.declared.nfa.thompson.State.TheVariants.{Match, Fail}
+use Rattle.automata_config.specs.Options.{Options}
+use Rattle.automata_config.specs.Settled.{Settled}
+use Rattle.automata_config.specs.Settling.{IsSettled}
+use Rattle.automata_hybrid.specs.Machines.Machine.{Machine}
+
+-- the machine of an automaton, its settings, and what was settled
+abbrev pub built : Options → Automaton → Settled → Machine
+built o a s = record {
+  nfa = a;
+  config = o;
+  classes = s.classes;
+  quits = s.quits;
+  capacity = s.capacity;
+}
+
+-- the machine is what settings make of an automaton
+abbrev pub Builds : Options → Automaton → Machine → Type 0
+Builds o a m = (s : Settled) × IsSettled o a s × (m ≡ built o a s)
+
+-- the automaton of one state, by the default flags, and these starts of its patterns
+abbrev pub one_state : State → List ℕ → Automaton
+one_state state starts =
+    automaton (state ∷ []) 0 0 starts (record { utf8 = false; reverse = false; line_terminator = 10 })
+
+-- the automaton of one pattern, which matches everywhere
+abbrev pub always_matching : Automaton
+always_matching = one_state (Match 0) (0 ∷ [])
+
+-- the automaton of no pattern, which matches nowhere
+abbrev pub never_matching : Automaton
+never_matching = one_state Fail []

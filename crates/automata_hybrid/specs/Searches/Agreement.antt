@@ -1,0 +1,29 @@
+-- That answers agree, over whatever caches and by DFAs that differ in settings alone.
+use Rattle.std.specs.Prelude.{ℕ, ◌≡◌, Option}
+use Rattle.automata_base.specs.Answers.Answers.{Half}
+use Rattle.automata_base.specs.Haystacks.Input.{Input}
+use Rattle.automata_base.specs.Haystacks.Tapes.{Direction}
+use Rattle.automata_hybrid.specs.Machines.Machine.{Machine}
+use Rattle.automata_hybrid.specs.Searches.Passes.{IsFound}
+use Rattle.automata_hybrid.specs.Walks.Answers.{HasTold, TellsNext}
+use Rattle.automata_hybrid.specs.Walks.State.{Walk}
+use Rattle.automata_config.specs.Options.{match_kind_of}
+
+-- Searches over two caches of one DFA find the same, and so do two DFAs of one automaton and one kind, in whatever else
+-- they differ: capacity, limits, byte classes, tags of starts, quit bytes.
+abbrev pub AnswersAgree : Type 0
+AnswersAgree =
+    (way : Direction) (m other : Machine) (input : Input) (first second : Option Half)
+    → m.nfa ≡ other.nfa → match_kind_of m.config ≡ match_kind_of other.config
+    → IsFound way m input first → IsFound way other input second
+    → first ≡ second
+
+-- Two walks over one input that have each reported `k` pairs report the same match by the next call that answers,
+-- whatever cache it uses; and so do walks of two DFAs of one NFA and one match kind.
+abbrev pub WalksAgree : Machine → Type 0
+WalksAgree m =
+    (way : Direction) (other : Machine) (input : Input) (first second first_told second_told : Walk) (k : ℕ)
+    → other.nfa ≡ m.nfa → match_kind_of other.config ≡ match_kind_of m.config
+    → HasTold way m input first k → HasTold way other input second k
+    → TellsNext way m input first first_told → TellsNext way other input second second_told
+    → first_told.found ≡ second_told.found

@@ -1,0 +1,125 @@
+-- What a search answers by its DFA and its input alone, whatever the cache, and what it makes of its cache.
+use Rattle.std.specs.Prelude.{ℕ, ◌≡◌, ◌<◌, ◌≤◌, length, true, false, Option, None, option_map, Result, Ok, Err, IfOk}
+use Rattle.std.specs.Prelude.{IfErr}
+use Rattle.std.specs.Prelude.{IfSome, OnOk}
+use Rattle.automata_base.specs.Answers.Answers.{Half, IsAnswer}
+use Rattle.automata_base.specs.Nfas.Engines.{engine_of}
+use Rattle.automata_base.specs.Haystacks.Input.{Input}
+use Rattle.automata_base.specs.Haystacks.Matches.{HalfMatch}
+use Rattle.automata_base.specs.Nfas.Nodes.{nfa_of}
+use Rattle.automata_base.specs.Paths.Paths.{IsLookAcyclic}
+use Rattle.automata_base.specs.Haystacks.Tapes.{Direction, Forward}
+use Rattle.automata_base.specs.Answers.OfPasses.{IsNearestAnswer, IsFarthestAnswer}
+use Rattle.automata_base.specs.declared.util.search.MatchErrorKind.TheVariants.{UnsupportedAnchored as UnsupportedMode}
+use Rattle.automata_base.specs.declared.util.search.MatchKind.TheVariants.{All as KindAll}
+use Rattle.automata_config.specs.declared.error.SearchError.{SearchError}
+use Rattle.automata_config.specs.declared.error.SearchError.TheVariants as search
+use Rattle.automata_hybrid.specs.Cache.Stores.{Stored}
+use Rattle.automata_hybrid.specs.Cache.Usage.{usage}
+use Rattle.automata_hybrid.specs.Cache.Caches.{CacheView}
+use Rattle.automata_hybrid.specs.Searches.Costs.{IsCostOfSearch}
+use Rattle.automata_hybrid.specs.Cache.Growth.{ClearedNothing, IsGrown, IsStill}
+use Rattle.automata_hybrid.specs.Searches.Cached.{IsOfInput, Knows}
+use Rattle.automata_hybrid.specs.Cache.Clears.{AllStarts}
+use Rattle.automata_hybrid.specs.Machines.Machine.{Machine, slot_count}
+use Rattle.automata_hybrid.specs.Cache.Table.{AreRows}
+use Rattle.automata_hybrid.specs.Searches.Progress.{EndsProgress, LeavesProgress}
+use Rattle.automata_hybrid.specs.Searches.Passes.{IsFound, IsRefused, NoQuitInReach, WithoutBase, tape_in, with_base}
+use Rattle.automata_hybrid.specs.Machines.StartSlots.{supports}
+use Rattle.automata_hybrid.specs.Steps.Starts.{quit_behind}
+use Rattle.automata_hybrid.specs.Searches.Within.{LiesIn, LiesPast}
+use Rattle.automata_config.specs.Options.{match_kind_of, minimum_cache_clear_count_of}
+
+-- a cache of this DFA: its rows fit together, each start slot has its own start or none yet, and its accounted bytes
+-- are within the settings
+pub record IsStoreOf (c : Stored) (m : Machine) : Type 0 where
+  pub of : c.table.of ≡ m
+  pub rows : AreRows c.table
+  pub starts : AllStarts c.table c.starts
+  pub slots : length c.starts ≡ slot_count m
+  pub within : usage c ≤ m.capacity
+
+-- the error is out of memory
+abbrev pub IsMemory : SearchError → Type 0
+IsMemory e = e ≡ search.OutOfMemory
+
+-- nothing but a lack of memory can prevent an answer: no quit byte is in reach, the anchored mode is supported, and no
+-- limit on clears is set
+pub record IsUnhindered (m : Machine) (input : Input) : Type 0 where
+  pub reach : NoQuitInReach m input
+  pub supported : supports m input.anchored ≡ true
+  pub clears : minimum_cache_clear_count_of m.config ≡ None
+
+-- the span is not done, the look-behind byte is no quit byte, and the anchored mode is not supported
+pub record IsUnsupported (way : Direction) (m : Machine) (input : Input) : Type 0 where
+  pub undone : input.start ≤ input.end
+  pub behind : quit_behind m (tape_in way input).before ≡ None
+  pub mode : supports m input.anchored ≡ false
+
+abbrev pub unsupported_error : Input → SearchError
+unsupported_error input = search.Match (UnsupportedMode input.anchored)
+
+-- over some cache of the DFA, within its settings, the search may fail so
+abbrev pub MayRefuse : Direction → Machine → Input → SearchError → Type 0
+MayRefuse way m input e = (c : Stored) × IsStoreOf c m × IsRefused way m c input e
+
+-- what a search in a direction returns: an option, seen as an answer by `Is`, which lies where `Lies` says
+pub record IsAnswered {A : Type 0} (Is : (Option Half → Type 0) → Option A → Type 0) (Lies : Option A → Type 0)
+    (way : Direction) (m : Machine) (input : Input) (result : Result (Option A) SearchError) : Type 0 where
+  -- for every NFA, what the passes report
+  pub found : IfOk result (Is (IsFound way m input))
+  -- if no cycle passes a look, the answer of the ordered paths
+  pub answer :
+      IsLookAcyclic (nfa_of m.nfa) → IfOk result (Is (IsAnswer way (engine_of m.nfa (match_kind_of m.config)) input))
+  -- for every NFA, the nearest end in an earliest search, and in any other under `MatchKind::All` the farthest one
+  pub nearest :
+      input.earliest ≡ true → IfOk result (Is (IsNearestAnswer way (engine_of m.nfa (match_kind_of m.config)) input))
+  pub farthest :
+      input.earliest ≡ false → match_kind_of m.config ≡ KindAll
+      → IfOk result (Is (IsFarthestAnswer way (engine_of m.nfa (match_kind_of m.config)) input))
+  -- it lies in the input's span, and its pattern is one of the NFA's
+  pub within : IfOk result Lies
+  -- an error is one that some cache may give
+  pub errors : IfErr result (MayRefuse way m input)
+  -- an anchored mode that is not supported is reported
+  pub unsupported : IsUnsupported way m input → result ≡ Err (unsupported_error input)
+  -- if nothing else can prevent an answer, the only error is out of memory
+  pub free : IsUnhindered m input → IfErr result IsMemory
+  -- in a span that is done there is no match
+  pub done : input.end < input.start → result ≡ Ok None
+
+-- what a search in a direction returns: a match's pattern and end, or none
+abbrev pub IsHalf : Direction → Machine → Input → Result (Option HalfMatch) SearchError → Type 0
+IsHalf way m input result = IsAnswered WithoutBase (λ o. IfSome o (LiesIn m input)) way m input result
+
+-- an answer with the start of the span that gave it
+abbrev pub based_half : Option (HalfMatch × ℕ) → Option Half
+based_half = option_map (λ p. with_base p.0 p.1)
+
+-- answers without it
+abbrev pub halves : Result (Option (HalfMatch × ℕ)) SearchError → Result (Option HalfMatch) SearchError
+halves (Ok found) = Ok (option_map (λ p. p.0) found)
+halves (Err e) = Err e
+
+-- what a forward search returns, with the start of the span that gave it
+abbrev pub IsBased : Machine → Input → Result (Option (HalfMatch × ℕ)) SearchError → Type 0
+IsBased m input result =
+    IsAnswered (λ P o. P (based_half o)) (λ o. IfSome o (λ p. LiesPast m input p.0 p.1)) Forward m input result
+
+-- what a search in a direction makes of its cache
+pub record IsSearchEffect {T : Type 0} (way : Direction) (m : Machine) (input : Input) (old new : CacheView)
+    (result : Result T SearchError) : Type 0 where
+  -- a pass over n bytes determinizes at most n + 2 times, and each is over another span that is tried: one, if no place
+  -- is skipped or the search is anchored; nothing is cleared if there is room for as many states
+  pub cost : IsCostOfSearch way m input old new
+  -- until the next clear nothing is lost
+  pub grown : IsGrown old new
+  -- and all that it used is cached
+  pub learned : ClearedNothing old.store new.store → OnOk result (Knows way m new.store input)
+  -- with all that cached, it takes no memory and changes nothing but the progress
+  pub known : Knows way m old.store input → IsStill old new × IfErr result IsOfInput
+  -- the searched bytes, and the search that is open: what its passes leave one after another
+  pub ended : OnOk result (EndsProgress way m input old.store new.store)
+  pub left : IfErr result (LeavesProgress way m input old.store new.store)
+  -- with a span that is done, nothing at all
+  pub done : input.end < input.start → new ≡ old

@@ -1,0 +1,63 @@
+-- How often searches determinize, and when they clear nothing.
+use Rattle.std.specs.Prelude.{ℕ, zero, suc, ◌≡◌, ◌+◌, ◌-◌, ◌*◌, ◌<◌, ◌≤◌}
+use Rattle.automata_base.specs.Answers.Answers.{Tries, later}
+use Rattle.automata_base.specs.Haystacks.Input.{Input}
+use Rattle.automata_base.specs.Haystacks.Tapes.{Direction, Forward}
+use Rattle.automata_base.specs.declared.util.search.Anchored.TheVariants.{No}
+use Rattle.automata_hybrid.specs.Cache.Caches.{CacheView}
+use Rattle.automata_hybrid.specs.Cache.Growth.{HasRoom}
+use Rattle.automata_hybrid.specs.Searches.Cached.{KnowsItsStart}
+use Rattle.automata_hybrid.specs.Machines.Machine.{Machine}
+use Rattle.automata_hybrid.specs.Searches.Passes.{Finds, Skips}
+
+-- the most determinizations of so many passes, the first over so many bytes and each later one over one byte less: a
+-- pass determinizes at most once for each byte, for its start and at its end
+abbrev pub passes_most : (passes bytes : ℕ) → ℕ
+passes_most zero bytes = 0
+passes_most (suc passes) bytes = passes_most passes bytes + (bytes - passes + 2)
+
+-- what a pass over the span of an input costs a cache
+pub record IsCostOfPass (way : Direction) (m : Machine) (input : Input) (old new : CacheView) : Type 0 where
+  pub counted : new.count ≤ old.count + (input.end - input.start + 2)
+  -- a start state that is cached is not determinized again
+  pub started : KnowsItsStart way m old.store input → new.count ≤ old.count + (input.end - input.start + 1)
+  -- where there is room for as many states, nothing is cleared
+  pub room : HasRoom old.store (input.end - input.start + 2) → new.store.clears ≡ old.store.clears
+
+-- what so many passes cost it one after another, each over the next span that is tried
+abbrev pub AreCostsInTurn : Direction → Machine → Input → (passes : ℕ) → CacheView → CacheView → Type 0
+AreCostsInTurn way m input zero old new = new ≡ old
+AreCostsInTurn way m input (suc passes) old new =
+    (between : CacheView) × AreCostsInTurn way m input passes old between
+    × IsCostOfPass way m (later way passes input) between new
+
+-- what so many passes of a search cost a cache
+pub record IsCostOfPasses (way : Direction) (m : Machine) (input : Input) (passes : ℕ)
+    (old new : CacheView) : Type 0 where
+  -- each is over a span that the search tries
+  pub tried : (k : ℕ) → k < passes → Tries (Finds way m) (Skips m) way input k × (input.start + k ≤ input.end)
+  -- each costs what a pass over its span may; and so all of them together
+  pub each : AreCostsInTurn way m input passes old new
+  pub counted : new.count ≤ old.count + passes_most passes (input.end - input.start)
+  -- a start state that is cached is not determinized again: where those of all are, each pass determinizes once less
+  pub started :
+      ((k : ℕ) → k < passes → KnowsItsStart way m old.store (later way k input))
+      → new.count + passes ≤ old.count + passes_most passes (input.end - input.start)
+  -- where there is room for as many states, nothing is cleared
+  pub room : HasRoom old.store (passes_most passes (input.end - input.start)) → new.store.clears ≡ old.store.clears
+
+-- a search costs what its passes do: one, where no place is skipped or it is anchored
+abbrev pub IsCostOfSearch : Direction → Machine → Input → CacheView → CacheView → Type 0
+IsCostOfSearch way m input old new = (passes : ℕ) × IsCostOfPasses way m input passes old new
+
+-- How often a search determinizes by the bytes of its span alone: as one pass may, if no place is skipped or the search
+-- is anchored; and else no more than a pass over the whole span for each of its places.
+abbrev pub SearchesCostFew : Type 0
+SearchesCostFew =
+    (way : Direction) (m : Machine) (input : Input) (old new : CacheView) → IsCostOfSearch way m input old new
+    → ((Skips m × (input.anchored ≡ No) → ⊥) → new.count ≤ old.count + (input.end - input.start + 2))
+    × (new.count ≤ old.count + (input.end - input.start + 1) * (input.end - input.start + 2))
+
+-- a forward search with an answer costs its passes up to the span that gave it, which begins at a base
+abbrev pub IsCostUpto : Machine → Input → (base : ℕ) → (old new : CacheView) → Type 0
+IsCostUpto m input base old new = IsCostOfPasses Forward m input (base - input.start + 1) old new

@@ -1,0 +1,116 @@
+-- A pass under way: what the functions of a search keep from unit to unit.
+use Rattle.std.specs.Prelude.{ℕ, suc, ◌≡◌, ◌-◌, ◌<◌, ◌≤◌, IsBitSet, List, [], ◌∷◌, true, false, Option, Some, None}
+use Rattle.automata_base.specs.Answers.Answers.{offset_in}
+use Rattle.automata_base.specs.ByteClasses.Classes.{is_quit}
+use Rattle.automata_base.specs.Haystacks.Input.{Input}
+use Rattle.automata_base.specs.Haystacks.Matches.{HalfMatch}
+use Rattle.automata_base.specs.Paths.Paths.{next}
+use Rattle.automata_base.specs.Powersets.Powerset.{Powerset, dead}
+use Rattle.automata_base.specs.Paths.Selections.{Pair}
+use Rattle.automata_base.specs.Haystacks.Tapes.{Direction}
+use Rattle.automata_base.specs.Answers.OfPasses.{told_over}
+use Rattle.automata_base.specs.declared.util.search.MatchErrorKind.TheVariants.{GaveUp}
+use Rattle.automata_config.specs.declared.error.StepError.{StepError}
+use Rattle.automata_config.specs.declared.error.StepError.TheVariants as step
+use Rattle.automata_config.specs.declared.error.SearchError.{SearchError}
+use Rattle.automata_config.specs.declared.error.SearchError.TheVariants as search
+use Rattle.automata_hybrid.specs.Machines.Machine.{Machine, table_stride}
+use Rattle.automata_hybrid.specs.Cache.Table.{Rows, Names, Leads}
+use Rattle.automata_hybrid.specs.Searches.Passes.{HasReadNoQuit, Reads, tape_in, state_in, told_in}
+use Rattle.automata_hybrid.specs.Cache.Stores.{Stored}
+use Rattle.automata_hybrid.specs.Searches.Cached.{KnowsItsStart, KnowsUnit}
+use Rattle.automata_hybrid.specs.Cache.Ids.{HasOnly, IsRunTag, unknown_id}
+use Rattle.automata_hybrid.specs.Steps.Steps.{known_step, unit_class}
+use Rattle.automata_config.specs.Options.{match_kind_of}
+
+-- a pair of a pass as a half match: its place is an offset
+abbrev pub half_of : Direction → Input → Option Pair → Option HalfMatch
+half_of way input None = None
+half_of way input (Some pair) = Some (record { pattern = pair.pattern; offset = offset_in way input pair.place })
+
+-- what was found last, once these patterns are reported at an offset
+abbrev pub half_at : List ℕ → ℕ → Option HalfMatch → Option HalfMatch
+half_at [] at found = found
+half_at (pattern ∷ patterns) at found = Some (record { pattern = pattern; offset = at })
+
+-- what a pass over the span of an input finds
+abbrev pub found_over : Direction → Machine → Input → Option HalfMatch
+found_over way m input = half_of way input (told_over way m.nfa (match_kind_of m.config) input)
+
+-- a pass has read `k` units, none a quit byte: the ID names its state there, and this was found
+pub record IsAt (way : Direction) (m : Machine) (t : Rows) (input : Input) (k id : ℕ) (found : Option HalfMatch) :
+    Type 0 where
+  pub named : Names t id (state_in way m input k)
+  pub told : found ≡ half_of way input (told_in way m input k)
+  pub nothing : input.earliest ≡ true → found ≡ None
+  pub clean : HasReadNoQuit way m input k
+
+-- an ID has the dead tag exactly if it leads to the dead state, which no row has
+abbrev pub IsDeadTagged : Rows → ℕ → Type 0
+IsDeadTagged t id = (q : Powerset) → Leads t id q → (IsBitSet id 30 → q ≡ dead) × ((IsBitSet id 30 → ⊥) → Names t id q)
+
+-- the error of a step, as a search reports it at an offset
+abbrev pub step_refusal : StepError → (at : ℕ) → SearchError
+step_refusal (step.Cache err) at = search.Match (GaveUp at)
+step_refusal step.OutOfMemory at = search.OutOfMemory
+
+-- the transition on the unit at place `k` is cached, at a class that rows have
+abbrev pub HasLearnedUnit : Direction → Machine → Stored → Input → ℕ → Type 0
+HasLearnedUnit way m c input k =
+    KnowsUnit way m c input k × (unit_class m (next (tape_in way input) k) < table_stride c.table.of)
+
+-- the unit at place `k` is no quit byte, its transition is cached, and the state after it reports nothing
+pub record IsQuiet (way : Direction) (m : Machine) (c : Stored) (input : Input) (k : ℕ) : Type 0 where
+  pub clean : (byte : ℕ) → next (tape_in way input) k ≡ Some byte → is_quit m.quits byte ≡ false
+  pub known : HasLearnedUnit way m c input k
+  pub silent : (state_in way m input (suc k)).patterns ≡ []
+
+-- an offset lies between two others
+pub record IsBetween (low high at : ℕ) : Type 0 where
+  pub from : low ≤ at
+  pub upto : at ≤ high
+
+-- cached transitions led a pass from its first `from` units on to this ID after its first `to`; none of them reported
+-- anything
+pub record IsFollowed (way : Direction) (m : Machine) (c : Stored) (input : Input) (from to id : ℕ) : Type 0 where
+  pub more : from ≤ to
+  pub named : Names c.table id (state_in way m input to)
+  pub quiet : (k : ℕ) → from ≤ k → k < to → IsQuiet way m c input k
+
+-- the unit at place `k` is no quit byte, and its transition is cached
+pub record IsTaken (way : Direction) (m : Machine) (c : Stored) (input : Input) (k : ℕ) : Type 0 where
+  pub clean : (byte : ℕ) → next (tape_in way input) k ≡ Some byte → is_quit m.quits byte ≡ false
+  pub known : HasLearnedUnit way m c input k
+
+-- cached transitions led a pass from its first `from` units on, to this ID after its first `to`, whatever they reported
+pub record IsLed (way : Direction) (m : Machine) (c : Stored) (input : Input) (from to id : ℕ) : Type 0 where
+  pub more : from ≤ to
+  pub named : Names c.table id (state_in way m input to)
+  pub taken : (k : ℕ) → from ≤ k → k < to → IsTaken way m c input k
+
+-- a pass has read `k` units: the ID names its state there, and has this tag, none or that of a match, and no other
+pub record IsTagAt (way : Direction) (m : Machine) (t : Rows) (input : Input) (tag k id : ℕ) : Type 0 where
+  pub kind : IsRunTag tag
+  pub only : HasOnly tag id
+  pub named : Names t id (state_in way m input k)
+
+-- cached transitions led a pass so, between IDs that have this tag and no other: without a tag, none of them reported
+-- anything
+pub record IsRun (way : Direction) (m : Machine) (c : Stored) (input : Input) (tag from to id : ℕ) : Type 0 where
+  pub led : IsLed way m c input from to id
+  pub quiet : tag ≡ 0 → IsFollowed way m c input from to id
+  pub only : HasOnly tag id
+
+-- this ID was met after another one: unless it is the unknown one, the transition on the byte at place `k` leads to it
+abbrev pub IsMet : Direction → Machine → Stored → Input → (k id met : ℕ) → Type 0
+IsMet way m c input k id met =
+    met < unknown_id → (k < input.end - input.start) × (met ≡ known_step m c id (next (tape_in way input) k))
+
+-- so is each transition that a pass took on its first `k` units
+abbrev pub HasLearned : Direction → Machine → Stored → Input → ℕ → Type 0
+HasLearned way m c input k = (j : ℕ) → j < k → Reads way m input j → HasLearnedUnit way m c input j
+
+-- and its start, and all of them
+abbrev pub HasLearnedAll : Direction → Machine → Stored → Input → Type 0
+HasLearnedAll way m c input =
+    KnowsItsStart way m c input × ((k : ℕ) → Reads way m input k → HasLearnedUnit way m c input k)

@@ -1,0 +1,73 @@
+-- The bytes on which a row is known to lead back to itself.
+use Rattle.std.specs.Prelude.{ℕ, ◌≡◌, ◌+◌, ◌-◌, ◌%◌, ◌<◌, ◌≤◌, ◌⊎◌, List, false, Some, length, slice_index}
+use Rattle.automata_base.specs.ByteClasses.Classes.{class_in, is_quit}
+use Rattle.automata_base.specs.Haystacks.Input.{Input}
+use Rattle.automata_base.specs.Paths.Paths.{next}
+use Rattle.automata_base.specs.Powersets.Powerset.{Powerset}
+use Rattle.automata_base.specs.Retraced.Steps.{successor}
+use Rattle.automata_base.specs.Haystacks.Tapes.{Direction, Forward, Backward}
+use Rattle.automata_config.specs.Options.{match_kind_of}
+use Rattle.automata_hybrid.specs.Machines.Machine.{Machine, table_stride}
+use Rattle.automata_hybrid.specs.Searches.Passes.{tape_in}
+use Rattle.automata_hybrid.specs.Cache.Stores.{IsKnownTransition, Stored}
+use Rattle.automata_hybrid.specs.Cache.Table.{Leads, Names}
+use Rattle.automata_hybrid.specs.declared.search.loop_range.LoopRange.{LoopRange}
+use Rattle.automata_hybrid.specs.declared.search.self_loop.KnownLoop.{KnownLoop}
+
+-- how far a byte is above another, where 0 follows 255
+abbrev pub above : ℕ → ℕ → ℕ
+above low byte = (byte + (256 - low)) % 256
+
+-- a range has a byte
+abbrev pub Has : LoopRange → ℕ → Type 0
+Has r byte = above r.low byte < r.size
+
+-- or one of two has it
+abbrev pub HasEither : LoopRange → LoopRange → ℕ → Type 0
+HasEither first second byte = Has first byte ⊎ Has second byte
+
+-- the byte at a place of bytes that are read from the front or from the back
+abbrev pub byte_in : Direction → List ℕ → ℕ → ℕ
+byte_in Forward bytes k = slice_index bytes k
+byte_in Backward bytes k = slice_index bytes (length bytes - 1 - k)
+
+-- where a place of 32 bytes is among these
+abbrev pub lane_of : Direction → ℕ → ℕ
+lane_of Forward k = k
+lane_of Backward k = 31 - k
+
+-- an ID's row leads back to it on a byte, which is no quit byte: the transition is cached, at a class that rows have
+pub record LoopsOn (m : Machine) (c : Stored) (id byte : ℕ) : Type 0 where
+  pub clean : is_quit m.quits byte ≡ false
+  pub known : IsKnownTransition c id (class_in m.classes byte)
+  pub below : class_in m.classes byte < table_stride c.table.of
+  pub back :
+      (q : Powerset) → Names c.table id q → Leads c.table id (successor m.nfa (match_kind_of m.config) q (Some byte))
+
+-- so it does on each byte of a range
+pub record IsLoopRange (m : Machine) (c : Stored) (id : ℕ) (r : LoopRange) : Type 0 where
+  pub loops : (byte : ℕ) → byte < 256 → Has r byte → LoopsOn m c id byte
+
+-- and on each byte of its two ranges
+pub record IsKnownLoop (m : Machine) (c : Stored) (id : ℕ) (k : KnownLoop) : Type 0 where
+  pub first : IsLoopRange m c id k.first
+  pub second : IsLoopRange m c id k.second
+
+-- and on each byte from a place on, before another
+abbrev pub LoopsOver : Machine → Stored → ℕ → Direction → List ℕ → ℕ → ℕ → Type 0
+LoopsOver m c id way bytes from to = (k : ℕ) → from ≤ k → k < to → LoopsOn m c id (byte_in way bytes k)
+
+-- from a place on, up to another, within these bytes
+pub record IsLoopRun (m : Machine) (c : Stored) (id : ℕ) (way : Direction) (bytes : List ℕ) (from to : ℕ) : Type 0 where
+  pub more : from ≤ to
+  pub within : to ≤ length bytes
+  pub loops : LoopsOver m c id way bytes from to
+
+-- the unit at place `k` of a pass is a byte on which an ID's row leads back to it
+abbrev pub LoopsAt : Direction → Machine → Stored → Input → ℕ → ℕ → Type 0
+LoopsAt way m c input id k = (byte : ℕ) × (next (tape_in way input) k ≡ Some byte) × LoopsOn m c id byte
+
+-- so is each unit from a place on, before another
+pub record IsSelfLoop (way : Direction) (m : Machine) (c : Stored) (input : Input) (id from to : ℕ) : Type 0 where
+  pub more : from ≤ to
+  pub loops : (k : ℕ) → from ≤ k → k < to → LoopsAt way m c input id k

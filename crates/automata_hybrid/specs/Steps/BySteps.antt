@@ -1,0 +1,90 @@
+-- Searches by steps: where a search stands that ends at its first match, and what a step of it means.
+use Rattle.std.specs.Prelude.{ℕ, ◌≡◌, ◌+◌, ◌-◌, ◌<◌, ◌≤◌, ◌⊎◌, IsBitSet, true, length, Option, Some, None, slice_index}
+use Rattle.automata_base.specs.Nfas.Engines.{engine_of}
+use Rattle.automata_base.specs.Haystacks.Input.{Input}
+use Rattle.automata_base.specs.Haystacks.Matches.{HalfMatch}
+use Rattle.automata_base.specs.Powersets.Powerset.{Powerset}
+use Rattle.automata_base.specs.Haystacks.Tapes.{Forward, IsHaystack}
+use Rattle.automata_base.specs.Answers.OfPasses.{IsNearestAnswer}
+use Rattle.automata_config.specs.Options.{match_kind_of}
+use Rattle.automata_hybrid.specs.Cache.Caches.{CacheView, HasRow}
+use Rattle.automata_hybrid.specs.Cache.Ids.{dead_id}
+use Rattle.automata_hybrid.specs.Machines.Machine.{Machine, table_stride}
+use Rattle.automata_hybrid.specs.Searches.PassContracts.{IsPassAnswer, IsUnderway}
+use Rattle.automata_hybrid.specs.Searches.Passes.{IsFound, Skips, WithoutBase}
+use Rattle.automata_hybrid.specs.Cache.Table.{Names}
+
+-- the cache has a row of exactly this ID, so that a step may be taken from it
+abbrev pub HoldsRow : CacheView → (id : ℕ) → Type 0
+HoldsRow c id = HasRow c.store.table id
+
+-- one run over the span of an input answers this: the first match, or none
+abbrev pub IsFirstMatch : Machine → Input → Option HalfMatch → Type 0
+IsFirstMatch m input half = IsPassAnswer Forward m input half
+
+-- a search over an input that ends at its first match has read the bytes of the span before an offset, and is in the
+-- state of this ID
+pub record StandsAt (m : Machine) (c : CacheView) (input : Input) (at id : ℕ) : Type 0 where
+  -- It ends at its first match.
+  pub early : input.earliest ≡ true
+  -- The offset is in the span, which lies in the haystack.
+  pub from : input.start ≤ at
+  pub upto : at ≤ input.end
+  pub inside : input.end ≤ length input.haystack
+  -- The cache has the row of the ID.
+  pub row : HoldsRow c id
+  -- The ID is dead, and there is no match; or those bytes led to its state, no match among them and no quit byte.
+  pub state :
+      ((id ≡ dead_id (table_stride m)) × IsFirstMatch m input None)
+      ⊎ IsUnderway Forward m c.store.table input (at - input.start) id None
+
+-- the unit at an offset: this byte of the haystack, or its end
+abbrev pub IsUnitAt : Input → (at : ℕ) → Option ℕ → Type 0
+IsUnitAt input at None = length input.haystack ≤ at
+IsUnitAt input at (Some byte) = (at < length input.haystack) × (byte ≡ slice_index input.haystack at)
+
+-- this is the first pattern that matches at an ID's state
+abbrev pub IsFirstPattern : CacheView → (id pattern : ℕ) → Type 0
+IsFirstPattern c id pattern = (q : Powerset) → Names c.store.table id q → pattern ≡ slice_index q.patterns 0
+
+-- some pattern matches at an ID's state
+abbrev pub HasPatterns : CacheView → (id : ℕ) → Type 0
+HasPatterns c id = (q : Powerset) → Names c.store.table id q → 0 < length q.patterns
+
+-- a step over the unit at an offset led to this ID
+pub record IsStepAt (m : Machine) (c : CacheView) (input : Input) (at next : ℕ) : Type 0 where
+  -- The cache has the row of the ID.
+  pub row : HoldsRow c next
+  -- With the match tag its state has patterns.
+  pub tells : IsBitSet next 27 → HasPatterns c next
+  -- With the match tag a match ends at the offset: matches are delayed by one unit.
+  pub found :
+      IsBitSet next 27 → (pattern : ℕ) → IsFirstPattern c next pattern
+      → IsFirstMatch m input (Some (record { pattern = pattern; offset = at }))
+  -- With the dead tag there is no match.
+  pub dead : IsBitSet next 30 → IsFirstMatch m input None
+  -- Without the match tag, and where the unit was no quit byte, the search stands one offset later, if the span has
+  -- more bytes.
+  pub on : (IsBitSet next 27 → ⊥) → (IsBitSet next 29 → ⊥) → at < input.end → StandsAt m c input (at + 1) next
+  -- If the span has no more bytes, there is no match.
+  pub last : (IsBitSet next 27 → ⊥) → (IsBitSet next 29 → ⊥) → at ≡ input.end → IsFirstMatch m input None
+
+-- a search that ends at its first match, and whose span is not done, stands at its start by this ID
+abbrev pub StartsAt : Machine → CacheView → Input → (id : ℕ) → Type 0
+StartsAt m c input id = input.earliest ≡ true → input.start ≤ input.end → StandsAt m c input input.start id
+
+-- a step over a unit from an ID leads each search that stands there on to this ID
+abbrev pub StepsOn : Machine → (old new : CacheView) → (id : ℕ) → (unit : Option ℕ) → (next : ℕ) → Type 0
+StepsOn m old new id unit next =
+    (input : Input) (at : ℕ) → StandsAt m old input at id → IsUnitAt input at unit → IsStepAt m new input at next
+
+-- where no place is skipped, what one run answers is what a search finds; and if it ended at its first match, it is the
+-- nearest end of a path
+abbrev pub FirstMatchIsFound : Machine → Type 0
+FirstMatchIsFound m =
+    (input : Input) (half : Option HalfMatch)
+    → (Skips m → ⊥) → IsHaystack input.haystack → input.start ≤ input.end → input.end ≤ length input.haystack
+    → IsFirstMatch m input half
+    → WithoutBase (IsFound Forward m input) half
+    × (input.earliest ≡ true
+    → WithoutBase (IsNearestAnswer Forward (engine_of m.nfa (match_kind_of m.config)) input) half)

@@ -1,0 +1,166 @@
+-- Start states: when there is one, what it is, why a call for it fails, and what that does to the cache.
+use Rattle.std.specs.Prelude.{ℕ, ◌≡◌, ◌+◌, ◌<◌, ◌≤◌, ◌⊎◌, true, false, cond, Option, None, Some, slice_index}
+use Rattle.automata_base.specs.Powersets.Powerset.{Powerset}
+use Rattle.automata_base.specs.ByteClasses.Classes.{is_quit}
+use Rattle.automata_base.specs.Retraced.Steps.{start_state_of}
+use Rattle.automata_base.specs.declared.util.search.Anchored.{Anchored}
+use Rattle.automata_base.specs.declared.util.search.MatchErrorKind.TheVariants.{Quit as QuitAt, GaveUp}
+use Rattle.automata_base.specs.declared.util.search.MatchErrorKind.TheVariants.{UnsupportedAnchored as UnsupportedMode}
+use Rattle.automata_config.specs.declared.error.StepError.{StepError}
+use Rattle.automata_config.specs.declared.error.StepError.TheVariants as step
+use Rattle.automata_config.specs.declared.error.StartError.{StartError}
+use Rattle.automata_config.specs.declared.error.StartError.TheVariants as start
+use Rattle.automata_config.specs.declared.error.SearchError.{SearchError}
+use Rattle.automata_config.specs.declared.error.SearchError.TheVariants as search
+use Rattle.automata_hybrid.specs.declared.dfa.row.Row.{Row}
+use Rattle.automata_hybrid.specs.Cache.Ids.{dead_id}
+use Rattle.automata_hybrid.specs.Machines.Machine.{Machine, table_stride, slot_count}
+use Rattle.automata_hybrid.specs.Cache.Table.{Has, HasItsMatchTag, KeepsStartTags, Leads, TagsNewStates}
+use Rattle.automata_hybrid.specs.Cache.Stores.{Stored}
+use Rattle.automata_hybrid.specs.Cache.Usage.{GivesUp}
+use Rattle.automata_hybrid.specs.Cache.Changes.{IsStarted}
+use Rattle.automata_hybrid.specs.Cache.Caches.{CacheView, HasRow, counted}
+use Rattle.automata_hybrid.specs.Cache.Growth.{IsGrown, KeepsProgress}
+use Rattle.automata_hybrid.specs.Machines.StartSlots.{supports, slot_behind, HasStart}
+use Rattle.automata_config.specs.Options.{specialize_start_states_of}
+
+-- the look-behind byte, if it is a quit byte
+abbrev pub quit_behind : Machine → Option ℕ → Option ℕ
+quit_behind m None = None
+quit_behind m (Some byte) = cond (is_quit m.quits byte) (Some byte) None
+
+-- a search may start: the look-behind byte is no quit byte, and the anchored mode is supported
+abbrev pub MayStart : Machine → Anchored → Option ℕ → Type 0
+MayStart m mode behind = (quit_behind m behind ≡ None) × (supports m mode ≡ true)
+
+-- the mode has a start slot: it has none for a pattern past the last
+abbrev pub HasSlot : Machine → Anchored → Option ℕ → Type 0
+HasSlot m mode behind = slot_behind m mode behind < slot_count m
+
+-- a search may start, and this is the slot of its start
+pub record IsStartSlot (m : Machine) (mode : Anchored) (behind : Option ℕ) (slot : ℕ) : Type 0 where
+  -- The look-behind byte is no quit byte, and the anchored mode is supported.
+  pub may : MayStart m mode behind
+  -- The slot is that of the anchored mode and of the look-behind byte.
+  pub at : slot ≡ slot_behind m mode behind
+  -- There is such a slot.
+  pub within : slot < slot_count m
+
+-- the row of a start state, which has the start tag where the settings specialize start states
+abbrev pub start_row : Machine → Anchored → Option ℕ → Row
+start_row m mode behind = record {
+  state = start_state_of m.nfa mode behind;
+  started = specialize_start_states_of m.config;
+}
+
+-- a search may start, and its start state is cached
+abbrev pub KnowsStart : Machine → Stored → Anchored → Option ℕ → Type 0
+KnowsStart m c mode behind = MayStart m mode behind × HasStart c (slot_behind m mode behind)
+
+-- the ID of a start state that is cached
+abbrev pub known_start : Machine → Stored → Anchored → Option ℕ → ℕ
+known_start m c mode behind = slice_index c.starts (slot_behind m mode behind)
+
+-- why there is no start state
+abbrev pub IsStartRefusal : Machine → Stored → Anchored → Option ℕ → StartError → Type 0
+-- the look-behind byte is a quit byte, and it is this one
+IsStartRefusal m c mode behind (start.Quit byte) = quit_behind m behind ≡ Some byte
+-- it is none, and the anchored mode is not supported
+IsStartRefusal m c mode behind (start.UnsupportedAnchored told) =
+    (quit_behind m behind ≡ None) × (supports m mode ≡ false) × (told ≡ mode)
+-- the cache does not have the state, has no room for it, and may not be cleared
+IsStartRefusal m c mode behind (start.Cache err) = MayStart m mode behind × GivesUp c (start_state_of m.nfa mode behind)
+IsStartRefusal m c mode behind start.OutOfMemory = MayStart m mode behind
+
+-- the error of a step, as a call for a start state reports it
+abbrev pub start_refusal : StepError → StartError
+start_refusal (step.Cache err) = start.Cache err
+start_refusal step.OutOfMemory = start.OutOfMemory
+
+-- the error of a start state, as a search reports it: a quit byte and the "gave up" error each have an offset
+abbrev pub search_refusal : StartError → (behind at : ℕ) → SearchError
+search_refusal (start.Cache err) behind at = search.Match (GaveUp at)
+search_refusal (start.Quit byte) behind at = search.Match (QuitAt byte behind)
+search_refusal (start.UnsupportedAnchored mode) behind at = search.Match (UnsupportedMode mode)
+search_refusal start.OutOfMemory behind at = search.OutOfMemory
+
+-- why a search has no start state: why there is none, reported with the offset of the look-behind byte or of the start;
+-- it is not cached
+abbrev pub IsStartRefusalAt : Machine → Stored → Anchored → Option ℕ → (behind_at start_at : ℕ) → SearchError → Type 0
+IsStartRefusalAt m c mode behind behind_at start_at e =
+    (error : StartError) × IsStartRefusal m c mode behind error × (e ≡ search_refusal error behind_at start_at)
+    × (KnowsStart m c mode behind → ⊥)
+
+-- what the ID is that a start answers
+pub record IsStartAnswer (m : Machine) (mode : Anchored) (behind : Option ℕ) (old new : CacheView) (id : ℕ) :
+    Type 0 where
+  -- The call returns Ok only if a search may start: the look-behind byte is no quit byte, and the mode is supported.
+  pub may : MayStart m mode behind
+  -- Its row is there.
+  pub row : HasRow new.store.table id
+  -- It names the start state.
+  pub named : Leads new.store.table id (start_state_of m.nfa mode behind)
+  -- It has the match tag exactly if its state has patterns.
+  pub tag : HasItsMatchTag new.store.table id
+  -- A start state that was cached is returned as it is.
+  pub known : KnowsStart m old.store mode behind → id ≡ known_start m old.store mode behind
+  -- Past the last pattern the start is dead.
+  pub past : slot_count m ≤ slot_behind m mode behind → id ≡ dead_id (table_stride m)
+  -- A start state that was not cached was computed, and this is all that it did to the states.
+  pub computed :
+      HasSlot m mode behind → (KnowsStart m old.store mode behind → ⊥)
+      → IsStarted old.store (slot_behind m mode behind) (start_row m mode behind) new.store id
+  -- A start state that was not cached had room, or the cache could be cleared for it.
+  pub room : (KnowsStart m old.store mode behind → ⊥) → GivesUp old.store (start_state_of m.nfa mode behind) → ⊥
+  -- The start state is cached from then on, also where it cleared.
+  pub learned : HasSlot m mode behind → KnowsStart m new.store mode behind
+  -- It is this one that is cached.
+  pub written : HasSlot m mode behind → known_start m new.store mode behind ≡ id
+
+-- what holds if a call for a start state fails
+pub record IsStartRefused (m : Machine) (mode : Anchored) (behind : Option ℕ) (old new : CacheView) (e : StartError) :
+    Type 0 where
+  -- The error says why.
+  pub why : IsStartRefusal m old.store mode behind e
+  -- A cached start state never fails.
+  pub unknown : KnowsStart m old.store mode behind → ⊥
+  -- Past the last pattern nothing fails if a search may start.
+  pub slot : MayStart m mode behind → HasSlot m mode behind
+  -- Nothing has changed but the count of determinizations.
+  pub unchanged : (new ≡ old) ⊎ (new ≡ counted old)
+
+-- the same of a search, which reports the error with the offset of the look-behind byte or of the start
+pub record IsStartRefusedAt (m : Machine) (mode : Anchored) (behind : Option ℕ) (behind_at start_at : ℕ)
+    (old new : CacheView) (e : SearchError) : Type 0 where
+  -- It stems from the error of a start state.
+  pub error : StartError
+  -- The call for the start state fails with it.
+  pub refused : IsStartRefused m mode behind old new error
+  -- It is reported at this offset.
+  pub told : e ≡ search_refusal error behind_at start_at
+
+-- what asking for a start state does to the cache, whether that returns Ok or an error
+pub record IsStartEffect (m : Machine) (mode : Anchored) (behind : Option ℕ) (old new : CacheView) : Type 0 where
+  -- The cache has grown; where the call cleared nothing, nothing is lost.
+  pub grown : IsGrown old new
+  -- It determinized at most once.
+  pub counted : new.count ≤ old.count + 1
+  -- It determinized exactly once for a start that has a slot and was not cached.
+  pub computed :
+      MayStart m mode behind → HasSlot m mode behind → (KnowsStart m old.store mode behind → ⊥)
+      → new.count ≡ old.count + 1
+  -- Where a search may not start, nothing has changed.
+  pub barred : (MayStart m mode behind → ⊥) → new ≡ old
+  -- A cached start state takes no memory, and changes nothing.
+  pub known : KnowsStart m old.store mode behind → new ≡ old
+  -- Past the last pattern nothing has changed.
+  pub past : MayStart m mode behind → slot_count m ≤ slot_behind m mode behind → new ≡ old
+  -- A state that was there keeps its start tag or its lack of one, through a clear too.
+  pub start_tags : KeepsStartTags old.store.table new.store.table
+  -- The progress of searches is unchanged, except for what a clear does to it.
+  pub progress : KeepsProgress old.store new.store
+  -- A state that was added has the start tag exactly if the settings specialize start states.
+  pub added : TagsNewStates old.store.table new.store.table (specialize_start_states_of m.config)
+  -- No state was added but the start state.
+  pub only :
+      (q : Powerset) → Has new.store.table q → Has old.store.table q ⊎ (q ≡ start_state_of m.nfa mode behind)

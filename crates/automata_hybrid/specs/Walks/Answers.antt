@@ -1,0 +1,199 @@
+-- What an overlapping walk has reported, and why a call of it fails.
+use Rattle.std.specs.Prelude.{ℕ, zero, suc, ◌≡◌, ◌<◌, ◌≤◌, ◌+◌, ◌⊎◌, false, List, [], ◌∷◌, length, Option, None, Some}
+use Rattle.automata_base.specs.Answers.Answers.{AreUnsplit, offset_in}
+use Rattle.automata_base.specs.ByteClasses.Classes.{is_quit}
+use Rattle.automata_base.specs.Haystacks.Input.{Input}
+use Rattle.automata_base.specs.Haystacks.Matches.{HalfMatch}
+use Rattle.automata_base.specs.Paths.Paths.{next}
+use Rattle.automata_base.specs.Powersets.Powerset.{Powerset, cost, dead}
+use Rattle.automata_base.specs.Paths.Selections.{Pair}
+use Rattle.automata_base.specs.Haystacks.Tapes.{Direction, is_split}
+use Rattle.automata_base.specs.Retraced.Passes.{pairs_told}
+use Rattle.automata_base.specs.Laws.Walks.{AreTold}
+use Rattle.automata_base.specs.declared.util.search.MatchErrorKind.TheVariants.{GaveUp}
+use Rattle.automata_config.specs.declared.error.SearchError.{SearchError}
+use Rattle.automata_config.specs.declared.error.SearchError.TheVariants as search
+use Rattle.automata_hybrid.specs.Cache.Stores.{Stored}
+use Rattle.automata_hybrid.specs.Cache.Usage.{GivesUp}
+use Rattle.automata_hybrid.specs.Machines.Machine.{IsStateOf, Machine, greatest}
+use Rattle.automata_hybrid.specs.Searches.Passes.{HasReadNoQuit, IsNoQuit, IsUnitRefusal, Skips, behind_offset}
+use Rattle.automata_hybrid.specs.Searches.Passes.{given_up_offset}
+use Rattle.automata_hybrid.specs.Searches.Passes.{state_in, tape_in}
+use Rattle.automata_hybrid.specs.Steps.Starts.{IsStartRefusalAt, MayStart}
+use Rattle.automata_hybrid.specs.Cache.Table.{Rows, Has, Names}
+use Rattle.automata_hybrid.specs.Walks.State.{At, Ended, Fresh, Ids, Keeping, Stage, States, Walk}
+use Rattle.automata_config.specs.Options.{match_kind_of}
+
+-- the pairs that a pass reports by its first `k` units; their places are the pass's
+abbrev pub pairs_in : Direction → Machine → Input → ℕ → List Pair
+pairs_in way m input k = pairs_told m.nfa (match_kind_of m.config) input.anchored (tape_in way input) k
+
+-- the whole list of a walk, by offsets
+abbrev pub AreWalked : Direction → Machine → Input → List Pair → Type 0
+AreWalked way m input pairs = AreTold way m.nfa (match_kind_of m.config) input pairs
+
+-- the pair at an index, as a half match
+abbrev pub half_nth : List Pair → ℕ → Option HalfMatch
+half_nth [] k = None
+half_nth (pair ∷ pairs) zero = Some (record { pattern = pair.pattern; offset = pair.place })
+half_nth (pair ∷ pairs) (suc k) = half_nth pairs k
+
+-- by its first `n` units a pass reports `k` pairs to a walk, the split ones left out where they are skipped
+pub record HasToldBy (way : Direction) (m : Machine) (input : Input) (n k : ℕ) : Type 0 where
+  pub pairs : List Pair
+  pub unsplit : AreUnsplit (Skips m) way input (pairs_in way m input n) pairs
+  pub count : k ≡ length pairs
+
+-- a walk over this input reads the unit at place `k`: the state there is not dead
+abbrev pub WalkReads : Direction → Machine → Input → ℕ → Type 0
+WalkReads way m input k = (k ≤ length (tape_in way input).bytes) × (state_in way m input k ≡ dead → ⊥)
+
+-- no unit that a walk reads is a quit byte
+abbrev pub WalkMeetsNoQuit : Direction → Machine → Input → Type 0
+WalkMeetsNoQuit way m input =
+    (k byte : ℕ) → WalkReads way m input k → next (tape_in way input) k ≡ Some byte → is_quit m.quits byte ≡ false
+
+-- a state that a row may have
+pub record IsRowState (m : Machine) (q : Powerset) : Type 0 where
+  pub own : IsStateOf m q
+  pub cheap : cost q ≤ greatest m
+  pub alive : q ≡ dead → ⊥
+
+-- a walk stands at the state after the unit at a place that is not skipped, none of its units a quit byte; it has
+-- reported `told` patterns of this state, at least one, and `k` pairs in all
+pub record Stands (way : Direction) (m : Machine) (input : Input) (q : Powerset) (units told k : ℕ) : Type 0 where
+  pub undone : input.start ≤ input.end
+  pub may : MayStart m input.anchored (tape_in way input).before
+  pub place : ℕ
+  pub behind : units ≡ suc place
+  pub within : place ≤ length (tape_in way input).bytes
+  pub state : q ≡ state_in way m input units
+  pub row : IsRowState m q
+  pub clean : HasReadNoQuit way m input units
+  pub unskipped : Skips m → is_split input.haystack (offset_in way input place) ≡ false
+  pub some : 0 < told
+  pub few : told ≤ length q.patterns
+  pub earlier : ℕ
+  pub before : HasToldBy way m input place earlier
+  pub count : k ≡ earlier + told
+
+-- a walk has reported all that there is to report: its span was done, or it met no quit byte to its end
+pub record HasToldAll (way : Direction) (m : Machine) (input : Input) (k : ℕ) : Type 0 where
+  pub clean :
+      (input.end < input.start) ⊎ (MayStart m input.anchored (tape_in way input).before × WalkMeetsNoQuit way m input)
+  pub pairs : List Pair
+  pub all : AreWalked way m input pairs
+  pub none_left : length pairs ≤ k
+
+abbrev pub HasToldAt : Direction → Machine → Input → Stage → (units told k : ℕ) → Type 0
+HasToldAt way m input Fresh units told k = (k ≡ 0) × (units ≡ 0)
+HasToldAt way m input (At q) units told k = Stands way m input q units told k
+HasToldAt way m input Ended units told k = HasToldAll way m input k
+
+-- a walk has reported the first `k` pairs of the walk over this input
+abbrev pub HasTold : Direction → Machine → Input → Walk → ℕ → Type 0
+HasTold way m input w k = HasToldAt way m input w.stage w.units w.told k
+
+-- it is a walk over this input
+abbrev pub IsWalkOf : Direction → Machine → Input → Walk → Type 0
+IsWalkOf way m input w = (k : ℕ) × HasTold way m input w k
+
+-- a call that returned Ok: after `k` pairs it reports the next one, which is the match; if none is left there is no
+-- match, and the walk has ended
+abbrev pub TellsNext : Direction → Machine → Input → Walk → Walk → Type 0
+TellsNext way m input old new =
+    (k : ℕ) → HasTold way m input old k
+    → HasTold way m input new (suc k)
+    × ((pairs : List Pair) → AreWalked way m input pairs
+    → (new.found ≡ half_nth pairs k) × (length pairs ≤ k → new.stage ≡ Ended))
+
+-- why its state is not put back, which the cache does not have: memory runs out, or there is no room for it and the
+-- cache may not be cleared
+abbrev pub IsPutBackRefusal : Stored → Powerset → (given_up_at : ℕ) → SearchError → Type 0
+IsPutBackRefusal c q at e =
+    ((Has c.table q → ⊥) × (e ≡ search.OutOfMemory)) ⊎ (GivesUp c q × (e ≡ search.Match (GaveUp at)))
+
+-- why a walk cannot go on: it has not begun and its start state fails, or it has and its state is not put back
+abbrev pub IsResumeRefusal : Direction → Machine → Stored → Input → Stage → (units : ℕ) → SearchError → Type 0
+IsResumeRefusal way m c input Fresh units e =
+    IsStartRefusalAt m c input.anchored (tape_in way input).before (behind_offset way input) (offset_in way input 0) e
+IsResumeRefusal way m c input (At q) units e = IsPutBackRefusal c q (given_up_offset way input units) e
+IsResumeRefusal way m c input Ended units e = ⊥
+
+-- the state after the unit at place `j` reports a pair, and cannot be held: its users cannot be counted once more,
+-- which is reported as out of memory
+pub record IsUnheld (way : Direction) (m : Machine) (input : Input) (j : ℕ) (e : SearchError) : Type 0 where
+  pub clean : IsNoQuit m (next (tape_in way input) j)
+  pub tells : 0 < length (state_in way m input (suc j)).patterns
+  pub unskipped : Skips m → is_split input.haystack (offset_in way input j) ≡ false
+  pub memory : e ≡ search.OutOfMemory
+
+-- why a call fails at the unit at place `j`: the step on it does; or, where states are kept, the one after it cannot be
+-- held
+abbrev pub IsRefusalAt : Keeping → Direction → Machine → Stored → Input → ℕ → SearchError → Type 0
+IsRefusalAt Ids way m c input j e = IsUnitRefusal way m c input j e
+IsRefusalAt States way m c input j e = IsUnitRefusal way m c input j e ⊎ IsUnheld way m input j e
+
+-- why a call fails that was to report the pair after the first `k`: the walk cannot go on, or it fails at a unit that
+-- it reads, and no quit byte was met before; the units before report these `k` pairs
+abbrev pub IsWalkRefusal : Keeping → Direction → Machine → Stored → Input → Walk → ℕ → SearchError → Type 0
+IsWalkRefusal keeping way m c input w k e =
+    (input.start ≤ input.end)
+    × ((HasToldBy way m input w.units k × IsResumeRefusal way m c input w.stage w.units e)
+    ⊎ (MayStart m input.anchored (tape_in way input).before
+    × ((j : ℕ) × (w.units ≤ j) × WalkReads way m input j × HasReadNoQuit way m input j × HasToldBy way m input j k
+    × IsRefusalAt keeping way m c input j e)))
+
+-- the units from one place of a pass to another report nothing to a walk
+abbrev pub IsSilent : Direction → Machine → Input → (from to : ℕ) → Type 0
+IsSilent way m input from to = (k : ℕ) → HasToldBy way m input from k → HasToldBy way m input to k
+
+-- from its first `from` units a walk went on, without a quit byte, to a state that reports patterns at a place that is
+-- not skipped, and the ID names it
+pub record Arrives (way : Direction) (m : Machine) (t : Rows) (input : Input) (from id units : ℕ) : Type 0 where
+  pub place : ℕ
+  pub behind : units ≡ suc place
+  pub more : from ≤ place
+  pub within : place ≤ length (tape_in way input).bytes
+  pub named : Names t id (state_in way m input units)
+  pub clean : HasReadNoQuit way m input units
+  pub tells : (q : Powerset) → Names t id q → 0 < length q.patterns
+  pub unskipped : Skips m → is_split input.haystack (offset_in way input place) ≡ false
+  pub silent : IsSilent way m input from place
+
+-- or to its end
+pub record Finishes (way : Direction) (m : Machine) (input : Input) (from units : ℕ) : Type 0 where
+  pub more : from ≤ units
+  pub clean : WalkMeetsNoQuit way m input
+  pub silent : IsSilent way m input from (suc (length (tape_in way input).bytes))
+  pub stops : (j : ℕ) → units ≤ j → WalkReads way m input j → ⊥
+
+-- to a state that reports patterns, if there is an ID, and else to its end
+abbrev pub IsArrival : Direction → Machine → Rows → Input → (from : ℕ) → Option ℕ → (units : ℕ) → Type 0
+IsArrival way m t input from None units = Finishes way m input from units
+IsArrival way m t input from (Some id) units = Arrives way m t input from id units
+
+-- why going on from the first `from` units fails: the step on a unit from there on does, and those before report
+-- nothing
+abbrev pub IsAdvanceRefusal : Direction → Machine → Stored → Input → (from : ℕ) → SearchError → Type 0
+IsAdvanceRefusal way m c input from e =
+    (j : ℕ) × (from ≤ j) × WalkReads way m input j × HasReadNoQuit way m input j × IsSilent way m input from j
+    × IsUnitRefusal way m c input j e
+
+-- the cache has the state that a walk goes on from
+abbrev pub HasItsState : Rows → Stage → Type 0
+HasItsState t Fresh = Unit {0}
+HasItsState t (At q) = Has t q
+HasItsState t Ended = Unit {0}
+
+-- a call found no match, or the walk has read more units, or has reported one pattern more
+abbrev pub GoesOn : Walk → Walk → Type 0
+GoesOn old new =
+    (new.found ≡ None)
+    ⊎ ((new.stage ≡ Ended → ⊥) × ((old.units < new.units) ⊎ ((new.units ≡ old.units) × (new.told ≡ suc old.told))))
+
+-- one determinization for the start state of a walk that has not begun
+abbrev pub start_count : Stage → ℕ
+start_count Fresh = 1
+start_count (At q) = 0
+start_count Ended = 0

@@ -1,0 +1,4 @@
+pub mod SoundPairs
+pub mod Builds
+pub mod Caches
+pub mod LentCaches

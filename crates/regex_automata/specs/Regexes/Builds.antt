@@ -1,0 +1,67 @@
+-- What a regex's builder makes of two NFAs, or why it fails.
+use Rattle.std.specs.Prelude.{ℕ, ◌≡◌, ◌==◌, false, true, if◌then◌else◌, length, Option, Some}
+use Rattle.std.specs.Option.{option_or}
+use Rattle.automata_base.specs.Nfas.Getters.{SkipsLazily}
+use Rattle.automata_base.specs.Nfas.Mirrors.{BeginsAlike, IsReversed}
+use Rattle.automata_base.specs.Nfas.Nodes.{Automaton, nfa_of}
+use Rattle.automata_base.specs.Paths.Paths.{IsLookAcyclic}
+use Rattle.automata_base.specs.Nfas.ReversedSizes.{MayBeTooLarge}
+use Rattle.automata_base.specs.Haystacks.Tapes.{Forward}
+use Rattle.automata_base.specs.Nfas.Utf8.{ReadsUtf8}
+use Rattle.automata_base.specs.declared.nfa.thompson.ReverseError.{ReverseError}
+use Rattle.automata_base.specs.declared.nfa.thompson.ReverseError.TheVariants as reverse
+use Rattle.automata_base.specs.declared.util.search.MatchKind.TheVariants.{All}
+use Rattle.automata_config.specs.Options.{Options}
+use Rattle.automata_config.specs.Settling as settling
+use Rattle.automata_config.specs.declared.error.BuildError.{BuildError}
+use Rattle.automata_config.specs.declared.error.BuildError.TheVariants.{PatternCounts}
+use Rattle.automata_hybrid.specs.Machines.Builds as dfa
+use Rattle.regex_automata.specs.declared.hybrid.regex.Regex.{Regex}
+use Rattle.regex_automata.specs.declared.hybrid.regex.build.RegexBuildError.{RegexBuildError}
+use Rattle.regex_automata.specs.declared.hybrid.regex.build.RegexBuildError.TheVariants as is
+
+-- the settings of the reverse DFA: its match kind is all, and its start states are not tagged
+abbrev pub backward : Options → Options
+backward o = record o { match_kind = Some All; specialize_start_states = Some false }
+
+-- each DFA is what its settings make of its NFA
+abbrev pub BuildsPair : Options → Automaton → Automaton → Regex → Type 0
+BuildsPair o forward reverse p = dfa.Builds o forward p.forward × dfa.Builds (backward o) reverse p.reverse
+
+-- how many patterns an NFA has
+abbrev pub pattern_count : Automaton → ℕ
+pattern_count a = length a.start_pattern
+
+-- why no regex is built: the NFAs are not for the same patterns, or a DFA cannot be built, the forward one first
+abbrev pub pair_refusal : Options → Automaton → Automaton → Option BuildError
+pair_refusal o forward reverse =
+    if pattern_count forward == pattern_count reverse
+    then option_or (settling.settling_refusal o forward) (settling.settling_refusal (backward o) reverse)
+    else Some (PatternCounts (pattern_count forward) (pattern_count reverse))
+
+-- how the errors of `NFA::reversed` are named
+abbrev pub reverse_refusal : ReverseError → RegexBuildError
+reverse_refusal reverse.Starts = is.Starts
+reverse_refusal reverse.TooLarge = is.TooLarge
+reverse_refusal reverse.OutOfMemory = is.OutOfMemory
+
+-- the tests that an NFA passes: the first two, and all three
+abbrev pub PassesTwo : Automaton → Type 0
+PassesTwo forward = SkipsLazily forward × IsLookAcyclic (nfa_of forward)
+
+abbrev pub PassesAll : Automaton → Type 0
+PassesAll forward = PassesTwo forward × (forward.flags.utf8 ≡ true → ReadsUtf8 Forward forward)
+
+-- why no regex is built of one NFA: it fails the next test after those that it passes; or it passes all, and cannot be
+-- reversed, or no pair can be built of it and of its reverse. Memory is used only after the first two tests
+abbrev pub IsRefusal : Options → Automaton → RegexBuildError → Type 0
+IsRefusal o forward is.NotLazy = SkipsLazily forward → ⊥
+IsRefusal o forward is.LookCycle = SkipsLazily forward × (IsLookAcyclic (nfa_of forward) → ⊥)
+IsRefusal o forward is.NotUtf8 =
+    PassesTwo forward × ((forward.flags.utf8 ≡ true → ReadsUtf8 Forward forward) → ⊥)
+IsRefusal o forward is.Starts = PassesAll forward × (BeginsAlike forward → ⊥)
+IsRefusal o forward is.TooLarge = PassesAll forward × MayBeTooLarge forward
+IsRefusal o forward is.OutOfMemory = PassesTwo forward
+IsRefusal o forward (is.Build error) =
+    PassesAll forward
+    × ((reverse : Automaton) × IsReversed forward reverse × (pair_refusal o forward reverse ≡ Some error))

@@ -1,0 +1,24 @@
+-- The parts of a regex's cache, lent to be read and for writing.
+use Rattle.std.specs.Prelude.{◌≡◌, ⊤}
+use Rattle.std.specs.Borrow.{Lends, LendsBoth, MutBor, Fml, follows_so}
+use mathlib.Core.Option.{none}
+use Rattle.automata_hybrid.specs.Cache.Caches.{CacheView}
+use Rattle.automata_hybrid.specs.contracts.dfa.cache.Cache.{the_row as part}
+use Rattle.regex_automata.specs.declared.hybrid.regex.caches.Cache.{Cache}
+use Rattle.regex_automata.specs.contracts.hybrid.regex.caches.Cache.{the_row}
+
+-- the cache ends as it was, whatever is read through a shared reference
+abbrev pub StaysSame : MutBor Cache → Fml
+StaysSame s = follows_so the_row the_row s.ghost_name none (λ _ _. ⊤) (λ last. last ≡ s.now)
+
+-- the cache ends with the reference's last value as its forward part
+abbrev pub LendsForward : MutBor Cache → MutBor CacheView → Fml
+LendsForward s r = Lends the_row part s r (λ w. record s.now { forward = w })
+
+-- and with it as its reverse part
+abbrev pub LendsReverse : MutBor Cache → MutBor CacheView → Fml
+LendsReverse s r = Lends the_row part s r (λ w. record s.now { reverse = w })
+
+-- and with the last values of two references as its parts
+abbrev pub LendsBothParts : MutBor Cache → MutBor CacheView × MutBor CacheView → Fml
+LendsBothParts s r = LendsBoth the_row part part s r (λ v w. record { forward = v; reverse = w })

@@ -1,0 +1,4 @@
+pub mod Replies
+pub mod Histories
+pub mod Players
+pub mod Caches

@@ -1,0 +1,169 @@
+-- What the requests of a replay do to its caches, one after another, and how calls over these fail.
+use Rattle.std.specs.Prelude.{ℕ, ◌≡◌, ◌⊎◌, Bool, true, false, List, [], ◌∷◌, Option, Some, None, Result, Ok, Err, IfErr}
+use Rattle.std.specs.Result.{result_err}
+use Rattle.automata_base.specs.Haystacks.Input.{Input}
+use Rattle.automata_base.specs.Lists.{nth}
+use Rattle.automata_base.specs.Haystacks.Matches.{HalfMatch, Match}
+use Rattle.automata_base.specs.Haystacks.PatternSet.{members}
+use Rattle.automata_base.specs.Answers.Spans.{from}
+use Rattle.automata_base.specs.Haystacks.Tapes.{Backward, Direction, Forward}
+use Rattle.automata_config.specs.declared.error.SearchError.{SearchError}
+use Rattle.automata_config.specs.declared.error.SearchError.TheVariants as search
+use Rattle.automata_hybrid.specs.Cache.Caches.{CacheView}
+use Rattle.automata_hybrid.specs.Machines.Machine.{Machine}
+use Rattle.automata_hybrid.specs.Searches.Contracts.{IsSearchEffect}
+use Rattle.automata_hybrid.specs.Walks.Contracts.{IsCallEffect, IsWhichEffect}
+use Rattle.automata_hybrid.specs.Searches.Passes.{IsRefused}
+use Rattle.automata_hybrid.specs.Walks.Answers.{HasTold, IsWalkRefusal}
+use Rattle.automata_hybrid.specs.Walks.State.{States, Walk}
+use Rattle.automata_hybrid.specs.Walks.Sets.{IsWhichRefusal}
+use Rattle.regex_automata.specs.Replay.Histories.{Begun, History, after, start}
+use Rattle.regex_automata.specs.Spans.Iteration.{IsNextRefusal}
+use Rattle.regex_automata.specs.Spans.IsMatch.{IsMatchRefused}
+use Rattle.regex_automata.specs.Spans.Contracts.{empty_set}
+use Rattle.regex_automata.specs.Regexes.Caches.{AreFresh}
+use Rattle.regex_automata.specs.Spans.Effects.{IsItemEffect, IsSpanEffect, IsTruthEffect}
+use Rattle.regex_automata.specs.Spans.Errors.{IsRegexRefusal}
+use Rattle.regex_automata.specs.Replay.Replies.{OnHalf, OnPatterns, OnSpan, OnSpans, OnTokens, OnTruth, dfa_of}
+use Rattle.regex_automata.specs.Replay.Replies.{direction_of}
+use Rattle.regex_automata.specs.Tokens.{IsRefusedAt, IsTokenEffect, match_of}
+use Rattle.regex_automata.specs.declared.hybrid.regex.Regex.{Regex}
+use Rattle.regex_automata.specs.declared.hybrid.regex.caches.Cache.{Cache}
+use Rattle.regex_automata.specs.declared.replay.requests.Reply.{Reply}
+use Rattle.regex_automata.specs.declared.replay.requests.Reply.TheVariants as reply
+use Rattle.regex_automata.specs.declared.replay.requests.Request.{Request}
+use Rattle.regex_automata.specs.declared.replay.requests.Request.TheVariants as request
+use Rattle.regex_automata.specs.declared.tokens.error.TokenError.{TokenError}
+use Rattle.regex_automata.specs.declared.tokens.error.TokenError.TheVariants.{Search}
+use Rattle.regex_automata.specs.declared.tokens.token.Token.{Token}
+
+-- a search of one DFA over a cache: what it does to it, and why it fails
+abbrev pub IsSearched :
+    Direction → Machine → Input → (old new : CacheView) → Result (Option HalfMatch) SearchError → Type 0
+IsSearched way m input old new result =
+    IsSearchEffect way m input old new result × IfErr result (IsRefused way m new.store input)
+
+-- the same of a search for a span, and of one for whether there is a match
+abbrev pub IsSpanSearched : Regex → Input → (old new : Cache) → Result (Option Match) SearchError → Type 0
+IsSpanSearched p input old new result =
+    IsSpanEffect p input old new result × IfErr result (IsRegexRefusal p new input)
+
+abbrev pub IsTruthSearched : Regex → Input → (old new : Cache) → Result Bool SearchError → Type 0
+IsTruthSearched p input old new result =
+    IsTruthEffect p input old new result × IfErr result (IsMatchRefused p.forward new.forward.store input)
+
+-- the search after the last match of a list, and why that match is the last: there is no further one, the search fails
+-- over these caches, or there is no memory for the list
+abbrev pub AreSearchedLast : Regex → (old new : Cache) → Input → Option ℕ → Option SearchError → Type 0
+AreSearchedLast p old new input last None = IsItemEffect p input last false old new None
+AreSearchedLast p old new input last (Some e) =
+    (IsItemEffect p input last false old new (Some (Err e)) × IsNextRefusal p new input last e)
+    ⊎ ((e ≡ search.OutOfMemory) × ((m : Match) × IsItemEffect p input last false old new (Some (Ok m))))
+
+-- the searches for a list of matches, one after another, each over the caches that the one before left
+abbrev pub AreSearched : Regex → (old new : Cache) → Input → Option ℕ → List Match → Option SearchError → Type 0
+AreSearched p old new input last [] error = AreSearchedLast p old new input last error
+AreSearched p old new input last (m ∷ ms) error =
+    (next : Cache) × IsItemEffect p input last false old next (Some (Ok m))
+    × AreSearched p next new (from m.end input) (Some m.end) ms error
+
+-- what the search for a token does to the caches: it leaves the reverse one unchanged
+abbrev pub IsTokenMade :
+    Machine → List ℕ → (end place : ℕ) → (old new : Cache) → Option (Result Token TokenError) → Type 0
+IsTokenMade m h end place old new item =
+    IsTokenEffect m h end place old.forward new.forward item × (new.reverse ≡ old.reverse)
+
+-- the same of tokens
+abbrev pub IsTokenSearchedLast :
+    Machine → List ℕ → (end place : ℕ) → (old new : Cache) → Option TokenError → Type 0
+IsTokenSearchedLast m h end place old new None = IsTokenMade m h end place old new None
+IsTokenSearchedLast m h end place old new (Some e) =
+    (IsTokenMade m h end place old new (Some (Err e)) × IsRefusedAt m new.forward.store h end place e)
+    ⊎ ((e ≡ Search search.OutOfMemory) × ((t : Token) × IsTokenMade m h end place old new (Some (Ok t))))
+
+abbrev pub AreTokensSearched :
+    Machine → List ℕ → (end place : ℕ) → (old new : Cache) → List Match → Option TokenError → Type 0
+AreTokensSearched m h end place old new [] error = IsTokenSearchedLast m h end place old new error
+AreTokensSearched m h end place old new (t ∷ ts) error =
+    (token : Token) × (next : Cache) × (match_of token ≡ t) × IsTokenMade m h end place old next (Some (Ok token))
+    × AreTokensSearched m h end t.end next new ts error
+
+-- a call of a walk that has reported so many pairs
+abbrev pub IsCalled :
+    Direction → Machine → Input → (told : ℕ) → (old new : CacheView) → Result (Option HalfMatch) SearchError → Type 0
+IsCalled way m input told old new result =
+    (walk : Walk) × (next : Walk) × (call : Result (Unit {0}) SearchError) × HasTold way m input walk told
+    × IsCallEffect States way m input walk next old new call × (result_err result ≡ result_err call)
+    × IfErr call (IsWalkRefusal States way m new.store input walk told)
+
+-- the cache of the DFA of a direction, and the other one
+abbrev pub own_of : (reverse : Bool) → Cache → CacheView
+own_of false c = c.forward
+own_of true c = c.reverse
+
+abbrev pub other_of : (reverse : Bool) → Cache → CacheView
+other_of false c = c.reverse
+other_of true c = c.forward
+
+-- the step of a walk, which leaves the other cache unchanged
+abbrev pub IsWalkStepped : Regex → Option Begun → (old new : Cache) → Result (Option HalfMatch) SearchError → Type 0
+IsWalkStepped r None old new result = ⊥
+IsWalkStepped r (Some w) old new result =
+    IsCalled (direction_of w.reverse) (dfa_of w.reverse r) w.input w.told (own_of w.reverse old) (own_of w.reverse new)
+    result
+    × (other_of w.reverse new ≡ other_of w.reverse old)
+
+-- the walk of a fresh set, and the list of its patterns; or there is no memory for the set or the list
+abbrev pub ArePatternsSearched :
+    Machine → Input → (capacity : ℕ) → (old new : CacheView) → List ℕ → Option SearchError → Type 0
+ArePatternsSearched m input capacity old new found error =
+    ((new ≡ old) × (error ≡ Some search.OutOfMemory))
+    ⊎ ((set : List Bool) × (result : Result (Unit {0}) SearchError)
+    × IsWhichEffect m input (empty_set capacity) old new result
+    × IfErr result (IsWhichRefusal m new.store input (empty_set capacity) set)
+    × (((found ≡ members set) × (error ≡ result_err result)) ⊎ (error ≡ Some search.OutOfMemory)))
+
+-- what a request does to the caches of the current regex; one that uses one cache alone leaves the other unchanged
+abbrev pub IsMadeBy : Regex → List Begun → Request → (old new : Cache) → Reply → Type 0
+IsMadeBy r walks (request.SearchFwd input) old new answer =
+    OnHalf (IsSearched Forward r.forward input old.forward new.forward) answer × (new.reverse ≡ old.reverse)
+IsMadeBy r walks (request.SearchRev input) old new answer =
+    OnHalf (IsSearched Backward r.reverse input old.reverse new.reverse) answer × (new.forward ≡ old.forward)
+IsMadeBy r walks (request.Find input) old new answer = OnSpan (IsSpanSearched r input old new) answer
+IsMadeBy r walks (request.IsMatch input) old new answer = OnTruth (IsTruthSearched r input old new) answer
+IsMadeBy r walks (request.Iterate input) old new answer = OnSpans (AreSearched r old new input None) answer
+IsMadeBy r walks (request.Tokenise input) old new answer =
+    OnTokens (AreTokensSearched r.forward input.haystack input.end input.start old new) answer
+IsMadeBy r walks (request.BeginWalk reverse input) old new answer = new ≡ old
+IsMadeBy r walks (request.StepWalk k) old new answer = OnHalf (IsWalkStepped r (nth walks k) old new) answer
+IsMadeBy r walks (request.Which capacity input) old new answer =
+    OnPatterns (ArePatternsSearched r.forward input capacity old.forward new.forward) answer
+    × (new.reverse ≡ old.reverse)
+IsMadeBy r walks (request.Reset k) old new answer = new ≡ old
+
+abbrev pub IsMadeByOf : Option Regex → List Begun → Request → (old new : Cache) → Reply → Type 0
+IsMadeByOf None walks q old new answer = ⊥
+IsMadeByOf (Some r) walks q old new answer = IsMadeBy r walks q old new answer
+
+-- after an Ok reset they are fresh ones of its regex
+abbrev pub AreFreshOf : Option Regex → Cache → Type 0
+AreFreshOf None c = ⊥
+AreFreshOf (Some r) c = AreFresh r c
+
+-- what a request and its reply do to the caches: a bad request and a reset that fails leave them unchanged
+abbrev pub AreMade : List Regex → History → Request → Reply → (old new : Cache) → Type 0
+AreMade regexes h q (reply.Bad why) old new = new ≡ old
+AreMade regexes h (request.Reset k) (reply.Done (Ok done)) old new = AreFreshOf (nth regexes k) new
+AreMade regexes h q answer old new = IsMadeByOf (nth regexes h.current) h.walks q old new answer
+
+-- the requests are answered over these caches, one after another
+abbrev pub AreAnsweredAfter : List Regex → History → Cache → List Request → List Reply → Type 0
+AreAnsweredAfter regexes h c [] replies = Unit {0}
+AreAnsweredAfter regexes h c (q ∷ qs) [] = Unit {0}
+AreAnsweredAfter regexes h c (q ∷ qs) (r ∷ rs) =
+    (next : Cache) × AreMade regexes h q r c next × AreAnsweredAfter regexes (after h q r) next qs rs
+
+-- starting with fresh ones of regex 0, if there is one
+abbrev pub AreAnswered : List Regex → List Request → List Reply → Type 0
+AreAnswered [] script replies = Unit {0}
+AreAnswered (r ∷ rs) script replies = (c : Cache) × AreFresh r c × AreAnsweredAfter (r ∷ rs) start c script replies

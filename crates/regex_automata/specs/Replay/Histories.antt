@@ -1,0 +1,63 @@
+-- What the requests so far and their replies have made: which regex is current, and which walks there are.
+use Rattle.std.specs.Prelude.{ℕ, zero, suc, ◌+◌, Bool, List, [], ◌∷◌, ◌++◌, Ok}
+use Rattle.automata_base.specs.Haystacks.Input.{Input}
+use Rattle.regex_automata.specs.declared.replay.requests.Request.{Request}
+use Rattle.regex_automata.specs.declared.replay.requests.Request.TheVariants as request
+use Rattle.regex_automata.specs.declared.replay.requests.Reply.{Reply}
+use Rattle.regex_automata.specs.declared.replay.requests.Reply.TheVariants as reply
+
+-- a walk that was begun: the number of its regex, its direction, its input, and how many of its steps answered Ok
+pub record Begun : Type 0 where
+  pub regex : ℕ
+  pub reverse : Bool
+  pub input : Input
+  pub told : ℕ
+
+-- the number of the current regex, and the walks by their numbers
+pub record History : Type 0 where
+  pub current : ℕ
+  pub walks : List Begun
+
+-- before the first request
+abbrev pub start : History
+start = record { current = 0; walks = [] }
+
+-- a walk after one more Ok step
+abbrev pub stepped : Begun → Begun
+stepped w = record w { told = w.told + 1 }
+
+-- the walks, after one more Ok step of walk `k`
+abbrev pub step_at : ℕ → List Begun → List Begun
+step_at k [] = []
+step_at zero (w ∷ ws) = stepped w ∷ ws
+step_at (suc k) (w ∷ ws) = w ∷ step_at k ws
+
+-- a walk is begun by an Ok reply, and goes on by an Ok reply; an Ok reply makes another regex current
+abbrev pub after_begin : History → (reverse : Bool) → Input → Reply → History
+after_begin h reverse input (reply.Begun (Ok k)) =
+    record {
+      current = h.current;
+      walks = h.walks ++ record { regex = h.current; reverse = reverse; input = input; told = 0 } ∷ [];
+    }
+after_begin h reverse input r = h
+
+abbrev pub after_step : History → ℕ → Reply → History
+after_step h k (reply.Half (Ok found)) = record { current = h.current; walks = step_at k h.walks }
+after_step h k r = h
+
+abbrev pub after_reset : History → ℕ → Reply → History
+after_reset h k (reply.Done (Ok done)) = record { current = k; walks = h.walks }
+after_reset h k r = h
+
+-- the history after one more request and its reply
+abbrev pub after : History → Request → Reply → History
+after h (request.BeginWalk reverse input) r = after_begin h reverse input r
+after h (request.StepWalk k) r = after_step h k r
+after h (request.Reset k) r = after_reset h k r
+after h other r = h
+
+-- and after a whole script
+abbrev pub history : History → List Request → List Reply → History
+history h [] replies = h
+history h (q ∷ qs) [] = h
+history h (q ∷ qs) (r ∷ rs) = history (after h q r) qs rs

@@ -1,0 +1,113 @@
+-- How what a replay keeps fits the history of its requests and replies.
+use Rattle.std.specs.Prelude.{ℕ, ◌≡◌, ◌+◌, ◌<◌, List, [], ◌∷◌, length, slice_index_or, slice_set, Option, Some, Result}
+use Rattle.std.specs.Prelude.{OnOk, OnErr}
+use Rattle.automata_base.specs.Haystacks.Input.{Input}
+use Rattle.automata_base.specs.Lists.{nth}
+use Rattle.automata_base.specs.Haystacks.Matches.{HalfMatch}
+use Rattle.automata_base.specs.Paths.Selections.{Pair}
+use Rattle.automata_base.specs.Haystacks.Tapes.{Direction}
+use Rattle.automata_config.specs.declared.error.SearchError.{SearchError}
+use Rattle.automata_hybrid.specs.Cache.Caches.{CacheView}
+use Rattle.automata_hybrid.specs.Machines.Machine.{Machine}
+use Rattle.automata_hybrid.specs.Walks.Answers.{AreWalked, HasTold}
+use Rattle.automata_hybrid.specs.Walks.State.{Walk, Ended}
+use Rattle.regex_automata.specs.Replay.Histories.{Begun, History, after}
+use Rattle.regex_automata.specs.Spans.Contracts.{IsStep}
+use Rattle.regex_automata.specs.Regexes.Caches.{AreCachesOf}
+use Rattle.regex_automata.specs.Replay.Caches.{AreMade, IsCalled, other_of, own_of}
+use Rattle.regex_automata.specs.Replay.Replies.{IsReply, dfa_of, direction_of}
+use Rattle.regex_automata.specs.declared.hybrid.regex.Regex.{Regex}
+use Rattle.regex_automata.specs.declared.hybrid.regex.caches.Cache.{Cache}
+use Rattle.regex_automata.specs.declared.replay.requests.Reply.{Reply}
+use Rattle.regex_automata.specs.declared.replay.requests.Request.{Request}
+use Rattle.regex_automata.specs.declared.replay.players.Player.{Player}
+use Rattle.regex_automata.specs.declared.replay.walks.KeptWalk.{KeptWalk}
+
+-- a walk has answered so many calls; after its last pair it has ended
+pub record HasAnswered (way : Direction) (m : Machine) (input : Input) (w : Walk) (k : ℕ) : Type 0 where
+  pub told : HasTold way m input w k
+  pub ended : (pairs : List Pair) → AreWalked way m input pairs → length pairs < k → w.stage ≡ Ended
+
+-- one more call of it: what it returns, and what it leaves
+pub record IsCall (way : Direction) (m : Machine) (input : Input) (old new : Walk)
+    (result : Result (Option HalfMatch) SearchError) : Type 0 where
+  pub step : (k : ℕ) → HasAnswered way m input old k → IsStep way m input k result
+  pub told : (k : ℕ) → HasAnswered way m input old k → OnOk result (HasAnswered way m input new (k + 1))
+  pub kept : (k : ℕ) → HasAnswered way m input old k → OnErr result (HasAnswered way m input new k)
+
+-- and what it does to its cache
+abbrev pub MakesCall :
+    Direction → Machine → Input → Walk → (old new : CacheView) → Result (Option HalfMatch) SearchError → Type 0
+MakesCall way m input w old new result =
+    (k : ℕ) → HasAnswered way m input w k → IsCalled way m input k old new result
+
+-- a walk of this regex has answered so many calls
+abbrev pub HasAnsweredBy : Regex → KeptWalk → ℕ → Type 0
+HasAnsweredBy r kept k = HasAnswered (direction_of kept.reverse) (dfa_of kept.reverse r) kept.input kept.state k
+
+-- what its next call returns then
+abbrev pub IsStepFrom : Regex → KeptWalk → ℕ → Result (Option HalfMatch) SearchError → Type 0
+IsStepFrom r kept k result = IsStep (direction_of kept.reverse) (dfa_of kept.reverse r) kept.input k result
+
+-- one more call of it
+pub record Goes (r : Regex) (old new : KeptWalk) (result : Result (Option HalfMatch) SearchError) : Type 0 where
+  pub regex : new.regex ≡ old.regex
+  pub reverse : new.reverse ≡ old.reverse
+  pub input : new.input ≡ old.input
+  pub step : (k : ℕ) → HasAnsweredBy r old k → IsStepFrom r old k result
+  pub told : (k : ℕ) → HasAnsweredBy r old k → OnOk result (HasAnsweredBy r new (k + 1))
+  pub kept : (k : ℕ) → HasAnsweredBy r old k → OnErr result (HasAnsweredBy r new k)
+
+-- the walk of this number; and one more call of it, which leaves the others
+abbrev pub IsKept : List KeptWalk → ℕ → KeptWalk → Type 0
+IsKept ks number kept = kept ≡ slice_index_or ks number kept
+
+abbrev pub GoesAt : Regex → ℕ → (olds news : List KeptWalk) → Result (Option HalfMatch) SearchError → Type 0
+GoesAt r number olds news result =
+    (old : KeptWalk) → IsKept olds number old
+    → (new : KeptWalk) × Goes r old new result × (news ≡ slice_set olds number new)
+
+-- what it does to the caches: to that of its direction what its call does, and nothing to the other
+abbrev pub MakesStep : Regex → KeptWalk → (old new : Cache) → Result (Option HalfMatch) SearchError → Type 0
+MakesStep r kept old new result =
+    MakesCall (direction_of kept.reverse) (dfa_of kept.reverse r) kept.input kept.state (own_of kept.reverse old)
+    (own_of kept.reverse new) result
+    × (other_of kept.reverse new ≡ other_of kept.reverse old)
+
+abbrev pub MakesStepAt :
+    Regex → ℕ → List KeptWalk → (old new : Cache) → Result (Option HalfMatch) SearchError → Type 0
+MakesStepAt r number walks old new result =
+    (kept : KeptWalk) → IsKept walks number kept → MakesStep r kept old new result
+
+-- what is kept of a walk belongs to the walk that was begun, and has answered as many calls
+pub record IsWalk (regexes : List Regex) (w : Begun) (kept : KeptWalk) : Type 0 where
+  pub regex : kept.regex ≡ w.regex
+  pub reverse : kept.reverse ≡ w.reverse
+  pub input : kept.input ≡ w.input
+  pub told : (r : Regex) → nth regexes w.regex ≡ Some r → HasAnsweredBy r kept w.told
+
+-- one for each
+abbrev pub AreWalks : List Regex → List Begun → List KeptWalk → Type 0
+AreWalks regexes [] [] = Unit {0}
+AreWalks regexes [] (k ∷ ks) = ⊥
+AreWalks regexes (w ∷ ws) [] = ⊥
+AreWalks regexes (w ∷ ws) (k ∷ ks) = IsWalk regexes w k × AreWalks regexes ws ks
+
+-- the current regex is the history's, the caches belong to it, and the walks are the history's
+pub record HasPlayed (h : History) (s : Player) : Type 0 where
+  pub current : s.current ≡ h.current
+  pub regex : nth s.regexes.now h.current ≡ Some s.regex.now
+  pub of : AreCachesOf s.cache s.regex.now
+  pub walks : AreWalks s.regexes.now h.walks s.walks.items
+
+-- the reply to a request is its own value, after any history; and the history goes on by it
+abbrev pub IsReplyTo : Player → Request → Reply → Type 0
+IsReplyTo s q answer = (h : History) → HasPlayed h s → IsReply s.regexes.now h q answer
+
+abbrev pub StandsAfter : (old : Player) → Request → Reply → (new : Player) → Type 0
+StandsAfter old q answer new = (h : History) → HasPlayed h old → HasPlayed (after h q answer) new
+
+-- what the request does to the caches, after any history
+abbrev pub MakesCaches : (old : Player) → Request → Reply → (new : Player) → Type 0
+MakesCaches old q answer new =
+    (h : History) → HasPlayed h old → AreMade old.regexes.now h q answer old.cache new.cache

@@ -1,0 +1,164 @@
+-- Every reply to a script is its request's own value.
+use Rattle.std.specs.Prelude.{ℕ, suc, ◌≡◌, ◌==◌, ◌∷◌, [], List, length, nat_lt, Bool, true, false, if◌then◌else◌}
+use Rattle.std.specs.Prelude.{Option, Some, None, Result, Ok, Err, IfErr, MatchOption}
+use Rattle.automata_base.specs.Answers.Answers.{IsOverlapping}
+use Rattle.automata_base.specs.Nfas.Engines.{engine_of}
+use Rattle.automata_base.specs.Haystacks.Input.{Input}
+use Rattle.automata_base.specs.Lists.{nth}
+use Rattle.automata_base.specs.Haystacks.Matches.{HalfMatch, Match}
+use Rattle.automata_base.specs.Nfas.Nodes.{nfa_of}
+use Rattle.automata_base.specs.Paths.Paths.{IsLookAcyclic}
+use Rattle.automata_base.specs.Paths.Selections.{Pair}
+use Rattle.automata_base.specs.Haystacks.Tapes.{Direction, Forward, Backward}
+use Rattle.automata_config.specs.declared.error.SearchError.{SearchError}
+use Rattle.automata_hybrid.specs.Machines.Machine.{Machine}
+use Rattle.automata_hybrid.specs.Searches.Contracts.{IsHalf, IsMemory}
+use Rattle.automata_hybrid.specs.Walks.Answers.{AreWalked, half_nth}
+use Rattle.regex_automata.specs.Replay.Histories.{Begun, History, start, after, history}
+use Rattle.regex_automata.specs.Spans.Contracts.{AreMatchesUpto, ArePatternsUpto, IsSpanOf, IsStep, IsTruthOf}
+use Rattle.regex_automata.specs.Tokens.{AreTokensUpto}
+use Rattle.regex_automata.specs.declared.hybrid.regex.Regex.{Regex}
+use Rattle.regex_automata.specs.declared.replay.requests.Request.{Request}
+use Rattle.regex_automata.specs.declared.replay.requests.Request.TheVariants as request
+use Rattle.regex_automata.specs.declared.replay.requests.Reply.{Reply}
+use Rattle.regex_automata.specs.declared.replay.requests.Reply.TheVariants as reply
+use Rattle.regex_automata.specs.declared.replay.requests.Fault.{Fault}
+use Rattle.regex_automata.specs.declared.replay.requests.Fault.TheVariants as fault
+use Rattle.regex_automata.specs.declared.tokens.error.TokenError.{TokenError}
+use Rattle.automata_config.specs.Options.{match_kind_of}
+
+-- why a request is bad, in this order: there is no regex, or a reset names none; there is no such walk; the walk
+-- belongs to a regex that is not the current one
+abbrev pub walk_fault : (current : ℕ) → Option Begun → Option Fault
+walk_fault current None = Some fault.NoWalk
+walk_fault current (Some w) = if w.regex == current then None else Some fault.OtherRegex
+
+abbrev pub own_fault : List Regex → History → Request → Option Fault
+own_fault regexes h (request.StepWalk k) = walk_fault h.current (nth h.walks k)
+own_fault regexes h (request.Reset k) = if nat_lt k (length regexes) then None else Some fault.NoRegex
+own_fault regexes h other = None
+
+abbrev pub fault_of : List Regex → History → Request → Option Fault
+fault_of [] h q = Some fault.NoRegex
+fault_of (r ∷ rs) h q = own_fault (r ∷ rs) h q
+
+-- the reply is of this form, and its value has this property
+abbrev pub OnHalf : (Result (Option HalfMatch) SearchError → Type 0) → Reply → Type 0
+OnHalf P (reply.Half result) = P result
+OnHalf P other = ⊥
+
+abbrev pub OnSpan : (Result (Option Match) SearchError → Type 0) → Reply → Type 0
+OnSpan P (reply.Span result) = P result
+OnSpan P other = ⊥
+
+abbrev pub OnTruth : (Result Bool SearchError → Type 0) → Reply → Type 0
+OnTruth P (reply.Truth result) = P result
+OnTruth P other = ⊥
+
+abbrev pub OnSpans : (List Match → Option SearchError → Type 0) → Reply → Type 0
+OnSpans P (reply.Spans found error) = P found.items error
+OnSpans P other = ⊥
+
+abbrev pub OnTokens : (List Match → Option TokenError → Type 0) → Reply → Type 0
+OnTokens P (reply.Tokens found error) = P found.items error
+OnTokens P other = ⊥
+
+abbrev pub OnBegun : (Result ℕ SearchError → Type 0) → Reply → Type 0
+OnBegun P (reply.Begun result) = P result
+OnBegun P other = ⊥
+
+abbrev pub OnPatterns : (List ℕ → Option SearchError → Type 0) → Reply → Type 0
+OnPatterns P (reply.Patterns found error) = P found.items error
+OnPatterns P other = ⊥
+
+abbrev pub OnDone : (Result (Unit {0}) SearchError → Type 0) → Reply → Type 0
+OnDone P (reply.Done result) = P result
+OnDone P other = ⊥
+
+-- the direction of a walk, and the DFA that makes it
+abbrev pub direction_of : (reverse : Bool) → Direction
+direction_of false = Forward
+direction_of true = Backward
+
+abbrev pub dfa_of : (reverse : Bool) → Regex → Machine
+dfa_of false r = r.forward
+dfa_of true r = r.reverse
+
+-- the step of a walk
+abbrev pub IsStepOf : Regex → Option Begun → Result (Option HalfMatch) SearchError → Type 0
+IsStepOf r None result = ⊥
+IsStepOf r (Some w) result = IsStep (direction_of w.reverse) (dfa_of w.reverse r) w.input w.told result
+
+-- a walk takes the next number
+abbrev pub IsNumber : ℕ → Result ℕ SearchError → Type 0
+IsNumber n (Ok k) = k ≡ n
+IsNumber n (Err e) = IsMemory e
+
+-- the reply is the value of its request, by the current regex alone, and of a step by its walk alone; or an error that
+-- the request's own call may give
+abbrev pub IsOwed : Regex → (walks : List Begun) → Request → Reply → Type 0
+IsOwed r walks (request.SearchFwd input) = OnHalf (IsHalf Forward r.forward input)
+IsOwed r walks (request.SearchRev input) = OnHalf (IsHalf Backward r.reverse input)
+IsOwed r walks (request.Find input) = OnSpan (IsSpanOf r input)
+IsOwed r walks (request.IsMatch input) = OnTruth (IsTruthOf r input)
+IsOwed r walks (request.Iterate input) = OnSpans (AreMatchesUpto r input)
+IsOwed r walks (request.Tokenise input) = OnTokens (AreTokensUpto r.forward input)
+IsOwed r walks (request.BeginWalk reverse input) = OnBegun (IsNumber (length walks))
+IsOwed r walks (request.StepWalk k) = OnHalf (IsStepOf r (nth walks k))
+IsOwed r walks (request.Which capacity input) = OnPatterns (ArePatternsUpto r.forward input capacity)
+IsOwed r walks (request.Reset k) = OnDone (λ result. IfErr result IsMemory)
+
+abbrev pub IsOwedBy : Option Regex → (walks : List Begun) → Request → Reply → Type 0
+IsOwedBy None walks q answer = ⊥
+IsOwedBy (Some r) walks q answer = IsOwed r walks q answer
+
+-- a reply after this history: bad exactly for the request's fault, and otherwise its own value
+abbrev pub IsReply : List Regex → History → Request → Reply → Type 0
+IsReply regexes h q answer =
+    MatchOption (fault_of regexes h q)
+    (IsOwedBy (nth regexes h.current) h.walks q answer)
+    (λ why. answer ≡ reply.Bad why)
+
+-- one reply for each request, each after the history that the ones before it made
+abbrev pub AreRepliesAfter : List Regex → History → List Request → List Reply → Type 0
+AreRepliesAfter regexes h [] [] = Unit {0}
+AreRepliesAfter regexes h [] (r ∷ rs) = ⊥
+AreRepliesAfter regexes h (q ∷ qs) [] = ⊥
+AreRepliesAfter regexes h (q ∷ qs) (r ∷ rs) = IsReply regexes h q r × AreRepliesAfter regexes (after h q r) qs rs
+
+-- from the beginning on
+abbrev pub AreReplies : List Regex → List Request → List Reply → Type 0
+AreReplies regexes script replies = AreRepliesAfter regexes start script replies
+
+-- the Ok reply to a step of walk `k`, before those that come later
+abbrev pub tell : ℕ → Request → Reply → List (Option HalfMatch) → List (Option HalfMatch)
+tell k (request.StepWalk j) (reply.Half (Ok found)) later = if j == k then found ∷ later else later
+tell k (request.StepWalk j) other later = later
+tell k q r later = later
+
+-- the Ok replies to the steps of walk `k`, in their order
+abbrev pub told_to : ℕ → List Request → List Reply → List (Option HalfMatch)
+told_to k [] replies = []
+told_to k (q ∷ qs) [] = []
+told_to k (q ∷ qs) (r ∷ rs) = tell k q r (told_to k qs rs)
+
+-- they are the pairs of a list from number `told` on, and then none
+abbrev pub AreToldFrom : ℕ → List Pair → List (Option HalfMatch) → Type 0
+AreToldFrom told pairs [] = Unit {0}
+AreToldFrom told pairs (found ∷ later) = (found ≡ half_nth pairs told) × AreToldFrom (suc told) pairs later
+
+-- they are the pairs of the walk over an input, and then none: for every NFA those that its passes report (there is one
+-- such list), and without a look cycle those of the ordered paths
+pub record TellWalk (way : Direction) (m : Machine) (input : Input) (steps : List (Option HalfMatch)) : Type 0 where
+  pub told : (pairs : List Pair) → AreWalked way m input pairs → AreToldFrom 0 pairs steps
+  pub paths :
+      IsLookAcyclic (nfa_of m.nfa)
+      → (pairs : List Pair) → IsOverlapping way (engine_of m.nfa (match_kind_of m.config)) input pairs
+      → AreToldFrom 0 pairs steps
+
+-- the Ok replies to the steps of each walk, in their order, are the pairs of its list, and then none
+abbrev pub TellWalks : List Regex → List Request → List Reply → Type 0
+TellWalks regexes script replies =
+    (k : ℕ) (w : Begun) (r : Regex)
+    → nth (history start script replies).walks k ≡ Some w → nth regexes w.regex ≡ Some r
+    → TellWalk (direction_of w.reverse) (dfa_of w.reverse r) w.input (told_to k script replies)

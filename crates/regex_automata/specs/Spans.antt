@@ -1,0 +1,9 @@
+pub mod Contracts
+pub mod Outcomes
+pub mod Agreement
+pub mod IsMatch
+pub mod Iteration
+pub mod Errors
+pub mod Effects
+pub mod Costs
+pub mod Progress

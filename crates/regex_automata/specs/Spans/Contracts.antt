@@ -1,0 +1,214 @@
+-- What the answer to a call is by its DFA or its regex and its input alone, whatever the cache.
+use Rattle.std.specs.Prelude.{ℕ, suc, ◌≡◌, ◌<◌, ◌≤◌, ◌+◌, ◌-◌, ◌⊎◌, Bool, false, List, [], ◌∷◌, length, replicate}
+use Rattle.std.specs.Prelude.{Option, Some, None, Result, Ok, Err, IfOk, IfErr, IfSome, take}
+use Rattle.automata_base.specs.Answers.Answers.{IsOverlapping, ArePatterns, ArePatternsFound}
+use Rattle.automata_base.specs.Nfas.Engines.{engine_of}
+use Rattle.automata_base.specs.Haystacks.Input.{Input}
+use Rattle.automata_base.specs.Haystacks.Matches.{HalfMatch, Match}
+use Rattle.automata_base.specs.Nfas.Nodes.{nfa_of}
+use Rattle.automata_base.specs.Paths.Paths.{IsLookAcyclic}
+use Rattle.automata_base.specs.Haystacks.PatternSet.{members}
+use Rattle.automata_base.specs.Paths.Selections.{Pair}
+use Rattle.automata_base.specs.Answers.Spans.{AreSpans, IsMatch, IsSpan, Rise, TryFinds, from}
+use Rattle.automata_base.specs.Haystacks.Tapes.{Direction, Forward}
+use Rattle.automata_config.specs.declared.error.SearchError.{SearchError}
+use Rattle.automata_config.specs.declared.error.SearchError.TheVariants as search
+use Rattle.automata_hybrid.specs.Walks.Cached.{IsOpen}
+use Rattle.automata_hybrid.specs.Cache.Stores.{Stored}
+use Rattle.automata_hybrid.specs.Machines.Machine.{Machine}
+use Rattle.automata_hybrid.specs.Searches.Contracts.{IsMemory, IsStoreOf, IsUnhindered, IsUnsupported}
+use Rattle.automata_hybrid.specs.Searches.Contracts.{unsupported_error}
+use Rattle.automata_hybrid.specs.Walks.Contracts.{MayRefuseCall, MayRefuseWhich}
+use Rattle.automata_hybrid.specs.Walks.Progress.{IsOpenAfter}
+use Rattle.automata_hybrid.specs.Walks.Answers.{AreWalked, HasTold, half_nth}
+use Rattle.automata_hybrid.specs.Walks.State.{Ended, Walk}
+use Rattle.automata_hybrid.specs.Searches.Within.{LiesIn}
+use Rattle.regex_automata.specs.Spans.Iteration.{AreCollected, IsBeginning, IsNextRefusal}
+use Rattle.automata_hybrid.specs.Searches.Passes.{Skips}
+use Rattle.regex_automata.specs.Spans.IsMatch.{IsMatchRefused, IsMatchTold, IsNearestThere, IsTruthFound}
+use Rattle.regex_automata.specs.Spans.Outcomes.{FindsMatch, MatchLiesIn}
+use Rattle.regex_automata.specs.Spans.Errors.{IsFree, IsOfMemory, IsRegexRefusal}
+use Rattle.regex_automata.specs.Regexes.SoundPairs.{AreLookAcyclic, IsSoundPair, forward_engine, reverse_engine}
+use Rattle.regex_automata.specs.declared.hybrid.regex.Regex.{Regex}
+use Rattle.regex_automata.specs.declared.hybrid.regex.caches.Cache.{Cache}
+use Rattle.automata_config.specs.Options.{match_kind_of}
+
+-- the two DFAs of a regex, for answers
+abbrev pub AreStoresOf : Cache → Regex → Type 0
+AreStoresOf c p = IsStoreOf c.forward.store p.forward × IsStoreOf c.reverse.store p.reverse
+
+-- some cache of the DFA, within its settings, gives this error to a call of a walk that has reported so many pairs
+abbrev pub MayRefuseStep : Direction → Machine → Input → (told : ℕ) → SearchError → Type 0
+MayRefuseStep way m input told e = (w : Walk) × HasTold way m input w told × MayRefuseCall way m input w told e
+
+-- what a call of a walk returns after so many that returned Ok
+pub record IsStep (way : Direction) (m : Machine) (input : Input) (told : ℕ)
+    (result : Result (Option HalfMatch) SearchError) : Type 0 where
+  -- for every NFA, the next pair of the list that its passes report, and none after the last one
+  pub pair : IfOk result (λ found. (pairs : List Pair) → AreWalked way m input pairs
+      → found ≡ half_nth pairs told)
+  -- without a look cycle, that of the list of the ordered paths
+  pub paths :
+      IsLookAcyclic (nfa_of m.nfa)
+      → IfOk result (λ found.
+      (pairs : List Pair) → IsOverlapping way (engine_of m.nfa (match_kind_of m.config)) input pairs
+      → found ≡ half_nth pairs told)
+  -- with it the walk has reported so many, and no unit that it read is a quit byte
+  pub clean : IfOk result (λ found. (w : Walk) × HasTold way m input w (suc told))
+  -- it lies in the input's span, and its pattern is one of the NFA's
+  pub within : IfOk result (λ found. IfSome found (LiesIn m input))
+  -- an error is one that some cache may give
+  pub errors : IfErr result (MayRefuseStep way m input told)
+  -- after the end there is none
+  pub ended : (pairs : List Pair) → AreWalked way m input pairs → length pairs < told → IfErr result (λ e. ⊥)
+  -- an anchored mode that is not supported is reported
+  pub unsupported : IsUnsupported way m input → result ≡ Err (unsupported_error input)
+  -- if nothing prevents it, the only error is out of memory
+  pub free : IsUnhindered m input → IfErr result IsMemory
+
+-- some caches of the regex, within the settings of its DFAs, give this error to a search for a span
+abbrev pub MayRefuseSpan : Regex → Input → SearchError → Type 0
+MayRefuseSpan p input e = (c : Cache) × AreStoresOf c p × IsRegexRefusal p c input e
+
+-- what a search for a span returns by the passes of its two DFAs
+pub record IsSpanTold (p : Regex) (input : Input) (result : Result (Option Match) SearchError) : Type 0 where
+  -- what the passes of both report
+  pub found : IfOk result (FindsMatch p input)
+  -- it lies in the input's span, and its pattern is one of the NFAs'
+  pub within : IfOk result (λ o. IfSome o (MatchLiesIn p input))
+  -- an anchored mode that is not supported is reported
+  pub unsupported : IsUnsupported Forward p.forward input → result ≡ Err (unsupported_error input)
+  -- if nothing prevents it, the only errors are out of memory, and that the two are no pair
+  pub free : IsFree p input → IfErr result IsOfMemory
+  -- in a span that is done there is no match
+  pub done : input.end < input.start → result ≡ Ok None
+
+-- what a search for a span returns
+pub record IsSpanOf (p : Regex) (input : Input) (result : Result (Option Match) SearchError) : Type 0 where
+  -- for every two NFAs, what the passes of both report
+  pub told : IsSpanTold p input result
+  -- without a look cycle, what the ordered paths through both define
+  pub answer : AreLookAcyclic p → IfOk result (TryFinds (forward_engine p) (reverse_engine p) input)
+  -- over a sound pair, the span of the path that the forward search chose
+  pub span : IsSoundPair p → IfOk result (IsSpan (forward_engine p) input)
+  -- an error is one that some caches may give
+  pub errors : IfErr result (MayRefuseSpan p input)
+  -- and over a sound pair, if nothing prevents a search of either DFA, the only error is out of memory
+  pub free : IsSoundPair p → IsFree p input → IfErr result IsMemory
+
+-- some cache of the forward DFA gives this error to the search for whether there is a match
+abbrev pub MayRefuseTruth : Machine → Input → SearchError → Type 0
+MayRefuseTruth m input e = (c : Stored) × IsStoreOf c m × IsMatchRefused m c input e
+
+-- what the search for whether there is a match returns
+pub record IsTruthOf (p : Regex) (input : Input) (result : Result Bool SearchError) : Type 0 where
+  -- for every NFA, whether its search finds a match, and whether the passes over an input that is not earliest report
+  -- one
+  pub found : IfOk result (IsTruthFound p.forward input)
+  pub told : IfOk result (IsMatchTold p.forward input)
+  -- without a look cycle, whether the ordered paths have an answer
+  pub answer : IsLookAcyclic (nfa_of p.forward.nfa) → IfOk result (IsMatch (forward_engine p) input)
+  -- for every NFA too, if no place is skipped: whether an earliest search has a nearest end
+  pub nearest : (Skips p.forward → ⊥) → IfOk result (IsNearestThere p.forward input)
+  -- an error is one that some cache may give
+  pub errors : IfErr result (MayRefuseTruth p.forward input)
+  -- an anchored mode that is not supported is reported
+  pub unsupported : IsUnsupported Forward p.forward input → result ≡ Err (unsupported_error input)
+  -- if nothing prevents it, the only error is out of memory
+  pub free : IsUnhindered p.forward input → IfErr result IsMemory
+  -- in a span that is done there is none
+  pub done : input.end < input.start → result ≡ Ok false
+
+-- an item of an iteration that goes on, if the anchored mode is not supported
+abbrev pub TellsUnsupported : Regex → Input → (ended : Bool) → Option (Result Match SearchError) → Type 0
+TellsUnsupported p input ended item =
+    ended ≡ false → IsUnsupported Forward p.forward input → item ≡ Some (Err (unsupported_error input))
+
+-- where the search for a match after these begins, and where the last of these ended
+abbrev pub place_behind : ℕ → List Match → ℕ
+place_behind start [] = start
+place_behind start (m ∷ ms) = place_behind m.end ms
+
+abbrev pub end_behind : Option ℕ → List Match → Option ℕ
+end_behind last [] = last
+end_behind last (m ∷ ms) = end_behind (Some m.end) ms
+
+-- caches give this error to the search for the match after these
+abbrev pub IsRefusedBehind : Regex → Cache → Input → List Match → SearchError → Type 0
+IsRefusedBehind p c input ms e = IsNextRefusal p c (from (place_behind input.start ms) input) (end_behind None ms) e
+
+-- some caches of the regex give this error; or it is out of memory, there or for the list
+abbrev pub MayRefuseNext : Regex → Input → List Match → SearchError → Type 0
+MayRefuseNext p input ms e = IsMemory e ⊎ ((c : Cache) × AreStoresOf c p × IsRefusedBehind p c input ms e)
+
+-- the matches of an input, one after another; or the first ones, and the error that ended them
+pub record AreMatchesUpto (p : Regex) (input : Input) (ms : List Match) (error : Option SearchError) : Type 0 where
+  -- for every two NFAs, what the passes of both report
+  pub found : AreCollected (FindsMatch p) input ms error
+  -- without a look cycle, what the ordered paths through both define
+  pub answers : AreLookAcyclic p → AreCollected (TryFinds (forward_engine p) (reverse_engine p)) input ms error
+  -- over a sound pair, the spans of the paths; and if there is an error, a beginning of them
+  pub spans : IsSoundPair p → AreCollected (IsSpan (forward_engine p)) input ms error
+  pub beginning :
+      IsSoundPair p → (whole : List Match) → AreSpans (forward_engine p) input whole → IsBeginning ms whole
+  -- their ends rise, so there is at most one more than the span has bytes
+  pub rise : Rise input.end None ms
+  pub few : length ms ≤ input.end - input.start + 1
+  -- an error is one that some caches may give after these
+  pub errors : IfSome error (MayRefuseNext p input ms)
+  -- an anchored mode that is not supported is reported, and no match
+  pub unsupported :
+      IsUnsupported Forward p.forward input → (ms ≡ []) × (error ≡ Some (unsupported_error input))
+  -- over a sound pair, if nothing prevents a search of either DFA, the only error is out of memory
+  pub free : IsSoundPair p → IsFree p input → IfSome error IsMemory
+
+-- each number is at least `low`, and greater than the one before
+abbrev pub AreRising : (low : ℕ) → List ℕ → Type 0
+AreRising low [] = Unit {0}
+AreRising low (k ∷ ks) = (low ≤ k) × AreRising (suc k) ks
+
+-- a set with room for so many patterns, and none in it
+abbrev pub empty_set : (capacity : ℕ) → List Bool
+empty_set capacity = replicate capacity false
+
+-- some cache of the DFA gives this error to a walk that had reported just these patterns; or it is out of memory for
+-- the set or the list, and there are no patterns
+abbrev pub MayRefusePatterns : Machine → Input → (capacity : ℕ) → List ℕ → SearchError → Type 0
+MayRefusePatterns m input capacity found e =
+    (IsMemory e × (found ≡ []))
+    ⊎ ((set : List Bool) × (found ≡ members set) × MayRefuseWhich m input (empty_set capacity) set e)
+
+-- the walk of a set has made calls as long as the set could take more, until it ended or the set takes no more; no unit
+-- that it read is a quit byte
+abbrev pub HasToldSet : Machine → Input → (set : List Bool) → Type 0
+HasToldSet m input set =
+    (calls : ℕ) × (walk : Walk) × HasTold Forward m input walk calls
+    × ((k : ℕ) → k < calls → IsOpenAfter m input set k)
+    × ((walk.stage ≡ Ended)
+    ⊎ ((pairs : List Pair) → AreWalked Forward m input pairs → IsOpen input set (take calls pairs) → ⊥))
+
+-- the patterns below a capacity of all overlapping matches, in an earliest search of the first one; or those reported
+-- before the error
+pub record ArePatternsUpto (m : Machine) (input : Input) (capacity : ℕ) (found : List ℕ)
+    (error : Option SearchError) : Type 0 where
+  -- in increasing order
+  pub rise : AreRising 0 found
+  -- for every NFA, those that the walk reports
+  pub told : error ≡ None → ArePatterns (AreWalked Forward m input) input capacity [] found
+  -- without a look cycle, those of the ordered paths
+  pub paths :
+      IsLookAcyclic (nfa_of m.nfa) → error ≡ None
+      → ArePatternsFound (engine_of m.nfa (match_kind_of m.config)) input capacity [] found
+  -- no unit that was read up to the last one is a quit byte
+  pub clean : error ≡ None → HasToldSet m input (empty_set capacity)
+  -- an error is one that some cache may give
+  pub errors : IfSome error (MayRefusePatterns m input capacity found)
+  -- if the anchored mode is not supported there are none, and that is reported, or out of memory for the set or the
+  -- list
+  pub unsupported :
+      IsUnsupported Forward m input
+      → (found ≡ []) × ((error ≡ Some (unsupported_error input)) ⊎ (error ≡ Some search.OutOfMemory))
+  -- in a span that is done there is none
+  pub done : input.end < input.start → (found ≡ []) × IfSome error IsMemory
+  -- if nothing prevents it, the only error is out of memory
+  pub free : IsUnhindered m input → IfSome error IsMemory

@@ -1,0 +1,59 @@
+-- Why a search over two lazy DFAs fails.
+use Rattle.std.specs.Prelude.{ℕ, ◌≡◌, ◌⊎◌, true, None, Some}
+use Rattle.automata_base.specs.Answers.Answers.{Half}
+use Rattle.automata_base.specs.Haystacks.Input.{Input}
+use Rattle.automata_base.specs.Answers.Spans.{IsShort, IsTrySearch, NotAPair, back}
+use Rattle.automata_base.specs.Haystacks.Tapes.{Forward, Backward}
+use Rattle.automata_base.specs.declared.util.search.MatchErrorKind.TheVariants.{Quit as QuitAt}
+use Rattle.automata_config.specs.declared.error.SearchError.{SearchError}
+use Rattle.automata_config.specs.declared.error.SearchError.TheVariants as search
+use Rattle.automata_hybrid.specs.Cache.Stores.{Stored}
+use Rattle.automata_hybrid.specs.Searches.Cached.{IsOfInput}
+use Rattle.automata_hybrid.specs.Searches.Passes.{IsFound, IsRefused, NoQuitInReach}
+use Rattle.automata_hybrid.specs.Machines.StartSlots.{supports}
+use Rattle.regex_automata.specs.declared.hybrid.regex.Regex.{Regex}
+use Rattle.regex_automata.specs.Regexes.SoundPairs.{AreLookAcyclic, IsSoundPair, forward_engine, reverse_engine}
+use Rattle.regex_automata.specs.Spans.Outcomes.{IsOutcome}
+use Rattle.regex_automata.specs.declared.hybrid.regex.caches.Cache.{Cache}
+use Rattle.automata_config.specs.Options.{minimum_cache_clear_count_of}
+
+-- the search back from a forward answer is made, and fails
+abbrev pub IsBackRefused : Regex → Stored → Input → Half → SearchError → Type 0
+IsBackRefused p c input half e =
+    (IsShort (forward_engine p) input half → ⊥) × IsRefused Backward p.reverse c (back input half) e
+
+-- the forward search fails, or the one back, or that one finds no start
+abbrev pub HasReason : Regex → Cache → Input → SearchError → Type 0
+HasReason p c input e =
+    IsRefused Forward p.forward c.forward.store input e
+    ⊎ (((half : Half) × IsFound Forward p.forward input (Some half) × IsBackRefused p c.reverse.store input half e)
+    ⊎ ((e ≡ search.NotAPair) × IsOutcome p input NotAPair))
+
+-- nothing prevents an answer: no quit byte is in reach, the anchored mode is supported, no clear limit is set
+pub record IsFree (p : Regex) (input : Input) : Type 0 where
+  pub forward : NoQuitInReach p.forward input
+  pub reverse : NoQuitInReach p.reverse input
+  pub supported : supports p.forward input.anchored ≡ true
+  pub forward_clears : minimum_cache_clear_count_of p.forward.config ≡ None
+  pub reverse_clears : minimum_cache_clear_count_of p.reverse.config ≡ None
+
+-- the error is out of memory, or that the two are no pair
+abbrev pub IsOfMemory : SearchError → Type 0
+IsOfMemory e = (e ≡ search.OutOfMemory) ⊎ (e ≡ search.NotAPair)
+
+-- why a search fails, and what that excludes
+pub record IsRegexRefusal (p : Regex) (c : Cache) (input : Input) (e : SearchError) : Type 0 where
+  pub reason : HasReason p c input e
+  -- if nothing prevents an answer, the error is out of memory, or that the two are no pair
+  pub free : IsFree p input → IsOfMemory e
+  -- without a look cycle, they are no pair by the paths too
+  pub apart : AreLookAcyclic p → e ≡ search.NotAPair → IsTrySearch (forward_engine p) (reverse_engine p) input NotAPair
+  -- and never over a sound pair
+  pub sound : IsSoundPair p → e ≡ search.NotAPair → ⊥
+  -- with one quit set the search back meets no quit byte
+  pub quits : p.forward.quits ≡ p.reverse.quits → (byte at : ℕ) → e ≡ search.Match (QuitAt byte at)
+      → IsRefused Forward p.forward c.forward.store input e
+
+-- a search fails by what it was given, and not for lack of room
+abbrev pub IsOfGiven : SearchError → Type 0
+IsOfGiven e = IsOfInput e ⊎ (e ≡ search.NotAPair)

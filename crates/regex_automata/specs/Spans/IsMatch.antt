@@ -1,0 +1,59 @@
+-- Whether there is a match.
+use Rattle.std.specs.Prelude.{◌≡◌, ◌⊎◌, Bool, true, Option, is_some}
+use Rattle.automata_base.specs.Answers.Answers.{Half}
+use Rattle.automata_base.specs.Nfas.Engines.{engine_of}
+use Rattle.automata_base.specs.Haystacks.Input.{Input}
+use Rattle.automata_base.specs.Answers.Spans.{in_full}
+use Rattle.automata_base.specs.Haystacks.Tapes.{Forward}
+use Rattle.automata_base.specs.Answers.OfPasses.{IsNearestAnswer, IsTold}
+use Rattle.automata_config.specs.declared.error.SearchError.{SearchError}
+use Rattle.automata_hybrid.specs.Cache.Caches.{CacheView}
+use Rattle.automata_hybrid.specs.Searches.Costs.{IsCostOfSearch}
+use Rattle.automata_hybrid.specs.Cache.Stores.{Stored}
+use Rattle.automata_hybrid.specs.Searches.Cached.{Knows}
+use Rattle.automata_hybrid.specs.Machines.Machine.{Machine}
+use Rattle.automata_hybrid.specs.Searches.Progress.{EndsProgress, LeavesProgress}
+use Rattle.automata_hybrid.specs.Searches.Passes.{IsFound, IsRefused, Skips}
+use Rattle.automata_config.specs.Options.{match_kind_of}
+
+-- the input, earliest
+abbrev pub in_part : Input → Input
+in_part input = record input { earliest = true }
+
+-- what is searched: the input, not earliest if split places are skipped, and earliest otherwise
+abbrev pub IsAsked : Machine → Input → Input → Type 0
+IsAsked m input asked = (Skips m × (asked ≡ in_full input)) ⊎ ((Skips m → ⊥) × (asked ≡ in_part input))
+
+-- whether there is a match, by what a search finds; none of its passes met a quit byte
+abbrev pub IsTruthFound : Machine → Input → Bool → Type 0
+IsTruthFound m input truth =
+    (asked : Input) × (o : Option Half) × IsAsked m input asked × IsFound Forward m asked o × (truth ≡ is_some o)
+
+-- by what passes report of the input when it is not earliest
+abbrev pub IsMatchTold : Machine → Input → Bool → Type 0
+IsMatchTold m input truth =
+    (o : Option Half) × IsTold Forward m.nfa (match_kind_of m.config) (in_full input) o × (truth ≡ is_some o)
+
+-- and by the nearest end of an accepting path, which an earliest search finds
+abbrev pub IsNearestThere : Machine → Input → Bool → Type 0
+IsNearestThere m input truth =
+    (o : Option Half) × IsNearestAnswer Forward (engine_of m.nfa (match_kind_of m.config)) (in_part input) o
+    × (truth ≡ is_some o)
+
+-- why it fails
+abbrev pub IsMatchRefused : Machine → Stored → Input → SearchError → Type 0
+IsMatchRefused m c input e = (asked : Input) × IsAsked m input asked × IsRefused Forward m c asked e
+
+-- all that it uses is cached
+abbrev pub KnowsMatch : Machine → Stored → Input → Type 0
+KnowsMatch m c input = (asked : Input) → IsAsked m input asked → Knows Forward m c asked
+
+-- what it costs, and what progress it leaves
+abbrev pub IsMatchCost : Machine → Input → (old new : CacheView) → Type 0
+IsMatchCost m input old new = (asked : Input) × IsAsked m input asked × IsCostOfSearch Forward m asked old new
+
+abbrev pub EndsMatch : Machine → Input → (old new : Stored) → Type 0
+EndsMatch m input old new = (asked : Input) × IsAsked m input asked × EndsProgress Forward m asked old new
+
+abbrev pub LeavesMatch : Machine → Input → (old new : Stored) → SearchError → Type 0
+LeavesMatch m input old new e = (asked : Input) × IsAsked m input asked × LeavesProgress Forward m asked old new e

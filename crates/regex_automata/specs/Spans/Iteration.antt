@@ -1,0 +1,104 @@
+-- The matches of an input, one after another.
+use Rattle.std.specs.Prelude.{ℕ, suc, ◌≡◌, ◌+◌, ◌-◌, ◌<◌, ◌⊎◌, ◌==◌, Bool, true, false, cond, List, [], ◌∷◌, ◌++◌}
+use Rattle.std.specs.Prelude.{Option, None, Some, Result, Ok, Err, IfErr, IfSome, IsOk, MatchOption}
+use Rattle.automata_base.specs.Haystacks.Input.{Input}
+use Rattle.automata_base.specs.Haystacks.Matches.{Match}
+use Rattle.automata_base.specs.declared.util.search.Anchored.{Anchored}
+use Rattle.automata_base.specs.Answers.Spans.{AreMatches, IsEmptyAt, IsNextItem, from}
+use Rattle.automata_config.specs.declared.error.SearchError.{SearchError}
+use Rattle.regex_automata.specs.Spans.Costs.{AreCostsOf}
+use Rattle.regex_automata.specs.Spans.Outcomes.{FindsMatch, MatchLiesIn}
+use Rattle.regex_automata.specs.Regexes.Caches.{AreStill, KnowsBoth, NothingCleared}
+use Rattle.regex_automata.specs.Spans.Errors.{IsOfGiven, IsRegexRefusal}
+use Rattle.regex_automata.specs.declared.hybrid.regex.Regex.{Regex}
+use Rattle.regex_automata.specs.declared.hybrid.regex.caches.Cache.{Cache}
+
+-- the search finds an empty match at the last end, so it is made again from one place later
+abbrev pub FindsEmptyAt : Regex → Input → Option ℕ → Type 0
+FindsEmptyAt p input last = (m : Match) × FindsMatch p input (Some m) × IsEmptyAt last m
+
+-- the match after one that ended at `last`: it is not an empty one there
+abbrev pub IsNextMatch : Regex → Input → Option ℕ → Option Match → Type 0
+IsNextMatch p input last answer = IsNextItem (FindsMatch p) input input.start last answer
+
+-- why the next match fails: the search failed, or it found an empty match at the last end and the search from one place
+-- later failed
+abbrev pub IsNextRefusal : Regex → Cache → Input → Option ℕ → SearchError → Type 0
+IsNextRefusal p c input last e =
+    IsRegexRefusal p c input e
+    ⊎ ((m : Match) × FindsMatch p input (Some m) × IsEmptyAt last m
+    × IsRegexRefusal p c (from (suc input.start) input) e)
+
+-- a match ends after the last end
+abbrev pub GoesPast : Regex → Input → Option ℕ → Match → Type 0
+GoesPast p input last m = MatchLiesIn p input m × (last ≡ Some input.start → input.start < m.end)
+
+-- the cost of one search; or, if it finds an empty match at the last end, of that and the search from one place later
+abbrev pub AreCostsTwice : Regex → Input → Option ℕ → Cache → Cache → Type 0
+AreCostsTwice p input last old new =
+    AreCostsOf p input old new
+    ⊎ (FindsEmptyAt p input last
+    × ((between : Cache) × AreCostsOf p input old between × AreCostsOf p (from (suc input.start) input) between new))
+
+-- all that the next match uses is cached: what a search uses, and, if that finds an empty match at the last end, what
+-- the search from one place later uses
+abbrev pub KnowsNext : Regex → Cache → Input → Option ℕ → Type 0
+KnowsNext p c input last =
+    KnowsBoth p c input
+    × ((m : Match) → FindsMatch p input (Some m) → IsEmptyAt last m → KnowsBoth p c (from (suc input.start) input))
+
+-- and what an item uses: nothing, if the iteration has ended
+abbrev pub KnowsItem : Regex → Cache → Input → Option ℕ → (ended : Bool) → Type 0
+KnowsItem p c input last true = Unit {0}
+KnowsItem p c input last false = KnowsNext p c input last
+
+-- what an item does to what is cached
+pub record LearnsItem
+    (p : Regex) (old new : Cache) (input : Input) (last : Option ℕ) (ended : Bool)
+    (item : Option (Result Match SearchError)) : Type 0 where
+  -- if all that it uses is cached, nothing is determinized, and it fails only by what it was given
+  pub known : KnowsItem p old input last ended → AreStill old new × IfSome item (λ r. IfErr r IsOfGiven)
+  -- if it is no error and nothing was cleared, what it used is cached
+  pub learned : NothingCleared old new → IfSome item (λ r. IsOk r) → KnowsItem p new input last ended
+
+-- one item of an iteration, and the iteration before and after it: what is left to be searched, where the last match
+-- ended, and whether it has ended
+abbrev pub GivesItem :
+    Regex → Cache → Option (Result Match SearchError) → (input input' : Input) → (last last' : Option ℕ)
+    → (ended ended' : Bool) → Type 0
+GivesItem p c item input input' last last' true ended' =
+    (item ≡ None) × (input' ≡ input) × (last' ≡ last) × (ended' ≡ true)
+GivesItem p c None input input' last last' false ended' =
+    IsNextMatch p input last None × (input' ≡ input) × (last' ≡ last) × (ended' ≡ true)
+GivesItem p c (Some (Ok m)) input input' last last' false ended' =
+    IsNextMatch p input last (Some m) × MatchLiesIn p input m
+    × (input' ≡ from m.end input) × (last' ≡ Some m.end) × (ended' ≡ false)
+GivesItem p c (Some (Err e)) input input' last last' false ended' =
+    IsNextRefusal p c input last e × (input' ≡ input) × (last' ≡ last) × (ended' ≡ true)
+
+-- an input made of its parts
+abbrev pub input_at : List ℕ → (start end : ℕ) → Anchored → (earliest : Bool) → Input
+input_at haystack start end anchored earliest =
+    record { haystack = haystack; start = start; end = end; anchored = anchored; earliest = earliest }
+
+-- how many items may come
+abbrev pub most_items : (ended : Bool) → Input → Option ℕ → ℕ
+most_items true input last = 0
+most_items false input None = input.end + 2 - input.start
+most_items false input (Some end) =
+    cond (end == input.start) (input.end + 1 - input.start) (input.end + 2 - input.start)
+
+-- the first matches of an iteration, whatever comes after them
+abbrev pub AreFirst : (Finds : Input → Option Match → Type 0) → Input → ℕ → Option ℕ → List Match → Type 0
+AreFirst Finds input start last [] = Unit {0}
+AreFirst Finds input start last (m ∷ ms) =
+    IsNextItem Finds input start last (Some m) × AreFirst Finds input m.end (Some m.end) ms
+
+-- all matches of an input, or the first ones and the error that ended them
+abbrev pub AreCollected : (Finds : Input → Option Match → Type 0) → Input → List Match → Option SearchError → Type 0
+AreCollected Finds input ms error =
+    MatchOption error (AreMatches Finds input input.start None ms) (λ e. AreFirst Finds input input.start None ms)
+
+-- all matches begin with these
+abbrev pub IsBeginning : List Match → List Match → Type 0
+IsBeginning ms all = (rest : List Match) × (all ≡ ms ++ rest)
