@@ -1,5 +1,5 @@
 -- Boundaries between bytes, the classes that they make, and the stride that has room for the classes.
-use Rattle.std.proofs.Common.{ℕ, zero, suc, ◌≡◌, ◌+◌, ◌-◌, ◌*◌, ◌^◌, ◌<◌, ◌≤◌, Bool, true, false, eqb, get_or-set_other}
+use Rattle.std.proofs.Common.{ℕ, zero, suc, ◌≡◌, ◌+◌, ◌-◌, ◌*◌, ◌^◌, ◌<◌, ◌≤◌, Bool, true, false, eqb, get_or-set_other, length-set, subst}
 use Rattle.std.proofs.Common.{cond, List, length, get_or, refl, sym, ap, ◌∙◌, arith, ◌⊎◌, inl, inr}
 use Rattle.std.proofs.Math.Nat.{pow-le-pow_right}
 use Rattle.std.proofs.lemmas.Bool.{cases_lt}
@@ -85,6 +85,37 @@ next_counted f map n c within e h k l = go (eqb_tells k n)
     go (inl w) =
         ap (λ z. get_or (set map n c) z 0) w.1 ∙ (get_or-set_same map n c 0 within ∙ (e ∙ ap (boundary_count f) (sym w.1)))
     go (inr w) = get_or-set_other map n k c 0 w.1 ∙ h k (omega (arith, l, w.1))
+
+-- A table of the counts below a byte, and the last of them.
+pub record Counted (f : ℕ → Bool) (map : List ℕ) (class byte : ℕ) : Type 0 where
+  pub whole : length map ≡ 256
+  pub last : class ≡ boundary_count f (byte - 1)
+  pub small : class < byte
+  pub done : (k : ℕ) → k < byte → get_or map k 0 ≡ boundary_count f k
+
+pub counted_next :
+    (f : ℕ → Bool) (map : List ℕ) (class byte more : ℕ) → 1 ≤ byte → byte < 256 → more ≡ cond (f byte) 1 0
+    → Counted f map class byte → Counted f (set map byte (class + more)) (class + more) (byte + 1)
+counted_next f map class byte more first within e c =
+    let next : class + more ≡ boundary_count f byte = ap (λ z. class + z) e ∙ count_next f byte class first c.last in
+    record {
+      whole = length-set map byte (class + more) ∙ c.whole;
+      last = next ∙ ap (boundary_count f) (omega arith);
+      small = omega (arith, c.small, e, one_at_most (f byte));
+      done = next_counted f map byte (class + more) (omega (arith, c.whole, within)) next c.done;
+    }
+
+pub counted_same :
+    (f : ℕ → Bool) (map : List ℕ) (class byte : ℕ) → 1 ≤ byte → byte < 256 → f byte ≡ false
+    → Counted f map class byte → Counted f (set map byte class) class (byte + 1)
+counted_same f map class byte first within e c =
+    subst (λ z. Counted f (set map byte z) z (byte + 1)) (none class) (counted_next f map class byte 0 first within (sym (ap (λ z. cond z 1 0) e)) c)
+  where
+    none : (class : ℕ) → class + 0 ≡ class
+    none class = omega arith
+
+pub counted_at : (f : ℕ → Bool) (map : List ℕ) (class m n : ℕ) → m ≡ n → Counted f map class m → Counted f map class n
+counted_at f map class m n e c = subst (Counted f map class) e c
 
 pub are_classes :
     (f : ℕ → Bool) (classes : List ℕ) → length classes ≡ 256

@@ -72,6 +72,13 @@ none_next quits k any at now is sum before none b l =
     let o = or_none any at (sym sum ∙ none) in
     below_more (λ i. is_quit quits i ≡ false) k (λ i j. before o.0 i j) (sym is ∙ o.1) b l
 
+pub unmarked_next :
+    (f : ℕ → Bool) (k : ℕ) (any now : Bool) → now ≡ any || f k → (any ≡ false → (b : ℕ) → b < k → f b ≡ false)
+    → now ≡ false → (b : ℕ) → b < k + 1 → f b ≡ false
+unmarked_next f k any now sum before none b l =
+    let o = or_none any (f k) (sym sum ∙ none) in
+    below_more (λ i. f i ≡ false) k (λ i j. before o.0 i j) o.1 b l
+
 pub adds_no_quits :
     (m : List Bool) (quits : List Bool) → ((b : ℕ) → b < 256 → is_quit quits b ≡ false) → Adds m m (quits_bound quits)
 adds_no_quits m quits none = record {

@@ -120,11 +120,36 @@ fn counts(marks: &[bool; 257]) -> [u8; 256]
 {
     let mut map = [0u8; 256];
     let mut class = 0u8;
-    for byte in 1..256 {
+    for byte in 1..16 {
         class += u8::from(marks[byte]);
         map[byte] = class;
     }
+    for block in 1..16usize {
+        let at = 16 * block;
+        if has_mark(marks, at) {
+            for i in 0..16usize {
+                class += u8::from(marks[at + i]);
+                map[at + i] = class;
+            }
+        } else {
+            for i in 0..16usize {
+                map[at + i] = class;
+            }
+        }
+    }
     map
+}
+
+// Whether one of sixteen bytes is marked. It does not stop at the first, so that all are looked at at once.
+fn has_mark(marks: &[bool; 257], at: usize) -> bool
+    requires { at ≤ 240 }
+    ensures { IsFalse result → (i : ℕ) → i < 16 → is_marked marks.now (at + i) ≡ false }
+{
+    let mut any = false;
+    for i in 0..16usize {
+        any = either(any, marks[at + i]);
+    }
+    any
 }
 
 fn mark_if(marks: &mut [bool; 257], byte: usize, yes: bool)
