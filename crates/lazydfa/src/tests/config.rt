@@ -30,8 +30,11 @@ fn joins_settings(rt: HostRuntime) {
 #[test]
 fn settles_settings(rt: HostRuntime) {
     let heuristic = Config::new().unicode_word_boundary(true);
-    let allows = |byte, in_ascii| heuristic.allows_quit(byte, in_ascii);
-    let allowed = (allows(0x80, false), allows(0x41, false), allows(0x80, true));
+    let high = (
+        heuristic.allows_quit(0x80, false),
+        heuristic.allows_quit(0x80, true),
+    );
+    let allowed = (high.0, heuristic.allows_quit(0x41, false), high.1);
     same_of(&rt, &allowed, &(false, true, true), &"quit bytes");
     let nfa = Entry::Bound.forward(rt.alloc()).expect(&rt, "an entry");
     let settled = heuristic.settle(&nfa).expect(&rt, "settings");

@@ -17,15 +17,22 @@ use regex_automata::nfa::thompson::{Flags, NFA, State};
 use regex_automata::util::primitives::{PatternID, StateID};
 use regex_automata::util::search::{HalfMatch, Input};
 
+/// How often the cache was cleared, its memory, the bytes searched, and whether a search is in progress.
+type Totals = (usize, usize, usize, bool);
+
 /// Three thousand bytes, each with a state of its own.
 #[test]
 fn searches_a_long_chain(rt: HostRuntime) {
-    let haystack = vec![in rt.alloc(); b'a'; 3000].expect(&rt, "memory");
     let built = DFA::builder().build_from_nfa(long_chain(&rt));
     let mut bench = Bench::new(&rt, built.expect(&rt, "an automaton"));
-    ends_at(&rt, &mut bench, haystack.as_slice(), 3000);
     let want = (0, 273384, 3000, false);
-    same_of(&rt, &bench.totals(), &want, &"what is counted");
+    counts(&rt, &mut bench, &[b'a'; 3000], 3000, want);
+}
+
+/// Searches, and looks at the offset where the last match ends, and at what is counted.
+fn counts(rt: &impl Host, bench: &mut Bench, haystack: &[u8], end: usize, want: Totals) {
+    ends_at(rt, bench, haystack, end);
+    same_of(rt, &bench.totals(), &want, &"what is counted");
 }
 
 /// Searches, and looks at the offset where the last match ends.
@@ -78,11 +85,18 @@ fn letters(rt: &impl Host) -> Vec<u8> {
 #[test]
 fn makes_states_over_a_mebibyte(rt: HostRuntime) {
     let text = letters(&rt);
-    let dfa = TWELFTH.lazy(&rt, "all capacity=0 skip");
-    let mut bench = Bench::new(&rt, dfa);
-    ends_at(&rt, &mut bench, text.as_slice(), 1_048_574);
+    make_states(&rt, text.as_slice());
+}
+
+fn make_states(rt: &impl Host, text: &[u8]) {
+    let mut bench = Bench::new(rt, TWELFTH.lazy(rt, "all capacity=0 skip"));
+    make_states_by(rt, &mut bench, text);
+}
+
+fn make_states_by(rt: &impl Host, bench: &mut Bench, text: &[u8]) {
+    ends_at(rt, bench, text, 1_048_574);
     let (clears, memory, ..) = bench.totals();
-    same_of(&rt, &(clears, memory), &(62_993, 1468), &"counts");
+    same_of(rt, &(clears, memory), &(62_993, 1468), &"counts");
 }
 
 fn repeated(rt: &impl Host, text: &str, count: usize) -> Vec<u8> {
@@ -98,8 +112,12 @@ fn repeated(rt: &impl Host, text: &str, count: usize) -> Vec<u8> {
 #[test]
 fn finds_date_after_date(rt: HostRuntime) {
     let haystack = repeated(&rt, "2018-12-24 ", 10_000);
-    let mut bench = Bench::new(&rt, Automaton::Forward(Entry::Date).lazy(&rt, ""));
-    find_dates(&rt, &mut bench, haystack.as_slice());
+    find_all_dates(&rt, haystack.as_slice());
+}
+
+fn find_all_dates(rt: &impl Host, dates: &[u8]) {
+    let mut bench = Bench::new(rt, Automaton::Forward(Entry::Date).lazy(rt, ""));
+    find_dates(rt, &mut bench, dates);
 }
 
 fn find_dates(rt: &impl Host, bench: &mut Bench, dates: &[u8]) {
@@ -125,8 +143,12 @@ fn iterates_over_ten_thousand_dates(rt: HostRuntime) {
 
 fn finds_dates(rt: &impl Host, haystack: &[u8]) -> Result<usize, SearchError> {
     let regex = Pair::Of(Entry::Date).regex(rt, "");
+    finds_dates_by(rt, &regex, haystack)
+}
+
+fn finds_dates_by(rt: &impl Host, regex: &Regex, haystack: &[u8]) -> Result<usize, SearchError> {
     let mut cache = regex.create_cache().expect(rt, "a cache");
-    count_dates(&regex, &mut cache, haystack)
+    count_dates(regex, &mut cache, haystack)
 }
 
 /// How many dates are found, each eleven bytes after the one before. Other matches are not counted.
@@ -151,15 +173,23 @@ fn count_dates(regex: &Regex, cache: &mut Cache, haystack: &[u8]) -> Result<usiz
 fn tokenises_a_mebibyte(rt: HostRuntime) {
     let haystack = repeated(&rt, "ab12", 1 << 18);
     let mut bytes = Vec::new(rt.alloc());
-    let count = join_all(&rt, haystack.as_slice(), &mut bytes);
-    same_of(&rt, &count, &(1 << 19), &"how many");
-    same_of(&rt, &(bytes == haystack), &true, &"joined");
+    join_all(&rt, haystack.as_slice(), &mut bytes);
 }
 
-fn join_all(rt: &impl Host, haystack: &[u8], bytes: &mut Vec<u8>) -> usize {
+fn join_all(rt: &impl Host, haystack: &[u8], bytes: &mut Vec<u8>) {
+    let count = count_joined(rt, haystack, bytes);
+    same_of(rt, &count, &(1 << 19), &"how many");
+    same_of(rt, &(bytes.as_slice() == haystack), &true, &"joined");
+}
+
+fn count_joined(rt: &impl Host, haystack: &[u8], bytes: &mut Vec<u8>) -> usize {
     let regex = Pair::Of(Entry::Runs).regex(rt, "");
+    join_by(rt, &regex, haystack, bytes)
+}
+
+fn join_by(rt: &impl Host, regex: &Regex, haystack: &[u8], bytes: &mut Vec<u8>) -> usize {
     let mut cache = regex.create_cache().expect(rt, "a cache");
-    join(rt, &regex, &mut cache, haystack, bytes)
+    join(rt, regex, &mut cache, haystack, bytes)
 }
 
 /// Joins the bytes of the tokens before an error, and counts these.

@@ -247,11 +247,8 @@ impl Walker {
         requires { IsWalkOver self.old.dfa input.now walk.old }
         ensures { IsWalkOver self.new.dfa input.now walk.new }
     {
-        match step(&self.dfa, &mut self.first, input, walk) {
-            Err(_) if walk.get_match().is_some() => Told::Word("a refusal with a match"),
-            Err(error) => Told::of_half(Err(error)),
-            Ok(()) => Told::of_half(Ok(walk.get_match())),
-        }
+        let stepped = step(&self.dfa, &mut self.first, input, walk);
+        told_of_step(stepped, walk.get_match())
     }
 
     /// Searches in the direction of the NFA.
@@ -328,6 +325,15 @@ fn step(
         dfa.try_search_overlapping_rev(cache, input, walk)
     } else {
         dfa.try_search_overlapping_fwd(cache, input, walk)
+    }
+}
+
+/// What a call of a walk reports. If it fails, the walk has no match.
+fn told_of_step(stepped: Result<(), SearchError>, found: Option<HalfMatch>) -> Told {
+    match stepped {
+        Err(_) if found.is_some() => Told::Word("a refusal with a match"),
+        Err(error) => Told::of_half(Err(error)),
+        Ok(()) => Told::of_half(Ok(found)),
     }
 }
 
