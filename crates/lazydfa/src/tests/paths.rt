@@ -290,6 +290,17 @@ fn is_word(byte: Option<u8>) -> bool {
     }
 }
 
+/// What is searched, with caches of its own, beside listed paths.
+pub trait Compared: Drop {
+    fn compare_all(&mut self, rt: &impl Host, haystacks: &[Vec<u8>]);
+}
+
+/// Compares, and gives it all back.
+pub fn compare<T: Compared>(rt: &impl Host, compared: T, haystacks: &[Vec<u8>]) {
+    let mut compared = compared;
+    compared.compare_all(rt, haystacks);
+}
+
 /// Three pieces of which haystacks are made. The first two are of different classes, if there are several.
 pub type Pieces = [&'static [u8]; 3];
 

@@ -82,12 +82,12 @@ impl Told {
 
     /// Whether an allocation failed in a call that then has to leave the cache unchanged.
     pub fn is_refusal(&self) -> bool {
-        match self {
-            Told::NoStart(error) => *error == StartError::OutOfMemory,
-            Told::NoStep(error) => *error == StepError::OutOfMemory,
-            Told::Refused(error) => *error == BuildError::OutOfMemory,
-            _ => false,
-        }
+        matches!(
+            self,
+            Told::NoStart(StartError::OutOfMemory)
+                | Told::NoStep(StepError::OutOfMemory)
+                | Told::Refused(BuildError::OutOfMemory)
+        )
     }
 }
 
