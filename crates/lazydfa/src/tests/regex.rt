@@ -123,26 +123,9 @@ const REFUSED: &[Row] = &[
 
 #[test]
 fn regexes_tell_their_rows(rt: HostRuntime) {
-    tell_ample(&rt);
-    tell_starts(&rt);
-    tell_ends(&rt);
-    tell_refused(&rt);
-}
-
-fn tell_ample(rt: &impl Host) {
-    tells_all::<RegexBench>(rt, AMPLE);
-}
-
-fn tell_starts(rt: &impl Host) {
-    tells_all::<RegexBench>(rt, STARTS);
-}
-
-fn tell_ends(rt: &impl Host) {
-    tells_all::<RegexBench>(rt, ENDS);
-}
-
-fn tell_refused(rt: &impl Host) {
-    tells_all::<RegexBench>(rt, REFUSED);
+    for table in [AMPLE, STARTS, ENDS, REFUSED] {
+        tells_all::<RegexBench>(&rt, table);
+    }
 }
 
 /// A cache of one regex serves another once it is reset to it.

@@ -15,7 +15,6 @@ use Call::{
 use Mode::{Every, Of};
 use Shape::{Accept, Assert, Capture, Dense, Either, Range, Sparse, Union};
 use regex_automata::util::look::Look;
-use std::alloc::AllocError;
 use std::fmt::Write;
 
 /// A row of calls over an NFA and a cache.
@@ -247,40 +246,16 @@ const CLEARED: &[Row] = &[
 
 #[test]
 fn searches_tell_their_rows(rt: HostRuntime) {
-    tell_ample(&rt);
-    tell_searched(&rt);
-    tell_odd(&rt);
-}
-
-fn tell_ample(rt: &impl Host) {
-    tells_all::<Bench>(rt, AMPLE);
-}
-
-fn tell_searched(rt: &impl Host) {
-    tells_all::<Bench>(rt, SEARCHED);
-}
-
-fn tell_odd(rt: &impl Host) {
-    tells_all::<Bench>(rt, ODD);
+    tells_all::<Bench>(&rt, AMPLE);
+    tells_all::<Bench>(&rt, SEARCHED);
+    tells_all::<Bench>(&rt, ODD);
 }
 
 #[test]
 fn steps_tell_their_rows(rt: HostRuntime) {
-    tell_stepped(&rt);
-    tell_walked(&rt);
-    tell_cleared(&rt);
-}
-
-fn tell_stepped(rt: &impl Host) {
-    tells_all::<Bench>(rt, STEPPED);
-}
-
-fn tell_walked(rt: &impl Host) {
-    tells_all::<Bench>(rt, WALKED);
-}
-
-fn tell_cleared(rt: &impl Host) {
-    tells_all::<Bench>(rt, CLEARED);
+    tells_all::<Bench>(&rt, STEPPED);
+    tells_all::<Bench>(&rt, WALKED);
+    tells_all::<Bench>(&rt, CLEARED);
 }
 
 /// An NFA, its options, a haystack, the reply, and what is counted: the memory of a fresh cache, after one search, and
@@ -323,38 +298,18 @@ fn counts_memory_and_searched_bytes(rt: HostRuntime) {
 
 /// Searches twice, and once more after a reset.
 fn count(rt: &impl Host, row: Counted) {
-    let want = wanted(rt, row.3, row.4).expect(rt, "memory");
-    count_to(rt, row, want.as_str());
-}
-
-fn wanted(rt: &impl Host, reply: &str, counts: [usize; 3]) -> Result<String, AllocError> {
-    let [fresh, used, searched] = counts;
-    let twice = searched.saturating_mul(2);
-    format!(in rt.alloc();
-        "0 {fresh} 0, {reply}, 0 {used} {searched}, {reply}, 0 {used} {twice}, -, 0 {fresh} 0, {reply}, 0 {used} {searched}"
-    )
-}
-
-fn count_to(rt: &impl Host, row: Counted, want: &str) {
-    let (automaton, options, haystack, ..) = row;
+    let (automaton, options, haystack, reply, [fresh, used, searched]) = row;
     let find = Find(haystack);
     let calls = [
         Counts, find, Counts, find, Counts, Reset, Counts, find, Counts,
     ];
-    tells(rt, automaton, options, &calls, want, haystack);
-}
-
-/// Makes these calls, and looks at what they report.
-fn tells(
-    rt: &impl Host,
-    automaton: Automaton,
-    options: &str,
-    calls: &[Call],
-    want: &str,
-    shows: &str,
-) {
-    let found = text_of(rt, Bench::make(rt, automaton, options), calls);
-    same_text(rt, found.as_str(), want, shows);
+    let found = text_of(rt, Bench::make(rt, automaton, options), &calls);
+    let twice = searched.saturating_mul(2);
+    let want = format!(in rt.alloc();
+        "0 {fresh} 0, {reply}, 0 {used} {searched}, {reply}, 0 {used} {twice}, -, 0 {fresh} 0, {reply}, 0 {used} {searched}"
+    );
+    let want = want.expect(rt, "memory");
+    same_text(rt, found.as_str(), want.as_str(), haystack);
 }
 
 /// If each byte from 0x80 on is a quit byte, a Unicode word boundary is allowed without the heuristic.
@@ -362,20 +317,11 @@ fn tells(
 fn searches_where_no_letter_is_read(rt: HostRuntime) {
     let mut options = String::new(rt.alloc());
     write_quits(&rt, &mut options);
-    quit_at_letters(&rt, options.as_str());
-}
-
-fn quit_at_letters(rt: &impl Host, options: &str) {
     let calls = [Find(" a"), Find(" a\u{e9}"), Counts];
+    let built = Bench::make(&rt, Forward(Entry::Bound), options.as_str());
+    let found = text_of(&rt, built, &calls);
     let want = "half 0 1, quit c3 2, 0 696 4";
-    tells(
-        rt,
-        Forward(Entry::Bound),
-        options,
-        &calls,
-        want,
-        "quit bytes from 80 on",
-    );
+    same_text(&rt, found.as_str(), want, "quit bytes from 80 on");
 }
 
 fn write_quits(rt: &impl Host, options: &mut String) {

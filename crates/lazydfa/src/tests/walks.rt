@@ -1,6 +1,5 @@
 //! Overlapping walks and sets of patterns: the worked rows.
 
-use super::Host;
 use super::plans::Shape;
 use super::rows::TWO_WAYS;
 use super::tells::{Automaton, RowOf, tells_all};
@@ -137,24 +136,7 @@ const SETS: &[Row] = &[
 
 #[test]
 fn walks_and_sets_tell_their_rows(rt: HostRuntime) {
-    tell_pairs(&rt);
-    tell_caches(&rt);
-    tell_cleared(&rt);
-    tell_sets(&rt);
-}
-
-fn tell_pairs(rt: &impl Host) {
-    tells_all::<Walker>(rt, PAIRS);
-}
-
-fn tell_caches(rt: &impl Host) {
-    tells_all::<Walker>(rt, CACHES);
-}
-
-fn tell_cleared(rt: &impl Host) {
-    tells_all::<Walker>(rt, CLEARED);
-}
-
-fn tell_sets(rt: &impl Host) {
-    tells_all::<Walker>(rt, SETS);
+    for table in [PAIRS, CACHES, CLEARED, SETS] {
+        tells_all::<Walker>(&rt, table);
+    }
 }
