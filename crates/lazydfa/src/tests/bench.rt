@@ -149,11 +149,7 @@ impl Bench {
 
     /// Searches in the direction of the NFA.
     pub fn search(&mut self, input: &Input<'_>) -> Result<Option<HalfMatch>, SearchError> {
-        if self.dfa.get_nfa().is_reverse() {
-            self.dfa.try_search_rev(&mut self.cache, input)
-        } else {
-            self.dfa.try_search_fwd(&mut self.cache, input)
-        }
+        search(&self.dfa, &mut self.cache, input)
     }
 
     fn find(&mut self, input: &Input<'_>) -> Told {
@@ -401,6 +397,22 @@ impl Caller for Bench {
             return Told::Word("a refusal that changed the cache");
         }
         told
+    }
+}
+
+/// Searches in the direction of the NFA.
+pub fn search(
+    dfa: &DFA,
+    cache: &mut Cache,
+    input: &Input<'_>,
+) -> Result<Option<HalfMatch>, SearchError>
+    requires { IsCacheOf cache.old dfa.now }
+    ensures { IsCacheOf cache.new dfa.now }
+{
+    if dfa.get_nfa().is_reverse() {
+        dfa.try_search_rev(cache, input)
+    } else {
+        dfa.try_search_fwd(cache, input)
     }
 }
 

@@ -1,7 +1,7 @@
 //! NFAs that are built state by state.
 
 use super::plans::{Plan, Shape, id};
-use super::tells::{Caller, ONCE, Short, refuse_each};
+use super::tells::{Automaton, Caller, ONCE, Short, refuse_each};
 use super::told::Told;
 use super::{Host, check, same_of, same_text};
 use crate::catalogue::Entry;
@@ -10,6 +10,7 @@ use regex_automata::hybrid;
 use regex_automata::nfa::thompson::{BuildError, Builder, NFA, NfaError, State, Transition};
 use regex_automata::util::primitives::{PatternID, StateID};
 use std::alloc::Global;
+use std::fmt::Debug;
 
 /// Adds a match of the pattern, which begins where the NFA says.
 fn accept(rt: &impl Host, builder: &mut Builder, nfa: &NFA, pattern: PatternID) -> StateID {
@@ -70,10 +71,13 @@ fn add_all(rt: &impl Host, builder: &mut Builder, nfa: &NFA) {
 /// The same NFA by a builder.
 fn rebuilt(rt: &impl Host, nfa: &NFA) -> NFA {
     let mut builder = Builder::new(rt.alloc());
-    add_all(rt, &mut builder, nfa);
-    builder
-        .build(nfa.start_anchored(), nfa.start_unanchored())
-        .expect(rt, "an automaton")
+    rebuild_by(rt, &mut builder, nfa)
+}
+
+fn rebuild_by(rt: &impl Host, builder: &mut Builder, nfa: &NFA) -> NFA {
+    add_all(rt, builder, nfa);
+    let built = builder.build(nfa.start_anchored(), nfa.start_unanchored());
+    built.expect(rt, "an automaton")
 }
 
 fn told(rt: &impl Host, nfa: &NFA) -> String {
@@ -89,19 +93,33 @@ fn told(rt: &impl Host, nfa: &NFA) -> String {
 }
 
 fn rebuild(rt: &impl Host, nfa: &NFA, entry: Entry) {
-    let found = told(rt, &rebuilt(rt, nfa));
-    same_of(rt, &found, &told(rt, nfa), &entry);
+    let found = rebuilt(rt, nfa);
+    same_told(rt, &found, nfa, &entry);
+}
+
+/// The same states, starts and flags.
+fn same_told<D: Debug>(rt: &impl Host, found: &NFA, want: &NFA, of: &D) {
+    let want = told(rt, want);
+    has_told(rt, found, want.as_str(), of);
+}
+
+fn has_told<D: Debug>(rt: &impl Host, nfa: &NFA, want: &str, of: &D) {
+    let found = told(rt, nfa);
+    same_of(rt, &found.as_str(), &want, of);
 }
 
 /// Each NFA of the catalogue, state by state.
 #[test]
 fn rebuilds_the_catalogue(rt: HostRuntime) {
     for entry in Entry::ALL {
-        let forward = entry.forward(rt.alloc()).expect(&rt, "an entry");
-        rebuild(&rt, &forward, entry);
-        let reverse = entry.reverse(rt.alloc()).expect(&rt, "an entry");
-        rebuild(&rt, &reverse, entry);
+        rebuild_of(&rt, Automaton::Forward(entry), entry);
+        rebuild_of(&rt, Automaton::Reverse(entry), entry);
     }
+}
+
+fn rebuild_of(rt: &impl Host, automaton: Automaton, entry: Entry) {
+    let nfa = automaton.nfa(rt);
+    rebuild(rt, &nfa, entry);
 }
 
 /// Adds `ab` after any bytes, and builds it.
@@ -129,11 +147,19 @@ const ANYWHERE: Plan = Plan {
 
 #[test]
 fn begins_anywhere(rt: HostRuntime) {
+    let want = ANYWHERE.build(&rt);
+    begin_anywhere(&rt, &want);
+}
+
+fn begin_anywhere(rt: &impl Host, want: &NFA) {
+    let nfa = built_ab(rt);
+    check(rt, nfa.skips_lazily());
+    same_told(rt, &nfa, want, &"ab");
+}
+
+fn built_ab(rt: &impl Host) -> NFA {
     let mut builder = Builder::new(rt.alloc());
-    let nfa = build_ab(&mut builder).expect(&rt, "an automaton");
-    let want = told(&rt, &ANYWHERE.build(&rt));
-    same_text(&rt, &told(&rt, &nfa), &want, "ab");
-    check(&rt, nfa.skips_lazily());
+    build_ab(&mut builder).expect(rt, "an automaton")
 }
 
 /// A builder that is used again.
@@ -199,11 +225,19 @@ const UNIONS: &str =
 /// A reversed union, one without alternates, an empty state and a group.
 #[test]
 fn builds_unions(rt: HostRuntime) {
+    let nfa = with_unions(&rt);
+    tells_unions(&rt, &nfa);
+}
+
+fn with_unions(rt: &impl Host) -> NFA {
     let mut builder = Builder::new(rt.alloc());
-    add_unions(&rt, &mut builder);
-    let nfa = builder.build(id(0), id(0)).expect(&rt, "an automaton");
-    let found = format!(in rt.alloc(); "{:?}", nfa.states()).expect(&rt, "memory");
-    same_text(&rt, &found, UNIONS, "unions");
+    add_unions(rt, &mut builder);
+    builder.build(id(0), id(0)).expect(rt, "an automaton")
+}
+
+fn tells_unions(rt: &impl Host, nfa: &NFA) {
+    let found = format!(in rt.alloc(); "{:?}", nfa.states()).expect(rt, "memory");
+    same_text(rt, found.as_str(), UNIONS, "unions");
 }
 
 /// Each error in turn. A call that fails changes nothing, so the next one finds the builder as it was.

@@ -15,34 +15,64 @@ use regex_automata::util::search::PatternSet;
 /// option.
 #[test]
 fn joins_settings(rt: HostRuntime) {
-    let old = Config::new().quit(b'a', true).cache_capacity(7);
-    let new = Config::new().quit(b'b', true).byte_classes(false);
-    let joined = old.overwrite(new);
+    let old = quits_a();
+    tell_joined(&rt, &old.overwrite(quits_b()));
+    let kept = old.overwrite(Config::new());
+    same_of(&rt, &kept.get_quit(b'a'), &true, &"nothing new");
+    let capacity = Config::new().get_cache_capacity();
+    same_of(&rt, &capacity, &2097152, &"nothing new");
+}
+
+fn quits_a() -> Config {
+    Config::new().quit(b'a', true).cache_capacity(7)
+}
+
+fn quits_b() -> Config {
+    Config::new().quit(b'b', true).byte_classes(false)
+}
+
+fn tell_joined(rt: &impl Host, joined: &Config) {
     let options = (joined.get_cache_capacity(), joined.get_byte_classes());
     let quits = (joined.get_quit(b'b'), joined.get_quit(b'a'));
-    same_of(&rt, &options, &(7, false), &"the new settings");
-    same_of(&rt, &quits, &(true, false), &"the new quit set");
-    let kept = old.overwrite(Config::new()).get_quit(b'a');
-    let capacity = Config::new().get_cache_capacity();
-    same_of(&rt, &(kept, capacity), &(true, 2097152), &"nothing new");
+    same_of(rt, &options, &(7, false), &"the new settings");
+    same_of(rt, &quits, &(true, false), &"the new quit set");
 }
 
 #[test]
 fn settles_settings(rt: HostRuntime) {
-    let heuristic = Config::new().unicode_word_boundary(true);
-    let allows = |byte, in_ascii| heuristic.allows_quit(byte, in_ascii);
-    let allowed = (allows(0x80, false), allows(0x41, false), allows(0x80, true));
-    same_of(&rt, &allowed, &(false, true, true), &"quit bytes");
     let nfa = Entry::Bound.forward(rt.alloc()).expect(&rt, "an entry");
-    let settled = heuristic.settle(&nfa).expect(&rt, "settings");
+    let config = heuristic();
+    tell_allowed(&rt, &config);
+    tell_settled(&rt, &config, &nfa);
+    tell_skipping(&rt, &config, &nfa);
+}
+
+fn heuristic() -> Config {
+    Config::new().unicode_word_boundary(true)
+}
+
+fn tell_allowed(rt: &impl Host, config: &Config) {
+    let high = (
+        config.allows_quit(0x80, false),
+        config.allows_quit(0x80, true),
+    );
+    let allowed = (high.0, config.allows_quit(0x41, false), high.1);
+    same_of(rt, &allowed, &(false, true, true), &"quit bytes");
+    same_of(rt, &config.get_quit(0xB2), &false, &"as it was set");
+}
+
+fn tell_settled(rt: &impl Host, config: &Config, nfa: &NFA) {
+    let settled = config.settle(nfa).expect(rt, "settings");
     let quits = (settled.quits(0xB2), settled.quits(b'a'));
-    same_of(&rt, &quits, &(true, false), &"quit bytes as it is");
-    same_of(&rt, &heuristic.get_quit(0xB2), &false, &"as it was set");
+    same_of(rt, &quits, &(true, false), &"quit bytes as it is");
     let found = (settled.capacity(), settled.classes().alphabet_len());
-    same_of(&rt, &found, &(2097152, 11), &"as it is");
-    let skipping = heuristic.cache_capacity(0).skip_cache_capacity_check(true);
-    let settled = skipping.settle(&nfa).expect(&rt, "settings");
-    same_of(&rt, &settled.capacity(), &2374, &"with no check");
+    same_of(rt, &found, &(2097152, 11), &"as it is");
+}
+
+fn tell_skipping(rt: &impl Host, config: &Config, nfa: &NFA) {
+    let skipping = config.cache_capacity(0).skip_cache_capacity_check(true);
+    let settled = skipping.settle(nfa).expect(rt, "settings");
+    same_of(rt, &settled.capacity(), &2374, &"with no check");
 }
 
 /// What the row shows, the states, the quit bytes, and the bytes at which a class begins, without the first.
@@ -116,7 +146,7 @@ fn fills_a_set_of_patterns(rt: HostRuntime) {
     let size = (set.len(), set.capacity(), set.is_full());
     same_of(&rt, &size, &(2, 3, false), &"the size");
     let mut patterns = set.iter();
-    let first = (patterns.next(), patterns.next().map(PatternID::as_usize));
-    same_of(&rt, &first, &(Some(PatternID::ZERO), Some(2)), &"the list");
-    same_of(&rt, &patterns.next(), &None, &"its end");
+    let listed = [patterns.next(), patterns.next(), patterns.next()];
+    let want = [Some(PatternID::ZERO), PatternID::new(2), None];
+    same_of(&rt, &listed, &want, &"the list and its end");
 }

@@ -17,15 +17,40 @@ use regex_automata::nfa::thompson::{Flags, NFA, State};
 use regex_automata::util::primitives::{PatternID, StateID};
 use regex_automata::util::search::{HalfMatch, Input};
 
+/// Which long haystack is searched.
+#[derive(Clone, Copy)]
+enum Long {
+    Chain,
+    Letters,
+    Dates,
+}
+
+/// Searches over a cache of its own.
+fn search_all(rt: &impl Host, dfa: DFA, long: Long, haystack: &[u8]) {
+    let mut bench = Bench::new(rt, dfa);
+    search(rt, &mut bench, long, haystack);
+}
+
+fn search(rt: &impl Host, bench: &mut Bench, long: Long, haystack: &[u8]) {
+    match long {
+        Long::Chain => go_along(rt, bench, haystack),
+        Long::Letters => make_states(rt, bench, haystack),
+        Long::Dates => find_dates(rt, bench, haystack),
+    }
+}
+
 /// Three thousand bytes, each with a state of its own.
 #[test]
 fn searches_a_long_chain(rt: HostRuntime) {
-    let haystack = vec![in rt.alloc(); b'a'; 3000].expect(&rt, "memory");
     let built = DFA::builder().build_from_nfa(long_chain(&rt));
-    let mut bench = Bench::new(&rt, built.expect(&rt, "an automaton"));
-    ends_at(&rt, &mut bench, haystack.as_slice(), 3000);
+    let dfa = built.expect(&rt, "an automaton");
+    search_all(&rt, dfa, Long::Chain, &[b'a'; 3000]);
+}
+
+fn go_along(rt: &impl Host, bench: &mut Bench, haystack: &[u8]) {
+    ends_at(rt, bench, haystack, 3000);
     let want = (0, 273384, 3000, false);
-    same_of(&rt, &bench.totals(), &want, &"what is counted");
+    same_of(rt, &bench.totals(), &want, &"what is counted");
 }
 
 /// Searches, and looks at the offset where the last match ends.
@@ -79,10 +104,13 @@ fn letters(rt: &impl Host) -> Vec<u8> {
 fn makes_states_over_a_mebibyte(rt: HostRuntime) {
     let text = letters(&rt);
     let dfa = TWELFTH.lazy(&rt, "all capacity=0 skip");
-    let mut bench = Bench::new(&rt, dfa);
-    ends_at(&rt, &mut bench, text.as_slice(), 1_048_574);
+    search_all(&rt, dfa, Long::Letters, text.as_slice());
+}
+
+fn make_states(rt: &impl Host, bench: &mut Bench, text: &[u8]) {
+    ends_at(rt, bench, text, 1_048_574);
     let (clears, memory, ..) = bench.totals();
-    same_of(&rt, &(clears, memory), &(62_993, 1468), &"counts");
+    same_of(rt, &(clears, memory), &(62_993, 1468), &"counts");
 }
 
 fn repeated(rt: &impl Host, text: &str, count: usize) -> Vec<u8> {
@@ -98,8 +126,8 @@ fn repeated(rt: &impl Host, text: &str, count: usize) -> Vec<u8> {
 #[test]
 fn finds_date_after_date(rt: HostRuntime) {
     let haystack = repeated(&rt, "2018-12-24 ", 10_000);
-    let mut bench = Bench::new(&rt, Automaton::Forward(Entry::Date).lazy(&rt, ""));
-    find_dates(&rt, &mut bench, haystack.as_slice());
+    let dfa = Automaton::Forward(Entry::Date).lazy(&rt, "");
+    search_all(&rt, dfa, Long::Dates, haystack.as_slice());
 }
 
 fn find_dates(rt: &impl Host, bench: &mut Bench, dates: &[u8]) {
@@ -119,14 +147,42 @@ fn find_dates(rt: &impl Host, bench: &mut Bench, dates: &[u8]) {
 #[test]
 fn iterates_over_ten_thousand_dates(rt: HostRuntime) {
     let haystack = repeated(&rt, "2018-12-24 ", 10_000);
-    let found = finds_dates(&rt, haystack.as_slice());
-    same_of(&rt, &found, &Ok(10_000), &"dates");
+    let mut bytes = Vec::new(rt.alloc());
+    let found = count(&rt, Entry::Date, haystack.as_slice(), &mut bytes);
+    same_of(&rt, &found, &10_000, &"dates");
 }
 
-fn finds_dates(rt: &impl Host, haystack: &[u8]) -> Result<usize, SearchError> {
-    let regex = Pair::Of(Entry::Date).regex(rt, "");
+/// How many dates are found, or else how many tokens, whose bytes are joined.
+fn count(rt: &impl Host, entry: Entry, haystack: &[u8], bytes: &mut Vec<u8>) -> usize {
+    let regex = Pair::Of(entry).regex(rt, "");
+    count_by(rt, &regex, entry, haystack, bytes)
+}
+
+fn count_by(
+    rt: &impl Host,
+    regex: &Regex,
+    entry: Entry,
+    haystack: &[u8],
+    bytes: &mut Vec<u8>,
+) -> usize {
     let mut cache = regex.create_cache().expect(rt, "a cache");
-    count_dates(&regex, &mut cache, haystack)
+    count_in(rt, regex, &mut cache, entry, haystack, bytes)
+}
+
+fn count_in(
+    rt: &impl Host,
+    regex: &Regex,
+    cache: &mut Cache,
+    entry: Entry,
+    haystack: &[u8],
+    bytes: &mut Vec<u8>,
+) -> usize
+    requires { AreCachesOf cache.old regex.now }
+{
+    match entry {
+        Entry::Date => count_dates(regex, cache, haystack).expect(rt, "dates"),
+        _ => join(rt, regex, cache, haystack, bytes),
+    }
 }
 
 /// How many dates are found, each eleven bytes after the one before. Other matches are not counted.
@@ -151,15 +207,9 @@ fn count_dates(regex: &Regex, cache: &mut Cache, haystack: &[u8]) -> Result<usiz
 fn tokenises_a_mebibyte(rt: HostRuntime) {
     let haystack = repeated(&rt, "ab12", 1 << 18);
     let mut bytes = Vec::new(rt.alloc());
-    let count = join_all(&rt, haystack.as_slice(), &mut bytes);
-    same_of(&rt, &count, &(1 << 19), &"how many");
+    let found = count(&rt, Entry::Runs, haystack.as_slice(), &mut bytes);
+    same_of(&rt, &found, &(1 << 19), &"how many");
     same_of(&rt, &(bytes == haystack), &true, &"joined");
-}
-
-fn join_all(rt: &impl Host, haystack: &[u8], bytes: &mut Vec<u8>) -> usize {
-    let regex = Pair::Of(Entry::Runs).regex(rt, "");
-    let mut cache = regex.create_cache().expect(rt, "a cache");
-    join(rt, &regex, &mut cache, haystack, bytes)
 }
 
 /// Joins the bytes of the tokens before an error, and counts these.

@@ -182,7 +182,7 @@ fn find_by_steps(bench: &mut Bench, input: &Input<'_>) -> Answer {
 }
 
 /// What a cache was used for before a search.
-#[derive(Clone, Copy, Debug, PartialEq, Eq)]
+#[derive(Clone, Copy, Debug)]
 enum History {
     /// Nothing; and once more, the same search.
     Fresh,
@@ -228,7 +228,7 @@ impl Pair {
     /// A search after what its history has.
     fn compare_behind(&mut self, rt: &impl Host, input: &Input<'_>, of: &Of) {
         let (_, (_, history)) = of;
-        if *history == History::Fresh {
+        if matches!(history, History::Fresh) {
             self.reset(rt);
             self.compare(rt, input, of);
         }
@@ -238,7 +238,7 @@ impl Pair {
     /// Each span of a haystack.
     fn compare_spans(&mut self, rt: &impl Host, haystack: &[u8], of: &Of) {
         let (_, (_, history)) = of;
-        if *history == History::Haystack {
+        if matches!(history, History::Haystack) {
             self.reset(rt);
         }
         for end in 0..haystack.len() + 1 {

@@ -187,7 +187,7 @@ fn list_edges(rt: &impl Host, nfa: &NFA, input: &Input<'_>, from: Stand, next: &
         return;
     };
     let at = beside(nfa, input, place);
-    if let Some(to) = at.read.and_then(|byte| target(state, byte)) {
+    if let Some(to) = read_target(state, at.read) {
         next.push((to, at.behind)).expect(rt, "memory");
     }
     if let State::Union { alternates } = state {
@@ -210,6 +210,11 @@ fn reads_nothing(nfa: &NFA, state: &State, at: Sides) -> [Option<StateID>; 2] {
         State::Capture { next, .. } => [Some(*next), None],
         _ => [None, None],
     }
+}
+
+/// Where the byte that is read leads to, if there is one.
+fn read_target(state: &State, read: Option<u8>) -> Option<StateID> {
+    target(state, read?)
 }
 
 /// Where a byte leads to.
@@ -279,7 +284,21 @@ fn ends_line(nfa: &NFA, before: Option<u8>, after: Option<u8>) -> bool {
 }
 
 fn is_word(byte: Option<u8>) -> bool {
-    byte.is_some_and(|byte| byte.is_ascii_alphanumeric() || byte == b'_')
+    match byte {
+        Some(byte) => byte.is_ascii_alphanumeric() || byte == b'_',
+        None => false,
+    }
+}
+
+/// What is searched, with caches of its own, beside listed paths.
+pub trait Compared: Drop {
+    fn compare_all(&mut self, rt: &impl Host, haystacks: &[Vec<u8>]);
+}
+
+/// Compares, and gives it all back.
+pub fn compare<T: Compared>(rt: &impl Host, compared: T, haystacks: &[Vec<u8>]) {
+    let mut compared = compared;
+    compared.compare_all(rt, haystacks);
 }
 
 /// Three pieces of which haystacks are made. The first two are of different classes, if there are several.

@@ -354,11 +354,19 @@ fn compare_members(rt: &impl Host, listed: &mut Listed, input: &Input<'_>) {
 
 /// The same pairs, whatever their order.
 fn same_members(rt: &impl Host, listed: &Listed, input: &Input<'_>) {
+    let (found, want) = (listed.found.as_slice(), listed.want.as_slice());
     let of = (listed.name, input);
-    same_of(rt, &listed.found.len(), &listed.want.len(), &of);
-    for pair in &listed.found {
-        same_of(rt, &listed.want.contains(pair), &true, &of);
+    same_of(rt, &found.len(), &want.len(), &of);
+    same_of(rt, &are_among(found, want), &true, &of);
+}
+
+fn are_among(found: &[HalfMatch], want: &[HalfMatch]) -> bool {
+    for pair in found {
+        if !want.contains(pair) {
+            return false;
+        }
     }
+    true
 }
 
 /// Forty NFAs from this number on, in both directions and of both match kinds, and what is counted of their paths.

@@ -152,21 +152,29 @@ fn reset_to_ab(rt: &impl Host, bench: RegexBench, text: &mut String) {
 #[test]
 fn lends_both_parts(rt: HostRuntime) {
     let regex = Of(Entry::Words).regex(&rt, "");
-    let mut cache = regex.create_cache().expect(&rt, "a cache");
-    lend_both_parts(&rt, &regex, &mut cache);
+    lends_parts_of(&rt, &regex);
+}
+
+fn lends_parts_of(rt: &impl Host, regex: &Regex) {
+    let mut cache = regex.create_cache().expect(rt, "a cache");
+    lend_both_parts(rt, regex, &mut cache);
 }
 
 fn lend_both_parts(rt: &impl Host, regex: &Regex, cache: &mut Cache)
     requires { AreCachesOf cache.old regex.now }
 {
     let found = halves(regex, cache, &Input::new(WORDS));
-    let want = [4, 0].map(|offset| Ok(Some(HalfMatch::new(pattern_id(1), offset))));
-    same_of(rt, &found, &want, &"both parts");
+    let (end, start) = (half_at(4), half_at(0));
+    same_of(rt, &found, &[end, start], &"both parts");
     let used = (
         cache.forward().memory_usage(),
         cache.reverse().memory_usage(),
     );
     same_of(rt, &used, &(1082, 1383), &"their memory");
+}
+
+fn half_at(offset: usize) -> Result<Option<HalfMatch>, SearchError> {
+    Ok(Some(HalfMatch::new(pattern_id(1), offset)))
 }
 
 /// Where a match ends, by the forward part, and where one starts, by the reverse part.
@@ -195,9 +203,19 @@ fn keeps_tokens_behind_their_cache(rt: HostRuntime) {
 
 fn second_token<'h>(rt: &impl Host, haystack: &'h [u8]) -> Option<Token<'h>> {
     let regex = Of(Entry::Runs).regex(rt, "");
+    second_token_of(rt, &regex, haystack)
+}
+
+fn second_token_of<'h>(rt: &impl Host, regex: &Regex, haystack: &'h [u8]) -> Option<Token<'h>> {
     let mut cache = regex.create_cache().expect(rt, "a cache");
-    let mut tokens = regex.tokens(&mut cache, Input::new(haystack));
-    let _first = tokens.next();
+    second_token_in(regex, &mut cache, haystack)
+}
+
+fn second_token_in<'h>(regex: &Regex, cache: &mut Cache, haystack: &'h [u8]) -> Option<Token<'h>>
+    requires { AreCachesOf cache.old regex.now }
+{
+    let mut tokens = regex.tokens(cache, Input::new(haystack));
+    let _ = tokens.next();
     match tokens.next() {
         Some(Ok(token)) => Some(token),
         _ => None,

@@ -9,11 +9,12 @@ use super::plans::{Mode, Plan, Shape};
 use super::tells::{Automaton, Caller, RowOf, config};
 use super::told::{Counted, Item, Told};
 use crate::catalogue::Entry;
+use regex_automata::hybrid::dfa::DFA;
 use regex_automata::hybrid::regex::{Builder, Cache, Regex};
 use regex_automata::hybrid::{BuildError, SearchError};
 use regex_automata::nfa::thompson::NFA;
 use regex_automata::replay::Reply;
-use regex_automata::tokens::{TokenError, Tokens};
+use regex_automata::tokens::{Token, TokenError, Tokens};
 use regex_automata::util::search::{Input, Match};
 use std::alloc::{AllocError, Global};
 
@@ -138,13 +139,17 @@ fn next_token(tokens: &mut Tokens<'_, '_, '_>, haystack: &[u8]) -> Item
     ensures regex { tokens.new.regex.now ≡ tokens.old.regex.now }
 {
     match tokens.next() {
-        Some(Ok(token)) if haystack.get(token.range()) != Some(token.bytes()) => {
-            Some(Err(TokenError::NoToken(usize::MAX)))
-        }
-        Some(Ok(token)) => Some(Ok(Match::new(token.pattern(), token.span()))),
+        Some(Ok(token)) => Some(match_of(&token, haystack)),
         Some(Err(error)) => Some(Err(error)),
         None => None,
     }
+}
+
+fn match_of(token: &Token<'_>, haystack: &[u8]) -> Result<Match, TokenError> {
+    if haystack.get(token.range()) != Some(token.bytes()) {
+        return Err(TokenError::NoToken(usize::MAX));
+    }
+    Ok(Match::new(token.pattern(), token.span()))
 }
 
 /// A regex, and a cache of its own.
@@ -167,7 +172,7 @@ impl RegexBench {
             Ask::Learn(haystack, places, mode) => self.learn(haystack, places, mode),
             Ask::Search(haystack) => {
                 Told::of_reply(Reply::Span(self.search(&Input::new(haystack))))
-            }
+            },
             Ask::Is(haystack) => Told::of_reply(Reply::Truth(self.holds(&Input::new(haystack)))),
             Ask::Items(haystack) => Told::Items(self.first_items(Input::new(haystack))),
             Ask::Tokens(haystack, start) => Told::Items(self.first_tokens(haystack, start)),
@@ -210,7 +215,7 @@ impl RegexBench {
         if self.counts() != before {
             return Told::Word("a refusal that changed a part");
         }
-        let is_forward = self.regex.forward().create_cache().is_err();
+        let is_forward = has_no_room(self.regex.forward());
         let found = Reply::Span(self.regex.find(&mut self.cache, &Input::new(haystack)));
         let refused = if is_forward {
             "; memory"
@@ -231,9 +236,16 @@ impl RegexBench {
     /// The first eight items of an iteration.
     pub fn first_items(&mut self, input: Input<'_>) -> [Item; 8] {
         let mut it = self.regex.find_iter(&mut self.cache, input);
-        let [a, b, c, d] = [it.next(), it.next(), it.next(), it.next()];
-        let [e, f, g, h] = [it.next(), it.next(), it.next(), it.next()];
-        [a, b, c, d, e, f, g, h].map(item_of)
+        [
+            item_of(it.next()),
+            item_of(it.next()),
+            item_of(it.next()),
+            item_of(it.next()),
+            item_of(it.next()),
+            item_of(it.next()),
+            item_of(it.next()),
+            item_of(it.next()),
+        ]
     }
 
     /// The first eight tokens from an offset on.
@@ -271,14 +283,13 @@ impl RegexBench {
 
     /// If the forward part can be made, making the reverse one fails.
     fn replace(&mut self) -> Told {
-        if let Ok(cache) = self.regex.create_cache() {
-            self.cache = cache;
-            return Told::Word("-");
+        match self.regex.create_cache() {
+            Ok(cache) => {
+                self.cache = cache;
+                Told::Word("-")
+            }
+            Err(_) => told_of_refusal(self.regex.forward()),
         }
-        if self.regex.forward().create_cache().is_ok() {
-            return Told::Word("reverse memory");
-        }
-        Told::Refused(BuildError::OutOfMemory)
     }
 
     fn replace_by_new(&mut self) -> Result<(), AllocError> {
@@ -350,6 +361,20 @@ impl Caller for RegexBench {
         }
         told
     }
+}
+
+/// Which part of a cache was refused, by whether the forward one is refused again.
+fn told_of_refusal(forward: &DFA) -> Told {
+    if has_no_room(forward) {
+        Told::Refused(BuildError::OutOfMemory)
+    } else {
+        Told::Word("reverse memory")
+    }
+}
+
+/// Whether making a cache fails.
+fn has_no_room(dfa: &DFA) -> bool {
+    dfa.create_cache().is_err()
 }
 
 /// A haystack from an offset on.

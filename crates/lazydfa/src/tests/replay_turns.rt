@@ -201,11 +201,12 @@ impl Seen {
 
     /// Whether the list of the replies, the request in the middle, and at least so many requests ran out of memory.
     fn has_refused(&self, least: usize) -> bool {
-        let count = self
-            .requests
-            .iter()
-            .filter(|is_refused| **is_refused)
-            .count();
+        let mut count = 0usize;
+        for is_refused in self.requests {
+            if is_refused {
+                count = count.saturating_add(1);
+            }
+        }
         self.script && self.requests[BEFORE.len().min(31)] && count >= least
     }
 }

@@ -1,6 +1,8 @@
 //! Spans beside those of the listed paths: from the start of the selected path to its end.
 
-use super::paths::{CHARACTERS, EMPTY, LITERALS, LOOKS, MODES, REPEATED, Row, answer, haystacks};
+use super::paths::{
+    CHARACTERS, Compared, EMPTY, LITERALS, LOOKS, MODES, REPEATED, Row, answer, compare, haystacks,
+};
 use super::regex_bench::{Pair, RegexBench};
 use super::told::Item;
 use super::{Host, same_of};
@@ -71,14 +73,16 @@ struct Listed {
     ample: RegexBench,
 }
 
-impl Listed {
+impl Compared for Listed {
     /// Every span of each haystack, and the whole of it in each anchored mode; of a short one every span in each mode.
     fn compare_all(&mut self, rt: &impl Host, haystacks: &[Vec<u8>]) {
         for haystack in haystacks {
             self.compare_haystack(rt, haystack.as_slice());
         }
     }
+}
 
+impl Listed {
     fn compare_haystack(&mut self, rt: &impl Host, haystack: &[u8]) {
         for end in 0..haystack.len() + 1 {
             for start in 0..end + 1 {
@@ -154,11 +158,6 @@ fn agree(rt: &impl Host, rows: &[Row]) {
             compare(rt, prepare(rt, entry, kind), haystacks.as_slice());
         }
     }
-}
-
-fn compare(rt: &impl Host, listed: Listed, haystacks: &[Vec<u8>]) {
-    let mut listed = listed;
-    listed.compare_all(rt, haystacks);
 }
 
 /// Long pieces, so that some haystacks have a match.

@@ -133,7 +133,15 @@ pub fn write_told(rt: &impl Host, text: &mut String, told: Told) {
 /// The settings of these options.
 pub fn config(rt: &impl Host, options: &str) -> Config {
     let line = format!(in rt.alloc(); "regex ab {options}").expect(rt, "memory");
+    config_of(rt, line.as_str())
+}
+
+fn config_of(rt: &impl Host, line: &str) -> Config {
     let script = Script::parse(rt.alloc(), line.trim_end().as_bytes()).expect(rt, "a line");
+    first_config(rt, &script)
+}
+
+fn first_config(rt: &impl Host, script: &Script) -> Config {
     script.definitions.first().expect(rt, "a regex").config
 }
 
@@ -270,15 +278,26 @@ impl Turns {
 
     /// Whether this failure is named. It has been seen from here on.
     fn sees(&mut self, number: usize, refusals: &[Refusal]) -> bool {
-        for (at, refusal) in refusals.iter().copied().enumerate() {
-            let (refused, told) = refusal;
-            if refused == number && self.told.as_str() == told {
-                self.seen[at.min(7)] = true;
-                return true;
+        match place_of(number, self.told.as_str(), refusals) {
+            Some(place) => {
+                self.seen[place.min(7)] = true;
+                true
             }
+            None => false,
         }
-        false
     }
+}
+
+/// Where a failure is named.
+fn place_of(number: usize, told: &str, refusals: &[Refusal]) -> Option<usize> {
+    let mut place = 0usize;
+    for refusal in refusals {
+        if refusal.0 == number && told == refusal.1 {
+            return Some(place);
+        }
+        place = place.saturating_add(1);
+    }
+    None
 }
 
 /// Whether it reports nothing but out of memory, or that after a beginning of what is due.

@@ -82,12 +82,12 @@ impl Told {
 
     /// Whether an allocation failed in a call that then has to leave the cache unchanged.
     pub fn is_refusal(&self) -> bool {
-        match self {
-            Told::NoStart(error) => *error == StartError::OutOfMemory,
-            Told::NoStep(error) => *error == StepError::OutOfMemory,
-            Told::Refused(error) => *error == BuildError::OutOfMemory,
-            _ => false,
-        }
+        matches!(
+            self,
+            Told::NoStart(StartError::OutOfMemory)
+                | Told::NoStep(StepError::OutOfMemory)
+                | Told::Refused(BuildError::OutOfMemory)
+        )
     }
 }
 
@@ -119,13 +119,23 @@ impl fmt::Display for Told {
 }
 
 fn write_briefs<W: fmt::Write>(f: &mut fmt::Formatter<W>, briefs: &[Option<Brief>]) -> fmt::Result {
-    for (number, brief) in briefs.iter().copied().enumerate() {
-        if let Some((memory, id)) = brief {
-            let before = if number > 0 { ", " } else { "" };
-            write!(f, "{before}{memory}{}", letter(id))?;
-        }
+    let mut before = "";
+    for brief in briefs {
+        write_brief(f, before, *brief)?;
+        before = ", ";
     }
     Ok(())
+}
+
+fn write_brief<W: fmt::Write>(
+    f: &mut fmt::Formatter<W>,
+    before: &str,
+    brief: Option<Brief>,
+) -> fmt::Result {
+    match brief {
+        Some((memory, id)) => write!(f, "{before}{memory}{}", letter(id)),
+        None => Ok(()),
+    }
 }
 
 /// The items before the end, if any. What comes after the end or an error is reported apart.

@@ -2,7 +2,8 @@
 //! over another cache, with a search of the same input between.
 
 use super::paths::{
-    CHARACTERS, EMPTY, LITERALS, LOOKS, MODES, REPEATED, Row, accepting, half, haystacks, splits,
+    CHARACTERS, Compared, EMPTY, LITERALS, LOOKS, MODES, REPEATED, Row, accepting, compare, half,
+    haystacks, splits,
 };
 use super::tells::Automaton;
 use super::walker::{Over, Walker};
@@ -88,7 +89,7 @@ pub struct Listed {
     pub found: Vec<HalfMatch>,
 }
 
-impl Listed {
+impl Compared for Listed {
     /// Every span of each haystack, and the whole of it in each anchored mode.
     fn compare_all(&mut self, rt: &impl Host, haystacks: &[Vec<u8>]) {
         for haystack in haystacks {
@@ -96,7 +97,9 @@ impl Listed {
             self.compare_modes(rt, haystack.as_slice());
         }
     }
+}
 
+impl Listed {
     fn compare_spans(&mut self, rt: &impl Host, haystack: &[u8]) {
         for end in 0..haystack.len() + 1 {
             for start in 0..end + 1 {
@@ -193,11 +196,6 @@ fn agree(rt: &impl Host, rows: &[Row]) {
             compare(rt, listed, haystacks.as_slice());
         }
     }
-}
-
-fn compare(rt: &impl Host, listed: Listed, haystacks: &[Vec<u8>]) {
-    let mut listed = listed;
-    listed.compare_all(rt, haystacks);
 }
 
 #[test]

@@ -4,7 +4,7 @@ ghost use Rattle.std.specs.Prelude.{◌≡◌};
 ghost use Rattle.lazydfa.specs.Walks.{IsWalkOver};
 ghost use Rattle.regex_automata.specs.Promises.{IsCacheOf};
 
-use super::bench::{counted, within};
+use super::bench::{counted, search, within};
 use super::plans::pattern_id;
 use super::tells::{Automaton, Caller, Short, Turns, write_told};
 use super::told::Told;
@@ -247,22 +247,15 @@ impl Walker {
         requires { IsWalkOver self.old.dfa input.now walk.old }
         ensures { IsWalkOver self.new.dfa input.now walk.new }
     {
-        match step(&self.dfa, &mut self.first, input, walk) {
-            Err(_) if walk.get_match().is_some() => Told::Word("a refusal with a match"),
-            Err(error) => Told::of_half(Err(error)),
-            Ok(()) => Told::of_half(Ok(walk.get_match())),
-        }
+        let stepped = step(&self.dfa, &mut self.first, input, walk);
+        told_of_step(stepped, walk.get_match())
     }
 
     /// Searches in the direction of the NFA.
     pub fn find(&mut self, input: &Input<'_>) -> Result<Option<HalfMatch>, SearchError>
         ensures { self.new.dfa ≡ self.old.dfa }
     {
-        if self.dfa.get_nfa().is_reverse() {
-            self.dfa.try_search_rev(&mut self.first, input)
-        } else {
-            self.dfa.try_search_fwd(&mut self.first, input)
-        }
+        search(&self.dfa, &mut self.first, input)
     }
 
     /// The patterns of all matches, in a set of this capacity that may have one.
@@ -275,15 +268,22 @@ impl Walker {
     ) -> Told
         ensures { self.new.dfa ≡ self.old.dfa }
     {
-        let Ok(mut set) = PatternSet::new(alloc, capacity) else {
-            return Told::Refused(BuildError::OutOfMemory);
-        };
+        match PatternSet::new(alloc, capacity) {
+            Ok(mut set) => self.join(input, &mut set, given),
+            Err(_) => Told::Refused(BuildError::OutOfMemory),
+        }
+    }
+
+    /// Adds the patterns of all matches to a set, and first one that is given.
+    fn join(&mut self, input: &Input<'_>, set: &mut PatternSet, given: Option<u8>) -> Told
+        ensures { self.new.dfa ≡ self.old.dfa }
+    {
         if let Some(pattern) = given {
             let _ = set.try_insert(pattern_id(pattern));
         }
         let dfa = &self.dfa;
-        let filled = dfa.try_which_overlapping_matches(&mut self.first, input, &mut set);
-        told_of(filled, &set)
+        let filled = dfa.try_which_overlapping_matches(&mut self.first, input, set);
+        told_of(filled, set)
     }
 
     fn fill(&mut self, input: &Input<'_>) -> Told
@@ -297,17 +297,33 @@ impl Walker {
     /// The patterns of all matches that are below a capacity, as far as they are among the first ones.
     pub fn patterns(&mut self, rt: &impl Host, input: &Input<'_>, capacity: usize) -> [bool; 4] {
         let mut set = PatternSet::new(rt.alloc(), capacity).expect(rt, "memory");
-        let dfa = &self.dfa;
-        let filled = dfa.try_which_overlapping_matches(&mut self.first, input, &mut set);
-        filled.expect(rt, "a set");
+        self.fill_from(rt, input, &mut set);
         firsts_of(&set)
+    }
+
+    fn fill_from(&mut self, rt: &impl Host, input: &Input<'_>, set: &mut PatternSet) {
+        let dfa = &self.dfa;
+        let filled = dfa.try_which_overlapping_matches(&mut self.first, input, set);
+        filled.expect(rt, "a set");
     }
 
     /// Puts the next of the three caches first.
     fn switch(&mut self)
         ensures { self.new.dfa ≡ self.old.dfa }
     {
+        self.swap_first();
+        self.swap_last();
+    }
+
+    fn swap_first(&mut self)
+        ensures { self.new.dfa ≡ self.old.dfa }
+    {
         mem::swap(&mut self.first, &mut self.second);
+    }
+
+    fn swap_last(&mut self)
+        ensures { self.new.dfa ≡ self.old.dfa }
+    {
         mem::swap(&mut self.second, &mut self.third);
     }
 }
@@ -328,6 +344,15 @@ fn step(
         dfa.try_search_overlapping_rev(cache, input, walk)
     } else {
         dfa.try_search_overlapping_fwd(cache, input, walk)
+    }
+}
+
+/// What a call of a walk reports. If it fails, the walk has no match.
+fn told_of_step(stepped: Result<(), SearchError>, found: Option<HalfMatch>) -> Told {
+    match stepped {
+        Err(_) if found.is_some() => Told::Word("a refusal with a match"),
+        Err(error) => Told::of_half(Err(error)),
+        Ok(()) => Told::of_half(Ok(found)),
     }
 }
 
