@@ -136,6 +136,8 @@ def build(program, folder, own):
         words += ["-L", f"dependency={os.path.dirname(rlib(name))}"]
     words += ["--antt-project", f"{KIT}/rattle/logic/antt-project.json", "--logic-built", f"{KIT}/logic_built"]
     words += ["--toolchain", f"{KIT}/toolchain", "--backend", "llvm", "-o", "program.o"]
+    # The gate has nothing else to do by then.
+    words += ["--jobs", str(min(4, os.cpu_count() or 1))]
     how = {"cwd": folder, "stdin": subprocess.DEVNULL, "stdout": subprocess.PIPE, "stderr": subprocess.STDOUT}
     ran = subprocess.run([f"{KIT}/bin/rattle", "build", *words], errors="replace", **how)
     proved = ran.returncode == 0 and re.search(r"^logic=proved ", ran.stdout, re.M)
