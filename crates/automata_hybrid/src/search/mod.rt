@@ -119,7 +119,7 @@ impl DFA {
     }
 
     /// The same, where the ID of that state was met, unless it is unknown.
-    #[inline(always)]
+    // It has no `inline(always)`: with it `find` would grow so large that the compiler drops its own.
     fn step_met(
         &self,
         cache: &mut Cache,
