@@ -8,7 +8,7 @@ ghost use Rattle.automata_hybrid.specs.Cache.Ids.{unknown_id, fixed_from, offset
 ghost use Rattle.automata_hybrid.specs.Machines.Machine.{IsStateOf, IsTemplate, greatest, marked, next_of};
 ghost use Rattle.automata_hybrid.specs.Machines.Machine.{table_stride, template_of};
 ghost use Rattle.automata_hybrid.specs.Cache.Table.{id_of, with_row, fresh, Names, Leads, row_cost, IsValid, HasState};
-ghost use Rattle.automata_hybrid.specs.Cache.Table.{AreRows, IsNewState, fixed_rows};
+ghost use Rattle.automata_hybrid.specs.Cache.Table.{AreRows, IsNewState};
 ghost use Rattle.automata_hybrid.specs.Cache.Table.{IsCell, cell_at, with_cell, HasCells, HasRowIds};
 ghost use Rattle.automata_hybrid.specs.Cache.Clears.{AllStarts};
 
@@ -21,12 +21,6 @@ use std::alloc::{AllocError, AllocFailed, Global};
 use std::collections::HashMap;
 use std::marker::Model;
 use std::snapshot::Snapshot;
-
-/// How many rows there is room for from the start: a short search needs no more.
-const FIRST_ROWS: usize = 8;
-
-/// How many cells there is room for from the start: a kilobyte, which the allocator has at hand.
-const FIRST_CELLS: usize = 256;
 
 /// The rows of a lazy DFA, and the map from states to them.
 #[derive(Drop)]
@@ -59,18 +53,6 @@ fn cell_in(cells: &[LazyStateID], row: usize, class: usize) -> LazyStateID
 {
     let column = &cells[class..];
     column[row]
-}
-
-/// The cells of the fixed rows, with room for so many, and for the first few.
-fn fixed_cells(alloc: Global, stride: usize, room: usize) -> Result<Vec<LazyStateID>, AllocError>
-    requires { stride ≤ 512 }
-    ensures { IfOk result (λ v. v.items ≡ fixed_rows stride) }
-{
-    let mut cells = Vec::with_capacity(alloc, FIRST_CELLS.max(room))?;
-    cells.resize(stride, LazyStateID::UNKNOWN)?;
-    cells.resize(2 * stride, LazyStateID::dead(stride as u32))?;
-    cells.resize(3 * stride, LazyStateID::quit(stride as u32))?;
-    Ok(cells)
 }
 
 impl Table {
@@ -181,7 +163,7 @@ impl Table {
         Ok(id)
     }
 
-    /// The fixed rows alone, with room for so many rows more, and for the first few.
+    /// The fixed rows alone, with room for so many rows more.
     pub fn fresh(
         dfa: &DFA,
         stride: usize,
@@ -195,15 +177,17 @@ impl Table {
         ensures { IfOk result (λ t. t ≡ fresh dfa.now) }
     {
         let alloc = dfa.alloc();
-        let cells = fixed_cells(alloc, stride, (room + 3) * stride)?;
-        let rows = FIRST_ROWS.max(room);
+        let mut cells = Vec::with_capacity(alloc, (room + 3) * stride)?;
+        cells.resize(stride, LazyStateID::UNKNOWN)?;
+        cells.resize(2 * stride, LazyStateID::dead(stride as u32))?;
+        cells.resize(3 * stride, LazyStateID::quit(stride as u32))?;
         Ok(Table {
             of: Snapshot::of(dfa),
             stride,
             template,
             cells,
-            rows: Vec::with_capacity(alloc, rows)?,
-            map: HashMap::with_capacity(alloc, rows)?,
+            rows: Vec::with_capacity(alloc, room)?,
+            map: HashMap::with_capacity(alloc, room)?,
             costs: 0,
         })
     }
