@@ -9,7 +9,7 @@ use Rattle.automata_base.specs.Powersets.Powerset.{Powerset, cost}
 use Rattle.automata_base.specs.Powersets.Equal.{powerset_eq}
 use Rattle.automata_hybrid.specs.declared.dfa.row.Row.{Row}
 use Rattle.automata_base.specs.Powersets.Powerset.{dead}
-use Rattle.automata_hybrid.specs.Cache.Ids.{tags, dead_id, quit_id, unknown_id, offset_limit}
+use Rattle.automata_hybrid.specs.Cache.Ids.{tags, dead_id, quit_id, unknown_id, fixed_from, offset_limit}
 use Rattle.automata_hybrid.specs.Machines.Machine.{Machine, next_of, greatest, template_of, IsStateOf, IsTemplate}
 use Rattle.automata_hybrid.specs.Machines.Machine.{table_stride}
 
@@ -145,13 +145,36 @@ pub record IsTable (t : Rows) (map : StateMap) (costs : ℕ) : Type 0 where
 abbrev pub IsValid : Rows → ℕ → Type 0
 IsValid t id = (q : Powerset) × Names t id q
 
--- the row at a place has this state
-abbrev pub HasState : Rows → ℕ → Powerset → Type 0
-HasState t k q = (r : Row) × (slice_get t.rows k ≡ Some r) × (r.state ≡ q)
-
 -- the place of a cell
 abbrev pub cell_at : ℕ → ℕ → ℕ
 cell_at id class = id % offset_limit + class
+
+-- each row has a cell for each class
+abbrev pub HasCells : Rows → Type 0
+HasCells t = (id class : ℕ) → IsValid t id → class < table_stride t.of → cell_at id class < length t.cells
+
+-- what is true of the rows of each table
+pub record IsSound (t : Rows) : Type 0 where
+  -- Rows and cells fit each other.
+  pub rows : AreRows t
+  -- A new row has a cell for each class.
+  pub template : IsTemplate (table_stride t.of) (template_of t.of)
+  -- The states cost no more than so many of the dearest.
+  pub costs : sum_by row_cost t.rows ≤ length t.rows * greatest t.of
+  -- Each row is found by its state.
+  pub ids : HasRowIds t
+  -- IDs of rows have no high tag, and the match tag exactly if their states have patterns.
+  pub low : (id : ℕ) (q : Powerset) → Names t id q → id < fixed_from
+  pub tagged : (id : ℕ) → HasItsMatchTag t id
+  -- No row has the dead state, and each has one of the DFA.
+  pub alive : (id : ℕ) (q : Powerset) → Names t id q → q ≡ dead → ⊥
+  pub own : (id : ℕ) (q : Powerset) → Names t id q → IsStateOf t.of q
+  -- Each row has a cell for each class.
+  pub cells : HasCells t
+
+-- the row at a place has this state
+abbrev pub HasState : Rows → ℕ → Powerset → Type 0
+HasState t k q = (r : Row) × (slice_get t.rows k ≡ Some r) × (r.state ≡ q)
 
 -- a state that may be added to a table
 pub record IsNewState (t : Rows) (q : Powerset) : Type 0 where
@@ -161,10 +184,6 @@ pub record IsNewState (t : Rows) (q : Powerset) : Type 0 where
   pub cheap : cost q ≤ greatest t.of
   -- It is a state of the DFA.
   pub own : IsStateOf t.of q
-
--- each row has a cell for each class
-abbrev pub HasCells : Rows → Type 0
-HasCells t = (id class : ℕ) → IsValid t id → class < table_stride t.of → cell_at id class < length t.cells
 
 -- with a cell written
 abbrev pub with_cell : Rows → ℕ → ℕ → ℕ → Rows

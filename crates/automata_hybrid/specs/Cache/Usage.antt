@@ -34,6 +34,10 @@ abbrev pub Fits : Stored → ℕ → Type 0
 Fits c extra =
     (usage c + row_usage c.table.of + extra ≤ c.table.of.capacity) × (length c.table.cells < offset_limit)
 
+-- any state fits
+abbrev pub FitsAny : Stored → Type 0
+FitsAny c = (extra : ℕ) → extra ≤ greatest c.table.of → Fits c extra
+
 -- too few bytes were searched for so many states, where a number for each is set
 abbrev pub short_of : Option ℕ → ℕ → ℕ → Bool
 short_of None states searched = true

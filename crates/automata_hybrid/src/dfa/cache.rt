@@ -70,7 +70,7 @@ impl Model for Cache {
 impl fmt::Debug for Cache {
     fn fmt<W: fmt::Write>(&self, f: &mut fmt::Formatter<W>) -> fmt::Result {
         f.debug_struct("Cache")
-            .field("states", &self.store.row_count())
+            .field("states", &self.store.table.len())
             .field("memory_usage", &self.memory_usage())
             .field("clear_count", &self.clear_count())
             .finish_non_exhaustive()
@@ -122,7 +122,7 @@ impl Cache {
         ensures is_of { IfOk result (λ k. IsStateOf dfa.now k) }
         ensures counted { self.new ≡ counted self.old }
     {
-        let from = self.store.state(id);
+        let from = self.store.table.state(id);
         let key = next_key(dfa.get_nfa(), &mut self.scratch, dfa.kind(), from, unit)?;
         Ok(key)
     }
@@ -132,7 +132,7 @@ impl Cache {
         ensures found { IfOk result (IsLookedUp self.old.store.table key) }
         ensures same { self.new ≡ self.old }
     {
-        if let Some(id) = self.store.get(&key) {
+        if let Some(id) = self.store.table.get(&key) {
             self.scratch.recycle(key);
             return Ok(Found::Known(id));
         }
@@ -140,7 +140,7 @@ impl Cache {
         self.scratch.recycle(key);
         let state = made?;
         if row::is_dead(&state) {
-            return Ok(Found::Known(self.store.dead()));
+            return Ok(Found::Known(self.dead()));
         }
         Ok(Found::New(state))
     }
@@ -149,7 +149,7 @@ impl Cache {
     pub(crate) fn find(&self, key: &Key) -> Option<LazyStateID>
         ensures { result ≡ id_of self.now.store.table key.now }
     {
-        self.store.get(key)
+        self.store.table.get(key)
     }
 
     /// A handle on the state of a row. It allocates nothing. It fails only if the state cannot be shared once more.
@@ -157,7 +157,7 @@ impl Cache {
         requires { IsValid self.now.store.table id }
         ensures { IfOk result (λ handle. (q : Powerset) → Names self.now.store.table id q → IsHandle handle q) }
     {
-        Handle::of(self.store.state(id))
+        Handle::of(self.store.table.state(id))
     }
 
     /// The state of a row, which only contracts see.
@@ -167,7 +167,7 @@ impl Cache {
         ensures row { IsRowState self.now.store.table.of result.value }
     {
         self.see_ids();
-        Snapshot::of(self.store.state(id))
+        Snapshot::of(self.store.table.state(id))
     }
 
     /// Adds a state again that a clear dropped. An error changes nothing.
@@ -195,7 +195,12 @@ impl Cache {
     pub fn is_valid(&self, id: LazyStateID) -> bool
         ensures { IsTrue result ↔ IsRow self.now.store.table id }
     {
-        self.store.is_valid(id)
+        let table = &self.store.table;
+        let stride = table.stride() as u32;
+        id == LazyStateID::UNKNOWN
+            || id == LazyStateID::dead(stride)
+            || id == LazyStateID::quit(stride)
+            || table.has_row(id)
     }
 
     /// The cell of a row at a class, which may not be computed yet.
@@ -209,7 +214,7 @@ impl Cache {
         ensures stride { table_stride self.now.store.table.of ≤ 512 }
     {
         self.see_ids();
-        self.store.cell(id, class)
+        self.store.table.cell(id, class)
     }
 
     /// The same, of an ID whose row's offset is known.
@@ -224,7 +229,7 @@ impl Cache {
         ensures stride { table_stride self.now.store.table.of ≤ 512 }
     {
         self.see_ids();
-        self.store.cell_in_row(id, row, class)
+        self.store.table.cell_in_row(id, row, class)
     }
 
     /// Writes a transition.
@@ -236,10 +241,11 @@ impl Cache {
             × Leads self.old.store.table next (next_of self.old.store.table.of q class) }
         ensures { self.new ≡ with_store self.old (with_next self.old.store id class next) }
     {
-        self.store.set_next(id, class, next);
+        self.store.table.set_cell(id, class, next);
     }
 
-    /// Adds a state that the cache lacks, stepped to from a row.
+    /// Adds a state that the cache lacks, stepped to from a row; clears first where it does not fit. It answers the
+    /// row's ID as it is now, and the new one. A refusal changes nothing.
     pub(crate) fn add_next(
         &mut self,
         dfa: &DFA,
@@ -254,8 +260,14 @@ impl Cache {
         ensures gives_up { IfErr result (λ e. IsCacheError e → GivesUp self.old.store state) }
         ensures err { OnErr result (self.new ≡ self.old) }
     {
-        let added = self.store.add_next(dfa, from, state)?;
-        Ok(added)
+        if self.store.fits(&state) {
+            let to = self.store.add_row(state, false)?;
+            return Ok((from, to));
+        }
+        let mut fresh = self.store.cleared(dfa)?;
+        let from = fresh.keep_saved(&self.store.table, from)?;
+        let to = self.store.replace(fresh, state, false)?;
+        Ok((from, to))
     }
 
     /// The ID of a start slot, which may not be computed yet.
@@ -266,7 +278,7 @@ impl Cache {
         ensures tag { HasItsMatchTag self.now.store.table result }
     {
         self.see_ids();
-        self.store.start_slot(slot)
+        self.store.starts[slot]
     }
 
     /// The start state of an anchored mode, as a key.
@@ -295,10 +307,11 @@ impl Cache {
         ensures written { slice_index self.new.store.starts slot ≡ id }
         ensures found { slice_index self.new.store.starts slot < unknown_id }
     {
-        self.store.set_start(slot, id);
+        self.see_ids();
+        self.store.starts[slot] = id;
     }
 
-    /// Adds a start state that the cache lacks.
+    /// Adds a start state that the cache lacks; clears first if it does not fit. An error changes nothing.
     pub(crate) fn add_start(
         &mut self,
         dfa: &DFA,
@@ -313,21 +326,26 @@ impl Cache {
         ensures gives_up { IfErr result (λ e. IsCacheError e → GivesUp self.old.store state) }
         ensures err { OnErr result (self.new ≡ self.old) }
     {
-        let id = self.store.add_start(dfa, state, started)?;
+        if self.store.fits(&state) {
+            let id = self.store.add_row(state, started)?;
+            return Ok(id);
+        }
+        let fresh = self.store.cleared(dfa)?;
+        let id = self.store.replace(fresh, state, started)?;
         Ok(id)
     }
 
     pub(crate) fn dead(&self) -> LazyStateID
         ensures { result ≡ dead_id (table_stride self.now.store.table.of) }
     {
-        self.store.dead()
+        LazyStateID::dead(self.store.table.stride() as u32)
     }
 
     /// The start slots are as many as the DFA's.
     pub(crate) fn see_slots(&self)
         ensures { length self.now.store.starts ≡ slot_count self.now.store.table.of }
     {
-        self.store.see_slots();
+        let _ = self.store.starts.len();
     }
 
     /// Rows are of one width, and each has a cell for each class; the count of clears is a number of 64 bits.
@@ -336,7 +354,8 @@ impl Cache {
         ensures cells { HasCells self.now.store.table }
         ensures clears { self.now.store.clears < 2 ^ 64 }
     {
-        self.store.see_cells();
+        let _clears = self.store.clears;
+        self.store.table.see_rows();
     }
 
     /// IDs of rows have no high tag, and the match tag exactly if their state has patterns; no row has the dead state.
@@ -348,7 +367,7 @@ impl Cache {
         ensures small { table_stride self.now.store.table.of ≤ 512 }
         ensures alive { (id : ℕ) (q : Powerset) → Names self.now.store.table id q → q ≡ dead → ⊥ }
     {
-        self.store.see_ids();
+        self.store.table.see_rows();
     }
 
     /// The states of rows are the NFA's own.
@@ -356,7 +375,7 @@ impl Cache {
         requires { IsValid self.now.store.table id }
         ensures { (q : Powerset) → Names self.now.store.table id q → IsOwn self.now.store.table.of.nfa q }
     {
-        self.store.see_cells();
+        self.store.table.see_rows();
     }
 
     /// The number of patterns of a row's state.
@@ -364,7 +383,7 @@ impl Cache {
         requires { IsValid self.now.store.table id }
         ensures { (q : Powerset) → Names self.now.store.table id q → result ≡ length q.patterns }
     {
-        self.store.state(id).match_len()
+        self.store.table.state(id).match_len()
     }
 
     /// A pattern of a row's state.
@@ -373,7 +392,7 @@ impl Cache {
         requires index { (q : Powerset) → Names self.now.store.table id q → index < length q.patterns }
         ensures { (q : Powerset) → Names self.now.store.table id q → result ≡ slice_index q.patterns index }
     {
-        self.store.state(id).match_pattern(index)
+        self.store.table.state(id).match_pattern(index)
     }
 
     /// What was found of the self-loop that was followed last. No contract speaks of it, so it is tested before use.
@@ -393,21 +412,21 @@ impl Cache {
     pub fn clear_count(&self) -> usize
         ensures { result ≡ self.now.store.clears }
     {
-        self.store.clear_count()
+        self.store.clears
     }
 
     /// Whether a search was started and has not finished.
     pub fn in_progress(&self) -> bool
         ensures { result ≡ is_some self.now.store.searched.running }
     {
-        self.store.in_progress()
+        self.store.searched.running.is_some()
     }
 
     /// The bytes searched since the last clear, with those of an open search.
     pub fn search_total_len(&self) -> usize
         ensures { result ≡ total_len self.now.store.searched }
     {
-        self.store.search_total_len()
+        self.store.searched.total_len()
     }
 
     /// A search begins at an offset; one that is open ends. A search by steps of your own can report its progress by
@@ -419,7 +438,7 @@ impl Cache {
         ensures table { self.new.store.table ≡ self.old.store.table }
         ensures counted { self.new.count ≡ self.old.count }
     {
-        self.store.search_start(at);
+        self.store.searched.start(at);
     }
 
     /// The open search has come to an offset. There has to be one: `in_progress` is the test.
@@ -445,7 +464,7 @@ impl Cache {
         ensures table { self.new.store.table ≡ self.old.store.table }
         ensures counted { self.new.count ≡ self.old.count }
     {
-        self.store.search_update(at);
+        self.store.searched.update(at);
     }
 
     /// Ends the search at an offset, if one is open.
@@ -455,7 +474,7 @@ impl Cache {
         ensures table { self.new.store.table ≡ self.old.store.table }
         ensures counted { self.new.count ≡ self.old.count }
     {
-        self.store.search_finish(at);
+        self.store.searched.finish(at);
     }
 
     /// The accounted bytes: rows of cells, states, start slots and the buffers of determinization. They never exceed the
@@ -478,6 +497,6 @@ impl Cache {
     pub fn see_bounds(&self)
         ensures { IsStoreOf self.now.store self.now.store.table.of }
     {
-        self.store.see_bounds();
+        self.store.table.see_rows();
     }
 }

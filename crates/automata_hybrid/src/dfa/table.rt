@@ -1,15 +1,14 @@
 ghost use Rattle.std.specs.Prelude.{ℕ, List, ◌≡◌, ◌+◌, ◌-◌, ◌*◌, ◌/◌, ◌%◌, ◌^◌, ◌<◌, ◌≤◌, None, Some, IfOk, IsTrue};
 ghost use Rattle.std.specs.Prelude.{◌↔◌, OnOk, OnErr, length, slice_index, slice_set, slice_get, sum_by, false, cond};
-ghost use Rattle.std.specs.Prelude.{IsBitSet};
 ghost use Rattle.automata_base.specs.Powersets.Powerset.{Powerset, cost};
 ghost use Rattle.automata_base.specs.ByteClasses.Classes.{eoi_class};
 ghost use Rattle.automata_base.specs.Powersets.Powerset.{dead};
-ghost use Rattle.automata_hybrid.specs.Cache.Ids.{unknown_id, fixed_from, offset_limit};
+ghost use Rattle.automata_hybrid.specs.Cache.Ids.{unknown_id, offset_limit};
 ghost use Rattle.automata_hybrid.specs.Machines.Machine.{IsStateOf, IsTemplate, greatest, marked, next_of};
 ghost use Rattle.automata_hybrid.specs.Machines.Machine.{table_stride, template_of};
 ghost use Rattle.automata_hybrid.specs.Cache.Table.{id_of, with_row, fresh, Names, Leads, row_cost, IsValid, HasState};
-ghost use Rattle.automata_hybrid.specs.Cache.Table.{AreRows, IsNewState};
-ghost use Rattle.automata_hybrid.specs.Cache.Table.{IsCell, cell_at, with_cell, HasCells, HasRowIds};
+ghost use Rattle.automata_hybrid.specs.Cache.Table.{IsNewState, IsSound};
+ghost use Rattle.automata_hybrid.specs.Cache.Table.{IsCell, cell_at, with_cell};
 ghost use Rattle.automata_hybrid.specs.Cache.Clears.{AllStarts};
 
 use crate::dfa::row::Row;
@@ -65,43 +64,23 @@ impl Table {
 
     /// The number of rows.
     pub fn len(&self) -> usize
-        ensures { result ≡ length self.now.rows }
+        ensures value { result ≡ length self.now.rows }
+        ensures whole { length self.now.cells ≡ (length self.now.rows + 3) * table_stride self.now.of }
     {
         self.rows.len()
     }
 
-    /// There is a row's worth of cells for each row and the three fixed ones, and no row is dead.
+    /// What is true of the rows of each table. It does nothing.
     pub fn see_rows(&self)
-        ensures whole { length self.now.cells ≡ (length self.now.rows + 3) * table_stride self.now.of }
-        ensures template { IsTemplate (table_stride self.now.of) (template_of self.now.of) }
-        ensures costs { sum_by row_cost self.now.rows ≤ length self.now.rows * greatest self.now.of }
-        ensures ids { HasRowIds self.now }
-        ensures low { (id : ℕ) (q : Powerset) → Names self.now id q → id < fixed_from }
-        ensures tagged { (id : ℕ) (q : Powerset) → Names self.now id q → IsBitSet id 27 ↔ (0 < length q.patterns) }
-        ensures alive { (id : ℕ) (q : Powerset) → Names self.now id q → q ≡ dead → ⊥ }
+        ensures { IsSound self.now }
     {
         let _rows = &self.rows;
     }
 
-    /// Rows and cells fit each other.
-    pub fn see_whole(&self)
-        ensures { AreRows self.now }
-    {
-        let _ = self.rows.len();
-    }
-
-    /// Rows are of one width, each has a cell for each class, and their states are the DFA's.
-    pub fn see_cells(&self)
-        ensures wide { length (template_of self.now.of) ≡ table_stride self.now.of }
-        ensures cells { HasCells self.now }
-        ensures own { (id : ℕ) (q : Powerset) → Names self.now id q → IsStateOf self.now.of q }
-    {
-        let _ = self.rows.len();
-    }
-
     /// How many cells a row has.
     pub fn stride(&self) -> usize
-        ensures { result ≡ table_stride self.now.of }
+        ensures value { result ≡ table_stride self.now.of }
+        ensures template { IsTemplate (table_stride self.now.of) (template_of self.now.of) }
     {
         self.stride
     }
@@ -127,7 +106,8 @@ impl Table {
 
     /// The accounted bytes of all rows' states.
     pub fn costs(&self) -> usize
-        ensures { result ≡ sum_by row_cost self.now.rows }
+        ensures value { result ≡ sum_by row_cost self.now.rows }
+        ensures most { sum_by row_cost self.now.rows ≤ length self.now.rows * greatest self.now.of }
     {
         self.costs
     }

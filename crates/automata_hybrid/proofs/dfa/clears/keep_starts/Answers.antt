@@ -80,7 +80,7 @@ pub keep_slot-requires-clause-fits : goal.keep_slot-requires-clause-fits
 keep_slot-requires-clause-fits c =
     let few : length c.loop-id.table.rows + 3 ≤ length c.args.starts.now + 3 = omega (arith, c.loop-id.invariant.few, c.loop-id-test.true) in
     let most = mul-le-mul_right (table_stride c.args.old.now.of) few in
-    let whole = subst (λ (m : Machine). length c.loop-id.table.cells ≡ (length c.loop-id.table.rows + 3) * table_stride m) c.loop-id.invariant.of c.see_rows.ensures.whole in
+    let whole = subst (λ (m : Machine). length c.loop-id.table.cells ≡ (length c.loop-id.table.rows + 3) * table_stride m) c.loop-id.invariant.of c.see_rows.ensures.rows.whole in
     omega (arith, whole, most, c.requires.offsets)
 
 pub keep_slot-requires-clause-costs : goal.keep_slot-requires-clause-costs

@@ -8,20 +8,21 @@ use Rattle.automata_hybrid.specs.Machines.OwnStates.{IsOwn}
 use Rattle.automata_hybrid.specs.Machines.Machine.{IsStateOf, Machine, next_of}
 use Rattle.automata_hybrid.specs.Cache.Table.{Names}
 use Rattle.automata_hybrid.specs.Cache.Caches.{CacheView}
+use Rattle.automata_hybrid.specs.declared.dfa.cache.Cache.TheInside.{Inside}
 use Rattle.automata_hybrid.proofs.dfa.cache.Cache.determinise.Goals as goal
 use Rattle.automata_config.specs.Options.{match_kind_of}
 
 pub next_key-requires-clause-is_of : goal.next_key-requires-clause-is_of
 unfolding IsOwn
 next_key-requires-clause-is_of c =
-    let m : c.self.inside.store.table.of ≡ c.args.dfa.now = ap (λ (v : CacheView). v.store.table.of) c.self.view_is ∙ c.requires.of in
+    let m = ap (λ (i : Inside). i.store.table.of) c.self-inside.view_is ∙ (ap (λ (v : CacheView). v.store.table.of) c.self.view_is ∙ c.requires.of) in
     let own : IsOwn c.args.dfa.now.nfa c.state-from.result.now = subst (λ (u : Machine). IsOwn u.nfa c.state-from.result.now) m c.state-from.ensures.of.own in
     subst (λ (a : Automaton). IsOf a c.state-from.result.now) (sym c.get_nfa.ensures) own.0
 
 -- the state of the row that it steps from is one of the DFA
 from_row : (c : goal.In_ok-key) → IsStateOf c.args.dfa.now c.state-from.result.now
 from_row c =
-    let m : c.self.inside.store.table.of ≡ c.args.dfa.now = ap (λ (v : CacheView). v.store.table.of) c.self.view_is ∙ c.requires.of in
+    let m = ap (λ (i : Inside). i.store.table.of) c.self-inside.view_is ∙ (ap (λ (v : CacheView). v.store.table.of) c.self.view_is ∙ c.requires.of) in
     subst (λ (u : Machine). IsStateOf u c.state-from.result.now) m c.state-from.ensures.of
 
 -- and its key is the next state of the class
@@ -45,6 +46,7 @@ returns-clause-is_of c = record {
 
 pub returns-clause-value : goal.returns-clause-value
 returns-clause-value c = λ q n.
-    let named : Names c.self.inside.store.table c.args.id q = subst (λ (v : CacheView). Names v.store.table c.args.id q) (sym c.self.view_is) n in
+    let stored : Names c.self.inside.store.table c.args.id q = subst (λ (v : CacheView). Names v.store.table c.args.id q) (sym c.self.view_is) n in
+    let named = subst (λ (i : Inside). Names i.store.table c.args.id q) (sym c.self-inside.view_is) stored in
     let from : c.state-from.result.now ≡ q = c.state-from.ensures.named q named in
     next_row c ∙ ap (λ p. next_of c.args.dfa.now p c.args.class) from

@@ -1,5 +1,6 @@
 use Rattle.std.proofs.Common.{◌≡◌, ◌∙◌, ◌≤◌, subst, sym}
 use Rattle.automata_base.specs.Powersets.Powerset.{Powerset, cost}
+use Rattle.automata_hybrid.specs.declared.dfa.cache.Cache.TheInside.{Inside}
 use Rattle.automata_hybrid.specs.Cache.Caches.{CacheView}
 use Rattle.automata_hybrid.specs.Machines.Machine.{IsStateOf, greatest}
 use Rattle.automata_hybrid.specs.Cache.Table.{Names}
@@ -9,11 +10,15 @@ pub returns-clause-row : goal.returns-clause-row
 returns-clause-row c =
     let q : Powerset = c.requires.0 in
     let named : c.state.result.now ≡ q =
-    c.state.ensures.named q (subst (λ (v : CacheView). Names v.store.table c.args.id q) (sym c.self.view_is) c.requires.1) in
+    c.state.ensures.named q
+    (subst (λ (i : Inside). Names i.store.table c.args.id q) (sym c.self-inside.view_is)
+    (subst (λ (v : CacheView). Names v.store.table c.args.id q) (sym c.self.view_is) c.requires.1)) in
     record {
       own = subst (λ (p : Powerset). IsStateOf c.args.self.now.store.table.of p) (sym c.of.ensures)
-          (subst (λ (v : CacheView). IsStateOf v.store.table.of c.state.result.now) c.self.view_is c.state.ensures.of);
+          (subst (λ (v : CacheView). IsStateOf v.store.table.of c.state.result.now) c.self.view_is
+          (subst (λ (i : Inside). IsStateOf i.store.table.of c.state.result.now) c.self-inside.view_is c.state.ensures.of));
       cheap = subst (λ (p : Powerset). cost p ≤ greatest c.args.self.now.store.table.of) (sym c.of.ensures)
-          (subst (λ (v : CacheView). cost c.state.result.now ≤ greatest v.store.table.of) c.self.view_is c.state.ensures.cost);
+          (subst (λ (v : CacheView). cost c.state.result.now ≤ greatest v.store.table.of) c.self.view_is
+          (subst (λ (i : Inside). cost c.state.result.now ≤ greatest i.store.table.of) c.self-inside.view_is c.state.ensures.cost));
       alive = λ dies. c.see_ids.ensures.alive c.args.id q c.requires.1 (sym named ∙ (sym c.of.ensures ∙ dies));
     }

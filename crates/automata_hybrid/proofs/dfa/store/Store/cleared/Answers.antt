@@ -1,15 +1,15 @@
-use Rattle.std.proofs.Common.{◌≡◌, ◌≤◌, ◌∙◌, ap, sym, subst, length, List, ℕ, rules}
+use Rattle.std.proofs.Common.{◌≡◌, ◌+◌, ◌≤◌, ◌∙◌, ap, sym, subst, length, List, ℕ, rules, arith}
 use Rattle.automata_hybrid.specs.Cache.Clears.{KeepsAllStarts}
 use Rattle.automata_hybrid.specs.Cache.Stores.{Stored}
 use Rattle.automata_hybrid.specs.Cache.Usage.{cleared}
-use Rattle.automata_hybrid.proofs.Bounding.{IsCache-cleared}
+use Rattle.automata_hybrid.proofs.Bounding.{Fits-few, IsCache-cleared}
 use Rattle.automata_hybrid.proofs.dfa.store.Store.cleared.Goals as goal
 
 pub invariant_of-result : goal.invariant_of-result
 invariant_of-result c =
     let e = c.in_ok-table.ensures in
     let n : length c.in_ok-table.starts.items ≡ length c.self.inside.starts.items = e.slots ∙ ap (λ (xs : List ℕ). length xs) c.as_slice.ensures.value in
-    IsCache-cleared (record { table = c.self.inside.table; starts = c.self.inside.starts.items; clears = c.self.inside.clears; searched = c.self.inside.searched }) c.self.inside.settings c.in_ok-table.table c.in_ok-table.starts.items c.saturating_add.result c.cleared.result c.self.invariant e.named e.of n (subst (λ k. length c.in_ok-table.table.rows ≤ k) (sym e.slots) e.few) c.see_rows-2.ensures.whole c.see_rows-2.ensures.costs
+    IsCache-cleared (record { table = c.self.inside.table; starts = c.self.inside.starts.items; clears = c.self.inside.clears; searched = c.self.inside.searched }) c.self.inside.settings c.in_ok-table.table c.in_ok-table.starts.items c.saturating_add.result c.cleared.result c.self.invariant e.named e.of n (subst (λ k. length c.in_ok-table.table.rows ≤ k) (sym e.slots) e.few) c.see_rows.ensures.rows.whole c.see_rows.ensures.costs
 
 pub returns-clause-cleared : goal.returns-clause-cleared
 returns-clause-cleared c =
@@ -25,3 +25,8 @@ returns-clause-cleared c =
       value = λ i. record { table = table i; starts = starts i; clears = clears i; searched = searched i };
       kept = subst (λ (v : Stored). KeepsAllStarts v.table v.starts (record { table = c.in_ok-table.table; starts = c.in_ok-table.starts.items })) c.self.view_is old;
     }
+
+pub returns-clause-room : goal.returns-clause-room
+returns-clause-room c =
+    let e = c.in_ok-table.ensures in
+    Fits-few (record { table = c.in_ok-table.table; starts = c.in_ok-table.starts.items; clears = c.saturating_add.result; searched = c.cleared.result }) c.self.inside.settings (invariant_of-result c) (subst (λ k. length c.in_ok-table.table.rows ≤ k + 1) (sym e.slots) (omega (arith, e.few))) c.see_rows.ensures.rows.whole c.see_rows.ensures.costs
