@@ -1,12 +1,13 @@
 -- What contracts see of a cache, its starts and its transitions, and how one of these is written.
-use Rattle.std.specs.Prelude.{ℕ, ◌<◌, List, None, slice_index, slice_set, replicate}
+use Rattle.std.specs.Prelude.{ℕ, ◌≡◌, ◌^◌, ◌<◌, ◌≤◌, List, None, length, slice_index, slice_set, replicate}
 use Rattle.automata_hybrid.specs.declared.dfa.progress.Searched.{Searched}
 use Rattle.automata_hybrid.specs.declared.dfa.settings.Settings.{Settings}
 use Rattle.automata_config.specs.declared.error.StepError.{StepError}
 use Rattle.automata_config.specs.declared.error.StepError.TheVariants.{Cache, OutOfMemory}
 use Rattle.automata_hybrid.specs.Cache.Ids.{unknown_id}
-use Rattle.automata_hybrid.specs.Machines.Machine.{Machine, slot_count}
-use Rattle.automata_hybrid.specs.Cache.Table.{Rows, with_cell, cell_at, fresh}
+use Rattle.automata_hybrid.specs.Machines.Machine.{Machine, slot_count, table_stride, template_of}
+use Rattle.automata_hybrid.specs.Cache.Table.{Rows, with_cell, cell_at, fresh, HasCells, HasItsMatchTag, HasLowIds}
+use Rattle.automata_hybrid.specs.Cache.Table.{HasNoDeadRow, HasOwnStates, HasRowIds}
 use Rattle.automata_config.specs.Options.{minimum_cache_clear_count_of, minimum_bytes_per_state_of}
 use Rattle.automata_base.specs.Powersets.Accounting.{fixed_cost}
 
@@ -76,3 +77,19 @@ KeepsStarts old new = (slot : ℕ) → slice_index old slot < unknown_id → sli
 -- with another progress
 abbrev pub with_searched : Stored → Searched → Stored
 with_searched c s = record { table = c.table; starts = c.starts; clears = c.clears; searched = s }
+
+-- what is true of each cache
+pub record IsSoundStore (c : Stored) : Type 0 where
+  -- A row has at most 512 cells, and a new one has as many as each row.
+  pub small : table_stride c.table.of ≤ 512
+  pub wide : length (template_of c.table.of) ≡ table_stride c.table.of
+  pub ids : HasRowIds c.table
+  pub low : HasLowIds c.table
+  pub tagged : (id : ℕ) → HasItsMatchTag c.table id
+  pub alive : HasNoDeadRow c.table
+  pub own : HasOwnStates c.table
+  pub cells : HasCells c.table
+  -- There are as many slots as start states of the DFA.
+  pub slots : length c.starts ≡ slot_count c.table.of
+  -- The count of clears is a number of 64 bits.
+  pub clears : c.clears < 2 ^ 64

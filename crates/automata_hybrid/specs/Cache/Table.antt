@@ -12,6 +12,7 @@ use Rattle.automata_base.specs.Powersets.Powerset.{dead}
 use Rattle.automata_hybrid.specs.Cache.Ids.{tags, dead_id, quit_id, unknown_id, fixed_from, offset_limit}
 use Rattle.automata_hybrid.specs.Machines.Machine.{Machine, next_of, greatest, template_of, IsStateOf, IsTemplate}
 use Rattle.automata_hybrid.specs.Machines.Machine.{table_stride}
+use Rattle.automata_hybrid.specs.Machines.OwnStates.{IsOwn}
 
 -- a state has patterns
 abbrev pub has_patterns : Powerset → Bool
@@ -153,23 +154,29 @@ cell_at id class = id % offset_limit + class
 abbrev pub HasCells : Rows → Type 0
 HasCells t = (id class : ℕ) → IsValid t id → class < table_stride t.of → cell_at id class < length t.cells
 
+-- IDs of rows have no high tag
+abbrev pub HasLowIds : Rows → Type 0
+HasLowIds t = (id : ℕ) (q : Powerset) → Names t id q → id < fixed_from
+
+-- no row has the dead state
+abbrev pub HasNoDeadRow : Rows → Type 0
+HasNoDeadRow t = (id : ℕ) (q : Powerset) → Names t id q → q ≡ dead → ⊥
+
+-- each row has a state of the automaton
+abbrev pub HasOwnStates : Rows → Type 0
+HasOwnStates t = (id : ℕ) (q : Powerset) → Names t id q → IsOwn t.of.nfa q
+
 -- what is true of the rows of each table
 pub record IsSound (t : Rows) : Type 0 where
-  -- Rows and cells fit each other.
   pub rows : AreRows t
-  -- A new row has a cell for each class.
   pub template : IsTemplate (table_stride t.of) (template_of t.of)
   -- The states cost no more than so many of the dearest.
   pub costs : sum_by row_cost t.rows ≤ length t.rows * greatest t.of
-  -- Each row is found by its state.
   pub ids : HasRowIds t
-  -- IDs of rows have no high tag, and the match tag exactly if their states have patterns.
-  pub low : (id : ℕ) (q : Powerset) → Names t id q → id < fixed_from
+  pub low : HasLowIds t
   pub tagged : (id : ℕ) → HasItsMatchTag t id
-  -- No row has the dead state, and each has one of the DFA.
-  pub alive : (id : ℕ) (q : Powerset) → Names t id q → q ≡ dead → ⊥
-  pub own : (id : ℕ) (q : Powerset) → Names t id q → IsStateOf t.of q
-  -- Each row has a cell for each class.
+  pub alive : HasNoDeadRow t
+  pub own : HasOwnStates t
   pub cells : HasCells t
 
 -- the row at a place has this state

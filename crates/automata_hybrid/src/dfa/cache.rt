@@ -1,15 +1,15 @@
-ghost use Rattle.std.specs.Prelude.{ℕ, ◌≡◌, ◌*◌, ◌%◌, ◌^◌, ◌<◌, ◌≤◌, IfOk, IfErr, OnOk, OnErr, slice_index};
-ghost use Rattle.std.specs.Prelude.{length, is_some, IsSome, IsTrue, ◌↔◌, IsBitSet, false};
+ghost use Rattle.std.specs.Prelude.{ℕ, ◌≡◌, ◌*◌, ◌%◌, ◌<◌, ◌≤◌, IfOk, IfErr, OnOk, OnErr, slice_index};
+ghost use Rattle.std.specs.Prelude.{length, is_some, IsSome, IsTrue, ◌↔◌, false};
 ghost use Rattle.automata_base.specs.Powersets.Powerset.{Powerset, cost, dead};
 ghost use Rattle.automata_base.specs.Retraced.Steps.{successor, start_state_of};
 ghost use Rattle.automata_hybrid.specs.Machines.OwnStates.{IsOwn};
-ghost use Rattle.automata_hybrid.specs.Machines.Machine.{IsClassOf, IsStateOf, greatest, next_of, slot_count, start_of};
+ghost use Rattle.automata_hybrid.specs.Machines.Machine.{IsClassOf, IsStateOf, greatest, next_of, start_of};
 ghost use Rattle.automata_hybrid.specs.Machines.Machine.{table_stride, template_of};
-ghost use Rattle.automata_hybrid.specs.Cache.Ids.{dead_id, unknown_id, fixed_from, offset_limit};
-ghost use Rattle.automata_hybrid.specs.Cache.Table.{id_of, Names, IsValid, Leads, MayLead, IsCell, HasCells};
+ghost use Rattle.automata_hybrid.specs.Cache.Ids.{dead_id, unknown_id, offset_limit};
+ghost use Rattle.automata_hybrid.specs.Cache.Table.{id_of, Names, IsValid, Leads, MayLead, IsCell};
 ghost use Rattle.automata_hybrid.specs.Cache.Table.{HasItsMatchTag};
-ghost use Rattle.automata_hybrid.specs.Cache.Table.{HasRowIds, IsNewState};
-ghost use Rattle.automata_hybrid.specs.Cache.Stores.{IsCacheError, cell_of, with_next, with_start};
+ghost use Rattle.automata_hybrid.specs.Cache.Table.{IsNewState};
+ghost use Rattle.automata_hybrid.specs.Cache.Stores.{IsCacheError, IsSoundStore, cell_of, with_next, with_start};
 ghost use Rattle.automata_hybrid.specs.Cache.Stores.{with_searched};
 ghost use Rattle.automata_hybrid.specs.Cache.Usage.{usage, GivesUp};
 ghost use Rattle.automata_hybrid.specs.Cache.Changes.{AddsNext, AddsStart, IsAddedStart};
@@ -183,7 +183,6 @@ impl Cache {
         ensures err { OnErr result (self.new ≡ self.old) }
         ensures progress { KeepsProgress self.old.store self.new.store }
     {
-        self.see_cells();
         self.see_ids();
         let id = self.add_start(dfa, state, false)?;
         self.see_ids();
@@ -211,6 +210,7 @@ impl Cache {
         ensures value { result ≡ cell_of self.now.store id class }
         ensures named { (q : Powerset) → Names self.now.store.table id q → IsCell self.now.store.table q class result }
         ensures tag { HasItsMatchTag self.now.store.table result }
+        ensures own { (q : Powerset) → Names self.now.store.table id q → IsOwn self.now.store.table.of.nfa q }
         ensures stride { table_stride self.now.store.table.of ≤ 512 }
     {
         self.see_ids();
@@ -226,6 +226,7 @@ impl Cache {
         ensures value { result ≡ cell_of self.now.store id class }
         ensures named { (q : Powerset) → Names self.now.store.table id q → IsCell self.now.store.table q class result }
         ensures tag { HasItsMatchTag self.now.store.table result }
+        ensures own { (q : Powerset) → Names self.now.store.table id q → IsOwn self.now.store.table.of.nfa q }
         ensures stride { table_stride self.now.store.table.of ≤ 512 }
     {
         self.see_ids();
@@ -341,40 +342,11 @@ impl Cache {
         LazyStateID::dead(self.store.table.stride() as u32)
     }
 
-    /// The start slots are as many as the DFA's.
-    pub(crate) fn see_slots(&self)
-        ensures { length self.now.store.starts ≡ slot_count self.now.store.table.of }
-    {
-        let _ = self.store.starts.len();
-    }
-
-    /// Rows are of one width, and each has a cell for each class; the count of clears is a number of 64 bits.
-    pub(crate) fn see_cells(&self)
-        ensures wide { length (template_of self.now.store.table.of) ≡ table_stride self.now.store.table.of }
-        ensures cells { HasCells self.now.store.table }
-        ensures clears { self.now.store.clears < 2 ^ 64 }
+    /// What is true of each cache. It does nothing.
+    pub(crate) fn see_ids(&self)
+        ensures { IsSoundStore self.now.store }
     {
         let _clears = self.store.clears;
-        self.store.table.see_rows();
-    }
-
-    /// IDs of rows have no high tag, and the match tag exactly if their state has patterns; no row has the dead state.
-    pub(crate) fn see_ids(&self)
-        ensures ids { HasRowIds self.now.store.table }
-        ensures low { (id : ℕ) (q : Powerset) → Names self.now.store.table id q → id < fixed_from }
-        ensures tagged { (id : ℕ) (q : Powerset) → Names self.now.store.table id q
-            → IsBitSet id 27 ↔ (0 < length q.patterns) }
-        ensures small { table_stride self.now.store.table.of ≤ 512 }
-        ensures alive { (id : ℕ) (q : Powerset) → Names self.now.store.table id q → q ≡ dead → ⊥ }
-    {
-        self.store.table.see_rows();
-    }
-
-    /// The states of rows are the NFA's own.
-    pub(crate) fn see_state(&self, id: LazyStateID)
-        requires { IsValid self.now.store.table id }
-        ensures { (q : Powerset) → Names self.now.store.table id q → IsOwn self.now.store.table.of.nfa q }
-    {
         self.store.table.see_rows();
     }
 

@@ -236,29 +236,16 @@ impl DFA {
         }
     }
 
-    /// Each byte and the end have a class of their own row.
+    /// What is true of each DFA. It does nothing.
     pub(crate) fn see_classes(&self)
+        ensures machine { IsMachine self.now }
+        ensures rising { AreClasses self.now.classes }
         ensures bytes { (byte : ℕ) → byte < 256 → class_in self.now.classes byte < table_stride self.now }
         ensures end { eoi_class self.now.classes < table_stride self.now }
-    {
-        let _ = self.end_class();
-        let _ = self.classes.eoi();
-    }
-
-    /// Classes rise from byte to byte, and the bytes of each one step alike.
-    pub(crate) fn see_alike(&self)
-        ensures rising { AreClasses self.now.classes }
-        ensures machine { IsMachine self.now }
-    {
-        self.classes.see_rising();
-    }
-
-    /// The start slots are as many as the modes give.
-    pub(crate) fn see_slots(&self)
         ensures number { slot_count self.now ≡ start_slots self.now.nfa (starts_for_each_pattern_of self.now.config) }
         ensures fits { slot_count self.now < 2 ^ 64 }
     {
-        let _capacity = self.capacity;
+        self.classes.see_rising();
     }
 
     /// The fixed rows alone.

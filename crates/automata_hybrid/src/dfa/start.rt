@@ -37,7 +37,7 @@ impl Cache {
         ensures refusal { IfErr result (IsStartRefused dfa.now mode prev self.old self.new) }
         ensures effect { IsStartEffect dfa.now mode prev self.old self.new }
     {
-        self.see_slots();
+        self.see_ids();
         let found = self.start_slot(slot);
         if !found.is_unknown() {
             return Ok(found);
@@ -65,8 +65,6 @@ impl Cache {
         ensures refusal { IfErr result (λ e. IsStartRefused dfa.now mode prev self.old self.new (start_refusal e)) }
         ensures effect { IsStartEffect dfa.now mode prev self.old self.new }
     {
-        self.see_cells();
-        self.see_slots();
         self.see_ids();
         let key = self.determinise_start(dfa, mode, prev)?;
         match self.resolve(dfa, key)? {
@@ -117,7 +115,7 @@ impl DFA {
         ensures value { result ≡ group * 6 + behind_of self.now.nfa.flags.line_terminator prev }
         ensures within { result < slot_count self.now }
     {
-        self.see_slots();
+        self.see_classes();
         group * 6 + self.behind(prev)
     }
 
@@ -133,7 +131,7 @@ impl DFA {
         ensures refused { (result ≡ Err (StartError.UnsupportedAnchored mode)) ↔ (supports self.now mode ≡ false) }
         ensures only { IfErr result (λ e. e ≡ StartError.UnsupportedAnchored mode) }
     {
-        self.see_slots();
+        self.see_classes();
         match mode {
             Anchored::No => Ok(Some(self.slot(0, prev))),
             Anchored::Yes => Ok(Some(self.slot(1, prev))),
@@ -205,7 +203,6 @@ impl DFA {
         if let Some(byte) = self.quits_behind(config.get_look_behind()) {
             return Err(StartError::Quit { byte });
         }
-        cache.see_slots();
         cache.see_ids();
         match self.mode_slot(config.get_anchored(), config.get_look_behind())? {
             None => Ok(cache.dead()),

@@ -40,7 +40,6 @@ impl Cache {
         if id.is_fixed() {
             return Ok(id);
         }
-        self.see_state(id);
         let class = dfa.unit_class(unit);
         let cell = self.cell(id, class);
         if !cell.is_unknown() {
@@ -68,7 +67,6 @@ impl Cache {
         ensures refusal { IfErr result (IsStepRefused dfa.now id unit self.old self.new) }
         ensures effect { IsStepEffect dfa.now id unit self.old self.new }
     {
-        self.see_cells();
         self.see_ids();
         let class = dfa.unit_class(unit);
         let key = self.determinise(dfa, id, class, unit)?;
@@ -157,7 +155,6 @@ impl DFA {
         ensures tag { HasItsMatchTag cache.now.store.table result }
         ensures row { result < unknown_id → HasRow cache.now.store.table result }
     {
-        cache.see_state(id);
         cache.cell_in_row(id, id, self.class_of(byte))
     }
 
@@ -167,6 +164,7 @@ impl DFA {
         requires of { IsCacheOf cache.now self.now }
         requires valid { IsValid cache.now.store.table id }
         ensures value { result ≡ cell_of cache.now.store id (class_in self.now.classes byte) }
+        ensures below { class_in self.now.classes byte < table_stride self.now }
         ensures quit { is_quit self.now.quits byte ≡ true → result ≡ quit_id (table_stride self.now) }
         ensures named { is_quit self.now.quits byte ≡ false → result < unknown_id
             → (q : Powerset) → Names cache.now.store.table id q
@@ -174,7 +172,6 @@ impl DFA {
             (successor self.now.nfa (match_kind_of self.now.config) q (Some byte)) }
         ensures row { result < unknown_id → HasRow cache.now.store.table result }
     {
-        cache.see_state(id);
         cache.cell(id, self.class_of(byte))
     }
 

@@ -179,8 +179,6 @@ impl Table {
         ensures { IfOk result (λ t. t ≡ fresh self.now.of) }
     {
         let template = Vec::from_slice(dfa.alloc(), &self.template)?;
-        self.see_rows();
-        let _cells = self.cells.len();
         Table::fresh(dfa, self.stride, template, self.rows.len())
     }
 

@@ -43,8 +43,8 @@ impl DFA {
         requires within { to ≤ 256 }
         ensures { IsTrue result → (byte : ℕ) → from ≤ byte → byte < to → LoopsOn self.now cache.now.store id byte }
     {
-        self.see_alike();
-        cache.see_state(id);
+        self.see_classes();
+        cache.see_ids();
         if from >= to {
             return true;
         }

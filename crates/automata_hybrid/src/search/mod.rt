@@ -140,7 +140,6 @@ impl DFA {
             return self.step(cache, id, byte, at);
         }
         cache.see_ids();
-        cache.see_state(id);
         let _cell = cache.cell(id, self.class_of(byte));
         Ok(met)
     }
@@ -270,7 +269,6 @@ impl DFA {
         ensures { (q : Powerset) → Names cache.now.store.table id q → result ≡ slice_index q.patterns 0 }
     {
         cache.see_ids();
-        cache.see_state(id);
         if self.pattern_len() == 1 {
             return PatternID::ZERO;
         }

@@ -124,7 +124,7 @@ impl DFA {
         ensures effect { IsResumeEffect (way_of way) self.now input.now walk.now.stage cache.old cache.new result }
     {
         if walk.is_fresh() {
-            cache.see_slots();
+            cache.see_bounds();
             return self.walk_start(cache, input, way);
         }
         match held {

@@ -53,7 +53,7 @@ impl DFA {
             → result ≡ Err (unsupported_error input.now) }
         ensures effect { IsPassEffect (way_of way) self.now input.now cache.old cache.new result }
     {
-        cache.see_slots();
+        cache.see_bounds();
         let start = self.walk_start(cache, input, way)?;
         cache.see_ids();
         if keeps_none(input, way) {

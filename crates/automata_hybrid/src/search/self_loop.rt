@@ -82,7 +82,6 @@ impl DFA {
         requires plain { id < fixed_from }
         ensures { IsTrue result → LoopsOn self.now cache.now.store id byte }
     {
-        self.see_classes();
         self.next_state_known(cache, id, byte) == id
     }
 

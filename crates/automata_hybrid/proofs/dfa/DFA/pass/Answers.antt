@@ -57,18 +57,18 @@ pub returns-in_err-start-clause-effect : goal.returns-in_err-start-clause-effect
 returns-in_err-start-clause-effect c =
     let d : Direction = way_of c.args.way in
     at_err c.from_residual.result _ (IsPassEffect d c.args.self.now c.args.input.now c.args.cache.now c.walk_start.new.cache) c.from_residual.ensures.1
-    (pass_unstarted d c.args.self.now c.args.input.now _ _ c.args.cache.now c.walk_start.new.cache c.in_err-start.field-0.0 (c.see_slots.ensures ∙ ap (λ (d : Machine). slot_count d) c.requires.of)
+    (pass_unstarted d c.args.self.now c.args.input.now _ _ c.args.cache.now c.walk_start.new.cache c.in_err-start.field-0.0 (c.see_bounds.ensures.slots ∙ ap (λ (d : Machine). slot_count d) c.requires.of)
     c.in_err-start.ensures.refusal c.in_err-start.ensures.effect refl refl)
 
 pub returns-then-is_dead-clause-effect : goal.returns-then-is_dead-clause-effect
 returns-then-is_dead-clause-effect c =
     let d : Direction = way_of c.args.way in
     let dies : state_in d c.args.self.now c.args.input.now 0 ≡ dead = begins_dead d c.args.self.now c.walk_start.new.cache.store.table c.args.input.now c.in_ok-start.start c.in_ok-start.ensures.answer.named (c.see_ids.ensures.low c.in_ok-start.start) c.see_ids.ensures.small (c.if-is_dead.ensures.0 refl) in
-    pass_rest d c.args.self.now c.args.input.now c.in_ok-start.start c.args.cache.now c.walk_start.new.cache c.walk_start.new.cache c.walk_start.new.cache {s = c.walk_start.new.cache.store.searched} _ (c.see_slots.ensures ∙ ap (λ (d : Machine). slot_count d) c.requires.of)
+    pass_rest d c.args.self.now c.args.input.now c.in_ok-start.start c.args.cache.now c.walk_start.new.cache c.walk_start.new.cache c.walk_start.new.cache {s = c.walk_start.new.cache.store.searched} _ (c.see_bounds.ensures.slots ∙ ap (λ (d : Machine). slot_count d) c.requires.of)
     c.in_ok-start.ensures.answer c.in_ok-start.ensures.effect refl
     (rest_dead d c.args.self.now c.args.input.now c.walk_start.new.cache c.walk_start.new.cache {s = c.walk_start.new.cache.store.searched} _ refl dies) (
       c.walk_start.new.cache.store,
-      (start_had d c.args.self.now c.args.input.now c.args.cache.now c.walk_start.new.cache c.in_ok-start.start (c.see_slots.ensures ∙ ap (λ (d : Machine). slot_count d) c.requires.of) c.in_ok-start.ensures.effect c.in_ok-start.ensures.answer),
+      (start_had d c.args.self.now c.args.input.now c.args.cache.now c.walk_start.new.cache c.in_ok-start.start (c.see_bounds.ensures.slots ∙ ap (λ (d : Machine). slot_count d) c.requires.of) c.in_ok-start.ensures.effect c.in_ok-start.ensures.answer),
       inl (c.if-keeps_none.ensures.yes refl, inr (stops_start d c.args.self.now c.args.input.now dies 0 (omega arith), refl)),
     )
     tt
@@ -79,11 +79,11 @@ returns-then-is_dead-2-clause-effect c =
     let begins : c.search_start.new.self.store ≡ with_search_begun d c.args.input.now 0 c.walk_start.new.cache.store =
     subst (λ at. c.search_start.new.self.store ≡ with_searched c.walk_start.new.cache.store (started c.walk_start.new.cache.store.searched at)) c.span_offset-first.ensures (ap (λ (v : CacheView). v.store) c.search_start.ensures.value) in
     let dies : state_in d c.args.self.now c.args.input.now 0 ≡ dead = begins_dead d c.args.self.now c.walk_start.new.cache.store.table c.args.input.now c.in_ok-start.start c.in_ok-start.ensures.answer.named (c.see_ids.ensures.low c.in_ok-start.start) c.see_ids.ensures.small (c.if-is_dead-2.ensures.0 refl) in
-    pass_rest d c.args.self.now c.args.input.now c.in_ok-start.start c.args.cache.now c.walk_start.new.cache c.search_start.new.self c.end_search.new.self _ (c.see_slots.ensures ∙ ap (λ (d : Machine). slot_count d) c.requires.of)
+    pass_rest d c.args.self.now c.args.input.now c.in_ok-start.start c.args.cache.now c.walk_start.new.cache c.search_start.new.self c.end_search.new.self _ (c.see_bounds.ensures.slots ∙ ap (λ (d : Machine). slot_count d) c.requires.of)
     c.in_ok-start.ensures.answer c.in_ok-start.ensures.effect c.search_start.ensures.value
     (rest_dead d c.args.self.now c.args.input.now c.search_start.new.self c.end_search.new.self _ c.end_search.ensures.value dies) (
       c.walk_start.new.cache.store,
-      (start_had d c.args.self.now c.args.input.now c.args.cache.now c.walk_start.new.cache c.in_ok-start.start (c.see_slots.ensures ∙ ap (λ (d : Machine). slot_count d) c.requires.of) c.in_ok-start.ensures.effect c.in_ok-start.ensures.answer),
+      (start_had d c.args.self.now c.args.input.now c.args.cache.now c.walk_start.new.cache c.in_ok-start.start (c.see_bounds.ensures.slots ∙ ap (λ (d : Machine). slot_count d) c.requires.of) c.in_ok-start.ensures.effect c.in_ok-start.ensures.answer),
       inr (
         c.if-keeps_none.ensures.no refl,
         pass_dies d c.args.self.now c.args.input.now (with_search_begun d c.args.input.now 0 c.walk_start.new.cache.store) c.end_search.new.self.store
@@ -102,20 +102,20 @@ returns-then-keeps_none-clause-effect c =
     (starts_at d c.args.self.now c.walk_start.new.cache.store.table c.args.input.now c.in_ok-start.start
     (begins_alive d c.args.self.now c.walk_start.new.cache.store.table c.args.input.now c.in_ok-start.start c.in_ok-start.ensures.answer.named (c.see_ids.ensures.low c.in_ok-start.start) c.see_ids.ensures.small (λ b. false_true (c.if-is_dead.ensures.1 b))))
     (omega arith) c.find_still.ensures.alive in
-    pass_rest d c.args.self.now c.args.input.now c.in_ok-start.start c.args.cache.now c.walk_start.new.cache c.walk_start.new.cache c.find_still.new.cache {s = c.walk_start.new.cache.store.searched} c.find_still.result (c.see_slots.ensures ∙ ap (λ (d : Machine). slot_count d) c.requires.of)
+    pass_rest d c.args.self.now c.args.input.now c.in_ok-start.start c.args.cache.now c.walk_start.new.cache c.walk_start.new.cache c.find_still.new.cache {s = c.walk_start.new.cache.store.searched} c.find_still.result (c.see_bounds.ensures.slots ∙ ap (λ (d : Machine). slot_count d) c.requires.of)
     c.in_ok-start.ensures.answer c.in_ok-start.ensures.effect refl
     c.find_still.ensures.effect
     (IfOk-weaker c.find_still.result _ _
     (λ _ read. (
       c.walk_start.new.cache.store,
-      (start_had d c.args.self.now c.args.input.now c.args.cache.now c.walk_start.new.cache c.in_ok-start.start (c.see_slots.ensures ∙ ap (λ (d : Machine). slot_count d) c.requires.of) c.in_ok-start.ensures.effect c.in_ok-start.ensures.answer),
+      (start_had d c.args.self.now c.args.input.now c.args.cache.now c.walk_start.new.cache c.in_ok-start.start (c.see_bounds.ensures.slots ∙ ap (λ (d : Machine). slot_count d) c.requires.of) c.in_ok-start.ensures.effect c.in_ok-start.ensures.answer),
       inl (c.if-keeps_none.ensures.yes refl, inl (reads, read)),
     ))
     c.find_still.ensures.read)
     (if_both c.find_still.result _ _ _
     (λ error refused kept. inr (
       c.walk_start.new.cache.store,
-      (start_had d c.args.self.now c.args.input.now c.args.cache.now c.walk_start.new.cache c.in_ok-start.start (c.see_slots.ensures ∙ ap (λ (d : Machine). slot_count d) c.requires.of) c.in_ok-start.ensures.effect c.in_ok-start.ensures.answer),
+      (start_had d c.args.self.now c.args.input.now c.args.cache.now c.walk_start.new.cache c.in_ok-start.start (c.see_bounds.ensures.slots ∙ ap (λ (d : Machine). slot_count d) c.requires.of) c.in_ok-start.ensures.effect c.in_ok-start.ensures.answer),
       inl (c.if-keeps_none.ensures.yes refl, reads, refused, kept),
     ))
     c.find_still.ensures.refusal c.find_still.ensures.kept)
@@ -135,11 +135,11 @@ returns-clause-effect c =
     let d : Direction = way_of c.args.way in
     let begins : c.search_start.new.self.store ≡ with_search_begun d c.args.input.now 0 c.walk_start.new.cache.store =
     subst (λ at. c.search_start.new.self.store ≡ with_searched c.walk_start.new.cache.store (started c.walk_start.new.cache.store.searched at)) c.span_offset-first.ensures (ap (λ (v : CacheView). v.store) c.search_start.ensures.value) in
-    pass_rest d c.args.self.now c.args.input.now c.in_ok-start.start c.args.cache.now c.walk_start.new.cache c.search_start.new.self c.find_in.new.cache _ (c.see_slots.ensures ∙ ap (λ (d : Machine). slot_count d) c.requires.of)
+    pass_rest d c.args.self.now c.args.input.now c.in_ok-start.start c.args.cache.now c.walk_start.new.cache c.search_start.new.self c.find_in.new.cache _ (c.see_bounds.ensures.slots ∙ ap (λ (d : Machine). slot_count d) c.requires.of)
     c.in_ok-start.ensures.answer c.in_ok-start.ensures.effect c.search_start.ensures.value
     c.in_ok-found.ensures.effect (
       c.walk_start.new.cache.store,
-      (start_had d c.args.self.now c.args.input.now c.args.cache.now c.walk_start.new.cache c.in_ok-start.start (c.see_slots.ensures ∙ ap (λ (d : Machine). slot_count d) c.requires.of) c.in_ok-start.ensures.effect c.in_ok-start.ensures.answer),
+      (start_had d c.args.self.now c.args.input.now c.args.cache.now c.walk_start.new.cache c.in_ok-start.start (c.see_bounds.ensures.slots ∙ ap (λ (d : Machine). slot_count d) c.requires.of) c.in_ok-start.ensures.effect c.in_ok-start.ensures.answer),
       inr (
         c.if-keeps_none.ensures.no refl,
         subst (λ (v : Stored). EndsAtLast d c.args.self.now c.args.input.now v c.find_in.new.cache.store) begins c.in_ok-found.ensures.ended,
@@ -153,13 +153,13 @@ returns-in_err-found-clause-effect c =
     let begins : c.search_start.new.self.store ≡ with_search_begun d c.args.input.now 0 c.walk_start.new.cache.store =
     subst (λ at. c.search_start.new.self.store ≡ with_searched c.walk_start.new.cache.store (started c.walk_start.new.cache.store.searched at)) c.span_offset-first.ensures (ap (λ (v : CacheView). v.store) c.search_start.ensures.value) in
     at_err c.from_residual-in_err-found.result _ (IsPassEffect d c.args.self.now c.args.input.now c.args.cache.now c.find_in.new.cache) c.from_residual-in_err-found.ensures.1
-    (pass_rest d c.args.self.now c.args.input.now c.in_ok-start.start c.args.cache.now c.walk_start.new.cache c.search_start.new.self c.find_in.new.cache (Err c.in_err-found.field-0.0) (c.see_slots.ensures ∙ ap (λ (d : Machine). slot_count d) c.requires.of)
+    (pass_rest d c.args.self.now c.args.input.now c.in_ok-start.start c.args.cache.now c.walk_start.new.cache c.search_start.new.self c.find_in.new.cache (Err c.in_err-found.field-0.0) (c.see_bounds.ensures.slots ∙ ap (λ (d : Machine). slot_count d) c.requires.of)
     c.in_ok-start.ensures.answer c.in_ok-start.ensures.effect c.search_start.ensures.value
     c.in_err-found.ensures.effect
     tt
     (inr (
       c.walk_start.new.cache.store,
-      (start_had d c.args.self.now c.args.input.now c.args.cache.now c.walk_start.new.cache c.in_ok-start.start (c.see_slots.ensures ∙ ap (λ (d : Machine). slot_count d) c.requires.of) c.in_ok-start.ensures.effect c.in_ok-start.ensures.answer),
+      (start_had d c.args.self.now c.args.input.now c.args.cache.now c.walk_start.new.cache c.in_ok-start.start (c.see_bounds.ensures.slots ∙ ap (λ (d : Machine). slot_count d) c.requires.of) c.in_ok-start.ensures.effect c.in_ok-start.ensures.answer),
       inr (
         c.if-keeps_none.ensures.no refl,
         subst (λ (v : Stored). IsStoppedAt d c.args.self.now c.args.input.now v c.find_in.new.cache.store c.in_err-found.field-0.0) begins c.in_err-found.ensures.left,

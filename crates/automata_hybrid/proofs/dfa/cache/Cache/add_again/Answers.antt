@@ -15,7 +15,7 @@ returns-clause-grown c =
     (tagged_none c.args.self.now.store.table c.add_start.new.self.store.table
     (again_keeps c.args.self.now.store c.add_start.new.self.store r c.see_ids.ensures.ids c.see_ids-2.ensures.ids c.requires.new.lacks.0 added.effect)
     (again_adds c.args.self.now.store c.add_start.new.self.store r c.see_ids.ensures.ids c.see_ids-2.ensures.ids c.requires.new.lacks.0 added.effect))
-    c.see_cells.ensures.cells c.see_cells.ensures.wide c.see_cells.ensures.clears c.requires.new.cheap
+    c.see_ids.ensures.cells c.see_ids.ensures.wide c.see_ids.ensures.clears c.requires.new.cheap
 
 pub returns-clause-progress : goal.returns-clause-progress
 returns-clause-progress c =

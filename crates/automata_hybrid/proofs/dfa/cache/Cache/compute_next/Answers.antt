@@ -56,27 +56,27 @@ returns-in_err-from-in-New-clause-effect c =
 pub returns-in-Known-clause-answer : goal.returns-in-Known-clause-answer
 returns-in-Known-clause-answer c =
     computed_answer c.args.dfa.now c.args.id c.args.unit c.args.self.now c.set_next.new.self c.unit_class-class.result c.in-Known.to (known c)
-    c.requires.of c.requires.valid (c.see_ids.ensures.low c.args.id c.requires.valid.0 c.requires.valid.1) c.requires.clean c.requires.unknown c.unit_class-class.ensures.value c.unit_class-class.ensures.below c.see_cells.ensures.cells
+    c.requires.of c.requires.valid (c.see_ids.ensures.low c.args.id c.requires.valid.0 c.requires.valid.1) c.requires.clean c.requires.unknown c.unit_class-class.ensures.value c.unit_class-class.ensures.below c.see_ids.ensures.cells
     c.see_ids-in-Known.ensures.low c.see_ids-in-Known.ensures.small (c.see_ids-in-Known.ensures.tagged c.in-Known.to)
 
 pub returns-in-Known-clause-effect : goal.returns-in-Known-clause-effect
 returns-in-Known-clause-effect c =
     computed_effect c.args.dfa.now c.args.id c.args.unit c.args.self.now c.set_next.new.self c.unit_class-class.result c.in-Known.to (known c)
-    c.requires.of c.requires.valid (c.see_ids.ensures.low c.args.id c.requires.valid.0 c.requires.valid.1) c.requires.clean c.requires.unknown c.unit_class-class.ensures.value c.unit_class-class.ensures.below c.see_cells.ensures.cells
-    c.see_cells.ensures.wide c.see_cells.ensures.clears (cheap c.args.dfa.now c.args.self.now.store.table.of c.in_ok-key.key (successor c.args.dfa.now.nfa (match_kind_of c.args.dfa.now.config) c.requires.valid.0 c.args.unit) c.requires.of (c.in_ok-key.ensures.successor c.requires.valid.0 c.requires.valid.1) c.in_ok-key.ensures.cost)
+    c.requires.of c.requires.valid (c.see_ids.ensures.low c.args.id c.requires.valid.0 c.requires.valid.1) c.requires.clean c.requires.unknown c.unit_class-class.ensures.value c.unit_class-class.ensures.below c.see_ids.ensures.cells
+    c.see_ids.ensures.wide c.see_ids.ensures.clears (cheap c.args.dfa.now c.args.self.now.store.table.of c.in_ok-key.key (successor c.args.dfa.now.nfa (match_kind_of c.args.dfa.now.config) c.requires.valid.0 c.args.unit) c.requires.of (c.in_ok-key.ensures.successor c.requires.valid.0 c.requires.valid.1) c.in_ok-key.ensures.cost)
     c.see_ids.ensures.ids c.see_ids-in-Known.ensures.ids
     (sym (c.in_ok-key.ensures.successor c.requires.valid.0 c.requires.valid.1) ∙ c.in_ok-key.ensures.value c.requires.valid.0 c.requires.valid.1)
 
 pub returns-in_ok-from-in-New-clause-answer : goal.returns-in_ok-from-in-New-clause-answer
 returns-in_ok-from-in-New-clause-answer c =
     computed_answer c.args.dfa.now c.args.id c.args.unit c.args.self.now c.set_next-in-New.new.self c.unit_class-class.result c.in_ok-from-in-New.to (new c)
-    c.requires.of c.requires.valid (c.see_ids.ensures.low c.args.id c.requires.valid.0 c.requires.valid.1) c.requires.clean c.requires.unknown c.unit_class-class.ensures.value c.unit_class-class.ensures.below c.see_cells.ensures.cells
+    c.requires.of c.requires.valid (c.see_ids.ensures.low c.args.id c.requires.valid.0 c.requires.valid.1) c.requires.clean c.requires.unknown c.unit_class-class.ensures.value c.unit_class-class.ensures.below c.see_ids.ensures.cells
     c.see_ids-in-New.ensures.low c.see_ids-in-New.ensures.small (c.see_ids-in-New.ensures.tagged c.in_ok-from-in-New.to)
 
 pub returns-in_ok-from-in-New-clause-effect : goal.returns-in_ok-from-in-New-clause-effect
 returns-in_ok-from-in-New-clause-effect c =
     computed_effect c.args.dfa.now c.args.id c.args.unit c.args.self.now c.set_next-in-New.new.self c.unit_class-class.result c.in_ok-from-in-New.to (new c)
-    c.requires.of c.requires.valid (c.see_ids.ensures.low c.args.id c.requires.valid.0 c.requires.valid.1) c.requires.clean c.requires.unknown c.unit_class-class.ensures.value c.unit_class-class.ensures.below c.see_cells.ensures.cells
-    c.see_cells.ensures.wide c.see_cells.ensures.clears (cheap c.args.dfa.now c.args.self.now.store.table.of c.in_ok-key.key (successor c.args.dfa.now.nfa (match_kind_of c.args.dfa.now.config) c.requires.valid.0 c.args.unit) c.requires.of (c.in_ok-key.ensures.successor c.requires.valid.0 c.requires.valid.1) c.in_ok-key.ensures.cost)
+    c.requires.of c.requires.valid (c.see_ids.ensures.low c.args.id c.requires.valid.0 c.requires.valid.1) c.requires.clean c.requires.unknown c.unit_class-class.ensures.value c.unit_class-class.ensures.below c.see_ids.ensures.cells
+    c.see_ids.ensures.wide c.see_ids.ensures.clears (cheap c.args.dfa.now c.args.self.now.store.table.of c.in_ok-key.key (successor c.args.dfa.now.nfa (match_kind_of c.args.dfa.now.config) c.requires.valid.0 c.args.unit) c.requires.of (c.in_ok-key.ensures.successor c.requires.valid.0 c.requires.valid.1) c.in_ok-key.ensures.cost)
     c.see_ids.ensures.ids c.see_ids-in-New.ensures.ids
     (sym (c.in_ok-key.ensures.successor c.requires.valid.0 c.requires.valid.1) ∙ c.in_ok-key.ensures.value c.requires.valid.0 c.requires.valid.1)

@@ -51,27 +51,27 @@ add_start-requires-clause-new c =
 pub returns-in-Known-clause-answer : goal.returns-in-Known-clause-answer
 returns-in-Known-clause-answer c =
     computed_answer c.args.dfa.now c.args.mode c.args.prev c.args.self.now c.set_start.new.self c.args.slot c.in-Known.id (known c)
-    c.requires.slot c.requires.unknown (c.see_slots.ensures ∙ ap (λ (m : Machine). slot_count m) c.requires.of)
+    c.requires.slot c.requires.unknown (c.see_ids.ensures.slots ∙ ap (λ (m : Machine). slot_count m) c.requires.of)
     (c.see_ids-in-Known.ensures.tagged c.in-Known.id)
 
 pub returns-in-Known-clause-effect : goal.returns-in-Known-clause-effect
 returns-in-Known-clause-effect c =
     computed_effect c.args.dfa.now c.args.mode c.args.prev c.args.self.now c.set_start.new.self c.args.slot c.in-Known.id (known c)
-    c.requires.slot c.requires.unknown (c.see_slots.ensures ∙ ap (λ (m : Machine). slot_count m) c.requires.of)
-    c.see_cells.ensures.cells c.see_cells.ensures.wide c.see_cells.ensures.clears (cheap c.args.dfa.now c.args.self.now.store.table.of c.in_ok-key.key (start_state_of c.args.dfa.now.nfa c.args.mode c.args.prev) c.requires.of c.in_ok-key.ensures.value c.in_ok-key.ensures.cost)
+    c.requires.slot c.requires.unknown (c.see_ids.ensures.slots ∙ ap (λ (m : Machine). slot_count m) c.requires.of)
+    c.see_ids.ensures.cells c.see_ids.ensures.wide c.see_ids.ensures.clears (cheap c.args.dfa.now c.args.self.now.store.table.of c.in_ok-key.key (start_state_of c.args.dfa.now.nfa c.args.mode c.args.prev) c.requires.of c.in_ok-key.ensures.value c.in_ok-key.ensures.cost)
     c.see_ids.ensures.ids c.see_ids-in-Known.ensures.ids c.requires.of
 
 pub returns-in_ok-id-in-New-clause-answer : goal.returns-in_ok-id-in-New-clause-answer
 returns-in_ok-id-in-New-clause-answer c =
     computed_answer c.args.dfa.now c.args.mode c.args.prev c.args.self.now c.set_start-in-New.new.self c.args.slot c.in_ok-id-in-New.id (new c)
-    c.requires.slot c.requires.unknown (c.see_slots.ensures ∙ ap (λ (m : Machine). slot_count m) c.requires.of)
+    c.requires.slot c.requires.unknown (c.see_ids.ensures.slots ∙ ap (λ (m : Machine). slot_count m) c.requires.of)
     (c.see_ids-in-New.ensures.tagged c.in_ok-id-in-New.id)
 
 pub returns-in_ok-id-in-New-clause-effect : goal.returns-in_ok-id-in-New-clause-effect
 returns-in_ok-id-in-New-clause-effect c =
     computed_effect c.args.dfa.now c.args.mode c.args.prev c.args.self.now c.set_start-in-New.new.self c.args.slot c.in_ok-id-in-New.id (new c)
-    c.requires.slot c.requires.unknown (c.see_slots.ensures ∙ ap (λ (m : Machine). slot_count m) c.requires.of)
-    c.see_cells.ensures.cells c.see_cells.ensures.wide c.see_cells.ensures.clears (cheap c.args.dfa.now c.args.self.now.store.table.of c.in_ok-key.key (start_state_of c.args.dfa.now.nfa c.args.mode c.args.prev) c.requires.of c.in_ok-key.ensures.value c.in_ok-key.ensures.cost)
+    c.requires.slot c.requires.unknown (c.see_ids.ensures.slots ∙ ap (λ (m : Machine). slot_count m) c.requires.of)
+    c.see_ids.ensures.cells c.see_ids.ensures.wide c.see_ids.ensures.clears (cheap c.args.dfa.now c.args.self.now.store.table.of c.in_ok-key.key (start_state_of c.args.dfa.now.nfa c.args.mode c.args.prev) c.requires.of c.in_ok-key.ensures.value c.in_ok-key.ensures.cost)
     c.see_ids.ensures.ids c.see_ids-in-New.ensures.ids c.requires.of
 
 pub returns-in_err-key-clause-effect : goal.returns-in_err-key-clause-effect

@@ -25,7 +25,7 @@ returns-then-not-is_unknown-clause-answer c =
     let low : c.args.id < 2 ^ 29 = grind (arith, common_steps, c.if-is_fixed.ensures) in
     let valid : IsValid c.args.self.now.store.table c.args.id = HasRow-valid c.args.self.now.store.table c.args.id c.requires.row low in
     let known : c.cell-cell.result < 2 ^ 31 = grind (arith, common_steps, c.if-not-is_unknown.ensures.size) in
-    let own : (q : Powerset) → Names c.args.self.now.store.table c.args.id q → IsOwn c.args.dfa.now.nfa q = λ q n. subst (λ (d : Machine). IsOwn d.nfa q) c.requires.of (c.see_state.ensures q n) in
+    let own : (q : Powerset) → Names c.args.self.now.store.table c.args.id q → IsOwn c.args.dfa.now.nfa q = λ q n. subst (λ (d : Machine). IsOwn d.nfa q) c.requires.of (c.see_ids.ensures.own c.args.id q n) in
     known_answer c.args.dfa.now c.args.id c.args.unit c.args.self.now c.unit_class-class.result c.cell-cell.result c.requires.of valid
     c.unit_class-class.ensures.value c.unit_class-class.ensures.small c.unit_class-class.ensures.quit c.unit_class-class.ensures.free
     c.cell-cell.ensures.value c.cell-cell.ensures.named low known c.cell-cell.ensures.tag

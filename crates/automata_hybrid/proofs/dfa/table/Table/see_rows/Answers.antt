@@ -16,6 +16,6 @@ returns c =
       low = λ id q h. (Names-Placed t c.self.inside.map c.self.inside.costs id q i h).low;
       tagged = λ id q h. Names-tagged t c.self.inside.map c.self.inside.costs id q i h;
       alive = λ id q h. Names-alive t c.self.inside.map c.self.inside.costs id q i h;
-      own = λ id q h. Names-own t c.self.inside.map c.self.inside.costs id q i h;
+      own = λ id q h. (Names-own t c.self.inside.map c.self.inside.costs id q i h).own;
       cells = λ id class v l. Placed-cell t c.self.inside.map c.self.inside.costs id class v.0 i (Names-Placed t c.self.inside.map c.self.inside.costs id v.0 i v.1) l;
     }
