@@ -20,6 +20,7 @@ use Rattle.automata_hybrid.specs.Cache.Stores.{Stored, with_searched}
 use Rattle.automata_hybrid.specs.Walks.Answers.{Arrives, HasItsState, HasTold, HasToldBy, IsArrival, IsSilent, IsUnheld}
 use Rattle.automata_hybrid.specs.Walks.Answers.{IsWalkOf, WalkReads, start_count}
 use Rattle.automata_hybrid.specs.Walks.State.{Ended, Keeping, States, Walk}
+use Rattle.automata_hybrid.specs.declared.dfa.progress.Searched.{Searched}
 use Rattle.automata_hybrid.specs.declared.search.advance.Arrival.{Arrival}
 use Rattle.automata_hybrid.proofs.Growing.{grown_after, grown_moved, grown_trans, nothing_second}
 use Rattle.automata_hybrid.proofs.KnowingWalks.{has_state, nothing_after, state_still, unit_knows, units_all}
@@ -82,6 +83,17 @@ module _ (way : Direction) (m : Machine) (input : Input) (w : Walk) (from : ℕ)
   has_known : KnowsWalk way m old.store input w → HasItsState old.store.table w.stage
   has_known knows = has_state way m old.store input w.stage (knows told.0 told.1 r resumes.may).0
 
+  -- what was learned is there, wherever the search is then
+  pub learned_on :
+      (units : ℕ) (new : CacheView) {s : Searched} → units ≡ arrival.units → new ≡ with_store mid (with_searched mid.store s)
+      → ClearedNothing old.store new.store → HasLearnedUnits way m new.store input w.units units
+  learned_on units new same moves nothing =
+      let moved : IsGrown mid new = grown_moved mid new moves in
+      subst (HasLearnedUnits way m new.store input w.units) (sym same)
+      (units_moved way m input begun mid new w.units arrival.units moves a.learned
+      (nothing_second between begun new began (grown_trans begun mid new a.grown moved)
+      (nothing_after old between new e.grown (grown_trans between mid new whole moved) nothing)))
+
   -- and the search ended at the last unit that was read
   module _ (keeping : Keeping) (next : Walk) (new : CacheView) (at : ℕ) (units : next.units ≡ arrival.units)
       (place : at ≡ given_up_offset way input (arrival.units - 1))
@@ -142,13 +154,6 @@ module _ (way : Direction) (m : Machine) (input : Input) (w : Walk) (from : ℕ)
           let arrived : IsArrival way m new.store.table input w.units arrival.id arrival.units = subst (λ (v : CacheView). IsArrival way m v.store.table input w.units arrival.id arrival.units) (sym ends) arrives in
           units_all way m new.store input w.units k arrival.id arrival.units arrived (here k t)
           (units_moved way m input begun mid new w.units arrival.units ends a.learned (nothing_second between begun new began (grown_trans begun mid new a.grown (grown_moved mid new ends)) nothing))
-
-    pub learned_on : ClearedNothing old.store new.store → HasLearnedUnits way m new.store input w.units next.units
-    learned_on nothing =
-        subst (HasLearnedUnits way m new.store input w.units) (sym units)
-        (units_moved way m input begun mid new w.units arrival.units ends a.learned
-        (nothing_second between begun new began (grown_trans begun mid new a.grown (grown_moved mid new ends))
-        (nothing_after old between new e.grown after nothing)))
 
   -- or the state there cannot be held
   module _ (id : ℕ) (arrived : Arrives way m mid.store.table input w.units id arrival.units) where

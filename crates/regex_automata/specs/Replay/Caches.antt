@@ -1,5 +1,6 @@
 -- What the requests of a replay do to its caches, one after another, and how calls over these fail.
 use Rattle.std.specs.Prelude.{ℕ, ◌≡◌, ◌⊎◌, Bool, true, false, List, [], ◌∷◌, Option, Some, None, Result, Ok, Err, IfErr}
+use Rattle.std.specs.Prelude.{OnOk}
 use Rattle.std.specs.Result.{result_err}
 use Rattle.automata_base.specs.Haystacks.Input.{Input}
 use Rattle.automata_base.specs.Lists.{nth}
@@ -14,7 +15,7 @@ use Rattle.automata_hybrid.specs.Machines.Machine.{Machine}
 use Rattle.automata_hybrid.specs.Searches.Contracts.{IsSearchEffect}
 use Rattle.automata_hybrid.specs.Walks.Contracts.{IsCallEffect, IsWhichEffect}
 use Rattle.automata_hybrid.specs.Searches.Passes.{IsRefused}
-use Rattle.automata_hybrid.specs.Walks.Answers.{HasTold, IsWalkRefusal}
+use Rattle.automata_hybrid.specs.Walks.Answers.{HasTold, IsWalkRefusal, TellsNext}
 use Rattle.automata_hybrid.specs.Walks.State.{States, Walk}
 use Rattle.automata_hybrid.specs.Walks.Sets.{IsWhichRefusal}
 use Rattle.regex_automata.specs.Replay.Histories.{Begun, History, after, start}
@@ -88,11 +89,12 @@ AreTokensSearched m h end place old new (t ∷ ts) error =
     (token : Token) × (next : Cache) × (match_of token ≡ t) × IsTokenMade m h end place old next (Some (Ok token))
     × AreTokensSearched m h end t.end next new ts error
 
--- a call of a walk that has reported so many pairs
+-- a call of a walk that has reported so many pairs: if it returns Ok, the walk goes on to the next one
 abbrev pub IsCalled :
     Direction → Machine → Input → (told : ℕ) → (old new : CacheView) → Result (Option HalfMatch) SearchError → Type 0
 IsCalled way m input told old new result =
     (walk : Walk) × (next : Walk) × (call : Result (Unit {0}) SearchError) × HasTold way m input walk told
+    × OnOk call (TellsNext way m input walk next)
     × IsCallEffect States way m input walk next old new call × (result_err result ≡ result_err call)
     × IfErr call (IsWalkRefusal States way m new.store input walk told)
 

@@ -246,11 +246,7 @@ returns-in_default-clause-answer c =
       learned =
           learned_on d m input w c.in_ok-from.from c.args.cache.now c.resume.new.cache c.search_start.new.self c.advance.new.cache
           c.haystack-haystack.ensures.within.1 c.see_skips.ensures c.requires.walk.told r c.in_ok-from.ensures.effect c.in_ok-from.ensures.answer begins arrival advanced arrives
-          (keeping_of c.args.held.now) (ended_walk w arrival.units) c.end_search-in_default.new.self c.span_offset-last.result refl c.span_offset-last.ensures c.end_search-in_default.ensures.value
-          (λ e. (
-            refl,
-            finish.stops arrival.units (omega arith),
-          ));
+          arrival.units c.end_search-in_default.new.self refl c.end_search-in_default.ensures.value;
     })
 
 pub returns-in_default-clause-effect : goal.returns-in_default-clause-effect
@@ -368,8 +364,7 @@ returns-clause-answer c =
       learned =
           learned_on d m input w c.in_ok-from.from c.args.cache.now c.resume.new.cache c.search_start.new.self c.advance.new.cache
           c.haystack-haystack.ensures.within.1 c.see_skips.ensures c.requires.walk.told r c.in_ok-from.ensures.effect c.in_ok-from.ensures.answer begins arrival advanced arrives
-          (keeping_of c.args.held.now) c.stand.new.walk c.end_search-2.new.self c.span_offset-last.result s.units c.span_offset-last.ensures c.end_search-2.ensures.value
-          (λ ended. absurd (ended_at s.at.0 (sym ended ∙ s.at.1)));
+          c.stand.new.walk.units c.end_search-2.new.self s.units c.end_search-2.ensures.value;
     }
 
 pub returns-clause-effect : goal.returns-clause-effect

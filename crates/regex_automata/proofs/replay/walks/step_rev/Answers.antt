@@ -34,7 +34,7 @@ returns-in-Err-clause-call c =
 
 pub returns-in-Ok-clause-made : goal.returns-in-Ok-clause-made
 returns-in-Ok-clause-made c = λ k h.
-    (c.args.state.now, c.try_search_overlapping_rev.new.state, Ok tt, h.told, c.in-Ok.ensures.effect, refl, tt)
+    (c.args.state.now, c.try_search_overlapping_rev.new.state, Ok tt, h.told, c.in-Ok.ensures.call.tells, c.in-Ok.ensures.effect, refl, tt)
 
 pub returns-in-Err-clause-made : goal.returns-in-Err-clause-made
 returns-in-Err-clause-made c = λ k h. (
@@ -42,6 +42,7 @@ returns-in-Err-clause-made c = λ k h. (
   c.try_search_overlapping_rev.new.state,
   Err c.in-Err.error,
   h.told,
+  tt,
   c.in-Err.ensures.effect,
   refl,
   c.in-Err.ensures.refusal k h.told,
