@@ -7,3 +7,4 @@ pub mod pattern_set;
 pub mod primitives;
 pub mod search;
 pub mod start;
+pub mod subject;

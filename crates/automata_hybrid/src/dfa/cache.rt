@@ -66,6 +66,20 @@ impl Model for Cache {
     ghost invariant = { λ c. c.scratch.of ≡ c.store.table.of.nfa };
 }
 
+/// A clone has rows of its own and shares their states, so that what is done to one does not show in the other. The
+/// only error is out of memory.
+impl Clone for Cache {
+    ghost is_clone = { λ a b. b ≡ a };
+
+    fn clone(&self) -> Result<Cache, AllocError> {
+        Ok(Cache {
+            store: self.store.clone()?,
+            scratch: self.scratch.clone()?,
+            self_loop: self.self_loop.clone()?,
+        })
+    }
+}
+
 /// How much is in the cache, and not what.
 impl fmt::Debug for Cache {
     fn fmt<W: fmt::Write>(&self, f: &mut fmt::Formatter<W>) -> fmt::Result {

@@ -7,12 +7,25 @@ ghost use Rattle.automata_hybrid.specs.Cache.Ids.{offset_limit};
 use crate::id::LazyStateID;
 use automata_base::util::determinize::State;
 use automata_config::accounting::{HEAD_COST, ID_COST, PATTERN_COST};
+use std::alloc::AllocError;
 
 /// A row's state, and whether it was added as a start state with the start tag.
 #[derive(Drop)]
 pub struct Row {
     pub state: State,
     pub started: bool,
+}
+
+impl Clone for Row {
+    ghost is_clone = { λ a b. b ≡ a };
+
+    fn clone(&self) -> Result<Row, AllocError> {
+        let state = self.state.clone()?;
+        Ok(Row {
+            state,
+            started: self.started,
+        })
+    }
 }
 
 impl Row {

@@ -47,6 +47,20 @@ impl Model for Store {
         (record { table = c.table; starts = c.starts.items; clears = c.clears; searched = c.searched }) c.settings };
 }
 
+impl Clone for Store {
+    ghost is_clone = { λ a b. b ≡ a };
+
+    fn clone(&self) -> Result<Store, AllocError> {
+        Ok(Store {
+            table: self.table.clone()?,
+            starts: self.starts.clone()?,
+            settings: self.settings,
+            clears: self.clears,
+            searched: self.searched,
+        })
+    }
+}
+
 impl Store {
     /// The fixed rows alone, and no start.
     pub fn new(

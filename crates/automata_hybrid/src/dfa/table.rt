@@ -16,15 +16,15 @@ use crate::dfa::{DFA, row};
 use crate::id::LazyStateID;
 use automata_base::util::alphabet::{ByteClasses, has_quit};
 use automata_base::util::determinize::{Key, State};
+use automata_base::util::subject::Subject;
 use std::alloc::{AllocError, AllocFailed, Global};
 use std::collections::HashMap;
 use std::marker::Model;
-use std::snapshot::Snapshot;
 
 /// The rows of a lazy DFA, and the map from states to them.
 #[derive(Drop)]
 pub struct Table {
-    of: Snapshot<DFA>,
+    of: Subject<DFA>,
     stride: usize,
     template: Vec<LazyStateID>,
     cells: Vec<LazyStateID>,
@@ -42,6 +42,26 @@ impl Model for Table {
 
     ghost invariant = { λ t. IsHeld (record { of = t.of.value; cells = t.cells.items; rows = t.rows.items }) t.stride
         t.template.items t.map t.costs };
+}
+
+impl Clone for Table {
+    ghost is_clone = { λ a b. b ≡ a };
+
+    fn clone(&self) -> Result<Table, AllocError> {
+        let template = self.template.clone()?;
+        let cells = self.cells.clone()?;
+        let rows = self.rows.clone()?;
+        let map = self.map.clone()?;
+        Ok(Table {
+            of: self.of.again(),
+            stride: self.stride,
+            template,
+            cells,
+            rows,
+            map,
+            costs: self.costs,
+        })
+    }
 }
 
 /// A row's cell at a class. The column is found first, so that from one row to the next there is one load alone.
@@ -162,7 +182,7 @@ impl Table {
         cells.resize(2 * stride, LazyStateID::dead(stride as u32))?;
         cells.resize(3 * stride, LazyStateID::quit(stride as u32))?;
         Ok(Table {
-            of: Snapshot::of(dfa),
+            of: Subject::of(dfa),
             stride,
             template,
             cells,
@@ -253,11 +273,8 @@ impl Table {
         ensures of { IfOk result (λ r. IsStateOf self.now.of r.state) }
     {
         let row = &self.rows[row];
-        let state = row.state.clone()?;
-        Ok(Row {
-            state,
-            started: row.started,
-        })
+        let copy = row.clone()?;
+        Ok(copy)
     }
 }
 

@@ -11,6 +11,7 @@ use crate::id::LazyStateID;
 use automata_base::util::determinize::{Key, State};
 use automata_base::util::search::HalfMatch;
 use std::alloc::AllocError;
+use std::fmt;
 use std::marker::Model;
 use std::snapshot::Snapshot;
 
@@ -264,6 +265,15 @@ impl OverlappingState {
         ensures { result ≡ self.now.found }
     {
         self.cursor.get_match()
+    }
+}
+
+/// What it found last, and not where it is.
+impl fmt::Debug for OverlappingState {
+    fn fmt<W: fmt::Write>(&self, f: &mut fmt::Formatter<W>) -> fmt::Result {
+        f.debug_struct("OverlappingState")
+            .field("match", &self.get_match())
+            .finish_non_exhaustive()
     }
 }
 

@@ -37,6 +37,16 @@ impl Count {
         }
     }
 
+    /// The same count once more.
+    pub fn again(&self) -> Count
+        ensures { result.number ≡ self.now.number }
+    {
+        let _ = self;
+        Count {
+            marker: PhantomData,
+        }
+    }
+
     /// Counts one.
     pub fn tick(&mut self)
         ensures { self.new.number ≡ self.old.number + 1 }

@@ -28,6 +28,25 @@ impl Bytes {
     }
 }
 
+impl Clone for Bytes {
+    ghost use Rattle.automata_base.specs.Powersets.Key.{bytes_of};
+
+    ghost is_clone = { λ a b. bytes_of b ≡ bytes_of a };
+
+    fn clone(&self) -> Result<Bytes, AllocError> {
+        match self {
+            Bytes::Shared(bytes) => {
+                let bytes = bytes.clone()?;
+                Ok(Bytes::Shared(bytes))
+            }
+            Bytes::Own(bytes) => {
+                let bytes = bytes.clone()?;
+                Ok(Bytes::Own(bytes))
+            }
+        }
+    }
+}
+
 /// A key. In the map it shares the bytes of a state; to look a state up, it holds a vector.
 #[derive(Drop)]
 pub struct Key {
@@ -76,6 +95,15 @@ impl Hash for Key {
 
     fn hash<H: Hasher>(&self, state: &mut H) {
         state.write(self.bytes.as_slice());
+    }
+}
+
+impl Clone for Key {
+    ghost is_clone = { λ a b. b ≡ a };
+
+    fn clone(&self) -> Result<Key, AllocError> {
+        let bytes = self.bytes.clone()?;
+        Ok(Key { bytes })
     }
 }
 

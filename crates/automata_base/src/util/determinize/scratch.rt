@@ -14,16 +14,16 @@ use crate::util::determinize::sparse_set::SparseSet;
 use crate::util::determinize::state::{Parts, State};
 use crate::util::primitives::StateID;
 use crate::util::search::{Anchored, MatchKind};
+use crate::util::subject::Subject;
 use std::alloc::{AllocError, Global};
 use std::marker::Model;
 use std::mem;
-use std::snapshot::Snapshot;
 
 /// The buffers of determinization, allocated once for an NFA. It also carries a count that only contracts see: how often
 /// it was used.
 #[derive(Drop)]
 pub struct Scratch {
-    of: Snapshot<NFA>,
+    of: Subject<NFA>,
     alloc: Global,
     one: SparseSet,
     two: SparseSet,
@@ -47,6 +47,26 @@ impl Model for Scratch {
 /// How many bytes of a key there is room for from the start.
 const KEY_ROOM: usize = 64;
 
+impl Clone for Scratch {
+    ghost is_clone = { λ a b. b ≡ a };
+
+    /// It has buffers of its own, with the same room.
+    fn clone(&self) -> Result<Scratch, AllocError> {
+        let alloc = self.alloc;
+        Ok(Scratch {
+            of: self.of.again(),
+            alloc,
+            one: self.one.emptied(alloc)?,
+            two: self.two.emptied(alloc)?,
+            stack: Vec::with_capacity(alloc, self.stack.capacity())?,
+            list: Vec::with_capacity(alloc, self.list.capacity())?,
+            parts: self.parts.emptied(alloc)?,
+            bytes: Vec::with_capacity(alloc, KEY_ROOM)?,
+            count: self.count.again(),
+        })
+    }
+}
+
 impl Scratch {
     /// Buffers for an NFA. The only error is out of memory.
     pub fn new(nfa: &NFA) -> Result<Scratch, AllocError>
@@ -68,7 +88,7 @@ impl Scratch {
             half: false,
         };
         Ok(Scratch {
-            of: Snapshot::of(nfa),
+            of: Subject::of(nfa),
             alloc,
             one,
             two,

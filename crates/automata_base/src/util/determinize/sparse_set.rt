@@ -43,6 +43,20 @@ impl SparseSet {
         })
     }
 
+    /// An empty set with the same room.
+    pub fn emptied(&self, alloc: Global) -> Result<SparseSet, AllocError>
+        ensures { IfOk result (λ set. set.capacity ≡ self.now.capacity) }
+    {
+        let capacity = self.dense.len();
+        let dense = vec![in alloc; StateID::ZERO; capacity]?;
+        let sparse = vec![in alloc; 0; capacity]?;
+        Ok(SparseSet {
+            len: 0,
+            dense,
+            sparse,
+        })
+    }
+
     /// Takes each number out, without touching what holds them.
     pub fn clear(&mut self)
         ensures empty { self.new.items ≡ [] }

@@ -1,6 +1,6 @@
 // Powerset states as coded bytes, shared.
 ghost use Rattle.std.specs.Prelude.{◌≡◌, ◌≤◌, ◌<◌, IfOk, OnOk, IsTrue, ◌↔◌, length, slice_index};
-ghost use Rattle.std.specs.Prelude.{nat_eq};
+ghost use Rattle.std.specs.Prelude.{nat_eq, vec_capacity};
 ghost use Rattle.std.specs.List.{IsDistinct};
 ghost use Rattle.automata_base.specs.Powersets.Code.{code, decoded, IsCode};
 ghost use Rattle.automata_base.specs.Powersets.Powerset.{Powerset, IsPowerset, cost};
@@ -38,6 +38,21 @@ impl Parts {
         ensures { IsTrue result ↔ IsDistinct nat_eq self.now.patterns.items }
     {
         are_distinct(&self.patterns)
+    }
+
+    /// Empty parts with room for as many states and patterns.
+    pub fn emptied(&self, alloc: Global) -> Result<Parts, AllocError>
+        ensures nfa { IfOk result (λ parts. vec_capacity self.now.nfa ≤ vec_capacity parts.nfa) }
+        ensures patterns { IfOk result (λ parts. vec_capacity self.now.patterns ≤ vec_capacity parts.patterns) }
+    {
+        Ok(Parts {
+            nfa: Vec::with_capacity(alloc, self.nfa.capacity())?,
+            patterns: Vec::with_capacity(alloc, self.patterns.capacity())?,
+            known: 0,
+            needed: 0,
+            word: false,
+            half: false,
+        })
     }
 
     /// Sets the bytes to those of the state. Where there is room it takes no memory.

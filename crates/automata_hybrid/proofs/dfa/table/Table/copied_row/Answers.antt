@@ -6,7 +6,7 @@ use Rattle.automata_hybrid.specs.Cache.Table.{Rows, IsTable, id_of, row_id}
 use Rattle.automata_hybrid.specs.declared.dfa.row.Row.{Row}
 use Rattle.automata_hybrid.proofs.dfa.table.Table.copied_row.Goals as goal
 
-at : (c : goal.In_ok-state) → slice_get c.args.self.now.rows c.args.row ≡ Some c.index-row.result.now
+at : (c : goal.In_ok-copy) → slice_get c.args.self.now.rows c.args.row ≡ Some c.index-row.result.now
 at c =
     let t : Rows = c.args.self.now in
     let r : Row = c.index-row.result.now in
@@ -19,7 +19,7 @@ returns-clause-had c = λ n.
     let r : Row = c.index-row.result.now in
     let i : IsTable t c.self.inside.map c.self.inside.costs = subst (λ (v : Rows). IsTable v c.self.inside.map c.self.inside.costs) c.self.view_is c.self.invariant.table in
     let d = i.distinct c.args.row r (at c) in
-    let m : id_of t r.state ≡ None = subst (λ q. id_of t q ≡ None) c.in_ok-state.ensures.cases n in
+    let m : id_of t r.state ≡ None = subst (λ q. id_of t q ≡ None) (ap (λ (v : Row). v.state) c.in_ok-copy.ensures.cases) n in
     let clash : None ≡ Some (row_id ((c.args.row + 3) * table_stride t.of) r) = sym m ∙ d in
     cc
 
@@ -27,10 +27,10 @@ pub returns-clause-cost : goal.returns-clause-cost
 returns-clause-cost c =
     let t : Rows = c.args.self.now in
     let i : IsTable t c.self.inside.map c.self.inside.costs = subst (λ (v : Rows). IsTable v c.self.inside.map c.self.inside.costs) c.self.view_is c.self.invariant.table in
-    subst (λ q. cost q ≤ greatest t.of) (sym c.in_ok-state.ensures.cases) (i.alive c.args.row c.index-row.result.now (at c)).1
+    subst (λ q. cost q ≤ greatest t.of) (sym (ap (λ (v : Row). v.state) c.in_ok-copy.ensures.cases)) (i.alive c.args.row c.index-row.result.now (at c)).1
 
 pub returns-clause-of : goal.returns-clause-of
 returns-clause-of c =
     let t : Rows = c.args.self.now in
     let i : IsTable t c.self.inside.map c.self.inside.costs = subst (λ (v : Rows). IsTable v c.self.inside.map c.self.inside.costs) c.self.view_is c.self.invariant.table in
-    subst (λ (q : Powerset). IsStateOf t.of q) (sym c.in_ok-state.ensures.cases) (i.alive c.args.row c.index-row.result.now (at c)).2
+    subst (λ (q : Powerset). IsStateOf t.of q) (sym (ap (λ (v : Row). v.state) c.in_ok-copy.ensures.cases)) (i.alive c.args.row c.index-row.result.now (at c)).2

@@ -1,0 +1,49 @@
+use Rattle.std.proofs.Common.{◌≡◌, ◌∙◌, ℕ, List, sym, subst}
+use Rattle.std.specs.List.{each_same}
+use Rattle.std.specs.Map.{lookup}
+use Rattle.std.proofs.lemmas.Map.Entries.{entries_from_clone}
+use Rattle.automata_base.specs.Powersets.Powerset.{Powerset}
+use Rattle.automata_base.specs.Powersets.Equal.{powerset_eq}
+use Rattle.automata_hybrid.specs.Cache.Table.{IsHeld, Rows, StateMap, id_of}
+use Rattle.automata_hybrid.proofs.dfa.table.TableClone.clone.Goals as goal
+
+-- a map with the same entries serves as well
+mapped : (t : Rows) (s : ℕ) (row : List ℕ) (old new : StateMap) (costs : ℕ) → new.entries ≡ old.entries → IsHeld t s row old costs → IsHeld t s row new costs
+mapped t s row old new costs e h = record {
+  table = record {
+    template = h.table.template;
+    whole = h.table.whole;
+    small = h.table.small;
+    fixed = h.table.fixed;
+    stepped = h.table.stepped;
+    distinct = h.table.distinct;
+    alive = h.table.alive;
+    mapped = subst (λ es. (q : Powerset) → lookup (powerset_eq q) es ≡ id_of t q) (sym e) h.table.mapped;
+    costs_of = h.table.costs_of;
+  };
+  stride = h.stride;
+  template = h.template;
+}
+
+-- the rows and the cells are the same
+same :
+    (c : goal.After-again)
+    → ◌≡◌ {A = Rows} (record { of = c.again.result.value; cells = c.in_ok-cells.cells.items; rows = c.in_ok-rows.rows.items })
+    (record { of = c.self.inside.of.value; cells = c.self.inside.cells.items; rows = c.self.inside.rows.items })
+same c = λ i. record {
+  of = c.again.ensures i;
+  cells = each_same c.self.inside.cells.items c.in_ok-cells.cells.items c.in_ok-cells.ensures.cases.0 i;
+  rows = each_same c.self.inside.rows.items c.in_ok-rows.rows.items c.in_ok-rows.ensures.cases.0 i;
+}
+
+pub invariant_of-result : goal.invariant_of-result
+invariant_of-result c =
+    let t : Rows = record { of = c.self.inside.of.value; cells = c.self.inside.cells.items; rows = c.self.inside.rows.items } in
+    let template = each_same c.self.inside.template.items c.in_ok-template.template.items c.in_ok-template.ensures.cases.0 in
+    let map = entries_from_clone _ _ (λ x y h. h) (λ x y h. h) c.self.inside.map.entries c.in_ok-map.map.entries c.in_ok-map.ensures.cases in
+    let held = subst (λ row. IsHeld t c.self.inside.stride row c.self.inside.map c.self.inside.costs) (sym template) c.self.invariant in
+    subst (λ v. IsHeld v c.self.inside.stride c.in_ok-template.template.items c.in_ok-map.map c.self.inside.costs) (sym (same c))
+    (mapped t _ _ c.self.inside.map c.in_ok-map.map _ map held)
+
+pub returns : goal.returns
+returns c = record { cases = same c ∙ c.self.view_is }
