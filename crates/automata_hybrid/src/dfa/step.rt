@@ -69,7 +69,7 @@ impl Cache {
     {
         self.see_ids();
         let class = dfa.unit_class(unit);
-        let key = self.determinise(dfa, id, class, unit)?;
+        let key = self.determinize(dfa, id, class, unit)?;
         match self.resolve(dfa, key)? {
             Found::Known(to) => {
                 self.set_next(id, class, to);
