@@ -40,11 +40,14 @@ impl Model for LazyStateID {
 }
 
 impl LazyStateID {
+    /// Offsets of rows are below it.
+    pub(crate) const OFFSET_LIMIT: u32 = 1 << 27;
+
     /// The greatest ID without a tag.
-    const MAX: u32 = 134217727;
+    const MAX: u32 = LazyStateID::OFFSET_LIMIT - 1;
 
     /// The match tag.
-    pub(crate) const MATCH: u32 = 134217728;
+    pub(crate) const MATCH: u32 = 1 << 27;
 
     pub(crate) const UNKNOWN: LazyStateID = LazyStateID { id: 1 << 31 };
 
