@@ -7,7 +7,7 @@ use Rattle.automata_hybrid.specs.Cache.Stores.{Stored, KeepsStarts, with_searche
 use Rattle.automata_hybrid.specs.Cache.Usage.{row_usage, usage}
 use Rattle.automata_hybrid.specs.Cache.Changes.{AreChanges, IsAddedStart, IsOneChange}
 use Rattle.automata_hybrid.specs.Cache.Caches.{CacheView, counted, with_store}
-use Rattle.automata_hybrid.specs.Cache.Growth.{IsGrown, Keeps, ClearedNothing, HasRoom, HasStartTag, MayHaveStartTag}
+use Rattle.automata_hybrid.specs.Cache.Growth.{IsGrown, Keeps, ClearedNothing, HasRoom, IsStartTagged, MayHaveStartTag}
 use Rattle.automata_hybrid.proofs.Effects.{HasRoom-Fits, HasRoom-grown, Keeps-grown, Keeps-trans, counts_up}
 use Rattle.automata_base.specs.Powersets.Powerset.{Powerset, cost}
 use Rattle.automata_config.specs.Options.{specialize_start_states_of}
@@ -85,7 +85,7 @@ pub grown_one :
     → old.store.clears ≤ new.store.clears
     → IsOneChange old.store new.store
     → KeepsStarts old.store.starts new.store.starts
-    → ((q : Powerset) → HasStartTag new.store.table q → HasStartTag old.store.table q ⊎ MayHaveStartTag new.store q)
+    → ((q : Powerset) → IsStartTagged new.store.table q → IsStartTagged old.store.table q ⊎ MayHaveStartTag new.store q)
     → (ClearedNothing old.store new.store → Keeps old.store new.store)
     → ((states : ℕ) → HasRoom old.store (states + 1) → HasRoom new.store states × (new.store.clears ≡ old.store.clears))
     → IsGrown old new
@@ -177,7 +177,7 @@ pub grown_again :
     (old new : CacheView) (q : Powerset) → Lacks old.store.table q → IsReached old.store.table.of q
     → IsAddedStart old.store (again_row q) new.store → new.count ≡ old.count → new.store.table.of ≡ old.store.table.of
     → KeepsStarts old.store.starts new.store.starts
-    → ((q : Powerset) → HasStartTag new.store.table q → HasStartTag old.store.table q)
+    → ((q : Powerset) → IsStartTagged new.store.table q → IsStartTagged old.store.table q)
     → HasCells old.store.table → length (template_of old.store.table.of) ≡ table_stride old.store.table.of → old.store.clears < 2 ^ 64
     → cost q ≤ greatest old.store.table.of → IsGrown old (counted new)
 grown_again old new q lacks reached (inl (fits, e)) count of starts tagged cells wide small little =

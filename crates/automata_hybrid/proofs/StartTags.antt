@@ -6,7 +6,7 @@ use Rattle.automata_base.specs.Powersets.Powerset.{Powerset}
 use Rattle.automata_base.proofs.Paths.Orders.{none_some}
 use Rattle.automata_hybrid.specs.declared.dfa.row.Row.{Row}
 use Rattle.automata_hybrid.specs.Cache.Ids.{tags}
-use Rattle.automata_hybrid.specs.Cache.Growth.{HasStartTag, MayHaveStartTag}
+use Rattle.automata_hybrid.specs.Cache.Growth.{IsStartTagged, MayHaveStartTag}
 use Rattle.automata_hybrid.specs.Cache.Table.{Has, Rows, fresh, id_of, has_patterns, Names, HasRowIds, KeepsStartTags}
 use Rattle.automata_hybrid.specs.Cache.Table.{TagsNewStates, row_id, with_row}
 use Rattle.automata_hybrid.specs.Cache.Clears.{put_if, put, row_of, Kept, keep_found, keep_slot, keep_slots}
@@ -175,9 +175,9 @@ module _ (old new : Stored) (r : Row) (ids_old : HasRowIds old.table) (ids_new :
 
 -- where no state is given the start tag, a state that has it had it
 pub tagged_none :
-    (old new : Rows) → KeepsStartTags old new → TagsNewStates old new false → (q : Powerset) → HasStartTag new q → HasStartTag old q
+    (old new : Rows) → KeepsStartTags old new → TagsNewStates old new false → (q : Powerset) → IsStartTagged new q → IsStartTagged old q
 tagged_none old new keeps adds q (id, named, tag) = go (id_of old q) refl where
-  go : (o : Option ℕ) → id_of old q ≡ o → HasStartTag old q
+  go : (o : Option ℕ) → id_of old q ≡ o → IsStartTagged old q
   go None none = absurd (let e : false ≡ true = (adds q id none named).0 tag in cc)
   go (Some before) had = (before, had, (keeps q before id had named).1 tag)
 
@@ -187,11 +187,11 @@ pub tagged_start :
     → KeepsStartTags old.table new.table → TagsNewStates old.table new.table (specialize_start_states_of new.table.of.config)
     → ((q : Powerset) → Has new.table q → Has old.table q ⊎ (q ≡ start))
     → slot < slot_count new.table.of → IsKnownStart new slot → start ≡ start_of new.table.of slot
-    → (q : Powerset) → HasStartTag new.table q → HasStartTag old.table q ⊎ MayHaveStartTag new q
+    → (q : Powerset) → IsStartTagged new.table q → IsStartTagged old.table q ⊎ MayHaveStartTag new q
 tagged_start old new slot start keeps adds only within known same q (id, named, tag) = go (id_of old.table q) refl where
-  go : (o : Option ℕ) → id_of old.table q ≡ o → HasStartTag old.table q ⊎ MayHaveStartTag new q
+  go : (o : Option ℕ) → id_of old.table q ≡ o → IsStartTagged old.table q ⊎ MayHaveStartTag new q
   go (Some before) had = inl (before, had, (keeps q before id had named).1 tag)
   go None none = here (only q (record { id = id; named = named })) where
-    here : Has old.table q ⊎ (q ≡ start) → HasStartTag old.table q ⊎ MayHaveStartTag new q
+    here : Has old.table q ⊎ (q ≡ start) → IsStartTagged old.table q ⊎ MayHaveStartTag new q
     here (inl has) = absurd (none_some (sym none ∙ has.named))
     here (inr e) = inr ((adds q id none named).0 tag, (slot, within, known, e ∙ same))

@@ -1,5 +1,5 @@
 -- Starts: what a call answers and changes, from what its parts do.
-use Rattle.automata_hybrid.specs.Cache.Growth.{HasStartTag, MayHaveStartTag}
+use Rattle.automata_hybrid.specs.Cache.Growth.{IsStartTagged, MayHaveStartTag}
 use Rattle.std.proofs.Common.{ℕ, ◌≡◌, ◌+◌, ◌^◌, ◌<◌, ◌≤◌, ◌⊎◌, List, length, length-set, get_or, set, Bool, Option}
 use Rattle.std.proofs.Common.{refl, sym, ap, ◌∙◌, subst, arith, inl, inr}
 use Rattle.std.proofs.lemmas.List.{get_or-set_other}
@@ -290,7 +290,7 @@ module _ (m : Machine) (mode : Anchored) (behind : Option ℕ) (old new : CacheV
     now : new.store.table.of ≡ m
     now = made.of ∙ of
 
-    tagged : (q : Powerset) → HasStartTag new.store.table q → HasStartTag old.store.table q ⊎ MayHaveStartTag new.store q
+    tagged : (q : Powerset) → IsStartTagged new.store.table q → IsStartTagged old.store.table q ⊎ MayHaveStartTag new.store q
     tagged =
         tagged_start old.store new.store slot (start_state_of m.nfa mode behind)
         (started_keeps old.store new.store slot id (start_row m mode behind) ids_old ids_new made.done)

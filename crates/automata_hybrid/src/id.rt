@@ -1,6 +1,6 @@
 ghost use Rattle.std.specs.Prelude.{◌≡◌, ◌+◌, ◌*◌, ◌%◌, ◌-◌, ◌<◌, ◌≤◌, ◌↔◌, IsTrue, IsBitSet};
 ghost use Rattle.automata_hybrid.specs.Cache.Ids.{tags, unknown_id, dead_id, quit_id, fixed_from, offset_limit};
-ghost use Rattle.automata_hybrid.specs.Cache.Ids.{HasOnly};
+ghost use Rattle.automata_hybrid.specs.Cache.Ids.{HasDeadTag, HasMatchTag, HasOnly, HasQuitTag, HasStartTag};
 
 use std::marker::Model;
 
@@ -40,11 +40,14 @@ impl Model for LazyStateID {
 }
 
 impl LazyStateID {
+    /// Offsets of rows are below it.
+    pub(crate) const OFFSET_LIMIT: u32 = 1 << 27;
+
     /// The greatest ID without a tag.
-    const MAX: u32 = 134217727;
+    const MAX: u32 = LazyStateID::OFFSET_LIMIT - 1;
 
     /// The match tag.
-    pub(crate) const MATCH: u32 = 134217728;
+    pub(crate) const MATCH: u32 = 1 << 27;
 
     pub(crate) const UNKNOWN: LazyStateID = LazyStateID { id: 1 << 31 };
 
@@ -96,14 +99,14 @@ impl LazyStateID {
 
     /// Whether no match can come after it: a search stops there, and reports the last match that it has seen.
     pub fn is_dead(self) -> bool
-        ensures { IsTrue result ↔ IsBitSet self 30 }
+        ensures { IsTrue result ↔ HasDeadTag self }
     {
         self.id & (1 << 30) != 0
     }
 
     /// Whether a quit byte was read: a search stops there with an error, since it cannot know what comes after.
     pub fn is_quit(self) -> bool
-        ensures { IsTrue result ↔ IsBitSet self 29 }
+        ensures { IsTrue result ↔ HasQuitTag self }
     {
         self.id & (1 << 29) != 0
     }
@@ -111,7 +114,7 @@ impl LazyStateID {
     /// Whether it was added as a start state by a DFA that specializes them (`Config::specialize_start_states`). A
     /// search of your own may run a prefilter there.
     pub fn is_start(self) -> bool
-        ensures { IsTrue result ↔ IsBitSet self 28 }
+        ensures { IsTrue result ↔ HasStartTag self }
     {
         self.id & (1 << 28) != 0
     }
@@ -119,7 +122,7 @@ impl LazyStateID {
     /// Whether its state has patterns that match, which are those of `DFA::match_pattern`. Matches are delayed by one
     /// byte: they end before the byte that led to this state.
     pub fn is_match(self) -> bool
-        ensures { IsTrue result ↔ IsBitSet self 27 }
+        ensures { IsTrue result ↔ HasMatchTag self }
     {
         self.id & (1 << 27) != 0
     }

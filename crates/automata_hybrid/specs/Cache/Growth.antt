@@ -1,12 +1,12 @@
 -- What steps and searches do to a cache. A reset does more.
-use Rattle.std.specs.Prelude.{◌≡◌, ℕ, ◌+◌, ◌-◌, ◌*◌, ◌^◌, ◌<◌, ◌≤◌, ◌⊎◌, IsBitSet, length, slice_index, true}
+use Rattle.std.specs.Prelude.{◌≡◌, ℕ, ◌+◌, ◌-◌, ◌*◌, ◌^◌, ◌<◌, ◌≤◌, ◌⊎◌, length, slice_index, true}
 use Rattle.automata_base.specs.Powersets.Powerset.{Powerset}
 use Rattle.automata_hybrid.specs.Cache.Stores.{Stored, IsKnownStart, IsKnownTransition, KeepsStarts, cell_of}
 use Rattle.automata_hybrid.specs.Cache.Stores.{with_searched}
 use Rattle.automata_hybrid.specs.Cache.Usage.{row_usage, usage}
 use Rattle.automata_hybrid.specs.Cache.Caches.{CacheView}
 use Rattle.automata_hybrid.specs.Cache.Changes.{AreChanges}
-use Rattle.automata_hybrid.specs.Cache.Ids.{offset_limit}
+use Rattle.automata_hybrid.specs.Cache.Ids.{offset_limit, HasStartTag}
 use Rattle.automata_config.specs.Options.{specialize_start_states_of}
 use Rattle.automata_hybrid.specs.Machines.Machine.{greatest, slot_count, start_of, table_stride}
 use Rattle.automata_hybrid.specs.Cache.Progress.{progress_cleared}
@@ -37,8 +37,8 @@ pub record HasRoom (c : Stored) (states : ℕ) : Type 0 where
   pub offsets : (k : ℕ) → k < states → length c.table.cells + k * table_stride c.table.of < offset_limit
 
 -- a state's ID has the start tag
-abbrev pub HasStartTag : Rows → Powerset → Type 0
-HasStartTag t q = (id : ℕ) × Names t id q × IsBitSet id 28
+abbrev pub IsStartTagged : Rows → Powerset → Type 0
+IsStartTagged t q = (id : ℕ) × Names t id q × HasStartTag id
 
 -- a state may get the start tag: start states are specialized, and it is that of a slot which is cached
 abbrev pub MayHaveStartTag : Stored → Powerset → Type 0
@@ -61,8 +61,8 @@ pub record IsGrown (old new : CacheView) : Type 0 where
   pub starts : KeepsStarts old.store.starts new.store.starts
   -- a state that did not have the start tag gets it only as a start state, and only if these are specialized
   pub tagged :
-      (q : Powerset) → HasStartTag new.store.table q
-      → HasStartTag old.store.table q ⊎ MayHaveStartTag new.store q
+      (q : Powerset) → IsStartTagged new.store.table q
+      → IsStartTagged old.store.table q ⊎ MayHaveStartTag new.store q
   -- if nothing was determinized, nothing has changed but the progress of searches
   pub idle : new.count ≡ old.count → IsStill old new
   -- with nothing cleared nothing is lost

@@ -1,5 +1,5 @@
 -- Identifiers of states: an offset of a row and tags, or one of the three fixed ones.
-use Rattle.std.specs.Prelude.{ℕ, ◌+◌, ◌*◌, ◌%◌, ◌^◌, ◌<◌, ◌≤◌, ◌≡◌, Bool, if◌then◌else◌}
+use Rattle.std.specs.Prelude.{ℕ, ◌+◌, ◌*◌, ◌%◌, ◌^◌, ◌<◌, ◌≤◌, ◌≡◌, Bool, IsBitSet, if◌then◌else◌}
 
 -- the tags of a row: started, and with patterns
 abbrev pub tags : Bool → Bool → ℕ
@@ -8,6 +8,19 @@ tags started matches = (if started then 2 ^ 28 else 0) + (if matches then 2 ^ 27
 -- offsets of rows are below this
 abbrev pub offset_limit : ℕ
 offset_limit = 2 ^ 27
+
+-- an ID has the match tag, the start tag, the quit tag or the dead tag
+abbrev pub HasMatchTag : ℕ → Type 0
+HasMatchTag id = IsBitSet id 27
+
+abbrev pub HasStartTag : ℕ → Type 0
+HasStartTag id = IsBitSet id 28
+
+abbrev pub HasQuitTag : ℕ → Type 0
+HasQuitTag id = IsBitSet id 29
+
+abbrev pub HasDeadTag : ℕ → Type 0
+HasDeadTag id = IsBitSet id 30
 
 -- no tag, or the match tag
 pub record IsRunTag (tag : ℕ) : Type 0 where

@@ -1,5 +1,5 @@
 -- What contracts see of the table: the rows of the states, and what their identifiers name.
-use Rattle.std.specs.Prelude.{◌≡◌, ℕ, ◌+◌, ◌*◌, ◌%◌, ◌<◌, ◌≤◌, ◌⊎◌, ◌↔◌, IsBitSet, List, [], ◌∷◌, ◌++◌, length, Bool}
+use Rattle.std.specs.Prelude.{◌≡◌, ℕ, ◌+◌, ◌*◌, ◌%◌, ◌<◌, ◌≤◌, ◌⊎◌, ◌↔◌, List, [], ◌∷◌, ◌++◌, length, Bool}
 use Rattle.std.specs.Prelude.{true, cond, nat_lt, Option, None, Some, slice_index, slice_set, slice_get, replicate}
 use Rattle.std.specs.Prelude.{take, sum_by}
 use Rattle.std.specs.HashMap.{HashMap, get}
@@ -10,6 +10,7 @@ use Rattle.automata_base.specs.Powersets.Equal.{powerset_eq}
 use Rattle.automata_hybrid.specs.declared.dfa.row.Row.{Row}
 use Rattle.automata_base.specs.Powersets.Powerset.{dead}
 use Rattle.automata_hybrid.specs.Cache.Ids.{tags, dead_id, quit_id, unknown_id, fixed_from, offset_limit}
+use Rattle.automata_hybrid.specs.Cache.Ids.{HasMatchTag, HasStartTag}
 use Rattle.automata_hybrid.specs.Machines.Machine.{Machine, next_of, greatest, template_of, IsStateOf, IsTemplate}
 use Rattle.automata_hybrid.specs.Machines.Machine.{table_stride}
 use Rattle.automata_hybrid.specs.Machines.OwnStates.{IsOwn}
@@ -50,17 +51,17 @@ Names t id q = id_of t q ≡ Some id
 
 -- an ID has the match tag exactly if the state that it names has patterns
 abbrev pub HasItsMatchTag : Rows → ℕ → Type 0
-HasItsMatchTag t id = (q : Powerset) → Names t id q → IsBitSet id 27 ↔ (0 < length q.patterns)
+HasItsMatchTag t id = (q : Powerset) → Names t id q → HasMatchTag id ↔ (0 < length q.patterns)
 
 -- a state that was there and is there has the start tag now exactly if it had it
 abbrev pub KeepsStartTags : Rows → Rows → Type 0
 KeepsStartTags old new =
-    (q : Powerset) (before now : ℕ) → Names old before q → Names new now q → IsBitSet before 28 ↔ IsBitSet now 28
+    (q : Powerset) (before now : ℕ) → Names old before q → Names new now q → HasStartTag before ↔ HasStartTag now
 
 -- a state that was added has the start tag exactly if it was to have it
 abbrev pub TagsNewStates : Rows → Rows → Bool → Type 0
 TagsNewStates old new started =
-    (q : Powerset) (id : ℕ) → id_of old q ≡ None → Names new id q → IsBitSet id 28 ↔ (started ≡ true)
+    (q : Powerset) (id : ℕ) → id_of old q ≡ None → Names new id q → HasStartTag id ↔ (started ≡ true)
 
 -- some row has this state
 pub record Has (t : Rows) (q : Powerset) : Type 0 where

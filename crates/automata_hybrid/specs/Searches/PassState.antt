@@ -1,5 +1,5 @@
 -- A pass under way: what the functions of a search keep from unit to unit.
-use Rattle.std.specs.Prelude.{ℕ, suc, ◌≡◌, ◌-◌, ◌<◌, ◌≤◌, IsBitSet, List, [], ◌∷◌, true, false, Option, Some, None}
+use Rattle.std.specs.Prelude.{ℕ, suc, ◌≡◌, ◌-◌, ◌<◌, ◌≤◌, List, [], ◌∷◌, true, false, Option, Some, None}
 use Rattle.automata_base.specs.Answers.Answers.{offset_in}
 use Rattle.automata_base.specs.ByteClasses.Classes.{is_quit}
 use Rattle.automata_base.specs.Haystacks.Input.{Input}
@@ -19,7 +19,7 @@ use Rattle.automata_hybrid.specs.Cache.Table.{Rows, Names, Leads}
 use Rattle.automata_hybrid.specs.Searches.Passes.{HasReadNoQuit, Reads, tape_in, state_in, told_in}
 use Rattle.automata_hybrid.specs.Cache.Stores.{Stored}
 use Rattle.automata_hybrid.specs.Searches.Cached.{KnowsItsStart, KnowsUnit}
-use Rattle.automata_hybrid.specs.Cache.Ids.{HasOnly, IsRunTag, unknown_id}
+use Rattle.automata_hybrid.specs.Cache.Ids.{HasOnly, IsRunTag, unknown_id, HasDeadTag}
 use Rattle.automata_hybrid.specs.Steps.Steps.{known_step, unit_class}
 use Rattle.automata_config.specs.Options.{match_kind_of}
 
@@ -47,7 +47,7 @@ pub record IsAt (way : Direction) (m : Machine) (t : Rows) (input : Input) (k id
 
 -- an ID has the dead tag exactly if it leads to the dead state, which no row has
 abbrev pub IsDeadTagged : Rows → ℕ → Type 0
-IsDeadTagged t id = (q : Powerset) → Leads t id q → (IsBitSet id 30 → q ≡ dead) × ((IsBitSet id 30 → ⊥) → Names t id q)
+IsDeadTagged t id = (q : Powerset) → Leads t id q → (HasDeadTag id → q ≡ dead) × ((HasDeadTag id → ⊥) → Names t id q)
 
 -- the error of a step, as a search reports it at an offset
 abbrev pub step_refusal : StepError → (at : ℕ) → SearchError

@@ -1,5 +1,5 @@
 -- Searches by steps: where a search stands that ends at its first match, and what a step of it means.
-use Rattle.std.specs.Prelude.{ℕ, ◌≡◌, ◌+◌, ◌-◌, ◌<◌, ◌≤◌, ◌⊎◌, IsBitSet, true, length, Option, Some, None, slice_index}
+use Rattle.std.specs.Prelude.{ℕ, ◌≡◌, ◌+◌, ◌-◌, ◌<◌, ◌≤◌, ◌⊎◌, true, length, Option, Some, None, slice_index}
 use Rattle.automata_base.specs.Nfas.Engines.{engine_of}
 use Rattle.automata_base.specs.Haystacks.Input.{Input}
 use Rattle.automata_base.specs.Haystacks.Matches.{HalfMatch}
@@ -8,7 +8,7 @@ use Rattle.automata_base.specs.Haystacks.Tapes.{Forward, IsHaystack}
 use Rattle.automata_base.specs.Answers.OfPasses.{IsNearestAnswer}
 use Rattle.automata_config.specs.Options.{match_kind_of}
 use Rattle.automata_hybrid.specs.Cache.Caches.{CacheView, HasRow}
-use Rattle.automata_hybrid.specs.Cache.Ids.{dead_id}
+use Rattle.automata_hybrid.specs.Cache.Ids.{dead_id, HasMatchTag, HasDeadTag, HasQuitTag}
 use Rattle.automata_hybrid.specs.Machines.Machine.{Machine, table_stride}
 use Rattle.automata_hybrid.specs.Searches.PassContracts.{IsPassAnswer, IsUnderway}
 use Rattle.automata_hybrid.specs.Searches.Passes.{IsFound, Skips, WithoutBase}
@@ -56,18 +56,18 @@ pub record IsStepAt (m : Machine) (c : CacheView) (input : Input) (at next : ℕ
   -- The cache has the row of the ID.
   pub row : HoldsRow c next
   -- With the match tag its state has patterns.
-  pub tells : IsBitSet next 27 → HasPatterns c next
+  pub tells : HasMatchTag next → HasPatterns c next
   -- With the match tag a match ends at the offset: matches are delayed by one unit.
   pub found :
-      IsBitSet next 27 → (pattern : ℕ) → IsFirstPattern c next pattern
+      HasMatchTag next → (pattern : ℕ) → IsFirstPattern c next pattern
       → IsFirstMatch m input (Some (record { pattern = pattern; offset = at }))
   -- With the dead tag there is no match.
-  pub dead : IsBitSet next 30 → IsFirstMatch m input None
+  pub dead : HasDeadTag next → IsFirstMatch m input None
   -- Without the match tag, and where the unit was no quit byte, the search stands one offset later, if the span has
   -- more bytes.
-  pub on : (IsBitSet next 27 → ⊥) → (IsBitSet next 29 → ⊥) → at < input.end → StandsAt m c input (at + 1) next
+  pub on : (HasMatchTag next → ⊥) → (HasQuitTag next → ⊥) → at < input.end → StandsAt m c input (at + 1) next
   -- If the span has no more bytes, there is no match.
-  pub last : (IsBitSet next 27 → ⊥) → (IsBitSet next 29 → ⊥) → at ≡ input.end → IsFirstMatch m input None
+  pub last : (HasMatchTag next → ⊥) → (HasQuitTag next → ⊥) → at ≡ input.end → IsFirstMatch m input None
 
 -- a search that ends at its first match, and whose span is not done, stands at its start by this ID
 abbrev pub StartsAt : Machine → CacheView → Input → (id : ℕ) → Type 0

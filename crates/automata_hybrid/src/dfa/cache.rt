@@ -118,7 +118,7 @@ impl Cache {
     }
 
     /// The state after a unit, as a key.
-    pub(crate) fn determinise(
+    pub(crate) fn determinize(
         &mut self,
         dfa: &DFA,
         id: LazyStateID,
@@ -297,7 +297,7 @@ impl Cache {
     }
 
     /// The start state of an anchored mode, as a key.
-    pub(crate) fn determinise_start(
+    pub(crate) fn determinize_start(
         &mut self,
         dfa: &DFA,
         mode: Anchored,

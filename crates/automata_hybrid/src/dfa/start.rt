@@ -66,7 +66,7 @@ impl Cache {
         ensures effect { IsStartEffect dfa.now mode prev self.old self.new }
     {
         self.see_ids();
-        let key = self.determinise_start(dfa, mode, prev)?;
+        let key = self.determinize_start(dfa, mode, prev)?;
         match self.resolve(dfa, key)? {
             Found::Known(id) => {
                 self.set_start(slot, id);

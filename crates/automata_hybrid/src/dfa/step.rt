@@ -1,4 +1,4 @@
-ghost use Rattle.std.specs.Prelude.{◌≡◌, ◌%◌, ◌<◌, None, Some, IfOk, IfErr, IsBitSet, length};
+ghost use Rattle.std.specs.Prelude.{◌≡◌, ◌%◌, ◌<◌, None, Some, IfOk, IfErr, length};
 ghost use Rattle.std.specs.Prelude.{slice_index, true, false};
 ghost use Rattle.automata_base.specs.Powersets.Powerset.{Powerset};
 ghost use Rattle.automata_base.specs.Retraced.Steps.{successor};
@@ -6,7 +6,7 @@ ghost use Rattle.automata_hybrid.specs.Machines.Machine.{table_stride};
 ghost use Rattle.automata_hybrid.specs.Cache.Table.{Names, IsValid, Leads, HasItsMatchTag};
 ghost use Rattle.automata_hybrid.specs.Cache.Stores.{cell_of};
 ghost use Rattle.automata_hybrid.specs.Cache.Caches.{IsCacheOf, HasRow};
-ghost use Rattle.automata_hybrid.specs.Cache.Ids.{quit_id, unknown_id, offset_limit};
+ghost use Rattle.automata_hybrid.specs.Cache.Ids.{quit_id, unknown_id, offset_limit, HasMatchTag};
 ghost use Rattle.automata_base.specs.ByteClasses.Classes.{class_in, is_quit};
 ghost use Rattle.automata_hybrid.specs.Steps.BySteps.{HoldsRow, StepsOn};
 ghost use Rattle.automata_hybrid.specs.Steps.Steps.{IsStepAnswer, IsStepRefused, IsStepEffect, KnowsStep, quits_on};
@@ -69,7 +69,7 @@ impl Cache {
     {
         self.see_ids();
         let class = dfa.unit_class(unit);
-        let key = self.determinise(dfa, id, class, unit)?;
+        let key = self.determinize(dfa, id, class, unit)?;
         match self.resolve(dfa, key)? {
             Found::Known(to) => {
                 self.set_next(id, class, to);
@@ -197,7 +197,7 @@ impl DFA {
     pub fn match_len(&self, cache: &Cache, id: LazyStateID) -> usize
         requires of { IsCacheOf cache.now self.now }
         requires row { HoldsRow cache.now id }
-        requires tagged { IsBitSet id 27 }
+        requires tagged { HasMatchTag id }
         ensures number { (q : Powerset) → Names cache.now.store.table id q → result ≡ length q.patterns }
         ensures some { 0 < result }
     {
@@ -218,7 +218,7 @@ impl DFA {
     pub fn match_pattern(&self, cache: &Cache, id: LazyStateID, index: usize) -> PatternID
         requires of { IsCacheOf cache.now self.now }
         requires row { HoldsRow cache.now id }
-        requires tagged { IsBitSet id 27 }
+        requires tagged { HasMatchTag id }
         requires index { (q : Powerset) → Names cache.now.store.table id q → index < length q.patterns }
         ensures { (q : Powerset) → Names cache.now.store.table id q → result ≡ slice_index q.patterns index }
     {

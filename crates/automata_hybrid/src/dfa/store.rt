@@ -22,8 +22,7 @@ use automata_config::error::{CacheError, StepError};
 use std::alloc::AllocError;
 use std::marker::Model;
 
-/// Offsets of rows are below it.
-const OFFSET_LIMIT: usize = 134217728;
+const OFFSET_LIMIT: usize = LazyStateID::OFFSET_LIMIT as usize;
 
 /// A lazy DFA's cache, whose accounted bytes never pass its capacity.
 #[derive(Drop)]

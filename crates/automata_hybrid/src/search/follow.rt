@@ -1,9 +1,9 @@
 //! Following cached transitions, as many at once as can be: into states that report nothing or into match states, and
 //! along self-loops.
-ghost use Rattle.std.specs.Prelude.{ℕ, ◌≡◌, ◌+◌, ◌-◌, ◌<◌, ◌≤◌, IsBitSet};
+ghost use Rattle.std.specs.Prelude.{ℕ, ◌≡◌, ◌+◌, ◌-◌, ◌<◌, ◌≤◌};
 ghost use Rattle.automata_base.specs.Paths.Paths.{next};
 ghost use Rattle.automata_hybrid.specs.Cache.Caches.{IsCacheOf};
-ghost use Rattle.automata_hybrid.specs.Cache.Ids.{fixed_from, offset_limit, HasOnly};
+ghost use Rattle.automata_hybrid.specs.Cache.Ids.{fixed_from, offset_limit, HasOnly, HasMatchTag};
 ghost use Rattle.automata_hybrid.specs.Searches.PassState.{IsFollowed, IsLed, IsMet, IsRun, IsTagAt};
 ghost use Rattle.automata_hybrid.specs.Searches.Passes.{state_in, tape_in};
 ghost use Rattle.automata_hybrid.specs.Searches.SelfLoops.{IsSelfLoop};
@@ -84,7 +84,7 @@ impl DFA {
         requires met { IsMet (way_of way) self.now cache.now.store input.now start from next }
         ensures within { start < result.at → result.at ≤ input.now.end - input.now.start }
         ensures led { IsLed (way_of way) self.now cache.now.store input.now start result.at result.id }
-        ensures tells { start < result.at → IsBitSet result.id 27 }
+        ensures tells { start < result.at → HasMatchTag result.id }
         ensures met { IsMet (way_of way) self.now cache.now.store input.now result.at result.id result.next }
     {
         let _haystack = input.haystack();

@@ -1,4 +1,4 @@
-ghost use Rattle.std.specs.Prelude.{◌≡◌, IsBitSet, slice_index, ◌<◌, IfOk, IfErr, OnErr};
+ghost use Rattle.std.specs.Prelude.{◌≡◌, slice_index, ◌<◌, IfOk, IfErr, OnErr};
 ghost use Rattle.std.specs.Prelude.{Some, None, true, false};
 ghost use Rattle.automata_base.specs.Haystacks.Input.{Allows};
 ghost use Rattle.automata_base.specs.Powersets.Powerset.{Powerset};
@@ -9,7 +9,7 @@ ghost use Rattle.automata_hybrid.specs.Searches.Units.{IsReadAnswer, IsReadEffec
 ghost use Rattle.automata_hybrid.specs.Searches.Units.{IsReadStep, IsStepRefusedAt, IsStepTaken};
 ghost use Rattle.automata_hybrid.specs.Searches.Passes.{Skips};
 ghost use Rattle.automata_base.specs.declared.util.search.MatchErrorKind.TheVariants.{Quit as QuitAt};
-ghost use Rattle.automata_hybrid.specs.Cache.Ids.{unknown_id};
+ghost use Rattle.automata_hybrid.specs.Cache.Ids.{unknown_id, HasMatchTag};
 ghost use Rattle.automata_hybrid.specs.Steps.Steps.{IsStepAnswer, IsStepEffect, known_step};
 ghost use Rattle.automata_hybrid.specs.Cache.Table.{IsValid, Leads, Names};
 
@@ -265,7 +265,7 @@ impl DFA {
     fn first_pattern(&self, cache: &Cache, id: LazyStateID) -> PatternID
         requires of { IsCacheOf cache.now self.now }
         requires valid { IsValid cache.now.store.table id }
-        requires tagged { IsBitSet id 27 }
+        requires tagged { HasMatchTag id }
         ensures { (q : Powerset) → Names cache.now.store.table id q → result ≡ slice_index q.patterns 0 }
     {
         cache.see_ids();

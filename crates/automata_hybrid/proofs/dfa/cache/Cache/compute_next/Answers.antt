@@ -14,18 +14,18 @@ use Rattle.automata_hybrid.proofs.dfa.cache.Cache.compute_next.Goals as goal
 
 known : (c : After-see_ids-in-Known) → ComputesStep c.args.dfa.now c.args.id c.args.unit c.args.self.now c.set_next.new.self c.unit_class-class.result c.in-Known.to
 known c =
-    let leads : Leads c.resolve.new.self.store.table c.in-Known.to c.in_ok-key.key = looked_up c.determinise.new.self c.resolve.new.self c.in_ok-key.key _ (Known c.in-Known.to) c.resolve.ensures.same c.in-Known.is c.in_ok-to.ensures.found in
+    let leads : Leads c.resolve.new.self.store.table c.in-Known.to c.in_ok-key.key = looked_up c.determinize.new.self c.resolve.new.self c.in_ok-key.key _ (Known c.in-Known.to) c.resolve.ensures.same c.in-Known.is c.in_ok-to.ensures.found in
     computes_known c.args.dfa.now c.args.id c.args.unit c.args.self.now c.resolve.new.self c.set_next.new.self c.unit_class-class.result c.in-Known.to c.in_ok-key.key
-    (c.resolve.ensures.same ∙ c.determinise.ensures.counted) c.set_next.ensures leads c.in_ok-key.ensures.successor
+    (c.resolve.ensures.same ∙ c.determinize.ensures.counted) c.set_next.ensures leads c.in_ok-key.ensures.successor
 
 new : (c : After-see_ids-in-New) → ComputesStep c.args.dfa.now c.args.id c.args.unit c.args.self.now c.set_next-in-New.new.self c.unit_class-class.result c.in_ok-from-in-New.to
 new c =
-    let found : IsLookedUp c.resolve.new.self.store.table c.in_ok-key.key (New c.in-New.state) = looked_up c.determinise.new.self c.resolve.new.self c.in_ok-key.key _ (New c.in-New.state) c.resolve.ensures.same c.in-New.is c.in_ok-to.ensures.found in
+    let found : IsLookedUp c.resolve.new.self.store.table c.in_ok-key.key (New c.in-New.state) = looked_up c.determinize.new.self c.resolve.new.self c.in_ok-key.key _ (New c.in-New.state) c.resolve.ensures.same c.in-New.is c.in_ok-to.ensures.found in
     computes_new c.args.dfa.now c.args.id c.args.unit c.args.self.now c.resolve.new.self c.add_next.new.self c.set_next-in-New.new.self c.unit_class-class.result c.in_ok-from-in-New.from c.in_ok-from-in-New.to c.in-New.state c.in_ok-key.key
-    (c.resolve.ensures.same ∙ c.determinise.ensures.counted) c.in_ok-from-in-New.ensures.answer c.in_ok-from-in-New.ensures.counted c.set_next-in-New.ensures found.0 found.1 c.in_ok-key.ensures.successor
+    (c.resolve.ensures.same ∙ c.determinize.ensures.counted) c.in_ok-from-in-New.ensures.answer c.in_ok-from-in-New.ensures.counted c.set_next-in-New.ensures found.0 found.1 c.in_ok-key.ensures.successor
 
-pub determinise-requires-clause-class : goal.determinise-requires-clause-class
-determinise-requires-clause-class c = record {
+pub determinize-requires-clause-class : goal.determinize-requires-clause-class
+determinize-requires-clause-class c = record {
   below = c.unit_class-class.ensures.below;
   free = c.unit_class-class.ensures.free c.requires.clean;
   alike = c.unit_class-class.ensures.alike;
@@ -33,25 +33,25 @@ determinise-requires-clause-class c = record {
 
 pub add_next-requires-clause-new : goal.add_next-requires-clause-new
 add_next-requires-clause-new c =
-    let found : IsLookedUp c.resolve.new.self.store.table c.in_ok-key.key (New c.in-New.state) = looked_up c.determinise.new.self c.resolve.new.self c.in_ok-key.key _ (New c.in-New.state) c.resolve.ensures.same c.in-New.is c.in_ok-to.ensures.found in
-    let of : c.resolve.new.self.store.table.of ≡ c.args.dfa.now = ap (λ (v : CacheView). v.store.table.of) (c.resolve.ensures.same ∙ c.determinise.ensures.counted) ∙ c.requires.of in
+    let found : IsLookedUp c.resolve.new.self.store.table c.in_ok-key.key (New c.in-New.state) = looked_up c.determinize.new.self c.resolve.new.self c.in_ok-key.key _ (New c.in-New.state) c.resolve.ensures.same c.in-New.is c.in_ok-to.ensures.found in
+    let of : c.resolve.new.self.store.table.of ≡ c.args.dfa.now = ap (λ (v : CacheView). v.store.table.of) (c.resolve.ensures.same ∙ c.determinize.ensures.counted) ∙ c.requires.of in
     let key : IsNewState c.resolve.new.self.store.table c.in_ok-key.key = new_state c.args.dfa.now c.resolve.new.self.store.table c.in_ok-key.key of found.1 c.in_ok-key.ensures.cost c.in_ok-key.ensures.is_of in
     subst (λ (q : Powerset). IsNewState c.resolve.new.self.store.table q) (sym found.0) key
 
 pub returns-in_err-key-clause-effect : goal.returns-in_err-key-clause-effect
 returns-in_err-key-clause-effect c =
-    refused_effect c.args.dfa.now c.args.id c.args.unit c.args.self.now c.determinise.new.self (c.see_ids.ensures.low c.args.id c.requires.valid.0 c.requires.valid.1) c.requires.clean c.requires.unknown
-    c.determinise.ensures.counted
+    refused_effect c.args.dfa.now c.args.id c.args.unit c.args.self.now c.determinize.new.self (c.see_ids.ensures.low c.args.id c.requires.valid.0 c.requires.valid.1) c.requires.clean c.requires.unknown
+    c.determinize.ensures.counted
 
 pub returns-in_err-to-clause-effect : goal.returns-in_err-to-clause-effect
 returns-in_err-to-clause-effect c =
     refused_effect c.args.dfa.now c.args.id c.args.unit c.args.self.now c.resolve.new.self (c.see_ids.ensures.low c.args.id c.requires.valid.0 c.requires.valid.1) c.requires.clean c.requires.unknown
-    (c.resolve.ensures.same ∙ c.determinise.ensures.counted)
+    (c.resolve.ensures.same ∙ c.determinize.ensures.counted)
 
 pub returns-in_err-from-in-New-clause-effect : goal.returns-in_err-from-in-New-clause-effect
 returns-in_err-from-in-New-clause-effect c =
     refused_effect c.args.dfa.now c.args.id c.args.unit c.args.self.now c.add_next.new.self (c.see_ids.ensures.low c.args.id c.requires.valid.0 c.requires.valid.1) c.requires.clean c.requires.unknown
-    (c.in_err-from-in-New.ensures.err ∙ (c.resolve.ensures.same ∙ c.determinise.ensures.counted))
+    (c.in_err-from-in-New.ensures.err ∙ (c.resolve.ensures.same ∙ c.determinize.ensures.counted))
 
 pub returns-in-Known-clause-answer : goal.returns-in-Known-clause-answer
 returns-in-Known-clause-answer c =

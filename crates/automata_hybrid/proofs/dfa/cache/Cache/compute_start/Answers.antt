@@ -14,37 +14,37 @@ use Rattle.automata_hybrid.proofs.dfa.cache.Cache.compute_start.Goals as goal
 
 known : (c : After-see_ids-in-Known) → ComputesStart c.args.dfa.now c.args.mode c.args.prev c.args.self.now c.set_start.new.self c.args.slot c.in-Known.id
 known c =
-    let leads : Leads c.resolve.new.self.store.table c.in-Known.id c.in_ok-key.key = looked_up c.determinise_start.new.self c.resolve.new.self c.in_ok-key.key _ (Known c.in-Known.id) c.resolve.ensures.same c.in-Known.is c.in_ok-id.ensures.found in
+    let leads : Leads c.resolve.new.self.store.table c.in-Known.id c.in_ok-key.key = looked_up c.determinize_start.new.self c.resolve.new.self c.in_ok-key.key _ (Known c.in-Known.id) c.resolve.ensures.same c.in-Known.is c.in_ok-id.ensures.found in
     computes_known c.args.dfa.now c.args.mode c.args.prev c.args.self.now c.resolve.new.self c.set_start.new.self c.args.slot c.in-Known.id c.in_ok-key.key
-    (c.resolve.ensures.same ∙ c.determinise_start.ensures.counted) c.set_start.ensures.value leads c.in_ok-key.ensures.value c.set_start.ensures.written c.set_start.ensures.found
+    (c.resolve.ensures.same ∙ c.determinize_start.ensures.counted) c.set_start.ensures.value leads c.in_ok-key.ensures.value c.set_start.ensures.written c.set_start.ensures.found
 
 new : (c : After-see_ids-in-New) → ComputesStart c.args.dfa.now c.args.mode c.args.prev c.args.self.now c.set_start-in-New.new.self c.args.slot c.in_ok-id-in-New.id
 new c =
-    let found : IsLookedUp c.resolve.new.self.store.table c.in_ok-key.key (New c.in-New.state) = looked_up c.determinise_start.new.self c.resolve.new.self c.in_ok-key.key _ (New c.in-New.state) c.resolve.ensures.same c.in-New.is c.in_ok-id.ensures.found in
+    let found : IsLookedUp c.resolve.new.self.store.table c.in_ok-key.key (New c.in-New.state) = looked_up c.determinize_start.new.self c.resolve.new.self c.in_ok-key.key _ (New c.in-New.state) c.resolve.ensures.same c.in-New.is c.in_ok-id.ensures.found in
     computes_new c.args.dfa.now c.args.mode c.args.prev c.args.self.now c.resolve.new.self c.add_start.new.self c.set_start-in-New.new.self c.args.slot c.in_ok-id-in-New.id c.in-New.state c.in_ok-key.key c.specializes.result
-    (c.resolve.ensures.same ∙ c.determinise_start.ensures.counted) c.in_ok-id-in-New.ensures.answer c.in_ok-id-in-New.ensures.counted c.set_start-in-New.ensures.value found.0 found.1 c.in_ok-key.ensures.value c.specializes.ensures
+    (c.resolve.ensures.same ∙ c.determinize_start.ensures.counted) c.in_ok-id-in-New.ensures.answer c.in_ok-id-in-New.ensures.counted c.set_start-in-New.ensures.value found.0 found.1 c.in_ok-key.ensures.value c.specializes.ensures
     c.set_start-in-New.ensures.written c.set_start-in-New.ensures.found
 
-pub determinise_start-requires-clause-slot : goal.determinise_start-requires-clause-slot
-determinise_start-requires-clause-slot c = (c.args.slot, c.requires.slot)
+pub determinize_start-requires-clause-slot : goal.determinize_start-requires-clause-slot
+determinize_start-requires-clause-slot c = (c.args.slot, c.requires.slot)
 
 pub set_start-requires-clause-leads : goal.set_start-requires-clause-leads
 set_start-requires-clause-leads c =
-    let leads : Leads c.resolve.new.self.store.table c.in-Known.id c.in_ok-key.key = looked_up c.determinise_start.new.self c.resolve.new.self c.in_ok-key.key _ (Known c.in-Known.id) c.resolve.ensures.same c.in-Known.is c.in_ok-id.ensures.found in
-    let of : c.resolve.new.self.store.table.of ≡ c.args.dfa.now = ap (λ (v : CacheView). v.store.table.of) (c.resolve.ensures.same ∙ c.determinise_start.ensures.counted) ∙ c.requires.of in
+    let leads : Leads c.resolve.new.self.store.table c.in-Known.id c.in_ok-key.key = looked_up c.determinize_start.new.self c.resolve.new.self c.in_ok-key.key _ (Known c.in-Known.id) c.resolve.ensures.same c.in-Known.is c.in_ok-id.ensures.found in
+    let of : c.resolve.new.self.store.table.of ≡ c.args.dfa.now = ap (λ (v : CacheView). v.store.table.of) (c.resolve.ensures.same ∙ c.determinize_start.ensures.counted) ∙ c.requires.of in
     slot_leads c.args.dfa.now c.args.mode c.args.prev c.args.slot c.resolve.new.self.store.table c.in-Known.id c.in_ok-key.key c.requires.slot of c.in_ok-key.ensures.value leads
 
 pub set_start-requires-in-New-clause-leads : goal.set_start-requires-in-New-clause-leads
 set_start-requires-in-New-clause-leads c =
-    let found : IsLookedUp c.resolve.new.self.store.table c.in_ok-key.key (New c.in-New.state) = looked_up c.determinise_start.new.self c.resolve.new.self c.in_ok-key.key _ (New c.in-New.state) c.resolve.ensures.same c.in-New.is c.in_ok-id.ensures.found in
-    let of : c.resolve.new.self.store.table.of ≡ c.args.dfa.now = ap (λ (v : CacheView). v.store.table.of) (c.resolve.ensures.same ∙ c.determinise_start.ensures.counted) ∙ c.requires.of in
+    let found : IsLookedUp c.resolve.new.self.store.table c.in_ok-key.key (New c.in-New.state) = looked_up c.determinize_start.new.self c.resolve.new.self c.in_ok-key.key _ (New c.in-New.state) c.resolve.ensures.same c.in-New.is c.in_ok-id.ensures.found in
+    let of : c.resolve.new.self.store.table.of ≡ c.args.dfa.now = ap (λ (v : CacheView). v.store.table.of) (c.resolve.ensures.same ∙ c.determinize_start.ensures.counted) ∙ c.requires.of in
     slot_leads c.args.dfa.now c.args.mode c.args.prev c.args.slot c.add_start.new.self.store.table c.in_ok-id-in-New.id c.in-New.state c.requires.slot (c.in_ok-id-in-New.ensures.answer.of ∙ of) (found.0 ∙ c.in_ok-key.ensures.value)
     (inr c.in_ok-id-in-New.ensures.answer.named)
 
 pub add_start-requires-clause-new : goal.add_start-requires-clause-new
 add_start-requires-clause-new c =
-    let found : IsLookedUp c.resolve.new.self.store.table c.in_ok-key.key (New c.in-New.state) = looked_up c.determinise_start.new.self c.resolve.new.self c.in_ok-key.key _ (New c.in-New.state) c.resolve.ensures.same c.in-New.is c.in_ok-id.ensures.found in
-    let of : c.resolve.new.self.store.table.of ≡ c.args.dfa.now = ap (λ (v : CacheView). v.store.table.of) (c.resolve.ensures.same ∙ c.determinise_start.ensures.counted) ∙ c.requires.of in
+    let found : IsLookedUp c.resolve.new.self.store.table c.in_ok-key.key (New c.in-New.state) = looked_up c.determinize_start.new.self c.resolve.new.self c.in_ok-key.key _ (New c.in-New.state) c.resolve.ensures.same c.in-New.is c.in_ok-id.ensures.found in
+    let of : c.resolve.new.self.store.table.of ≡ c.args.dfa.now = ap (λ (v : CacheView). v.store.table.of) (c.resolve.ensures.same ∙ c.determinize_start.ensures.counted) ∙ c.requires.of in
     let key : IsNewState c.resolve.new.self.store.table c.in_ok-key.key = new_state c.args.dfa.now c.resolve.new.self.store.table c.in_ok-key.key of found.1 c.in_ok-key.ensures.cost c.in_ok-key.ensures.is_of in
     subst (λ (q : Powerset). IsNewState c.resolve.new.self.store.table q) (sym found.0) key
 
@@ -76,13 +76,13 @@ returns-in_ok-id-in-New-clause-effect c =
 
 pub returns-in_err-key-clause-effect : goal.returns-in_err-key-clause-effect
 returns-in_err-key-clause-effect c =
-    refused_effect c.args.dfa.now c.args.mode c.args.prev c.args.self.now c.determinise_start.new.self c.args.slot c.requires.slot c.requires.unknown c.determinise_start.ensures.counted
+    refused_effect c.args.dfa.now c.args.mode c.args.prev c.args.self.now c.determinize_start.new.self c.args.slot c.requires.slot c.requires.unknown c.determinize_start.ensures.counted
 
 pub returns-in_err-id-clause-effect : goal.returns-in_err-id-clause-effect
 returns-in_err-id-clause-effect c =
-    refused_effect c.args.dfa.now c.args.mode c.args.prev c.args.self.now c.resolve.new.self c.args.slot c.requires.slot c.requires.unknown (c.resolve.ensures.same ∙ c.determinise_start.ensures.counted)
+    refused_effect c.args.dfa.now c.args.mode c.args.prev c.args.self.now c.resolve.new.self c.args.slot c.requires.slot c.requires.unknown (c.resolve.ensures.same ∙ c.determinize_start.ensures.counted)
 
 pub returns-in_err-id-in-New-clause-effect : goal.returns-in_err-id-in-New-clause-effect
 returns-in_err-id-in-New-clause-effect c =
     refused_effect c.args.dfa.now c.args.mode c.args.prev c.args.self.now c.add_start.new.self c.args.slot c.requires.slot c.requires.unknown
-    (c.in_err-id-in-New.ensures.err ∙ (c.resolve.ensures.same ∙ c.determinise_start.ensures.counted))
+    (c.in_err-id-in-New.ensures.err ∙ (c.resolve.ensures.same ∙ c.determinize_start.ensures.counted))

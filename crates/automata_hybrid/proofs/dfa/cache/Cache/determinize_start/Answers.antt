@@ -6,7 +6,7 @@ use Rattle.automata_base.specs.Retraced.Steps.{NeedsOwnLooks, start_state_of}
 use Rattle.automata_hybrid.specs.Machines.Machine.{start_of}
 use Rattle.automata_hybrid.specs.Machines.OwnStates.{IsOwn}
 use Rattle.automata_hybrid.proofs.Starting.{slot_state}
-use Rattle.automata_hybrid.proofs.dfa.cache.Cache.determinise_start.Goals as goal
+use Rattle.automata_hybrid.proofs.dfa.cache.Cache.determinize_start.Goals as goal
 
 -- the key is the start state of the slot
 from_slot : (c : goal.In_ok-key) → c.in_ok-key.key ≡ start_of c.args.dfa.now c.requires.slot.0

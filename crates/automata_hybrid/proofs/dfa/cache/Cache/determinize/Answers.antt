@@ -9,7 +9,7 @@ use Rattle.automata_hybrid.specs.Machines.Machine.{IsStateOf, Machine, next_of}
 use Rattle.automata_hybrid.specs.Cache.Table.{Names}
 use Rattle.automata_hybrid.specs.Cache.Caches.{CacheView}
 use Rattle.automata_hybrid.specs.declared.dfa.cache.Cache.TheInside.{Inside}
-use Rattle.automata_hybrid.proofs.dfa.cache.Cache.determinise.Goals as goal
+use Rattle.automata_hybrid.proofs.dfa.cache.Cache.determinize.Goals as goal
 use Rattle.automata_config.specs.Options.{match_kind_of}
 
 pub next_key-requires-clause-is_of : goal.next_key-requires-clause-is_of
