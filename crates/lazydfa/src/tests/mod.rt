@@ -12,6 +12,7 @@ mod bench;
 mod builder;
 mod calling;
 mod config;
+mod copies;
 mod growths;
 mod long;
 mod made;

@@ -16,6 +16,17 @@ pub struct Cache {
     pub(super) reverse: dfa::Cache,
 }
 
+/// A clone has rows of its own, and nothing that is done to one shows in the other. The only error is out of memory.
+impl Clone for Cache {
+    ghost is_clone = { λ a b. b ≡ a };
+
+    fn clone(&self) -> Result<Cache, AllocError> {
+        let forward = self.forward.clone()?;
+        let reverse = self.reverse.clone()?;
+        Ok(Cache { forward, reverse })
+    }
+}
+
 impl Cache {
     /// A cache of a regex, with no state yet. It can be used with this regex alone, until it is reset.
     pub fn new(regex: &Regex) -> Result<Cache, AllocError>
