@@ -21,7 +21,6 @@ pub(crate) enum Way {
 }
 
 /// The last place of a search: after the bytes of its span.
-#[inline(always)]
 pub(crate) fn last_place(input: &Input<'_>) -> usize
     requires { input.now.start ≤ input.now.end }
     ensures place { result ≡ input.now.end - input.now.start }
@@ -31,7 +30,6 @@ pub(crate) fn last_place(input: &Input<'_>) -> usize
 }
 
 /// The offset of a place.
-#[inline(always)]
 pub(crate) fn place_offset(input: &Input<'_>, way: Way, place: usize) -> usize
     requires open { input.now.start ≤ input.now.end }
     requires within { place ≤ input.now.end - input.now.start }
@@ -45,7 +43,6 @@ pub(crate) fn place_offset(input: &Input<'_>, way: Way, place: usize) -> usize
 }
 
 /// The offset of the byte at a place before the last one.
-#[inline(always)]
 pub(crate) fn byte_offset(input: &Input<'_>, way: Way, place: usize) -> usize
     requires { place < input.now.end - input.now.start }
     ensures unit { result ≡ unit_offset (way_of way) input.now place }
@@ -60,7 +57,6 @@ pub(crate) fn byte_offset(input: &Input<'_>, way: Way, place: usize) -> usize
 }
 
 /// The byte at a place before the last one.
-#[inline(always)]
 pub(crate) fn byte_at(input: &Input<'_>, way: Way, place: usize) -> u8
     requires { place < input.now.end - input.now.start }
     ensures { next (tape_in (way_of way) input.now) place ≡ Some result }
@@ -113,7 +109,6 @@ pub(crate) fn unit_at(input: &Input<'_>, way: Way, place: usize) -> Option<u8>
 }
 
 /// The offset of the byte at a place.
-#[inline(always)]
 pub(crate) fn unit_offset(input: &Input<'_>, way: Way, place: usize) -> usize
     requires open { input.now.start ≤ input.now.end }
     requires within { place ≤ input.now.end - input.now.start }
@@ -127,7 +122,6 @@ pub(crate) fn unit_offset(input: &Input<'_>, way: Way, place: usize) -> usize
 }
 
 /// The same, or where that is before the span, the span's start.
-#[inline(always)]
 pub(crate) fn span_offset(input: &Input<'_>, way: Way, place: usize) -> usize
     requires open { input.now.start ≤ input.now.end }
     requires within { place ≤ input.now.end - input.now.start }

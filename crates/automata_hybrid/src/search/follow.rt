@@ -221,7 +221,6 @@ impl DFA {
     }
 
     /// The ID after the byte at a place, as far as it is cached, of an ID that has a tag and no other.
-    #[inline(always)]
     fn follow_byte(
         &self,
         cache: &Cache,

@@ -69,6 +69,7 @@ impl DFA {
 
     /// What `try_search_fwd` returns, and where the span that gave it began: an end inside a UTF-8 encoded character is
     /// skipped by searching again from one offset later.
+    #[inline(always)]
     pub fn try_search_fwd_base(
         &self,
         cache: &mut Cache,
@@ -103,6 +104,7 @@ impl DFA {
     ///
     /// It takes time linear in the span. Only where empty matches inside a UTF-8 encoded character are skipped it can
     /// take the square of it, as `try_search_fwd`.
+    #[inline(always)]
     pub fn try_search_rev(
         &self,
         cache: &mut Cache,

@@ -68,7 +68,7 @@ impl DFA {
             cache.end_search(first);
             return Ok(None);
         }
-        let found = self.find_in(cache, input, way, start)?;
+        let found = self.find(cache, input, way, start)?;
         Ok(found)
     }
 
@@ -169,73 +169,6 @@ impl DFA {
             at = run.at + 1;
         }
         self.find_end(cache, input, way, id, found)
-    }
-
-    /// As `find`. Each direction has a function of its own, since the compiler inlines none that would grow as large as
-    /// both loops in one.
-    #[inline(always)]
-    fn find_in(
-        &self,
-        cache: &mut Cache,
-        input: &Input<'_>,
-        way: Way,
-        start: LazyStateID,
-    ) -> Result<Option<HalfMatch>, SearchError>
-        requires of { IsCacheOf cache.old self.now }
-        requires at { IsUnderway (way_of way) self.now cache.old.store.table input.now 0 start None }
-        ensures of { IsCacheOf cache.new self.now }
-        ensures answer { IfOk result (IsPassAnswer (way_of way) self.now input.now) }
-        ensures refusal { IfErr result (IsPassRefusal (way_of way) self.now cache.new.store input.now) }
-        ensures effect { IsRestEffect (way_of way) self.now input.now 0 cache.old cache.new result }
-        ensures ended { OnOk result (EndsAtLast (way_of way) self.now input.now cache.old.store cache.new.store) }
-        ensures left { IfErr result (IsStoppedAt (way_of way) self.now input.now cache.old.store cache.new.store) }
-    {
-        match way {
-            Way::Forward => self.find_fwd(cache, input, start),
-            Way::Backward => self.find_rev(cache, input, start),
-        }
-    }
-
-    /// `find` forward.
-    fn find_fwd(
-        &self,
-        cache: &mut Cache,
-        input: &Input<'_>,
-        start: LazyStateID,
-    ) -> Result<Option<HalfMatch>, SearchError>
-        requires of { IsCacheOf cache.old self.now }
-        requires at { IsUnderway (way_of Way.Forward) self.now cache.old.store.table input.now 0 start None }
-        ensures of { IsCacheOf cache.new self.now }
-        ensures answer { IfOk result (IsPassAnswer (way_of Way.Forward) self.now input.now) }
-        ensures refusal { IfErr result (IsPassRefusal (way_of Way.Forward) self.now cache.new.store input.now) }
-        ensures effect { IsRestEffect (way_of Way.Forward) self.now input.now 0 cache.old cache.new result }
-        ensures ended { OnOk result
-            (EndsAtLast (way_of Way.Forward) self.now input.now cache.old.store cache.new.store) }
-        ensures left { IfErr result
-            (IsStoppedAt (way_of Way.Forward) self.now input.now cache.old.store cache.new.store) }
-    {
-        self.find(cache, input, Way::Forward, start)
-    }
-
-    /// `find` backward.
-    fn find_rev(
-        &self,
-        cache: &mut Cache,
-        input: &Input<'_>,
-        start: LazyStateID,
-    ) -> Result<Option<HalfMatch>, SearchError>
-        requires of { IsCacheOf cache.old self.now }
-        requires at { IsUnderway (way_of Way.Backward) self.now cache.old.store.table input.now 0 start None }
-        ensures of { IsCacheOf cache.new self.now }
-        ensures answer { IfOk result (IsPassAnswer (way_of Way.Backward) self.now input.now) }
-        ensures refusal { IfErr result (IsPassRefusal (way_of Way.Backward) self.now cache.new.store input.now) }
-        ensures effect { IsRestEffect (way_of Way.Backward) self.now input.now 0 cache.old cache.new result }
-        ensures ended { OnOk result
-            (EndsAtLast (way_of Way.Backward) self.now input.now cache.old.store cache.new.store) }
-        ensures left { IfErr result
-            (IsStoppedAt (way_of Way.Backward) self.now input.now cache.old.store cache.new.store) }
-    {
-        self.find(cache, input, Way::Backward, start)
     }
 
     /// The step at the last place: on the byte after the span, or on the haystack's end.

@@ -32,8 +32,8 @@ returns-then-is_dead-2-clause-answer c =
     let dies : state_in d c.args.self.now c.args.input.now 0 ≡ dead = begins_dead d c.args.self.now c.walk_start.new.cache.store.table c.args.input.now c.in_ok-start.start c.in_ok-start.ensures.answer.named (c.see_ids.ensures.low c.in_ok-start.start) c.see_ids.ensures.small (c.if-is_dead-2.ensures.0 refl) in
     record { found = starts_dead d c.args.self.now c.args.input.now dies; clean = clean_start d c.args.self.now c.args.input.now dies c.in_ok-start.ensures.answer.may.0; supported = c.in_ok-start.ensures.answer.may.1 }
 
-pub find_in-requires-clause-at : goal.find_in-requires-clause-at
-find_in-requires-clause-at c =
+pub find-requires-clause-at : goal.find-requires-clause-at
+find-requires-clause-at c =
     let d : Direction = way_of c.args.way in
     record {
       undone = c.requires.«open»;
@@ -135,14 +135,14 @@ returns-clause-effect c =
     let d : Direction = way_of c.args.way in
     let begins : c.search_start.new.self.store ≡ with_search_begun d c.args.input.now 0 c.walk_start.new.cache.store =
     subst (λ at. c.search_start.new.self.store ≡ with_searched c.walk_start.new.cache.store (started c.walk_start.new.cache.store.searched at)) c.span_offset-first.ensures (ap (λ (v : CacheView). v.store) c.search_start.ensures.value) in
-    pass_rest d c.args.self.now c.args.input.now c.in_ok-start.start c.args.cache.now c.walk_start.new.cache c.search_start.new.self c.find_in.new.cache _ (c.see_bounds.ensures.slots ∙ ap (λ (d : Machine). slot_count d) c.requires.of)
+    pass_rest d c.args.self.now c.args.input.now c.in_ok-start.start c.args.cache.now c.walk_start.new.cache c.search_start.new.self c.find.new.cache _ (c.see_bounds.ensures.slots ∙ ap (λ (d : Machine). slot_count d) c.requires.of)
     c.in_ok-start.ensures.answer c.in_ok-start.ensures.effect c.search_start.ensures.value
     c.in_ok-found.ensures.effect (
       c.walk_start.new.cache.store,
       (start_had d c.args.self.now c.args.input.now c.args.cache.now c.walk_start.new.cache c.in_ok-start.start (c.see_bounds.ensures.slots ∙ ap (λ (d : Machine). slot_count d) c.requires.of) c.in_ok-start.ensures.effect c.in_ok-start.ensures.answer),
       inr (
         c.if-keeps_none.ensures.no refl,
-        subst (λ (v : Stored). EndsAtLast d c.args.self.now c.args.input.now v c.find_in.new.cache.store) begins c.in_ok-found.ensures.ended,
+        subst (λ (v : Stored). EndsAtLast d c.args.self.now c.args.input.now v c.find.new.cache.store) begins c.in_ok-found.ensures.ended,
       ),
     )
     tt
@@ -152,8 +152,8 @@ returns-in_err-found-clause-effect c =
     let d : Direction = way_of c.args.way in
     let begins : c.search_start.new.self.store ≡ with_search_begun d c.args.input.now 0 c.walk_start.new.cache.store =
     subst (λ at. c.search_start.new.self.store ≡ with_searched c.walk_start.new.cache.store (started c.walk_start.new.cache.store.searched at)) c.span_offset-first.ensures (ap (λ (v : CacheView). v.store) c.search_start.ensures.value) in
-    at_err c.from_residual-in_err-found.result _ (IsPassEffect d c.args.self.now c.args.input.now c.args.cache.now c.find_in.new.cache) c.from_residual-in_err-found.ensures.1
-    (pass_rest d c.args.self.now c.args.input.now c.in_ok-start.start c.args.cache.now c.walk_start.new.cache c.search_start.new.self c.find_in.new.cache (Err c.in_err-found.field-0.0) (c.see_bounds.ensures.slots ∙ ap (λ (d : Machine). slot_count d) c.requires.of)
+    at_err c.from_residual-in_err-found.result _ (IsPassEffect d c.args.self.now c.args.input.now c.args.cache.now c.find.new.cache) c.from_residual-in_err-found.ensures.1
+    (pass_rest d c.args.self.now c.args.input.now c.in_ok-start.start c.args.cache.now c.walk_start.new.cache c.search_start.new.self c.find.new.cache (Err c.in_err-found.field-0.0) (c.see_bounds.ensures.slots ∙ ap (λ (d : Machine). slot_count d) c.requires.of)
     c.in_ok-start.ensures.answer c.in_ok-start.ensures.effect c.search_start.ensures.value
     c.in_err-found.ensures.effect
     tt
@@ -162,6 +162,6 @@ returns-in_err-found-clause-effect c =
       (start_had d c.args.self.now c.args.input.now c.args.cache.now c.walk_start.new.cache c.in_ok-start.start (c.see_bounds.ensures.slots ∙ ap (λ (d : Machine). slot_count d) c.requires.of) c.in_ok-start.ensures.effect c.in_ok-start.ensures.answer),
       inr (
         c.if-keeps_none.ensures.no refl,
-        subst (λ (v : Stored). IsStoppedAt d c.args.self.now c.args.input.now v c.find_in.new.cache.store c.in_err-found.field-0.0) begins c.in_err-found.ensures.left,
+        subst (λ (v : Stored). IsStoppedAt d c.args.self.now c.args.input.now v c.find.new.cache.store c.in_err-found.field-0.0) begins c.in_err-found.ensures.left,
       ),
     )))
