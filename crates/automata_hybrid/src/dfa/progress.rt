@@ -57,11 +57,8 @@ impl Searched {
     pub fn update(&mut self, at: usize)
         ensures { self.new ≡ updated self.old at }
     {
-        if let Some(running) = self.running {
-            self.running = Some(Progress {
-                start: running.start,
-                place: at,
-            });
+        if let Some(running) = &mut self.running {
+            running.place = at;
         }
     }
 

@@ -93,13 +93,19 @@ impl DFA {
         let Some(byte) = prev else {
             return 2;
         };
-        if byte == b'\n' {
-            return 3;
+        let terminator = self.get_nfa().flags().line_terminator;
+        if byte < b'0' {
+            return if byte == b'\n' {
+                3
+            } else if byte == b'\r' {
+                4
+            } else if byte == terminator {
+                5
+            } else {
+                0
+            };
         }
-        if byte == b'\r' {
-            return 4;
-        }
-        if byte == self.get_nfa().flags().line_terminator {
+        if byte == terminator {
             return 5;
         }
         if byte.is_ascii_alphanumeric() || byte == b'_' {

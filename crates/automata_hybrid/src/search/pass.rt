@@ -204,6 +204,7 @@ impl DFA {
     }
 
     /// The same over an empty span of which no progress is kept.
+    #[inline(always)]
     fn find_still(
         &self,
         cache: &mut Cache,
