@@ -52,7 +52,7 @@ struct Query {
 }
 
 /// Why a line is bad.
-#[derive(Clone, Copy, Debug, PartialEq, Eq)]
+#[derive(Clone, Copy)]
 enum LineError {
     Bad,
     OutOfMemory,
@@ -211,7 +211,7 @@ fn only_number(words: &[&[u8]]) -> Result<usize, LineError> {
 }
 
 /// The settings with one more option.
-fn configured(config: Config, option: &[u8]) -> Option<Config> {
+pub fn configured(config: Config, option: &[u8]) -> Option<Config> {
     Some(match option_of(option)? {
         (Keyword::All, None) => config.match_kind(MatchKind::All),
         (Keyword::Starts, None) => config.starts_for_each_pattern(true),

@@ -6,7 +6,7 @@ ghost use Rattle.regex_automata.specs.Promises.{HoldsRow, IsCacheOf};
 use super::Host;
 use super::plans::Mode;
 use super::tells::{Automaton, Caller};
-use super::told::{Brief, Counted, Told, letter};
+use super::told::{Counted, Told, letter};
 use crate::catalogue::Entry;
 use regex_automata::hybrid::dfa::{Cache, DFA};
 use regex_automata::hybrid::{BuildError, LazyStateID, SearchError, StartError, StepError};
@@ -45,8 +45,10 @@ pub enum Call {
     Counts,
     /// The memory, and the tags of the state.
     Brief,
-    /// The start, each step and the end, in brief.
-    Walk(&'static str),
+    /// The unanchored start, a step or the end, and then the same in brief, whatever was answered.
+    Begin,
+    Read(u8),
+    Finish,
     /// Replaces the cache by a new one.
     Replace,
     /// The same by `Cache::new`.
@@ -120,12 +122,12 @@ impl Bench {
             Call::Step(byte) => Told::of_step(self.step(byte)),
             Call::Steps(bytes) => Told::of_step(self.steps(bytes)),
             Call::End => Told::of_step(self.end()),
-            Call::Walk(bytes) => self.walk(bytes),
             Call::Replace => Told::of_growth(self.replace()),
             Call::ReplaceByNew => Told::of_growth(self.replace_by_new()),
             Call::Reset => Told::of_growth(self.reset()),
             Call::ResetByCache => Told::of_growth(self.cache.reset(&self.dfa)),
             Call::ResetTo(entry) => self.reset_to(alloc, entry),
+            Call::Begin | Call::Read(_) | Call::Finish => self.move_on(call),
             Call::Open(_) | Call::MoveTo(_) | Call::Close(_) => self.progress(call),
             _ => self.ask(alloc, call),
         }
@@ -138,7 +140,7 @@ impl Bench {
             Call::State => self.state(self.at),
             Call::Matched => self.matched(),
             Call::Counts => self.counts(),
-            Call::Brief => Told::Number("", self.cache.memory_usage(), letter(self.at)),
+            Call::Brief => self.brief(),
             Call::Patterns => Told::Number("", self.dfa.pattern_len(), ""),
             Call::Memory => Told::Number("", self.dfa.memory_usage(), ""),
             Call::Classes => Told::Number("", self.dfa.byte_classes().alphabet_len(), ""),
@@ -153,14 +155,16 @@ impl Bench {
     }
 
     fn find(&mut self, input: &Input<'_>) -> Told {
-        Told::of_half(self.search(input))
+        Told::Half(self.search(input))
     }
 
     fn find_based(&mut self, input: &Input<'_>) -> Told {
         match self.dfa.try_search_fwd_base(&mut self.cache, input) {
-            Ok(Some((half, place))) => Told::Based(half, place),
-            Ok(None) => Told::of_half(Ok(None)),
-            Err(error) => Told::of_half(Err(error)),
+            Ok(Some((half, place))) => {
+                Told::Based(half.pattern().as_usize(), half.offset(), place)
+            }
+            Ok(None) => Told::Half(Ok(None)),
+            Err(error) => Told::Half(Err(error)),
         }
     }
 
@@ -168,26 +172,27 @@ impl Bench {
         match self.begin(input) {
             Ok(()) => Told::of_flag(self.at.is_tagged()),
             Err(SearchError::OutOfMemory) => Told::NoStart(StartError::OutOfMemory),
-            Err(error) => Told::of_half(Err(error)),
+            Err(error) => Told::Half(Err(error)),
         }
     }
 
-    /// The start, each step and the end, in brief.
-    fn walk(&mut self, bytes: &str) -> Told {
-        let mut briefs = [None; 12];
-        let _ = self.start(Anchored::No, None);
-        briefs[0] = Some(self.brief());
-        for (place, byte) in bytes.as_bytes().iter().copied().enumerate() {
-            let _ = self.step(byte);
-            briefs[place.saturating_add(1).min(11)] = Some(self.brief());
+    fn move_on(&mut self, call: Call) -> Told {
+        match call {
+            Call::Begin => {
+                let _ = self.start(Anchored::No, None);
+            }
+            Call::Read(byte) => {
+                let _ = self.step(byte);
+            }
+            _ => {
+                let _ = self.end();
+            }
         }
-        let _ = self.end();
-        briefs[bytes.len().saturating_add(1).min(11)] = Some(self.brief());
-        Told::Briefs(briefs)
+        self.brief()
     }
 
-    fn brief(&self) -> Brief {
-        (self.cache.memory_usage(), self.at)
+    fn brief(&self) -> Told {
+        Told::Number("", self.cache.memory_usage(), letter(self.at))
     }
 
     pub fn start(&mut self, mode: Anchored, behind: Option<u8>) -> Result<(), StartError> {
@@ -261,7 +266,7 @@ impl Bench {
         }
         let count = self.dfa.match_len(&self.cache, self.at);
         let last = self.dfa.match_pattern(&self.cache, self.at, count - 1);
-        Told::Patterns(count, last)
+        Told::Patterns(count, last.as_usize())
     }
 
     fn counts(&self) -> Told {

@@ -40,15 +40,11 @@ fn tell_joined(rt: &impl Host, joined: &Config) {
 
 #[test]
 fn settles_settings(rt: HostRuntime) {
+    let config = Config::new().unicode_word_boundary(true);
     let nfa = Entry::Bound.forward(rt.alloc()).expect(&rt, "an entry");
-    let config = heuristic();
     tell_allowed(&rt, &config);
     tell_settled(&rt, &config, &nfa);
     tell_skipping(&rt, &config, &nfa);
-}
-
-fn heuristic() -> Config {
-    Config::new().unicode_word_boundary(true)
 }
 
 fn tell_allowed(rt: &impl Host, config: &Config) {

@@ -1,18 +1,14 @@
 //! Long haystacks and many states.
 
-ghost use Rattle.regex_automata.specs.Promises.{AreCachesOf};
-
 use super::bench::Bench;
+use super::paths::spell;
 use super::plans::{Plan, Shape};
 use super::random_paths::Dice;
-use super::regex_bench::Pair;
 use super::tells::Automaton;
 use super::{Host, same_of};
 use crate::catalogue::Entry;
 use Shape::{Accept, Either, Range};
-use regex_automata::hybrid::SearchError;
 use regex_automata::hybrid::dfa::DFA;
-use regex_automata::hybrid::regex::{Cache, Regex};
 use regex_automata::nfa::thompson::{Flags, NFA, State};
 use regex_automata::util::primitives::{PatternID, StateID};
 use regex_automata::util::search::{HalfMatch, Input};
@@ -26,16 +22,16 @@ enum Long {
 }
 
 /// Searches over a cache of its own.
-fn search_all(rt: &impl Host, dfa: DFA, long: Long, haystack: &[u8]) {
+fn search_all(rt: &impl Host, dfa: DFA, long: Long) {
     let mut bench = Bench::new(rt, dfa);
-    search(rt, &mut bench, long, haystack);
+    search(rt, &mut bench, long);
 }
 
-fn search(rt: &impl Host, bench: &mut Bench, long: Long, haystack: &[u8]) {
+fn search(rt: &impl Host, bench: &mut Bench, long: Long) {
     match long {
-        Long::Chain => go_along(rt, bench, haystack),
-        Long::Letters => make_states(rt, bench, haystack),
-        Long::Dates => find_dates(rt, bench, haystack),
+        Long::Chain => go_along(rt, bench),
+        Long::Letters => make_states(rt, bench),
+        Long::Dates => find_all_dates(rt, bench),
     }
 }
 
@@ -44,11 +40,11 @@ fn search(rt: &impl Host, bench: &mut Bench, long: Long, haystack: &[u8]) {
 fn searches_a_long_chain(rt: HostRuntime) {
     let built = DFA::builder().build_from_nfa(long_chain(&rt));
     let dfa = built.expect(&rt, "an automaton");
-    search_all(&rt, dfa, Long::Chain, &[b'a'; 3000]);
+    search_all(&rt, dfa, Long::Chain);
 }
 
-fn go_along(rt: &impl Host, bench: &mut Bench, haystack: &[u8]) {
-    ends_at(rt, bench, haystack, 3000);
+fn go_along(rt: &impl Host, bench: &mut Bench) {
+    ends_at(rt, bench, &[b'a'; 3000], 3000);
     let want = (0, 273384, 3000, false);
     same_of(rt, &bench.totals(), &want, &"what is counted");
 }
@@ -102,32 +98,27 @@ fn letters(rt: &impl Host) -> Vec<u8> {
 /// A mebibyte of which nearly each byte makes a new state, over a cache of the least capacity.
 #[test]
 fn makes_states_over_a_mebibyte(rt: HostRuntime) {
-    let text = letters(&rt);
     let dfa = TWELFTH.lazy(&rt, "all capacity=0 skip");
-    search_all(&rt, dfa, Long::Letters, text.as_slice());
+    search_all(&rt, dfa, Long::Letters);
 }
 
-fn make_states(rt: &impl Host, bench: &mut Bench, text: &[u8]) {
-    ends_at(rt, bench, text, 1_048_574);
+fn make_states(rt: &impl Host, bench: &mut Bench) {
+    let text = letters(rt);
+    ends_at(rt, bench, text.as_slice(), 1_048_574);
     let (clears, memory, ..) = bench.totals();
     same_of(rt, &(clears, memory), &(62_993, 1468), &"counts");
-}
-
-fn repeated(rt: &impl Host, text: &str, count: usize) -> Vec<u8> {
-    let mut haystack = Vec::new(rt.alloc());
-    for _ in 0..count {
-        let pushed = haystack.extend_from_slice(text.as_bytes());
-        pushed.expect(rt, "memory");
-    }
-    haystack
 }
 
 /// Ten thousand dates, each found from the end of the one before.
 #[test]
 fn finds_date_after_date(rt: HostRuntime) {
-    let haystack = repeated(&rt, "2018-12-24 ", 10_000);
     let dfa = Automaton::Forward(Entry::Date).lazy(&rt, "");
-    search_all(&rt, dfa, Long::Dates, haystack.as_slice());
+    search_all(&rt, dfa, Long::Dates);
+}
+
+fn find_all_dates(rt: &impl Host, bench: &mut Bench) {
+    let dates = spell(rt, 0, 10_000, &[b"2018-12-24 "]);
+    find_dates(rt, bench, dates.as_slice());
 }
 
 fn find_dates(rt: &impl Host, bench: &mut Bench, dates: &[u8]) {
@@ -141,93 +132,4 @@ fn find_dates(rt: &impl Host, bench: &mut Bench, dates: &[u8]) {
     }
     let want = (0, 1745, 119999, false);
     same_of(rt, &bench.totals(), &want, &"what is counted");
-}
-
-/// The same by an iteration.
-#[test]
-fn iterates_over_ten_thousand_dates(rt: HostRuntime) {
-    let haystack = repeated(&rt, "2018-12-24 ", 10_000);
-    let mut bytes = Vec::new(rt.alloc());
-    let found = count(&rt, Entry::Date, haystack.as_slice(), &mut bytes);
-    same_of(&rt, &found, &10_000, &"dates");
-}
-
-/// How many dates are found, or else how many tokens, whose bytes are joined.
-fn count(rt: &impl Host, entry: Entry, haystack: &[u8], bytes: &mut Vec<u8>) -> usize {
-    let regex = Pair::Of(entry).regex(rt, "");
-    count_by(rt, &regex, entry, haystack, bytes)
-}
-
-fn count_by(
-    rt: &impl Host,
-    regex: &Regex,
-    entry: Entry,
-    haystack: &[u8],
-    bytes: &mut Vec<u8>,
-) -> usize {
-    let mut cache = regex.create_cache().expect(rt, "a cache");
-    count_in(rt, regex, &mut cache, entry, haystack, bytes)
-}
-
-fn count_in(
-    rt: &impl Host,
-    regex: &Regex,
-    cache: &mut Cache,
-    entry: Entry,
-    haystack: &[u8],
-    bytes: &mut Vec<u8>,
-) -> usize
-    requires { AreCachesOf cache.old regex.now }
-{
-    match entry {
-        Entry::Date => count_dates(regex, cache, haystack).expect(rt, "dates"),
-        _ => join(rt, regex, cache, haystack, bytes),
-    }
-}
-
-/// How many dates are found, each eleven bytes after the one before. Other matches are not counted.
-fn count_dates(regex: &Regex, cache: &mut Cache, haystack: &[u8]) -> Result<usize, SearchError>
-    requires { AreCachesOf cache.old regex.now }
-{
-    let mut count = 0usize;
-    let mut start = 0usize;
-    for item in regex.find_iter(cache, Input::new(haystack)) {
-        let found = item?;
-        let is_next = found.start() == start && found.end() == start.saturating_add(10);
-        if is_next && found.pattern() == PatternID::ZERO {
-            count = count.saturating_add(1);
-        }
-        start = start.saturating_add(11);
-    }
-    Ok(count)
-}
-
-/// Tokens over a mebibyte, each of two bytes, joined again.
-#[test]
-fn tokenises_a_mebibyte(rt: HostRuntime) {
-    let haystack = repeated(&rt, "ab12", 1 << 18);
-    let mut bytes = Vec::new(rt.alloc());
-    let found = count(&rt, Entry::Runs, haystack.as_slice(), &mut bytes);
-    same_of(&rt, &found, &(1 << 19), &"how many");
-    same_of(&rt, &(bytes == haystack), &true, &"joined");
-}
-
-/// Joins the bytes of the tokens before an error, and counts these.
-fn join(
-    rt: &impl Host,
-    regex: &Regex,
-    cache: &mut Cache,
-    haystack: &[u8],
-    bytes: &mut Vec<u8>,
-) -> usize
-    requires { AreCachesOf cache.old regex.now }
-{
-    let mut count = 0usize;
-    for item in regex.tokens(cache, Input::new(haystack)) {
-        if let Ok(token) = item {
-            bytes.extend_from_slice(token.bytes()).expect(rt, "memory");
-            count = count.saturating_add(1);
-        }
-    }
-    count
 }

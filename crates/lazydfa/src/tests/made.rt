@@ -1,12 +1,11 @@
-//! What is made without a cache: powerset states, DFAs that match always or never, sets, copies and replays.
+//! What is made without a cache: powerset states, DFAs that match always or never, sets and copies.
 
 ghost use Rattle.std.specs.Prelude.{◌≡◌};
 
 use super::plans::{Mode, ids_of, pattern_id};
-use super::regex_bench::Pair;
 use super::tells::{Automaton, Caller, ONCE, RowOf, Short, config, refuse_each, tells_all};
 use super::told::Told;
-use super::{Host, check, same_of};
+use super::{Host, Text, check, same_of};
 use crate::catalogue::Entry;
 use Automaton::{Forward, Reverse};
 use Lead::{End, Is, Room, Start, Step, Steps};
@@ -15,21 +14,14 @@ use Mode::{Every, First, Of};
 use regex_automata::hybrid::BuildError;
 use regex_automata::hybrid::dfa::{DFA, OverlappingState};
 use regex_automata::nfa::thompson::NFA;
-use regex_automata::replay::{Reply, Request, replay};
 use regex_automata::util::determinize;
 use regex_automata::util::determinize::{Parts, Scratch, State};
 use regex_automata::util::primitives::PatternID;
-use regex_automata::util::search::{Input, Match, MatchKind, PatternSet, Span};
+use regex_automata::util::search::{MatchKind, PatternSet};
 use std::alloc::{AllocError, Global};
 
 /// What the row shows, the NFA states, the patterns, the looks needed, and the bytes.
-type Coded = (
-    &'static str,
-    &'static [u8],
-    &'static [u8],
-    u32,
-    &'static [u8],
-);
+type Coded = (Text, &'static [u8], &'static [u8], u32, &'static [u8]);
 
 #[rattlefmt::skip]
 const THREE: Coded = ("three states and two patterns", &[3, 4, 1], &[0, 1], 0,
@@ -322,16 +314,6 @@ const MADE: &[Short<(), Made>] = &[
 #[test]
 fn makes_after_each_refused_growth(rt: HostRuntime) {
     refuse_each::<Making>(&rt, MADE);
-}
-
-#[test]
-fn replays(rt: HostRuntime) {
-    let regexes = [Pair::Of(Entry::Ab).regex(&rt, "")];
-    let requests = [Request::Find(Input::new(b"ab")), Request::StepWalk(0)];
-    let replies = replay(rt.alloc(), &regexes, &requests).expect(&rt, "memory");
-    let found = Match::new(pattern_id(0), Span { start: 0, end: 2 });
-    let is_right = replies.first() == Some(&Reply::Span(Ok(Some(found))));
-    check(&rt, is_right && replies.len() == 2);
 }
 
 #[test]

@@ -10,7 +10,6 @@ use std::{io, mem};
 
 mod bench;
 mod builder;
-mod calling;
 mod config;
 mod copies;
 mod growths;
@@ -35,6 +34,9 @@ mod told;
 mod walk_paths;
 mod walker;
 mod walks;
+
+/// A text in a row of a table.
+type Text = &'static str;
 
 /// What a helper needs: it ends the process if something fails, and it allocates.
 trait Host: Abort + AllocGlobal {}

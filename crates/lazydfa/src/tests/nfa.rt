@@ -1,7 +1,7 @@
 //! What NFAs say of themselves, and malformed ones.
 
 use super::plans::{Plan, Shape};
-use super::{Host, check, same_of};
+use super::{Host, Text, check, same_of};
 use crate::catalogue::Entry;
 use Shape::{Accept, Assert, Either, Range, Sparse};
 use regex_automata::nfa::thompson::NfaError;
@@ -114,12 +114,7 @@ fn tells_eager_skipping(rt: HostRuntime) {
 
 /// What the row shows, the states, where all starts are, and the error of `NFA::from_states`. Each of its tests has a
 /// row here: the tests before it pass, and those after it do not.
-type Refused = (
-    &'static str,
-    &'static [Shape],
-    &'static [u8],
-    Option<NfaError>,
-);
+type Refused = (Text, &'static [Shape], &'static [u8], Option<NfaError>);
 
 #[rattlefmt::skip]
 const REFUSED: &[Refused] = &[

@@ -273,10 +273,6 @@ impl Tally {
             self.ends = self.ends.saturating_add(half.offset());
         }
     }
-
-    fn count_pairs(&mut self, pairs: usize) {
-        self.pairs = self.pairs.saturating_add(pairs);
-    }
 }
 
 /// The whole of a haystack, and without its first byte, its last, or both, in each anchored mode.
@@ -305,7 +301,7 @@ fn compare(rt: &impl Host, listed: &mut Listed, input: &Input<'_>, tally: &mut T
         tally.count_answer(&compare_ends(rt, listed, input));
         compare_members(rt, listed, input);
     }
-    tally.count_pairs(listed.want.len());
+    tally.pairs = tally.pairs.saturating_add(listed.want.len());
 }
 
 /// What is known of ends if a cycle of epsilon edges passes a look. It returns the answer by the paths.

@@ -138,13 +138,13 @@ fn resets_to_another(rt: HostRuntime) {
 }
 
 fn reset_dates(rt: &impl Host, text: &mut String) {
-    let mut bench = RegexBench::new(rt, Of(Entry::Date).regex(rt, ""));
-    bench.tell(rt, &[Find(DATES)], text);
-    reset_to_ab(rt, bench, text);
+    let mut dates = RegexBench::new(rt, Of(Entry::Date).regex(rt, ""));
+    dates.tell(rt, &[Find(DATES)], text);
+    reset_to_ab(rt, dates, text);
 }
 
-fn reset_to_ab(rt: &impl Host, bench: RegexBench, text: &mut String) {
-    let mut bench = bench.reset_to(rt, Of(Entry::Ab).regex(rt, ""));
+fn reset_to_ab(rt: &impl Host, dates: RegexBench, text: &mut String) {
+    let mut bench = dates.reset_to(rt, Of(Entry::Ab).regex(rt, ""));
     bench.tell(rt, &[Counts, Find(b"ab"), Counts], text);
 }
 

@@ -13,7 +13,6 @@ use regex_automata::hybrid::dfa::DFA;
 use regex_automata::hybrid::regex::{Builder, Cache, Regex};
 use regex_automata::hybrid::{BuildError, SearchError};
 use regex_automata::nfa::thompson::NFA;
-use regex_automata::replay::Reply;
 use regex_automata::tokens::{Token, TokenError, Tokens};
 use regex_automata::util::search::{Input, Match};
 use std::alloc::{AllocError, Global};
@@ -127,7 +126,7 @@ pub type Row = RowOf<Pair, Ask>;
 /// An item in the form of a token.
 fn item_of(item: Option<Result<Match, SearchError>>) -> Item {
     match item {
-        Some(Ok(found)) => Some(Ok(found)),
+        Some(Ok(found)) => Some(Ok((found.pattern().as_usize(), found.start(), found.end()))),
         Some(Err(error)) => Some(Err(TokenError::Search(error))),
         None => None,
     }
@@ -145,11 +144,13 @@ fn next_token(tokens: &mut Tokens<'_, '_, '_>, haystack: &[u8]) -> Item
     }
 }
 
-fn match_of(token: &Token<'_>, haystack: &[u8]) -> Result<Match, TokenError> {
-    if haystack.get(token.range()) != Some(token.bytes()) {
+fn match_of(token: &Token<'_>, haystack: &[u8]) -> Result<(usize, usize, usize), TokenError> {
+    let range = token.range();
+    let (start, end) = (range.start, range.end);
+    if haystack.get(range) != Some(token.bytes()) {
         return Err(TokenError::NoToken(usize::MAX));
     }
-    Ok(Match::new(token.pattern(), token.span()))
+    Ok((token.pattern().as_usize(), start, end))
 }
 
 /// A regex, and a cache of its own.
@@ -170,10 +171,8 @@ impl RegexBench {
         match ask {
             Ask::Find(haystack) => self.find(&Input::new(haystack)),
             Ask::Learn(haystack, places, mode) => self.learn(haystack, places, mode),
-            Ask::Search(haystack) => {
-                Told::of_reply(Reply::Span(self.search(&Input::new(haystack))))
-            },
-            Ask::Is(haystack) => Told::of_reply(Reply::Truth(self.holds(&Input::new(haystack)))),
+            Ask::Search(haystack) => Told::Span(self.search(&Input::new(haystack)), ""),
+            Ask::Is(haystack) => Told::Truth(self.holds(&Input::new(haystack))),
             Ask::Items(haystack) => Told::Items(self.first_items(Input::new(haystack))),
             Ask::Tokens(haystack, start) => Told::Items(self.first_tokens(haystack, start)),
             Ask::Forward(haystack) => self.forward(&Input::new(haystack)),
@@ -188,7 +187,10 @@ impl RegexBench {
     /// A call that makes a cache or a part of it as new.
     fn renew(&mut self, ask: Ask) -> Told {
         match ask {
-            Ask::Replace => self.replace(),
+            Ask::Replace => {
+                let replaced = self.replace();
+                told_of_parts(replaced, self.regex.forward())
+            }
             Ask::ReplaceByNew => Told::of_growth(self.replace_by_new()),
             Ask::ReplaceForward => Told::of_growth(self.replace_forward()),
             Ask::ReplaceReverse => Told::of_growth(self.replace_reverse()),
@@ -216,13 +218,13 @@ impl RegexBench {
             return Told::Word("a refusal that changed a part");
         }
         let is_forward = has_no_room(self.regex.forward());
-        let found = Reply::Span(self.regex.find(&mut self.cache, &Input::new(haystack)));
+        let found = self.regex.find(&mut self.cache, &Input::new(haystack));
         let refused = if is_forward {
             "; memory"
         } else {
             "; reverse memory"
         };
-        Told::Found("", found, refused)
+        Told::Span(found, refused)
     }
 
     pub fn search(&mut self, input: &Input<'_>) -> Result<Option<Match>, SearchError> {
@@ -234,32 +236,24 @@ impl RegexBench {
     }
 
     /// The first eight items of an iteration.
+    #[rattlefmt::skip]
     pub fn first_items(&mut self, input: Input<'_>) -> [Item; 8] {
         let mut it = self.regex.find_iter(&mut self.cache, input);
         [
-            item_of(it.next()),
-            item_of(it.next()),
-            item_of(it.next()),
-            item_of(it.next()),
-            item_of(it.next()),
-            item_of(it.next()),
-            item_of(it.next()),
-            item_of(it.next()),
+            item_of(it.next()), item_of(it.next()), item_of(it.next()), item_of(it.next()),
+            item_of(it.next()), item_of(it.next()), item_of(it.next()), item_of(it.next()),
         ]
     }
 
     /// The first eight tokens from an offset on.
+    #[rattlefmt::skip]
     fn first_tokens(&mut self, haystack: &[u8], start: usize) -> [Item; 8] {
         let mut tokens = self.regex.tokens(&mut self.cache, from(haystack, start));
         [
-            next_token(&mut tokens, haystack),
-            next_token(&mut tokens, haystack),
-            next_token(&mut tokens, haystack),
-            next_token(&mut tokens, haystack),
-            next_token(&mut tokens, haystack),
-            next_token(&mut tokens, haystack),
-            next_token(&mut tokens, haystack),
-            next_token(&mut tokens, haystack),
+            next_token(&mut tokens, haystack), next_token(&mut tokens, haystack),
+            next_token(&mut tokens, haystack), next_token(&mut tokens, haystack),
+            next_token(&mut tokens, haystack), next_token(&mut tokens, haystack),
+            next_token(&mut tokens, haystack), next_token(&mut tokens, haystack),
         ]
     }
 
@@ -268,28 +262,22 @@ impl RegexBench {
     }
 
     fn find(&mut self, input: &Input<'_>) -> Told {
-        Told::of_reply(Reply::Span(self.regex.find(&mut self.cache, input)))
+        Told::Span(self.regex.find(&mut self.cache, input), "")
     }
 
     fn forward(&mut self, input: &Input<'_>) -> Told {
         let dfa = self.regex.forward();
-        Told::of_half(dfa.try_search_fwd(self.cache.forward_mut(), input))
+        Told::Half(dfa.try_search_fwd(self.cache.forward_mut(), input))
     }
 
     fn reverse(&mut self, input: &Input<'_>) -> Told {
         let dfa = self.regex.reverse();
-        Told::of_half(dfa.try_search_rev(self.cache.reverse_mut(), input))
+        Told::Half(dfa.try_search_rev(self.cache.reverse_mut(), input))
     }
 
-    /// If the forward part can be made, making the reverse one fails.
-    fn replace(&mut self) -> Told {
-        match self.regex.create_cache() {
-            Ok(cache) => {
-                self.cache = cache;
-                Told::Word("-")
-            }
-            Err(_) => told_of_refusal(self.regex.forward()),
-        }
+    fn replace(&mut self) -> Result<(), AllocError> {
+        self.cache = self.regex.create_cache()?;
+        Ok(())
     }
 
     fn replace_by_new(&mut self) -> Result<(), AllocError> {
@@ -363,12 +351,12 @@ impl Caller for RegexBench {
     }
 }
 
-/// Which part of a cache was refused, by whether the forward one is refused again.
-fn told_of_refusal(forward: &DFA) -> Told {
-    if has_no_room(forward) {
-        Told::Refused(BuildError::OutOfMemory)
-    } else {
-        Told::Word("reverse memory")
+/// Whether a cache was made. If not, the reverse part was refused if the forward one can be made.
+fn told_of_parts(made: Result<(), AllocError>, forward: &DFA) -> Told {
+    match made {
+        Ok(()) => Told::Word("-"),
+        Err(_) if has_no_room(forward) => Told::Refused(BuildError::OutOfMemory),
+        Err(_) => Told::Word("reverse memory"),
     }
 }
 

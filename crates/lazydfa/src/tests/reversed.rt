@@ -5,7 +5,7 @@ ghost use Rattle.regex_automata.specs.Promises.{IsSoundPair};
 
 use super::plans::{Plan, Shape};
 use super::regex_bench::Pair;
-use super::{Host, same_text};
+use super::{Host, Text, same_text};
 use crate::catalogue::Entry;
 use Shape::{Accept, Assert, Capture, Dense, Either, Range, Sparse, Union};
 use regex_automata::hybrid::dfa::Config;
@@ -17,13 +17,7 @@ use std::fmt::Write;
 
 /// What the row shows, the states, the unanchored start, where the patterns start, the haystack, and its spans under
 /// leftmost-first and under `MatchKind::All`.
-type Row = (
-    &'static str,
-    &'static [Shape],
-    u8,
-    &'static [u8],
-    [&'static str; 3],
-);
+type Row = (Text, &'static [Shape], u8, &'static [u8], [Text; 3]);
 
 #[rattlefmt::skip]
 const ROWS: &[Row] = &[

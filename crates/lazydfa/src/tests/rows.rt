@@ -2,15 +2,15 @@
 
 use super::bench::{Bench, Call};
 use super::plans::{Mode, Plan, Shape};
-use super::tells::{Automaton, Caller, RowOf, tells_all, text_of};
+use super::tells::{Automaton, RowOf, tells_all, text_of};
 use super::texts::UNSUPPORTED;
-use super::{Host, same_of, same_text};
+use super::{Host, Text, same_of, same_text};
 use crate::catalogue::Entry;
 use Automaton::{Always, Chain, Crowd, Forward, Never, Planned, Reverse};
 use Call::{
-    Brief, Classes, Close, Counts, End, Find, FindAnchored, FindBased, FindEarliest, FindIn, Known,
-    Matched, Memory, Minimum, MoveTo, Open, Patterns, ReplaceByNew, Reset, ResetByCache, ResetTo,
-    Start, StartIn, StartOn, State, Step, Steps, Walk,
+    Begin, Brief, Classes, Close, Counts, End, Find, FindAnchored, FindBased, FindEarliest, FindIn,
+    Finish, Known, Matched, Memory, Minimum, MoveTo, Open, Patterns, Read, ReplaceByNew, Reset,
+    ResetByCache, ResetTo, Start, StartIn, StartOn, State, Step, Steps,
 };
 use Mode::{Every, Of};
 use Shape::{Accept, Assert, Capture, Dense, Either, Range, Sparse, Union};
@@ -193,17 +193,23 @@ const STEPPED: &[Row] = &[
 /// The memory at the start, after each byte and at the end, and whether the state is dead, quit or a match.
 #[rattlefmt::skip]
 const WALKED: &[Row] = &[
-    ("always anchored", AB, "quit=21", &[Walk("axb")], "421, 507, 507d, 507d, 507d"),
-    ("the first of two words", WORDS, "quit=21", &[Walk("@foo bar")],
-        "705, 838, 965m, 965m, 965m, 1082m, 1082d, 1082d, 1082d, 1082d"),
-    ("all words", WORDS, "all quit=21", &[Walk("@foo b")], "705, 838, 980m, 1126m, 1126m, 1262m, 1400, 1521m"),
-    ("equal patterns", Forward(Entry::Aa), "all quit=21", &[Walk("aab")], "527, 633, 747m, 851m, 851d"),
-    ("ends of lines", Forward(Entry::Crlf), "all quit=21", &[Walk("\r\n\n")], "451, 546m, 546, 641m, 726m"),
-    ("a character and its neighbours", Forward(Entry::Snow), "quit=21", &[Walk("a\u{2603}x")],
-        "970, 1167, 1364, 1550m, 1732, 1914, 2095m"),
-    ("a date", Forward(Entry::Date), "quit=21", &[Walk("2018-12-24")],
+    ("always anchored", AB, "quit=21", &[Begin, Read(b'a'), Read(b'x'), Read(b'b'), Finish],
+        "421, 507, 507d, 507d, 507d"),
+    ("the first of two words", WORDS, "quit=21", &[Begin, Read(b'@'), Read(b'f'), Read(b'o'), Read(b'o'), Read(b' '),
+        Read(b'b'), Read(b'a'), Read(b'r'), Finish], "705, 838, 965m, 965m, 965m, 1082m, 1082d, 1082d, 1082d, 1082d"),
+    ("all words", WORDS, "all quit=21", &[Begin, Read(b'@'), Read(b'f'), Read(b'o'), Read(b'o'), Read(b' '),
+        Read(b'b'), Finish], "705, 838, 980m, 1126m, 1126m, 1262m, 1400, 1521m"),
+    ("equal patterns", Forward(Entry::Aa), "all quit=21", &[Begin, Read(b'a'), Read(b'a'), Read(b'b'), Finish],
+        "527, 633, 747m, 851m, 851d"),
+    ("ends of lines", Forward(Entry::Crlf), "all quit=21", &[Begin, Read(b'\r'), Read(b'\n'), Read(b'\n'), Finish],
+        "451, 546m, 546, 641m, 726m"),
+    ("a character and its neighbours", Forward(Entry::Snow), "quit=21", &[Begin, Read(b'a'), Read(0xE2), Read(0x98),
+        Read(0x83), Read(b'x'), Finish], "970, 1167, 1364, 1550m, 1732, 1914, 2095m"),
+    ("a date", Forward(Entry::Date), "quit=21", &[Begin, Read(b'2'), Read(b'0'), Read(b'1'), Read(b'8'), Read(b'-'),
+        Read(b'1'), Read(b'2'), Read(b'-'), Read(b'2'), Read(b'4'), Finish],
         "640, 736, 837, 943, 1054, 1150, 1251, 1357, 1453, 1554, 1660, 1745m"),
-    ("a quit byte", Forward(Entry::Runs), "quit=21", &[Walk("a1!b")], "577, 678, 763m, 763q, 763q, 763q"),
+    ("a quit byte", Forward(Entry::Runs), "quit=21", &[Begin, Read(b'a'), Read(b'1'), Read(b'!'), Read(b'b'), Finish],
+        "577, 678, 763m, 763q, 763q, 763q"),
 ];
 
 /// `b`, or else twenty bytes `a`.
@@ -260,13 +266,7 @@ fn steps_tell_their_rows(rt: HostRuntime) {
 
 /// An NFA, its options, a haystack, the reply, and what is counted: the memory of a fresh cache, after one search, and
 /// the bytes searched by one search.
-type Counted = (
-    Automaton,
-    &'static str,
-    &'static str,
-    &'static str,
-    [usize; 3],
-);
+type Counted = (Automaton, Text, Text, Text, [usize; 3]);
 
 #[rattlefmt::skip]
 const COUNTED: &[Counted] = &[
@@ -303,7 +303,7 @@ fn count(rt: &impl Host, row: Counted) {
     let calls = [
         Counts, find, Counts, find, Counts, Reset, Counts, find, Counts,
     ];
-    let found = text_of(rt, Bench::make(rt, automaton, options), &calls);
+    let found = text_of::<Bench>(rt, automaton, options, &calls);
     let twice = searched.saturating_mul(2);
     let want = format!(in rt.alloc();
         "0 {fresh} 0, {reply}, 0 {used} {searched}, {reply}, 0 {used} {twice}, -, 0 {fresh} 0, {reply}, 0 {used} {searched}"
@@ -318,8 +318,7 @@ fn searches_where_no_letter_is_read(rt: HostRuntime) {
     let mut options = String::new(rt.alloc());
     write_quits(&rt, &mut options);
     let calls = [Find(" a"), Find(" a\u{e9}"), Counts];
-    let built = Bench::make(&rt, Forward(Entry::Bound), options.as_str());
-    let found = text_of(&rt, built, &calls);
+    let found = text_of::<Bench>(&rt, Forward(Entry::Bound), options.as_str(), &calls);
     let want = "half 0 1, quit c3 2, 0 696 4";
     same_text(&rt, found.as_str(), want, "quit bytes from 80 on");
 }

@@ -1,8 +1,9 @@
 //! Scripts, from bytes to bytes.
 
-use super::{Host, Sink, Source, printed, prints, same_of, same_text};
+use super::{Host, Sink, Source, Text, printed, prints, same_of, same_text};
 use crate::error::RunError;
 use crate::run::run;
+use std::fmt::Write;
 
 #[rattlefmt::skip]
 const ANSWERED: &[(&str, &str)] = &[
@@ -171,13 +172,53 @@ fn tells_faults_in_order(rt: HostRuntime) {
     }
 }
 
-/// One line of a mebibyte of haystack.
+/// What a script begins with, the digits of a piece and how many there are, what the output begins with, the spans of
+/// the first piece, and how long it is.
+#[rattlefmt::skip]
+type Long = (Text, Text, usize, Text, &'static [(usize, usize, usize)], usize);
+
+/// One line of a mebibyte of haystack, ten thousand dates, and tokens over a mebibyte, each of two bytes.
+#[rattlefmt::skip]
+const LONG: &[Long] = &[
+    ("regex runs all\nfwd ", "61", 1 << 20, "regex 0\nhalf 0 1048576", &[], 1),
+    ("regex date\niter ", "323031382D31322D323420", 10_000, "regex 0\niter", &[(0, 0, 10)], 11),
+    ("regex runs\ntok ", "61623132", 1 << 18, "regex 0\ntokens", &[(0, 0, 2), (1, 2, 4)], 4),
+];
+
 #[test]
-fn answers_a_long_script(rt: HostRuntime) {
-    let mut script = String::from_str(rt.alloc(), "regex runs all\nfwd ").expect(&rt, "memory");
-    for _ in 0..1 << 20 {
-        script.push_str("61").expect(&rt, "memory");
+fn answers_long_scripts(rt: HostRuntime) {
+    for row in LONG {
+        answer_long(&rt, row);
     }
-    let want = "regex 0\nhalf 0 1048576\n";
-    prints(&rt, script.as_str(), want, "a mebibyte");
+}
+
+fn answer_long(rt: &impl Host, row: &Long) {
+    let script = long_script(rt, row);
+    let want = long_output(rt, row);
+    prints(rt, script.as_str(), want.as_str(), row.0);
+}
+
+fn long_script(rt: &impl Host, row: &Long) -> String {
+    let mut text = String::from_str(rt.alloc(), row.0).expect(rt, "memory");
+    for _ in 0..row.2 {
+        text.push_str(row.1).expect(rt, "memory");
+    }
+    text
+}
+
+fn long_output(rt: &impl Host, row: &Long) -> String {
+    let mut text = String::from_str(rt.alloc(), row.3).expect(rt, "memory");
+    for number in 0..row.2 {
+        write_spans(rt, &mut text, row.4, number.saturating_mul(row.5));
+    }
+    text.push_str("\n").expect(rt, "memory");
+    text
+}
+
+/// The spans of a piece that begins at an offset.
+fn write_spans(rt: &impl Host, text: &mut String, spans: &[(usize, usize, usize)], at: usize) {
+    for (pattern, start, end) in spans {
+        let (start, end) = (start.saturating_add(at), end.saturating_add(at));
+        write!(text, " {pattern} {start}..{end}").expect(rt, "memory");
+    }
 }

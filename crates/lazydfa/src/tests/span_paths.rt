@@ -124,7 +124,7 @@ fn compare_with(
 fn items_of(spans: &[Match]) -> [Item; 8] {
     let mut items = [None; 8];
     for (number, span) in spans.iter().enumerate() {
-        items[number.min(7)] = Some(Ok(*span));
+        items[number.min(7)] = Some(Ok((span.pattern().as_usize(), span.start(), span.end())));
     }
     items
 }

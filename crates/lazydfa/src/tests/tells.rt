@@ -3,9 +3,9 @@
 
 use super::plans::{Plan, Shape, chain, crowd};
 use super::told::Told;
-use super::{Host, check, exhaust, same_of, same_text};
+use super::{Host, Text, check, exhaust, same_of, same_text};
 use crate::catalogue::Entry;
-use crate::script::Script;
+use crate::script::configured;
 use regex_automata::hybrid::BuildError;
 use regex_automata::hybrid::dfa::{Config, DFA};
 use regex_automata::nfa::thompson::NFA;
@@ -58,7 +58,7 @@ impl Automaton {
 
 /// What the row shows, what is called, its options as a script has them, the calls, and what they report, or why what
 /// is called cannot be built.
-pub type RowOf<O, C> = (&'static str, O, &'static str, &'static [C], &'static str);
+pub type RowOf<O, C> = (Text, O, Text, &'static [C], Text);
 
 /// What is called, with a cache of its own.
 pub trait Caller: Drop {
@@ -76,73 +76,69 @@ pub trait Caller: Drop {
     /// Makes calls, and writes what they report.
     fn tell(&mut self, rt: &impl Host, calls: &[Self::Call], text: &mut String) {
         for call in calls {
-            write_told(rt, text, self.answer(rt.alloc(), *call));
+            write_told(rt, text, &self.answer(rt.alloc(), *call));
         }
     }
 
     /// Makes the calls of a turn.
     fn take(&mut self, rt: &impl Host, row: &Short<Self::Of, Self::Call>, turns: &mut Turns) {
         for call in row.3 {
-            turns.hear(rt, self.answer(rt.alloc(), *call));
+            turns.hear(rt, &self.answer(rt.alloc(), *call));
         }
         turns.lend(rt);
         for (number, owed) in row.4.iter().enumerate() {
-            turns.hear(rt, self.answer(rt.alloc(), owed.0));
+            turns.hear(rt, &self.answer(rt.alloc(), owed.0));
             if turns.refuses(rt, number, owed.1, row.5) {
-                turns.hear(rt, self.answer(rt.alloc(), owed.0));
+                turns.hear(rt, &self.answer(rt.alloc(), owed.0));
             }
             turns.has_told(rt, owed.1, row.0);
         }
-        turns.release();
     }
 }
 
 /// Makes the calls of each row.
 pub fn tells_all<T: Caller>(rt: &impl Host, rows: &[RowOf<T::Of, T::Call>]) {
     for row in rows {
-        let text = text_of(rt, T::make(rt, row.1, row.2), row.3);
+        let text = text_of::<T>(rt, row.1, row.2, row.3);
         same_text(rt, text.as_str(), row.4, row.0);
     }
 }
 
 /// What the calls report, or why what is called cannot be built.
-pub fn text_of<T: Caller>(
-    rt: &impl Host,
-    made: Result<T, BuildError>,
-    calls: &[T::Call],
-) -> String {
+pub fn text_of<T: Caller>(rt: &impl Host, of: T::Of, options: &str, calls: &[T::Call]) -> String {
     let mut text = String::with_capacity(rt.alloc(), 1 << 10).expect(rt, "memory");
-    match made {
-        Ok(caller) => tell_into(rt, caller, calls, &mut text),
-        Err(error) => write!(text, "{error}").expect(rt, "memory"),
-    }
+    write_calls::<T>(rt, of, options, calls, &mut text);
     text
 }
 
-fn tell_into<T: Caller>(rt: &impl Host, caller: T, calls: &[T::Call], text: &mut String) {
-    let mut caller = caller;
-    caller.tell(rt, calls, text);
+fn write_calls<T: Caller>(
+    rt: &impl Host,
+    of: T::Of,
+    options: &str,
+    calls: &[T::Call],
+    text: &mut String,
+) {
+    match T::make(rt, of, options) {
+        Ok(mut caller) => caller.tell(rt, calls, text),
+        Err(error) => write!(text, "{error}").expect(rt, "memory"),
+    }
 }
 
 /// Writes what a call reports after what the others did.
-pub fn write_told(rt: &impl Host, text: &mut String, told: Told) {
+pub fn write_told(rt: &impl Host, text: &mut String, told: &Told) {
     let before = if text.is_empty() { "" } else { ", " };
     write!(text, "{before}{told}").expect(rt, "memory");
 }
 
 /// The settings of these options.
 pub fn config(rt: &impl Host, options: &str) -> Config {
-    let line = format!(in rt.alloc(); "regex ab {options}").expect(rt, "memory");
-    config_of(rt, line.as_str())
-}
-
-fn config_of(rt: &impl Host, line: &str) -> Config {
-    let script = Script::parse(rt.alloc(), line.trim_end().as_bytes()).expect(rt, "a line");
-    first_config(rt, &script)
-}
-
-fn first_config(rt: &impl Host, script: &Script) -> Config {
-    script.definitions.first().expect(rt, "a regex").config
+    let mut config = Config::new();
+    for option in options.as_bytes().split(|byte| *byte == b' ') {
+        if !option.is_empty() {
+            config = configured(config, option).expect(rt, "an option");
+        }
+    }
+    config
 }
 
 /// How many bytes of memory a block of the room has.
@@ -157,14 +153,8 @@ pub type Refusal = (usize, &'static str);
 /// What a row shows, what is called, its options as a script has them, calls in ample memory, calls in the memory of a
 /// turn, and the failures that are seen. A call that fails is made again with memory. If no failure is named, none
 /// comes, though no memory is left.
-pub type Short<O, C> = (
-    &'static str,
-    O,
-    &'static str,
-    &'static [C],
-    &'static [Owed<C>],
-    &'static [Refusal],
-);
+#[rattlefmt::skip]
+pub type Short<O, C> = (Text, O, Text, &'static [C], &'static [Owed<C>], &'static [Refusal]);
 
 /// The first call of a turn fails.
 pub const ONCE: &[Refusal] = &[(0, "out of memory")];
@@ -259,7 +249,7 @@ impl Turns {
         same_text(rt, self.told.as_str(), owed, shows);
     }
 
-    pub fn hear(&mut self, rt: &impl Host, told: Told) {
+    pub fn hear(&mut self, rt: &impl Host, told: &Told) {
         self.told.clear();
         write!(self.told, "{told}").expect(rt, "memory");
     }
@@ -336,4 +326,5 @@ fn take_turn<T: Caller>(rt: &impl Host, row: &Short<T::Of, T::Call>, turns: &mut
     turns.release();
     let mut caller = T::make(rt, row.1, row.2).expect(rt, "what is called");
     caller.take(rt, row, turns);
+    turns.release();
 }

@@ -1,6 +1,6 @@
 //! The texts of errors.
 
-use super::{Host, same_text};
+use super::{Host, Text, same_text};
 use crate::error::RunError;
 use regex_automata::hybrid::{BuildError, CacheError, SearchError, StartError, StepError};
 use regex_automata::tokens::TokenError;
@@ -11,21 +11,22 @@ use std::fmt::Display;
 pub const UNSUPPORTED: &str =
     "unsupported regex feature for DFAs: cannot build lazy DFAs for regexes with Unicode word boundaries; switch to ASCII word boundaries, or heuristically enable Unicode word boundaries or use a different regex engine";
 
+#[rattlefmt::skip]
+const REFUSED: &[(BuildError, Text)] = &[
+    (BuildError::Unsupported, UNSUPPORTED),
+    (BuildError::InsufficientCacheCapacity { minimum: 1735, given: 1734 },
+        "given cache capacity (1734) is smaller than minimum required (1735)"),
+    (BuildError::InsufficientStateIDCapacity { attempted: 134217728 },
+        "failed to create LazyStateID from 134217728, which exceeds 134217727"),
+    (BuildError::OutOfMemory, "out of memory"),
+    (BuildError::PatternCounts { forward: 2, reverse: 1 }, "forward DFA has 2 patterns and reverse DFA has 1"),
+];
+
 #[test]
 fn prints_refused_builds(rt: HostRuntime) {
-    let (minimum, given, attempted) = (1735, 1734, 134217728);
-    let (forward, reverse) = (2, 1);
-    let too_small = BuildError::InsufficientCacheCapacity { minimum, given };
-    let too_many = BuildError::InsufficientStateIDCapacity { attempted };
-    let unequal = BuildError::PatternCounts { forward, reverse };
-    let small = "given cache capacity (1734) is smaller than minimum required (1735)";
-    let many = "failed to create LazyStateID from 134217728, which exceeds 134217727";
-    prints(&rt, &BuildError::Unsupported, UNSUPPORTED);
-    prints(&rt, &too_small, small);
-    prints(&rt, &too_many, many);
-    prints(&rt, &BuildError::OutOfMemory, "out of memory");
-    let counts = "forward DFA has 2 patterns and reverse DFA has 1";
-    prints(&rt, &unequal, counts);
+    for (error, text) in REFUSED {
+        prints(&rt, error, *text);
+    }
 }
 
 /// The byte of a quit start, as its text shows it.

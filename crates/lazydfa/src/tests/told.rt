@@ -4,44 +4,40 @@ use crate::reply::Line;
 use regex_automata::hybrid::{BuildError, LazyStateID, SearchError, StartError, StepError};
 use regex_automata::replay::Reply;
 use regex_automata::tokens::TokenError;
-use regex_automata::util::primitives::PatternID;
 use regex_automata::util::search::{HalfMatch, Match};
 use std::alloc::AllocError;
 use std::fmt;
 
-/// An item of an iteration, or a token.
-type Token = Result<Match, TokenError>;
-
-/// The same, if there is one.
-pub type Item = Option<Token>;
+/// An item of an iteration, or a token: its pattern, its start and its end.
+pub type Item = Option<Result<(usize, usize, usize), TokenError>>;
 
 /// What is counted of a cache: clears, memory, and bytes searched.
 pub type Counted = (usize, usize, usize);
 
-/// The memory of a cache, and the state to which was stepped.
-pub type Brief = (usize, LazyStateID);
-
 /// What a call reports.
-#[derive(Drop)]
+#[derive(Clone, Copy)]
 pub enum Told {
     Word(&'static str),
-    /// A reply, with text before it and after it.
-    Found(&'static str, Reply, &'static str),
+    /// The match of a search of one DFA.
+    Half(Result<Option<HalfMatch>, SearchError>),
+    /// The match of a regex, with text after it.
+    Span(Result<Option<Match>, SearchError>, &'static str),
+    Truth(Result<bool, SearchError>),
+    /// Patterns, and why there are no more.
+    Names(&'static str, SearchError),
     NoStart(StartError),
     NoStep(StepError),
     Refused(BuildError),
     /// A number, with text before it and after it.
     Number(&'static str, usize, &'static str),
     /// How many patterns, and the last one.
-    Patterns(usize, PatternID),
-    /// The match of a search, and where the last of its spans began.
-    Based(HalfMatch, usize),
+    Patterns(usize, usize),
+    /// The pattern and the end of a match, and where the last of its spans began.
+    Based(usize, usize, usize),
     /// Three numbers, with text after them.
     Counts(Counted, &'static str),
     /// The counts of both parts.
     Parts([Counted; 2]),
-    /// At each of some first steps.
-    Briefs([Option<Brief>; 12]),
     /// Items or tokens.
     Items([Item; 8]),
 }
@@ -49,14 +45,6 @@ pub enum Told {
 impl Told {
     pub fn of_flag(yes: bool) -> Told {
         Told::Word(if yes { "true" } else { "false" })
-    }
-
-    pub fn of_reply(reply: Reply) -> Told {
-        Told::Found("", reply, "")
-    }
-
-    pub fn of_half(found: Result<Option<HalfMatch>, SearchError>) -> Told {
-        Told::of_reply(Reply::Half(found))
     }
 
     pub fn of_start(started: Result<(), StartError>) -> Told {
@@ -95,47 +83,33 @@ impl fmt::Display for Told {
     fn fmt<W: fmt::Write>(&self, f: &mut fmt::Formatter<W>) -> fmt::Result {
         match self {
             Told::Word(word) => write!(f, "{word}"),
-            Told::Found(before, reply, behind) => {
-                let between = if before.is_empty() { "" } else { " " };
-                write!(f, "{before}{between}{}{behind}", Line(reply))
+            Told::Half(found) => write_reply(f, &Reply::Half(*found)),
+            Told::Span(found, behind) => {
+                write_reply(f, &Reply::Span(*found))?;
+                write!(f, "{behind}")
+            }
+            Told::Truth(found) => write_reply(f, &Reply::Truth(*found)),
+            Told::Names(names, error) => {
+                write!(f, "{names} ")?;
+                write_reply(f, &Reply::Half(Err(*error)))
             }
             Told::NoStart(error) => write!(f, "{error}"),
             Told::NoStep(error) => write!(f, "{error}"),
             Told::Refused(error) => write!(f, "{error}"),
             Told::Number(before, number, behind) => write!(f, "{before}{number}{behind}"),
-            Told::Patterns(count, last) => write!(f, "patterns {count} last {}", last.as_usize()),
-            Told::Based(half, place) => {
-                let (pattern, end) = (half.pattern().as_usize(), half.offset());
-                write!(f, "{pattern} {end} at {place}")
-            }
+            Told::Patterns(count, last) => write!(f, "patterns {count} last {last}"),
+            Told::Based(pattern, end, place) => write!(f, "{pattern} {end} at {place}"),
             Told::Counts((first, second, third), behind) => {
                 write!(f, "{first} {second} {third}{behind}")
             }
             Told::Parts([forward, reverse]) => write!(f, "{forward:?} {reverse:?}"),
-            Told::Briefs(briefs) => write_briefs(f, briefs),
             Told::Items(items) => write_items(f, items),
         }
     }
 }
 
-fn write_briefs<W: fmt::Write>(f: &mut fmt::Formatter<W>, briefs: &[Option<Brief>]) -> fmt::Result {
-    let mut before = "";
-    for brief in briefs {
-        write_brief(f, before, *brief)?;
-        before = ", ";
-    }
-    Ok(())
-}
-
-fn write_brief<W: fmt::Write>(
-    f: &mut fmt::Formatter<W>,
-    before: &str,
-    brief: Option<Brief>,
-) -> fmt::Result {
-    match brief {
-        Some((memory, id)) => write!(f, "{before}{memory}{}", letter(id)),
-        None => Ok(()),
-    }
+fn write_reply<W: fmt::Write>(f: &mut fmt::Formatter<W>, reply: &Reply) -> fmt::Result {
+    write!(f, "{}", Line(reply))
 }
 
 /// The items before the end, if any. What comes after the end or an error is reported apart.
@@ -145,7 +119,7 @@ fn write_items<W: fmt::Write>(f: &mut fmt::Formatter<W>, items: &[Item; 8]) -> f
     }
     let mut before = "";
     for item in items {
-        if let Some(item) = item {
+        if let Some(item) = *item {
             write!(f, "{before}")?;
             write_item(f, item)?;
         }
@@ -158,13 +132,13 @@ fn write_items<W: fmt::Write>(f: &mut fmt::Formatter<W>, items: &[Item; 8]) -> f
     Ok(())
 }
 
-fn write_item<W: fmt::Write>(f: &mut fmt::Formatter<W>, item: &Token) -> fmt::Result {
+fn write_item<W: fmt::Write>(
+    f: &mut fmt::Formatter<W>,
+    item: Result<(usize, usize, usize), TokenError>,
+) -> fmt::Result {
     match item {
-        Ok(found) => {
-            let (pattern, span) = (found.pattern().as_usize(), found.span());
-            write!(f, "{pattern} {}..{}", span.start, span.end)
-        }
-        Err(TokenError::Search(error)) => write!(f, "{}", Line(&Reply::Half(Err(*error)))),
+        Ok((pattern, start, end)) => write!(f, "{pattern} {start}..{end}"),
+        Err(TokenError::Search(error)) => write_reply(f, &Reply::Half(Err(error))),
         Err(error) => write!(f, "{error}"),
     }
 }

@@ -11,7 +11,6 @@ use super::told::Told;
 use super::{Host, check};
 use regex_automata::hybrid::dfa::{Cache, DFA, OverlappingState};
 use regex_automata::hybrid::{BuildError, SearchError};
-use regex_automata::replay::Reply;
 use regex_automata::util::search::{Anchored, HalfMatch, Input, PatternSet};
 use std::alloc::Global;
 use std::mem;
@@ -168,8 +167,7 @@ impl Walker {
         requires { IsWalkOver self.old.dfa input.now walk.old }
     {
         for turn in turns {
-            let told = self.turn(rt.alloc(), input, *turn, walk);
-            write_told(rt, text, told);
+            write_told(rt, text, &self.turn(rt.alloc(), input, *turn, walk));
         }
     }
 
@@ -185,20 +183,20 @@ impl Walker {
         requires { IsWalkOver self.old.dfa input.now walk.old }
     {
         for turn in row.3 {
-            turns.hear(rt, self.turn(rt.alloc(), input, *turn, walk));
+            turns.hear(rt, &self.turn(rt.alloc(), input, *turn, walk));
         }
         turns.lend(rt);
         for (number, owed) in row.4.iter().enumerate() {
             let (turn, want) = *owed;
-            turns.hear(rt, self.turn(rt.alloc(), input, turn, walk));
+            turns.hear(rt, &self.turn(rt.alloc(), input, turn, walk));
             if turns.refuses(rt, number, want, row.5) {
-                turns.hear(rt, self.turn(rt.alloc(), input, turn, walk));
+                turns.hear(rt, &self.turn(rt.alloc(), input, turn, walk));
             }
             turns.has_told(rt, want, row.0);
         }
-        turns.release();
     }
 
+    /// What a call reports. A call of the walk may change it, and each other one leaves it unchanged.
     fn turn(
         &mut self,
         alloc: Global,
@@ -210,12 +208,15 @@ impl Walker {
         ensures { IsWalkOver self.new.dfa input.now walk.new }
     {
         match turn {
-            Turn::Next => self.next(input, walk),
+            Turn::Next => {
+                let stepped = step(&self.dfa, &mut self.first, input, walk);
+                told_of_step(stepped, walk.get_match())
+            }
             Turn::Begin => {
                 *walk = OverlappingState::start();
                 Told::Word("-")
             }
-            Turn::Match => Told::of_half(Ok(walk.get_match())),
+            Turn::Match => Told::Half(Ok(walk.get_match())),
             _ => self.call(alloc, input, turn),
         }
     }
@@ -230,8 +231,8 @@ impl Walker {
             Turn::Insert(pattern) => {
                 Told::of_flag(self.set.try_insert(pattern_id(pattern)) == Ok(true))
             }
-            Turn::Fill => self.fill(input),
-            Turn::Find(haystack) => Told::of_half(self.find(&Input::new(haystack.as_bytes()))),
+            Turn::Fill => fill(&self.dfa, &mut self.first, input, &mut self.set),
+            Turn::Find(haystack) => Told::Half(self.find(&Input::new(haystack.as_bytes()))),
             Turn::Switch => {
                 self.switch();
                 Told::Word("-")
@@ -240,15 +241,6 @@ impl Walker {
             Turn::Counts => Told::Counts(counted(&self.first), ""),
             _ => Told::of_flag(Vec::<u8>::with_capacity(alloc, 1).is_ok()),
         }
-    }
-
-    /// The walk's next match. If the call fails, the walk has no match.
-    fn next(&mut self, input: &Input<'_>, walk: &mut OverlappingState) -> Told
-        requires { IsWalkOver self.old.dfa input.now walk.old }
-        ensures { IsWalkOver self.new.dfa input.now walk.new }
-    {
-        let stepped = step(&self.dfa, &mut self.first, input, walk);
-        told_of_step(stepped, walk.get_match())
     }
 
     /// Searches in the direction of the NFA.
@@ -269,29 +261,9 @@ impl Walker {
         ensures { self.new.dfa ≡ self.old.dfa }
     {
         match PatternSet::new(alloc, capacity) {
-            Ok(mut set) => self.join(input, &mut set, given),
+            Ok(mut set) => join(&self.dfa, &mut self.first, input, &mut set, given),
             Err(_) => Told::Refused(BuildError::OutOfMemory),
         }
-    }
-
-    /// Adds the patterns of all matches to a set, and first one that is given.
-    fn join(&mut self, input: &Input<'_>, set: &mut PatternSet, given: Option<u8>) -> Told
-        ensures { self.new.dfa ≡ self.old.dfa }
-    {
-        if let Some(pattern) = given {
-            let _ = set.try_insert(pattern_id(pattern));
-        }
-        let dfa = &self.dfa;
-        let filled = dfa.try_which_overlapping_matches(&mut self.first, input, set);
-        told_of(filled, set)
-    }
-
-    fn fill(&mut self, input: &Input<'_>) -> Told
-        ensures { self.new.dfa ≡ self.old.dfa }
-    {
-        let dfa = &self.dfa;
-        let filled = dfa.try_which_overlapping_matches(&mut self.first, input, &mut self.set);
-        told_of(filled, &self.set)
     }
 
     /// The patterns of all matches that are below a capacity, as far as they are among the first ones.
@@ -351,17 +323,38 @@ fn step(
 fn told_of_step(stepped: Result<(), SearchError>, found: Option<HalfMatch>) -> Told {
     match stepped {
         Err(_) if found.is_some() => Told::Word("a refusal with a match"),
-        Err(error) => Told::of_half(Err(error)),
-        Ok(()) => Told::of_half(Ok(found)),
+        Err(error) => Told::Half(Err(error)),
+        Ok(()) => Told::Half(Ok(found)),
     }
 }
 
-/// The patterns that a set has, and why it has no more.
-fn told_of(filled: Result<(), SearchError>, set: &PatternSet) -> Told {
+/// Adds the patterns of all matches to a set, and first one that is given.
+fn join(
+    dfa: &DFA,
+    cache: &mut Cache,
+    input: &Input<'_>,
+    set: &mut PatternSet,
+    given: Option<u8>,
+) -> Told
+    requires { IsCacheOf cache.old dfa.now }
+    ensures { IsCacheOf cache.new dfa.now }
+{
+    if let Some(pattern) = given {
+        let _ = set.try_insert(pattern_id(pattern));
+    }
+    fill(dfa, cache, input, set)
+}
+
+/// Adds the patterns of all matches to a set. It returns those that the set has then, and why it has no more.
+fn fill(dfa: &DFA, cache: &mut Cache, input: &Input<'_>, set: &mut PatternSet) -> Told
+    requires { IsCacheOf cache.old dfa.now }
+    ensures { IsCacheOf cache.new dfa.now }
+{
+    let filled = dfa.try_which_overlapping_matches(cache, input, set);
     let names = names(firsts_of(set));
     match filled {
         Ok(()) => Told::Word(names),
-        Err(error) => Told::Found(names, Reply::Half(Err(error)), ""),
+        Err(error) => Told::Names(names, error),
     }
 }
 
