@@ -33,7 +33,7 @@ pub fn costs_are_few()
 pub fn known_stays(dfa: &DFA)
     ensures { KnownStays dfa.now }
 {
-    dfa.see_classes();
+    dfa.see_machine();
 }
 
 /// Where no place is skipped, what a search by steps answers at its first match, or at the end of the span, is what

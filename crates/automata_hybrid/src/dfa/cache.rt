@@ -180,7 +180,7 @@ impl Cache {
         ensures state { (q : Powerset) → Names self.now.store.table id q → result.value ≡ q }
         ensures row { IsRowState self.now.store.table.of result.value }
     {
-        self.see_ids();
+        self.see_store();
         Snapshot::of(self.store.table.state(id))
     }
 
@@ -197,9 +197,9 @@ impl Cache {
         ensures err { OnErr result (self.new ≡ self.old) }
         ensures progress { KeepsProgress self.old.store self.new.store }
     {
-        self.see_ids();
+        self.see_store();
         let id = self.add_start(dfa, state, false)?;
-        self.see_ids();
+        self.see_store();
         Ok(id)
     }
 
@@ -227,7 +227,7 @@ impl Cache {
         ensures own { (q : Powerset) → Names self.now.store.table id q → IsOwn self.now.store.table.of.nfa q }
         ensures stride { table_stride self.now.store.table.of ≤ 512 }
     {
-        self.see_ids();
+        self.see_store();
         self.store.table.cell(id, class)
     }
 
@@ -243,7 +243,7 @@ impl Cache {
         ensures own { (q : Powerset) → Names self.now.store.table id q → IsOwn self.now.store.table.of.nfa q }
         ensures stride { table_stride self.now.store.table.of ≤ 512 }
     {
-        self.see_ids();
+        self.see_store();
         self.store.table.cell_in_row(id, row, class)
     }
 
@@ -259,8 +259,8 @@ impl Cache {
         self.store.table.set_cell(id, class, next);
     }
 
-    /// Adds a state that the cache lacks, stepped to from a row; clears first where it does not fit. It answers the
-    /// row's ID as it is now, and the new one. A refusal changes nothing.
+    /// Adds a state that the cache lacks, stepped to from a row; clears first if it does not fit. It returns the
+    /// row's ID as it is now, and the new one. An error changes nothing.
     pub(crate) fn add_next(
         &mut self,
         dfa: &DFA,
@@ -292,7 +292,7 @@ impl Cache {
         ensures leads { MayLead self.now.store.table result (start_of self.now.store.table.of slot) }
         ensures tag { HasItsMatchTag self.now.store.table result }
     {
-        self.see_ids();
+        self.see_store();
         self.store.starts[slot]
     }
 
@@ -322,7 +322,7 @@ impl Cache {
         ensures written { slice_index self.new.store.starts slot ≡ id }
         ensures found { slice_index self.new.store.starts slot < unknown_id }
     {
-        self.see_ids();
+        self.see_store();
         self.store.starts[slot] = id;
     }
 
@@ -357,7 +357,7 @@ impl Cache {
     }
 
     /// What is true of each cache. It does nothing.
-    pub(crate) fn see_ids(&self)
+    pub(crate) fn see_store(&self)
         ensures { IsSoundStore self.now.store }
     {
         let _clears = self.store.clears;

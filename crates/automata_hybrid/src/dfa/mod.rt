@@ -237,7 +237,7 @@ impl DFA {
     }
 
     /// What is true of each DFA. It does nothing.
-    pub(crate) fn see_classes(&self)
+    pub(crate) fn see_machine(&self)
         ensures machine { IsMachine self.now }
         ensures rising { AreClasses self.now.classes }
         ensures bytes { (byte : ℕ) → byte < 256 → class_in self.now.classes byte < table_stride self.now }

@@ -37,7 +37,7 @@ impl Cache {
         ensures refusal { IfErr result (IsStartRefused dfa.now mode prev self.old self.new) }
         ensures effect { IsStartEffect dfa.now mode prev self.old self.new }
     {
-        self.see_ids();
+        self.see_store();
         let found = self.start_slot(slot);
         if !found.is_unknown() {
             return Ok(found);
@@ -65,18 +65,18 @@ impl Cache {
         ensures refusal { IfErr result (λ e. IsStartRefused dfa.now mode prev self.old self.new (start_refusal e)) }
         ensures effect { IsStartEffect dfa.now mode prev self.old self.new }
     {
-        self.see_ids();
+        self.see_store();
         let key = self.determinize_start(dfa, mode, prev)?;
         match self.resolve(dfa, key)? {
             Found::Known(id) => {
                 self.set_start(slot, id);
-                self.see_ids();
+                self.see_store();
                 Ok(id)
             }
             Found::New(state) => {
                 let id = self.add_start(dfa, state, dfa.specializes())?;
                 self.set_start(slot, id);
-                self.see_ids();
+                self.see_store();
                 Ok(id)
             }
         }
@@ -121,7 +121,7 @@ impl DFA {
         ensures value { result ≡ group * 6 + behind_of self.now.nfa.flags.line_terminator prev }
         ensures within { result < slot_count self.now }
     {
-        self.see_classes();
+        self.see_machine();
         group * 6 + self.behind(prev)
     }
 
@@ -137,7 +137,7 @@ impl DFA {
         ensures refused { (result ≡ Err (StartError.UnsupportedAnchored mode)) ↔ (supports self.now mode ≡ false) }
         ensures only { IfErr result (λ e. e ≡ StartError.UnsupportedAnchored mode) }
     {
-        self.see_classes();
+        self.see_machine();
         match mode {
             Anchored::No => Ok(Some(self.slot(0, prev))),
             Anchored::Yes => Ok(Some(self.slot(1, prev))),
@@ -209,7 +209,7 @@ impl DFA {
         if let Some(byte) = self.quits_behind(config.get_look_behind()) {
             return Err(StartError::Quit { byte });
         }
-        cache.see_ids();
+        cache.see_store();
         match self.mode_slot(config.get_anchored(), config.get_look_behind())? {
             None => Ok(cache.dead()),
             Some(slot) => cache.start(self, slot, config.get_anchored(), config.get_look_behind()),
@@ -249,7 +249,7 @@ impl DFA {
         let config = start::Config::from_input_forward(input);
         match self.start_state(cache, &config) {
             Ok(id) => {
-                cache.see_ids();
+                cache.see_store();
                 Ok(id)
             }
             Err(error) => Err(search_refusal(

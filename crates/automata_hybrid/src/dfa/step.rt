@@ -36,7 +36,7 @@ impl Cache {
         ensures effect { IsStepEffect dfa.now id unit self.old self.new }
         ensures stands { IfOk result (StepsOn dfa.now self.old self.new id unit) }
     {
-        self.see_ids();
+        self.see_store();
         if id.is_fixed() {
             return Ok(id);
         }
@@ -46,7 +46,7 @@ impl Cache {
             return Ok(cell);
         }
         let next = self.compute_next(dfa, id, unit)?;
-        self.see_ids();
+        self.see_store();
         Ok(next)
     }
 
@@ -67,19 +67,19 @@ impl Cache {
         ensures refusal { IfErr result (IsStepRefused dfa.now id unit self.old self.new) }
         ensures effect { IsStepEffect dfa.now id unit self.old self.new }
     {
-        self.see_ids();
+        self.see_store();
         let class = dfa.unit_class(unit);
         let key = self.determinize(dfa, id, class, unit)?;
         match self.resolve(dfa, key)? {
             Found::Known(to) => {
                 self.set_next(id, class, to);
-                self.see_ids();
+                self.see_store();
                 Ok(to)
             }
             Found::New(state) => {
                 let (from, to) = self.add_next(dfa, id, state)?;
                 self.set_next(from, class, to);
-                self.see_ids();
+                self.see_store();
                 Ok(to)
             }
         }
@@ -201,7 +201,7 @@ impl DFA {
         ensures number { (q : Powerset) → Names cache.now.store.table id q → result ≡ length q.patterns }
         ensures some { 0 < result }
     {
-        cache.see_ids();
+        cache.see_store();
         cache.match_len(id)
     }
 
@@ -222,7 +222,7 @@ impl DFA {
         requires index { (q : Powerset) → Names cache.now.store.table id q → index < length q.patterns }
         ensures { (q : Powerset) → Names cache.now.store.table id q → result ≡ slice_index q.patterns index }
     {
-        cache.see_ids();
+        cache.see_store();
         cache.match_pattern(id, index)
     }
 }

@@ -111,7 +111,7 @@ impl DFA {
             → (Skips self.now × (is_split input.now.haystack (offset_in (way_of way) input.now place) ≡ true))
             ⊎ ((q : Powerset) → Names cache.now.store.table id q → q.patterns ≡ []) }
     {
-        cache.see_ids();
+        cache.see_store();
         if !id.is_match() {
             return false;
         }
@@ -166,7 +166,7 @@ impl DFA {
         while read <= last {
             let stop = self.follow_walk(cache, input, way, read, id);
             let next = self.read_unit(cache, input, way, stop.id, stop.at)?;
-            cache.see_ids();
+            cache.see_store();
             if next.is_dead() {
                 return Ok(Arrival {
                     id: None,

@@ -255,7 +255,7 @@ impl DFA {
             → to ≡ known_step self.now cache.now.store id (next (tape_in (way_of way) input.now) place)
             → IsFollowed (way_of way) self.now cache.now.store input.now place (place + 1) to }
     {
-        self.see_classes();
+        self.see_machine();
         let _next = self.next_state_known(cache, id, byte_at(input, way, place));
     }
 

@@ -43,8 +43,8 @@ impl DFA {
         requires within { to ≤ 256 }
         ensures { IsTrue result → (byte : ℕ) → from ≤ byte → byte < to → LoopsOn self.now cache.now.store id byte }
     {
-        self.see_classes();
-        cache.see_ids();
+        self.see_machine();
+        cache.see_store();
         if from >= to {
             return true;
         }

@@ -139,7 +139,7 @@ impl DFA {
         if met.is_unknown() {
             return self.step(cache, id, byte, at);
         }
-        cache.see_ids();
+        cache.see_store();
         let _cell = cache.cell(id, self.class_of(byte));
         Ok(met)
     }
@@ -165,11 +165,11 @@ impl DFA {
         ensures effect { IsReadEffect self.now id (Some byte) cache.old cache.new result }
         ensures step { IsReadStep self.now id (Some byte) at cache.old.store cache.new.store result }
     {
-        self.see_classes();
-        cache.see_ids();
+        self.see_machine();
+        cache.see_store();
         cache.move_search(at);
         let next = self.step_met(cache, id, met, byte, at)?;
-        cache.see_ids();
+        cache.see_store();
         if next.is_quit() {
             cache.end_search(at);
             return Err(quit(byte, quit_at));
@@ -222,12 +222,12 @@ impl DFA {
         ensures taken { IfOk result (IsStepTaken self.now id unit cache.old.store cache.new.store) }
         ensures kept { OnErr result (cache.new.store ≡ cache.old.store) }
     {
-        self.see_classes();
-        cache.see_ids();
+        self.see_machine();
+        cache.see_store();
         match unit {
             Some(byte) => {
                 let next = self.step(cache, id, byte, at)?;
-                cache.see_ids();
+                cache.see_store();
                 if next.is_quit() {
                     return Err(quit(byte, quit_at));
                 }
@@ -253,8 +253,8 @@ impl DFA {
         ensures taken { IfOk result (IsStepTaken self.now id None cache.old.store cache.new.store) }
         ensures kept { OnErr result (cache.new.store ≡ cache.old.store) }
     {
-        self.see_classes();
-        cache.see_ids();
+        self.see_machine();
+        cache.see_store();
         match self.next_eoi_state(cache, id) {
             Ok(next) => Ok(next),
             Err(error) => Err(refusal(error, at)),
@@ -268,7 +268,7 @@ impl DFA {
         requires tagged { HasMatchTag id }
         ensures { (q : Powerset) → Names cache.now.store.table id q → result ≡ slice_index q.patterns 0 }
     {
-        cache.see_ids();
+        cache.see_store();
         if self.pattern_len() == 1 {
             return PatternID::ZERO;
         }
@@ -287,7 +287,7 @@ impl DFA {
         requires leads { (q : Powerset) × Leads cache.now.store.table id q }
         ensures { (q : Powerset) → Leads cache.now.store.table id q → result ≡ half_at q.patterns at found }
     {
-        cache.see_ids();
+        cache.see_store();
         if id.is_fixed() {
             return found;
         }

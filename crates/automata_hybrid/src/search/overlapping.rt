@@ -164,7 +164,7 @@ impl DFA {
         let from = self.resume(cache, input, way, walk, held)?;
         let place = span_offset(input, way, walk.units());
         cache.search_start(place);
-        cache.see_ids();
+        cache.see_store();
         if from.is_dead() {
             cache.end_search(place);
             walk.end(walk.units());

@@ -55,7 +55,7 @@ impl DFA {
     {
         cache.see_bounds();
         let start = self.walk_start(cache, input, way)?;
-        cache.see_ids();
+        cache.see_store();
         if keeps_none(input, way) {
             if start.is_dead() {
                 return Ok(None);
@@ -115,7 +115,7 @@ impl DFA {
                 next: quiet.next,
             };
         }
-        cache.see_ids();
+        cache.see_store();
         let offset = place_offset(input, way, stop.at - 1);
         Place {
             at: stop.at,
@@ -155,7 +155,7 @@ impl DFA {
             let offset = byte_offset(input, way, run.at);
             let byte = byte_at(input, way, run.at);
             let next = self.read_met(cache, run.id, run.next, byte, offset, offset)?;
-            cache.see_ids();
+            cache.see_store();
             if next.is_dead() {
                 cache.end_search(offset);
                 return Ok(run.found);

@@ -2,4 +2,4 @@ use Rattle.automata_hybrid.proofs.Staying.{known_stays}
 use Rattle.automata_hybrid.proofs.laws.known_stays.Goals as goal
 
 pub returns : goal.returns
-returns c = known_stays c.args.dfa.now c.see_classes.ensures.bytes c.see_classes.ensures.end
+returns c = known_stays c.args.dfa.now c.see_machine.ensures.bytes c.see_machine.ensures.end

@@ -85,7 +85,7 @@ returns-then-is_dead-clause-answer c =
     let at : IsAt d c.args.self.now c.loop-at.cache.store.table c.args.input.now k c.run-run.result.id c.run-run.result.found = c.run-run.ensures.at in
     let read : next (tape_in d c.args.input.now) k ≡ Some c.byte_at-byte.result = c.byte_at-byte.ensures in
     let few : k ≤ length (tape_in d c.args.input.now).bytes = (let u = units_in d c.args.input.now c.requires.at.undone c.last_place-last.ensures.inside in omega (arith, u, inside)) in
-    dead_answer d c.args.self.now c.args.input.now k c.run-run.result.id _ c.run-run.result.found c.loop-at.cache c.loop-at.cache c.read_met.new.cache c.end_search.new.self {s = c.loop-at.cache.store.searched} refl c.end_search.ensures.value (record { undone = c.requires.at.undone; may = c.requires.at.may; at = at }) read c.in_ok-next.next None c.in_ok-next.ensures.answer (λ l. (dead_tagged c.read_met.new.cache.store.table c.in_ok-next.next (c.see_ids.ensures.low c.in_ok-next.next) c.see_ids.ensures.small _ l).0 (c.if-is_dead.ensures.0 refl)) few
+    dead_answer d c.args.self.now c.args.input.now k c.run-run.result.id _ c.run-run.result.found c.loop-at.cache c.loop-at.cache c.read_met.new.cache c.end_search.new.self {s = c.loop-at.cache.store.searched} refl c.end_search.ensures.value (record { undone = c.requires.at.undone; may = c.requires.at.may; at = at }) read c.in_ok-next.next None c.in_ok-next.ensures.answer (λ l. (dead_tagged c.read_met.new.cache.store.table c.in_ok-next.next (c.see_store.ensures.low c.in_ok-next.next) c.see_store.ensures.small _ l).0 (c.if-is_dead.ensures.0 refl)) few
 
 pub returns-then-is_dead-clause-effect : goal.returns-then-is_dead-clause-effect
 returns-then-is_dead-clause-effect c =
@@ -98,7 +98,7 @@ returns-then-is_dead-clause-effect c =
     rest_then d c.args.self.now c.args.input.now k c.args.cache.now c.loop-at.cache c.loop-at.cache c.end_search.new.self {s = c.loop-at.cache.store.searched} _ refl (omega (arith, inside))
     c.loop-at.invariant.grown (omega (arith, c.loop-at.invariant.counted, c.run-run.ensures.from)) c.loop-at.invariant.idle (λ begin nothing. (let had = c.loop-at.invariant.learned begin nothing in (had.0, c.run-run.ensures.learned had.1)))
     (rest_read d c.args.self.now c.args.input.now k c.run-run.result.id _ c.run-run.result.found c.loop-at.cache c.loop-at.cache c.read_met.new.cache c.end_search.new.self {s = c.loop-at.cache.store.searched} refl c.end_search.ensures.value (record { undone = c.requires.at.undone; may = c.requires.at.may; at = at }) read c.in_ok-next.next _ c.in_ok-next.ensures.effect c.in_ok-next.ensures.of (omega (arith, inside)) few
-    (dead_stops d c.args.self.now c.args.input.now k c.run-run.result.id _ c.run-run.result.found c.loop-at.cache c.loop-at.cache c.read_met.new.cache c.end_search.new.self {s = c.loop-at.cache.store.searched} refl c.end_search.ensures.value (record { undone = c.requires.at.undone; may = c.requires.at.may; at = at }) read c.in_ok-next.next None c.in_ok-next.ensures.answer (λ l. (dead_tagged c.read_met.new.cache.store.table c.in_ok-next.next (c.see_ids.ensures.low c.in_ok-next.next) c.see_ids.ensures.small _ l).0 (c.if-is_dead.ensures.0 refl))))
+    (dead_stops d c.args.self.now c.args.input.now k c.run-run.result.id _ c.run-run.result.found c.loop-at.cache c.loop-at.cache c.read_met.new.cache c.end_search.new.self {s = c.loop-at.cache.store.searched} refl c.end_search.ensures.value (record { undone = c.requires.at.undone; may = c.requires.at.may; at = at }) read c.in_ok-next.next None c.in_ok-next.ensures.answer (λ l. (dead_tagged c.read_met.new.cache.store.table c.in_ok-next.next (c.see_store.ensures.low c.in_ok-next.next) c.see_store.ensures.small _ l).0 (c.if-is_dead.ensures.0 refl))))
 
 pub found_at-found-requires-clause-leads : goal.found_at-found-requires-clause-leads
 found_at-found-requires-clause-leads c =
@@ -163,7 +163,7 @@ loop-at-preserved c =
           (c.run-run.ensures.learned before.1) at.named read (c.in_ok-next.ensures.effect.learned after) c.in_ok-next.ensures.effect.below in
           (step.0, subst (HasLearned d c.args.self.now c.read_met.new.cache.store c.args.input.now) more step.1));
       within = omega (arith, inside);
-      at = subst (λ n. IsAt d c.args.self.now c.read_met.new.cache.store.table c.args.input.now n c.in_ok-next.next c.found_at-found.result) more (more_at d c.args.self.now c.loop-at.cache.store.table c.read_met.new.cache.store.table c.args.input.now k c.run-run.result.id c.in_ok-next.next _ c.run-run.result.found c.found_at-found.result at read c.in_ok-next.ensures.answer.named (quit_free c.args.self.now _ c.in_ok-next.ensures.answer.clean) (c.place_offset.result, c.place_offset.ensures, c.found_at-found.ensures) first (λ l. (dead_tagged c.read_met.new.cache.store.table c.in_ok-next.next (c.see_ids.ensures.low c.in_ok-next.next) c.see_ids.ensures.small _ l).1 (λ b. false_true (c.if-is_dead.ensures.1 b))));
+      at = subst (λ n. IsAt d c.args.self.now c.read_met.new.cache.store.table c.args.input.now n c.in_ok-next.next c.found_at-found.result) more (more_at d c.args.self.now c.loop-at.cache.store.table c.read_met.new.cache.store.table c.args.input.now k c.run-run.result.id c.in_ok-next.next _ c.run-run.result.found c.found_at-found.result at read c.in_ok-next.ensures.answer.named (quit_free c.args.self.now _ c.in_ok-next.ensures.answer.clean) (c.place_offset.result, c.place_offset.ensures, c.found_at-found.ensures) first (λ l. (dead_tagged c.read_met.new.cache.store.table c.in_ok-next.next (c.see_store.ensures.low c.in_ok-next.next) c.see_store.ensures.small _ l).1 (λ b. false_true (c.if-is_dead.ensures.1 b))));
       progress = subst (λ n. AreReadTo d c.args.self.now c.args.input.now 0 n c.args.cache.now.store c.read_met.new.cache.store) more
           (read_then d c.args.self.now c.args.input.now 0 c.args.cache.now.store c.loop-at.at k c.loop-at.cache.store c.loop-at.invariant.progress c.run-run.ensures.from c.run-run.ensures.known c.read_met.new.cache.store
           (taken_here d c.args.self.now c.args.input.now k c.run-run.result.id c.byte_offset-offset.result (Some _) c.loop-at.cache.store at.named read given c.read_met.new.cache.store c.in_ok-next.next c.in_ok-next.ensures.step.taken));
@@ -235,7 +235,7 @@ returns-then-is_dead-clause-ended c =
     let given : given_up_offset d c.args.input.now k ≡ c.byte_offset-offset.result = span_unit d c.args.input.now k inside ∙ sym c.byte_offset-offset.ensures.unit in
     let read : next (tape_in d c.args.input.now) k ≡ Some c.byte_at-byte.result = c.byte_at-byte.ensures in
     let few : k ≤ length (tape_in d c.args.input.now).bytes = (let u = units_in d c.args.input.now c.requires.at.undone c.last_place-last.ensures.inside in omega (arith, u, inside)) in
-    let stops : Reads d c.args.self.now c.args.input.now (suc k) → ⊥ = stops_dead d c.args.self.now c.loop-at.cache.store.table c.read_met.new.cache.store.table c.args.input.now k c.run-run.result.id c.in_ok-next.next _ c.run-run.result.found None at read c.in_ok-next.ensures.answer.named (quit_free c.args.self.now _ c.in_ok-next.ensures.answer.clean) (λ l. (dead_tagged c.read_met.new.cache.store.table c.in_ok-next.next (c.see_ids.ensures.low c.in_ok-next.next) c.see_ids.ensures.small _ l).0 (c.if-is_dead.ensures.0 refl)) (suc k) (omega arith) in
+    let stops : Reads d c.args.self.now c.args.input.now (suc k) → ⊥ = stops_dead d c.args.self.now c.loop-at.cache.store.table c.read_met.new.cache.store.table c.args.input.now k c.run-run.result.id c.in_ok-next.next _ c.run-run.result.found None at read c.in_ok-next.ensures.answer.named (quit_free c.args.self.now _ c.in_ok-next.ensures.answer.clean) (λ l. (dead_tagged c.read_met.new.cache.store.table c.in_ok-next.next (c.see_store.ensures.low c.in_ok-next.next) c.see_store.ensures.small _ l).0 (c.if-is_dead.ensures.0 refl)) (suc k) (omega arith) in
     pass_last d c.args.self.now c.args.input.now k c.args.cache.now.store c.read_met.new.cache.store c.end_search.new.self.store
     (at_reads d c.args.self.now c.loop-at.cache.store.table c.args.input.now k c.run-run.result.id c.run-run.result.found at few c.in_ok-next.ensures.effect.alive) stops
     (read_then d c.args.self.now c.args.input.now 0 c.args.cache.now.store c.loop-at.at k c.loop-at.cache.store c.loop-at.invariant.progress c.run-run.ensures.from c.run-run.ensures.known c.read_met.new.cache.store

@@ -33,6 +33,6 @@ returns-else-pattern-pattern_len-clause-slot c =
 pub returns-then-pattern-pattern_len-clause-behind : goal.returns-then-pattern-pattern_len-clause-behind
 returns-then-pattern-pattern_len-clause-behind c =
     let k : ℕ = behind_of c.args.self.now.nfa.flags.line_terminator c.args.prev in
-    let few : slot_count c.args.self.now ≤ 12 + 6 * length c.args.self.now.nfa.start_pattern = few_slots c.args.self.now.nfa (starts_for_each_pattern_of c.args.self.now.config) (slot_count c.args.self.now) c.see_classes.ensures.number in
+    let few : slot_count c.args.self.now ≤ 12 + 6 * length c.args.self.now.nfa.start_pattern = few_slots c.args.self.now.nfa (starts_for_each_pattern_of c.args.self.now.config) (slot_count c.args.self.now) c.see_machine.ensures.number in
     let past : slot_count c.args.self.now ≤ suc (suc c.in-Pattern.pattern) * 6 + k = omega (arith, few, c.if-pattern-pattern_len.true, c.pattern_len.ensures, c.as_usize-pattern.ensures.value) in
     subst (λ (m : Anchored). slot_count c.args.self.now ≤ slot_of m k) (sym c.in-Pattern.is) past

@@ -23,13 +23,13 @@ use Rattle.automata_hybrid.proofs.dfa.DFA.pass.Goals as goal
 pub returns-then-is_dead-clause-answer : goal.returns-then-is_dead-clause-answer
 returns-then-is_dead-clause-answer c =
     let d : Direction = way_of c.args.way in
-    let dies : state_in d c.args.self.now c.args.input.now 0 ≡ dead = begins_dead d c.args.self.now c.walk_start.new.cache.store.table c.args.input.now c.in_ok-start.start c.in_ok-start.ensures.answer.named (c.see_ids.ensures.low c.in_ok-start.start) c.see_ids.ensures.small (c.if-is_dead.ensures.0 refl) in
+    let dies : state_in d c.args.self.now c.args.input.now 0 ≡ dead = begins_dead d c.args.self.now c.walk_start.new.cache.store.table c.args.input.now c.in_ok-start.start c.in_ok-start.ensures.answer.named (c.see_store.ensures.low c.in_ok-start.start) c.see_store.ensures.small (c.if-is_dead.ensures.0 refl) in
     record { found = starts_dead d c.args.self.now c.args.input.now dies; clean = clean_start d c.args.self.now c.args.input.now dies c.in_ok-start.ensures.answer.may.0; supported = c.in_ok-start.ensures.answer.may.1 }
 
 pub returns-then-is_dead-2-clause-answer : goal.returns-then-is_dead-2-clause-answer
 returns-then-is_dead-2-clause-answer c =
     let d : Direction = way_of c.args.way in
-    let dies : state_in d c.args.self.now c.args.input.now 0 ≡ dead = begins_dead d c.args.self.now c.walk_start.new.cache.store.table c.args.input.now c.in_ok-start.start c.in_ok-start.ensures.answer.named (c.see_ids.ensures.low c.in_ok-start.start) c.see_ids.ensures.small (c.if-is_dead-2.ensures.0 refl) in
+    let dies : state_in d c.args.self.now c.args.input.now 0 ≡ dead = begins_dead d c.args.self.now c.walk_start.new.cache.store.table c.args.input.now c.in_ok-start.start c.in_ok-start.ensures.answer.named (c.see_store.ensures.low c.in_ok-start.start) c.see_store.ensures.small (c.if-is_dead-2.ensures.0 refl) in
     record { found = starts_dead d c.args.self.now c.args.input.now dies; clean = clean_start d c.args.self.now c.args.input.now dies c.in_ok-start.ensures.answer.may.0; supported = c.in_ok-start.ensures.answer.may.1 }
 
 pub find-requires-clause-at : goal.find-requires-clause-at
@@ -40,7 +40,7 @@ find-requires-clause-at c =
       may = c.in_ok-start.ensures.answer.may;
       at = starts_at d c.args.self.now c.search_start.new.self.store.table c.args.input.now c.in_ok-start.start
           (subst (λ (t : Rows). Names t c.in_ok-start.start (state_in d c.args.self.now c.args.input.now 0)) (sym c.search_start.ensures.table)
-          (begins_alive d c.args.self.now c.walk_start.new.cache.store.table c.args.input.now c.in_ok-start.start c.in_ok-start.ensures.answer.named (c.see_ids.ensures.low c.in_ok-start.start) c.see_ids.ensures.small (λ b. false_true (c.if-is_dead-2.ensures.1 b))));
+          (begins_alive d c.args.self.now c.walk_start.new.cache.store.table c.args.input.now c.in_ok-start.start c.in_ok-start.ensures.answer.named (c.see_store.ensures.low c.in_ok-start.start) c.see_store.ensures.small (λ b. false_true (c.if-is_dead-2.ensures.1 b))));
     }
 
 pub find_still-requires-clause-at : goal.find_still-requires-clause-at
@@ -50,7 +50,7 @@ find_still-requires-clause-at c =
       undone = c.requires.«open»;
       may = c.in_ok-start.ensures.answer.may;
       at = starts_at d c.args.self.now c.walk_start.new.cache.store.table c.args.input.now c.in_ok-start.start
-          (begins_alive d c.args.self.now c.walk_start.new.cache.store.table c.args.input.now c.in_ok-start.start c.in_ok-start.ensures.answer.named (c.see_ids.ensures.low c.in_ok-start.start) c.see_ids.ensures.small (λ b. false_true (c.if-is_dead.ensures.1 b)));
+          (begins_alive d c.args.self.now c.walk_start.new.cache.store.table c.args.input.now c.in_ok-start.start c.in_ok-start.ensures.answer.named (c.see_store.ensures.low c.in_ok-start.start) c.see_store.ensures.small (λ b. false_true (c.if-is_dead.ensures.1 b)));
     }
 
 pub returns-in_err-start-clause-effect : goal.returns-in_err-start-clause-effect
@@ -63,7 +63,7 @@ returns-in_err-start-clause-effect c =
 pub returns-then-is_dead-clause-effect : goal.returns-then-is_dead-clause-effect
 returns-then-is_dead-clause-effect c =
     let d : Direction = way_of c.args.way in
-    let dies : state_in d c.args.self.now c.args.input.now 0 ≡ dead = begins_dead d c.args.self.now c.walk_start.new.cache.store.table c.args.input.now c.in_ok-start.start c.in_ok-start.ensures.answer.named (c.see_ids.ensures.low c.in_ok-start.start) c.see_ids.ensures.small (c.if-is_dead.ensures.0 refl) in
+    let dies : state_in d c.args.self.now c.args.input.now 0 ≡ dead = begins_dead d c.args.self.now c.walk_start.new.cache.store.table c.args.input.now c.in_ok-start.start c.in_ok-start.ensures.answer.named (c.see_store.ensures.low c.in_ok-start.start) c.see_store.ensures.small (c.if-is_dead.ensures.0 refl) in
     pass_rest d c.args.self.now c.args.input.now c.in_ok-start.start c.args.cache.now c.walk_start.new.cache c.walk_start.new.cache c.walk_start.new.cache {s = c.walk_start.new.cache.store.searched} _ (c.see_bounds.ensures.slots ∙ ap (λ (d : Machine). slot_count d) c.requires.of)
     c.in_ok-start.ensures.answer c.in_ok-start.ensures.effect refl
     (rest_dead d c.args.self.now c.args.input.now c.walk_start.new.cache c.walk_start.new.cache {s = c.walk_start.new.cache.store.searched} _ refl dies) (
@@ -78,7 +78,7 @@ returns-then-is_dead-2-clause-effect c =
     let d : Direction = way_of c.args.way in
     let begins : c.search_start.new.self.store ≡ with_search_begun d c.args.input.now 0 c.walk_start.new.cache.store =
     subst (λ at. c.search_start.new.self.store ≡ with_searched c.walk_start.new.cache.store (started c.walk_start.new.cache.store.searched at)) c.span_offset-first.ensures (ap (λ (v : CacheView). v.store) c.search_start.ensures.value) in
-    let dies : state_in d c.args.self.now c.args.input.now 0 ≡ dead = begins_dead d c.args.self.now c.walk_start.new.cache.store.table c.args.input.now c.in_ok-start.start c.in_ok-start.ensures.answer.named (c.see_ids.ensures.low c.in_ok-start.start) c.see_ids.ensures.small (c.if-is_dead-2.ensures.0 refl) in
+    let dies : state_in d c.args.self.now c.args.input.now 0 ≡ dead = begins_dead d c.args.self.now c.walk_start.new.cache.store.table c.args.input.now c.in_ok-start.start c.in_ok-start.ensures.answer.named (c.see_store.ensures.low c.in_ok-start.start) c.see_store.ensures.small (c.if-is_dead-2.ensures.0 refl) in
     pass_rest d c.args.self.now c.args.input.now c.in_ok-start.start c.args.cache.now c.walk_start.new.cache c.search_start.new.self c.end_search.new.self _ (c.see_bounds.ensures.slots ∙ ap (λ (d : Machine). slot_count d) c.requires.of)
     c.in_ok-start.ensures.answer c.in_ok-start.ensures.effect c.search_start.ensures.value
     (rest_dead d c.args.self.now c.args.input.now c.search_start.new.self c.end_search.new.self _ c.end_search.ensures.value dies) (
@@ -100,7 +100,7 @@ returns-then-keeps_none-clause-effect c =
     let reads : Reads d c.args.self.now c.args.input.now 0 =
     at_reads d c.args.self.now c.walk_start.new.cache.store.table c.args.input.now 0 c.in_ok-start.start None
     (starts_at d c.args.self.now c.walk_start.new.cache.store.table c.args.input.now c.in_ok-start.start
-    (begins_alive d c.args.self.now c.walk_start.new.cache.store.table c.args.input.now c.in_ok-start.start c.in_ok-start.ensures.answer.named (c.see_ids.ensures.low c.in_ok-start.start) c.see_ids.ensures.small (λ b. false_true (c.if-is_dead.ensures.1 b))))
+    (begins_alive d c.args.self.now c.walk_start.new.cache.store.table c.args.input.now c.in_ok-start.start c.in_ok-start.ensures.answer.named (c.see_store.ensures.low c.in_ok-start.start) c.see_store.ensures.small (λ b. false_true (c.if-is_dead.ensures.1 b))))
     (omega arith) c.find_still.ensures.alive in
     pass_rest d c.args.self.now c.args.input.now c.in_ok-start.start c.args.cache.now c.walk_start.new.cache c.walk_start.new.cache c.find_still.new.cache {s = c.walk_start.new.cache.store.searched} c.find_still.result (c.see_bounds.ensures.slots ∙ ap (λ (d : Machine). slot_count d) c.requires.of)
     c.in_ok-start.ensures.answer c.in_ok-start.ensures.effect refl
@@ -126,7 +126,7 @@ returns-then-keeps_none-clause-refusal c =
     IfErr-weaker c.find_still.result _ _
     (λ error refused. place_refuses d c.args.self.now c.walk_start.new.cache.store.table c.find_still.new.cache.store c.args.input.now 0 c.in_ok-start.start None error
     (starts_at d c.args.self.now c.walk_start.new.cache.store.table c.args.input.now c.in_ok-start.start
-    (begins_alive d c.args.self.now c.walk_start.new.cache.store.table c.args.input.now c.in_ok-start.start c.in_ok-start.ensures.answer.named (c.see_ids.ensures.low c.in_ok-start.start) c.see_ids.ensures.small (λ b. false_true (c.if-is_dead.ensures.1 b))))
+    (begins_alive d c.args.self.now c.walk_start.new.cache.store.table c.args.input.now c.in_ok-start.start c.in_ok-start.ensures.answer.named (c.see_store.ensures.low c.in_ok-start.start) c.see_store.ensures.small (λ b. false_true (c.if-is_dead.ensures.1 b))))
     (omega arith) c.find_still.ensures.alive c.in_ok-start.ensures.answer.may.0 refused)
     c.find_still.ensures.refusal
 

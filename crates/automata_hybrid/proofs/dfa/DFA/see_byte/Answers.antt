@@ -22,7 +22,7 @@ returns-clause-led c = λ to low is.
     c.next_state_known-next.ensures.value ∙ (ap (λ unit. known_step c.args.self.now c.args.cache.now.store c.args.id unit) (sym c.byte_at.ensures) ∙ sym is) in
     let few : c.next_state_known-next.result < 2 ^ 29 = omega (arith, same, low) in
     let known : IsKnownTransition c.args.cache.now.store c.args.id (class_in c.args.self.now.classes read) = subst (λ n. n < 2 ^ 31) c.next_state_known-next.ensures.value (omega (arith, few)) in
-    let below : class_in c.args.self.now.classes read < table_stride c.args.self.now = c.see_classes.ensures.bytes read (omega arith) in
+    let below : class_in c.args.self.now.classes read < table_stride c.args.self.now = c.see_machine.ensures.bytes read (omega arith) in
     subst (IsLed d c.args.self.now c.args.cache.now.store c.args.input.now c.args.place (c.args.place + 1)) same
     (subst (λ k. IsLed d c.args.self.now c.args.cache.now.store c.args.input.now c.args.place k c.next_state_known-next.result) more
     (led_more d c.args.self.now c.args.cache.now.store c.args.input.now c.args.place c.args.place c.args.id c.next_state_known-next.result read few c.byte_at.ensures known
@@ -39,7 +39,7 @@ returns-clause-followed c = λ to low is.
     c.next_state_known-next.ensures.value ∙ (ap (λ unit. known_step c.args.self.now c.args.cache.now.store c.args.id unit) (sym c.byte_at.ensures) ∙ sym is) in
     let few : c.next_state_known-next.result < 2 ^ 27 = omega (arith, same, low) in
     let known : IsKnownTransition c.args.cache.now.store c.args.id (class_in c.args.self.now.classes read) = subst (λ n. n < 2 ^ 31) c.next_state_known-next.ensures.value (omega (arith, few)) in
-    let below : class_in c.args.self.now.classes read < table_stride c.args.self.now = c.see_classes.ensures.bytes read (omega arith) in
+    let below : class_in c.args.self.now.classes read < table_stride c.args.self.now = c.see_machine.ensures.bytes read (omega arith) in
     subst (IsFollowed d c.args.self.now c.args.cache.now.store c.args.input.now c.args.place (c.args.place + 1)) same
     (subst (λ k. IsFollowed d c.args.self.now c.args.cache.now.store c.args.input.now c.args.place k c.next_state_known-next.result) more
     (followed_more d c.args.self.now c.args.cache.now.store c.args.input.now c.args.place c.args.place c.args.id c.next_state_known-next.result read few c.byte_at.ensures known

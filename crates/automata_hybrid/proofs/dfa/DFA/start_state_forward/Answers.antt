@@ -36,7 +36,7 @@ returns-in-Err-clause-refusal c =
 pub returns-in-Ok-clause-stands : goal.returns-in-Ok-clause-stands
 returns-in-Ok-clause-stands c = λ early undone.
     stands_first c.args.self.now c.args.input.now c.args.cache.now c.start_state.new.cache c.in-Ok.id
-    (record { of = c.in-Ok.ensures.of; low = c.see_ids.ensures.low; small = c.see_ids.ensures.small })
+    (record { of = c.in-Ok.ensures.of; low = c.see_store.ensures.low; small = c.see_store.ensures.small })
     early undone c.haystack-haystack.ensures.within.1
     (subst (λ (s : StartConfig). IsStartAnswer c.args.self.now s.anchored s.look_behind c.args.cache.now c.start_state.new.cache c.in-Ok.id)
     c.from_input_forward-config.ensures c.in-Ok.ensures.answer)

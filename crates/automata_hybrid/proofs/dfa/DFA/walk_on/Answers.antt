@@ -78,7 +78,7 @@ returns-then-is_dead-clause-answer c =
     let r = c.requires.walk.reads in
     let units : input.end - input.start ≡ length (tape_in d input).bytes = units_in d input r.undone c.haystack-haystack.ensures.within.1 in
     let leads : Leads c.search_start.new.self.store.table c.in_ok-from.from (state_in d m input w.units) = subst (λ (t : Rows). Leads t c.in_ok-from.from (state_in d m input w.units)) (sym c.search_start.ensures.table) c.in_ok-from.ensures.answer.leads in
-    let dies : state_in d m input w.units ≡ dead = (dead_tagged c.search_start.new.self.store.table c.in_ok-from.from (c.see_ids.ensures.low c.in_ok-from.from) c.see_ids.ensures.small _ leads).0 (c.if-is_dead.ensures.0 refl) in
+    let dies : state_in d m input w.units ≡ dead = (dead_tagged c.search_start.new.self.store.table c.in_ok-from.from (c.see_store.ensures.low c.in_ok-from.from) c.see_store.ensures.small _ leads).0 (c.if-is_dead.ensures.0 refl) in
     let clean : HasReadNoQuit d m input w.units = clean_here d m input w c.requires.walk.told.0 c.requires.walk.told.1 r.on in
     let ends : Finishes d m input w.units w.units = finish_start d m input w.units (omega (arith, units, r.left)) clean dies in
     let same : c.end.new.self ≡ ended_walk w w.units = c.end.ensures ∙ ap (ended_walk w) c.units-then-is_dead.ensures in
@@ -107,7 +107,7 @@ returns-then-is_dead-clause-effect c =
     let first : c.span_offset-place.result ≡ given_up_offset d input w.units = c.span_offset-place.ensures ∙ ap (given_up_offset d input) c.units.ensures in
     let same : c.end.new.self ≡ ended_walk w w.units = c.end.ensures ∙ ap (ended_walk w) c.units-then-is_dead.ensures in
     let leads : Leads c.search_start.new.self.store.table c.in_ok-from.from (state_in d m input w.units) = subst (λ (t : Rows). Leads t c.in_ok-from.from (state_in d m input w.units)) (sym c.search_start.ensures.table) c.in_ok-from.ensures.answer.leads in
-    let dies : state_in d m input w.units ≡ dead = (dead_tagged c.search_start.new.self.store.table c.in_ok-from.from (c.see_ids.ensures.low c.in_ok-from.from) c.see_ids.ensures.small _ leads).0 (c.if-is_dead.ensures.0 refl) in
+    let dies : state_in d m input w.units ≡ dead = (dead_tagged c.search_start.new.self.store.table c.in_ok-from.from (c.see_store.ensures.low c.in_ok-from.from) c.see_store.ensures.small _ leads).0 (c.if-is_dead.ensures.0 refl) in
     let begins : c.search_start.new.self.store ≡ with_search_begun d input w.units between.store =
     subst (λ at. c.search_start.new.self.store ≡ with_searched between.store (started between.store.searched at)) first (ap (λ (v : CacheView). v.store) c.search_start.ensures.value) in
     let moved : IsGrown between new = grown_trans between c.search_start.new.self new

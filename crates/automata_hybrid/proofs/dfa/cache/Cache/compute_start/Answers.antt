@@ -9,16 +9,16 @@ use Rattle.automata_hybrid.specs.declared.dfa.cache.Found.TheVariants.{Known, Ne
 use Rattle.automata_hybrid.proofs.Adding.{cheap, looked_up, new_state}
 use Rattle.automata_hybrid.proofs.Starting.{ComputesStart, computed_answer, computed_effect, computes_known}
 use Rattle.automata_hybrid.proofs.Starting.{computes_new, refused_effect, slot_leads}
-use Rattle.automata_hybrid.proofs.dfa.cache.Cache.compute_start.Goals.{After-see_ids-in-Known, After-see_ids-in-New}
+use Rattle.automata_hybrid.proofs.dfa.cache.Cache.compute_start.Goals.{After-see_store-in-Known, After-see_store-in-New}
 use Rattle.automata_hybrid.proofs.dfa.cache.Cache.compute_start.Goals as goal
 
-known : (c : After-see_ids-in-Known) → ComputesStart c.args.dfa.now c.args.mode c.args.prev c.args.self.now c.set_start.new.self c.args.slot c.in-Known.id
+known : (c : After-see_store-in-Known) → ComputesStart c.args.dfa.now c.args.mode c.args.prev c.args.self.now c.set_start.new.self c.args.slot c.in-Known.id
 known c =
     let leads : Leads c.resolve.new.self.store.table c.in-Known.id c.in_ok-key.key = looked_up c.determinize_start.new.self c.resolve.new.self c.in_ok-key.key _ (Known c.in-Known.id) c.resolve.ensures.same c.in-Known.is c.in_ok-id.ensures.found in
     computes_known c.args.dfa.now c.args.mode c.args.prev c.args.self.now c.resolve.new.self c.set_start.new.self c.args.slot c.in-Known.id c.in_ok-key.key
     (c.resolve.ensures.same ∙ c.determinize_start.ensures.counted) c.set_start.ensures.value leads c.in_ok-key.ensures.value c.set_start.ensures.written c.set_start.ensures.found
 
-new : (c : After-see_ids-in-New) → ComputesStart c.args.dfa.now c.args.mode c.args.prev c.args.self.now c.set_start-in-New.new.self c.args.slot c.in_ok-id-in-New.id
+new : (c : After-see_store-in-New) → ComputesStart c.args.dfa.now c.args.mode c.args.prev c.args.self.now c.set_start-in-New.new.self c.args.slot c.in_ok-id-in-New.id
 new c =
     let found : IsLookedUp c.resolve.new.self.store.table c.in_ok-key.key (New c.in-New.state) = looked_up c.determinize_start.new.self c.resolve.new.self c.in_ok-key.key _ (New c.in-New.state) c.resolve.ensures.same c.in-New.is c.in_ok-id.ensures.found in
     computes_new c.args.dfa.now c.args.mode c.args.prev c.args.self.now c.resolve.new.self c.add_start.new.self c.set_start-in-New.new.self c.args.slot c.in_ok-id-in-New.id c.in-New.state c.in_ok-key.key c.specializes.result
@@ -51,28 +51,28 @@ add_start-requires-clause-new c =
 pub returns-in-Known-clause-answer : goal.returns-in-Known-clause-answer
 returns-in-Known-clause-answer c =
     computed_answer c.args.dfa.now c.args.mode c.args.prev c.args.self.now c.set_start.new.self c.args.slot c.in-Known.id (known c)
-    c.requires.slot c.requires.unknown (c.see_ids.ensures.slots ∙ ap (λ (m : Machine). slot_count m) c.requires.of)
-    (c.see_ids-in-Known.ensures.tagged c.in-Known.id)
+    c.requires.slot c.requires.unknown (c.see_store.ensures.slots ∙ ap (λ (m : Machine). slot_count m) c.requires.of)
+    (c.see_store-in-Known.ensures.tagged c.in-Known.id)
 
 pub returns-in-Known-clause-effect : goal.returns-in-Known-clause-effect
 returns-in-Known-clause-effect c =
     computed_effect c.args.dfa.now c.args.mode c.args.prev c.args.self.now c.set_start.new.self c.args.slot c.in-Known.id (known c)
-    c.requires.slot c.requires.unknown (c.see_ids.ensures.slots ∙ ap (λ (m : Machine). slot_count m) c.requires.of)
-    c.see_ids.ensures.cells c.see_ids.ensures.wide c.see_ids.ensures.clears (cheap c.args.dfa.now c.args.self.now.store.table.of c.in_ok-key.key (start_state_of c.args.dfa.now.nfa c.args.mode c.args.prev) c.requires.of c.in_ok-key.ensures.value c.in_ok-key.ensures.cost)
-    c.see_ids.ensures.ids c.see_ids-in-Known.ensures.ids c.requires.of
+    c.requires.slot c.requires.unknown (c.see_store.ensures.slots ∙ ap (λ (m : Machine). slot_count m) c.requires.of)
+    c.see_store.ensures.cells c.see_store.ensures.wide c.see_store.ensures.clears (cheap c.args.dfa.now c.args.self.now.store.table.of c.in_ok-key.key (start_state_of c.args.dfa.now.nfa c.args.mode c.args.prev) c.requires.of c.in_ok-key.ensures.value c.in_ok-key.ensures.cost)
+    c.see_store.ensures.ids c.see_store-in-Known.ensures.ids c.requires.of
 
 pub returns-in_ok-id-in-New-clause-answer : goal.returns-in_ok-id-in-New-clause-answer
 returns-in_ok-id-in-New-clause-answer c =
     computed_answer c.args.dfa.now c.args.mode c.args.prev c.args.self.now c.set_start-in-New.new.self c.args.slot c.in_ok-id-in-New.id (new c)
-    c.requires.slot c.requires.unknown (c.see_ids.ensures.slots ∙ ap (λ (m : Machine). slot_count m) c.requires.of)
-    (c.see_ids-in-New.ensures.tagged c.in_ok-id-in-New.id)
+    c.requires.slot c.requires.unknown (c.see_store.ensures.slots ∙ ap (λ (m : Machine). slot_count m) c.requires.of)
+    (c.see_store-in-New.ensures.tagged c.in_ok-id-in-New.id)
 
 pub returns-in_ok-id-in-New-clause-effect : goal.returns-in_ok-id-in-New-clause-effect
 returns-in_ok-id-in-New-clause-effect c =
     computed_effect c.args.dfa.now c.args.mode c.args.prev c.args.self.now c.set_start-in-New.new.self c.args.slot c.in_ok-id-in-New.id (new c)
-    c.requires.slot c.requires.unknown (c.see_ids.ensures.slots ∙ ap (λ (m : Machine). slot_count m) c.requires.of)
-    c.see_ids.ensures.cells c.see_ids.ensures.wide c.see_ids.ensures.clears (cheap c.args.dfa.now c.args.self.now.store.table.of c.in_ok-key.key (start_state_of c.args.dfa.now.nfa c.args.mode c.args.prev) c.requires.of c.in_ok-key.ensures.value c.in_ok-key.ensures.cost)
-    c.see_ids.ensures.ids c.see_ids-in-New.ensures.ids c.requires.of
+    c.requires.slot c.requires.unknown (c.see_store.ensures.slots ∙ ap (λ (m : Machine). slot_count m) c.requires.of)
+    c.see_store.ensures.cells c.see_store.ensures.wide c.see_store.ensures.clears (cheap c.args.dfa.now c.args.self.now.store.table.of c.in_ok-key.key (start_state_of c.args.dfa.now.nfa c.args.mode c.args.prev) c.requires.of c.in_ok-key.ensures.value c.in_ok-key.ensures.cost)
+    c.see_store.ensures.ids c.see_store-in-New.ensures.ids c.requires.of
 
 pub returns-in_err-key-clause-effect : goal.returns-in_err-key-clause-effect
 returns-in_err-key-clause-effect c =

@@ -2,7 +2,7 @@ use Rattle.std.proofs.Common.{arith, subst}
 use Rattle.automata_hybrid.specs.declared.dfa.cache.Cache.TheInside.{Inside}
 use Rattle.automata_hybrid.specs.Cache.Caches.{CacheView}
 use Rattle.automata_hybrid.specs.Cache.Stores.{IsSoundStore}
-use Rattle.automata_hybrid.proofs.dfa.cache.Cache.see_ids.Goals as goal
+use Rattle.automata_hybrid.proofs.dfa.cache.Cache.see_store.Goals as goal
 
 pub returns : goal.returns
 returns c =

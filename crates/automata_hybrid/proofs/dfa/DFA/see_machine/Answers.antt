@@ -1,5 +1,5 @@
 use Rattle.automata_hybrid.proofs.Building.{slot_count-is}
-use Rattle.automata_hybrid.proofs.dfa.DFA.see_classes.Goals as goal
+use Rattle.automata_hybrid.proofs.dfa.DFA.see_machine.Goals as goal
 
 pub returns-clause-number : goal.returns-clause-number
 returns-clause-number c = slot_count-is c.args.self.now
