@@ -5,7 +5,7 @@ ghost use Rattle.std.specs.Prelude.{◌≡◌};
 use std::marker::{Model, PhantomData};
 
 /// What a value was made for; clauses read it as `value`. It takes no bytes, and its functions do nothing at run time.
-/// Unlike a `Snapshot`, it can be had once more from a reference to it.
+/// Unlike a `Snapshot`, it can be made again from a reference to it.
 #[derive(Drop)]
 pub struct Subject<T> {
     marker: PhantomData<T>,
