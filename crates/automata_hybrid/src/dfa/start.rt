@@ -86,7 +86,6 @@ impl Cache {
 impl DFA {
     /// The kind of a look-behind byte: 0 for any byte that is not named here, 1 for a word byte, 2 for none, 3 for a
     /// line feed, 4 for a carriage return, 5 for a line terminator that is neither of these two.
-    #[inline(always)]
     fn behind(&self, prev: Option<u8>) -> usize
         ensures { result ≡ behind_of self.now.nfa.flags.line_terminator prev }
     {
@@ -115,7 +114,6 @@ impl DFA {
     }
 
     /// The start slot of a group, after a look-behind byte or after none.
-    #[inline(always)]
     fn slot(&self, group: usize, prev: Option<u8>) -> usize
         requires { group * 6 + 6 ≤ slot_count self.now }
         ensures value { result ≡ group * 6 + behind_of self.now.nfa.flags.line_terminator prev }

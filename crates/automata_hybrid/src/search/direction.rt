@@ -82,7 +82,6 @@ pub(crate) fn bytes_from<'h>(input: &Input<'h>, way: Way, place: usize) -> &'h [
 }
 
 /// What is read at a place: a byte of the span or the one after it, or none after the haystack.
-#[inline(always)]
 pub(crate) fn unit_at(input: &Input<'_>, way: Way, place: usize) -> Option<u8>
     requires open { input.now.start ≤ input.now.end }
     requires within { place ≤ input.now.end - input.now.start }

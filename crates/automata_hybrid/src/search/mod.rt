@@ -168,7 +168,10 @@ impl DFA {
         self.see_machine();
         cache.see_store();
         cache.move_search(at);
-        let next = self.step_met(cache, id, met, byte, at)?;
+        let next = match self.step_met(cache, id, met, byte, at) {
+            Ok(next) => next,
+            Err(error) => return Err(error),
+        };
         cache.see_store();
         if next.is_quit() {
             cache.end_search(at);

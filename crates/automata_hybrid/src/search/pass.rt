@@ -154,7 +154,10 @@ impl DFA {
             }
             let offset = byte_offset(input, way, run.at);
             let byte = byte_at(input, way, run.at);
-            let next = self.read_met(cache, run.id, run.next, byte, offset, offset)?;
+            let next = match self.read_met(cache, run.id, run.next, byte, offset, offset) {
+                Ok(next) => next,
+                Err(error) => return Err(error),
+            };
             cache.see_store();
             if next.is_dead() {
                 cache.end_search(offset);
@@ -198,7 +201,10 @@ impl DFA {
         let at = span_offset(input, way, last);
         end_before_last(cache, way, at);
         let unit = unit_at(input, way, last);
-        let next = self.read(cache, id, unit, unit_offset(input, way, last), at)?;
+        let next = match self.read(cache, id, unit, unit_offset(input, way, last), at) {
+            Ok(next) => next,
+            Err(error) => return Err(error),
+        };
         cache.end_search(at);
         Ok(self.found_at(cache, next, place_offset(input, way, last), found))
     }

@@ -1,3 +1,4 @@
+use Rattle.std.specs.Prelude.{Err}
 use Rattle.std.proofs.Common.{ℕ, suc, ◌≡◌, ◌∙◌, ◌+◌, ◌-◌, ◌<◌, ◌≤◌, true, length, Some, None, inr, refl, sym, ap, subst}
 use Rattle.std.proofs.Common.{arith}
 use Rattle.automata_base.specs.Paths.Paths.{next}
@@ -64,8 +65,8 @@ find_end-requires-2-clause-at c =
       at = subst (λ k. IsAt d c.args.self.now c.loop-at.cache.store.table c.args.input.now k c.loop-at.id c.loop-at.found) same c.loop-at.invariant.at;
     }
 
-pub returns-in_err-next-clause-refusal : goal.returns-in_err-next-clause-refusal
-returns-in_err-next-clause-refusal c =
+pub returns-in-Err-clause-refusal : goal.returns-in-Err-clause-refusal
+returns-in-Err-clause-refusal c =
     let d : Direction = way_of c.args.way in
     let k : ℕ = c.run-run.result.at in
     let inside : k < c.args.input.now.end - c.args.input.now.start = omega (arith, c.if-run-last.false, c.last_place-last.ensures.place) in
@@ -73,9 +74,8 @@ returns-in_err-next-clause-refusal c =
     let given : given_up_offset d c.args.input.now k ≡ c.byte_offset-offset.result = span_unit d c.args.input.now k inside ∙ sym c.byte_offset-offset.ensures.unit in
     let read : next (tape_in d c.args.input.now) k ≡ Some c.byte_at-byte.result = c.byte_at-byte.ensures in
     let few : k ≤ length (tape_in d c.args.input.now).bytes = (let u = units_in d c.args.input.now c.requires.at.undone c.last_place-last.ensures.inside in omega (arith, u, inside)) in
-    if_err c.from_residual.result _ _ c.from_residual.ensures.1
-    (step_refuses d c.args.self.now c.loop-at.cache.store.table c.read_met.new.cache.store c.args.input.now k c.run-run.result.id c.byte_offset-offset.result c.byte_offset-offset.result _ c.run-run.result.found c.in_err-next.field-0.0
-    at few c.in_err-next.ensures.effect.alive read (sym c.byte_offset-offset.ensures.unit) given c.in_err-next.ensures.refusal c.requires.at.may.0)
+    (step_refuses d c.args.self.now c.loop-at.cache.store.table c.read_met.new.cache.store c.args.input.now k c.run-run.result.id c.byte_offset-offset.result c.byte_offset-offset.result _ c.run-run.result.found c.in-Err.error
+    at few c.in-Err.ensures.effect.alive read (sym c.byte_offset-offset.ensures.unit) given c.in-Err.ensures.refusal c.requires.at.may.0)
 
 pub returns-then-is_dead-clause-answer : goal.returns-then-is_dead-clause-answer
 returns-then-is_dead-clause-answer c =
@@ -85,7 +85,7 @@ returns-then-is_dead-clause-answer c =
     let at : IsAt d c.args.self.now c.loop-at.cache.store.table c.args.input.now k c.run-run.result.id c.run-run.result.found = c.run-run.ensures.at in
     let read : next (tape_in d c.args.input.now) k ≡ Some c.byte_at-byte.result = c.byte_at-byte.ensures in
     let few : k ≤ length (tape_in d c.args.input.now).bytes = (let u = units_in d c.args.input.now c.requires.at.undone c.last_place-last.ensures.inside in omega (arith, u, inside)) in
-    dead_answer d c.args.self.now c.args.input.now k c.run-run.result.id _ c.run-run.result.found c.loop-at.cache c.loop-at.cache c.read_met.new.cache c.end_search.new.self {s = c.loop-at.cache.store.searched} refl c.end_search.ensures.value (record { undone = c.requires.at.undone; may = c.requires.at.may; at = at }) read c.in_ok-next.next None c.in_ok-next.ensures.answer (λ l. (dead_tagged c.read_met.new.cache.store.table c.in_ok-next.next (c.see_store.ensures.low c.in_ok-next.next) c.see_store.ensures.small _ l).0 (c.if-is_dead.ensures.0 refl)) few
+    dead_answer d c.args.self.now c.args.input.now k c.run-run.result.id _ c.run-run.result.found c.loop-at.cache c.loop-at.cache c.read_met.new.cache c.end_search.new.self {s = c.loop-at.cache.store.searched} refl c.end_search.ensures.value (record { undone = c.requires.at.undone; may = c.requires.at.may; at = at }) read c.in-Ok.next None c.in-Ok.ensures.answer (λ l. (dead_tagged c.read_met.new.cache.store.table c.in-Ok.next (c.see_store.ensures.low c.in-Ok.next) c.see_store.ensures.small _ l).0 (c.if-is_dead.ensures.0 refl)) few
 
 pub returns-then-is_dead-clause-effect : goal.returns-then-is_dead-clause-effect
 returns-then-is_dead-clause-effect c =
@@ -97,8 +97,8 @@ returns-then-is_dead-clause-effect c =
     let few : k ≤ length (tape_in d c.args.input.now).bytes = (let u = units_in d c.args.input.now c.requires.at.undone c.last_place-last.ensures.inside in omega (arith, u, inside)) in
     rest_then d c.args.self.now c.args.input.now k c.args.cache.now c.loop-at.cache c.loop-at.cache c.end_search.new.self {s = c.loop-at.cache.store.searched} _ refl (omega (arith, inside))
     c.loop-at.invariant.grown (omega (arith, c.loop-at.invariant.counted, c.run-run.ensures.from)) c.loop-at.invariant.idle (λ begin nothing. (let had = c.loop-at.invariant.learned begin nothing in (had.0, c.run-run.ensures.learned had.1)))
-    (rest_read d c.args.self.now c.args.input.now k c.run-run.result.id _ c.run-run.result.found c.loop-at.cache c.loop-at.cache c.read_met.new.cache c.end_search.new.self {s = c.loop-at.cache.store.searched} refl c.end_search.ensures.value (record { undone = c.requires.at.undone; may = c.requires.at.may; at = at }) read c.in_ok-next.next _ c.in_ok-next.ensures.effect c.in_ok-next.ensures.of (omega (arith, inside)) few
-    (dead_stops d c.args.self.now c.args.input.now k c.run-run.result.id _ c.run-run.result.found c.loop-at.cache c.loop-at.cache c.read_met.new.cache c.end_search.new.self {s = c.loop-at.cache.store.searched} refl c.end_search.ensures.value (record { undone = c.requires.at.undone; may = c.requires.at.may; at = at }) read c.in_ok-next.next None c.in_ok-next.ensures.answer (λ l. (dead_tagged c.read_met.new.cache.store.table c.in_ok-next.next (c.see_store.ensures.low c.in_ok-next.next) c.see_store.ensures.small _ l).0 (c.if-is_dead.ensures.0 refl))))
+    (rest_read d c.args.self.now c.args.input.now k c.run-run.result.id _ c.run-run.result.found c.loop-at.cache c.loop-at.cache c.read_met.new.cache c.end_search.new.self {s = c.loop-at.cache.store.searched} refl c.end_search.ensures.value (record { undone = c.requires.at.undone; may = c.requires.at.may; at = at }) read c.in-Ok.next _ c.in-Ok.ensures.effect c.in-Ok.ensures.of (omega (arith, inside)) few
+    (dead_stops d c.args.self.now c.args.input.now k c.run-run.result.id _ c.run-run.result.found c.loop-at.cache c.loop-at.cache c.read_met.new.cache c.end_search.new.self {s = c.loop-at.cache.store.searched} refl c.end_search.ensures.value (record { undone = c.requires.at.undone; may = c.requires.at.may; at = at }) read c.in-Ok.next None c.in-Ok.ensures.answer (λ l. (dead_tagged c.read_met.new.cache.store.table c.in-Ok.next (c.see_store.ensures.low c.in-Ok.next) c.see_store.ensures.small _ l).0 (c.if-is_dead.ensures.0 refl))))
 
 pub found_at-found-requires-clause-leads : goal.found_at-found-requires-clause-leads
 found_at-found-requires-clause-leads c =
@@ -108,7 +108,7 @@ found_at-found-requires-clause-leads c =
     let at : IsAt d c.args.self.now c.loop-at.cache.store.table c.args.input.now k c.run-run.result.id c.run-run.result.found = c.run-run.ensures.at in
     let read : next (tape_in d c.args.input.now) k ≡ Some c.byte_at-byte.result = c.byte_at-byte.ensures in
     let few : k ≤ length (tape_in d c.args.input.now).bytes = (let u = units_in d c.args.input.now c.requires.at.undone c.last_place-last.ensures.inside in omega (arith, u, inside)) in
-    (_, more_leads d c.args.self.now c.loop-at.cache.store.table c.read_met.new.cache.store.table c.args.input.now k c.run-run.result.id c.in_ok-next.next _ c.run-run.result.found None at read c.in_ok-next.ensures.answer.named (quit_free c.args.self.now _ c.in_ok-next.ensures.answer.clean))
+    (_, more_leads d c.args.self.now c.loop-at.cache.store.table c.read_met.new.cache.store.table c.args.input.now k c.run-run.result.id c.in-Ok.next _ c.run-run.result.found None at read c.in-Ok.ensures.answer.named (quit_free c.args.self.now _ c.in-Ok.ensures.answer.clean))
 
 pub returns-then-is_some-clause-answer : goal.returns-then-is_some-clause-answer
 returns-then-is_some-clause-answer c =
@@ -118,7 +118,7 @@ returns-then-is_some-clause-answer c =
     let at : IsAt d c.args.self.now c.loop-at.cache.store.table c.args.input.now k c.run-run.result.id c.run-run.result.found = c.run-run.ensures.at in
     let read : next (tape_in d c.args.input.now) k ≡ Some c.byte_at-byte.result = c.byte_at-byte.ensures in
     let few : k ≤ length (tape_in d c.args.input.now).bytes = (let u = units_in d c.args.input.now c.requires.at.undone c.last_place-last.ensures.inside in omega (arith, u, inside)) in
-    first_answer d c.args.self.now c.args.input.now k c.run-run.result.id _ c.run-run.result.found c.loop-at.cache c.loop-at.cache c.read_met.new.cache c.end_search-then-is_some.new.self {s = c.loop-at.cache.store.searched} refl c.end_search-then-is_some.ensures.value (record { undone = c.requires.at.undone; may = c.requires.at.may; at = at }) read c.in_ok-next.next c.found_at-found.result c.in_ok-next.ensures.answer c.place_offset.result c.place_offset.ensures c.found_at-found.ensures (sym c.get_earliest.ensures ∙ c.if-get_earliest.true) (some_is c.found_at-found.result c.if-is_some.ensures) few
+    first_answer d c.args.self.now c.args.input.now k c.run-run.result.id _ c.run-run.result.found c.loop-at.cache c.loop-at.cache c.read_met.new.cache c.end_search-then-is_some.new.self {s = c.loop-at.cache.store.searched} refl c.end_search-then-is_some.ensures.value (record { undone = c.requires.at.undone; may = c.requires.at.may; at = at }) read c.in-Ok.next c.found_at-found.result c.in-Ok.ensures.answer c.place_offset.result c.place_offset.ensures c.found_at-found.ensures (sym c.get_earliest.ensures ∙ c.if-get_earliest.true) (some_is c.found_at-found.result c.if-is_some.ensures) few
 
 pub returns-then-is_some-clause-effect : goal.returns-then-is_some-clause-effect
 returns-then-is_some-clause-effect c =
@@ -130,8 +130,8 @@ returns-then-is_some-clause-effect c =
     let few : k ≤ length (tape_in d c.args.input.now).bytes = (let u = units_in d c.args.input.now c.requires.at.undone c.last_place-last.ensures.inside in omega (arith, u, inside)) in
     rest_then d c.args.self.now c.args.input.now k c.args.cache.now c.loop-at.cache c.loop-at.cache c.end_search-then-is_some.new.self {s = c.loop-at.cache.store.searched} _ refl (omega (arith, inside))
     c.loop-at.invariant.grown (omega (arith, c.loop-at.invariant.counted, c.run-run.ensures.from)) c.loop-at.invariant.idle (λ begin nothing. (let had = c.loop-at.invariant.learned begin nothing in (had.0, c.run-run.ensures.learned had.1)))
-    (rest_read d c.args.self.now c.args.input.now k c.run-run.result.id _ c.run-run.result.found c.loop-at.cache c.loop-at.cache c.read_met.new.cache c.end_search-then-is_some.new.self {s = c.loop-at.cache.store.searched} refl c.end_search-then-is_some.ensures.value (record { undone = c.requires.at.undone; may = c.requires.at.may; at = at }) read c.in_ok-next.next _ c.in_ok-next.ensures.effect c.in_ok-next.ensures.of (omega (arith, inside)) few
-    (first_stops d c.args.self.now c.args.input.now k c.run-run.result.id _ c.run-run.result.found c.loop-at.cache c.loop-at.cache c.read_met.new.cache c.end_search-then-is_some.new.self {s = c.loop-at.cache.store.searched} refl c.end_search-then-is_some.ensures.value (record { undone = c.requires.at.undone; may = c.requires.at.may; at = at }) read c.in_ok-next.next c.found_at-found.result c.in_ok-next.ensures.answer c.place_offset.result c.place_offset.ensures c.found_at-found.ensures (sym c.get_earliest.ensures ∙ c.if-get_earliest.true) (some_is c.found_at-found.result c.if-is_some.ensures)))
+    (rest_read d c.args.self.now c.args.input.now k c.run-run.result.id _ c.run-run.result.found c.loop-at.cache c.loop-at.cache c.read_met.new.cache c.end_search-then-is_some.new.self {s = c.loop-at.cache.store.searched} refl c.end_search-then-is_some.ensures.value (record { undone = c.requires.at.undone; may = c.requires.at.may; at = at }) read c.in-Ok.next _ c.in-Ok.ensures.effect c.in-Ok.ensures.of (omega (arith, inside)) few
+    (first_stops d c.args.self.now c.args.input.now k c.run-run.result.id _ c.run-run.result.found c.loop-at.cache c.loop-at.cache c.read_met.new.cache c.end_search-then-is_some.new.self {s = c.loop-at.cache.store.searched} refl c.end_search-then-is_some.ensures.value (record { undone = c.requires.at.undone; may = c.requires.at.may; at = at }) read c.in-Ok.next c.found_at-found.result c.in-Ok.ensures.answer c.place_offset.result c.place_offset.ensures c.found_at-found.ensures (sym c.get_earliest.ensures ∙ c.if-get_earliest.true) (some_is c.found_at-found.result c.if-is_some.ensures)))
 
 pub loop-at-preserved : goal.loop-at-preserved
 loop-at-preserved c =
@@ -149,38 +149,37 @@ loop-at-preserved c =
     ] in
     let more : suc k ≡ c.run-run.result.at + 1 = omega arith in
     record {
-      of = c.in_ok-next.ensures.of;
-      counted = omega (arith, c.in_ok-next.ensures.effect.counted, c.loop-at.invariant.counted, c.run-run.ensures.from);
-      grown = grown_trans c.args.cache.now c.loop-at.cache c.read_met.new.cache c.loop-at.invariant.grown c.in_ok-next.ensures.effect.grown;
+      of = c.in-Ok.ensures.of;
+      counted = omega (arith, c.in-Ok.ensures.effect.counted, c.loop-at.invariant.counted, c.run-run.ensures.from);
+      grown = grown_trans c.args.cache.now c.loop-at.cache c.read_met.new.cache c.loop-at.invariant.grown c.in-Ok.ensures.effect.grown;
       idle = λ knows. (
           let still : KnowsPass d c.args.self.now c.loop-at.cache.store c.args.input.now = knows_still d c.args.self.now c.args.input.now c.args.cache.now c.loop-at.cache c.loop-at.invariant.grown (c.loop-at.invariant.idle knows) knows in
-          let idle = c.in_ok-next.ensures.effect.known (knows_here d c.args.self.now c.loop-at.cache.store c.args.input.now k c.run-run.result.id c.run-run.result.found (Some _) still c.requires.at.may at few c.in_ok-next.ensures.effect.alive read) in
+          let idle = c.in-Ok.ensures.effect.known (knows_here d c.args.self.now c.loop-at.cache.store c.args.input.now k c.run-run.result.id c.run-run.result.found (Some _) still c.requires.at.may at few c.in-Ok.ensures.effect.alive read) in
           idle.0.0 ∙ c.loop-at.invariant.idle knows);
       learned = λ begin nothing. (
-          let before = c.loop-at.invariant.learned begin (nothing_first c.args.cache.now c.loop-at.cache c.read_met.new.cache c.loop-at.invariant.grown c.in_ok-next.ensures.effect.grown nothing) in
-          let after : ClearedNothing c.loop-at.cache.store c.read_met.new.cache.store = nothing_second c.args.cache.now c.loop-at.cache c.read_met.new.cache c.loop-at.invariant.grown c.in_ok-next.ensures.effect.grown nothing in
-          let step = learned_step d c.args.self.now c.loop-at.cache c.read_met.new.cache c.args.input.now k c.run-run.result.id (Some _) c.in_ok-next.ensures.effect.grown c.in_ok-next.ensures.of after before.0
-          (c.run-run.ensures.learned before.1) at.named read (c.in_ok-next.ensures.effect.learned after) c.in_ok-next.ensures.effect.below in
+          let before = c.loop-at.invariant.learned begin (nothing_first c.args.cache.now c.loop-at.cache c.read_met.new.cache c.loop-at.invariant.grown c.in-Ok.ensures.effect.grown nothing) in
+          let after : ClearedNothing c.loop-at.cache.store c.read_met.new.cache.store = nothing_second c.args.cache.now c.loop-at.cache c.read_met.new.cache c.loop-at.invariant.grown c.in-Ok.ensures.effect.grown nothing in
+          let step = learned_step d c.args.self.now c.loop-at.cache c.read_met.new.cache c.args.input.now k c.run-run.result.id (Some _) c.in-Ok.ensures.effect.grown c.in-Ok.ensures.of after before.0
+          (c.run-run.ensures.learned before.1) at.named read (c.in-Ok.ensures.effect.learned after) c.in-Ok.ensures.effect.below in
           (step.0, subst (HasLearned d c.args.self.now c.read_met.new.cache.store c.args.input.now) more step.1));
       within = omega (arith, inside);
-      at = subst (λ n. IsAt d c.args.self.now c.read_met.new.cache.store.table c.args.input.now n c.in_ok-next.next c.found_at-found.result) more (more_at d c.args.self.now c.loop-at.cache.store.table c.read_met.new.cache.store.table c.args.input.now k c.run-run.result.id c.in_ok-next.next _ c.run-run.result.found c.found_at-found.result at read c.in_ok-next.ensures.answer.named (quit_free c.args.self.now _ c.in_ok-next.ensures.answer.clean) (c.place_offset.result, c.place_offset.ensures, c.found_at-found.ensures) first (λ l. (dead_tagged c.read_met.new.cache.store.table c.in_ok-next.next (c.see_store.ensures.low c.in_ok-next.next) c.see_store.ensures.small _ l).1 (λ b. false_true (c.if-is_dead.ensures.1 b))));
+      at = subst (λ n. IsAt d c.args.self.now c.read_met.new.cache.store.table c.args.input.now n c.in-Ok.next c.found_at-found.result) more (more_at d c.args.self.now c.loop-at.cache.store.table c.read_met.new.cache.store.table c.args.input.now k c.run-run.result.id c.in-Ok.next _ c.run-run.result.found c.found_at-found.result at read c.in-Ok.ensures.answer.named (quit_free c.args.self.now _ c.in-Ok.ensures.answer.clean) (c.place_offset.result, c.place_offset.ensures, c.found_at-found.ensures) first (λ l. (dead_tagged c.read_met.new.cache.store.table c.in-Ok.next (c.see_store.ensures.low c.in-Ok.next) c.see_store.ensures.small _ l).1 (λ b. false_true (c.if-is_dead.ensures.1 b))));
       progress = subst (λ n. AreReadTo d c.args.self.now c.args.input.now 0 n c.args.cache.now.store c.read_met.new.cache.store) more
           (read_then d c.args.self.now c.args.input.now 0 c.args.cache.now.store c.loop-at.at k c.loop-at.cache.store c.loop-at.invariant.progress c.run-run.ensures.from c.run-run.ensures.known c.read_met.new.cache.store
-          (taken_here d c.args.self.now c.args.input.now k c.run-run.result.id c.byte_offset-offset.result (Some _) c.loop-at.cache.store at.named read given c.read_met.new.cache.store c.in_ok-next.next c.in_ok-next.ensures.step.taken));
+          (taken_here d c.args.self.now c.args.input.now k c.run-run.result.id c.byte_offset-offset.result (Some _) c.loop-at.cache.store at.named read given c.read_met.new.cache.store c.in-Ok.next c.in-Ok.ensures.step.taken));
     }
 
-pub returns-in_err-next-clause-effect : goal.returns-in_err-next-clause-effect
-returns-in_err-next-clause-effect c =
+pub returns-in-Err-clause-effect : goal.returns-in-Err-clause-effect
+returns-in-Err-clause-effect c =
     let d : Direction = way_of c.args.way in
     let k : ℕ = c.run-run.result.at in
     let inside : k < c.args.input.now.end - c.args.input.now.start = omega (arith, c.if-run-last.false, c.last_place-last.ensures.place) in
     let at : IsAt d c.args.self.now c.loop-at.cache.store.table c.args.input.now k c.run-run.result.id c.run-run.result.found = c.run-run.ensures.at in
     let read : next (tape_in d c.args.input.now) k ≡ Some c.byte_at-byte.result = c.byte_at-byte.ensures in
     let few : k ≤ length (tape_in d c.args.input.now).bytes = (let u = units_in d c.args.input.now c.requires.at.undone c.last_place-last.ensures.inside in omega (arith, u, inside)) in
-    rest_then d c.args.self.now c.args.input.now k c.args.cache.now c.loop-at.cache c.loop-at.cache c.read_met.new.cache {s = c.loop-at.cache.store.searched} c.from_residual.result refl (omega (arith, inside))
+    rest_then d c.args.self.now c.args.input.now k c.args.cache.now c.loop-at.cache c.loop-at.cache c.read_met.new.cache {s = c.loop-at.cache.store.searched} (Err c.in-Err.error) refl (omega (arith, inside))
     c.loop-at.invariant.grown (omega (arith, c.loop-at.invariant.counted, c.run-run.ensures.from)) c.loop-at.invariant.idle (λ begin nothing. (let had = c.loop-at.invariant.learned begin nothing in (had.0, c.run-run.ensures.learned had.1)))
-    (at_err c.from_residual.result _ (IsRestEffect d c.args.self.now c.args.input.now k c.loop-at.cache c.read_met.new.cache) c.from_residual.ensures.1
-    (rest_refused d c.args.self.now c.args.input.now k c.run-run.result.id _ c.run-run.result.found c.loop-at.cache c.loop-at.cache c.read_met.new.cache c.read_met.new.cache {s = c.loop-at.cache.store.searched} {s' = c.read_met.new.cache.store.searched} refl refl (record { undone = c.requires.at.undone; may = c.requires.at.may; at = at }) read c.in_err-next.field-0.0 c.in_err-next.ensures.effect (omega (arith, inside)) few))
+    ((rest_refused d c.args.self.now c.args.input.now k c.run-run.result.id _ c.run-run.result.found c.loop-at.cache c.loop-at.cache c.read_met.new.cache c.read_met.new.cache {s = c.loop-at.cache.store.searched} {s' = c.read_met.new.cache.store.searched} refl refl (record { undone = c.requires.at.undone; may = c.requires.at.may; at = at }) read c.in-Err.error c.in-Err.ensures.effect (omega (arith, inside)) few))
 
 pub read_met-requires-clause-valid : goal.read_met-requires-clause-valid
 read_met-requires-clause-valid c =
@@ -206,8 +205,8 @@ returns-clause-effect c =
     c.loop-at.invariant.grown (omega (arith, c.loop-at.invariant.counted, c.loop-at.invariant.within)) c.loop-at.invariant.idle (λ begin nothing. (let had = c.loop-at.invariant.learned begin nothing in (had.0, subst (HasLearned d c.args.self.now c.loop-at.cache.store c.args.input.now) same had.1)))
     c.find_end-2.ensures.effect
 
-pub returns-in_err-next-clause-left : goal.returns-in_err-next-clause-left
-returns-in_err-next-clause-left c =
+pub returns-in-Err-clause-left : goal.returns-in-Err-clause-left
+returns-in-Err-clause-left c =
     let d : Direction = way_of c.args.way in
     let k : ℕ = c.run-run.result.at in
     let inside : k < c.args.input.now.end - c.args.input.now.start = omega (arith, c.if-run-last.false, c.last_place-last.ensures.place) in
@@ -215,15 +214,14 @@ returns-in_err-next-clause-left c =
     let given : given_up_offset d c.args.input.now k ≡ c.byte_offset-offset.result = span_unit d c.args.input.now k inside ∙ sym c.byte_offset-offset.ensures.unit in
     let read : next (tape_in d c.args.input.now) k ≡ Some c.byte_at-byte.result = c.byte_at-byte.ensures in
     let few : k ≤ length (tape_in d c.args.input.now).bytes = (let u = units_in d c.args.input.now c.requires.at.undone c.last_place-last.ensures.inside in omega (arith, u, inside)) in
-    if_err c.from_residual.result _ _ c.from_residual.ensures.1
-    (pass_stopped d c.args.self.now c.args.input.now k c.args.cache.now.store c.read_met.new.cache.store c.in_err-next.field-0.0
-    (at_reads d c.args.self.now c.loop-at.cache.store.table c.args.input.now k c.run-run.result.id c.run-run.result.found at few c.in_err-next.ensures.effect.alive) at.clean
-    (unit_refuses d c.args.self.now c.loop-at.cache.store.table c.read_met.new.cache.store c.args.input.now k c.run-run.result.id c.byte_offset-offset.result c.byte_offset-offset.result _ c.run-run.result.found c.in_err-next.field-0.0
-    at read (sym c.byte_offset-offset.ensures.unit) given c.in_err-next.ensures.refusal)
+    (pass_stopped d c.args.self.now c.args.input.now k c.args.cache.now.store c.read_met.new.cache.store c.in-Err.error
+    (at_reads d c.args.self.now c.loop-at.cache.store.table c.args.input.now k c.run-run.result.id c.run-run.result.found at few c.in-Err.ensures.effect.alive) at.clean
+    (unit_refuses d c.args.self.now c.loop-at.cache.store.table c.read_met.new.cache.store c.args.input.now k c.run-run.result.id c.byte_offset-offset.result c.byte_offset-offset.result _ c.run-run.result.found c.in-Err.error
+    at read (sym c.byte_offset-offset.ensures.unit) given c.in-Err.ensures.refusal)
     (pass_left_then d c.args.self.now c.args.input.now 0 c.args.cache.now.store c.loop-at.at k c.loop-at.cache.store c.loop-at.invariant.progress c.run-run.ensures.from c.run-run.ensures.known c.read_met.new.cache.store
     (inr (
       not_behind d c.args.input.now k inside (units_in d c.args.input.now c.requires.at.undone c.last_place-last.ensures.inside),
-      refused_here d c.args.self.now c.args.input.now k c.run-run.result.id c.byte_offset-offset.result (Some _) c.loop-at.cache.store at.named read given c.read_met.new.cache.store c.in_err-next.ensures.step.left,
+      refused_here d c.args.self.now c.args.input.now k c.run-run.result.id c.byte_offset-offset.result (Some _) c.loop-at.cache.store at.named read given c.read_met.new.cache.store c.in-Err.ensures.step.left,
     ))))
 
 pub returns-then-is_dead-clause-ended : goal.returns-then-is_dead-clause-ended
@@ -235,11 +233,11 @@ returns-then-is_dead-clause-ended c =
     let given : given_up_offset d c.args.input.now k ≡ c.byte_offset-offset.result = span_unit d c.args.input.now k inside ∙ sym c.byte_offset-offset.ensures.unit in
     let read : next (tape_in d c.args.input.now) k ≡ Some c.byte_at-byte.result = c.byte_at-byte.ensures in
     let few : k ≤ length (tape_in d c.args.input.now).bytes = (let u = units_in d c.args.input.now c.requires.at.undone c.last_place-last.ensures.inside in omega (arith, u, inside)) in
-    let stops : Reads d c.args.self.now c.args.input.now (suc k) → ⊥ = stops_dead d c.args.self.now c.loop-at.cache.store.table c.read_met.new.cache.store.table c.args.input.now k c.run-run.result.id c.in_ok-next.next _ c.run-run.result.found None at read c.in_ok-next.ensures.answer.named (quit_free c.args.self.now _ c.in_ok-next.ensures.answer.clean) (λ l. (dead_tagged c.read_met.new.cache.store.table c.in_ok-next.next (c.see_store.ensures.low c.in_ok-next.next) c.see_store.ensures.small _ l).0 (c.if-is_dead.ensures.0 refl)) (suc k) (omega arith) in
+    let stops : Reads d c.args.self.now c.args.input.now (suc k) → ⊥ = stops_dead d c.args.self.now c.loop-at.cache.store.table c.read_met.new.cache.store.table c.args.input.now k c.run-run.result.id c.in-Ok.next _ c.run-run.result.found None at read c.in-Ok.ensures.answer.named (quit_free c.args.self.now _ c.in-Ok.ensures.answer.clean) (λ l. (dead_tagged c.read_met.new.cache.store.table c.in-Ok.next (c.see_store.ensures.low c.in-Ok.next) c.see_store.ensures.small _ l).0 (c.if-is_dead.ensures.0 refl)) (suc k) (omega arith) in
     pass_last d c.args.self.now c.args.input.now k c.args.cache.now.store c.read_met.new.cache.store c.end_search.new.self.store
-    (at_reads d c.args.self.now c.loop-at.cache.store.table c.args.input.now k c.run-run.result.id c.run-run.result.found at few c.in_ok-next.ensures.effect.alive) stops
+    (at_reads d c.args.self.now c.loop-at.cache.store.table c.args.input.now k c.run-run.result.id c.run-run.result.found at few c.in-Ok.ensures.effect.alive) stops
     (read_then d c.args.self.now c.args.input.now 0 c.args.cache.now.store c.loop-at.at k c.loop-at.cache.store c.loop-at.invariant.progress c.run-run.ensures.from c.run-run.ensures.known c.read_met.new.cache.store
-    (taken_here d c.args.self.now c.args.input.now k c.run-run.result.id c.byte_offset-offset.result (Some _) c.loop-at.cache.store at.named read given c.read_met.new.cache.store c.in_ok-next.next c.in_ok-next.ensures.step.taken))
+    (taken_here d c.args.self.now c.args.input.now k c.run-run.result.id c.byte_offset-offset.result (Some _) c.loop-at.cache.store at.named read given c.read_met.new.cache.store c.in-Ok.next c.in-Ok.ensures.step.taken))
     (ended_here d c.args.input.now k c.byte_offset-offset.result c.read_met.new.cache c.end_search.new.self given c.end_search.ensures.value)
 
 pub returns-then-is_some-clause-ended : goal.returns-then-is_some-clause-ended
@@ -251,11 +249,11 @@ returns-then-is_some-clause-ended c =
     let given : given_up_offset d c.args.input.now k ≡ c.byte_offset-offset.result = span_unit d c.args.input.now k inside ∙ sym c.byte_offset-offset.ensures.unit in
     let read : next (tape_in d c.args.input.now) k ≡ Some c.byte_at-byte.result = c.byte_at-byte.ensures in
     let few : k ≤ length (tape_in d c.args.input.now).bytes = (let u = units_in d c.args.input.now c.requires.at.undone c.last_place-last.ensures.inside in omega (arith, u, inside)) in
-    let stops : Reads d c.args.self.now c.args.input.now (suc k) → ⊥ = stops_ends d c.args.self.now c.loop-at.cache.store.table c.read_met.new.cache.store.table c.args.input.now k c.run-run.result.id c.in_ok-next.next _ c.run-run.result.found c.found_at-found.result at read c.in_ok-next.ensures.answer.named (quit_free c.args.self.now _ c.in_ok-next.ensures.answer.clean) (c.place_offset.result, c.place_offset.ensures, c.found_at-found.ensures) (sym c.get_earliest.ensures ∙ c.if-get_earliest.true) (some_is c.found_at-found.result c.if-is_some.ensures) (suc k) (omega arith) in
+    let stops : Reads d c.args.self.now c.args.input.now (suc k) → ⊥ = stops_ends d c.args.self.now c.loop-at.cache.store.table c.read_met.new.cache.store.table c.args.input.now k c.run-run.result.id c.in-Ok.next _ c.run-run.result.found c.found_at-found.result at read c.in-Ok.ensures.answer.named (quit_free c.args.self.now _ c.in-Ok.ensures.answer.clean) (c.place_offset.result, c.place_offset.ensures, c.found_at-found.ensures) (sym c.get_earliest.ensures ∙ c.if-get_earliest.true) (some_is c.found_at-found.result c.if-is_some.ensures) (suc k) (omega arith) in
     pass_last d c.args.self.now c.args.input.now k c.args.cache.now.store c.read_met.new.cache.store c.end_search-then-is_some.new.self.store
-    (at_reads d c.args.self.now c.loop-at.cache.store.table c.args.input.now k c.run-run.result.id c.run-run.result.found at few c.in_ok-next.ensures.effect.alive) stops
+    (at_reads d c.args.self.now c.loop-at.cache.store.table c.args.input.now k c.run-run.result.id c.run-run.result.found at few c.in-Ok.ensures.effect.alive) stops
     (read_then d c.args.self.now c.args.input.now 0 c.args.cache.now.store c.loop-at.at k c.loop-at.cache.store c.loop-at.invariant.progress c.run-run.ensures.from c.run-run.ensures.known c.read_met.new.cache.store
-    (taken_here d c.args.self.now c.args.input.now k c.run-run.result.id c.byte_offset-offset.result (Some _) c.loop-at.cache.store at.named read given c.read_met.new.cache.store c.in_ok-next.next c.in_ok-next.ensures.step.taken))
+    (taken_here d c.args.self.now c.args.input.now k c.run-run.result.id c.byte_offset-offset.result (Some _) c.loop-at.cache.store at.named read given c.read_met.new.cache.store c.in-Ok.next c.in-Ok.ensures.step.taken))
     (ended_here d c.args.input.now k c.byte_offset-offset.result c.read_met.new.cache c.end_search-then-is_some.new.self given c.end_search-then-is_some.ensures.value)
 
 pub returns-then-run-last-clause-ended : goal.returns-then-run-last-clause-ended

@@ -31,8 +31,8 @@ found_at-requires-clause-leads c =
     let q : Powerset = state_in d c.args.self.now c.args.input.now (c.args.input.now.end - c.args.input.now.start) in
     let after : Powerset = successor c.args.self.now.nfa (match_kind_of c.args.self.now.config) q c.unit_at-unit.result in (
       after,
-      subst (λ (t : Rows). Leads t c.in_ok-next.next after) (sym c.end_search.ensures.table)
-          (c.in_ok-next.ensures.answer.named q (subst (λ (t : Rows). Names t c.args.id q) (sym c.end_before_last.ensures.table) c.requires.at.at.named)),
+      subst (λ (t : Rows). Leads t c.in-Ok.next after) (sym c.end_search.ensures.table)
+          (c.in-Ok.ensures.answer.named q (subst (λ (t : Rows). Names t c.args.id q) (sym c.end_before_last.ensures.table) c.requires.at.at.named)),
     )
 
 pub returns-clause-answer : goal.returns-clause-answer
@@ -42,8 +42,8 @@ returns-clause-answer c =
     let unit : next (tape_in d c.args.input.now) k ≡ c.unit_at-unit.result = sym (c.unit_at-unit.ensures ∙ ap (next (tape_in d c.args.input.now)) c.last_place-last.ensures.place) in
     let place : c.place_offset.result ≡ offset_in d c.args.input.now k = c.place_offset.ensures ∙ ap (offset_in d c.args.input.now) c.last_place-last.ensures.place in
     let units : k ≡ length (tape_in d c.args.input.now).bytes = units_in d c.args.input.now c.requires.at.undone c.last_place-last.ensures.inside in
-    last_answer d c.args.self.now c.args.input.now k c.args.id c.unit_at-unit.result c.args.found c.args.cache.now c.end_before_last.new.cache c.read.new.cache c.end_search.new.self c.end_before_last.ensures.value c.end_search.ensures.value c.requires.at unit c.in_ok-next.next c.found_at.result c.in_ok-next.ensures.answer c.place_offset.result place
-    (λ q l. c.found_at.ensures q (subst (λ (t : Rows). Leads t c.in_ok-next.next q) (sym c.end_search.ensures.table) l)) units
+    last_answer d c.args.self.now c.args.input.now k c.args.id c.unit_at-unit.result c.args.found c.args.cache.now c.end_before_last.new.cache c.read.new.cache c.end_search.new.self c.end_before_last.ensures.value c.end_search.ensures.value c.requires.at unit c.in-Ok.next c.found_at.result c.in-Ok.ensures.answer c.place_offset.result place
+    (λ q l. c.found_at.ensures q (subst (λ (t : Rows). Leads t c.in-Ok.next q) (sym c.end_search.ensures.table) l)) units
 
 pub returns-clause-effect : goal.returns-clause-effect
 returns-clause-effect c =
@@ -51,14 +51,14 @@ returns-clause-effect c =
     let k : ℕ = c.args.input.now.end - c.args.input.now.start in
     let unit : next (tape_in d c.args.input.now) k ≡ c.unit_at-unit.result = sym (c.unit_at-unit.ensures ∙ ap (next (tape_in d c.args.input.now)) c.last_place-last.ensures.place) in
     let units : k ≡ length (tape_in d c.args.input.now).bytes = units_in d c.args.input.now c.requires.at.undone c.last_place-last.ensures.inside in
-    rest_read d c.args.self.now c.args.input.now k c.args.id c.unit_at-unit.result c.args.found c.args.cache.now c.end_before_last.new.cache c.read.new.cache c.end_search.new.self c.end_before_last.ensures.value c.end_search.ensures.value c.requires.at unit c.in_ok-next.next _ c.in_ok-next.ensures.effect c.in_ok-next.ensures.of (omega arith) (omega (arith, units)) (stops_last d c.args.self.now c.args.input.now k units)
+    rest_read d c.args.self.now c.args.input.now k c.args.id c.unit_at-unit.result c.args.found c.args.cache.now c.end_before_last.new.cache c.read.new.cache c.end_search.new.self c.end_before_last.ensures.value c.end_search.ensures.value c.requires.at unit c.in-Ok.next _ c.in-Ok.ensures.effect c.in-Ok.ensures.of (omega arith) (omega (arith, units)) (stops_last d c.args.self.now c.args.input.now k units)
 
 pub returns-clause-alive : goal.returns-clause-alive
 returns-clause-alive c =
     let d : Direction = way_of c.args.way in
     let k : ℕ = c.args.input.now.end - c.args.input.now.start in
     let unit : next (tape_in d c.args.input.now) k ≡ c.unit_at-unit.result = sym (c.unit_at-unit.ensures ∙ ap (next (tape_in d c.args.input.now)) c.last_place-last.ensures.place) in
-    stands_alive d c.args.self.now c.args.input.now k c.args.id c.unit_at-unit.result c.args.found c.args.cache.now c.end_before_last.new.cache c.read.new.cache c.end_search.new.self c.end_before_last.ensures.value c.end_search.ensures.value c.requires.at unit c.in_ok-next.ensures.effect.alive
+    stands_alive d c.args.self.now c.args.input.now k c.args.id c.unit_at-unit.result c.args.found c.args.cache.now c.end_before_last.new.cache c.read.new.cache c.end_search.new.self c.end_before_last.ensures.value c.end_search.ensures.value c.requires.at unit c.in-Ok.ensures.effect.alive
 
 pub returns-clause-progress : goal.returns-clause-progress
 returns-clause-progress c =
@@ -73,41 +73,39 @@ returns-clause-progress c =
     record {
       ended =
           last_read d c.args.self.now c.args.input.now k c.args.cache.now.store c.end_before_last.new.cache.store c.read.new.cache.store c.end_search.new.self.store begins
-          (taken_here d c.args.self.now c.args.input.now k c.args.id c.span_offset-at.result c.unit_at-unit.result c.end_before_last.new.cache.store named unit place c.read.new.cache.store c.in_ok-next.next c.in_ok-next.ensures.step.taken)
+          (taken_here d c.args.self.now c.args.input.now k c.args.id c.span_offset-at.result c.unit_at-unit.result c.end_before_last.new.cache.store named unit place c.read.new.cache.store c.in-Ok.next c.in-Ok.ensures.step.taken)
           (ended_here d c.args.input.now k c.span_offset-at.result c.read.new.cache c.end_search.new.self place c.end_search.ensures.value);
       left = tt;
     }
 
-pub returns-in_err-next-clause-refusal : goal.returns-in_err-next-clause-refusal
-returns-in_err-next-clause-refusal c =
+pub returns-in-Err-clause-refusal : goal.returns-in-Err-clause-refusal
+returns-in-Err-clause-refusal c =
     let d : Direction = way_of c.args.way in
     let k : ℕ = c.args.input.now.end - c.args.input.now.start in
     let unit : next (tape_in d c.args.input.now) k ≡ c.unit_at-unit.result = sym (c.unit_at-unit.ensures ∙ ap (next (tape_in d c.args.input.now)) c.last_place-last.ensures.place) in
     let quits : c.unit_offset.result ≡ unit_offset d c.args.input.now k = c.unit_offset.ensures ∙ ap (unit_offset d c.args.input.now) c.last_place-last.ensures.place in
     let place : c.span_offset-at.result ≡ given_up_offset d c.args.input.now k = c.span_offset-at.ensures ∙ ap (given_up_offset d c.args.input.now) c.last_place-last.ensures.place in
-    if_err c.from_residual.result _ _ c.from_residual.ensures.1
-    (unit_refuses d c.args.self.now c.end_before_last.new.cache.store.table c.read.new.cache.store c.args.input.now k c.args.id c.unit_offset.result c.span_offset-at.result c.unit_at-unit.result c.args.found c.in_err-next.field-0.0
+    (unit_refuses d c.args.self.now c.end_before_last.new.cache.store.table c.read.new.cache.store c.args.input.now k c.args.id c.unit_offset.result c.span_offset-at.result c.unit_at-unit.result c.args.found c.in-Err.error
     (subst (λ (t : Rows). IsAt d c.args.self.now t c.args.input.now k c.args.id c.args.found) (sym c.end_before_last.ensures.table) c.requires.at.at)
-    unit (sym quits) (sym place) c.in_err-next.ensures.refusal)
+    unit (sym quits) (sym place) c.in-Err.ensures.refusal)
 
-pub returns-in_err-next-clause-effect : goal.returns-in_err-next-clause-effect
-returns-in_err-next-clause-effect c =
+pub returns-in-Err-clause-effect : goal.returns-in-Err-clause-effect
+returns-in-Err-clause-effect c =
     let d : Direction = way_of c.args.way in
     let k : ℕ = c.args.input.now.end - c.args.input.now.start in
     let unit : next (tape_in d c.args.input.now) k ≡ c.unit_at-unit.result = sym (c.unit_at-unit.ensures ∙ ap (next (tape_in d c.args.input.now)) c.last_place-last.ensures.place) in
     let units : k ≡ length (tape_in d c.args.input.now).bytes = units_in d c.args.input.now c.requires.at.undone c.last_place-last.ensures.inside in
-    at_err c.from_residual.result _ (IsRestEffect d c.args.self.now c.args.input.now k c.args.cache.now c.read.new.cache) c.from_residual.ensures.1
-    (rest_refused d c.args.self.now c.args.input.now k c.args.id c.unit_at-unit.result c.args.found c.args.cache.now c.end_before_last.new.cache c.read.new.cache c.read.new.cache {s' = c.read.new.cache.store.searched} c.end_before_last.ensures.value refl c.requires.at unit c.in_err-next.field-0.0 c.in_err-next.ensures.effect (omega arith) (omega (arith, units)))
+    (rest_refused d c.args.self.now c.args.input.now k c.args.id c.unit_at-unit.result c.args.found c.args.cache.now c.end_before_last.new.cache c.read.new.cache c.read.new.cache {s' = c.read.new.cache.store.searched} c.end_before_last.ensures.value refl c.requires.at unit c.in-Err.error c.in-Err.ensures.effect (omega arith) (omega (arith, units)))
 
-pub returns-in_err-next-clause-alive : goal.returns-in_err-next-clause-alive
-returns-in_err-next-clause-alive c =
+pub returns-in-Err-clause-alive : goal.returns-in-Err-clause-alive
+returns-in-Err-clause-alive c =
     let d : Direction = way_of c.args.way in
     let k : ℕ = c.args.input.now.end - c.args.input.now.start in
     let unit : next (tape_in d c.args.input.now) k ≡ c.unit_at-unit.result = sym (c.unit_at-unit.ensures ∙ ap (next (tape_in d c.args.input.now)) c.last_place-last.ensures.place) in
-    stands_alive d c.args.self.now c.args.input.now k c.args.id c.unit_at-unit.result c.args.found c.args.cache.now c.end_before_last.new.cache c.read.new.cache c.read.new.cache {s' = c.read.new.cache.store.searched} c.end_before_last.ensures.value refl c.requires.at unit c.in_err-next.ensures.effect.alive
+    stands_alive d c.args.self.now c.args.input.now k c.args.id c.unit_at-unit.result c.args.found c.args.cache.now c.end_before_last.new.cache c.read.new.cache c.read.new.cache {s' = c.read.new.cache.store.searched} c.end_before_last.ensures.value refl c.requires.at unit c.in-Err.ensures.effect.alive
 
-pub returns-in_err-next-clause-progress : goal.returns-in_err-next-clause-progress
-returns-in_err-next-clause-progress c =
+pub returns-in-Err-clause-progress : goal.returns-in-Err-clause-progress
+returns-in-Err-clause-progress c =
     let d : Direction = way_of c.args.way in
     let k : ℕ = c.args.input.now.end - c.args.input.now.start in
     let unit : next (tape_in d c.args.input.now) k ≡ c.unit_at-unit.result = sym (c.unit_at-unit.ensures ∙ ap (next (tape_in d c.args.input.now)) c.last_place-last.ensures.place) in
@@ -116,10 +114,10 @@ returns-in_err-next-clause-progress c =
     subst (λ at. c.end_before_last.new.cache.store ≡ with_searched c.args.cache.now.store (before_last d c.args.cache.now.store.searched at)) (sym place) (ap (λ (v : CacheView). v.store) c.end_before_last.ensures.value) in
     let named : Names c.end_before_last.new.cache.store.table c.args.id (state_in d c.args.self.now c.args.input.now k) =
     subst (λ (t : Rows). Names t c.args.id (state_in d c.args.self.now c.args.input.now k)) (sym c.end_before_last.ensures.table) c.requires.at.at.named in
-    at_err c.from_residual.result _ (IsEndProgress d c.args.self.now c.args.input.now k c.args.cache.now.store c.read.new.cache.store) c.from_residual.ensures.1 (record {
+    (record {
       ended = tt;
       left =
           last_left d c.args.self.now c.args.input.now k c.args.cache.now.store c.end_before_last.new.cache.store c.read.new.cache.store begins
           (units_in d c.args.input.now c.requires.at.undone c.last_place-last.ensures.inside)
-          (refused_here d c.args.self.now c.args.input.now k c.args.id c.span_offset-at.result c.unit_at-unit.result c.end_before_last.new.cache.store named unit place c.read.new.cache.store c.in_err-next.ensures.step.left);
+          (refused_here d c.args.self.now c.args.input.now k c.args.id c.span_offset-at.result c.unit_at-unit.result c.end_before_last.new.cache.store named unit place c.read.new.cache.store c.in-Err.ensures.step.left);
     })
