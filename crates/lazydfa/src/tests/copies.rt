@@ -11,7 +11,6 @@ use crate::catalogue::Entry;
 use Deed::{Copy, Find, FindAgain};
 use regex_automata::hybrid::BuildError;
 use regex_automata::hybrid::regex::{Cache, Regex};
-use regex_automata::replay::Reply;
 use regex_automata::util::search::Input;
 use std::alloc::{AllocError, Global};
 
@@ -58,7 +57,7 @@ fn find(regex: &Regex, cache: &mut Cache, haystack: &[u8]) -> Told
     requires { AreCachesOf cache.old regex.now }
     ensures { AreCachesOf cache.new regex.now }
 {
-    Told::of_reply(Reply::Span(regex.find(cache, &Input::new(haystack))))
+    Told::Span(regex.find(cache, &Input::new(haystack)), "")
 }
 
 fn counts_of(cache: &Cache) -> [Counted; 2] {
