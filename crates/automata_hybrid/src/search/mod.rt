@@ -169,10 +169,7 @@ impl DFA {
         self.see_classes();
         cache.see_ids();
         cache.move_search(at);
-        let next = match self.step_met(cache, id, met, byte, at) {
-            Ok(next) => next,
-            Err(error) => return Err(error),
-        };
+        let next = self.step_met(cache, id, met, byte, at)?;
         cache.see_ids();
         if next.is_quit() {
             cache.end_search(at);
