@@ -119,7 +119,7 @@ impl DFA {
     }
 
     /// The same, where the ID of that state was met, unless it is unknown.
-    // It has no `inline(always)`: with it `find` would grow so large that the compiler drops its own.
+    // It has no `inline(always)`: each one makes `search` grow, until the compiler drops the mark of that.
     fn step_met(
         &self,
         cache: &mut Cache,
