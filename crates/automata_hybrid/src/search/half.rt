@@ -148,7 +148,11 @@ impl DFA {
     {
         let mut later = with_span(input, input.start(), input.end());
         while !later.is_done() {
-            let Some(half) = self.pass(cache, &later, way)? else {
+            let found = match self.pass(cache, &later, way) {
+                Ok(found) => found,
+                Err(error) => return Err(error),
+            };
+            let Some(half) = found else {
                 return Ok(None);
             };
             if !self.skips_at(&later, half.offset()) {

@@ -119,7 +119,7 @@ impl DFA {
     }
 
     /// The same, where the ID of that state was met, unless it is unknown.
-    // It has no `inline(always)`: with it `find` would grow so large that the compiler drops its own.
+    // It has no `inline(always)`: each one makes `search` grow, until the compiler drops the mark of that.
     fn step_met(
         &self,
         cache: &mut Cache,
@@ -168,10 +168,7 @@ impl DFA {
         self.see_machine();
         cache.see_store();
         cache.move_search(at);
-        let next = match self.step_met(cache, id, met, byte, at) {
-            Ok(next) => next,
-            Err(error) => return Err(error),
-        };
+        let next = self.step_met(cache, id, met, byte, at)?;
         cache.see_store();
         if next.is_quit() {
             cache.end_search(at);

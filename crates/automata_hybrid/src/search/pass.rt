@@ -54,7 +54,10 @@ impl DFA {
         ensures effect { IsPassEffect (way_of way) self.now input.now cache.old cache.new result }
     {
         cache.see_bounds();
-        let start = self.walk_start(cache, input, way)?;
+        let start = match self.walk_start(cache, input, way) {
+            Ok(start) => start,
+            Err(error) => return Err(error),
+        };
         cache.see_store();
         if keeps_none(input, way) {
             if start.is_dead() {

@@ -23,24 +23,24 @@ use Rattle.automata_hybrid.proofs.dfa.DFA.pass.Goals as goal
 pub returns-then-is_dead-clause-answer : goal.returns-then-is_dead-clause-answer
 returns-then-is_dead-clause-answer c =
     let d : Direction = way_of c.args.way in
-    let dies : state_in d c.args.self.now c.args.input.now 0 ≡ dead = begins_dead d c.args.self.now c.walk_start.new.cache.store.table c.args.input.now c.in_ok-start.start c.in_ok-start.ensures.answer.named (c.see_store.ensures.low c.in_ok-start.start) c.see_store.ensures.small (c.if-is_dead.ensures.0 refl) in
-    record { found = starts_dead d c.args.self.now c.args.input.now dies; clean = clean_start d c.args.self.now c.args.input.now dies c.in_ok-start.ensures.answer.may.0; supported = c.in_ok-start.ensures.answer.may.1 }
+    let dies : state_in d c.args.self.now c.args.input.now 0 ≡ dead = begins_dead d c.args.self.now c.walk_start.new.cache.store.table c.args.input.now c.in-Ok.start c.in-Ok.ensures.answer.named (c.see_store.ensures.low c.in-Ok.start) c.see_store.ensures.small (c.if-is_dead.ensures.0 refl) in
+    record { found = starts_dead d c.args.self.now c.args.input.now dies; clean = clean_start d c.args.self.now c.args.input.now dies c.in-Ok.ensures.answer.may.0; supported = c.in-Ok.ensures.answer.may.1 }
 
 pub returns-then-is_dead-2-clause-answer : goal.returns-then-is_dead-2-clause-answer
 returns-then-is_dead-2-clause-answer c =
     let d : Direction = way_of c.args.way in
-    let dies : state_in d c.args.self.now c.args.input.now 0 ≡ dead = begins_dead d c.args.self.now c.walk_start.new.cache.store.table c.args.input.now c.in_ok-start.start c.in_ok-start.ensures.answer.named (c.see_store.ensures.low c.in_ok-start.start) c.see_store.ensures.small (c.if-is_dead-2.ensures.0 refl) in
-    record { found = starts_dead d c.args.self.now c.args.input.now dies; clean = clean_start d c.args.self.now c.args.input.now dies c.in_ok-start.ensures.answer.may.0; supported = c.in_ok-start.ensures.answer.may.1 }
+    let dies : state_in d c.args.self.now c.args.input.now 0 ≡ dead = begins_dead d c.args.self.now c.walk_start.new.cache.store.table c.args.input.now c.in-Ok.start c.in-Ok.ensures.answer.named (c.see_store.ensures.low c.in-Ok.start) c.see_store.ensures.small (c.if-is_dead-2.ensures.0 refl) in
+    record { found = starts_dead d c.args.self.now c.args.input.now dies; clean = clean_start d c.args.self.now c.args.input.now dies c.in-Ok.ensures.answer.may.0; supported = c.in-Ok.ensures.answer.may.1 }
 
 pub find-requires-clause-at : goal.find-requires-clause-at
 find-requires-clause-at c =
     let d : Direction = way_of c.args.way in
     record {
       undone = c.requires.«open»;
-      may = c.in_ok-start.ensures.answer.may;
-      at = starts_at d c.args.self.now c.search_start.new.self.store.table c.args.input.now c.in_ok-start.start
-          (subst (λ (t : Rows). Names t c.in_ok-start.start (state_in d c.args.self.now c.args.input.now 0)) (sym c.search_start.ensures.table)
-          (begins_alive d c.args.self.now c.walk_start.new.cache.store.table c.args.input.now c.in_ok-start.start c.in_ok-start.ensures.answer.named (c.see_store.ensures.low c.in_ok-start.start) c.see_store.ensures.small (λ b. false_true (c.if-is_dead-2.ensures.1 b))));
+      may = c.in-Ok.ensures.answer.may;
+      at = starts_at d c.args.self.now c.search_start.new.self.store.table c.args.input.now c.in-Ok.start
+          (subst (λ (t : Rows). Names t c.in-Ok.start (state_in d c.args.self.now c.args.input.now 0)) (sym c.search_start.ensures.table)
+          (begins_alive d c.args.self.now c.walk_start.new.cache.store.table c.args.input.now c.in-Ok.start c.in-Ok.ensures.answer.named (c.see_store.ensures.low c.in-Ok.start) c.see_store.ensures.small (λ b. false_true (c.if-is_dead-2.ensures.1 b))));
     }
 
 pub find_still-requires-clause-at : goal.find_still-requires-clause-at
@@ -48,27 +48,26 @@ find_still-requires-clause-at c =
     let d : Direction = way_of c.args.way in
     record {
       undone = c.requires.«open»;
-      may = c.in_ok-start.ensures.answer.may;
-      at = starts_at d c.args.self.now c.walk_start.new.cache.store.table c.args.input.now c.in_ok-start.start
-          (begins_alive d c.args.self.now c.walk_start.new.cache.store.table c.args.input.now c.in_ok-start.start c.in_ok-start.ensures.answer.named (c.see_store.ensures.low c.in_ok-start.start) c.see_store.ensures.small (λ b. false_true (c.if-is_dead.ensures.1 b)));
+      may = c.in-Ok.ensures.answer.may;
+      at = starts_at d c.args.self.now c.walk_start.new.cache.store.table c.args.input.now c.in-Ok.start
+          (begins_alive d c.args.self.now c.walk_start.new.cache.store.table c.args.input.now c.in-Ok.start c.in-Ok.ensures.answer.named (c.see_store.ensures.low c.in-Ok.start) c.see_store.ensures.small (λ b. false_true (c.if-is_dead.ensures.1 b)));
     }
 
-pub returns-in_err-start-clause-effect : goal.returns-in_err-start-clause-effect
-returns-in_err-start-clause-effect c =
+pub returns-in-Err-clause-effect : goal.returns-in-Err-clause-effect
+returns-in-Err-clause-effect c =
     let d : Direction = way_of c.args.way in
-    at_err c.from_residual.result _ (IsPassEffect d c.args.self.now c.args.input.now c.args.cache.now c.walk_start.new.cache) c.from_residual.ensures.1
-    (pass_unstarted d c.args.self.now c.args.input.now _ _ c.args.cache.now c.walk_start.new.cache c.in_err-start.field-0.0 (c.see_bounds.ensures.slots ∙ ap (λ (d : Machine). slot_count d) c.requires.of)
-    c.in_err-start.ensures.refusal c.in_err-start.ensures.effect refl refl)
+    (pass_unstarted d c.args.self.now c.args.input.now _ _ c.args.cache.now c.walk_start.new.cache c.in-Err.error (c.see_bounds.ensures.slots ∙ ap (λ (d : Machine). slot_count d) c.requires.of)
+    c.in-Err.ensures.refusal c.in-Err.ensures.effect refl refl)
 
 pub returns-then-is_dead-clause-effect : goal.returns-then-is_dead-clause-effect
 returns-then-is_dead-clause-effect c =
     let d : Direction = way_of c.args.way in
-    let dies : state_in d c.args.self.now c.args.input.now 0 ≡ dead = begins_dead d c.args.self.now c.walk_start.new.cache.store.table c.args.input.now c.in_ok-start.start c.in_ok-start.ensures.answer.named (c.see_store.ensures.low c.in_ok-start.start) c.see_store.ensures.small (c.if-is_dead.ensures.0 refl) in
-    pass_rest d c.args.self.now c.args.input.now c.in_ok-start.start c.args.cache.now c.walk_start.new.cache c.walk_start.new.cache c.walk_start.new.cache {s = c.walk_start.new.cache.store.searched} _ (c.see_bounds.ensures.slots ∙ ap (λ (d : Machine). slot_count d) c.requires.of)
-    c.in_ok-start.ensures.answer c.in_ok-start.ensures.effect refl
+    let dies : state_in d c.args.self.now c.args.input.now 0 ≡ dead = begins_dead d c.args.self.now c.walk_start.new.cache.store.table c.args.input.now c.in-Ok.start c.in-Ok.ensures.answer.named (c.see_store.ensures.low c.in-Ok.start) c.see_store.ensures.small (c.if-is_dead.ensures.0 refl) in
+    pass_rest d c.args.self.now c.args.input.now c.in-Ok.start c.args.cache.now c.walk_start.new.cache c.walk_start.new.cache c.walk_start.new.cache {s = c.walk_start.new.cache.store.searched} _ (c.see_bounds.ensures.slots ∙ ap (λ (d : Machine). slot_count d) c.requires.of)
+    c.in-Ok.ensures.answer c.in-Ok.ensures.effect refl
     (rest_dead d c.args.self.now c.args.input.now c.walk_start.new.cache c.walk_start.new.cache {s = c.walk_start.new.cache.store.searched} _ refl dies) (
       c.walk_start.new.cache.store,
-      (start_had d c.args.self.now c.args.input.now c.args.cache.now c.walk_start.new.cache c.in_ok-start.start (c.see_bounds.ensures.slots ∙ ap (λ (d : Machine). slot_count d) c.requires.of) c.in_ok-start.ensures.effect c.in_ok-start.ensures.answer),
+      (start_had d c.args.self.now c.args.input.now c.args.cache.now c.walk_start.new.cache c.in-Ok.start (c.see_bounds.ensures.slots ∙ ap (λ (d : Machine). slot_count d) c.requires.of) c.in-Ok.ensures.effect c.in-Ok.ensures.answer),
       inl (c.if-keeps_none.ensures.yes refl, inr (stops_start d c.args.self.now c.args.input.now dies 0 (omega arith), refl)),
     )
     tt
@@ -78,12 +77,12 @@ returns-then-is_dead-2-clause-effect c =
     let d : Direction = way_of c.args.way in
     let begins : c.search_start.new.self.store ≡ with_search_begun d c.args.input.now 0 c.walk_start.new.cache.store =
     subst (λ at. c.search_start.new.self.store ≡ with_searched c.walk_start.new.cache.store (started c.walk_start.new.cache.store.searched at)) c.span_offset-first.ensures (ap (λ (v : CacheView). v.store) c.search_start.ensures.value) in
-    let dies : state_in d c.args.self.now c.args.input.now 0 ≡ dead = begins_dead d c.args.self.now c.walk_start.new.cache.store.table c.args.input.now c.in_ok-start.start c.in_ok-start.ensures.answer.named (c.see_store.ensures.low c.in_ok-start.start) c.see_store.ensures.small (c.if-is_dead-2.ensures.0 refl) in
-    pass_rest d c.args.self.now c.args.input.now c.in_ok-start.start c.args.cache.now c.walk_start.new.cache c.search_start.new.self c.end_search.new.self _ (c.see_bounds.ensures.slots ∙ ap (λ (d : Machine). slot_count d) c.requires.of)
-    c.in_ok-start.ensures.answer c.in_ok-start.ensures.effect c.search_start.ensures.value
+    let dies : state_in d c.args.self.now c.args.input.now 0 ≡ dead = begins_dead d c.args.self.now c.walk_start.new.cache.store.table c.args.input.now c.in-Ok.start c.in-Ok.ensures.answer.named (c.see_store.ensures.low c.in-Ok.start) c.see_store.ensures.small (c.if-is_dead-2.ensures.0 refl) in
+    pass_rest d c.args.self.now c.args.input.now c.in-Ok.start c.args.cache.now c.walk_start.new.cache c.search_start.new.self c.end_search.new.self _ (c.see_bounds.ensures.slots ∙ ap (λ (d : Machine). slot_count d) c.requires.of)
+    c.in-Ok.ensures.answer c.in-Ok.ensures.effect c.search_start.ensures.value
     (rest_dead d c.args.self.now c.args.input.now c.search_start.new.self c.end_search.new.self _ c.end_search.ensures.value dies) (
       c.walk_start.new.cache.store,
-      (start_had d c.args.self.now c.args.input.now c.args.cache.now c.walk_start.new.cache c.in_ok-start.start (c.see_bounds.ensures.slots ∙ ap (λ (d : Machine). slot_count d) c.requires.of) c.in_ok-start.ensures.effect c.in_ok-start.ensures.answer),
+      (start_had d c.args.self.now c.args.input.now c.args.cache.now c.walk_start.new.cache c.in-Ok.start (c.see_bounds.ensures.slots ∙ ap (λ (d : Machine). slot_count d) c.requires.of) c.in-Ok.ensures.effect c.in-Ok.ensures.answer),
       inr (
         c.if-keeps_none.ensures.no refl,
         pass_dies d c.args.self.now c.args.input.now (with_search_begun d c.args.input.now 0 c.walk_start.new.cache.store) c.end_search.new.self.store
@@ -98,24 +97,24 @@ pub returns-then-keeps_none-clause-effect : goal.returns-then-keeps_none-clause-
 returns-then-keeps_none-clause-effect c =
     let d : Direction = way_of c.args.way in
     let reads : Reads d c.args.self.now c.args.input.now 0 =
-    at_reads d c.args.self.now c.walk_start.new.cache.store.table c.args.input.now 0 c.in_ok-start.start None
-    (starts_at d c.args.self.now c.walk_start.new.cache.store.table c.args.input.now c.in_ok-start.start
-    (begins_alive d c.args.self.now c.walk_start.new.cache.store.table c.args.input.now c.in_ok-start.start c.in_ok-start.ensures.answer.named (c.see_store.ensures.low c.in_ok-start.start) c.see_store.ensures.small (λ b. false_true (c.if-is_dead.ensures.1 b))))
+    at_reads d c.args.self.now c.walk_start.new.cache.store.table c.args.input.now 0 c.in-Ok.start None
+    (starts_at d c.args.self.now c.walk_start.new.cache.store.table c.args.input.now c.in-Ok.start
+    (begins_alive d c.args.self.now c.walk_start.new.cache.store.table c.args.input.now c.in-Ok.start c.in-Ok.ensures.answer.named (c.see_store.ensures.low c.in-Ok.start) c.see_store.ensures.small (λ b. false_true (c.if-is_dead.ensures.1 b))))
     (omega arith) c.find_still.ensures.alive in
-    pass_rest d c.args.self.now c.args.input.now c.in_ok-start.start c.args.cache.now c.walk_start.new.cache c.walk_start.new.cache c.find_still.new.cache {s = c.walk_start.new.cache.store.searched} c.find_still.result (c.see_bounds.ensures.slots ∙ ap (λ (d : Machine). slot_count d) c.requires.of)
-    c.in_ok-start.ensures.answer c.in_ok-start.ensures.effect refl
+    pass_rest d c.args.self.now c.args.input.now c.in-Ok.start c.args.cache.now c.walk_start.new.cache c.walk_start.new.cache c.find_still.new.cache {s = c.walk_start.new.cache.store.searched} c.find_still.result (c.see_bounds.ensures.slots ∙ ap (λ (d : Machine). slot_count d) c.requires.of)
+    c.in-Ok.ensures.answer c.in-Ok.ensures.effect refl
     c.find_still.ensures.effect
     (IfOk-weaker c.find_still.result _ _
     (λ _ read. (
       c.walk_start.new.cache.store,
-      (start_had d c.args.self.now c.args.input.now c.args.cache.now c.walk_start.new.cache c.in_ok-start.start (c.see_bounds.ensures.slots ∙ ap (λ (d : Machine). slot_count d) c.requires.of) c.in_ok-start.ensures.effect c.in_ok-start.ensures.answer),
+      (start_had d c.args.self.now c.args.input.now c.args.cache.now c.walk_start.new.cache c.in-Ok.start (c.see_bounds.ensures.slots ∙ ap (λ (d : Machine). slot_count d) c.requires.of) c.in-Ok.ensures.effect c.in-Ok.ensures.answer),
       inl (c.if-keeps_none.ensures.yes refl, inl (reads, read)),
     ))
     c.find_still.ensures.read)
     (if_both c.find_still.result _ _ _
     (λ error refused kept. inr (
       c.walk_start.new.cache.store,
-      (start_had d c.args.self.now c.args.input.now c.args.cache.now c.walk_start.new.cache c.in_ok-start.start (c.see_bounds.ensures.slots ∙ ap (λ (d : Machine). slot_count d) c.requires.of) c.in_ok-start.ensures.effect c.in_ok-start.ensures.answer),
+      (start_had d c.args.self.now c.args.input.now c.args.cache.now c.walk_start.new.cache c.in-Ok.start (c.see_bounds.ensures.slots ∙ ap (λ (d : Machine). slot_count d) c.requires.of) c.in-Ok.ensures.effect c.in-Ok.ensures.answer),
       inl (c.if-keeps_none.ensures.yes refl, reads, refused, kept),
     ))
     c.find_still.ensures.refusal c.find_still.ensures.kept)
@@ -124,10 +123,10 @@ pub returns-then-keeps_none-clause-refusal : goal.returns-then-keeps_none-clause
 returns-then-keeps_none-clause-refusal c =
     let d : Direction = way_of c.args.way in
     IfErr-weaker c.find_still.result _ _
-    (λ error refused. place_refuses d c.args.self.now c.walk_start.new.cache.store.table c.find_still.new.cache.store c.args.input.now 0 c.in_ok-start.start None error
-    (starts_at d c.args.self.now c.walk_start.new.cache.store.table c.args.input.now c.in_ok-start.start
-    (begins_alive d c.args.self.now c.walk_start.new.cache.store.table c.args.input.now c.in_ok-start.start c.in_ok-start.ensures.answer.named (c.see_store.ensures.low c.in_ok-start.start) c.see_store.ensures.small (λ b. false_true (c.if-is_dead.ensures.1 b))))
-    (omega arith) c.find_still.ensures.alive c.in_ok-start.ensures.answer.may.0 refused)
+    (λ error refused. place_refuses d c.args.self.now c.walk_start.new.cache.store.table c.find_still.new.cache.store c.args.input.now 0 c.in-Ok.start None error
+    (starts_at d c.args.self.now c.walk_start.new.cache.store.table c.args.input.now c.in-Ok.start
+    (begins_alive d c.args.self.now c.walk_start.new.cache.store.table c.args.input.now c.in-Ok.start c.in-Ok.ensures.answer.named (c.see_store.ensures.low c.in-Ok.start) c.see_store.ensures.small (λ b. false_true (c.if-is_dead.ensures.1 b))))
+    (omega arith) c.find_still.ensures.alive c.in-Ok.ensures.answer.may.0 refused)
     c.find_still.ensures.refusal
 
 pub returns-clause-effect : goal.returns-clause-effect
@@ -135,11 +134,11 @@ returns-clause-effect c =
     let d : Direction = way_of c.args.way in
     let begins : c.search_start.new.self.store ≡ with_search_begun d c.args.input.now 0 c.walk_start.new.cache.store =
     subst (λ at. c.search_start.new.self.store ≡ with_searched c.walk_start.new.cache.store (started c.walk_start.new.cache.store.searched at)) c.span_offset-first.ensures (ap (λ (v : CacheView). v.store) c.search_start.ensures.value) in
-    pass_rest d c.args.self.now c.args.input.now c.in_ok-start.start c.args.cache.now c.walk_start.new.cache c.search_start.new.self c.find.new.cache _ (c.see_bounds.ensures.slots ∙ ap (λ (d : Machine). slot_count d) c.requires.of)
-    c.in_ok-start.ensures.answer c.in_ok-start.ensures.effect c.search_start.ensures.value
+    pass_rest d c.args.self.now c.args.input.now c.in-Ok.start c.args.cache.now c.walk_start.new.cache c.search_start.new.self c.find.new.cache _ (c.see_bounds.ensures.slots ∙ ap (λ (d : Machine). slot_count d) c.requires.of)
+    c.in-Ok.ensures.answer c.in-Ok.ensures.effect c.search_start.ensures.value
     c.in_ok-found.ensures.effect (
       c.walk_start.new.cache.store,
-      (start_had d c.args.self.now c.args.input.now c.args.cache.now c.walk_start.new.cache c.in_ok-start.start (c.see_bounds.ensures.slots ∙ ap (λ (d : Machine). slot_count d) c.requires.of) c.in_ok-start.ensures.effect c.in_ok-start.ensures.answer),
+      (start_had d c.args.self.now c.args.input.now c.args.cache.now c.walk_start.new.cache c.in-Ok.start (c.see_bounds.ensures.slots ∙ ap (λ (d : Machine). slot_count d) c.requires.of) c.in-Ok.ensures.effect c.in-Ok.ensures.answer),
       inr (
         c.if-keeps_none.ensures.no refl,
         subst (λ (v : Stored). EndsAtLast d c.args.self.now c.args.input.now v c.find.new.cache.store) begins c.in_ok-found.ensures.ended,
@@ -152,14 +151,14 @@ returns-in_err-found-clause-effect c =
     let d : Direction = way_of c.args.way in
     let begins : c.search_start.new.self.store ≡ with_search_begun d c.args.input.now 0 c.walk_start.new.cache.store =
     subst (λ at. c.search_start.new.self.store ≡ with_searched c.walk_start.new.cache.store (started c.walk_start.new.cache.store.searched at)) c.span_offset-first.ensures (ap (λ (v : CacheView). v.store) c.search_start.ensures.value) in
-    at_err c.from_residual-in_err-found.result _ (IsPassEffect d c.args.self.now c.args.input.now c.args.cache.now c.find.new.cache) c.from_residual-in_err-found.ensures.1
-    (pass_rest d c.args.self.now c.args.input.now c.in_ok-start.start c.args.cache.now c.walk_start.new.cache c.search_start.new.self c.find.new.cache (Err c.in_err-found.field-0.0) (c.see_bounds.ensures.slots ∙ ap (λ (d : Machine). slot_count d) c.requires.of)
-    c.in_ok-start.ensures.answer c.in_ok-start.ensures.effect c.search_start.ensures.value
+    at_err c.from_residual.result _ (IsPassEffect d c.args.self.now c.args.input.now c.args.cache.now c.find.new.cache) c.from_residual.ensures.1
+    (pass_rest d c.args.self.now c.args.input.now c.in-Ok.start c.args.cache.now c.walk_start.new.cache c.search_start.new.self c.find.new.cache (Err c.in_err-found.field-0.0) (c.see_bounds.ensures.slots ∙ ap (λ (d : Machine). slot_count d) c.requires.of)
+    c.in-Ok.ensures.answer c.in-Ok.ensures.effect c.search_start.ensures.value
     c.in_err-found.ensures.effect
     tt
     (inr (
       c.walk_start.new.cache.store,
-      (start_had d c.args.self.now c.args.input.now c.args.cache.now c.walk_start.new.cache c.in_ok-start.start (c.see_bounds.ensures.slots ∙ ap (λ (d : Machine). slot_count d) c.requires.of) c.in_ok-start.ensures.effect c.in_ok-start.ensures.answer),
+      (start_had d c.args.self.now c.args.input.now c.args.cache.now c.walk_start.new.cache c.in-Ok.start (c.see_bounds.ensures.slots ∙ ap (λ (d : Machine). slot_count d) c.requires.of) c.in-Ok.ensures.effect c.in-Ok.ensures.answer),
       inr (
         c.if-keeps_none.ensures.no refl,
         subst (λ (v : Stored). IsStoppedAt d c.args.self.now c.args.input.now v c.find.new.cache.store c.in_err-found.field-0.0) begins c.in_err-found.ensures.left,

@@ -27,14 +27,14 @@ use Rattle.automata_hybrid.proofs.Spans.{effect_after, effect_before, effect_ref
 use Rattle.automata_hybrid.proofs.Spans.{spans_ended, spans_known, spans_learned}
 use Rattle.automata_hybrid.proofs.dfa.DFA.search.Goals as goal
 
-pub returns-in_err-half-clause-refusal : goal.returns-in_err-half-clause-refusal
-returns-in_err-half-clause-refusal c =
+pub returns-in-Err-clause-refusal : goal.returns-in-Err-clause-refusal
+returns-in-Err-clause-refusal c =
     let d : Direction = way_of c.args.way in
     let k : ℕ = skipped c.args.input.now c.loop-later.later in
     let same : c.loop-later.later ≡ later d k c.args.input.now = c.loop-later.invariant.same in
     let ahead : c.loop-later.later.start ≤ c.loop-later.later.end = grind (arith, common_steps, c.loop-later-test.ensures.done) in
     let within : c.args.input.now.start + k ≤ c.args.input.now.end = skipped_within c.args.input.now c.loop-later.later c.loop-later.invariant.few ahead in
-    if_err c.from_residual.result _ _ c.from_residual.ensures.1 (refuses d c.args.self.now c.args.input.now c.loop-later.later k same c.loop-later.invariant.tries within c.pass.new.cache.store c.in_err-half.field-0.0 c.in_err-half.ensures.refusal)
+    (refuses d c.args.self.now c.args.input.now c.loop-later.later k same c.loop-later.invariant.tries within c.pass.new.cache.store c.in-Err.error c.in-Err.ensures.refusal)
 
 pub returns-in_default-clause-found : goal.returns-in_default-clause-found
 returns-in_default-clause-found c =
@@ -43,7 +43,7 @@ returns-in_default-clause-found c =
     let same : c.loop-later.later ≡ later d k c.args.input.now = c.loop-later.invariant.same in
     let ahead : c.loop-later.later.start ≤ c.loop-later.later.end = grind (arith, common_steps, c.loop-later-test.ensures.done) in
     let within : c.args.input.now.start + k ≤ c.args.input.now.end = skipped_within c.args.input.now c.loop-later.later c.loop-later.invariant.few ahead in
-    finds_none d c.args.self.now c.args.input.now c.loop-later.later k same c.loop-later.invariant.tries within (sym c.in_default.is ∙ c.in_ok-half.ensures.answer.found) c.in_ok-half.ensures.answer.clean
+    finds_none d c.args.self.now c.args.input.now c.loop-later.later k same c.loop-later.invariant.tries within (sym c.in_default.is ∙ c.in-Ok.ensures.answer.found) c.in-Ok.ensures.answer.clean
 
 pub returns-then-not-skips_at-clause-found : goal.returns-then-not-skips_at-clause-found
 returns-then-not-skips_at-clause-found c =
@@ -52,7 +52,7 @@ returns-then-not-skips_at-clause-found c =
     let same : c.loop-later.later ≡ later d k c.args.input.now = c.loop-later.invariant.same in
     let ahead : c.loop-later.later.start ≤ c.loop-later.later.end = grind (arith, common_steps, c.loop-later-test.ensures.done) in
     let within : c.args.input.now.start + k ≤ c.args.input.now.end = skipped_within c.args.input.now c.loop-later.later c.loop-later.invariant.few ahead in
-    let found : IsFound d c.args.self.now c.args.input.now (Some (with_base c.in-Some.half c.loop-later.later.start)) = finds_some d c.args.self.now c.args.input.now c.loop-later.later k same c.loop-later.invariant.tries within c.in-Some.half (sym c.in-Some.is ∙ c.in_ok-half.ensures.answer.found) c.in_ok-half.ensures.answer.clean (λ skips. subst (λ n. is_split c.loop-later.later.haystack n ≡ false) c.offset.ensures (c.if-not-skips_at.ensures.no refl skips)) in
+    let found : IsFound d c.args.self.now c.args.input.now (Some (with_base c.in-Some.half c.loop-later.later.start)) = finds_some d c.args.self.now c.args.input.now c.loop-later.later k same c.loop-later.invariant.tries within c.in-Some.half (sym c.in-Some.is ∙ c.in-Ok.ensures.answer.found) c.in-Ok.ensures.answer.clean (λ skips. subst (λ n. is_split c.loop-later.later.haystack n ≡ false) c.offset.ensures (c.if-not-skips_at.ensures.no refl skips)) in
     subst (λ n. IsFound d c.args.self.now c.args.input.now (Some (with_base c.in-Some.half n))) (sym c.start-then-not-skips_at.ensures.start) found
 
 pub returns-then-is_anchored-clause-found : goal.returns-then-is_anchored-clause-found
@@ -62,7 +62,7 @@ returns-then-is_anchored-clause-found c =
     let same : c.loop-later.later ≡ later d k c.args.input.now = c.loop-later.invariant.same in
     let ahead : c.loop-later.later.start ≤ c.loop-later.later.end = grind (arith, common_steps, c.loop-later-test.ensures.done) in
     let within : c.args.input.now.start + k ≤ c.args.input.now.end = skipped_within c.args.input.now c.loop-later.later c.loop-later.invariant.few ahead in
-    finds_split d c.args.self.now c.args.input.now c.loop-later.later k same c.loop-later.invariant.tries within c.in-Some.half (sym c.in-Some.is ∙ c.in_ok-half.ensures.answer.found) c.in_ok-half.ensures.answer.clean (c.if-not-skips_at.ensures.yes refl).0 (subst (λ n. is_split c.loop-later.later.haystack n ≡ true) c.offset.ensures (c.if-not-skips_at.ensures.yes refl).1) (λ e. c.if-is_anchored.ensures.yes refl (c.get_anchored.ensures ∙ (ap (λ (i : Input). i.anchored) same ∙ (later_anchored d k c.args.input.now ∙ e))))
+    finds_split d c.args.self.now c.args.input.now c.loop-later.later k same c.loop-later.invariant.tries within c.in-Some.half (sym c.in-Some.is ∙ c.in-Ok.ensures.answer.found) c.in-Ok.ensures.answer.clean (c.if-not-skips_at.ensures.yes refl).0 (subst (λ n. is_split c.loop-later.later.haystack n ≡ true) c.offset.ensures (c.if-not-skips_at.ensures.yes refl).1) (λ e. c.if-is_anchored.ensures.yes refl (c.get_anchored.ensures ∙ (ap (λ (i : Input). i.anchored) same ∙ (later_anchored d k c.args.input.now ∙ e))))
 
 pub loop-later-init : goal.loop-later-init
 loop-later-init c =
@@ -93,21 +93,21 @@ loop-later-preserved c =
     let mode : c.args.input.now.anchored ≡ No = sym (c.get_anchored.ensures ∙ (ap (λ (i : Input). i.anchored) same ∙ later_anchored d k c.args.input.now)) ∙ c.if-is_anchored.ensures.no refl in
     let next : suc k ≡ skipped c.args.input.now c.begin_later.new.input = skipped_more c.args.input.now c.loop-later.later c.loop-later.invariant.few ahead c.begin_later.new.input (c.if-not-begin_later.ensures.shorter refl) in
     record {
-      of = c.in_ok-half.ensures.of;
+      of = c.in-Ok.ensures.of;
       few = omega (arith, c.if-not-begin_later.ensures.shorter refl, c.loop-later.invariant.few);
       same = subst (λ n. c.begin_later.new.input ≡ later d n c.args.input.now) next (c.if-not-begin_later.ensures.later refl ∙ (ap (later d 1) same ∙ later_on d k c.args.input.now));
-      first = λ u. absurd (false_true (sym u ∙ (ap (supports c.args.self.now) (sym (ap (λ (i : Input). i.anchored) same ∙ later_anchored d k c.args.input.now)) ∙ c.in_ok-half.ensures.answer.supported)));
-      grown = grown_trans c.args.cache.now c.loop-later.cache c.pass.new.cache c.loop-later.invariant.grown c.in_ok-half.ensures.effect.grown;
-      known = spans_known d c.args.self.now c.args.input.now k c.loop-later.invariant.tries c.args.cache.now c.loop-later.cache c.loop-later.invariant.grown c.loop-later.invariant.known c.loop-later.invariant.learned c.loop-later.invariant.bounded c.loop-later.invariant.progress c.loop-later.later same within c.pass.new.cache _ c.in_ok-half.ensures.effect;
+      first = λ u. absurd (false_true (sym u ∙ (ap (supports c.args.self.now) (sym (ap (λ (i : Input). i.anchored) same ∙ later_anchored d k c.args.input.now)) ∙ c.in-Ok.ensures.answer.supported)));
+      grown = grown_trans c.args.cache.now c.loop-later.cache c.pass.new.cache c.loop-later.invariant.grown c.in-Ok.ensures.effect.grown;
+      known = spans_known d c.args.self.now c.args.input.now k c.loop-later.invariant.tries c.args.cache.now c.loop-later.cache c.loop-later.invariant.grown c.loop-later.invariant.known c.loop-later.invariant.learned c.loop-later.invariant.bounded c.loop-later.invariant.progress c.loop-later.later same within c.pass.new.cache _ c.in-Ok.ensures.effect;
       learned = subst (λ n. ClearedNothing c.args.cache.now.store c.pass.new.cache.store → LearnedSpans d c.args.self.now c.pass.new.cache.store c.args.input.now n) next
-          (spans_learned d c.args.self.now c.args.input.now k c.loop-later.invariant.tries c.args.cache.now c.loop-later.cache c.loop-later.invariant.grown c.loop-later.invariant.known c.loop-later.invariant.learned c.loop-later.invariant.bounded c.loop-later.invariant.progress c.loop-later.later same within c.pass.new.cache _ c.in_ok-half.ensures.effect);
+          (spans_learned d c.args.self.now c.args.input.now k c.loop-later.invariant.tries c.args.cache.now c.loop-later.cache c.loop-later.invariant.grown c.loop-later.invariant.known c.loop-later.invariant.learned c.loop-later.invariant.bounded c.loop-later.invariant.progress c.loop-later.later same within c.pass.new.cache _ c.in-Ok.ensures.effect);
       bounded = subst (λ n. AreCounted d c.args.self.now c.args.input.now n c.args.cache.now c.pass.new.cache) next
-          (spans_counted d c.args.self.now c.args.input.now k c.loop-later.invariant.tries c.args.cache.now c.loop-later.cache c.loop-later.invariant.grown c.loop-later.invariant.known c.loop-later.invariant.learned c.loop-later.invariant.bounded c.loop-later.invariant.progress c.loop-later.later same within c.pass.new.cache _ c.in_ok-half.ensures.effect);
+          (spans_counted d c.args.self.now c.args.input.now k c.loop-later.invariant.tries c.args.cache.now c.loop-later.cache c.loop-later.invariant.grown c.loop-later.invariant.known c.loop-later.invariant.learned c.loop-later.invariant.bounded c.loop-later.invariant.progress c.loop-later.later same within c.pass.new.cache _ c.in-Ok.ensures.effect);
       done = λ e. absurd (omega (arith, e, next));
       progress = subst (λ n. HaveEnded d c.args.self.now c.args.input.now n c.args.cache.now.store c.pass.new.cache.store) next
-          (spans_ended d c.args.self.now c.args.input.now k c.loop-later.invariant.tries c.args.cache.now c.loop-later.cache c.loop-later.invariant.grown c.loop-later.invariant.known c.loop-later.invariant.learned c.loop-later.invariant.bounded c.loop-later.invariant.progress c.loop-later.later same within c.pass.new.cache _ c.in_ok-half.ensures.effect);
+          (spans_ended d c.args.self.now c.args.input.now k c.loop-later.invariant.tries c.args.cache.now c.loop-later.cache c.loop-later.invariant.grown c.loop-later.invariant.known c.loop-later.invariant.learned c.loop-later.invariant.bounded c.loop-later.invariant.progress c.loop-later.later same within c.pass.new.cache _ c.in-Ok.ensures.effect);
       tries = subst (λ n. Tries (Finds d c.args.self.now) (Skips c.args.self.now) d c.args.input.now n) next
-          (tries_on d c.args.self.now c.args.input.now c.loop-later.later k same c.loop-later.invariant.tries within c.in-Some.half (sym c.in-Some.is ∙ c.in_ok-half.ensures.answer.found) c.in_ok-half.ensures.answer.clean (c.if-not-skips_at.ensures.yes refl).0 (subst (λ n. is_split c.loop-later.later.haystack n ≡ true) c.offset.ensures (c.if-not-skips_at.ensures.yes refl).1) mode);
+          (tries_on d c.args.self.now c.args.input.now c.loop-later.later k same c.loop-later.invariant.tries within c.in-Some.half (sym c.in-Some.is ∙ c.in-Ok.ensures.answer.found) c.in-Ok.ensures.answer.clean (c.if-not-skips_at.ensures.yes refl).0 (subst (λ n. is_split c.loop-later.later.haystack n ≡ true) c.offset.ensures (c.if-not-skips_at.ensures.yes refl).1) mode);
     }
 
 pub returns-then-not-begin_later-clause-found : goal.returns-then-not-begin_later-clause-found
@@ -119,7 +119,7 @@ returns-then-not-begin_later-clause-found c =
     let within : c.args.input.now.start + k ≤ c.args.input.now.end = skipped_within c.args.input.now c.loop-later.later c.loop-later.invariant.few ahead in
     let mode : c.args.input.now.anchored ≡ No = sym (c.get_anchored.ensures ∙ (ap (λ (i : Input). i.anchored) same ∙ later_anchored d k c.args.input.now)) ∙ c.if-is_anchored.ensures.no refl in
     finds_no_more d c.args.self.now c.args.input.now (suc k)
-    (tries_on d c.args.self.now c.args.input.now c.loop-later.later k same c.loop-later.invariant.tries within c.in-Some.half (sym c.in-Some.is ∙ c.in_ok-half.ensures.answer.found) c.in_ok-half.ensures.answer.clean (c.if-not-skips_at.ensures.yes refl).0 (subst (λ n. is_split c.loop-later.later.haystack n ≡ true) c.offset.ensures (c.if-not-skips_at.ensures.yes refl).1) mode)
+    (tries_on d c.args.self.now c.args.input.now c.loop-later.later k same c.loop-later.invariant.tries within c.in-Some.half (sym c.in-Some.is ∙ c.in-Ok.ensures.answer.found) c.in-Ok.ensures.answer.clean (c.if-not-skips_at.ensures.yes refl).0 (subst (λ n. is_split c.loop-later.later.haystack n ≡ true) c.offset.ensures (c.if-not-skips_at.ensures.yes refl).1) mode)
     (skipped_last c.args.input.now c.loop-later.later c.loop-later.invariant.few ahead (c.if-not-begin_later.ensures.over refl))
 
 pub returns-clause-found : goal.returns-clause-found
@@ -137,18 +137,17 @@ returns-then-not-skips_at-clause-upto c = λ forward.
     let base : suc k ≡ c.start-then-not-skips_at.result - c.args.input.now.start + 1 = omega (arith, c.start-then-not-skips_at.ensures.start, later_start d k c.args.input.now c.loop-later.later same forward) in
     subst (λ n. IsCostOfPasses Forward c.args.self.now c.args.input.now n c.args.cache.now c.pass.new.cache) base
     (subst (λ (e : Direction). IsCostOfPasses e c.args.self.now c.args.input.now (suc k) c.args.cache.now c.pass.new.cache) forward
-    (spans_cost d c.args.self.now c.args.input.now k c.loop-later.invariant.tries c.args.cache.now c.loop-later.cache c.loop-later.invariant.grown c.loop-later.invariant.known c.loop-later.invariant.learned c.loop-later.invariant.bounded c.loop-later.invariant.progress c.loop-later.later same within c.pass.new.cache _ c.in_ok-half.ensures.effect))
+    (spans_cost d c.args.self.now c.args.input.now k c.loop-later.invariant.tries c.args.cache.now c.loop-later.cache c.loop-later.invariant.grown c.loop-later.invariant.known c.loop-later.invariant.learned c.loop-later.invariant.bounded c.loop-later.invariant.progress c.loop-later.later same within c.pass.new.cache _ c.in-Ok.ensures.effect))
 
-pub returns-in_err-half-clause-effect : goal.returns-in_err-half-clause-effect
-returns-in_err-half-clause-effect c =
+pub returns-in-Err-clause-effect : goal.returns-in-Err-clause-effect
+returns-in-Err-clause-effect c =
     let d : Direction = way_of c.args.way in
     let k : ℕ = skipped c.args.input.now c.loop-later.later in
     let same : c.loop-later.later ≡ later d k c.args.input.now = c.loop-later.invariant.same in
     let ahead : c.loop-later.later.start ≤ c.loop-later.later.end = grind (arith, common_steps, c.loop-later-test.ensures.done) in
     let within : c.args.input.now.start + k ≤ c.args.input.now.end = skipped_within c.args.input.now c.loop-later.later c.loop-later.invariant.few ahead in
-    at_err c.from_residual.result _ (IsSearchEffect d c.args.self.now c.args.input.now c.args.cache.now c.pass.new.cache) c.from_residual.ensures.1
     (effect_refused d c.args.self.now c.args.input.now k c.loop-later.invariant.tries c.args.cache.now c.loop-later.cache c.loop-later.invariant.grown c.loop-later.invariant.known c.loop-later.invariant.learned c.loop-later.invariant.bounded c.loop-later.invariant.progress
-    c.loop-later.later same within c.pass.new.cache c.in_err-half.field-0.0 c.in_err-half.ensures.effect)
+    c.loop-later.later same within c.pass.new.cache c.in-Err.error c.in-Err.ensures.effect)
 
 pub returns-in_default-clause-effect : goal.returns-in_default-clause-effect
 returns-in_default-clause-effect c =
@@ -158,8 +157,8 @@ returns-in_default-clause-effect c =
     let ahead : c.loop-later.later.start ≤ c.loop-later.later.end = grind (arith, common_steps, c.loop-later-test.ensures.done) in
     let within : c.args.input.now.start + k ≤ c.args.input.now.end = skipped_within c.args.input.now c.loop-later.later c.loop-later.invariant.few ahead in
     effect_after d c.args.self.now c.args.input.now k c.loop-later.invariant.tries c.args.cache.now c.loop-later.cache c.loop-later.invariant.grown c.loop-later.invariant.known c.loop-later.invariant.learned c.loop-later.invariant.bounded c.loop-later.invariant.progress
-    c.loop-later.later same within c.pass.new.cache _ c.in_ok-half.ensures.effect _
-    (λ j less tried past. none_stops d c.args.self.now c.args.input.now c.loop-later.later k same c.loop-later.invariant.tries within (sym c.in_default.is ∙ c.in_ok-half.ensures.answer.found) j less tried)
+    c.loop-later.later same within c.pass.new.cache _ c.in-Ok.ensures.effect _
+    (λ j less tried past. none_stops d c.args.self.now c.args.input.now c.loop-later.later k same c.loop-later.invariant.tries within (sym c.in_default.is ∙ c.in-Ok.ensures.answer.found) j less tried)
 
 pub returns-then-not-skips_at-clause-effect : goal.returns-then-not-skips_at-clause-effect
 returns-then-not-skips_at-clause-effect c =
@@ -169,8 +168,8 @@ returns-then-not-skips_at-clause-effect c =
     let ahead : c.loop-later.later.start ≤ c.loop-later.later.end = grind (arith, common_steps, c.loop-later-test.ensures.done) in
     let within : c.args.input.now.start + k ≤ c.args.input.now.end = skipped_within c.args.input.now c.loop-later.later c.loop-later.invariant.few ahead in
     effect_after d c.args.self.now c.args.input.now k c.loop-later.invariant.tries c.args.cache.now c.loop-later.cache c.loop-later.invariant.grown c.loop-later.invariant.known c.loop-later.invariant.learned c.loop-later.invariant.bounded c.loop-later.invariant.progress
-    c.loop-later.later same within c.pass.new.cache _ c.in_ok-half.ensures.effect _
-    (λ j less tried past. some_stops d c.args.self.now c.args.input.now c.loop-later.later k same c.loop-later.invariant.tries within c.in-Some.half (sym c.in-Some.is ∙ c.in_ok-half.ensures.answer.found) (λ skips. subst (λ n. is_split c.loop-later.later.haystack n ≡ false) c.offset.ensures (c.if-not-skips_at.ensures.no refl skips)) j less tried)
+    c.loop-later.later same within c.pass.new.cache _ c.in-Ok.ensures.effect _
+    (λ j less tried past. some_stops d c.args.self.now c.args.input.now c.loop-later.later k same c.loop-later.invariant.tries within c.in-Some.half (sym c.in-Some.is ∙ c.in-Ok.ensures.answer.found) (λ skips. subst (λ n. is_split c.loop-later.later.haystack n ≡ false) c.offset.ensures (c.if-not-skips_at.ensures.no refl skips)) j less tried)
 
 pub returns-then-is_anchored-clause-effect : goal.returns-then-is_anchored-clause-effect
 returns-then-is_anchored-clause-effect c =
@@ -180,7 +179,7 @@ returns-then-is_anchored-clause-effect c =
     let ahead : c.loop-later.later.start ≤ c.loop-later.later.end = grind (arith, common_steps, c.loop-later-test.ensures.done) in
     let within : c.args.input.now.start + k ≤ c.args.input.now.end = skipped_within c.args.input.now c.loop-later.later c.loop-later.invariant.few ahead in
     effect_after d c.args.self.now c.args.input.now k c.loop-later.invariant.tries c.args.cache.now c.loop-later.cache c.loop-later.invariant.grown c.loop-later.invariant.known c.loop-later.invariant.learned c.loop-later.invariant.bounded c.loop-later.invariant.progress
-    c.loop-later.later same within c.pass.new.cache _ c.in_ok-half.ensures.effect _
+    c.loop-later.later same within c.pass.new.cache _ c.in-Ok.ensures.effect _
     (λ j less tried past. anchored_stops d c.args.self.now c.args.input.now c.loop-later.later k same c.loop-later.invariant.tries within (λ e. c.if-is_anchored.ensures.yes refl (c.get_anchored.ensures ∙ (ap (λ (i : Input). i.anchored) same ∙ (later_anchored d k c.args.input.now ∙ e)))) j less tried)
 
 pub returns-then-not-begin_later-clause-effect : goal.returns-then-not-begin_later-clause-effect
@@ -192,7 +191,7 @@ returns-then-not-begin_later-clause-effect c =
     let within : c.args.input.now.start + k ≤ c.args.input.now.end = skipped_within c.args.input.now c.loop-later.later c.loop-later.invariant.few ahead in
     let over : c.args.input.now.end < c.args.input.now.start + suc k = skipped_last c.args.input.now c.loop-later.later c.loop-later.invariant.few ahead (c.if-not-begin_later.ensures.over refl) in
     effect_after d c.args.self.now c.args.input.now k c.loop-later.invariant.tries c.args.cache.now c.loop-later.cache c.loop-later.invariant.grown c.loop-later.invariant.known c.loop-later.invariant.learned c.loop-later.invariant.bounded c.loop-later.invariant.progress
-    c.loop-later.later same within c.pass.new.cache _ c.in_ok-half.ensures.effect _
+    c.loop-later.later same within c.pass.new.cache _ c.in-Ok.ensures.effect _
     (λ j less tried past. omega (arith, less, past, over))
 
 pub returns-clause-effect : goal.returns-clause-effect
@@ -203,10 +202,9 @@ returns-clause-effect c =
     effect_before d c.args.self.now c.args.input.now k c.loop-later.invariant.tries c.args.cache.now c.loop-later.cache c.loop-later.invariant.grown c.loop-later.invariant.known c.loop-later.invariant.learned c.loop-later.invariant.bounded c.loop-later.invariant.progress _
     c.loop-later.invariant.done (omega (arith, done))
 
-pub returns-in_err-half-clause-unsupported : goal.returns-in_err-half-clause-unsupported
-returns-in_err-half-clause-unsupported c = λ u.
+pub returns-in-Err-clause-unsupported : goal.returns-in-Err-clause-unsupported
+returns-in-Err-clause-unsupported c = λ u.
     let d : Direction = way_of c.args.way in
     let here : c.loop-later.later ≡ c.args.input.now =
     c.loop-later.invariant.same ∙ (ap (λ (n : ℕ). later d n c.args.input.now) (c.loop-later.invariant.first u.mode) ∙ sym (later_none d c.args.input.now)) in
-    at_err c.from_residual.result _ (λ r. r ≡ Err (unsupported_error c.args.input.now)) c.from_residual.ensures.1
-    (err_to (c.in_err-half.ensures.unsupported (subst (IsUnsupported d c.args.self.now) (sym here) u) ∙ ap (λ (i : Input). Err (unsupported_error i)) here))
+    (err_to (c.in-Err.ensures.unsupported (subst (IsUnsupported d c.args.self.now) (sym here) u) ∙ ap (λ (i : Input). Err (unsupported_error i)) here))
