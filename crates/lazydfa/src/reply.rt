@@ -14,31 +14,49 @@ pub struct Line<'a>(pub &'a Reply);
 impl<'a> fmt::Display for Line<'a> {
     fn fmt<W: fmt::Write>(&self, f: &mut fmt::Formatter<W>) -> fmt::Result {
         match self.0 {
-            Reply::Half(Ok(Some(found))) => write_half(f, found),
-            Reply::Span(Ok(Some(found))) => {
-                write!(f, "match ")?;
-                write_match(f, found)
-            }
-            Reply::Half(Ok(None)) | Reply::Span(Ok(None)) => write!(f, "none"),
+            Reply::Half(found) => write_half(f, found),
+            Reply::Span(found) => write_span(f, found),
             Reply::Truth(Ok(holds)) => write!(f, "{holds}"),
             Reply::Spans { found, error } => write_matches(f, found.as_slice(), error.as_ref()),
             Reply::Tokens { found, error } => write_tokens(f, found.as_slice(), error.as_ref()),
             Reply::Begun(Ok(number)) => write!(f, "walk {number}"),
             Reply::Patterns { found, error } => write_patterns(f, found.as_slice(), error.as_ref()),
             Reply::Done(Ok(())) => write!(f, "ok"),
-            Reply::Half(Err(error)) | Reply::Span(Err(error)) | Reply::Truth(Err(error)) => {
+            Reply::Truth(Err(error)) | Reply::Begun(Err(error)) | Reply::Done(Err(error)) => {
                 write_error(f, error)
             }
-            Reply::Begun(Err(error)) | Reply::Done(Err(error)) => write_error(f, error),
             Reply::Bad(fault) => write_fault(f, *fault),
         }
     }
 }
 
-fn write_half<W: fmt::Write>(f: &mut fmt::Formatter<W>, found: &HalfMatch) -> fmt::Result {
-    let pattern = found.pattern().as_usize();
-    let offset = found.offset();
-    write!(f, "half {pattern} {offset}")
+pub(crate) fn write_half<W: fmt::Write>(
+    f: &mut fmt::Formatter<W>,
+    found: &Result<Option<HalfMatch>, SearchError>,
+) -> fmt::Result {
+    match found {
+        Ok(Some(found)) => {
+            let pattern = found.pattern().as_usize();
+            let offset = found.offset();
+            write!(f, "half {pattern} {offset}")
+        }
+        Ok(None) => write!(f, "none"),
+        Err(error) => write_error(f, error),
+    }
+}
+
+pub(crate) fn write_span<W: fmt::Write>(
+    f: &mut fmt::Formatter<W>,
+    found: &Result<Option<Match>, SearchError>,
+) -> fmt::Result {
+    match found {
+        Ok(Some(found)) => {
+            write!(f, "match ")?;
+            write_match(f, found)
+        }
+        Ok(None) => write!(f, "none"),
+        Err(error) => write_error(f, error),
+    }
 }
 
 fn write_matches<W: fmt::Write>(
@@ -101,7 +119,10 @@ fn write_end<W: fmt::Write>(f: &mut fmt::Formatter<W>, error: Option<&SearchErro
     Ok(())
 }
 
-fn write_error<W: fmt::Write>(f: &mut fmt::Formatter<W>, error: &SearchError) -> fmt::Result {
+pub(crate) fn write_error<W: fmt::Write>(
+    f: &mut fmt::Formatter<W>,
+    error: &SearchError,
+) -> fmt::Result {
     match error {
         SearchError::Match(error) => match error.kind() {
             MatchErrorKind::Quit { byte, offset } => write!(f, "quit {byte:02x} {offset}"),

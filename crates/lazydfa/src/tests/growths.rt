@@ -199,6 +199,8 @@ const REGEXES: &[Regex] = &[
     ("a reset, of which either part is refused", PAIR, "noclasses", &[Ask::Find(FOO)], &[(Ask::ResetOrFind(FOO), "-"),
         (Ask::Counts, "(0, 6529, 0) (0, 6529, 0)"), (Ask::Find(FOO), "match 1 0..4")], &[(0, "match 1 0..4; memory"),
         (0, "match 1 0..4; reverse memory")]),
+    ("a clone, which has the states", PAIR, "", &[Ask::Find(FOO)], &[(Ask::ReplaceByClone, "-"),
+        (Ask::Find(FOO), "match 1 0..4"), (Ask::Find(b"bar"), "match 0 0..3")], ONCE),
     ("a search", PAIR, "noclasses", &[], &[(Ask::Search(FOO), "match 1 0..4")], AT_ONCE),
     ("a search back", PAIR, "noclasses", &[Ask::Forward(FOO)], &[(Ask::Find(FOO), "match 1 0..4")], AT_ONCE),
     ("whether there is a match", PAIR, "noclasses", &[], &[(Ask::Is(FOO), "true")], &[(0, "memory")]),

@@ -11,7 +11,6 @@ use std::{io, mem};
 mod bench;
 mod builder;
 mod config;
-mod copies;
 mod growths;
 mod long;
 mod made;

@@ -10,8 +10,9 @@ use super::texts::UNSUPPORTED;
 use super::{Host, same_of, same_text};
 use crate::catalogue::Entry;
 use Ask::{
-    Counts, Find, Forward, Is, Items, Memory, Patterns, ReplaceByNew, ReplaceForward,
-    ReplaceReverse, Reset, ResetByCache, ResetForward, ResetReverse, Reverse, Search, Tokens,
+    Counts, Find, Forward, Is, Items, Memory, Patterns, ReplaceByClone, ReplaceByNew,
+    ReplaceForward, ReplaceReverse, Reset, ResetByCache, ResetForward, ResetReverse, Reverse,
+    Search, Tokens,
 };
 use Pair::{Barren, Joined, Mixed, Of, Planned};
 use regex_automata::hybrid::SearchError;
@@ -35,6 +36,8 @@ const AMPLE: &[Row] = &[
     ("Cache::new", Of(Entry::Ab), "", &[ReplaceByNew, Memory], "-, 670 335 335"),
     ("Cache::reset", Of(Entry::Ab), "", &[ReplaceByNew, Find(b"ab"), Memory, ResetByCache, Memory],
         "-, match 0 0..2, 1013 678 335, -, 670 335 335"),
+    ("Cache::clone", Of(Entry::Ab), "", &[Find(b"ab"), ReplaceByClone, Memory, Find(b"ab"), Memory],
+        "match 0 0..2, -, 1013 678 335, match 0 0..2, 1013 678 335"),
     ("try_search", Of(Entry::Ab), "", &[Search(b"ab")], "match 0 0..2"),
     ("tokens", Of(Entry::Runs), "", &[Tokens(b"12ab", 0)], "1 0..2; 0 2..4"),
     ("the forward part is replaced", Of(Entry::Date), "", &[Items(DATES), ReplaceForward, Items(DATES)],

@@ -105,6 +105,8 @@ pub enum Ask {
     ReplaceByNew,
     ReplaceForward,
     ReplaceReverse,
+    /// A clone takes the cache's place.
+    ReplaceByClone,
     /// It is reset.
     Reset,
     ResetByCache,
@@ -194,6 +196,7 @@ impl RegexBench {
             Ask::ReplaceByNew => Told::of_growth(self.replace_by_new()),
             Ask::ReplaceForward => Told::of_growth(self.replace_forward()),
             Ask::ReplaceReverse => Told::of_growth(self.replace_reverse()),
+            Ask::ReplaceByClone => Told::of_growth(self.replace_by_clone()),
             Ask::ResetByCache => Told::of_growth(self.cache.reset(&self.regex)),
             Ask::ResetForward => Told::of_growth(self.reset_forward()),
             Ask::ResetReverse => Told::of_growth(self.reset_reverse()),
@@ -294,6 +297,11 @@ impl RegexBench {
     fn replace_reverse(&mut self) -> Result<(), AllocError> {
         let new = self.regex.reverse().create_cache()?;
         *self.cache.reverse_mut() = new;
+        Ok(())
+    }
+
+    fn replace_by_clone(&mut self) -> Result<(), AllocError> {
+        self.cache = self.cache.clone()?;
         Ok(())
     }
 

@@ -1,8 +1,7 @@
 //! What calls report, in words.
 
-use crate::reply::Line;
+use crate::reply::{write_error, write_half, write_span};
 use regex_automata::hybrid::{BuildError, LazyStateID, SearchError, StartError, StepError};
-use regex_automata::replay::Reply;
 use regex_automata::tokens::TokenError;
 use regex_automata::util::search::{HalfMatch, Match};
 use std::alloc::AllocError;
@@ -83,15 +82,16 @@ impl fmt::Display for Told {
     fn fmt<W: fmt::Write>(&self, f: &mut fmt::Formatter<W>) -> fmt::Result {
         match self {
             Told::Word(word) => write!(f, "{word}"),
-            Told::Half(found) => write_reply(f, &Reply::Half(*found)),
+            Told::Half(found) => write_half(f, found),
             Told::Span(found, behind) => {
-                write_reply(f, &Reply::Span(*found))?;
+                write_span(f, found)?;
                 write!(f, "{behind}")
             }
-            Told::Truth(found) => write_reply(f, &Reply::Truth(*found)),
+            Told::Truth(Ok(holds)) => write!(f, "{holds}"),
+            Told::Truth(Err(error)) => write_error(f, error),
             Told::Names(names, error) => {
                 write!(f, "{names} ")?;
-                write_reply(f, &Reply::Half(Err(*error)))
+                write_error(f, error)
             }
             Told::NoStart(error) => write!(f, "{error}"),
             Told::NoStep(error) => write!(f, "{error}"),
@@ -106,10 +106,6 @@ impl fmt::Display for Told {
             Told::Items(items) => write_items(f, items),
         }
     }
-}
-
-fn write_reply<W: fmt::Write>(f: &mut fmt::Formatter<W>, reply: &Reply) -> fmt::Result {
-    write!(f, "{}", Line(reply))
 }
 
 /// The items before the end, if any. What comes after the end or an error is reported apart.
@@ -138,7 +134,7 @@ fn write_item<W: fmt::Write>(
 ) -> fmt::Result {
     match item {
         Ok((pattern, start, end)) => write!(f, "{pattern} {start}..{end}"),
-        Err(TokenError::Search(error)) => write_reply(f, &Reply::Half(Err(error))),
+        Err(TokenError::Search(error)) => write_error(f, &error),
         Err(error) => write!(f, "{error}"),
     }
 }
