@@ -74,5 +74,8 @@ fn build(alloc: Global, definition: &Definition) -> Result<Regex, BuildError> {
 }
 
 fn built(nfa: Result<NFA, NfaError>) -> Result<NFA, BuildError> {
-    nfa.map_err(|_| BuildError::OutOfMemory)
+    match nfa {
+        Ok(nfa) => Ok(nfa),
+        Err(_) => Err(BuildError::OutOfMemory),
+    }
 }

@@ -288,15 +288,19 @@ impl Query {
 /// The bytes that pairs of hexadecimal digits spell; `-` is no byte at all.
 fn haystack_of(alloc: Global, word: &[u8]) -> Result<Vec<u8>, LineError> {
     let mut haystack = Vec::new(alloc);
-    if word == b"-".as_slice() {
-        return Ok(haystack);
+    if word != b"-".as_slice() {
+        push_pairs(&mut haystack, word)?;
     }
+    Ok(haystack)
+}
+
+fn push_pairs(haystack: &mut Vec<u8>, word: &[u8]) -> Result<(), LineError> {
     haystack.reserve(word.len() / 2)?;
     for pair in word.chunks(2) {
         let byte = hexadecimal_byte(pair).ok_or(LineError::Bad)?;
         haystack.push(byte).map_err(AllocError::from)?;
     }
-    Ok(haystack)
+    Ok(())
 }
 
 /// The keyword of an option, and its value if it has one.

@@ -314,20 +314,6 @@ impl Bench {
         }
     }
 
-    /// The state to which was stepped.
-    pub fn id(&self) -> LazyStateID {
-        self.at
-    }
-
-    /// The first of its patterns.
-    pub fn first_pattern(&self) -> Option<PatternID> {
-        if !self.at.is_match() || !self.has_state() {
-            return None;
-        }
-        let _some = self.dfa.match_len(&self.cache, self.at);
-        Some(self.dfa.match_pattern(&self.cache, self.at, 0))
-    }
-
     fn replace(&mut self) -> Result<(), AllocError> {
         self.cache = self.dfa.create_cache()?;
         Ok(())

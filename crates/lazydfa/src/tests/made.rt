@@ -1,18 +1,18 @@
-//! What is made without a cache: powerset states, DFAs that match always or never, sets and copies.
+//! What is made without a cache: powerset states, DFAs that match always or never, and sets.
 
 ghost use Rattle.std.specs.Prelude.{◌≡◌};
 
 use super::plans::{Mode, ids_of, pattern_id};
 use super::tells::{Automaton, Caller, ONCE, RowOf, Short, config, refuse_each, tells_all};
 use super::told::Told;
-use super::{Host, Text, check, same_of};
+use super::{Host, Text, same_of};
 use crate::catalogue::Entry;
 use Automaton::{Forward, Reverse};
 use Lead::{End, Is, Room, Start, Step, Steps};
 use Made::{Always, Decode, Encode, Never, Set};
 use Mode::{Every, First, Of};
 use regex_automata::hybrid::BuildError;
-use regex_automata::hybrid::dfa::{DFA, OverlappingState};
+use regex_automata::hybrid::dfa::DFA;
 use regex_automata::nfa::thompson::NFA;
 use regex_automata::util::determinize;
 use regex_automata::util::determinize::{Parts, Scratch, State};
@@ -233,6 +233,8 @@ enum Made {
     Set,
     Encode,
     Decode,
+    /// A clone, which shares what it is of.
+    Copy,
 }
 
 /// The parts of a state, and the state.
@@ -253,6 +255,10 @@ impl Making {
             return Ok(false);
         }
         Ok(State::encode(alloc, &self.parts)?.as_bytes() == THREE.4)
+    }
+
+    fn copy(&self) -> Result<bool, AllocError> {
+        Ok(self.state.clone()? == self.state)
     }
 
     fn decode(&self, alloc: Global) -> Result<bool, AllocError> {
@@ -294,6 +300,7 @@ impl Caller for Making {
             Set => told_of(self.set(alloc)),
             Encode => told_of(self.encode(alloc)),
             Decode => told_of(self.decode(alloc)),
+            Made::Copy => told_of(self.copy()),
         }
     }
 }
@@ -308,23 +315,10 @@ fn coded(rt: &impl Host, parts: &Parts) -> State {
 const MADE: &[Short<(), Made>] = &[
     ("always", (), "", &[], &[(Always, "patterns 1")], ONCE), ("never", (), "", &[], &[(Never, "patterns 0")], ONCE),
     ("a set", (), "", &[], &[(Set, "true")], ONCE), ("encode", (), "", &[], &[(Encode, "true")], ONCE),
-    ("decode", (), "", &[], &[(Decode, "true")], ONCE),
+    ("decode", (), "", &[], &[(Decode, "true")], ONCE), ("a copy", (), "", &[], &[(Made::Copy, "true")], &[]),
 ];
 
 #[test]
 fn makes_after_each_refused_growth(rt: HostRuntime) {
     refuse_each::<Making>(&rt, MADE);
-}
-
-#[test]
-fn copies(rt: HostRuntime) {
-    let dfa = Automaton::Forward(Entry::Ab).lazy(&rt, "");
-    let copy = dfa.clone().expect(&rt, "memory");
-    check(&rt, copy.pattern_len() == 1);
-    let copy = dfa.get_nfa().clone().expect(&rt, "memory");
-    check(&rt, copy.pattern_len() == 1);
-    let state = coded(&rt, &parts_of(&rt, THREE));
-    check(&rt, state.clone().expect(&rt, "memory") == state);
-    let walk = OverlappingState::start().clone().expect(&rt, "memory");
-    check(&rt, walk.get_match().is_none());
 }

@@ -60,29 +60,57 @@ fn builds_regexes_without_memory(rt: HostRuntime) {
     let forward = Forward(Entry::Words).nfa(&rt);
     let reverse = Reverse(Entry::Words).nfa(&rt);
     exhaust(rt.alloc());
-    let built = Regex::builder().build_from_nfas(forward, reverse);
-    let regex = built.expect(&rt, "a regex");
-    let found = (regex.pattern_len(), regex.create_cache().is_ok());
+    let found = built(&rt, forward, reverse);
     same_of(&rt, &found, &(2, false), &"a regex, and no cache");
+}
+
+fn built(rt: &impl Host, forward: NFA, reverse: NFA) -> (usize, bool) {
+    let regex = Regex::builder().build_from_nfas(forward, reverse);
+    let regex = regex.expect(rt, "a regex");
+    (regex.pattern_len(), regex.create_cache().is_ok())
 }
 
 /// Copies share what they are copies of.
 #[test]
 fn copies_without_memory(rt: HostRuntime) {
     let dfa = Forward(Entry::Words).lazy(&rt, "");
-    let walk = OverlappingState::start();
     exhaust(rt.alloc());
-    let copied = are_copied(&dfa, &walk);
-    let want = (true, true, true, false);
-    same_of(&rt, &copied, &want, &"copies, and no cache");
+    let found = (patterns_of(dfa.get_nfa()), lazy_patterns_of(&dfa));
+    same_of(
+        &rt,
+        &found,
+        &(Some(2), Some(2)),
+        &"copies of the NFA and of the DFA",
+    );
+    let found = (
+        has_copy(&OverlappingState::start()),
+        dfa.create_cache().is_ok(),
+    );
+    same_of(
+        &rt,
+        &found,
+        &(true, false),
+        &"a copy of the walk, and no cache",
+    );
 }
 
-/// Whether there is a copy of the NFA, of the lazy DFA and of the walk, and a cache.
-fn are_copied(dfa: &DFA, walk: &OverlappingState) -> (bool, bool, bool, bool) {
-    let nfa = dfa.get_nfa().clone().is_ok();
-    let lazy = dfa.clone().is_ok();
-    let state = walk.clone().is_ok();
-    (nfa, lazy, state, dfa.create_cache().is_ok())
+/// How many patterns a copy of the NFA has.
+fn patterns_of(nfa: &NFA) -> Option<usize> {
+    let copy = nfa.clone().ok()?;
+    Some(copy.pattern_len())
+}
+
+fn lazy_patterns_of(dfa: &DFA) -> Option<usize> {
+    let copy = dfa.clone().ok()?;
+    Some(copy.pattern_len())
+}
+
+/// Whether there is a copy of a walk that has not begun, which has no match.
+fn has_copy(walk: &OverlappingState) -> bool {
+    match walk.clone() {
+        Ok(copy) => copy.get_match().is_none(),
+        Err(_) => false,
+    }
 }
 
 /// A script, and an output that has room.

@@ -16,7 +16,6 @@ mod long;
 mod made;
 mod memory;
 mod nfa;
-mod one_step;
 mod paths;
 mod plans;
 mod random_paths;

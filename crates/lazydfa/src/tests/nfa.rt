@@ -146,13 +146,7 @@ fn refuse(rt: &impl Host, row: Refused) {
     let (shows, states, patterns, want) = row;
     let start = patterns.first().copied().unwrap_or(0);
     let starts = (start, start);
-    match (Plan {
-        states,
-        starts,
-        patterns,
-    })
-    .door(rt)
-    {
+    match Plan::new(states, starts, patterns).door(rt) {
         Ok(nfa) => {
             let counts = (nfa.states().len(), nfa.pattern_len());
             same_of(rt, &counts, &(states.len(), patterns.len()), &shows);
