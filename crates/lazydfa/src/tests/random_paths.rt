@@ -250,7 +250,8 @@ const HAYSTACKS: [&[usize]; 7] = [
 fn spell(rt: &impl Host, letters: [u8; 3], places: &[usize]) -> Vec<u8> {
     let mut haystack = Vec::new(rt.alloc());
     for place in places {
-        haystack.push(letters[(*place).min(2)]).expect(rt, "memory");
+        let letter = letters.get(*place).copied().unwrap_or(0);
+        haystack.push(letter).expect(rt, "memory");
     }
     haystack
 }

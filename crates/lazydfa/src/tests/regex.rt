@@ -143,11 +143,11 @@ fn resets_to_another(rt: HostRuntime) {
 fn reset_dates(rt: &impl Host, text: &mut String) {
     let mut dates = RegexBench::new(rt, Of(Entry::Date).regex(rt, ""));
     dates.tell(rt, &[Find(DATES)], text);
-    reset_to_ab(rt, dates, text);
+    reset_to_ab(rt, &mut dates, text);
 }
 
-fn reset_to_ab(rt: &impl Host, dates: RegexBench, text: &mut String) {
-    let mut bench = dates.reset_to(rt, Of(Entry::Ab).regex(rt, ""));
+fn reset_to_ab(rt: &impl Host, bench: &mut RegexBench, text: &mut String) {
+    bench.reset_to(rt, Of(Entry::Ab).regex(rt, ""));
     bench.tell(rt, &[Counts, Find(b"ab"), Counts], text);
 }
 

@@ -318,11 +318,9 @@ impl RegexBench {
     }
 
     /// The same cache, reset to another regex.
-    pub fn reset_to(self, rt: &impl Host, regex: Regex) -> RegexBench {
-        let RegexBench { cache, .. } = self;
-        let mut cache = cache;
-        regex.reset_cache(&mut cache).expect(rt, "memory");
-        RegexBench { regex, cache }
+    pub fn reset_to(&mut self, rt: &impl Host, regex: Regex) {
+        regex.reset_cache(&mut self.cache).expect(rt, "memory");
+        self.regex = regex;
     }
 
     fn memory(&self) -> Told {

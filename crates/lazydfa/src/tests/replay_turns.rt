@@ -124,13 +124,15 @@ impl History {
 /// The rows of a script with this one in its middle.
 fn rows_around(middle: Row) -> [Row; 32] {
     let mut rows = [middle; 32];
-    for (at, row) in BEFORE.iter().copied().enumerate() {
-        rows[at.min(31)] = row;
-    }
-    for (at, row) in BEHIND.iter().copied().enumerate() {
-        rows[at.saturating_add(BEFORE.len() + 1).min(31)] = row;
-    }
+    put(&mut rows, 0, BEFORE);
+    put(&mut rows, BEFORE.len() + 1, BEHIND);
     rows
+}
+
+fn put(rows: &mut [Row; 32], from: usize, part: &[Row]) {
+    for (at, row) in part.iter().copied().enumerate() {
+        rows[from.saturating_add(at).min(31)] = row;
+    }
 }
 
 fn script_of(rt: &impl Host, rows: &[Row]) -> Script {
