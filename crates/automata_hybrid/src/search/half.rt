@@ -148,6 +148,7 @@ impl DFA {
     {
         let mut later = with_span(input, input.start(), input.end());
         while !later.is_done() {
+            // No `?`, as in `pass`.
             let found = match self.pass(cache, &later, way) {
                 Ok(found) => found,
                 Err(error) => return Err(error),

@@ -54,6 +54,7 @@ impl DFA {
         ensures effect { IsPassEffect (way_of way) self.now input.now cache.old cache.new result }
     {
         cache.see_bounds();
+        // Here and below no `?`: it sends each value through memory, also where there is no error.
         let start = match self.walk_start(cache, input, way) {
             Ok(start) => start,
             Err(error) => return Err(error),
