@@ -67,7 +67,7 @@ impl DFA {
         }
     }
 
-    /// Follows cached transitions into states that have patterns, from an ID behind which another one was met.
+    /// Follows cached transitions into states that have patterns, from an ID after which another one was met.
     #[inline(always)]
     pub(super) fn follow_matches(
         &self,

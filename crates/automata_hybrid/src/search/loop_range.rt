@@ -1,4 +1,4 @@
-//! Ranges of bytes on which a row is known to lead back to itself: found around a byte, and tested class by class.
+//! Ranges of bytes on which a row has a cached self-loop: found around a byte, and tested class by class.
 ghost use Rattle.std.specs.Prelude.{◌≡◌, ◌+◌, ◌<◌, ◌≤◌, ℕ, IsTrue};
 ghost use Rattle.automata_hybrid.specs.Cache.Caches.{IsCacheOf};
 ghost use Rattle.automata_hybrid.specs.Cache.Ids.{fixed_from};
@@ -35,7 +35,7 @@ impl LoopRange {
 }
 
 impl DFA {
-    /// Whether a row is known to lead back to itself on the bytes from one on, before another: on those of each class.
+    /// Whether a row has a cached self-loop on the bytes from one on, before another: on those of each class.
     fn loops_between(&self, cache: &Cache, id: LazyStateID, from: usize, to: usize) -> bool
         requires of { IsCacheOf cache.now self.now }
         requires valid { IsValid cache.now.store.table id }
@@ -85,7 +85,7 @@ impl DFA {
         first
     }
 
-    /// The classes around one at which a row leads back to itself: the first, the one after the last, and how many. The
+    /// The classes around one at which a row has a self-loop: the first, the one after the last, and how many. The
     /// class of byte 0 follows that of byte 255.
     fn classes_around(&self, cache: &Cache, id: LazyStateID, class: usize) -> (usize, usize, u16)
         requires of { IsCacheOf cache.now self.now }
@@ -114,7 +114,7 @@ impl DFA {
         (first, after, count)
     }
 
-    /// The range around a byte on which a row is known to lead back to itself.
+    /// The range around a byte on which a row has a cached self-loop.
     pub(super) fn range_around(&self, cache: &Cache, id: LazyStateID, byte: u8) -> LoopRange
         requires of { IsCacheOf cache.now self.now }
         requires valid { IsValid cache.now.store.table id }

@@ -74,7 +74,7 @@ fn byte_at(way: Way, bytes: &[u8], at: usize) -> u8
 }
 
 impl DFA {
-    /// Whether a row is known to lead back to itself on a byte.
+    /// Whether a row has a cached self-loop on a byte.
     #[inline(always)]
     fn loops_on(&self, cache: &Cache, id: LazyStateID, byte: u8) -> bool
         requires of { IsCacheOf cache.now self.now }
@@ -85,7 +85,7 @@ impl DFA {
         self.next_state_known(cache, id, byte) == id
     }
 
-    /// Whether a row is known to lead back to itself on each of the eight bytes from a place on. None of them waits for
+    /// Whether a row has a cached self-loop on each of the eight bytes from a place on. None of them waits for
     /// another.
     #[inline(always)]
     fn loops_on_eight(
@@ -110,7 +110,7 @@ impl DFA {
         true
     }
 
-    /// The place up to which a row leads back to itself, eight bytes at once.
+    /// The place up to which a self-loop goes, eight bytes at once.
     #[inline(always)]
     fn follow_eights(
         &self,
@@ -196,7 +196,7 @@ impl DFA {
         kept
     }
 
-    /// The place up to which a row leads back to itself, as many bytes at once as there are lanes: up to where it leads
+    /// The place up to which a self-loop goes, as many bytes at once as there are lanes: up to where it leads
     /// elsewhere, or few bytes are left, or too many were outside its ranges.
     #[inline(always)]
     fn scan(
@@ -252,7 +252,7 @@ impl DFA {
         at
     }
 
-    /// The place up to which a row leads back to itself, at most seven bytes less: eight bytes at once, until its ranges are
+    /// The place up to which a self-loop goes, at most seven bytes less: eight bytes at once, until its ranges are
     /// known.
     #[inline(always)]
     fn follow_many(&self, cache: &Cache, id: LazyStateID, way: Way, bytes: &[u8]) -> usize
@@ -304,8 +304,8 @@ impl DFA {
         self.follow_many(cache, id, Way::Backward, bytes)
     }
 
-    /// How many bytes of a slice, which is read from its front or from its back, a row leads back to itself on, or some
-    /// less: none where it does so on less than eight.
+    /// On how many bytes of a slice, which is read from its front or from its back, a row has a self-loop, or some
+    /// less: none if these are less than eight.
     #[inline(always)]
     pub(super) fn follow_self_loop(
         &self,
