@@ -38,8 +38,8 @@ fn reaches_look(set: &mut SparseSet, states: &[State], q: StateID) -> bool
     set.contains(q)
 }
 
-// Whether no look is on a cycle. One walk goes on from look to look in a finishing order, so the first look that it returns
-// to is on one.
+// Whether no look is on a cycle. One walk goes on from look to look in a finishing order, so the first look that it
+// returns to is on one.
 fn are_acyclic_in(set: &mut SparseSet, states: &[State], order: &[StateID]) -> bool
     requires few { length states.now ≤ 2 ^ 27 }
     requires range { states_below (length states.now) states.now ≡ true }
