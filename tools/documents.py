@@ -18,6 +18,7 @@ import shutil
 import subprocess
 import sys
 import tempfile
+from concurrent.futures import ThreadPoolExecutor
 
 TOP = os.path.dirname(os.path.dirname(os.path.abspath(__file__)))
 KIT = os.path.dirname(os.path.dirname(os.path.realpath(shutil.which("rt") or sys.exit("there is no rt"))))
@@ -123,7 +124,7 @@ def has_libraries(names, own):
     """Proves and builds the libraries where rt ci has not left them, and returns whether all is well."""
     if all(is_left_by_ci(it) for it in below(names, own)):
         return True
-    tops = [it for it in names if it in own]
+    tops = [it for it in dict.fromkeys(names) if it in own]
     return all(subprocess.run(["rt", "lib"], cwd=f"{TOP}/crates/{it}", stdin=subprocess.DEVNULL).returncode == 0 for it in tops)
 
 
@@ -136,8 +137,8 @@ def build(program, folder, own):
         words += ["-L", f"dependency={os.path.dirname(rlib(name))}"]
     words += ["--antt-project", f"{KIT}/rattle/logic/antt-project.json", "--logic-built", f"{KIT}/logic_built"]
     words += ["--toolchain", f"{KIT}/toolchain", "--backend", "llvm", "-o", "program.o"]
-    # The gate has nothing else to do by then.
-    words += ["--jobs", str(min(4, os.cpu_count() or 1))]
+    # The programs are proved side by side, and each further job would load the libraries once more.
+    words += ["--jobs", "1"]
     how = {"cwd": folder, "stdin": subprocess.DEVNULL, "stdout": subprocess.PIPE, "stderr": subprocess.STDOUT}
     ran = subprocess.run([f"{KIT}/bin/rattle", "build", *words], errors="replace", **how)
     proved = ran.returncode == 0 and re.search(r"^logic=proved ", ran.stdout, re.M)
@@ -153,7 +154,7 @@ def fault(program, own, room):
         return "; ".join(program.faults)
     folder = f"{room}/{program.name}"
     program.write(folder)
-    if not has_libraries(program.libraries, own) or not build(program, folder, own):
+    if not build(program, folder, own):
         return "its program is not proved"
     try:
         ran = subprocess.run(["./program"], cwd=folder, stdin=subprocess.DEVNULL, stdout=subprocess.PIPE, timeout=120)
@@ -168,10 +169,12 @@ def fault(program, own, room):
 def main(words):
     counted = re.fullmatch(r"(\d+) passed, (\d+) failed", words[0] if words else "0 passed, 0 failed")
     passed, failed = (int(counted[1]), int(counted[2])) if counted else (0, 1)
-    is_well, own, programs = not failed, libraries(), {it: Program(it) for it in DOCUMENTS}
-    with tempfile.TemporaryDirectory(prefix="documents-") as room:
-        for document, program in programs.items():
-            wrong = fault(program, own, room) if is_well else "it was not tried, since what it stands on failed"
+    own, programs = libraries(), {it: Program(it) for it in DOCUMENTS}
+    is_well = not failed and has_libraries([it for program in programs.values() for it in program.libraries], own)
+    with tempfile.TemporaryDirectory(prefix="documents-") as room, ThreadPoolExecutor() as pool:
+        tries = pool.map(lambda it: fault(it, own, room), programs.values() if is_well else [])
+        for document in programs:
+            wrong = next(tries, "it was not tried, since what it stands on failed")
             print(f"{document}: {wrong or 'its program is proved, and prints what it says'}", flush=True)
             passed, failed = passed + (not wrong), failed + bool(wrong)
     wrong = strays(programs.values())
