@@ -1,7 +1,7 @@
 -- One item after another.
 use Rattle.std.proofs.Common.{ℕ, ◌≡◌, ◌∙◌, ◌+◌, ◌-◌, ◌<◌, ◌≤◌, Bool, true, false, cond, eqb, eq-eqb, eqb-true, Option}
 use Rattle.std.proofs.Common.{Some, None, refl, sym, ap, subst, arith}
-use Rattle.std.specs.Prelude.{Result, Ok, Err, IfErr, IfSome, IsOk}
+use Rattle.std.specs.Prelude.{Result, Ok, Err, IfErr, IfSome, IsOk, length}
 use Rattle.automata_base.specs.Haystacks.Input.{Input}
 use Rattle.automata_base.specs.Haystacks.Matches.{Match}
 use Rattle.automata_base.specs.Answers.Spans.{from}
@@ -9,7 +9,7 @@ use Rattle.automata_base.specs.Haystacks.Tapes.{Forward}
 use Rattle.automata_config.specs.declared.error.SearchError.{SearchError}
 use Rattle.automata_hybrid.specs.Searches.Contracts.{IsUnsupported, unsupported_error}
 use Rattle.regex_automata.specs.Spans.Iteration.{GivesItem, GoesPast, IsNextMatch, IsNextRefusal, KnowsNext, LearnsItem}
-use Rattle.regex_automata.specs.Spans.Iteration.{most_items}
+use Rattle.regex_automata.specs.Spans.Iteration.{LiesInHaystack, most_items}
 use Rattle.regex_automata.specs.Spans.Outcomes.{MatchLiesIn}
 use Rattle.regex_automata.specs.Spans.Contracts.{TellsUnsupported}
 use Rattle.regex_automata.specs.Regexes.Caches.{AreStill, NothingCleared}
@@ -27,6 +27,12 @@ pub gives_match :
 gives_match p c input input' last true m start end still next lies same begins ends = absurd (false_true (sym still))
 gives_match p c input input' last false m start end still next lies same begins ends =
     (next, lies, same ∙ ap (λ n. from n input) begins, ap (λ (n : ℕ). Some n) ends, refl)
+
+-- and may be sliced from the haystack, as what was searched lies in it
+pub lies_in_haystack :
+    (p : Regex) (input : Input) (m : Match) → MatchLiesIn p input m → input.end ≤ length input.haystack
+    → LiesInHaystack input.haystack (Some (Ok m))
+lies_in_haystack p input m lies within = (lies.1, omega (arith, lies.2, within))
 
 -- or there is none
 pub gives_none :

@@ -39,6 +39,9 @@ pub use Rattle.automata_hybrid.specs.Walks.SetsByPaths.{MatchesIn, SetsHaveMatch
 pub use Rattle.automata_hybrid.specs.Walks.Contracts.{IsWhich}
 -- The two DFAs of a regex are a sound pair: spans need it. A regex that `build_from_nfa` returns is one.
 pub use Rattle.regex_automata.specs.Regexes.SoundPairs.{IsSoundPair}
+-- One item of `find_iter`: the match or the error that it gives, and what is left to be searched after it; its match may
+-- be sliced from the haystack.
+pub use Rattle.regex_automata.specs.Spans.Iteration.{GivesItem, LiesInHaystack}
 -- The patterns of a set, as a list; a member of a list.
 pub use Rattle.automata_base.specs.Haystacks.PatternSet.{members}
 pub use Rattle.automata_base.specs.Lists.{In}

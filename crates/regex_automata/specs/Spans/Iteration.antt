@@ -1,6 +1,7 @@
 -- The matches of an input, one after another.
-use Rattle.std.specs.Prelude.{ℕ, suc, ◌≡◌, ◌+◌, ◌-◌, ◌<◌, ◌⊎◌, ◌==◌, Bool, true, false, cond, List, [], ◌∷◌, ◌++◌}
-use Rattle.std.specs.Prelude.{Option, None, Some, Result, Ok, Err, IfErr, IfSome, IsOk, MatchOption}
+use Rattle.std.specs.Prelude.{ℕ, suc, ◌≡◌, ◌+◌, ◌-◌, ◌<◌, ◌≤◌, ◌⊎◌, ◌==◌, Bool, true, false, cond, List, []}
+use Rattle.std.specs.Prelude.{◌∷◌, ◌++◌, length}
+use Rattle.std.specs.Prelude.{Option, None, Some, Result, Ok, Err, IfErr, IfOk, IfSome, IsOk, MatchOption}
 use Rattle.automata_base.specs.Haystacks.Input.{Input}
 use Rattle.automata_base.specs.Haystacks.Matches.{Match}
 use Rattle.automata_base.specs.declared.util.search.Anchored.{Anchored}
@@ -32,6 +33,11 @@ IsNextRefusal p c input last e =
 -- a match ends after the last end
 abbrev pub GoesPast : Regex → Input → Option ℕ → Match → Type 0
 GoesPast p input last m = MatchLiesIn p input m × (last ≡ Some input.start → input.start < m.end)
+
+-- the match of an item may be sliced from the haystack
+abbrev pub LiesInHaystack : List ℕ → Option (Result Match SearchError) → Type 0
+LiesInHaystack haystack item =
+    IfSome item (λ r. IfOk r (λ (m : Match). (m.start ≤ m.end) × (m.end ≤ length haystack)))
 
 -- the cost of one search; or, if it finds an empty match at the last end, of that and the search from one place later
 abbrev pub AreCostsTwice : Regex → Input → Option ℕ → Cache → Cache → Type 0

@@ -4,7 +4,7 @@ use Rattle.automata_base.specs.Haystacks.Input.{Input}
 use Rattle.automata_base.specs.Answers.Spans.{from}
 use Rattle.regex_automata.specs.Spans.Iteration.{AreCostsTwice, GoesPast, IsNextMatch, IsNextRefusal, input_at}
 use Rattle.regex_automata.proofs.Backing.{false_true}
-use Rattle.regex_automata.proofs.Items.{fewer_left, gives_error, gives_match, gives_none, learns_next, some_left}
+use Rattle.regex_automata.proofs.Items.{fewer_left, gives_error, gives_match, gives_none, learns_next, lies_in_haystack, some_left}
 use Rattle.regex_automata.proofs.Items.{tells_error, tells_found}
 use Rattle.regex_automata.proofs.Leaving.{item_error, item_match, item_none}
 use Rattle.regex_automata.proofs.Nexts.{some_of}
@@ -29,6 +29,8 @@ returns-in-Ok-Some-clause-steps c =
         progress = item_match s.regex.now c.input-input.result now s.last s.cache.now c.next_match.new.cache c.input-input.ensures s.ended c.in-Ok-Some.field-0 c.in-Ok-Some.found c.if-self.false c.in-Ok-Some.field-0-is c.in-Ok-Some.ensures.effect.ended;
       },
       tells_found s.regex.now c.input-input.result now s.ended _ (Some (Ok c.in-Ok-Some.found)) c.input-input.ensures c.in-Ok-Some.ensures.unsupported,
+      refl,
+      lies_in_haystack s.regex.now now c.in-Ok-Some.found goes.0 s.within.1,
     )
 
 pub returns-in-Ok-Some-clause-goes : goal.returns-in-Ok-Some-clause-goes
@@ -58,6 +60,8 @@ returns-in-Err-clause-steps c =
         progress = item_error s.regex.now c.input-input.result now s.last s.cache.now c.next_match.new.cache c.input-input.ensures s.ended c.in-Err.error c.if-self.false c.in-Err.ensures.effect.left;
       },
       tells_error s.regex.now c.input-input.result now s.ended c.in-Err.error c.input-input.ensures c.in-Err.ensures.unsupported,
+      refl,
+      tt,
     )
 
 pub returns-in-Err-clause-goes : goal.returns-in-Err-clause-goes
@@ -84,4 +88,6 @@ returns-in-Ok-None-clause-steps c =
         progress = item_none s.regex.now c.input-input.result now s.last s.cache.now c.next_match.new.cache c.input-input.ensures s.ended c.in-Ok-None.field-0 c.if-self.false c.in-Ok-None.field-0-is c.in-Ok-None.ensures.effect.ended;
       },
       tells_found s.regex.now c.input-input.result now s.ended _ None c.input-input.ensures c.in-Ok-None.ensures.unsupported,
+      refl,
+      tt,
     )
