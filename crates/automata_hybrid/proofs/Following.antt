@@ -63,12 +63,6 @@ followed_more way m c input from k id id' byte low unit known below quit named f
       each here j l h (inl less) = f.quiet j l less
       each here j l h (inr more) = let same : k ≡ j = omega (arith, h, more) in subst (IsQuiet way m c input) same here
 
--- the same behind as many units, counted otherwise
-pub followed_to :
-    {way : Direction} {m : Machine} {c : Stored} {input : Input} {from id k to : ℕ}
-    → k ≡ to → IsFollowed way m c input from k id → IsFollowed way m c input from to id
-followed_to {way} {m} {c} {input} {from} {id} same f = subst (λ n. IsFollowed way m c input from n id) same f
-
 -- what was followed is followed on
 pub followed_on :
     {way : Direction} {m : Machine} {c : Stored} {input : Input} {from k to id id' : ℕ}

@@ -69,13 +69,6 @@ pairs_distinct (x ∷ xs) h = (new, pairs_distinct xs (λ i j d l m. h (suc i) (
     new : In x xs → ⊥
     new i = let (k, l, e) = Contains-In x xs i in h 0 (suc k) x (omega arith) (omega arith) (sym e)
 
-pub distinct_pairs : (xs : List ℕ) → Distinct xs → AllPairs (λ x y. x ≢ y) xs
-distinct_pairs [] h i j d l m = absurd (omega arith)
-distinct_pairs (x ∷ xs) (new, h) zero zero d l m = absurd (omega arith)
-distinct_pairs (x ∷ xs) (new, h) zero (suc j) d l m = λ e. new (subst (λ z. In z xs) (sym e) (In-get_or xs j d (omega arith)))
-distinct_pairs (x ∷ xs) (new, h) (suc i) zero d l m = absurd (omega arith)
-distinct_pairs (x ∷ xs) (new, h) (suc i) (suc j) d l m = distinct_pairs xs h i j d (omega arith) (omega arith)
-
 pub In-cases : (x : ℕ) (xs : List ℕ) → In x xs ⊎ (In x xs → ⊥)
 In-cases x [] = inr (λ i. i)
 In-cases x (y ∷ ys) = go (cases_eq x y) (In-cases x ys)

@@ -1,5 +1,5 @@
 -- Steps of the loops that read lists of states.
-use Rattle.std.proofs.Common.{ℕ, zero, suc, ◌≡◌, ◌<◌, ◌≤◌, ◌+◌, ◌||◌, Bool, true, false, cond, eqb, List, [], ◌∷◌, ◌++◌}
+use Rattle.std.proofs.Common.{ℕ, zero, ◌≡◌, ◌<◌, ◌≤◌, ◌+◌, ◌||◌, Bool, true, false, cond, eqb, List, [], ◌∷◌, ◌++◌}
 use Rattle.std.proofs.Common.{length, get_or, take, drop, Option, Some, None, refl, sym, ap, ◌∙◌, subst, arith}
 use Rattle.std.proofs.Common.{append_assoc, append-nil, length-append}
 use Rattle.std.proofs.lemmas.List.{at_drop_more, take_more, drop_all, take_all}
@@ -280,12 +280,6 @@ pattern_room ys p P d below l new =
         split (inl j) = below q j
         split (inr (inl f)) = subst (λ z. z < P) (sym f) l
         split (inr (inr j)) = elim j [ ]
-
-pub in_take : (q k : ℕ) (xs : List ℕ) → In q (take k xs) → In q xs
-in_take q zero xs i = absurd i
-in_take q (suc k) [] i = i
-in_take q (suc k) (x ∷ xs) (inl e) = inl e
-in_take q (suc k) (x ∷ xs) (inr j) = inr (in_take q k xs j)
 
 pub all_in : (xs : List ℕ) (N : ℕ) → ((q : ℕ) → In q xs → q < N) → All (λ q. q < N) xs
 all_in xs N b k d l = b (get_or xs k d) (In-get_or xs k d l)

@@ -137,10 +137,6 @@ work_visits a looks order stack q l new =
     let both : length (children (nfa_of a) (truth_of looks) q ++ stack) ≡ length (children (nfa_of a) (truth_of looks) q) + length stack = length-append (children (nfa_of a) (truth_of looks) q) stack in
     omega arith
 
-pub room_positive : (states : List State) → 0 < stack_room states
-unfolding stack_room
-room_positive states = omega arith
-
 pub pushed_top : (xs ys : List ℕ) (x : ℕ) → xs ≡ ys ++ x ∷ [] → reverse xs ≡ x ∷ reverse ys
 pushed_top xs ys x e = ap reverse e ∙ reverse-append ys (x ∷ [])
 

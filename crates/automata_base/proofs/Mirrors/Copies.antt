@@ -143,12 +143,6 @@ matches_next states p xs out new w i id at s b l e k a g c n h =
     pulled true = refl
     pulled false = refl
 
-pub matches_done :
-    (states : List State) (p : ℕ) (xs out w : List ℕ) (i : ℕ) → length xs ≤ i
-    → out ++ matches_in states p (drop i xs) ≡ w → out ≡ w
-matches_done states p xs out w i l h =
-    sym (append-nil out) ∙ (sym (ap (λ z. out ++ matches_in states p z) (drop_all i xs l)) ∙ h)
-
 pub nth_more : {A : Type 0} (xs ys : List A) (j : ℕ) (a : A) → nth xs j ≡ Some a → nth (xs ++ ys) j ≡ Some a
 nth_more [] ys j a e = absurd (none_of e)
   where

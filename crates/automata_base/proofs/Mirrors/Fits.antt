@@ -263,9 +263,6 @@ part_large turned most P p old entries len less had e l =
     let c : (p + 1) * (length turned + 1) ≤ P * (length turned + 1) = mul-le-mul_right (length turned + 1) (omega (arith, less)) in
     omega (arith, a, b, c, e, l)
 
-pub no_parts : (turned : List State) (most P : ℕ) → AreParts turned most P 0 [] []
-no_parts turned most P = record { plain = tt; few = omega arith; narrow = omega arith; entered = λ e i. absurd i }
-
 -- The states of plain nodes pass the tests.
 one_ordered : (n : ℕ) (ts : List Transition) → IsOneRange n (ranges_of ts) → ordered_from 0 ts ≡ true
 one_ordered n [] h = absurd h

@@ -31,11 +31,6 @@ use Rattle.automata_base.proofs.Mirrors.Turned.{arc_inside, accept_inside}
 use Rattle.automata_base.proofs.Paths.Orders.{some_inj, none_some}
 use Rattle.automata_base.proofs.Paths.Walks.{in_left}
 
--- The node of a number is that of its state.
-in_right : (x : ℕ) (xs ys : List ℕ) → In x ys → In x (xs ++ ys)
-in_right x [] ys i = i
-in_right x (y ∷ xs) ys i = inr (in_right x xs ys i)
-
 range_next : (ranges : List Range) (lo hi r : ℕ) → HasRange ranges lo hi r → In r (nexts ranges)
 range_next [] lo hi r h = h
 range_next (x ∷ xs) lo hi r (inl e) = inl (sym e.2)

@@ -18,9 +18,6 @@ head_is : (x : ℕ) (xs : List ℕ) → starts_with x xs ≡ true → (ys : List
 head_is x [] e = let k : false ≡ true = e in absurd cc
 head_is x (y ∷ ys) e = (ys, ap (λ v. v ∷ ys) (eqb-true y x e))
 
-within_yes : (lo hi u : ℕ) → lo ≤ u → u ≤ hi → within lo hi u ≡ true
-within_yes lo hi u a b = ap (λ v. v && leb u hi) (le-leb lo u a) ∙ le-leb u hi b
-
 -- The case that the first target leads somewhere.
 abbrev pub led : List ℕ → Option ℕ
 led [] = None

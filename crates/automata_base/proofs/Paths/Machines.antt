@@ -187,9 +187,6 @@ agree_both false a b = true≢false (sym a)
 abbrev pub Always : ℕ → Bool → Look → Option ℕ → Type 0
 Always t r look prev = (next : Option ℕ) → IsUnit next → holds t r look prev next ≡ true
 
-small : (k : ℕ) → k < 200 → k < 256
-small k h = omega (arith, h)
-
 always_true : (t : ℕ) (r : Bool) (look : Look) (prev : Option ℕ) → always t r look prev ≡ true → Always t r look prev
 always_true t r Start prev e = λ next i. e
 always_true t r End prev e = absurd (true≢false (sym e))

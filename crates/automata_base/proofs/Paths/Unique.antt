@@ -8,7 +8,6 @@ use Rattle.automata_base.specs.Nfas.Nfa.{Nfa, accepts}
 use Rattle.automata_base.specs.Paths.Paths.{IsPathAt, Tape, next}
 use Rattle.automata_base.specs.Powersets.Cuts.{MatchKind, All, LeftmostFirst, cut_for, IsOnce, targets}
 use Rattle.automata_base.specs.Powersets.Passes.{IsMake, IsNeeded, IsClosureOf, IsDecided, true_looks, IsSuccessor}
-use Rattle.automata_base.specs.Powersets.Passes.{IsPass}
 use Rattle.automata_base.specs.Powersets.Powerset.{Powerset}
 use Rattle.automata_base.specs.Paths.Selections.{Accepts, Pair, ArePatternsAt, IsFirstAt, Pairs, at_place}
 use Rattle.automata_base.specs.Paths.Selections.{IsOverlappingOn}
@@ -145,11 +144,3 @@ succ_one n kind Q u A B a b =
     p =
         list_one (From (λ root path q. (root ≡ q) × (path ≡ [])) (pick (accepts n) (cut_for kind n b.0))) a.1 b.1
         (subst (λ v. IsOnce (pick (accepts n) (cut_for kind n v)) a.1) l a.3) b.3
-
-pub pass_one :
-    (n : Nfa) (kind : MatchKind) (start : ℕ) (t : Tape) (k : ℕ) (A B : Powerset)
-    → IsPass n kind start t k A → IsPass n kind start t k B → A ≡ B
-pass_one n kind start t zero A B a b = arrival_one n [] (start ∷ []) t.before A B a b
-pass_one n kind start t (suc k) A B a b =
-    succ_one n kind b.0 (next t k) A B
-    (subst (λ v. IsSuccessor n kind v (next t k) A) (pass_one n kind start t k a.0 b.0 a.1 b.1) a.2) b.2

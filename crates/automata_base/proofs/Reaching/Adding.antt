@@ -4,7 +4,7 @@ use Rattle.std.proofs.Common.{length, get_or, take, drop, inl, inr, refl, sym, a
 use Rattle.std.proofs.Common.{append-nil}
 use Rattle.std.specs.Prelude.{Contains, IsTrue, IsFalse, ltb}
 use Rattle.std.proofs.lemmas.Bool.{ltb-true}
-use Rattle.std.proofs.lemmas.List.{drop_all, take-append-le}
+use Rattle.std.proofs.lemmas.List.{take-append-le}
 use Rattle.automata_base.specs.declared.nfa.thompson.State.{State}
 use Rattle.automata_base.specs.declared.nfa.thompson.Transition.{Transition}
 use Rattle.automata_base.specs.Lists.{all_below, In}
@@ -87,9 +87,6 @@ once_only q ys (x ∷ xs) i = go (once_only q (ys ++ cond (is_in x ys) [] (x ∷
 
 pub once_take : (n : ℕ) (ys xs : List ℕ) → n ≤ length ys → take n (once_from ys xs) ≡ take n ys
 once_take n ys xs l = let w = once_more ys xs in ap (take n) w.1 ∙ take-append-le n ys w.0 l
-
-pub once_done : (ys xs w : List ℕ) (i : ℕ) → length xs ≤ i → once_from ys (drop i xs) ≡ w → ys ≡ w
-once_done ys xs w i l h = sym (ap (once_from ys) (drop_all i xs l)) ∙ h
 
 nexts_alike : (j k : ℕ) (xs : List ℕ) → nexts (dense_from j xs) ≡ nexts (dense_from k xs)
 nexts_alike j k [] = refl

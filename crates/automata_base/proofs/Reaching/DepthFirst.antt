@@ -252,18 +252,6 @@ module _ (n : ℕ) (G : ℕ → List ℕ) (visited finished : List ℕ) where
         search_leaves new all (λ i. fresh refl (Contains-In frame.state finished i)) (added refl)
     search_done new false all fresh added had kept = search_drops new (In-Contains frame.state finished (had refl)) (kept refl)
 
--- A search that has begun with nothing, and one that has come to its end.
-pub search_none : (n : ℕ) (G : ℕ → List ℕ) (visited finished : List ℕ) → visited ≡ [] → finished ≡ [] → IsUnderSearch n G visited finished []
-search_none n G visited finished v f =
-    subst (λ z. IsUnderSearch n G z finished []) (sym v) (subst (λ z. IsUnderSearch n G [] z []) (sym f) (record {
-      visits = λ q i. absurd i;
-      follows = tt;
-      chain = tt;
-      closed = λ p r i j. absurd i;
-      cyclic = λ p q i out h. absurd i;
-      order = λ i q p e j. absurd (none_some e);
-    }))
-
 pub search_whole :
     (n : ℕ) (G : ℕ → List ℕ) (visited finished : List ℕ) → IsUnderSearch n G visited finished []
     → ((q : ℕ) → q < n → In q visited) → ((q : ℕ) → In q finished → q < n) → IsWholeOrder n G finished

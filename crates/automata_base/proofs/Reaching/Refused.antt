@@ -54,12 +54,6 @@ some_apart e = cc
 same_error : {x y : NfaError} → ◌≡◌ {A = Option NfaError} (Some x) (Some y) → x ≡ y
 same_error e = cc
 
-same_room : {x y : ℕ} → ◌≡◌ {A = Result ℕ NfaError} (Ok x) (Ok y) → x ≡ y
-same_room e = cc
-
-apart : {x : ℕ} {e : NfaError} → ◌≡◌ {A = Result ℕ NfaError} (Ok x) (Err e) → ⊥
-apart h = cc
-
 -- If the first test that fails is known, its error is returned.
 abbrev pub IsTold : Option NfaError → ℕ → Result ℕ NfaError → Type 0
 IsTold o room r = ((e : NfaError) → o ≡ Some e → r ≡ Err e) × (o ≡ None → r ≡ Ok room)
@@ -69,11 +63,6 @@ told o room x h = (λ e k. ap (λ z. Err z) (same_error (sym h ∙ k)), λ k. ab
 
 pub told_none : (o : Option NfaError) (room room' : ℕ) → o ≡ None → room' ≡ room → IsTold o room (Ok room')
 told_none o room room' h s = (λ e k. absurd (some_apart (sym k ∙ h)), λ k. ap (λ z. Ok z) s)
-
--- If a room is returned, all tests passed.
-pub passed : (o : Option NfaError) (room room' : ℕ) (r : Result ℕ NfaError) → IsTold o room r → r ≡ Ok room' → (o ≡ None) × (room' ≡ room)
-passed None room room' r t h = (refl, same_room (sym h ∙ t.1 refl))
-passed (Some e) room room' r t h = absurd (apart (sym h ∙ t.0 e refl))
 
 pub all_passed :
     (a b c d e f : Bool) → chain a b c d e f ≡ None

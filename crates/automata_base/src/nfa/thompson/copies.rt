@@ -1,7 +1,6 @@
 //! A copy of the reversed states for each pattern: of those that are reached from its matches.
 ghost use Rattle.std.specs.Prelude.{ℕ, ◌≡◌, ◌<◌, ◌≤◌, ◌+◌, ◌*◌, ◌^◌, ◌++◌, [], ◌∷◌, true, map, length};
 ghost use Rattle.std.specs.Prelude.{IfOk, OnOk, Err, None, Some};
-ghost use Rattle.automata_base.specs.declared.nfa.thompson.reach.Edges.TheVariants.{Every};
 ghost use Rattle.automata_base.specs.Retraced.Copies.{AreParts, IsPartAdded};
 ghost use Rattle.automata_base.specs.Lists.{In, all_below};
 ghost use Rattle.automata_base.specs.Nfas.Nodes.{node_of, nodes_of};
