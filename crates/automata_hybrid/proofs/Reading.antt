@@ -21,9 +21,9 @@ use Rattle.automata_hybrid.specs.Cache.Stores.{Stored, with_searched}
 use Rattle.automata_hybrid.specs.Cache.Table.{Names}
 use Rattle.automata_hybrid.proofs.Growing.{grown_moved, grown_trans, nothing_second}
 use Rattle.automata_hybrid.proofs.StepCalls.{no_quit_unit}
-use Rattle.automata_hybrid.proofs.Searching.{lt_or_le}
 use Rattle.automata_hybrid.proofs.Stepping.{refused}
 use Rattle.automata_hybrid.proofs.UnitsRead.{finished_moved}
+use Rattle.std.proofs.lemmas.Bool.{cases_lt}
 
 -- what holds of the error that a call handed on holds of what it answers
 pub at_err : {A E : Type 0} (r : Result A E) (e : E) (P : Result A E → Type 0) → IsErrAnd r (λ x. x ≡ e) → P (Err e) → P r
@@ -129,7 +129,7 @@ module _ (m : Machine) (id : ℕ) (unit : Option ℕ) (old mid next : CacheView)
 pub step_taken :
     (m : Machine) (id : ℕ) (unit : Option ℕ) (old new : CacheView) (to : ℕ) → id < fixed_from
     → IsStepEffect m id unit old new → IsStepAnswer m id unit old new to → IsStepTaken m id unit old.store new.store to
-step_taken m id unit old new to low effect a = go (lt_or_le (known_step m old.store id unit) unknown_id) where
+step_taken m id unit old new to low effect a = go (cases_lt (known_step m old.store id unit) unknown_id) where
   go :
       (known_step m old.store id unit < unknown_id) ⊎ (unknown_id ≤ known_step m old.store id unit)
       → IsStepTaken m id unit old.store new.store to

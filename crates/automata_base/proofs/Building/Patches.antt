@@ -10,7 +10,7 @@ use Rattle.automata_base.specs.declared.nfa.thompson.Flags.{Flags}
 use Rattle.automata_base.specs.Nfas.Drafts.{Draft, with_states}
 use Rattle.automata_base.specs.Nfas.Shapes.{Shape, shape_added, patched}
 
-same_shape : (x y : Shape) → ◌≡◌ {A = Option Shape} (Some x) (Some y) → x ≡ y
+pub same_shape : (x y : Shape) → ◌≡◌ {A = Option Shape} (Some x) (Some y) → x ≡ y
 same_shape x y e = cc
 
 module _ (items : List Added) (at : ℕ) (a : Added) (within : at < length items) (read : a ≡ get_or items at a) where

@@ -12,8 +12,8 @@ use Rattle.automata_base.specs.Nfas.Nodes.{extra_of, stack_room}
 use Rattle.automata_base.specs.Nfas.Errors.{alternates_of, is_small, is_narrow, starts_below, states_below}
 use Rattle.automata_base.specs.Nfas.Errors.{states_ordered, matches_below, unless, door_refusal}
 use Rattle.automata_base.proofs.Determinizing.Tests_of_lists.{extra_is}
-use Rattle.automata_base.proofs.Paths.Checked.{both}
 use Rattle.automata_base.specs.Lists.{all_below}
+use Rattle.std.proofs.lemmas.Bool.{and_parts}
 
 abbrev pub chain : (small narrow starts targets ranges patterns : Bool) → Option NfaError
 chain small narrow starts targets ranges patterns =
@@ -166,9 +166,9 @@ passing s a u t none =
     let tests =
     all_passed (is_small s t) (is_narrow s) (starts_below n a u t) (states_below n s) (states_ordered s) (matches_below (length t) s)
     (sym (refusal_is s a u t) ∙ none) in
-    let sizes = both (leb n 134217728) (leb (length t) 134217728) tests.0 in
-    let starts = both (ltb a n && ltb u n) (all_below n t) tests.2 in
-    let two = both (ltb a n) (ltb u n) starts.0 in
+    let sizes = and_parts (leb n 134217728) (leb (length t) 134217728) tests.0 in
+    let starts = and_parts (ltb a n && ltb u n) (all_below n t) tests.2 in
+    let two = and_parts (ltb a n) (ltb u n) starts.0 in
     record {
       small = leb-true n 134217728 sizes.0;
       few = leb-true (length t) 134217728 sizes.1;

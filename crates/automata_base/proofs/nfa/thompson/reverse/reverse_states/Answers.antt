@@ -9,31 +9,31 @@ use Rattle.automata_base.specs.Retraced.Once.{Distinct}
 use Rattle.automata_base.specs.Nfas.Reach.{IsReached}
 use Rattle.automata_base.specs.Nfas.Errors.{alternates_of, states_below, states_ordered}
 use Rattle.automata_base.specs.Retraced.ReversedEdges.{HaveCopies}
-use Rattle.automata_base.proofs.Reaching.InRange.{ids_below}
 use Rattle.automata_base.proofs.Determinizing.Walking.{nodes_length}
 use Rattle.automata_base.proofs.Mirrors.Fits.{made_fits, parts_large, root_large, turned_large}
 use Rattle.automata_base.proofs.Mirrors.Lists.{err_is}
 use Rattle.automata_base.proofs.Mirrors.Ranges.{states_whole, states_in_range}
 use Rattle.automata_base.proofs.Mirrors.Sizes.{turned_length, turned_ordered, turned_alternates}
 use Rattle.automata_base.proofs.nfa.thompson.reverse.reverse_states.Goals as goal
+use Rattle.automata_base.proofs.Determinizing.Belows.{all_below_from}
 
 pub turned_states-requires-clause-below : goal.turned_states-requires-clause-below
 turned_states-requires-clause-below c =
     ap (all_below (length c.args.states.now)) c.as_slice-ids.ensures.items
-    ∙ ids_below (length c.args.states.now) c.in_ok-reached.reached.items
+    ∙ all_below_from (length c.args.states.now) c.in_ok-reached.reached.items
     (λ q i. subst (λ z. q < z) c.in_ok-reached.ensures.capacity (c.as_slice-ids.ensures.below q i))
 
 pub parts_of-requires-clause-below : goal.parts_of-requires-clause-below
 parts_of-requires-clause-below c =
     ap (all_below (length c.args.states.now)) c.as_slice-ids.ensures.items
-    ∙ ids_below (length c.args.states.now) c.in_ok-reached.reached.items
+    ∙ all_below_from (length c.args.states.now) c.in_ok-reached.reached.items
     (λ q i. subst (λ z. q < z) c.in_ok-reached.ensures.capacity (c.as_slice-ids.ensures.below q i))
 
 pub parts_of-requires-clause-range : goal.parts_of-requires-clause-range
 parts_of-requires-clause-range c =
     let small : all_below (length c.args.states.now) c.as_slice-ids.result.now ≡ true =
     ap (all_below (length c.args.states.now)) c.as_slice-ids.ensures.items
-    ∙ ids_below (length c.args.states.now) c.in_ok-reached.reached.items
+    ∙ all_below_from (length c.args.states.now) c.in_ok-reached.reached.items
     (λ q i. subst (λ z. q < z) c.in_ok-reached.ensures.capacity (c.as_slice-ids.ensures.below q i)) in
     subst (λ (z : List State). states_below (length z) z ≡ true) (sym c.deref.ensures.value)
     (states_in_range c.args.states.now c.in_ok-turned.turned.items c.as_slice-ids.result.now c.args.first c.requires.range c.requires.first small
@@ -43,7 +43,7 @@ pub parts_of-requires-clause-whole : goal.parts_of-requires-clause-whole
 parts_of-requires-clause-whole c =
     let small : all_below (length c.args.states.now) c.as_slice-ids.result.now ≡ true =
     ap (all_below (length c.args.states.now)) c.as_slice-ids.ensures.items
-    ∙ ids_below (length c.args.states.now) c.in_ok-reached.reached.items
+    ∙ all_below_from (length c.args.states.now) c.in_ok-reached.reached.items
     (λ q i. subst (λ z. q < z) c.in_ok-reached.ensures.capacity (c.as_slice-ids.ensures.below q i)) in
     subst (λ (z : List State). length c.args.states.now ≤ length z) (sym c.deref.ensures.value)
     (states_whole c.args.states.now c.in_ok-turned.turned.items c.as_slice-ids.result.now c.args.first c.requires.range c.requires.first small
@@ -53,7 +53,7 @@ pub parts_of-requires-clause-ordered : goal.parts_of-requires-clause-ordered
 parts_of-requires-clause-ordered c =
     let small : all_below (length c.args.states.now) c.as_slice-ids.result.now ≡ true =
     ap (all_below (length c.args.states.now)) c.as_slice-ids.ensures.items
-    ∙ ids_below (length c.args.states.now) c.in_ok-reached.reached.items
+    ∙ all_below_from (length c.args.states.now) c.in_ok-reached.reached.items
     (λ q i. subst (λ z. q < z) c.in_ok-reached.ensures.capacity (c.as_slice-ids.ensures.below q i)) in
     let distinct : Distinct c.as_slice-ids.result.now =
     subst (λ (z : List ℕ). Distinct z) (sym c.as_slice-ids.ensures.items) c.as_slice-ids.ensures.distinct in
@@ -71,7 +71,7 @@ pub returns-in_err-parts-clause-large : goal.returns-in_err-parts-clause-large
 returns-in_err-parts-clause-large c = λ e.
     let small : all_below (length c.args.states.now) c.as_slice-ids.result.now ≡ true =
     ap (all_below (length c.args.states.now)) c.as_slice-ids.ensures.items
-    ∙ ids_below (length c.args.states.now) c.in_ok-reached.reached.items
+    ∙ all_below_from (length c.args.states.now) c.in_ok-reached.reached.items
     (λ q i. subst (λ z. q < z) c.in_ok-reached.ensures.capacity (c.as_slice-ids.ensures.below q i)) in
     let distinct : Distinct c.as_slice-ids.result.now =
     subst (λ (z : List ℕ). Distinct z) (sym c.as_slice-ids.ensures.items) c.as_slice-ids.ensures.distinct in
@@ -86,7 +86,7 @@ pub returns-in_err-mirror-clause-large : goal.returns-in_err-mirror-clause-large
 returns-in_err-mirror-clause-large c = λ e.
     let small : all_below (length c.args.states.now) c.as_slice-ids.result.now ≡ true =
     ap (all_below (length c.args.states.now)) c.as_slice-ids.ensures.items
-    ∙ ids_below (length c.args.states.now) c.in_ok-reached.reached.items
+    ∙ all_below_from (length c.args.states.now) c.in_ok-reached.reached.items
     (λ q i. subst (λ z. q < z) c.in_ok-reached.ensures.capacity (c.as_slice-ids.ensures.below q i)) in
     let distinct : Distinct c.as_slice-ids.result.now =
     subst (λ (z : List ℕ). Distinct z) (sym c.as_slice-ids.ensures.items) c.as_slice-ids.ensures.distinct in
@@ -103,7 +103,7 @@ pub returns-clause-fit : goal.returns-clause-fit
 returns-clause-fit c =
     let small : all_below (length c.args.states.now) c.as_slice-ids.result.now ≡ true =
     ap (all_below (length c.args.states.now)) c.as_slice-ids.ensures.items
-    ∙ ids_below (length c.args.states.now) c.in_ok-reached.reached.items
+    ∙ all_below_from (length c.args.states.now) c.in_ok-reached.reached.items
     (λ q i. subst (λ z. q < z) c.in_ok-reached.ensures.capacity (c.as_slice-ids.ensures.below q i)) in
     let distinct : Distinct c.as_slice-ids.result.now =
     subst (λ (z : List ℕ). Distinct z) (sym c.as_slice-ids.ensures.items) c.as_slice-ids.ensures.distinct in
