@@ -1,4 +1,4 @@
-use Rattle.std.proofs.Common.{ℕ, List, ◌∷◌, [], ◌++◌, ◌↔◌, ◌≡◌, ◌≤◌, ◌<◌, true, length, ap, sym, ◌∙◌, subst, arith}
+use Rattle.std.proofs.Common.{ℕ, List, ◌∷◌, [], ◌++◌, ◌↔◌, ◌≡◌, ◌<◌, true, length, ap, sym, ◌∙◌, subst, arith}
 use Rattle.std.specs.Prelude.{sum_by}
 use Rattle.automata_base.specs.declared.nfa.thompson.State.{State}
 use Rattle.automata_base.specs.declared.nfa.thompson.reach.Edges.TheVariants.{Every}
@@ -6,8 +6,9 @@ use Rattle.automata_base.specs.Lists.{In, all_below}
 use Rattle.automata_base.specs.Nfas.Nfa.{Split}
 use Rattle.automata_base.specs.Nfas.Nodes.{nodes_of}
 use Rattle.automata_base.specs.Retraced.Once.{Distinct}
+use Rattle.automata_base.specs.Retraced.Copies.{AreCopyable}
 use Rattle.automata_base.specs.Nfas.Reach.{IsReached}
-use Rattle.automata_base.specs.Nfas.Errors.{alternates_of, states_below, states_ordered}
+use Rattle.automata_base.specs.Nfas.Errors.{alternates_of}
 use Rattle.automata_base.specs.Retraced.ReversedEdges.{HaveCopies}
 use Rattle.automata_base.proofs.Determinizing.Walking.{nodes_length}
 use Rattle.automata_base.proofs.Mirrors.Fits.{made_fits, parts_large, root_large, turned_large}
@@ -29,37 +30,26 @@ parts_of-requires-clause-below c =
     ∙ all_below_from (length c.args.states.now) c.in_ok-reached.reached.items
     (λ q i. subst (λ z. q < z) c.in_ok-reached.ensures.capacity (c.as_slice-ids.ensures.below q i))
 
-pub parts_of-requires-clause-range : goal.parts_of-requires-clause-range
-parts_of-requires-clause-range c =
-    let small : all_below (length c.args.states.now) c.as_slice-ids.result.now ≡ true =
-    ap (all_below (length c.args.states.now)) c.as_slice-ids.ensures.items
-    ∙ all_below_from (length c.args.states.now) c.in_ok-reached.reached.items
-    (λ q i. subst (λ z. q < z) c.in_ok-reached.ensures.capacity (c.as_slice-ids.ensures.below q i)) in
-    subst (λ (z : List State). states_below (length z) z ≡ true) (sym c.deref.ensures.value)
-    (states_in_range c.args.states.now c.in_ok-turned.turned.items c.as_slice-ids.result.now c.args.first c.requires.range c.requires.first small
-    c.in_ok-turned.ensures.turned)
-
-pub parts_of-requires-clause-whole : goal.parts_of-requires-clause-whole
-parts_of-requires-clause-whole c =
-    let small : all_below (length c.args.states.now) c.as_slice-ids.result.now ≡ true =
-    ap (all_below (length c.args.states.now)) c.as_slice-ids.ensures.items
-    ∙ all_below_from (length c.args.states.now) c.in_ok-reached.reached.items
-    (λ q i. subst (λ z. q < z) c.in_ok-reached.ensures.capacity (c.as_slice-ids.ensures.below q i)) in
-    subst (λ (z : List State). length c.args.states.now ≤ length z) (sym c.deref.ensures.value)
-    (states_whole c.args.states.now c.in_ok-turned.turned.items c.as_slice-ids.result.now c.args.first c.requires.range c.requires.first small
-    c.in_ok-turned.ensures.turned)
-
-pub parts_of-requires-clause-ordered : goal.parts_of-requires-clause-ordered
-parts_of-requires-clause-ordered c =
+pub parts_of-requires-clause-turned : goal.parts_of-requires-clause-turned
+parts_of-requires-clause-turned c =
     let small : all_below (length c.args.states.now) c.as_slice-ids.result.now ≡ true =
     ap (all_below (length c.args.states.now)) c.as_slice-ids.ensures.items
     ∙ all_below_from (length c.args.states.now) c.in_ok-reached.reached.items
     (λ q i. subst (λ z. q < z) c.in_ok-reached.ensures.capacity (c.as_slice-ids.ensures.below q i)) in
     let distinct : Distinct c.as_slice-ids.result.now =
     subst (λ (z : List ℕ). Distinct z) (sym c.as_slice-ids.ensures.items) c.as_slice-ids.ensures.distinct in
-    subst (λ (z : List State). states_ordered z ≡ true) (sym c.deref.ensures.value)
-    (turned_ordered c.args.states.now c.in_ok-turned.turned.items c.as_slice-ids.result.now c.args.first distinct small c.in_ok-turned.ensures.turned
-    c.requires.ordered)
+    subst (λ (z : List State). AreCopyable c.args.states.now z) (sym c.deref.ensures.value)
+    (record {
+      range =
+          states_in_range c.args.states.now c.in_ok-turned.turned.items c.as_slice-ids.result.now c.args.first c.requires.range c.requires.first small
+          c.in_ok-turned.ensures.turned;
+      ordered =
+          turned_ordered c.args.states.now c.in_ok-turned.turned.items c.as_slice-ids.result.now c.args.first distinct small
+          c.in_ok-turned.ensures.turned c.requires.ordered;
+      whole =
+          states_whole c.args.states.now c.in_ok-turned.turned.items c.as_slice-ids.result.now c.args.first c.requires.range c.requires.first small
+          c.in_ok-turned.ensures.turned;
+    })
 
 pub returns-in_err-turned-clause-large : goal.returns-in_err-turned-clause-large
 returns-in_err-turned-clause-large c = λ e.
