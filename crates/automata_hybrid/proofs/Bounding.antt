@@ -1,5 +1,5 @@
 use Rattle.std.proofs.Common.{◌≡◌, ℕ, ◌+◌, ◌*◌, ◌^◌, ◌<◌, ◌≤◌, length, List, sym, ◌∙◌, subst, arith, length-append}
-use Rattle.std.proofs.Common.{replicate, slice_get, get_or, set, Some, inl, inr, ap, [], ◌∷◌, ◌++◌}
+use Rattle.std.proofs.Common.{replicate, slice_get, Some, inl, inr, ap, [], ◌∷◌, ◌++◌}
 use Rattle.std.specs.List.{sum_by}
 use Rattle.std.proofs.Math.Nat.{mul-le-mul_right}
 use Rattle.std.proofs.lemmas.List.Sums.{sum_by_push}

@@ -1,5 +1,5 @@
 -- One list, one state.
-use Rattle.std.proofs.Common.{ℕ, zero, suc, ◌≡◌, true, List, [], ◌∷◌, ◌++◌, length, Option, inl, inr, refl}
+use Rattle.std.proofs.Common.{ℕ, zero, suc, ◌≡◌, true, List, [], ◌∷◌, ◌++◌, length, Option, inl, inr}
 use Rattle.std.proofs.Common.{sym, ap, ap₂, ◌∙◌, subst}
 use Rattle.automata_base.specs.Paths.Order.{Upto}
 use Rattle.automata_base.specs.Lists.{pick, From}

@@ -9,7 +9,7 @@ use Rattle.automata_base.specs.declared.nfa.thompson.Transition.{Transition}
 use Rattle.automata_base.specs.declared.nfa.thompson.reach.Edges.TheVariants.{Epsilon, Every}
 use Rattle.automata_base.specs.Nfas.Engines.{HasEdge, Road, Reaches}
 use Rattle.automata_base.specs.Nfas.Getters.{HasEmpty, SkipsLazily}
-use Rattle.automata_base.specs.Lists.{In, nth}
+use Rattle.automata_base.specs.Lists.{In}
 use Rattle.automata_base.specs.Haystacks.Looks.{Look, within}
 use Rattle.automata_base.specs.Nfas.Nfa.{Node, Range, Split, Assert, Read, Accept, node, hop, hop_at, takes_in}
 use Rattle.automata_base.specs.Nfas.Nfa.{takes_at}

@@ -3,7 +3,6 @@ use Rattle.std.proofs.Common.{ℕ, ◌≡◌, ◌<◌, ◌≤◌, ◌+◌, ◌-�
 use Rattle.std.proofs.Common.{arith, ⊎_elim}
 use Rattle.std.proofs.lemmas.Bool.{cases_lt}
 use Rattle.automata_base.specs.Nfas.Nfa.{accepts}
-use Rattle.automata_base.specs.Lists.{nth}
 use Rattle.automata_base.specs.Paths.Paths.{IsPathFrom}
 use Rattle.automata_base.specs.Paths.Selections.{Accepts}
 use Rattle.automata_base.proofs.Paths.Searches.{accepting_inside}
